@@ -5,6 +5,7 @@
 
 mod blocks;
 pub mod calls;
+pub mod files;
 mod line_buffer;
 pub mod lines;
 pub mod memory;
@@ -14,6 +15,7 @@ mod scanner;
 pub mod shelf;
 pub mod streams;
 
+pub use files::{FileShelf, FileSink, FileSource};
 pub use lines::{Line, LineFault, Lines};
 pub use memory::{MemorySink, MemorySource, NeverSink, NeverSource};
 pub use memory_shelf::{Failing, MemoryShelf};

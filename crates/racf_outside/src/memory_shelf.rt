@@ -170,15 +170,11 @@ impl Shelf for MemoryShelf {
     }
 
     fn give_back(&mut self, name: &str, out: MemorySink) {
-        if out.faults() > 0 {
-            self.sinks.fault();
-        }
+        self.sinks.take_over(out.faults());
         self.outputs.give_back(name, Some(out.into_bytes()));
     }
 
     fn take_back(&mut self, _name: &str, source: MemorySource) {
-        if source.faults() > 0 {
-            self.sources.fault();
-        }
+        self.sources.take_over(source.faults());
     }
 }

@@ -115,9 +115,12 @@ impl MemoryShelf {
     /// those of the numbers `failing`, counted from 1, are to fail.
     pub fn put(&mut self, name: &str, bytes: Vec<u8>, failing: Vec<u64>) -> Result<(), AllocError>
         ensures here { OnOk result (⟦<MemoryShelf as Shelf>⟧.input self.new name.now ≡ Some bytes.items) }
-        ensures others { SameOthers name.now (⟦<MemoryShelf as Shelf>⟧.input self.old) (⟦<MemoryShelf as Shelf>⟧.input self.new) }
-        ensures err { OnErr result (SameBytes (⟦<MemoryShelf as Shelf>⟧.input self.old) (⟦<MemoryShelf as Shelf>⟧.input self.new)) }
-        ensures outputs { SameBytes (⟦<MemoryShelf as Shelf>⟧.output self.old) (⟦<MemoryShelf as Shelf>⟧.output self.new) }
+        ensures others { SameOthers name.now
+            (⟦<MemoryShelf as Shelf>⟧.input self.old) (⟦<MemoryShelf as Shelf>⟧.input self.new) }
+        ensures err { OnErr result (SameBytes
+            (⟦<MemoryShelf as Shelf>⟧.input self.old) (⟦<MemoryShelf as Shelf>⟧.input self.new)) }
+        ensures outputs { SameBytes
+            (⟦<MemoryShelf as Shelf>⟧.output self.old) (⟦<MemoryShelf as Shelf>⟧.output self.new) }
     {
         let name = String::from_str(self.alloc, name)?;
         self.inputs.put(Stored {

@@ -1,3 +1,4 @@
 pub mod Packed
 pub mod Bits
 pub mod Missing
+pub mod Numbered

@@ -2,3 +2,4 @@ pub mod Packed
 pub mod Bits
 pub mod Missing
 pub mod Numbered
+pub mod SameWords

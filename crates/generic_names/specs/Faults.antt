@@ -30,23 +30,26 @@ has_generic Discrete = false
 has_generic Generic = true
 has_generic Symbolic = true
 
--- `%`, or `*` with nothing behind it in its qualifier
-abbrev pub is_wild : ℕ → List ℕ → Bool
-is_wild b behind = (b == percent) || ((b == asterisk) && (length behind == 0))
-
 -- the qualifiers that are lawful as a whole: `**`, and in a member's name the symbols too
 abbrev pub is_whole : Form → List ℕ → Bool
 is_whole Discrete q = false
 is_whole Generic q = bytes_eq q (codes "**")
 is_whole Symbolic q = bytes_eq q (codes "**") || bytes_eq q (codes "&RACUID") || bytes_eq q (codes "&RACGPID")
 
--- the first faulty byte of what is left of a qualifier. Its next byte stands at this place of the name
+-- what is wrong with a byte at this place, which may be the first or the last of its qualifier
+abbrev pub byte_fault : Form → NameKind → Bool → Bool → ℕ → ℕ → Option NameFault
+byte_fault form kind first last place b =
+    if has_generic form && (b == percent) then None
+    else if has_generic form && (b == asterisk) then (if last then None else Some (StarInside place))
+    else if is_ordinary kind first b then None
+    else Some (BadByte place)
+
+-- the first fault of what is left of a qualifier, whose next byte stands at this place
 abbrev pub bytes_fault : Form → NameKind → Bool → ℕ → List ℕ → Option NameFault
 bytes_fault form kind first place [] = None
 bytes_fault form kind first place (b ∷ behind) =
-    if is_ordinary kind first b || (has_generic form && is_wild b behind)
-    then bytes_fault form kind false (place + 1) behind
-    else Some (if has_generic form && (b == asterisk) then StarInside place else BadByte place)
+    option_or (byte_fault form kind first (length behind == 0) place b)
+    (bytes_fault form kind false (place + 1) behind)
 
 -- a data set's qualifier has at most eight bytes, generic characters counted
 abbrev pub is_too_long : NameKind → List ℕ → Bool
@@ -64,14 +67,14 @@ qualifier_fault form kind number place q =
     if length q == 0 then Some (EmptyQualifier number)
     else if is_too_long kind q then Some (QualifierTooLong number)
     else option_or (if is_whole form q then None else bytes_fault form kind true place q)
-        (if is_generic_first kind number q then Some GenericFirst else None)
+    (if is_generic_first kind number q then Some GenericFirst else None)
 
 -- the first fault of these qualifiers, the first of which has this number and begins at this place
 abbrev pub qualifiers_fault : Form → NameKind → ℕ → ℕ → List (List ℕ) → Option NameFault
 qualifiers_fault form kind number place [] = None
 qualifiers_fault form kind number place (q ∷ qs) =
     option_or (qualifier_fault form kind number place q)
-        (qualifiers_fault form kind (number + 1) (place + length q + 1) qs)
+    (qualifiers_fault form kind (number + 1) (place + length q + 1) qs)
 
 -- the most bytes that a name may have
 abbrev pub longest : NameKind → ℕ

@@ -4,6 +4,11 @@
 mod fault;
 mod form;
 mod kind;
+mod qualifiers;
+mod reading;
+mod resource;
+mod spelling;
 
 pub use fault::NameFault;
 pub use kind::NameKind;
+pub use resource::Resource;

@@ -1,6 +1,7 @@
 //! Names of resources and of profiles.
 #![tactic(auto)]
 
+mod covering;
 mod fault;
 mod form;
 mod kind;

@@ -1,11 +1,13 @@
 ghost use Rattle.std.specs.Prelude.{◌≡◌, Ok};
 ghost use Rattle.generic_names.specs.Faults.{pattern_of};
-ghost use Rattle.generic_names.specs.Covers.{is_generic};
+ghost use Rattle.generic_names.specs.Covers.{is_generic, covers};
 
+use crate::covering::covers_text;
 use crate::fault::NameFault;
 use crate::form::Form;
 use crate::kind::NameKind;
 use crate::reading::{fault_in, has_generic_byte};
+use crate::resource::Resource;
 use crate::spelling::Spelling;
 use std::marker::Model;
 
@@ -65,5 +67,14 @@ impl Pattern {
         ensures { result ≡ is_generic self.now }
     {
         has_generic_byte(self.name.text())
+    }
+
+    /// Whether it covers the name of a resource. This takes about as many steps as the two names have
+    /// bytes, and with `**` at most as many as the product of their lengths.
+    pub fn covers(&self, name: &Resource) -> bool
+        requires { self.now.kind ≡ name.now.kind }
+        ensures { result ≡ covers self.now name.now }
+    {
+        covers_text(self.name.kind(), self.name.text(), name.text())
     }
 }

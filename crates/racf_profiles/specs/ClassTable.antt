@@ -63,3 +63,25 @@ class_table = map facts_of_class fixed_classes
 -- What the class of a name allows.
 abbrev pub facts_of : List ℕ → Option ClassFacts
 facts_of name = find (λ facts. bytes_eq (class_name facts.class) name) class_table
+
+-- What holds of each class: only data sets and general resources have generic profiles, only classes with generic profiles heed OPERATIONS,
+-- and names of data sets stand in DATASET alone.
+abbrev pub has_wide_names : NameForm → Bool
+has_wide_names names.DataSet = true
+has_wide_names names.General = true
+has_wide_names _ = false
+
+abbrev pub has_dataset_names : NameForm → Bool
+has_dataset_names names.DataSet = true
+has_dataset_names _ = false
+
+abbrev pub is_dataset : FixedClass → Bool
+is_dataset Dataset = true
+is_dataset _ = false
+
+abbrev pub bool_eq : Bool → Bool → Bool
+bool_eq true b = b
+bool_eq false b = not b
+
+abbrev pub is_consistent : ClassFacts → Bool
+is_consistent facts = bool_eq facts.generic (has_wide_names facts.names) && (not facts.operations || facts.generic) && bool_eq (has_dataset_names facts.names) (is_dataset facts.class)

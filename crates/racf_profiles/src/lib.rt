@@ -7,6 +7,7 @@ mod edits;
 mod fixed_classes;
 mod groups;
 mod known;
+pub mod laws;
 mod options;
 mod profiles;
 mod rows;

@@ -1,0 +1,4 @@
+mod QualifierLaws
+mod FaultLaws
+mod CoverLaws
+mod WalkLaws

@@ -2,3 +2,4 @@ mod QualifierLaws
 mod FaultLaws
 mod CoverLaws
 mod WalkLaws
+mod RankLaws

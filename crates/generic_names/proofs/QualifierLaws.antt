@@ -7,7 +7,7 @@ use Rattle.std.proofs.lemmas.Bool.{cases_lt}
 use Rattle.generic_names.specs.Spelled.{qualifiers, is_empty}
 use Rattle.generic_names.specs.Reading.{rest_at}
 
-not_period : (x : ℕ) → (x ≡ 46 → ⊥) → eqb x 46 ≡ false
+pub not_period : (x : ℕ) → (x ≡ 46 → ⊥) → eqb x 46 ≡ false
 not_period x h = grind (arith, nat_tests)
 
 -- the first qualifier runs to the first period

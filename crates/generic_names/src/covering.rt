@@ -135,7 +135,7 @@ fn begins_with(front: &[u8], text: &[u8]) -> bool
 }
 
 /// Whether it is the whole qualifier `**`.
-fn is_double_asterisk(qualifier: &[u8]) -> bool
+pub(crate) fn is_double_asterisk(qualifier: &[u8]) -> bool
     ensures { result ≡ is_double qualifier.now }
 {
     qualifier == b"**".as_slice()

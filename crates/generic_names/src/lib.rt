@@ -6,6 +6,7 @@ mod fault;
 mod form;
 mod kind;
 mod member;
+mod order;
 mod pattern;
 mod qualifiers;
 mod reading;

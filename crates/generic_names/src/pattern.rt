@@ -1,11 +1,13 @@
 ghost use Rattle.std.specs.Prelude.{◌≡◌, Ok};
 ghost use Rattle.generic_names.specs.Faults.{pattern_of};
 ghost use Rattle.generic_names.specs.Covers.{is_generic, covers};
+ghost use Rattle.generic_names.specs.Before.{before};
 
 use crate::covering::covers_text;
 use crate::fault::NameFault;
 use crate::form::Form;
 use crate::kind::NameKind;
+use crate::order::is_before;
 use crate::reading::{fault_in, has_generic_byte};
 use crate::resource::Resource;
 use crate::spelling::Spelling;
@@ -76,5 +78,13 @@ impl Pattern {
         ensures { result ≡ covers self.now name.now }
     {
         covers_text(self.name.kind(), self.name.text(), name.text())
+    }
+
+    /// Whether it is more specific than another pattern of its kind.
+    pub fn before(&self, other: &Pattern) -> bool
+        requires { self.now.kind ≡ other.now.kind }
+        ensures { result ≡ before self.now other.now }
+    {
+        is_before(self.name.text(), other.name.text())
     }
 }

@@ -3,3 +3,4 @@ mod FaultLaws
 mod CoverLaws
 mod WalkLaws
 mod RankLaws
+mod ReplaceLaws

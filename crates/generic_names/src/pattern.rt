@@ -1,4 +1,5 @@
 ghost use Rattle.std.specs.Prelude.{◌≡◌, Ok};
+ghost use Rattle.std.specs.Result.{result_ok};
 ghost use Rattle.generic_names.specs.Faults.{pattern_of};
 ghost use Rattle.generic_names.specs.Covers.{is_generic, covers};
 ghost use Rattle.generic_names.specs.Before.{before};
@@ -47,6 +48,16 @@ impl Pattern {
         Ok(Pattern {
             name: Spelling::of(kind, bytes),
         })
+    }
+
+    /// The pattern with this spelling, if it is the name of one.
+    pub(crate) fn spelled(name: Spelling) -> Option<Pattern>
+        ensures { result ≡ result_ok (pattern_of name.kind name.text) }
+    {
+        if fault_in(Form::Generic, name.kind(), name.text()).is_some() {
+            return None;
+        }
+        Some(Pattern { name })
     }
 
     /// Whose name it is.

@@ -4,3 +4,5 @@ mod CoverLaws
 mod WalkLaws
 mod RankLaws
 mod ReplaceLaws
+mod Lawful
+mod OrderLaws

@@ -5,6 +5,7 @@ mod covering;
 mod fault;
 mod form;
 mod kind;
+mod laws;
 mod member;
 mod order;
 mod pattern;

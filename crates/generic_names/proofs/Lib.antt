@@ -6,3 +6,4 @@ mod RankLaws
 mod ReplaceLaws
 mod Lawful
 mod OrderLaws
+mod FirstLaws

@@ -86,7 +86,7 @@ ranks-injective (p ∷ ps) (q ∷ qs) hp hq e = settled (ranks-injective ps qs h
 pub qualifiers-injective : (xs ys : List ℕ) → qualifiers xs ≡ qualifiers ys → xs ≡ ys
 qualifiers-injective xs ys e = sym (join_with_byte-slice_split 46 xs) ∙ ap (λ (qs : List (List ℕ)). join_with_byte 46 qs) e ∙ join_with_byte-slice_split 46 ys
 
-same_spelled : (a b : Spelled) → a.kind ≡ b.kind → a.text ≡ b.text → a ≡ b
+pub same_spelled : (a b : Spelled) → a.kind ≡ b.kind → a.text ≡ b.text → a ≡ b
 same_spelled a b kind text = ap (λ (k : NameKind). made k a.text) kind ∙ ap (λ (xs : List ℕ). made b.kind xs) text
   where
     made : NameKind → List ℕ → Spelled

@@ -78,7 +78,7 @@ equal_byte a b h = grind (arith, nat_tests)
 below-final : (a : ℕ) (p : List ℕ) (x : ℕ) (xs ys : List ℕ) → is_final a p ≡ true → x < 258 → slice_cmp nat_cmp (x ∷ xs) (map rank (a ∷ p) ++ ys) ≡ Less
 below-final a p x xs ys final low = both (eqb a 42) (is_empty p) final
     (λ star _. let same : a ≡ 42 = equal_byte a 42 star in
-        subst (λ (c : ℕ). slice_cmp nat_cmp (x ∷ xs) (map rank (c ∷ p) ++ ys) ≡ Less) (sym same) (less_head x 258 xs (map rank p ++ ys) low))
+    subst (λ (c : ℕ). slice_cmp nat_cmp (x ∷ xs) (map rank (c ∷ p) ++ ys) ≡ Less) (sym same) (less_head x 258 xs (map rank p ++ ys) low))
 
 -- a qualifier that matches another is the same, or comes behind it
 pub matches-first : (p n xs ys : List ℕ) → EachByte IsPlain n → matches p n ≡ true → (p ≡ n) ⊎ (slice_cmp nat_cmp (map rank n ++ 257 ∷ xs) (map rank p ++ 257 ∷ ys) ≡ Less)
@@ -91,17 +91,17 @@ matches-first (a ∷ p) (b ∷ n) xs ys h m =
     let low : b < 256 = h.0.small in
     let small : rank b < 258 = omega (arith, value) in
     either (is_final a p) (((eqb a 37) || (eqb a b)) && matches p n) m
-      (λ final. inr (below-final a p (rank b) (map rank n ++ 257 ∷ xs) (257 ∷ ys) final small))
-      (λ rest. both ((eqb a 37) || (eqb a b)) (matches p n) rest
-        (λ fits like. either (eqb a 37) (eqb a b) fits
-          (λ any. let same : a ≡ 37 = equal_byte a 37 any in
-              let less : rank b < 256 = omega (arith, value) in
-              inr (subst (λ (c : ℕ). slice_cmp nat_cmp (rank b ∷ (map rank n ++ 257 ∷ xs)) (rank c ∷ (map rank p ++ 257 ∷ ys)) ≡ Less) (sym same) (less_head (rank b) 256 (map rank n ++ 257 ∷ xs) (map rank p ++ 257 ∷ ys) less)))
-          (λ one. let same : a ≡ b = equal_byte a b one in
-              ⊎_elim (λ (e : p ≡ n). inl (cc (same, e)))
-                (λ (e : slice_cmp nat_cmp (map rank n ++ 257 ∷ xs) (map rank p ++ 257 ∷ ys) ≡ Less).
-                  inr (subst (λ (c : ℕ). slice_cmp nat_cmp (rank b ∷ (map rank n ++ 257 ∷ xs)) (rank c ∷ (map rank p ++ 257 ∷ ys)) ≡ Less) (sym same) (same_head (rank b) (map rank n ++ 257 ∷ xs) (map rank p ++ 257 ∷ ys) ∙ e)))
-                (again like))))
+    (λ final. inr (below-final a p (rank b) (map rank n ++ 257 ∷ xs) (257 ∷ ys) final small))
+    (λ rest. both ((eqb a 37) || (eqb a b)) (matches p n) rest
+    (λ fits like. either (eqb a 37) (eqb a b) fits
+    (λ any. let same : a ≡ 37 = equal_byte a 37 any in
+    let less : rank b < 256 = omega (arith, value) in
+    inr (subst (λ (c : ℕ). slice_cmp nat_cmp (rank b ∷ (map rank n ++ 257 ∷ xs)) (rank c ∷ (map rank p ++ 257 ∷ ys)) ≡ Less) (sym same) (less_head (rank b) 256 (map rank n ++ 257 ∷ xs) (map rank p ++ 257 ∷ ys) less)))
+    (λ one. let same : a ≡ b = equal_byte a b one in
+    ⊎_elim (λ (e : p ≡ n). inl (cc (same, e)))
+    (λ (e : slice_cmp nat_cmp (map rank n ++ 257 ∷ xs) (map rank p ++ 257 ∷ ys) ≡ Less).
+    inr (subst (λ (c : ℕ). slice_cmp nat_cmp (rank b ∷ (map rank n ++ 257 ∷ xs)) (rank c ∷ (map rank p ++ 257 ∷ ys)) ≡ Less) (sym same) (same_head (rank b) (map rank n ++ 257 ∷ xs) (map rank p ++ 257 ∷ ys) ∙ e)))
+    (again like))))
 
 -- what stands before the last byte, and that byte
 front : List ℕ → List ℕ
@@ -141,9 +141,9 @@ unfolding IsBehind
 no-match a f more other ends m = ⊎_elim
     (λ (none : more ≡ []). let e : begins (a ∷ f) [] ≡ true = subst (λ (xs : List ℕ). begins (a ∷ f) xs ≡ true) none m in absurd (cc (e)))
     (λ (some : (rest : List ℕ) × (more ≡ 46 ∷ rest)).
-        let e : begins (a ∷ f) (46 ∷ some.0) ≡ true = subst (λ (xs : List ℕ). begins (a ∷ f) xs ≡ true) some.1 m in
-        both (cond (eqb a 37) false (eqb a 46)) (begins f some.0) e
-          (λ one _. settled (eqb a 37) (eqb a 46) refl one))
+    let e : begins (a ∷ f) (46 ∷ some.0) ≡ true = subst (λ (xs : List ℕ). begins (a ∷ f) xs ≡ true) some.1 m in
+    both (cond (eqb a 37) false (eqb a 46)) (begins f some.0) e
+    (λ one _. settled (eqb a 37) (eqb a 46) refl one))
     ends
   where
     settled : (s t : Bool) → eqb a 46 ≡ t → cond s false t ≡ true → ⊥
@@ -170,13 +170,13 @@ open-front (a ∷ c ∷ p) (b ∷ n) more xs ys h low ends star m =
     let value = plain-rank b h.0 in
     let small : b < 256 = h.0.small in
     both (cond (eqb a 37) (not (eqb b 46)) (eqb a b)) (begins (front (c ∷ p)) (n ++ more)) m
-      (λ fits rest. ⊎_elim
-        (λ (any : a ≡ 37).
-          let less : rank b < 256 = omega (arith, value) in
-          subst (λ (d : ℕ). slice_cmp nat_cmp (rank b ∷ (map rank n ++ 257 ∷ xs)) (rank d ∷ (map rank (c ∷ p) ++ 257 ∷ ys)) ≡ Less) (sym any) (less_head (rank b) 256 (map rank n ++ 257 ∷ xs) (map rank (c ∷ p) ++ 257 ∷ ys) less))
-        (λ (one : a ≡ b).
-          subst (λ (d : ℕ). slice_cmp nat_cmp (rank b ∷ (map rank n ++ 257 ∷ xs)) (rank d ∷ (map rank (c ∷ p) ++ 257 ∷ ys)) ≡ Less) (sym one) (same_head (rank b) (map rank n ++ 257 ∷ xs) (map rank (c ∷ p) ++ 257 ∷ ys) ∙ again rest))
-        (one_byte (eqb a 37) a b refl fits))
+    (λ fits rest. ⊎_elim
+    (λ (any : a ≡ 37).
+    let less : rank b < 256 = omega (arith, value) in
+    subst (λ (d : ℕ). slice_cmp nat_cmp (rank b ∷ (map rank n ++ 257 ∷ xs)) (rank d ∷ (map rank (c ∷ p) ++ 257 ∷ ys)) ≡ Less) (sym any) (less_head (rank b) 256 (map rank n ++ 257 ∷ xs) (map rank (c ∷ p) ++ 257 ∷ ys) less))
+    (λ (one : a ≡ b).
+    subst (λ (d : ℕ). slice_cmp nat_cmp (rank b ∷ (map rank n ++ 257 ∷ xs)) (rank d ∷ (map rank (c ∷ p) ++ 257 ∷ ys)) ≡ Less) (sym one) (same_head (rank b) (map rank n ++ 257 ∷ xs) (map rank (c ∷ p) ++ 257 ∷ ys) ∙ again rest))
+    (one_byte (eqb a 37) a b refl fits))
 
 -- the bytes of qualifiers are no periods
 onto-each : (x : ℕ) (qs : List (List ℕ)) → x ≢ 46 → EachQualifier (λ b. b ≢ 46) qs → EachQualifier (λ b. b ≢ 46) (onto_first x qs)
@@ -215,6 +215,7 @@ covers-first kind (p ∷ ps) ns low h m = settled (λ rest. covers-first kind ps
         ap (λ (xs : List ℕ). slice_cmp nat_cmp xs (ranks (p ∷ ps))) (plain-ranks n rest h.0)
         ∙ ap (λ (ys : List ℕ). slice_cmp nat_cmp (map rank n ++ 257 ∷ ranks rest) ys) (single-ranks p ps double)
         ∙ e
+
     settled : ((rest : List (List ℕ)) → EachQualifier IsPlain rest → covers_all kind ps rest ≡ true → (ps ≡ rest) ⊎ (slice_cmp nat_cmp (ranks rest) (ranks ps) ≡ Less)) → (s t : Bool) → is_double p ≡ s → is_open kind (is_empty ps) p ≡ t → (names : List (List ℕ)) → EachQualifier IsPlain names → covers_all kind (p ∷ ps) names ≡ true → (p ∷ ps ≡ names) ⊎ (slice_cmp nat_cmp (ranks names) (ranks (p ∷ ps)) ≡ Less)
     settled again true t double opened names h m =
         inr (ap (λ (u : Bool). slice_cmp nat_cmp (ranks names) (cond u (260 ∷ ranks ps) (map rank p ++ 257 ∷ ranks ps))) double ∙ below-double names (ranks ps) h)
@@ -222,21 +223,21 @@ covers-first kind (p ∷ ps) ns low h m = settled (λ rest. covers-first kind ps
     settled again false true double opened (n ∷ rest) h m =
         let behind = behind-first n rest in
         let text : begins (front p) (n ++ behind.0) ≡ true =
-            sym (ap (λ (f : List ℕ). begins f (n ++ behind.0)) (front-take p)) ∙ sym (ap (λ (xs : List ℕ). begins (take (length p - 1) p) xs) behind.2) ∙ sym (covers_all-open kind p ps n rest double opened) ∙ m in
+        sym (ap (λ (f : List ℕ). begins f (n ++ behind.0)) (front-take p)) ∙ sym (ap (λ (xs : List ℕ). begins (take (length p - 1) p) xs) behind.2) ∙ sym (covers_all-open kind p ps n rest double opened) ∙ m in
         let star : last p ≡ 42 = sym (last-get p) ∙ equal_byte (get_or p (length p - 1) 0) 42 (ends_open kind (is_empty ps) p opened) in
         inr (ap (λ (xs : List ℕ). slice_cmp nat_cmp xs (ranks (p ∷ ps))) (plain-ranks n rest h.0)
-          ∙ ap (λ (ys : List ℕ). slice_cmp nat_cmp (map rank n ++ 257 ∷ ranks rest) ys) (single-ranks p ps double)
-          ∙ open-front p n behind.0 (ranks rest) (ranks ps) h.0 low.0 behind.1 star text)
+        ∙ ap (λ (ys : List ℕ). slice_cmp nat_cmp (map rank n ++ 257 ∷ ranks rest) ys) (single-ranks p ps double)
+        ∙ open-front p n behind.0 (ranks rest) (ranks ps) h.0 low.0 behind.1 star text)
     settled again false false double shut (n ∷ rest) h m =
         both (matches p n) (covers_all kind ps rest) (sym (covers_all-one kind p ps n rest double shut) ∙ m)
-          (λ like more. ⊎_elim
-            (λ (e : p ≡ n). ⊎_elim
-              (λ (f : ps ≡ rest). inl (cc (e, f)))
-              (λ (f : slice_cmp nat_cmp (ranks rest) (ranks ps) ≡ Less).
-                inr (by_ranks n rest h double (ap (λ (q : List ℕ). slice_cmp nat_cmp (map rank n ++ 257 ∷ ranks rest) (map rank q ++ 257 ∷ ranks ps)) e ∙ same_front (map rank n) (257 ∷ ranks rest) (257 ∷ ranks ps) ∙ same_head 257 (ranks rest) (ranks ps) ∙ f)))
-              (again rest h.1 more))
-            (λ (e : slice_cmp nat_cmp (map rank n ++ 257 ∷ ranks rest) (map rank p ++ 257 ∷ ranks ps) ≡ Less). inr (by_ranks n rest h double e))
-            (matches-first p n (ranks rest) (ranks ps) h.0 like))
+        (λ like more. ⊎_elim
+        (λ (e : p ≡ n). ⊎_elim
+        (λ (f : ps ≡ rest). inl (cc (e, f)))
+        (λ (f : slice_cmp nat_cmp (ranks rest) (ranks ps) ≡ Less).
+        inr (by_ranks n rest h double (ap (λ (q : List ℕ). slice_cmp nat_cmp (map rank n ++ 257 ∷ ranks rest) (map rank q ++ 257 ∷ ranks ps)) e ∙ same_front (map rank n) (257 ∷ ranks rest) (257 ∷ ranks ps) ∙ same_head 257 (ranks rest) (ranks ps) ∙ f)))
+        (again rest h.1 more))
+        (λ (e : slice_cmp nat_cmp (map rank n ++ 257 ∷ ranks rest) (map rank p ++ 257 ∷ ranks ps) ≡ Less). inr (by_ranks n rest h double e))
+        (matches-first p n (ranks rest) (ranks ps) h.0 like))
 
 pub very_name_first : (pattern name : Spelled) → IsResource name → pattern.kind ≡ name.kind → covers pattern name ≡ true → (pattern ≡ name) ⊎ (before name pattern ≡ true)
 very_name_first pattern name lawful kind m = ⊎_elim

@@ -49,17 +49,17 @@ plain_code c low high = record { small = high; no_percent = omega arith; no_aste
 ordinary-plain : (kind : NameKind) (first : Bool) (b : ℕ) → is_ordinary kind first b ≡ true → IsPlain b
 ordinary-plain DataSet first b h =
     either (is_letter b) (not first && (is_digit b || eqb b 45)) h (from_letter b)
-      (λ k. both (not first) (is_digit b || eqb b 45) k (λ d. either (is_digit b) (eqb b 45) d (from_digit b) (λ e. from_code b 45 e (plain_code 45 (omega arith) (omega arith)))))
+    (λ k. both (not first) (is_digit b || eqb b 45) k (λ d. either (is_digit b) (eqb b 45) d (from_digit b) (λ e. from_code b 45 e (plain_code 45 (omega arith) (omega arith)))))
 ordinary-plain General first b h =
     either (is_letter b || is_digit b || eqb b 45 || eqb b 95 || eqb b 47) (eqb b 58) h
-      (λ k. either (is_letter b || is_digit b || eqb b 45 || eqb b 95) (eqb b 47) k
-        (λ k2. either (is_letter b || is_digit b || eqb b 45) (eqb b 95) k2
-          (λ k3. either (is_letter b || is_digit b) (eqb b 45) k3
-            (λ k4. either (is_letter b) (is_digit b) k4 (from_letter b) (from_digit b))
-            (λ e. from_code b 45 e (plain_code 45 (omega arith) (omega arith))))
-          (λ e. from_code b 95 e (plain_code 95 (omega arith) (omega arith))))
-        (λ e. from_code b 47 e (plain_code 47 (omega arith) (omega arith))))
-      (λ e. from_code b 58 e (plain_code 58 (omega arith) (omega arith)))
+    (λ k. either (is_letter b || is_digit b || eqb b 45 || eqb b 95) (eqb b 47) k
+    (λ k2. either (is_letter b || is_digit b || eqb b 45) (eqb b 95) k2
+    (λ k3. either (is_letter b || is_digit b) (eqb b 45) k3
+    (λ k4. either (is_letter b) (is_digit b) k4 (from_letter b) (from_digit b))
+    (λ e. from_code b 45 e (plain_code 45 (omega arith) (omega arith))))
+    (λ e. from_code b 95 e (plain_code 95 (omega arith) (omega arith))))
+    (λ e. from_code b 47 e (plain_code 47 (omega arith) (omega arith))))
+    (λ e. from_code b 58 e (plain_code 58 (omega arith) (omega arith)))
 
 -- each byte of some qualifiers is plain, or small at least
 abbrev pub EachByte : (ℕ → Type 0) → List ℕ → Type 0

@@ -29,9 +29,9 @@ rank-other : (b : ℕ) → b < 256 → (rank b ≢ 257) × (rank b ≢ 259) × (
 rank-other b h = ⊎_elim
     (λ (p : (b ≡ 37) × (rank b ≡ 256)). ((λ e. omega (arith, p.1)), (λ e. omega (arith, p.1)), (λ e. omega (arith, p.1))))
     (λ (r : ((b ≡ 42) × (rank b ≡ 258)) ⊎ (rank b ≡ b)). ⊎_elim
-        (λ (p : (b ≡ 42) × (rank b ≡ 258)). ((λ e. omega (arith, p.1)), (λ e. omega (arith, p.1)), (λ e. omega (arith, p.1))))
-        (λ (p : rank b ≡ b). ((λ e. omega (arith, p)), (λ e. omega (arith, p)), (λ e. omega (arith, p))))
-        r)
+    (λ (p : (b ≡ 42) × (rank b ≡ 258)). ((λ e. omega (arith, p.1)), (λ e. omega (arith, p.1)), (λ e. omega (arith, p.1))))
+    (λ (p : rank b ≡ b). ((λ e. omega (arith, p)), (λ e. omega (arith, p)), (λ e. omega (arith, p))))
+    r)
     (rank-cases b h)
 
 rank-injective : (a b : ℕ) → a < 256 → b < 256 → rank a ≡ rank b → a ≡ b

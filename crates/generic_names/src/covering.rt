@@ -96,7 +96,11 @@ fn walk(kind: NameKind, pattern: &[u8], mut at: usize, name: &[u8], mut from: us
 fn covered(yes: bool) -> WalkEnd
     ensures { result ≡ (if yes then WalkEnd.Covered else WalkEnd.Refused) }
 {
-    if yes { WalkEnd::Covered } else { WalkEnd::Refused }
+    if yes {
+        WalkEnd::Covered
+    } else {
+        WalkEnd::Refused
+    }
 }
 
 /// Whether a pattern's qualifier matches a name's.

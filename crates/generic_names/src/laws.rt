@@ -7,11 +7,9 @@ pub fn order_is_total()
     ensures either { OneIsBefore }
     ensures not_both { NotBoth }
     ensures passed_on { PassedOn }
-{
-}
+{}
 
 /// A discrete profile of the very name is more specific than every other profile that covers it.
 pub fn very_name_is_first()
     ensures { VeryNameIsFirst }
-{
-}
+{}

@@ -19,3 +19,6 @@ pub use kind::NameKind;
 pub use member::MemberName;
 pub use pattern::Pattern;
 pub use resource::Resource;
+
+#[cfg(test)]
+mod tests;

@@ -1,4 +1,4 @@
-ghost use Rattle.std.specs.Prelude.{◌≡◌, ◌<◌, ◌≤◌, length, IfSome, IfNone, Ok};
+ghost use Rattle.std.specs.Prelude.{◌≡◌, ◌<◌, ◌≤◌, length, IfSome, IfNone, Ok, IfOk};
 ghost use Rattle.generic_names.specs.Faults.{member_of};
 ghost use Rattle.generic_names.specs.Resolve.{stands_for, replaced, resolve};
 
@@ -35,7 +35,8 @@ impl Model for MemberName {
 impl MemberName {
     /// Reads the name of a member of this kind. Lower case is not folded.
     pub fn read(kind: NameKind, bytes: &[u8]) -> Result<MemberName, NameFault>
-        ensures { result ≡ member_of kind bytes.now }
+        ensures name { result ≡ member_of kind bytes.now }
+        ensures kind { IfOk result (λ name. name.kind ≡ kind) }
     {
         if let Some(fault) = fault_in(Form::Symbolic, kind, bytes) {
             return Err(fault);

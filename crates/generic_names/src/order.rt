@@ -37,7 +37,11 @@ impl<'a> Ranks<'a> {
     pub(crate) fn of(text: &'a [u8]) -> Ranks<'a>
         ensures { result ≡ ranks (qualifiers text.now) }
     {
-        Ranks { text, at: 0, begins: true }
+        Ranks {
+            text,
+            at: 0,
+            begins: true,
+        }
     }
 
     /// The next rank. The last one is that of the name's end.
@@ -68,15 +72,31 @@ fn step_at(text: &[u8], begins: bool, at: usize) -> Step
     ensures within { result.at ≤ length text.now + 1 }
 {
     if at > text.len() {
-        return Step { rank: END_OF_NAME, begins, at };
+        return Step {
+            rank: END_OF_NAME,
+            begins,
+            at,
+        };
     }
     if begins_double(text, begins, at) {
-        return Step { rank: 260, begins: true, at: at + 3 };
+        return Step {
+            rank: 260,
+            begins: true,
+            at: at + 3,
+        };
     }
     if at == text.len() || text[at] == b'.' {
-        return Step { rank: 257, begins: true, at: at + 1 };
+        return Step {
+            rank: 257,
+            begins: true,
+            at: at + 1,
+        };
     }
-    Step { rank: rank_of(text[at]), begins: false, at: at + 1 }
+    Step {
+        rank: rank_of(text[at]),
+        begins: false,
+        at: at + 1,
+    }
 }
 
 /// Whether a whole `**` begins at a place.

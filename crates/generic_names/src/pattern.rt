@@ -1,4 +1,4 @@
-ghost use Rattle.std.specs.Prelude.{◌≡◌, Ok};
+ghost use Rattle.std.specs.Prelude.{◌≡◌, Ok, IfOk};
 ghost use Rattle.std.specs.Result.{result_ok};
 ghost use Rattle.generic_names.specs.Faults.{pattern_of};
 ghost use Rattle.generic_names.specs.Covers.{is_generic, covers};
@@ -40,7 +40,8 @@ impl Model for Pattern {
 impl Pattern {
     /// Reads the name of a profile of this kind. Lower case is not folded.
     pub fn read(kind: NameKind, bytes: &[u8]) -> Result<Pattern, NameFault>
-        ensures { result ≡ pattern_of kind bytes.now }
+        ensures name { result ≡ pattern_of kind bytes.now }
+        ensures kind { IfOk result (λ name. name.kind ≡ kind) }
     {
         if let Some(fault) = fault_in(Form::Generic, kind, bytes) {
             return Err(fault);

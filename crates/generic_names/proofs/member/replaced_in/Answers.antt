@@ -25,20 +25,20 @@ loop-at-preserved c =
     let first = ap (λ (n : Spelled). n.text) c.in_ok-push.ensures.pushed ∙ ap (λ xs. out ++ xs) c.stand_in.ensures in
     let kind = ap (λ (n : Spelled). n.kind) c.in_ok-push.ensures.pushed ∙ c.loop-at.invariant.kind in
     elim c.if-end-text.branch [
-      then-end-text+in_ok-push-2 w ↦
-        let both = ap (λ (n : Spelled). n.text) w.name-is ∙ ap (λ (n : Spelled). n.text) w.in_ok-push-2.ensures.pushed ∙ ap (λ xs. xs ++ 46 ∷ []) first in
-        record {
-          place = omega arith;
-          kind = ap (λ (n : Spelled). n.kind) w.name-is ∙ ap (λ (n : Spelled). n.kind) w.in_ok-push-2.ensures.pushed ∙ kind;
-          same = ap (λ xs. xs ++ rest) both ∙ append_assoc _ (46 ∷ []) rest
-              ∙ replaced-more c.args.user.now c.args.group.now out c.args.text.now _ c.loop-at.at end.result c.loop-at.invariant.same end.ensures.within end.ensures.first w.if-end-text.true;
-        }
+      | then-end-text+in_ok-push-2 w ↦
+          let both = ap (λ (n : Spelled). n.text) w.name-is ∙ ap (λ (n : Spelled). n.text) w.in_ok-push-2.ensures.pushed ∙ ap (λ xs. xs ++ 46 ∷ []) first in
+          record {
+            place = omega arith;
+            kind = ap (λ (n : Spelled). n.kind) w.name-is ∙ ap (λ (n : Spelled). n.kind) w.in_ok-push-2.ensures.pushed ∙ kind;
+            same = ap (λ xs. xs ++ rest) both ∙ append_assoc _ (46 ∷ []) rest
+                ∙ replaced-more c.args.user.now c.args.group.now out c.args.text.now _ c.loop-at.at end.result c.loop-at.invariant.same end.ensures.within end.ensures.first w.if-end-text.true;
+          }
       | else-end-text w ↦ record {
-          place = omega arith;
-          kind = ap (λ (n : Spelled). n.kind) w.name-is ∙ kind;
-          same = ap (λ xs. xs ++ rest) (ap (λ (n : Spelled). n.text) w.name-is ∙ first)
-              ∙ replaced-last c.args.user.now c.args.group.now out c.args.text.now _ c.loop-at.at end.result c.loop-at.invariant.same end.ensures.within end.ensures.first w.if-end-text.false;
-        }
+        place = omega arith;
+        kind = ap (λ (n : Spelled). n.kind) w.name-is ∙ kind;
+        same = ap (λ xs. xs ++ rest) (ap (λ (n : Spelled). n.text) w.name-is ∙ first)
+            ∙ replaced-last c.args.user.now c.args.group.now out c.args.text.now _ c.loop-at.at end.result c.loop-at.invariant.same end.ensures.within end.ensures.first w.if-end-text.false;
+      }
     ]
 
 pub returns-clause-spelling : goal.returns-clause-spelling

@@ -11,10 +11,10 @@ returns-then-at-text-clause-end c _ = ranks_at-past c.args.text.now c.args.begin
 pub returns-then-at-text-2-clause-next : goal.returns-then-at-text-2-clause-next
 returns-then-at-text-2-clause-next c _ =
     let ends : c.args.at < length c.args.text.now → get_or c.args.text.now c.args.at 0 ≡ 46 = λ l.
-        elim c.then-at-text-2.branch [
-          then-at-text-2-via-then-at-text-2 w ↦ absurd (omega arith)
-          | then-at-text-2-via-else-at-text-2+then-text-at-eq46 w ↦ w.if-text-at-eq46.true
-        ] in
+    elim c.then-at-text-2.branch [
+      | then-at-text-2-via-then-at-text-2 w ↦ absurd (omega arith)
+      | then-at-text-2-via-else-at-text-2+then-text-at-eq46 w ↦ w.if-text-at-eq46.true
+    ] in
     ranks_at-end c.args.text.now c.args.begins c.args.at c.if-at-text.false ends
 
 pub returns-clause-next : goal.returns-clause-next

@@ -28,7 +28,7 @@ pub same_front : (zs xs ys : List ℕ) → slice_cmp nat_cmp (zs ++ xs) (zs ++ y
 same_front [] xs ys = refl
 same_front (z ∷ zs) xs ys = same_head z (zs ++ xs) (zs ++ ys) ∙ same_front zs xs ys
 
-plain-rank : (b : ℕ) → IsPlain b → rank b ≡ b
+pub plain-rank : (b : ℕ) → IsPlain b → rank b ≡ b
 plain-rank b p =
     let percent : eqb b 37 ≡ false = (let n : b ≢ 37 = p.no_percent in grind (arith, nat_tests)) in
     let asterisk : eqb b 42 ≡ false = (let n : b ≢ 42 = p.no_asterisk in grind (arith, nat_tests)) in
@@ -59,19 +59,19 @@ below-double ((b ∷ n) ∷ ns) xs h =
     let low : b < 256 = h.0.0.small in
     rw (plain-ranks (b ∷ n) ns h.0) (less_head (rank b) 260 (map rank n ++ 257 ∷ ranks ns) xs (omega (arith, same)))
 
-either : {P : Type 0} (a b : Bool) → (a || b) ≡ true → (a ≡ true → P) → (b ≡ true → P) → P
+pub either : {P : Type 0} (a b : Bool) → (a || b) ≡ true → (a ≡ true → P) → (b ≡ true → P) → P
 either true b h one other = one refl
 either false b h one other = other h
 
-both : {P : Type 0} (a b : Bool) → (a && b) ≡ true → (a ≡ true → b ≡ true → P) → P
+pub both : {P : Type 0} (a b : Bool) → (a && b) ≡ true → (a ≡ true → b ≡ true → P) → P
 both true b h k = k refl h
 both false b h k = absurd (cc (h))
 
-is_nil : (xs : List ℕ) → is_empty xs ≡ true → xs ≡ []
+pub is_nil : (xs : List ℕ) → is_empty xs ≡ true → xs ≡ []
 is_nil [] h = refl
 is_nil (x ∷ xs) h = absurd (cc (h))
 
-equal_byte : (a b : ℕ) → eqb a b ≡ true → a ≡ b
+pub equal_byte : (a b : ℕ) → eqb a b ≡ true → a ≡ b
 equal_byte a b h = grind (arith, nat_tests)
 
 -- a final `*` comes behind every byte and behind the end of a qualifier
@@ -104,18 +104,17 @@ matches-first (a ∷ p) (b ∷ n) xs ys h m =
     (again like))))
 
 -- what stands before the last byte, and that byte
-front : List ℕ → List ℕ
+abbrev pub front : List ℕ → List ℕ
 front [] = []
 front (a ∷ []) = []
 front (a ∷ c ∷ p) = a ∷ front (c ∷ p)
 
-last : List ℕ → ℕ
+abbrev pub last : List ℕ → ℕ
 last [] = 0
 last (a ∷ []) = a
 last (a ∷ c ∷ p) = last (c ∷ p)
 
-front-take : (p : List ℕ) → take (length p - 1) p ≡ front p
-unfolding front
+pub front-take : (p : List ℕ) → take (length p - 1) p ≡ front p
 front-take [] = refl
 front-take (a ∷ []) = refl
 front-take (a ∷ c ∷ p) =
@@ -123,8 +122,7 @@ front-take (a ∷ c ∷ p) =
     let inner : length (c ∷ p) - 1 ≡ length p = omega arith in
     ap (λ (k : ℕ). take k (a ∷ c ∷ p)) outer ∙ ap (λ (q : List ℕ). a ∷ q) (ap (λ (k : ℕ). take k (c ∷ p)) (sym inner) ∙ front-take (c ∷ p))
 
-last-get : (p : List ℕ) → get_or p (length p - 1) 0 ≡ last p
-unfolding last
+pub last-get : (p : List ℕ) → get_or p (length p - 1) 0 ≡ last p
 last-get [] = refl
 last-get (a ∷ []) = refl
 last-get (a ∷ c ∷ p) =
@@ -151,13 +149,12 @@ no-match a f more other ends m = ⊎_elim
     settled false true is e = other (equal_byte a 46 is)
     settled false false is e = absurd (cc (e))
 
-one_byte : (t : Bool) (a b : ℕ) → eqb a 37 ≡ t → cond t (not (eqb b 46)) (eqb a b) ≡ true → (a ≡ 37) ⊎ (a ≡ b)
+pub one_byte : (t : Bool) (a b : ℕ) → eqb a 37 ≡ t → cond t (not (eqb b 46)) (eqb a b) ≡ true → (a ≡ 37) ⊎ (a ≡ b)
 one_byte true a b is e = inl (equal_byte a 37 is)
 one_byte false a b is e = inr (equal_byte a b e)
 
 -- a qualifier that takes the rest of a text comes behind the one that the text begins with
 open-front : (p n more xs ys : List ℕ) → EachByte IsPlain n → EachByte (λ b. b ≢ 46) p → IsBehind more → last p ≡ 42 → begins (front p) (n ++ more) ≡ true → slice_cmp nat_cmp (map rank n ++ 257 ∷ xs) (map rank p ++ 257 ∷ ys) ≡ Less
-unfolding front last
 open-front [] n more xs ys h low ends star m = absurd (let e : ◌≡◌ {A = ℕ} 0 42 = star in omega arith)
 open-front (a ∷ []) [] more xs ys h low ends star m = rw star (less_head 257 258 xs (257 ∷ ys) (omega arith))
 open-front (a ∷ []) (b ∷ n) more xs ys h low ends star m =

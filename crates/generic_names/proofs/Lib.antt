@@ -7,3 +7,4 @@ mod ReplaceLaws
 mod Lawful
 mod OrderLaws
 mod FirstLaws
+mod GapLaws

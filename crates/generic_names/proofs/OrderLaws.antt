@@ -25,7 +25,7 @@ rank-cases b h = settled (eqb b 37) (eqb b 42) refl refl
     settled false true is at = inr (inl ((grind (arith, nat_tests)), refl))
     settled false false is at = inr (inr refl)
 
-rank-other : (b : ℕ) → b < 256 → (rank b ≢ 257) × (rank b ≢ 259) × (rank b ≢ 260)
+pub rank-other : (b : ℕ) → b < 256 → (rank b ≢ 257) × (rank b ≢ 259) × (rank b ≢ 260)
 rank-other b h = ⊎_elim
     (λ (p : (b ≡ 37) × (rank b ≡ 256)). ((λ e. omega (arith, p.1)), (λ e. omega (arith, p.1)), (λ e. omega (arith, p.1))))
     (λ (r : ((b ≡ 42) × (rank b ≡ 258)) ⊎ (rank b ≡ b)). ⊎_elim

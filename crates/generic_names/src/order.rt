@@ -1,5 +1,5 @@
 ghost use Rattle.std.specs.Prelude.{◌≡◌, ◌≢◌, ◌+◌, ◌≤◌, ◌&&◌, IsTrue, [], ◌∷◌, length};
-ghost use Rattle.std.specs.Ordering.{nat_cmp, is_lt};
+ghost use Rattle.std.specs.Ordering.{nat_cmp};
 ghost use Rattle.std.specs.Cmp.Lexicographic.{slice_cmp};
 ghost use Rattle.generic_names.specs.Spelled.{qualifiers};
 ghost use Rattle.generic_names.specs.Before.{rank, ranks};
@@ -8,6 +8,7 @@ ghost use Rattle.generic_names.specs.Ranked.{first_is_double, ranks_at};
 
 use crate::covering::is_double_asterisk;
 use crate::qualifiers::qualifier_end;
+use std::cmp::Ordering;
 use std::marker::Model;
 
 /// The rank at the end of a name, which is its last.
@@ -120,16 +121,16 @@ fn rank_of(byte: u8) -> u16
     }
 }
 
-/// Whether the first name is more specific than the second.
-pub(crate) fn is_before(first: &[u8], second: &[u8]) -> bool
-    ensures { result ≡ is_lt (slice_cmp nat_cmp (ranks (qualifiers first.now)) (ranks (qualifiers second.now))) }
+/// Which of two names comes first in the order of specificity.
+pub(crate) fn compare(first: &[u8], second: &[u8]) -> Ordering
+    ensures { result ≡ slice_cmp nat_cmp (ranks (qualifiers first.now)) (ranks (qualifiers second.now)) }
 {
     let mut these = Ranks::of(first);
     let mut those = Ranks::of(second);
     loop {
         let (this, that) = (these.next(), those.next());
         if this != that || this == END_OF_NAME {
-            return this < that;
+            return this.cmp(&that);
         }
     }
 }

@@ -2,16 +2,17 @@ ghost use Rattle.std.specs.Prelude.{◌≡◌, Ok, IfOk};
 ghost use Rattle.std.specs.Result.{result_ok};
 ghost use Rattle.generic_names.specs.Faults.{pattern_of};
 ghost use Rattle.generic_names.specs.Covers.{is_generic, covers};
-ghost use Rattle.generic_names.specs.Before.{before};
+ghost use Rattle.generic_names.specs.Before.{before, order};
 
 use crate::covering::covers_text;
 use crate::fault::NameFault;
 use crate::form::Form;
 use crate::kind::NameKind;
-use crate::order::is_before;
+use crate::order::compare;
 use crate::reading::{fault_in, has_generic_byte};
 use crate::resource::Resource;
 use crate::spelling::Spelling;
+use std::cmp::Ordering;
 use std::marker::Model;
 
 /// The name of a profile, discrete or generic. `%` stands for one byte other than a period, a `*` at
@@ -97,6 +98,22 @@ impl Pattern {
         requires { self.now.kind ≡ other.now.kind }
         ensures { result ≡ before self.now other.now }
     {
-        is_before(self.name.text(), other.name.text())
+        compare(self.name.text(), other.name.text()).is_lt()
+    }
+
+    /// Which of two patterns of a kind comes first in the order of specificity.
+    pub fn order(&self, other: &Pattern) -> Ordering
+        requires { self.now.kind ≡ other.now.kind }
+        ensures { result ≡ order self.now other.now }
+    {
+        compare(self.name.text(), other.name.text())
+    }
+
+    /// The same, with the pattern of a resource's very name.
+    pub fn order_of_name(&self, name: &Resource) -> Ordering
+        requires { self.now.kind ≡ name.now.kind }
+        ensures { result ≡ order self.now name.now }
+    {
+        compare(self.name.text(), name.text())
     }
 }

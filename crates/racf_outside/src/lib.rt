@@ -1,13 +1,12 @@
-// A library with one function.
+//! The outside of the security manager: sources that bytes come from, sinks that bytes go to, the shelf of named
+//! inputs and outputs, and the lines of an input. Each object counts its faults, and a call fails only where the count of
+//! its object rose.
 #![tactic(auto)]
 
-ghost use Rattle.std.specs.Prelude.{◌≡◌};
-ghost use Rattle.racf_outside.specs.Echo.{echo_of};
+pub mod lines;
+pub mod shelf;
+pub mod streams;
 
-// The `ensures` clause is the contract: what `echo` returns is `echo_of` of its argument, a definition
-// in `specs/Echo.antt`, which a caller's clause can cite too.
-pub fn echo(x: usize) -> usize
-    ensures { result ≡ echo_of x }
-{
-    x
-}
+pub use lines::{Line, LineFault};
+pub use shelf::Shelf;
+pub use streams::{Failed, Sink, Source};

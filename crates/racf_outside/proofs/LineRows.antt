@@ -1,0 +1,31 @@
+-- Worked rows of the lines of an input.
+use Rattle.std.specs.Prelude.{ℕ, ◌≡◌, List, [], ◌∷◌, ◌++◌, replicate, codes, refl}
+use Rattle.racf_outside.specs.Lines.{Line, Text, TooLong, lines, whole_lines}
+
+-- an empty input has no line
+empty : lines [] ≡ []
+empty = refl
+
+-- the input's end ends a line, and a line feed is no line of its own
+no_feed_at_the_end : lines (codes "AB") ≡ Text (codes "AB") ∷ []
+no_feed_at_the_end = refl
+
+feed_at_the_end : lines (codes "AB\n") ≡ Text (codes "AB") ∷ []
+feed_at_the_end = refl
+
+two_feeds : lines (codes "A\n\nB") ≡ Text (codes "A") ∷ Text [] ∷ Text (codes "B") ∷ []
+two_feeds = refl
+
+only_a_feed : lines (codes "\n") ≡ Text [] ∷ []
+only_a_feed = refl
+
+-- one carriage return is dropped before either end, and no other
+returns : lines (codes "A\r\nB\r\r\nC\rD\r") ≡ Text (codes "A") ∷ Text (codes "B\r") ∷ Text (codes "C\rD") ∷ []
+returns = refl
+
+only_a_return : lines (codes "\r") ≡ Text [] ∷ []
+only_a_return = refl
+
+-- what no line feed ended isn't whole
+whole : whole_lines (codes "A\nB\nC") ≡ Text (codes "A") ∷ Text (codes "B") ∷ []
+whole = refl

@@ -29,3 +29,13 @@ only_a_return = refl
 -- what no line feed ended isn't whole
 whole : whole_lines (codes "A\nB\nC") ≡ Text (codes "A") ∷ Text (codes "B") ∷ []
 whole = refl
+
+-- 4,096 bytes are a line and 4,097 are too long, the carriage return counted; the rest of a line that is too long is skipped
+longest : lines (replicate 4096 65) ≡ Text (replicate 4096 65) ∷ []
+longest = refl
+
+too_long : lines (replicate 4097 65 ++ codes "\nA") ≡ TooLong ∷ Text (codes "A") ∷ []
+too_long = refl
+
+return_counts : lines (replicate 4096 65 ++ codes "\r\nA") ≡ TooLong ∷ Text (codes "A") ∷ []
+return_counts = refl

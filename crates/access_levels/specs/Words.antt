@@ -1,9 +1,10 @@
 -- A set of categories as four words of 64 bits.
 use Rattle.std.specs.Prelude.{◌≡◌, ℕ, ◌+◌, ◌-◌, ◌*◌, ◌^◌, ◌<◌, ◌≤◌, ◌/◌, ◌%◌, List, [], ◌∷◌, length}
 use Rattle.std.specs.Int.{bit_at}
-use Rattle.std.proofs.Common.{suc, sym, ◌∙◌, ap, arith, get_or, refl, ⊎_elim}
+use Rattle.std.proofs.Common.{zero, suc, sym, ◌∙◌, ap, arith, get_or, refl, ⊎_elim}
 use Rattle.std.proofs.lemmas.Bool.{cases_lt}
 use Rattle.std.proofs.lemmas.Nat.Bits.{bit_at-zero, bit_at_cat_low, bit_at_cat_high}
+use Rattle.access_levels.specs.declared.categories.Categories.TheInside.{Inside}
 
 -- The words of a set, the lowest first, make one number.
 abbrev pub joined : List ℕ → ℕ
@@ -32,9 +33,18 @@ lowest-joined (word ∷ words) fit =
     let rest : lowest_words (length words) (joined words) ≡ words = lowest-joined words (λ k. fit (suc k)) in
     rw (low (joined words) word here, high (joined words) word here, rest) refl
 
--- A set's four words give its words back.
-pub lowest_words-joined : (words : List ℕ) → AreWords words → lowest_words 4 (joined words) ≡ words
-lowest_words-joined words h = ap (λ n. lowest_words n (joined words)) (sym h.four) ∙ lowest-joined words h.fit
+four-joined : (words : List ℕ) → AreWords words → lowest_words 4 (joined words) ≡ words
+four-joined words h = ap (λ n. lowest_words n (joined words)) (sym h.four) ∙ lowest-joined words h.fit
+
+abbrev pub set_of : Inside → ℕ
+set_of set = joined set.words
+
+abbrev pub in_words : ℕ → Inside
+in_words set = record { words = lowest_words 4 set }
+
+-- A set's number gives its four words back.
+pub in_words-set_of : (set : Inside) → AreWords set.words → in_words (set_of set) ≡ set
+in_words-set_of set h = ap (λ (words : List ℕ). record { words = words }) (four-joined set.words h)
 
 in_first : (word : ℕ) (words : List ℕ) (n : ℕ) → n < 64 → bit_at word n ≡ bit_at (get_or (word ∷ words) (n / 64) 0) (n % 64)
 in_first word words n h =

@@ -18,15 +18,15 @@ impl Model for Categories {
 
     ghost Value = { ℕ };
 
-    ghost use Rattle.access_levels.specs.Words.{joined, AreWords, lowest_words, lowest_words-joined};
+    ghost use Rattle.access_levels.specs.Words.{AreWords, set_of, in_words, in_words-set_of};
 
-    ghost view = { λ set. joined set.words };
+    ghost view = { set_of };
 
     ghost invariant = { λ set. AreWords set.words };
 
-    ghost inverse = { λ set. record { words = lowest_words 4 set } };
+    ghost inverse = { in_words };
 
-    ghost inverse_ok = { λ set h. lowest_words-joined set.words h };
+    ghost inverse_ok = { in_words-set_of };
 }
 
 impl Categories {
@@ -39,5 +39,36 @@ impl Categories {
     {
         let word = self.words[usize::from(n / 64)];
         (word >> (n % 64)) & 1 == 1
+    }
+
+    /// The set with a number added.
+    pub fn with(self, n: u8) -> Categories
+        ensures { (m : ℕ) → m < 256 → is_member result m ≡ (m == n || is_member self m) }
+    {
+        let mut words = self.words;
+        words[usize::from(n / 64)] |= 1 << (n % 64);
+        Categories { words }
+    }
+
+    /// The set with a number taken away.
+    pub fn without(self, n: u8) -> Categories
+        ensures { (m : ℕ) → m < 256 → is_member result m ≡ (not (m == n) && is_member self m) }
+    {
+        let mut words = self.words;
+        words[usize::from(n / 64)] &= !(1 << (n % 64));
+        Categories { words }
+    }
+
+    /// The least number that `wanted` has and this set hasn't.
+    pub fn first_missing(&self, wanted: &Categories) -> Option<u8>
+        ensures { IsFirstMissing self.now wanted.now result }
+    {
+        for i in 0..WORDS {
+            let missing = wanted.words[i] & !self.words[i];
+            if missing != 0 {
+                return Some((64 * i as u32 + missing.trailing_zeros()) as u8);
+            }
+        }
+        None
     }
 }

@@ -1,9 +1,17 @@
 -- What a line of a stream asks for. Three kinds of line are built, each exactly its words in upper case, parted by
 -- single blanks; every other line is not built.
-use Rattle.std.specs.Prelude.{ℕ, ◌-◌, Bool, true, false, ◌||◌, ◌&&◌, ◌==◌, Option, Some, None, Result, Ok, Err, List, [], ◌∷◌, length, take, drop, codes, nat_eq, if◌then◌else◌}
-use Rattle.std.specs.List.{starts_with, list_all, slice_split}
+use Rattle.std.specs.Prelude.{ℕ, ◌-◌, Bool, true, false, ◌||◌, ◌&&◌, ◌==◌, Option, Some, None, List, [], ◌∷◌, length, take, drop, codes, nat_eq, unwrap_or, if◌then◌else◌}
+use Rattle.std.specs.List.{starts_with, ends_with, list_all, slice_split}
 use Rattle.std.specs.Str.{bytes_eq}
 use Rattle.std.specs.Result.{result_ok}
+use Rattle.racf_outside.specs.Lines.{Line, Text, TooLong}
+use Rattle.access_levels.specs.Spelling.{id_of, level_of}
+use Rattle.access_levels.specs.declared.levels.Level.{Level}
+use Rattle.access_levels.specs.declared.levels.Level.TheVariants.{NoAccess, Execute, Read, Update, Control, Alter}
+use Rattle.generic_names.specs.Faults.{resource_of}
+use Rattle.generic_names.specs.declared.kind.NameKind.TheVariants.{General}
+use Rattle.racf_run.specs.declared.item.Item.{Item}
+use Rattle.racf_run.specs.declared.item.Item.TheVariants.{Rdefine, Verify, Auth, NotBuilt}
 
 -- `Some x`, and then what follows from it
 infixl 10 ◌>>=◌

@@ -1,5 +1,13 @@
 -- The text of each reply and answer.
 use Rattle.std.specs.Prelude.{ℕ, Bool, true, false, List, ◌++◌, codes, decimal}
+use Rattle.access_levels.specs.Level.{level_name}
+use Rattle.racf_run.specs.declared.item.Profile.{Profile}
+use Rattle.racf_run.specs.declared.reply.Refusal.{Refusal}
+use Rattle.racf_run.specs.declared.reply.Refusal.TheVariants.{Exists, NoAcee, NotBuilt}
+use Rattle.racf_run.specs.declared.reply.Decision.{Decision}
+use Rattle.racf_run.specs.declared.reply.Decision.TheVariants.{NoProfile, UniversalAccess, Insufficient}
+use Rattle.racf_run.specs.declared.reply.Reply.{Reply}
+use Rattle.racf_run.specs.declared.reply.Reply.TheVariants.{Accepted, Refused, Verified, Decided}
 
 -- why a line was refused
 abbrev pub refusal_words : Refusal → List ℕ

@@ -1,4 +1,20 @@
 -- The stream: what stands between two lines, and the answer to each kind of line.
+use Rattle.std.specs.Prelude.{ℕ, ◌+◌, Bool, true, false, ◌||◌, nat_lt, nat_le, Option, Some, None, List, [], ◌∷◌, ◌++◌, length, find, if◌then◌else◌}
+use Rattle.std.specs.List.{list_any}
+use Rattle.std.specs.Str.{bytes_eq}
+use Rattle.access_levels.specs.Level.{suffices}
+use Rattle.access_levels.specs.declared.levels.Level.{Level}
+use Rattle.generic_names.specs.Spelled.{Spelled}
+use Rattle.racf_run.specs.declared.item.Profile.{Profile}
+use Rattle.racf_run.specs.declared.item.Item.{Item}
+use Rattle.racf_run.specs.declared.item.Item.TheVariants as item
+use Rattle.racf_run.specs.declared.reply.Refusal.{Refusal}
+use Rattle.racf_run.specs.declared.reply.Refusal.TheVariants.{Exists, NoAcee, NotBuilt}
+use Rattle.racf_run.specs.declared.reply.Decision.{Decision}
+use Rattle.racf_run.specs.declared.reply.Decision.TheVariants.{NoProfile, UniversalAccess, Insufficient}
+use Rattle.racf_run.specs.declared.reply.Reply.{Reply}
+use Rattle.racf_run.specs.declared.reply.Reply.TheVariants.{Accepted, Refused, Verified, Decided}
+use Rattle.racf_run.specs.Replies.{reply_line}
 
 -- The number counts the accepted commands. The names of the ACEEs in use are IDs' spellings.
 pub record State : Type 0 where
@@ -55,7 +71,7 @@ verify acee s =
 abbrev pub decide : Option Profile → Level → Decision
 decide None asked = NoProfile
 decide (Some profile) asked =
-  if nat_le (rank_of asked) (rank_of profile.universal_access) then UniversalAccess profile else Insufficient profile
+  if suffices profile.universal_access asked then UniversalAccess profile else Insufficient profile
 
 -- AUTH is refused exactly where the ACEE isn't in use. An answer changes nothing.
 unfoldable pub auth : List ℕ → Spelled → Level → State → Answer
@@ -66,9 +82,9 @@ auth acee name asked s =
 
 -- the answer to each kind of line
 abbrev pub answer : Item → State → Answer
-answer (Rdefine profile) s = rdefine profile s
-answer (Verify acee) s = verify acee s
-answer (Auth acee name asked) s = auth acee name asked s
+answer (item.Rdefine profile) s = rdefine profile s
+answer (item.Verify acee) s = verify acee s
+answer (item.Auth acee name asked) s = auth acee name asked s
 answer item.NotBuilt s = refuse NotBuilt s
 
 -- what stands after an item

@@ -1,13 +1,9 @@
-ghost use Rattle.std.specs.Prelude.{◌≡◌, ◌++◌, map, IfOk};
-ghost use Rattle.racf_outside.specs.Lines.{Line as line_text};
-ghost use Rattle.racf_run.specs.Items.{item_of, item_of_text, item_of_words, is_skipped, words, rdefine_of, verify_of, auth_of, universal_access_of, asked_level_of};
-
 use access_levels::{Id, Level};
-use generic_names::{NameKind, Resource};
-use std::alloc::{AllocError, Global};
+use generic_names::{Resource};
+
 
 /// A general resource profile: the resource's name, and the level that everybody has to it, its universal access.
-#[derive(Clone, Copy)]
+#[derive(Drop)]
 pub struct Profile {
     /// A general resource name.
     pub name: Resource,
@@ -16,7 +12,7 @@ pub struct Profile {
 }
 
 /// What a line of a stream asks for.
-#[derive(Clone, Copy)]
+#[derive(Drop)]
 pub enum Item {
     /// RDEFINE: define a profile.
     Rdefine(Profile),

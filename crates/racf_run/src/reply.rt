@@ -1,9 +1,10 @@
 use crate::item::Profile;
 use access_levels::Id;
 use generic_names::Resource;
-use std::alloc::AllocError;
+
 
 /// Why a line was refused.
+#[derive(Drop)]
 pub enum Refusal {
     /// A profile of this name is defined.
     Exists(Resource),
@@ -14,6 +15,7 @@ pub enum Refusal {
 }
 
 /// The decision on a request for access.
+#[derive(Drop)]
 pub enum Decision {
     /// No profile covers the resource: return code 4.
     NoProfile,
@@ -24,6 +26,7 @@ pub enum Decision {
 }
 
 /// What is printed for a line, after the number.
+#[derive(Drop)]
 pub enum Reply {
     /// The command was worked.
     Accepted,

@@ -1,0 +1,3 @@
+mod Rows
+pub mod Folds
+pub mod Walk

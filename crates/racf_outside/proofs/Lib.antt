@@ -1,2 +1,4 @@
+pub mod Bytes
 pub mod LineLaws
 pub mod LineRows
+mod ScanLaws

@@ -16,6 +16,7 @@ end_of true = []
 
 -- A line was taken whose bytes are `raw`, and with them its line feed, or the input's end behind at least one byte.
 pub record TakesLine (raw : List ℕ) (old new : Reader) : Type 0 where
+  pub begun : old.ended ≡ false
   pub no_feed : text.NoFeed raw
   pub taken : old.unread ≡ prepend_known (raw ++ end_of new.ended) new.unread
   pub counted : new.passed ≡ old.passed + length (raw ++ end_of new.ended)
@@ -31,16 +32,22 @@ pub record TakesEnd (old new : Reader) : Type 0 where
 
 -- A read failed behind `raw`, the front of a line; nothing that the source gave is held back.
 pub record TakesFront (raw : List ℕ) (old new : Reader) : Type 0 where
+  pub begun : old.ended ≡ false
   pub no_feed : text.NoFeed raw
   pub taken : old.unread ≡ prepend_known raw new.unread
+  pub counted : new.passed ≡ old.passed + length raw
+  pub goes_on : new.ended ≡ false
   pub none_held : new.left ≡ new.unread
   pub cause : Rose old.faults new.faults
 
 -- The first 2^28 bytes of the input end with `raw`, the front of a line, and `next` came behind them.
 pub record TakesTooMuch (raw : List ℕ) (next : ℕ) (old new : Reader) : Type 0 where
+  pub begun : old.ended ≡ false
   pub no_feed : text.NoFeed raw
   pub taken : old.unread ≡ prepend_known (raw ++ next ∷ []) new.unread
   pub limit : old.passed + length raw ≡ 2 ^ 28
+  pub counted : new.passed ≡ 2 ^ 28
+  pub goes_on : new.ended ≡ false
 
 -- What the next line is, or the end, or the fault in its place.
 abbrev pub Nexts : Result Line LineFault → Reader → Reader → Type 0

@@ -3,10 +3,13 @@
 //! its object rose.
 #![tactic(auto)]
 
+mod blocks;
+mod line_buffer;
 pub mod lines;
+mod scanner;
 pub mod shelf;
 pub mod streams;
 
-pub use lines::{Line, LineFault};
+pub use lines::{Line, LineFault, Lines};
 pub use shelf::Shelf;
 pub use streams::{Failed, Sink, Source};

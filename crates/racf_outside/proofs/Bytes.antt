@@ -1,0 +1,56 @@
+-- Told bytes, piece by piece.
+use Rattle.std.proofs.Common.{ℕ, ◌+◌, ◌-◌, ◌<◌, ◌≤◌, ◌≡◌, List, [], ◌∷◌, ◌++◌, length, take, drop, get_or, Option, None, Some, refl, sym, ◌∙◌, ap, arith, append_assoc, append-nil}
+use Rattle.std.specs.Prelude.{slice_index}
+use Rattle.std.specs.List.{slice_range}
+use Rattle.std.specs.Io.KnownBytes.{prepend_known, append_known}
+use Rattle.std.proofs.lemmas.List.{take-append-drop, drop-take, drop-drop, take_rest, length-take, length-take-le, take-append-le, get_or-take}
+use Rattle.std.proofs.Math.Seq.{take-append-add, take-length, take-suc}
+
+pub prepend-append : (xs ys : List ℕ) (known : Option (List ℕ)) → prepend_known (xs ++ ys) known ≡ prepend_known xs (prepend_known ys known)
+prepend-append xs ys None = refl
+prepend-append xs ys (Some zs) = ap Some (append_assoc xs ys zs)
+
+pub append-append : (known : Option (List ℕ)) (xs ys : List ℕ) → append_known known (xs ++ ys) ≡ append_known (append_known known xs) ys
+append-append None xs ys = refl
+append-append (Some zs) xs ys = ap Some (sym (append_assoc zs xs ys))
+
+pub prepend-nil : (known : Option (List ℕ)) → prepend_known [] known ≡ known
+prepend-nil None = refl
+prepend-nil (Some zs) = refl
+
+pub append-none : (known : Option (List ℕ)) → append_known known [] ≡ known
+append-none None = refl
+append-none (Some zs) = ap Some (append-nil zs)
+
+-- the first n of the bytes at hand, and then the others
+pub prepend-split : (n : ℕ) (ready : List ℕ) (left : Option (List ℕ)) → prepend_known ready left ≡ prepend_known (take n ready) (prepend_known (drop n ready) left)
+prepend-split n ready left =
+    ap (λ bytes. prepend_known bytes left) (sym (take-append-drop n ready)) ∙ prepend-append (take n ready) (drop n ready) left
+
+-- two pieces, one after another
+pub prepend-twice : (xs ys : List ℕ) (first second third : Option (List ℕ)) → first ≡ prepend_known xs second → second ≡ prepend_known ys third → first ≡ prepend_known (xs ++ ys) third
+prepend-twice xs ys first second third p q = p ∙ ap (prepend_known xs) q ∙ sym (prepend-append xs ys third)
+
+-- a range without its first n
+pub drop-slice_range : (n : ℕ) (xs : List ℕ) (from to : ℕ) → n ≤ to - from → slice_range xs (from + n) to ≡ drop n (slice_range xs from to)
+drop-slice_range n xs from to h =
+    let m : ℕ = to - (from + n) in
+    let e : to - from ≡ n + m = omega arith in
+    sym (ap (λ k. drop n (take k (drop from xs))) e ∙ drop-take n m (drop from xs) ∙ ap (take m) (drop-drop n from xs))
+
+-- as many as n of xs, and then ys, up to n
+pub take-take-append : (n : ℕ) (xs ys : List ℕ) → take n (take n xs ++ ys) ≡ take n (xs ++ ys)
+take-take-append n xs ys = ?
+
+-- a piece that is cut to the room that is left
+pub take-append-room : (n : ℕ) (xs ys : List ℕ) → length xs ≤ n → xs ++ take (n - length xs) ys ≡ take n (xs ++ ys)
+take-append-room n xs ys h =
+    let e : length xs + (n - length xs) ≡ n = omega arith in sym (ap (λ k. take k (xs ++ ys)) (sym e) ∙ take-append-add xs ys (n - length xs))
+
+-- the bytes up to one at a place
+pub take-through : (xs : List ℕ) (place : ℕ) → place < length xs → take (place + 1) xs ≡ take place xs ++ slice_index xs place ∷ []
+take-through xs place h = ?
+
+-- taking through a window
+pub take-window : (n m : ℕ) (xs : List ℕ) → n ≤ length (take m xs) → take n (take m xs) ≡ take n xs
+take-window n m xs h = ?

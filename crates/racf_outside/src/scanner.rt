@@ -1,0 +1,180 @@
+//! The search for the end of a line.
+
+ghost use Rattle.std.specs.Prelude.{◌≡◌, ◌+◌, ◌^◌, ◌<◌, ◌≤◌, Bool, true, false, [], length, IfOk, IfErr, IfNone, IfSome, nat_lt, ◌==◌, if◌then◌else◌};
+ghost use Rattle.racf_outside.specs.Lines.{NoFeed};
+ghost use Rattle.racf_outside.specs.Reader.{at_start};
+ghost use Rattle.racf_outside.specs.Scan.{IsFirstFeed};
+
+use std::alloc::Global;
+use std::marker::Model;
+
+use memchr::memchr;
+
+use crate::blocks::Blocks;
+use crate::line_buffer::{LONGEST, LineBuffer, front};
+use crate::lines::LineFault;
+use crate::streams::Source;
+
+/// The bytes of an input in which lines may end.
+const LIMIT: u64 = 1 << 28;
+
+/// How a piece of a line ends.
+#[derive(Clone, Copy, Debug, PartialEq, Eq)]
+pub(crate) enum Piece {
+    /// Anywhere: more of the line may come.
+    More,
+    /// At the line's line feed.
+    Feed,
+    /// At the end of the input.
+    End,
+}
+
+/// What stands next in an input.
+#[derive(Clone, Copy, Debug, PartialEq, Eq)]
+pub(crate) enum Found {
+    /// A line whose text the buffer has.
+    Text,
+    /// A line that is too long.
+    TooLong,
+    /// Nothing.
+    End,
+}
+
+/// An input, how many of its bytes were taken, and whether it has ended.
+pub(crate) struct Scanner<S: Source> {
+    blocks: Blocks<S>,
+    passed: u64,
+    ended: bool,
+}
+
+impl<S: Source> Model for Scanner<S> {
+    ghost use Rattle.std.specs.Prelude.{◌≡◌, ◌≤◌, ◌^◌, true};
+    ghost use Rattle.std.specs.Io.KnownBytes.{IsAtEnd};
+    ghost use Rattle.racf_outside.specs.Blocks.{unread_of};
+    ghost use Rattle.racf_outside.specs.Reader.{Reader};
+
+    ghost Value = { Reader };
+
+    ghost view = { λ a. record { unread = unread_of a.blocks; left = a.blocks.left; faults = a.blocks.faults; ended = a.ended; passed = a.passed } };
+
+    ghost invariant = { λ a. (a.passed ≤ 2 ^ 28) × (a.ended ≡ true → IsAtEnd (unread_of a.blocks)) };
+}
+
+impl<S: Source> Scanner<S> {
+    ghost use Rattle.racf_outside.specs.Scan.{Pieces, Finds};
+
+    /// The input of a source; it is given back where memory is short.
+    pub(crate) fn new(alloc: Global, source: S) -> Result<Scanner<S>, S>
+        ensures start { IfOk result (λ scanner. scanner ≡ at_start (S.left source) (S.faults source)) }
+        ensures back { IfErr result (λ back. back ≡ source) }
+    {
+        let blocks = Blocks::new(alloc, source)?;
+        Ok(Scanner {
+            blocks,
+            passed: 0,
+            ended: false,
+        })
+    }
+
+    /// Takes the next line, or what comes in its place.
+    pub(crate) fn scan(&mut self, line: &mut LineBuffer) -> Result<Found, LineFault>
+        ensures found { Finds result self.old self.new line.new }
+        ensures faults { self.old.faults ≤ self.new.faults }
+        ensures within { self.new.passed ≤ 2 ^ 28 }
+    {
+        line.clear();
+        if self.ended {
+            return Ok(Found::End);
+        }
+        loop {
+            match self.piece(line) {
+                Err(fault) => return Err(fault),
+                Ok(Piece::More) => {}
+                Ok(Piece::Feed) => return Ok(line_found(line)),
+                Ok(Piece::End) => return Ok(last_found(line)),
+            }
+        }
+    }
+
+    /// Takes the next bytes of a line.
+    fn piece(&mut self, line: &mut LineBuffer) -> Result<Piece, LineFault>
+        requires going { self.old.ended ≡ false }
+        requires counted { line.old.size ≤ self.old.passed }
+        ensures taken { Pieces result self.old self.new line.old line.new }
+        ensures faults { self.old.faults ≤ self.new.faults }
+        ensures within { self.new.passed ≤ 2 ^ 28 }
+    {
+        match self.blocks.fill() {
+            Err(_) => return Err(LineFault::ReadFault),
+            Ok(()) => {}
+        }
+        let ready = self.blocks.ready();
+        if ready.is_empty() {
+            self.ended = true;
+            return Ok(Piece::End);
+        }
+        if self.passed == LIMIT {
+            self.blocks.pass(1);
+            return Err(LineFault::InputTooLong);
+        }
+        let window = front(ready, (LIMIT - self.passed) as usize);
+        match find_feed(window) {
+            Some(at) => {
+                line.append(&window[..at]);
+                self.blocks.pass(at + 1);
+                self.passed += at as u64 + 1;
+                Ok(Piece::Feed)
+            }
+            None => {
+                let count = window.len();
+                line.append(window);
+                self.blocks.pass(count);
+                self.passed += count as u64;
+                Ok(Piece::More)
+            }
+        }
+    }
+
+    /// The source itself.
+    pub(crate) fn into_source(self) -> S
+        ensures left { S.left result ≡ self.left }
+        ensures faults { S.faults result ≡ self.faults }
+    {
+        let Scanner {
+            blocks,
+            passed: _,
+            ended: _,
+        } = self;
+        blocks.into_source()
+    }
+}
+
+/// The place of the first line feed.
+fn find_feed(bytes: &[u8]) -> Option<usize>
+    ensures none { IfNone result (NoFeed bytes.now) }
+    ensures some { IfSome result (IsFirstFeed bytes.now) }
+{
+    memchr(b'\n', bytes)
+}
+
+/// What a line is that a line feed ended.
+fn line_found(line: &LineBuffer) -> Found
+    ensures { result ≡ (if nat_lt 4096 line.now.size then Found.TooLong else Found.Text) }
+{
+    if line.size() > LONGEST {
+        Found::TooLong
+    } else {
+        Found::Text
+    }
+}
+
+/// What a line is that the input's end ended.
+fn last_found(line: &LineBuffer) -> Found
+    ensures { result ≡ (if line.now.size == 0 then Found.End else (if nat_lt 4096 line.now.size then Found.TooLong else Found.Text)) }
+{
+    if line.size() == 0 {
+        Found::End
+    } else {
+        line_found(line)
+    }
+}

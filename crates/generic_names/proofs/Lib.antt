@@ -1,0 +1,2 @@
+mod QualifierLaws
+mod FaultLaws

@@ -1,7 +1,7 @@
 -- What a line of a stream asks for. Three kinds of line are built, each exactly its words in upper case, parted by
 -- single blanks; every other line is not built.
 use Rattle.std.specs.Prelude.{ℕ, ◌-◌, Bool, true, false, ◌||◌, ◌&&◌, ◌==◌, Option, Some, None, List, [], ◌∷◌, length, take, drop, codes, nat_eq, unwrap_or, if◌then◌else◌}
-use Rattle.std.specs.List.{starts_with, ends_with, list_all, slice_split}
+use Rattle.std.specs.List.{starts_with, list_all, slice_split}
 use Rattle.std.specs.Str.{bytes_eq}
 use Rattle.std.specs.Result.{result_ok}
 use Rattle.racf_outside.specs.Lines.{Line, Text, TooLong}
@@ -31,11 +31,19 @@ is_skipped text = list_all is_blank text || starts_with nat_eq text (codes "/*")
 abbrev pub words : List ℕ → List (List ℕ)
 words text = slice_split (λ byte. byte == 32) text
 
+-- what follows a front, and what precedes an end
+abbrev pub without_prefix : List ℕ → List ℕ → Option (List ℕ)
+without_prefix front text = if bytes_eq (take (length front) text) front then Some (drop (length front) text) else None
+
+abbrev pub without_suffix : List ℕ → List ℕ → Option (List ℕ)
+without_suffix end text = let n = length text - length end in if bytes_eq (drop n text) end then Some (take n text) else None
+
 -- `UACC(level)`: the level
 abbrev pub universal_access_of : List ℕ → Option Level
-universal_access_of word =
-  if starts_with nat_eq word (codes "UACC(") && ends_with nat_eq word (codes ")")
-  then level_of (take (length word - 6) (drop 5 word)) else None
+universal_access_of word = do
+  inner ← without_prefix (codes "UACC(") word
+  level ← without_suffix (codes ")") inner
+  level_of level
 
 -- READ, UPDATE, CONTROL or ALTER: no other level can be asked for.
 abbrev pub can_be_asked : Level → Bool
@@ -72,14 +80,20 @@ auth_of acee name level = do
   asked ← asked_level_of level
   Some (Auth id resource asked)
 
--- the words of one of the three kinds of line
+abbrev pub is_rdefine : List ℕ → List ℕ → Bool
+is_rdefine verb class = bytes_eq verb (codes "RDEFINE") && bytes_eq class (codes "FACILITY")
+
+abbrev pub is_verify : List ℕ → List ℕ → Bool
+is_verify verb user = bytes_eq verb (codes "VERIFY") && bytes_eq user (codes "IBMUSER")
+
+abbrev pub is_auth : List ℕ → List ℕ → Bool
+is_auth verb class = bytes_eq verb (codes "AUTH") && bytes_eq class (codes "FACILITY")
+
+-- what the words of one of the three kinds of line ask for
 unfoldable pub built : List (List ℕ) → Option Item
-built (verb ∷ acee ∷ user ∷ []) =
-  if bytes_eq verb (codes "VERIFY") && bytes_eq user (codes "IBMUSER") then verify_of acee else None
-built (verb ∷ class ∷ name ∷ access ∷ []) =
-  if bytes_eq verb (codes "RDEFINE") && bytes_eq class (codes "FACILITY") then rdefine_of name access else None
-built (verb ∷ acee ∷ class ∷ name ∷ level ∷ []) =
-  if bytes_eq verb (codes "AUTH") && bytes_eq class (codes "FACILITY") then auth_of acee name level else None
+built (verb ∷ acee ∷ user ∷ []) = if is_verify verb user then verify_of acee else None
+built (verb ∷ class ∷ name ∷ access ∷ []) = if is_rdefine verb class then rdefine_of name access else None
+built (verb ∷ acee ∷ class ∷ name ∷ level ∷ []) = if is_auth verb class then auth_of acee name level else None
 built others = None
 
 -- What a line asks for: nothing, where it is skipped. A line of more than 4,096 bytes isn't built.

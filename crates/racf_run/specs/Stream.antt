@@ -1,5 +1,5 @@
 -- The stream: what stands between two lines, and the answer to each kind of line.
-use Rattle.std.specs.Prelude.{ℕ, ◌+◌, Bool, true, false, ◌||◌, nat_lt, nat_le, Option, Some, None, List, [], ◌∷◌, ◌++◌, length, find, if◌then◌else◌}
+use Rattle.std.specs.Prelude.{◌≡◌, ℕ, ◌+◌, Bool, true, false, ◌||◌, nat_le, is_some, Option, Some, None, List, [], ◌∷◌, ◌++◌, length, find, if◌then◌else◌}
 use Rattle.std.specs.List.{list_any}
 use Rattle.std.specs.Str.{bytes_eq}
 use Rattle.access_levels.specs.Level.{suffices}
@@ -38,6 +38,11 @@ pub record Answer : Type 0 where
   pub state : State
   pub reply : Reply
 
+-- What a call did is this answer: the state is its state, and its line, with the number behind the item, was written.
+pub record DoesAs (a : Answer) (state : State) (old new : List ℕ) : Type 0 where
+  pub left : state ≡ a.state
+  pub wrote : new ≡ old ++ reply_line a.state.number a.reply
+
 -- A refusal changes nothing, but that a line was refused.
 abbrev pub refuse : Refusal → State → Answer
 refuse why s = record { state = record s { has_refused = true }; reply = Refused why }
@@ -46,19 +51,18 @@ refuse why s = record { state = record s { has_refused = true }; reply = Refused
 abbrev pub profile_of : Spelled → State → Option Profile
 profile_of name s = find (λ profile. bytes_eq profile.name.text name.text) s.profiles
 
+abbrev pub is_defined : Spelled → State → Bool
+is_defined name s = is_some (profile_of name s)
+
 abbrev pub is_in_use : List ℕ → State → Bool
 is_in_use acee s = list_any (λ held. bytes_eq held acee) s.acees
 
 -- RDEFINE is refused exactly where the name is defined. A new profile stands last, and is counted.
-abbrev pub rdefine_where : Option Profile → Profile → State → Answer
-rdefine_where (Some found) profile s = refuse (Exists profile.name) s
-rdefine_where None profile s =
-  if nat_lt (length s.profiles) most_profiles
-  then record { state = record s { number = s.number + 1; profiles = s.profiles ++ profile ∷ [] }; reply = Accepted }
-  else refuse NotBuilt s
-
 unfoldable pub rdefine : Profile → State → Answer
-rdefine profile s = rdefine_where (profile_of profile.name s) profile s
+rdefine profile s =
+  if is_defined profile.name s then refuse (Exists profile.name) s
+  else if nat_le most_profiles (length s.profiles) then refuse NotBuilt s
+  else record { state = record s { number = s.number + 1; profiles = s.profiles ++ profile ∷ [] }; reply = Accepted }
 
 -- VERIFY begins an ACEE under a name that isn't in use.
 unfoldable pub verify : List ℕ → State → Answer

@@ -5,5 +5,6 @@ mod input;
 mod item;
 mod reply;
 mod status;
+mod stream;
 
 pub use status::Status;

@@ -1,5 +1,5 @@
 -- Told bytes, piece by piece.
-use Rattle.std.proofs.Common.{ℕ, ◌+◌, ◌-◌, ◌<◌, ◌≤◌, ◌≡◌, List, [], ◌∷◌, ◌++◌, length, take, drop, get_or, Option, None, Some, refl, sym, ◌∙◌, ap, arith, append_assoc, append-nil}
+use Rattle.std.proofs.Common.{ℕ, ◌+◌, ◌-◌, ◌<◌, ◌≤◌, ◌≡◌, List, [], ◌∷◌, ◌++◌, length, take, drop, get_or, Bool, true, cond, zero, suc, add-one, Option, None, Some, refl, sym, ◌∙◌, ap, arith, append_assoc, append-nil}
 use Rattle.std.specs.Prelude.{slice_index}
 use Rattle.std.specs.List.{slice_range}
 use Rattle.std.specs.Io.KnownBytes.{prepend_known, append_known}
@@ -32,25 +32,35 @@ pub prepend-twice : (xs ys : List ℕ) (first second third : Option (List ℕ)) 
 prepend-twice xs ys first second third p q = p ∙ ap (prepend_known xs) q ∙ sym (prepend-append xs ys third)
 
 -- a range without its first n
-pub drop-slice_range : (n : ℕ) (xs : List ℕ) (from to : ℕ) → n ≤ to - from → slice_range xs (from + n) to ≡ drop n (slice_range xs from to)
+pub drop-slice_range : (n : ℕ) (xs : List ℕ) (from to : ℕ) → n ≤ length (slice_range xs from to) → slice_range xs (from + n) to ≡ drop n (slice_range xs from to)
 drop-slice_range n xs from to h =
     let m : ℕ = to - (from + n) in
-    let e : to - from ≡ n + m = omega arith in
+    let e : to - from ≡ n + m = omega (arith, length-take (to - from) (drop from xs)) in
     sym (ap (λ k. drop n (take k (drop from xs))) e ∙ drop-take n m (drop from xs) ∙ ap (take m) (drop-drop n from xs))
 
 -- as many as n of xs, and then ys, up to n
 pub take-take-append : (n : ℕ) (xs ys : List ℕ) → take n (take n xs ++ ys) ≡ take n (xs ++ ys)
-take-take-append n xs ys = ?
+take-take-append zero xs ys = refl
+take-take-append (suc n) [] ys = refl
+take-take-append (suc n) (x ∷ xs) ys = ap (λ zs. x ∷ zs) (take-take-append n xs ys)
 
 -- a piece that is cut to the room that is left
 pub take-append-room : (n : ℕ) (xs ys : List ℕ) → length xs ≤ n → xs ++ take (n - length xs) ys ≡ take n (xs ++ ys)
 take-append-room n xs ys h =
     let e : length xs + (n - length xs) ≡ n = omega arith in sym (ap (λ k. take k (xs ++ ys)) (sym e) ∙ take-append-add xs ys (n - length xs))
 
--- the bytes up to one at a place
+-- the bytes up to one at a place, and that one
 pub take-through : (xs : List ℕ) (place : ℕ) → place < length xs → take (place + 1) xs ≡ take place xs ++ slice_index xs place ∷ []
-take-through xs place h = ?
+take-through xs place h = rw add-one (take-suc xs place 0 h)
 
--- taking through a window
+-- the front of a front
 pub take-window : (n m : ℕ) (xs : List ℕ) → n ≤ length (take m xs) → take n (take m xs) ≡ take n xs
-take-window n m xs h = ?
+take-window zero m xs h = refl
+take-window (suc n) zero xs h = absurd (omega arith)
+take-window (suc n) (suc m) [] h = refl
+take-window (suc n) (suc m) (x ∷ xs) h = ap (λ zs. x ∷ zs) (take-window n m xs (omega arith))
+
+-- what a buffer of n bytes holds after a piece, cut to the room that it has left
+pub appended : (n : ℕ) (xs ys new front : List ℕ) (ok : Bool) → length xs ≤ n → ok ≡ true → new ≡ cond ok (xs ++ front) xs → front ≡ take (n - length xs) ys → new ≡ take n (xs ++ ys)
+appended n xs ys new front ok most fits items cut =
+    items ∙ ap (λ b. cond b (xs ++ front) xs) fits ∙ ap (λ piece. xs ++ piece) cut ∙ take-append-room n xs ys most

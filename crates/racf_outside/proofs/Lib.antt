@@ -1,4 +1,5 @@
 pub mod Bytes
 pub mod LineLaws
 pub mod LineRows
+pub mod Rises
 mod ScanLaws

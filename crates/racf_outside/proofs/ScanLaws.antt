@@ -1,16 +1,167 @@
 -- The steps of the search for the end of a line.
-use Rattle.std.proofs.Common.{ℕ, ◌+◌, ◌-◌, ◌^◌, ◌<◌, ◌≤◌, ◌≡◌, ◌≢◌, eqb, ltb, Bool, true, false, cond, List, [], ◌∷◌, ◌++◌, length, take, drop, get_or, Option, None, Some, Ok, Err, refl, sym, ◌∙◌, ap, subst, arith, append_assoc, append-nil, length-append}
+use Rattle.std.proofs.Common.{ℕ, zero, suc, ◌+◌, ◌-◌, ◌^◌, ◌<◌, ◌≤◌, ◌≡◌, ◌≢◌, eqb, ltb, Bool, true, false, cond, List, [], ◌∷◌, ◌++◌, length, take, drop, Option, None, Some, Result, Ok, Err, refl, sym, ◌∙◌, ap, subst, arith, append_assoc, append-nil, length-append}
+use Rattle.std.specs.Prelude.{slice_index}
 use Rattle.std.specs.Io.BufRead.{strip_last}
 use Rattle.std.specs.Io.KnownBytes.{prepend_known, IsAtEnd}
-use Rattle.std.proofs.lemmas.List.Elements.{All-append, All-nil, All-from_get_or}
-use Rattle.memchr.specs.Find.{Nowhere, Passes, is_byte}
+use Rattle.std.proofs.lemmas.Bool.{eqb-false, ltb-false, ne_eqb}
+use Rattle.std.proofs.lemmas.List.{take_all}
+use Rattle.std.proofs.lemmas.List.Elements.{All-append}
+use Rattle.std.proofs.Math.Seq.{take-length}
+use Rattle.racf_outside.specs.Blocks.{Block, unread_of}
 use Rattle.racf_outside.specs.Lines as text
 use Rattle.racf_outside.specs.LineBuffer.{Begun, IsBegun}
 use Rattle.racf_outside.specs.Next.{TakesLine, TakesEnd, TakesFront, TakesTooMuch, end_of}
 use Rattle.racf_outside.specs.Reader.{Reader}
 use Rattle.racf_outside.specs.Scan.{TakesMore, TakesFeed, TakesNone, FailsToRead, GoesTooFar, Pieces, Finds, IsScanned, IsFirstFeed}
-use Rattle.racf_outside.proofs.Bytes.{prepend-append, prepend-nil, prepend-twice, take-take-append}
+use Rattle.racf_outside.specs.declared.lines.LineFault.{LineFault}
+use Rattle.racf_outside.specs.declared.lines.LineFault.TheVariants.{ReadFault, InputTooLong}
+use Rattle.racf_outside.specs.declared.scanner.Found.{Found}
+use Rattle.racf_outside.specs.declared.scanner.Found.TheVariants as found
+use Rattle.racf_outside.proofs.Rises.{Rose-later}
+use Rattle.racf_outside.proofs.Bytes.{prepend-append, prepend-nil, prepend-twice, prepend-split, take-take-append, take-through, take-window}
 
--- no byte passes the test, so none is a line feed
-pub no_feed_anywhere : (bytes : List ℕ) → Nowhere (Passes (is_byte 10) bytes) 0 (length bytes) → text.NoFeed bytes
-no_feed_anywhere bytes h = ?
+-- what a block leaves behind goes before what is still to come
+pub unread_of-pass : (n : ℕ) (block next : Block) → next.ready ≡ drop n block.ready → next.left ≡ block.left → unread_of block ≡ prepend_known (take n block.ready) (unread_of next)
+unread_of-pass n block next ready left =
+    prepend-split n block.ready block.left ∙ ap (prepend_known (take n block.ready)) (ap (λ bytes. prepend_known bytes block.left) (sym ready) ∙ ap (prepend_known next.ready) (sym left))
+
+-- what isn't empty has a byte
+pub some_ready : (shown ready : List ℕ) (empty : Bool) → empty ≡ eqb (length shown) 0 → empty ≡ false → shown ≡ ready → 0 < length ready
+some_ready shown ready empty is other same =
+    let no : length shown ≡ 0 → ⊥ = eqb-false (length shown) 0 (sym is ∙ other) in
+    let e : length shown ≡ length ready = ap length same in
+    omega arith
+
+-- one byte too many
+pub takes_too_far : (block next : Block) → 0 < length block.ready → next.ready ≡ drop 1 block.ready → next.left ≡ block.left → unread_of block ≡ prepend_known (slice_index block.ready 0 ∷ []) (unread_of next)
+takes_too_far block next some ready left =
+    unread_of-pass 1 block next ready left ∙ ap (λ bytes. prepend_known bytes (unread_of next)) (take-through block.ready 0 some)
+
+-- a whole window
+pub takes_window : (m : ℕ) (window : List ℕ) (block next : Block) → window ≡ take m block.ready → next.ready ≡ drop (length window) block.ready → next.left ≡ block.left → unread_of block ≡ prepend_known window (unread_of next)
+takes_window m window block next is ready left =
+    let whole : take (length window) (take m block.ready) ≡ take (length window) block.ready = take-window (length window) m block.ready (let e : length window ≡ length (take m block.ready) = ap length is in omega arith) in
+    unread_of-pass (length window) block next ready left ∙ ap (λ bytes. prepend_known bytes (unread_of next)) (sym whole ∙ ap (take (length window)) (sym is) ∙ take-length window)
+
+-- a window up to its first line feed
+pub takes_to_feed : (m place : ℕ) (window : List ℕ) (block next : Block) → window ≡ take m block.ready → IsFirstFeed window place → next.ready ≡ drop (place + 1) block.ready → next.left ≡ block.left → unread_of block ≡ prepend_known (take place window ++ 10 ∷ []) (unread_of next)
+takes_to_feed m place window block next is first ready left =
+    let whole : take (place + 1) (take m block.ready) ≡ take (place + 1) block.ready = take-window (place + 1) m block.ready (let e : length window ≡ length (take m block.ready) = ap length is in let h : place < length window = first.within in omega arith) in
+    unread_of-pass (place + 1) block next ready left ∙ ap (λ bytes. prepend_known bytes (unread_of next)) (sym whole ∙ ap (take (place + 1)) (sym is) ∙ take-through window place first.within ∙ ap (λ b. take place window ++ b ∷ []) first.here)
+
+-- a line that has begun goes on
+pub IsBegun-more : (raw piece : List ℕ) (line next : Begun) → IsBegun raw line → next.text ≡ take 4096 (line.text ++ piece) → next.size ≡ line.size + length piece → IsBegun (raw ++ piece) next
+IsBegun-more raw piece line next b text size =
+    record {
+      text = text ∙ ap (λ front. take 4096 (front ++ piece)) b.text ∙ take-take-append 4096 raw piece;
+      size = size ∙ ap (λ n. n + length piece) b.size ∙ sym (length-append raw piece);
+    }
+
+pub IsScanned-more : (raw piece : List ℕ) (old now next : Reader) (line line' : Begun) → IsScanned raw old now line → TakesMore piece now next line line' → now.faults ≤ next.faults → next.passed ≤ 2 ^ 28 → IsScanned (raw ++ piece) old next line'
+IsScanned-more raw piece old now next line line' s t faults within =
+    record {
+      was_going = s.was_going;
+      goes_on = t.goes_on;
+      no_fewer = omega (arith, s.no_fewer);
+      within = within;
+      no_feed = All-append (λ b. b ≢ 10) raw piece s.no_feed t.no_feed;
+      taken = prepend-twice raw piece old.unread now.unread next.unread s.taken t.taken;
+      counted = omega (arith, s.counted, t.counted, length-append raw piece);
+      begun = IsBegun-more raw piece line line' s.begun t.text t.size;
+    }
+
+-- what `line_found` answers, as a function of the size
+abbrev pub kind_of : ℕ → Found
+kind_of size = cond (ltb 4096 size) found.TooLong found.Text
+
+Finds-kind : (raw : List ℕ) (old new : Reader) (line : Begun) (b : Bool) → ltb 4096 (length raw) ≡ b → TakesLine raw old new → IsBegun raw line → Finds (Ok (cond b found.TooLong found.Text)) old new line
+Finds-kind raw old new line true e t begun = (raw, t, ap (λ b. cond b text.TooLong (text.Text (strip_last 13 raw))) e)
+Finds-kind raw old new line false e t begun =
+    (raw, t, ap (λ b. cond b text.TooLong (text.Text (strip_last 13 raw))) e ∙ ap (λ bytes. text.Text (strip_last 13 bytes)) (sym (begun.text ∙ take_all 4096 raw (ltb-false 4096 (length raw) e))))
+
+pub Finds-line : (raw : List ℕ) (old new : Reader) (line : Begun) → TakesLine raw old new → IsBegun raw line → Finds (Ok (kind_of line.size)) old new line
+Finds-line raw old new line t begun =
+    let P : ℕ → Type 0 = λ size. Finds (Ok (kind_of size)) old new line in
+    subst P (sym begun.size) (Finds-kind raw old new line (ltb 4096 (length raw)) refl t begun)
+
+-- a line feed ends the line
+pub Finds-feed : (raw piece : List ℕ) (old now next : Reader) (line line' : Begun) → IsScanned raw old now line → TakesFeed piece now next line line' → Finds (Ok (kind_of line'.size)) old next line'
+Finds-feed raw piece old now next line line' s t =
+    Finds-line (raw ++ piece) old next line'
+    (
+    record {
+      begun = s.was_going;
+      no_feed = All-append (λ b. b ≢ 10) raw piece s.no_feed t.no_feed;
+      taken = prepend-twice raw (piece ++ 10 ∷ []) old.unread now.unread next.unread s.taken t.taken ∙ ap (λ bytes. prepend_known bytes next.unread) (sym (append_assoc raw piece (10 ∷ [])) ∙ ap (λ end. (raw ++ piece) ++ end_of end) (sym t.goes_on));
+      counted = omega (arith, s.counted, t.counted, length-append raw piece, length-append (raw ++ piece) (end_of next.ended), ap (λ end. length (end_of end)) t.goes_on);
+      some = λ ended. absurd (true_is_false (sym ended ∙ t.goes_on));
+      at_end = λ ended. absurd (true_is_false (sym ended ∙ t.goes_on));
+    }
+    )
+    (IsBegun-more raw piece line line' s.begun t.text t.size)
+  where
+    true_is_false : true ≡ false → ⊥
+    true_is_false e = cc
+
+-- what `last_found` answers
+abbrev pub last_kind_of : ℕ → Found
+last_kind_of size = cond (eqb size 0) found.End (kind_of size)
+
+last_kind_of-some : (size : ℕ) → 0 < size → last_kind_of size ≡ kind_of size
+last_kind_of-some size some = ap (λ none. cond none found.End (kind_of size)) (ne_eqb size 0 (λ e. omega arith))
+
+TakesLine-last : (raw : List ℕ) (old now next : Reader) (line line' : Begun) → 0 < length raw → IsScanned raw old now line → TakesNone now next line line' → TakesLine raw old next
+TakesLine-last raw old now next line line' some s t =
+    record {
+      begun = s.was_going;
+      no_feed = s.no_feed;
+      taken = s.taken ∙ ap (prepend_known raw) (sym t.kept) ∙ ap (λ bytes. prepend_known bytes next.unread) (sym (ap (λ end. raw ++ end_of end) t.ended ∙ append-nil raw));
+      counted = omega (arith, s.counted, t.counted, ap (λ end. length (raw ++ end_of end)) t.ended, ap length (append-nil raw));
+      some = λ ended. some;
+      at_end = λ ended. t.at_end;
+    }
+
+-- the input's end ends the line, if it has begun
+pub Finds-last : (raw : List ℕ) (old now next : Reader) (line line' : Begun) → IsScanned raw old now line → TakesNone now next line line' → Finds (Ok (last_kind_of line'.size)) old next line'
+Finds-last [] old now next line line' s t =
+    let P : ℕ → Type 0 = λ size. Finds (Ok (last_kind_of size)) old next line' in
+    subst P (sym (ap (λ l. l.size) t.line ∙ s.begun.size))
+    (
+    record {
+      ended = t.ended;
+      at_end = t.at_end;
+      kept = t.kept ∙ sym (s.taken ∙ prepend-nil now.unread);
+      counted = omega (arith, s.counted, t.counted);
+    }
+    )
+Finds-last (b ∷ bs) old now next line line' s t =
+    let begun : IsBegun (b ∷ bs) line' = subst (IsBegun (b ∷ bs)) (sym t.line) s.begun in
+    let some : 0 < line'.size = omega (arith, begun.size) in
+    subst (λ kind. Finds (Ok kind) old next line') (sym (last_kind_of-some line'.size some)) (Finds-line (b ∷ bs) old next line' (TakesLine-last (b ∷ bs) old now next line line' (omega arith) s t) begun)
+
+-- a fault comes in the line's place
+pub Finds-fault : (fault : LineFault) (raw : List ℕ) (old now next : Reader) (line line' : Begun) → IsScanned raw old now line → Pieces (Err fault) now next line line' → Finds (Err fault) old next line'
+Finds-fault ReadFault raw old now next line line' s t = (
+  raw,
+  record {
+    begun = s.was_going;
+    no_feed = s.no_feed;
+    taken = s.taken ∙ ap (prepend_known raw) (sym t.kept);
+    counted = omega (arith, s.counted, t.counted);
+    goes_on = t.goes_on;
+    none_held = t.none_held;
+    cause = Rose-later old.faults now.faults next.faults s.no_fewer t.cause;
+  },
+)
+Finds-fault InputTooLong raw old now next line line' s t = (
+  raw,
+  t.0,
+  record {
+    begun = s.was_going;
+    no_feed = s.no_feed;
+    taken = prepend-twice raw (t.0 ∷ []) old.unread now.unread next.unread s.taken t.1.taken;
+    limit = omega (arith, s.counted, t.1.limit);
+    counted = omega (arith, t.1.counted, t.1.limit);
+    goes_on = t.1.goes_on;
+  },
+)

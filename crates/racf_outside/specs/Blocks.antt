@@ -3,9 +3,9 @@ use Rattle.std.specs.Prelude.{ℕ, List, Option}
 use Rattle.std.specs.Io.KnownBytes.{prepend_known}
 
 pub record Block : Type 0 where
-  pub ready : List ℕ -- the bytes at hand
-  pub left : Option (List ℕ) -- the bytes that its source has left
-  pub faults : ℕ -- its source's count of faults
+  pub ready : List ℕ  -- the bytes at hand
+  pub left : Option (List ℕ)  -- the bytes that its source has left
+  pub faults : ℕ  -- its source's count of faults
 
 -- all bytes that are to come
 abbrev pub unread_of : Block → Option (List ℕ)

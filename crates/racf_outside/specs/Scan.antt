@@ -73,7 +73,7 @@ Pieces (Err InputTooLong) old new line_old line_new = (next : ℕ) × GoesTooFar
 -- what was found: a line, whose text is begun in `line`, or the end, or a fault
 abbrev pub Finds : Result Found LineFault → Reader → Reader → Begun → Type 0
 Finds (Ok found.Text) old new line =
-  (raw : List ℕ) × TakesLine raw old new × (text.line_of raw ≡ text.Text (strip_last 13 line.text))
+    (raw : List ℕ) × TakesLine raw old new × (text.line_of raw ≡ text.Text (strip_last 13 line.text))
 Finds (Ok found.TooLong) old new line = (raw : List ℕ) × TakesLine raw old new × (text.line_of raw ≡ text.TooLong)
 Finds (Ok found.End) old new line = TakesEnd old new
 Finds (Err ReadFault) old new line = (raw : List ℕ) × TakesFront raw old new

@@ -5,10 +5,9 @@ ghost use Rattle.std.specs.Io.KnownBytes.{IsAtEnd};
 ghost use Rattle.racf_outside.specs.Blocks.{unread_of};
 ghost use Rattle.racf_outside.specs.Causes.{HasCause};
 
+use crate::streams::{Failed, Source};
 use std::alloc::{AllocError, Global};
 use std::marker::Model;
-
-use crate::streams::{Failed, Source};
 
 /// How many bytes are read at once.
 const BLOCK: usize = 65_536;

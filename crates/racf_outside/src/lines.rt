@@ -5,14 +5,12 @@ ghost use Rattle.std.specs.Borrow.{sem};
 ghost use Rattle.std.specs.Io.BufRead.{Rests, strip_last};
 ghost use Rattle.racf_outside.specs.Reader.{at_start};
 
-use std::alloc::Global;
-use std::marker::Model;
-
-use thiserror::Error;
-
 use crate::line_buffer::LineBuffer;
 use crate::scanner::{Found, Scanner};
 use crate::streams::Source;
+use std::alloc::Global;
+use std::marker::Model;
+use thiserror::Error;
 
 /// What comes next in an input.
 #[derive(Clone, Copy, Debug, PartialEq, Eq)]

@@ -5,15 +5,13 @@ ghost use Rattle.racf_outside.specs.Lines.{NoFeed};
 ghost use Rattle.racf_outside.specs.Reader.{at_start};
 ghost use Rattle.racf_outside.specs.Scan.{IsFirstFeed};
 
-use std::alloc::Global;
-use std::marker::Model;
-
-use memchr::memchr;
-
 use crate::blocks::Blocks;
 use crate::line_buffer::{LONGEST, LineBuffer, front};
 use crate::lines::LineFault;
 use crate::streams::Source;
+use memchr::memchr;
+use std::alloc::Global;
+use std::marker::Model;
 
 /// The bytes of an input in which lines may end.
 const LIMIT: u64 = 1 << 28;
@@ -86,7 +84,7 @@ impl<S: Source> Scanner<S> {
         if self.ended {
             return Ok(Found::End);
         }
-        loop {
+        'line: loop {
             match self.piece(line) {
                 Err(fault) => return Err(fault),
                 Ok(Piece::More) => {}
@@ -120,7 +118,7 @@ impl<S: Source> Scanner<S> {
         let window = front(ready, (LIMIT - self.passed) as usize);
         match find_feed(window) {
             Some(at) => {
-                line.append(&window[..at]);
+                line.append(front(window, at));
                 self.blocks.pass(at + 1);
                 self.passed += at as u64 + 1;
                 Ok(Piece::Feed)

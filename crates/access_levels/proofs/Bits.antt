@@ -15,9 +15,9 @@ AreWords-set words i word h fits = record {
   four = length-set words i word ∙ h.four;
   fit = λ k. ⊎_elim
       (λ (same : k ≡ i). ⊎_elim
-          (λ (inside : i < length words). let P : ℕ → Type 0 = λ x. x < 2 ^ 64 in subst P (sym (ap (λ j. get_or (set words i word) j 0) same ∙ get_or-set_same words i word 0 inside)) fits)
-          (λ (past : length words ≤ i). let P : ℕ → Type 0 = λ x. x < 2 ^ 64 in subst P (sym (ap (λ ws. get_or ws k 0) (set_past words i word past))) (h.fit k))
-          (cases_lt i (length words)))
+      (λ (inside : i < length words). let P : ℕ → Type 0 = λ x. x < 2 ^ 64 in subst P (sym (ap (λ j. get_or (set words i word) j 0) same ∙ get_or-set_same words i word 0 inside)) fits)
+      (λ (past : length words ≤ i). let P : ℕ → Type 0 = λ x. x < 2 ^ 64 in subst P (sym (ap (λ ws. get_or ws k 0) (set_past words i word past))) (h.fit k))
+      (cases_lt i (length words)))
       (λ (other : k ≡ i → ⊥). let P : ℕ → Type 0 = λ x. x < 2 ^ 64 in subst P (sym (get_or-set_other words i k word 0 other)) (h.fit k))
       (cases_eq k i);
 }
@@ -41,10 +41,10 @@ bit_written words n word wanted h small here beside others m =
     ⊎_elim
     (λ (same : m ≡ n). ap (λ k. bit_at (get_or (set words (n / 64) word) (k / 64) 0) (k % 64)) same ∙ ap (λ x. bit_at x (n % 64)) read ∙ here ∙ ap (λ k. bit_at wanted k) (sym same))
     (λ (other : m ≡ n → ⊥). ⊎_elim
-        (λ (near : m / 64 ≡ n / 64). ap (λ k. bit_at (get_or (set words (n / 64) word) k 0) (m % 64)) near ∙ ap (λ x. bit_at x (m % 64)) read
-            ∙ beside (m % 64) (rest_below m) (λ r. other (same_place m n near r)) ∙ ap (λ k. bit_at (get_or words k 0) (m % 64)) (sym near) ∙ sym (bit_at-joined words m h.fit) ∙ sym (others m other))
-        (λ (far : m / 64 ≡ n / 64 → ⊥). ap (λ x. bit_at x (m % 64)) (get_or-set_other words (n / 64) (m / 64) word 0 far) ∙ sym (bit_at-joined words m h.fit) ∙ sym (others m other))
-        (cases_eq (m / 64) (n / 64)))
+    (λ (near : m / 64 ≡ n / 64). ap (λ k. bit_at (get_or (set words (n / 64) word) k 0) (m % 64)) near ∙ ap (λ x. bit_at x (m % 64)) read
+    ∙ beside (m % 64) (rest_below m) (λ r. other (same_place m n near r)) ∙ ap (λ k. bit_at (get_or words k 0) (m % 64)) (sym near) ∙ sym (bit_at-joined words m h.fit) ∙ sym (others m other))
+    (λ (far : m / 64 ≡ n / 64 → ⊥). ap (λ x. bit_at x (m % 64)) (get_or-set_other words (n / 64) (m / 64) word 0 far) ∙ sym (bit_at-joined words m h.fit) ∙ sym (others m other))
+    (cases_eq (m / 64) (n / 64)))
     (cases_eq m n)
 
 joined_written : (words : List ℕ) (n word wanted : ℕ) → AreWords words → n < 256 → word < 2 ^ 64

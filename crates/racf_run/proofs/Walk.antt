@@ -200,3 +200,7 @@ Walk-write_fault m item count bytes source left old new s before now then w take
             front = refl;
           };
     }
+
+-- memory ran out before anything was read
+pub none_read : {S I : Type 0} (m : Machine S I) (source left before : Option (List ℕ)) → Ran m NoMemory source left before before
+none_read m source left before = Walk-no_memory m source left (at_start source 0) m.start before before (Walk-none m source before 0)

@@ -4,7 +4,10 @@
 mod input;
 mod item;
 mod reply;
+mod scripts;
 mod status;
 mod stream;
+mod top;
 
+pub use scripts::script;
 pub use status::Status;

@@ -64,3 +64,13 @@ take-window (suc n) (suc m) (x ∷ xs) h = ap (λ zs. x ∷ zs) (take-window n m
 pub appended : (n : ℕ) (xs ys new front : List ℕ) (ok : Bool) → length xs ≤ n → ok ≡ true → new ≡ cond ok (xs ++ front) xs → front ≡ take (n - length xs) ys → new ≡ take n (xs ++ ys)
 appended n xs ys new front ok most fits items cut =
     items ∙ ap (λ b. cond b (xs ++ front) xs) fits ∙ ap (λ piece. xs ++ piece) cut ∙ take-append-room n xs ys most
+
+-- what a read of the front leaves: `copied` is the front of the bytes from `at` on, and lies before `more`
+pub read_front_bytes : (at count : ℕ) (xs shown copied more : List ℕ) → shown ≡ xs → copied ≡ take count (take (length shown - at) (drop at shown)) → count ≤ length (take (length shown - at) (drop at shown)) → drop at xs ≡ take count (copied ++ more) ++ drop (at + count) xs
+read_front_bytes at count xs shown copied more same is most =
+    let rest : take (length shown - at) (drop at shown) ≡ drop at xs = take_rest shown at ∙ ap (drop at) same in
+    let fits : count ≤ length (drop at xs) = omega (arith, most, ap length rest) in
+    let front : copied ≡ take count (drop at xs) = is ∙ ap (take count) rest in
+    let whole : length copied ≡ count = ap length front ∙ length-take-le count (drop at xs) fits in
+    let short : take count (copied ++ more) ≡ take count (drop at xs) = take-append-le count copied more (omega arith) ∙ ap (take count) front ∙ take-window count count (drop at xs) (omega (arith, whole, ap length front)) in
+    sym (take-append-drop count (drop at xs)) ∙ ap (λ tail. take count (drop at xs) ++ tail) (drop-drop count at xs) ∙ ap (λ head. head ++ drop (at + count) xs) (sym short)

@@ -3,3 +3,4 @@ pub mod LineLaws
 pub mod LineRows
 pub mod Rises
 mod ScanLaws
+mod SlotLaws

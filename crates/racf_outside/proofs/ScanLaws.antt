@@ -1,6 +1,6 @@
 -- The steps of the search for the end of a line.
 use Rattle.std.proofs.Common.{ℕ, zero, suc, ◌+◌, ◌-◌, ◌^◌, ◌<◌, ◌≤◌, ◌≡◌, ◌≢◌, eqb, ltb, Bool, true, false, cond, List, [], ◌∷◌, ◌++◌, length, take, drop, Option, None, Some, Result, Ok, Err, refl, sym, ◌∙◌, ap, subst, arith, append_assoc, append-nil, length-append}
-use Rattle.std.specs.Prelude.{slice_index}
+use Rattle.std.specs.Prelude.{slice_index, IfSome, ⊤}
 use Rattle.std.specs.Io.BufRead.{strip_last}
 use Rattle.std.specs.Io.KnownBytes.{prepend_known, IsAtEnd}
 use Rattle.std.proofs.lemmas.Bool.{eqb-false, ltb-false, ne_eqb}
@@ -17,6 +17,7 @@ use Rattle.racf_outside.specs.declared.lines.LineFault.{LineFault}
 use Rattle.racf_outside.specs.declared.lines.LineFault.TheVariants.{ReadFault, InputTooLong}
 use Rattle.racf_outside.specs.declared.scanner.Found.{Found}
 use Rattle.racf_outside.specs.declared.scanner.Found.TheVariants as found
+use Rattle.racf_outside.proofs.LineLaws.{lines-feed, lines-last}
 use Rattle.racf_outside.proofs.Rises.{Rose-later}
 use Rattle.racf_outside.proofs.Bytes.{prepend-append, prepend-nil, prepend-twice, prepend-split, take-take-append, take-through, take-window}
 
@@ -70,6 +71,33 @@ IsScanned-more raw piece old now next line line' s t faults within =
       begun = IsBegun-more raw piece line line' s.begun t.text t.size;
     }
 
+-- the first of the lines of all bytes
+first_of : (raw : List ℕ) (ended : Bool) (before after : Option (List ℕ)) → text.NoFeed raw → before ≡ prepend_known (raw ++ end_of ended) after → (ended ≡ true → 0 < length raw) → (ended ≡ true → IsAtEnd after) → IfSome before (λ bytes. IfSome after (λ rest. text.lines bytes ≡ text.line_of raw ∷ text.lines rest))
+first_of raw ended before None h taken some at_end = subst (λ known. IfSome known (λ bytes. ⊤)) (sym taken) tt
+first_of raw false before (Some rest) h taken some at_end =
+    subst (λ known. IfSome known (λ bytes. text.lines bytes ≡ text.line_of raw ∷ text.lines rest)) (sym taken) (ap text.lines (append_assoc raw (10 ∷ []) rest) ∙ lines-feed raw rest h)
+first_of raw true before (Some rest) h taken some at_end =
+    let whole : (raw ++ []) ++ rest ≡ raw = ap (λ bs. (raw ++ []) ++ bs) (at_end refl) ∙ append-nil (raw ++ []) ∙ append-nil raw in
+    subst (λ known. IfSome known (λ bytes. text.lines bytes ≡ text.line_of raw ∷ text.lines rest)) (sym taken) (ap text.lines whole ∙ lines-last raw h (some refl) ∙ ap (λ bs. text.line_of raw ∷ text.lines bs) (sym (at_end refl)))
+
+-- no line is left in no bytes
+pub none_of : (before after : Option (List ℕ)) → after ≡ before → IsAtEnd after → IfSome before (λ bytes. text.lines bytes ≡ [])
+none_of before None e h = subst (λ known. IfSome known (λ bytes. text.lines bytes ≡ [])) e tt
+none_of before (Some rest) e h = subst (λ known. IfSome known (λ bytes. text.lines bytes ≡ [])) e (ap text.lines h)
+
+-- a line that was taken is the first
+TakesLine-made : (raw : List ℕ) (old new : Reader) → old.ended ≡ false → text.NoFeed raw → old.unread ≡ prepend_known (raw ++ end_of new.ended) new.unread → new.passed ≡ old.passed + length (raw ++ end_of new.ended) → (new.ended ≡ true → 0 < length raw) → (new.ended ≡ true → IsAtEnd new.unread) → TakesLine raw old new
+TakesLine-made raw old new begun no_feed taken counted some at_end =
+    record {
+      begun = begun;
+      no_feed = no_feed;
+      taken = taken;
+      counted = counted;
+      some = some;
+      at_end = at_end;
+      first = first_of raw new.ended old.unread new.unread no_feed taken some at_end;
+    }
+
 -- what `line_found` answers, as a function of the size
 abbrev pub kind_of : ℕ → Found
 kind_of size = cond (ltb 4096 size) found.TooLong found.Text
@@ -89,14 +117,11 @@ pub Finds-feed : (raw piece : List ℕ) (old now next : Reader) (line line' : Be
 Finds-feed raw piece old now next line line' s t =
     Finds-line (raw ++ piece) old next line'
     (
-    record {
-      begun = s.was_going;
-      no_feed = All-append (λ b. b ≢ 10) raw piece s.no_feed t.no_feed;
-      taken = prepend-twice raw (piece ++ 10 ∷ []) old.unread now.unread next.unread s.taken t.taken ∙ ap (λ bytes. prepend_known bytes next.unread) (sym (append_assoc raw piece (10 ∷ [])) ∙ ap (λ end. (raw ++ piece) ++ end_of end) (sym t.goes_on));
-      counted = omega (arith, s.counted, t.counted, length-append raw piece, length-append (raw ++ piece) (end_of next.ended), ap (λ end. length (end_of end)) t.goes_on);
-      some = λ ended. absurd (true_is_false (sym ended ∙ t.goes_on));
-      at_end = λ ended. absurd (true_is_false (sym ended ∙ t.goes_on));
-    }
+    TakesLine-made (raw ++ piece) old next s.was_going (All-append (λ b. b ≢ 10) raw piece s.no_feed t.no_feed)
+    (prepend-twice raw (piece ++ 10 ∷ []) old.unread now.unread next.unread s.taken t.taken ∙ ap (λ bytes. prepend_known bytes next.unread) (sym (append_assoc raw piece (10 ∷ [])) ∙ ap (λ end. (raw ++ piece) ++ end_of end) (sym t.goes_on)))
+    (omega (arith, s.counted, t.counted, length-append raw piece, length-append (raw ++ piece) (end_of next.ended), ap (λ end. length (end_of end)) t.goes_on))
+    (λ ended. absurd (true_is_false (sym ended ∙ t.goes_on)))
+    (λ ended. absurd (true_is_false (sym ended ∙ t.goes_on)))
     )
     (IsBegun-more raw piece line line' s.begun t.text t.size)
   where
@@ -112,26 +137,25 @@ last_kind_of-some size some = ap (λ none. cond none found.End (kind_of size)) (
 
 TakesLine-last : (raw : List ℕ) (old now next : Reader) (line line' : Begun) → 0 < length raw → IsScanned raw old now line → TakesNone now next line line' → TakesLine raw old next
 TakesLine-last raw old now next line line' some s t =
-    record {
-      begun = s.was_going;
-      no_feed = s.no_feed;
-      taken = s.taken ∙ ap (prepend_known raw) (sym t.kept) ∙ ap (λ bytes. prepend_known bytes next.unread) (sym (ap (λ end. raw ++ end_of end) t.ended ∙ append-nil raw));
-      counted = omega (arith, s.counted, t.counted, ap (λ end. length (raw ++ end_of end)) t.ended, ap length (append-nil raw));
-      some = λ ended. some;
-      at_end = λ ended. t.at_end;
-    }
+    TakesLine-made raw old next s.was_going s.no_feed
+    (s.taken ∙ ap (prepend_known raw) (sym t.kept) ∙ ap (λ bytes. prepend_known bytes next.unread) (sym (ap (λ end. raw ++ end_of end) t.ended ∙ append-nil raw)))
+    (omega (arith, s.counted, t.counted, ap (λ end. length (raw ++ end_of end)) t.ended, ap length (append-nil raw)))
+    (λ ended. some)
+    (λ ended. t.at_end)
 
 -- the input's end ends the line, if it has begun
 pub Finds-last : (raw : List ℕ) (old now next : Reader) (line line' : Begun) → IsScanned raw old now line → TakesNone now next line line' → Finds (Ok (last_kind_of line'.size)) old next line'
 Finds-last [] old now next line line' s t =
     let P : ℕ → Type 0 = λ size. Finds (Ok (last_kind_of size)) old next line' in
+    let kept : next.unread ≡ old.unread = t.kept ∙ sym (s.taken ∙ prepend-nil now.unread) in
     subst P (sym (ap (λ l. l.size) t.line ∙ s.begun.size))
     (
     record {
       ended = t.ended;
       at_end = t.at_end;
-      kept = t.kept ∙ sym (s.taken ∙ prepend-nil now.unread);
+      kept = kept;
       counted = omega (arith, s.counted, t.counted);
+      none = none_of old.unread next.unread kept t.at_end;
     }
     )
 Finds-last (b ∷ bs) old now next line line' s t =

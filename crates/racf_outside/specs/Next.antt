@@ -1,5 +1,5 @@
 -- What the reader of lines does at each call.
-use Rattle.std.specs.Prelude.{ℕ, ◌+◌, ◌^◌, ◌<◌, ◌≤◌, ◌≡◌, Bool, true, false, List, [], ◌∷◌, ◌++◌, length, Option, Result, Ok, Err}
+use Rattle.std.specs.Prelude.{ℕ, ◌+◌, ◌^◌, ◌<◌, ◌≤◌, ◌≡◌, Bool, true, false, List, [], ◌∷◌, ◌++◌, length, Option, IfSome, Result, Ok, Err}
 use Rattle.std.specs.Io.KnownBytes.{prepend_known, IsAtEnd}
 use Rattle.racf_outside.specs.Causes.{Rose}
 use Rattle.racf_outside.specs.Lines as text
@@ -14,6 +14,10 @@ abbrev pub end_of : Bool → List ℕ
 end_of false = 10 ∷ []
 end_of true = []
 
+-- The lines of what was unread are this one, and then those of what is still unread.
+abbrev pub GivesFirst : text.Line → Reader → Reader → Type 0
+GivesFirst line old new = IfSome old.unread (λ bytes. IfSome new.unread (λ rest. text.lines bytes ≡ line ∷ text.lines rest))
+
 -- A line was taken whose bytes are `raw`, and with them its line feed, or the input's end behind at least one byte.
 pub record TakesLine (raw : List ℕ) (old new : Reader) : Type 0 where
   pub begun : old.ended ≡ false
@@ -22,6 +26,7 @@ pub record TakesLine (raw : List ℕ) (old new : Reader) : Type 0 where
   pub counted : new.passed ≡ old.passed + length (raw ++ end_of new.ended)
   pub some : new.ended ≡ true → 0 < length raw
   pub at_end : new.ended ≡ true → IsAtEnd new.unread
+  pub first : GivesFirst (text.line_of raw) old new
 
 -- The input has ended, and no line was left.
 pub record TakesEnd (old new : Reader) : Type 0 where
@@ -29,6 +34,7 @@ pub record TakesEnd (old new : Reader) : Type 0 where
   pub at_end : IsAtEnd new.unread
   pub kept : new.unread ≡ old.unread
   pub counted : new.passed ≡ old.passed
+  pub none : IfSome old.unread (λ bytes. text.lines bytes ≡ [])
 
 -- A read failed behind `raw`, the front of a line; nothing that the source gave is held back.
 pub record TakesFront (raw : List ℕ) (old new : Reader) : Type 0 where

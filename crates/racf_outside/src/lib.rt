@@ -4,12 +4,20 @@
 #![tactic(auto)]
 
 mod blocks;
+pub mod calls;
+pub mod files;
 mod line_buffer;
 pub mod lines;
+pub mod memory;
+pub mod memory_shelf;
+mod outputs;
 mod scanner;
 pub mod shelf;
 pub mod streams;
 
+pub use files::{FileShelf, FileSink, FileSource};
 pub use lines::{Line, LineFault, Lines};
+pub use memory::{MemorySink, MemorySource, NeverSink, NeverSource};
+pub use memory_shelf::{Failing, MemoryShelf};
 pub use shelf::Shelf;
 pub use streams::{Failed, Sink, Source};

@@ -1,0 +1,70 @@
+//! The calls of an object in memory, some of which are to fail.
+
+ghost use Rattle.std.specs.Prelude.{◌≡◌, ◌≤◌, is_err, OnOk};
+ghost use Rattle.racf_outside.specs.Calls.{CountsCall, no_calls, is_to_fail};
+ghost use Rattle.racf_outside.specs.Causes.{HasCause, Rose};
+
+use crate::streams::Failed;
+use std::marker::Model;
+
+/// Which calls of an object are to fail, how many came, and how many faults were counted. Both numbers stay at
+/// 2^64 - 1 once they are there.
+#[derive(Drop)]
+pub struct Calls {
+    failing: Vec<u64>,
+    made: u64,
+    faults: u64,
+}
+
+impl Model for Calls {
+    ghost use Rattle.racf_outside.specs.Calls.{CallsMade};
+
+    ghost Value = { CallsMade };
+
+    ghost view = { λ a. record { failing = a.failing.items; made = a.made; faults = a.faults } };
+}
+
+impl Calls {
+    /// No call has come. Those of the numbers `failing`, counted from 1, are to fail.
+    pub fn new(failing: Vec<u64>) -> Calls
+        ensures { result ≡ no_calls failing.items }
+    {
+        Calls {
+            failing,
+            made: 0,
+            faults: 0,
+        }
+    }
+
+    /// Counts a call, and fails it where it is to fail.
+    pub fn call(&mut self) -> Result<(), Failed>
+        ensures counted { CountsCall self.old self.new }
+        ensures failed { is_err result ≡ is_to_fail self.old.failing self.new.made }
+        ensures cause { HasCause self.old.faults self.new.faults result }
+        ensures faultless { OnOk result (self.new.faults ≡ self.old.faults) }
+    {
+        self.made = self.made.saturating_add(1);
+        if self.failing.contains(&self.made) {
+            return Err(self.fault());
+        }
+        Ok(())
+    }
+
+    /// Counts a fault.
+    pub fn fault(&mut self) -> Failed
+        ensures rose { Rose self.old.faults self.new.faults }
+        ensures no_fewer { self.old.faults ≤ self.new.faults }
+        ensures failing { self.new.failing ≡ self.old.failing }
+        ensures made { self.new.made ≡ self.old.made }
+    {
+        self.faults = self.faults.saturating_add(1);
+        Failed
+    }
+
+    /// How many faults were counted.
+    pub fn faults(&self) -> u64
+        ensures { result ≡ self.now.faults }
+    {
+        self.faults
+    }
+}

@@ -1,0 +1,184 @@
+//! A shelf in memory.
+
+ghost use Rattle.std.specs.Prelude.{ℕ, ◌≡◌, ◌≢◌, true, None, Some, find, List, ◌∷◌, IfSome, OnOk, OnErr};
+ghost use Rattle.std.specs.Option.{option_copied};
+ghost use Rattle.racf_outside.specs.Calls.{no_calls};
+ghost use Rattle.racf_outside.specs.Shelf.{SameBytes, SameOthers};
+ghost use Rattle.racf_outside.specs.Slots.{output_of, is_lent};
+ghost use Rattle.racf_outside.specs.Stored.{input_of, is_stored_as};
+
+use crate::calls::Calls;
+use crate::memory::{MemorySink, MemorySource};
+use crate::outputs::Outputs;
+use crate::shelf::Shelf;
+use crate::streams::Failed;
+use std::alloc::{AllocError, Global};
+
+/// Which calls of a shelf in memory are to fail, by their numbers from 1.
+#[derive(Drop)]
+pub struct Failing {
+    /// Of the openings of sources.
+    pub sources: Vec<u64>,
+    /// Of the openings of sinks.
+    pub sinks: Vec<u64>,
+    /// Of the writes to each sink that is opened.
+    pub writes: Vec<u64>,
+}
+
+/// An input: its name, its bytes, and which reads of them are to fail.
+#[derive(Drop)]
+pub(crate) struct Stored {
+    pub(crate) name: String,
+    pub(crate) bytes: Vec<u8>,
+    pub(crate) failing: Vec<u64>,
+}
+
+/// The inputs by their names. The newest of a name counts; they are searched one by one.
+#[derive(Drop)]
+pub(crate) struct Inputs {
+    pub(crate) stored: Vec<Stored>,
+}
+
+impl Inputs {
+    /// Adds an input.
+    fn put(&mut self, stored: Stored) -> Result<(), AllocError>
+        ensures ok { OnOk result (self.new.stored.items ≡ stored ∷ self.old.stored.items) }
+        ensures err { OnErr result (self.new.stored.items ≡ self.old.stored.items) }
+    {
+        self.stored.insert(0, stored)?;
+        Ok(())
+    }
+
+    /// A source of the input of this name, where there is one and memory for its bytes.
+    fn open(&self, alloc: Global, name: &str) -> Option<MemorySource>
+        ensures bytes { IfSome result (λ source. Some source.left ≡ input_of self.now name.now) }
+        ensures new { IfSome result (λ source. source.calls.faults ≡ 0) }
+    {
+        let stored = self.find(name)?;
+        let Ok(bytes) = Vec::from_slice(alloc, &stored.bytes) else {
+            return None;
+        };
+        let Ok(failing) = Vec::from_slice(alloc, &stored.failing) else {
+            return None;
+        };
+        Some(MemorySource::new(bytes, failing))
+    }
+
+    /// The newest input of this name.
+    fn find(&self, name: &str) -> Option<&Stored>
+        ensures { option_copied result ≡ find (is_stored_as name.now) self.now.stored.items }
+    {
+        self.stored
+            .iter()
+            .find(|stored| stored.name.as_str() == name)
+    }
+}
+
+/// A shelf whose inputs and outputs are kept in memory. A source or a sink that can't be opened, for want of memory too,
+/// is a fault, and so is a source of a name that no input has.
+#[derive(Drop)]
+pub struct MemoryShelf {
+    alloc: Global,
+    inputs: Inputs,
+    outputs: Outputs,
+    failing_writes: Vec<u64>,
+    sources: Calls,
+    sinks: Calls,
+}
+
+impl MemoryShelf {
+    /// A shelf with no input and no output, of whose calls these are to fail.
+    pub fn new(alloc: Global, failing: Failing) -> MemoryShelf
+        ensures inputs { (name : List ℕ) → ⟦<MemoryShelf as Shelf>⟧.input result name ≡ None }
+        ensures outputs { (name : List ℕ) → ⟦<MemoryShelf as Shelf>⟧.output result name ≡ None }
+        ensures source_faults { ⟦<MemoryShelf as Shelf>⟧.source_faults result ≡ 0 }
+        ensures sink_faults { ⟦<MemoryShelf as Shelf>⟧.sink_faults result ≡ 0 }
+    {
+        let Failing {
+            sources,
+            sinks,
+            writes,
+        } = failing;
+        MemoryShelf {
+            alloc,
+            inputs: Inputs {
+                stored: Vec::new(alloc),
+            },
+            outputs: Outputs::new(alloc),
+            failing_writes: writes,
+            sources: Calls::new(sources),
+            sinks: Calls::new(sinks),
+        }
+    }
+
+    /// Adds an input of this name, in place of one of the same name. Of the reads of each source that is opened of it,
+    /// those of the numbers `failing`, counted from 1, are to fail.
+    pub fn put(&mut self, name: &str, bytes: Vec<u8>, failing: Vec<u64>) -> Result<(), AllocError>
+        ensures here { OnOk result (⟦<MemoryShelf as Shelf>⟧.input self.new name.now ≡ Some bytes.items) }
+        ensures others { SameOthers name.now (⟦<MemoryShelf as Shelf>⟧.input self.old) (⟦<MemoryShelf as Shelf>⟧.input self.new) }
+        ensures err { OnErr result (SameBytes (⟦<MemoryShelf as Shelf>⟧.input self.old) (⟦<MemoryShelf as Shelf>⟧.input self.new)) }
+        ensures outputs { SameBytes (⟦<MemoryShelf as Shelf>⟧.output self.old) (⟦<MemoryShelf as Shelf>⟧.output self.new) }
+    {
+        let name = String::from_str(self.alloc, name)?;
+        self.inputs.put(Stored {
+            name,
+            bytes,
+            failing,
+        })
+    }
+
+    /// The bytes of the output that was given back under this name.
+    pub fn output(&self, name: &str) -> Option<&[u8]>
+        ensures { option_copied result ≡ ⟦<MemoryShelf as Shelf>⟧.output self.now name.now }
+    {
+        self.outputs.bytes(name)
+    }
+}
+
+impl Shelf for MemoryShelf {
+    type In = MemorySource;
+
+    type Out = MemorySink;
+
+    ghost input = { λ shelf. input_of shelf.inputs };
+
+    ghost output = { λ shelf. output_of shelf.outputs };
+
+    ghost is_open = { λ shelf. is_lent shelf.outputs };
+
+    ghost source_faults = { λ shelf. shelf.sources.faults };
+
+    ghost sink_faults = { λ shelf. shelf.sinks.faults };
+
+    fn source(&mut self, name: &str) -> Result<MemorySource, Failed> {
+        self.sources.call()?;
+        match self.inputs.open(self.alloc, name) {
+            Some(source) => Ok(source),
+            None => Err(self.sources.fault()),
+        }
+    }
+
+    fn sink(&mut self, name: &str) -> Result<MemorySink, Failed> {
+        self.sinks.call()?;
+        let Ok(failing) = Vec::from_slice(self.alloc, &self.failing_writes) else {
+            return Err(self.sinks.fault());
+        };
+        match self.outputs.lend(self.alloc, name) {
+            Ok(()) => Ok(MemorySink::new(self.alloc, failing)),
+            Err(_) => Err(self.sinks.fault()),
+        }
+    }
+
+    fn give_back(&mut self, name: &str, out: MemorySink) {
+        if out.faults() > 0 {
+            self.sinks.fault();
+        }
+        self.outputs.give_back(name, Some(out.into_bytes()));
+    }
+
+    fn take_back(&mut self, _name: &str, source: MemorySource) {
+        if source.faults() > 0 {
+            self.sources.fault();
+        }
+    }
+}

@@ -1,0 +1,101 @@
+//! The outputs of a shelf: which are lent, and what was given back.
+
+ghost use Rattle.std.specs.Prelude.{◌≡◌, true, [], Some, find, position, OnOk, OnErr};
+ghost use Rattle.std.specs.Option.{option_copied, option_map};
+ghost use Rattle.racf_outside.specs.Shelf.{SameOthers, Opens, Closes};
+ghost use Rattle.racf_outside.specs.Slots.{is_named, told_of, output_of, is_lent};
+
+use std::alloc::{AllocError, Global};
+
+/// An output: its name, whether it is lent, and the bytes that were given back, where they are kept.
+#[derive(Drop)]
+pub(crate) struct Slot {
+    pub(crate) name: String,
+    pub(crate) lent: bool,
+    pub(crate) bytes: Option<Vec<u8>>,
+}
+
+impl Slot {
+    /// The bytes that were given back, where they are kept.
+    fn told(&self) -> Option<&[u8]>
+        ensures { option_copied result ≡ told_of (Some self.now) }
+    {
+        match &self.bytes {
+            Some(bytes) if !self.lent => Some(bytes),
+            _ => None,
+        }
+    }
+}
+
+/// The outputs by their names. The newest of a name counts; they are searched one by one.
+#[derive(Drop)]
+pub(crate) struct Outputs {
+    pub(crate) slots: Vec<Slot>,
+}
+
+impl Outputs {
+    /// No output.
+    pub(crate) fn new(alloc: Global) -> Outputs
+        ensures { result.slots.items ≡ [] }
+    {
+        Outputs {
+            slots: Vec::new(alloc),
+        }
+    }
+
+    /// Lends a new output of this name.
+    pub(crate) fn lend(&mut self, alloc: Global, name: &str) -> Result<(), AllocError>
+        ensures opened { OnOk result (Opens name.now (is_lent self.old) (is_lent self.new)) }
+        ensures others { OnOk result (SameOthers name.now (output_of self.old) (output_of self.new)) }
+        ensures err { OnErr result (self.new.slots.items ≡ self.old.slots.items) }
+    {
+        let slot = Slot {
+            name: String::from_str(alloc, name)?,
+            lent: true,
+            bytes: None,
+        };
+        self.slots.insert(0, slot)?;
+        Ok(())
+    }
+
+    /// Takes a lent output back, with its bytes where they are to be kept. Takes no memory.
+    pub(crate) fn give_back(&mut self, name: &str, bytes: Option<Vec<u8>>)
+        requires { is_lent self.old name.now ≡ true }
+        ensures bytes { output_of self.new name.now ≡ option_map (λ kept. kept.items) bytes }
+        ensures closed { Closes name.now (is_lent self.old) (is_lent self.new) }
+        ensures others { SameOthers name.now (output_of self.old) (output_of self.new) }
+    {
+        let Some(place) = self.place(name) else {
+            unreachable!();
+        };
+        let slot = &mut self.slots[place];
+        slot.bytes = bytes;
+        slot.lent = false;
+    }
+
+    /// The bytes that were given back under this name, where they are kept and it isn't lent again.
+    pub(crate) fn bytes(&self, name: &str) -> Option<&[u8]>
+        ensures { option_copied result ≡ output_of self.now name.now }
+    {
+        match self.find(name) {
+            Some(slot) => slot.told(),
+            None => None,
+        }
+    }
+
+    /// The newest output of this name.
+    fn find(&self, name: &str) -> Option<&Slot>
+        ensures { option_copied result ≡ find (is_named name.now) self.now.slots.items }
+    {
+        self.slots.iter().find(|slot| slot.name.as_str() == name)
+    }
+
+    /// The place of the newest output of this name.
+    fn place(&self, name: &str) -> Option<usize>
+        ensures { result ≡ position (is_named name.now) self.now.slots.items }
+    {
+        self.slots
+            .iter()
+            .position(|slot| slot.name.as_str() == name)
+    }
+}

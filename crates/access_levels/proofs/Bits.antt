@@ -1,12 +1,12 @@
 -- The bits of a set when a word of it is written.
-use Rattle.std.proofs.Common.{eq-eqb, ◌≡◌, ◌≢◌, ℕ, ◌+◌, ◌-◌, ◌*◌, ◌/◌, ◌%◌, ◌^◌, ◌<◌, ◌≤◌, min, max, Bool, true, false, not, ◌&&◌, ◌||◌, eqb, List, length, get_or, set, refl, sym, ◌∙◌, ap, subst, ⊎_elim, arith, bit_or, bit_and, bit_xor, w64}
+use Rattle.std.proofs.Common.{eq-eqb, ◌≡◌, ◌≢◌, ℕ, ◌+◌, ◌*◌, ◌/◌, ◌%◌, ◌^◌, ◌<◌, ◌≤◌, max, not, ◌&&◌, ◌||◌, eqb, List, length, get_or, set, sym, ◌∙◌, ap, subst, ⊎_elim, arith, bit_or, bit_and, w64}
 use Rattle.std.specs.Int.{bit_at, bit_not}
 use Rattle.std.proofs.lemmas.Bool.{cases_eq, cases_lt, ne_eqb}
 use Rattle.std.proofs.lemmas.List.{get_or-set_same, get_or-set_other, length-set, set_past}
 use Rattle.std.proofs.lemmas.Nat.{or_lt, and_le_l}
 use Rattle.std.proofs.Math.Nat.{lt_of_le_of_lt}
-use Rattle.std.proofs.lemmas.Nat.Bits.{bit_at-lt, bit_at_and, bit_at_or, bit_at_xor, bit_at-pow_same, bit_at-pow_other, bit_at_set_same, bit_at_set_other, bit_at_clear_same, bit_at_clear_other, same_from_bits, shr_and_one}
-use Rattle.access_levels.specs.Category.{is_member, including, excluding, is_missing}
+use Rattle.std.proofs.lemmas.Nat.Bits.{bit_at-lt, bit_at_or, bit_at_xor, bit_at-pow_same, bit_at-pow_other, bit_at_set_same, bit_at_set_other, bit_at_clear_same, bit_at_clear_other, same_from_bits, shr_and_one}
+use Rattle.access_levels.specs.Category.{is_member, including, excluding}
 use Rattle.access_levels.specs.Words.{joined, AreWords, bit_at-joined}
 
 -- Four words stay four words when one is written that fits.

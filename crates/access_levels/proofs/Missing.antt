@@ -1,12 +1,12 @@
 -- The least missing number, found word by word.
-use Rattle.std.proofs.Common.{◌≡◌, ℕ, zero, suc, ◌+◌, ◌-◌, ◌*◌, ◌/◌, ◌%◌, ◌^◌, ◌<◌, ◌≤◌, min, Bool, true, false, not, ◌&&◌, eqb, cond, List, length, get_or, Option, Some, None, MatchOption, refl, sym, ◌∙◌, ap, subst, ⊎_elim, arith, bit_and, w64}
+use Rattle.std.proofs.Common.{◌≡◌, ℕ, zero, suc, ◌+◌, ◌-◌, ◌*◌, ◌/◌, ◌%◌, ◌<◌, ◌≤◌, min, Bool, true, false, not, ◌&&◌, eqb, cond, List, get_or, Some, None, refl, sym, ◌∙◌, ap, subst, ⊎_elim, arith, bit_and, w64}
 use Rattle.std.specs.Int.{bit_at, bit_not, trailing_zeros}
 use Rattle.std.specs.List.{find, range_with_len}
 use Rattle.std.proofs.lemmas.Bool.{cases_eq, cases_lt}
 use Rattle.std.proofs.lemmas.Nat.Bits.{bit_at-lt, bit_at-zero, bit_at_and, bit_at_not, bit_at-trailing_zeros}
 use Rattle.std.proofs.lemmas.Nat.{and_le_l}
 use Rattle.std.proofs.Math.Nat.{lt_of_le_of_lt}
-use Rattle.access_levels.specs.Category.{is_member, is_missing, first_missing, IsFirstMissing}
+use Rattle.access_levels.specs.Category.{is_missing, first_missing}
 use Rattle.access_levels.specs.Words.{joined, AreWords, bit_at-joined}
 
 -- A search of numbers in order.

@@ -1,12 +1,10 @@
 -- Two identifiers are equal exactly where their numbers and their lengths are.
-use Rattle.std.proofs.Common.{◌≡◌, ℕ, ◌<◌, ◌≤◌, Bool, true, ◌&&◌, eqb, List, length, take, get_or, sym, refl, ◌∙◌, ap, subst, w64}
-use Rattle.std.specs.Bool.{Decides}
+use Rattle.std.proofs.Common.{◌≡◌, ℕ, ◌<◌, eqb, List, length, take, get_or, sym, refl, ◌∙◌, ap, subst, w64}
 use Rattle.std.specs.Str.{bytes_eq}
-use Rattle.std.specs.Int.{from_be_bytes, to_be_bytes}
-use Rattle.std.proofs.lemmas.Bool.Decides.{same_from_decides, Decides-eqb, Decides-and, Decides-like}
+use Rattle.std.specs.Int.{from_be_bytes}
+use Rattle.std.proofs.lemmas.Bool.Decides.{same_from_decides, Decides-eqb, Decides-like}
 use Rattle.std.proofs.lemmas.Nat.{be_bytes_8}
 use Rattle.std.proofs.lemmas.Slice.Eq.{bytes_eq-Decides}
-use Rattle.std.proofs.Math.Seq.{take-append_seam}
 use Rattle.access_levels.specs.Number.{as_number}
 use Rattle.access_levels.specs.Padding.{spelling, padded, IsPadded, padded-spelling}
 use Rattle.access_levels.specs.declared.ids.Id.TheInside.{Inside}

@@ -1,7 +1,7 @@
 -- A short text before zeros is an identifier's eight bytes.
 use Rattle.std.proofs.Common.{zero, suc, [], ◌∷◌, get_or, ◌<◌, lit<, ◌≡◌, ℕ, ◌+◌, ◌-◌, ◌≤◌, List, ◌++◌, length, take, drop, replicate, Ok, ap, sym, ◌∙◌, subst, arith}
 use Rattle.std.proofs.Math.Seq.{take-append_seam, drop-append_seam}
-use Rattle.std.proofs.lemmas.List.{length-append, length-drop, length-replicate, drop-replicate}
+use Rattle.std.proofs.lemmas.List.{length-append, length-replicate, drop-replicate}
 use Rattle.access_levels.specs.Spelling.{id_of}
 use Rattle.access_levels.specs.Padding.{IsPadded}
 use Rattle.access_levels.specs.declared.ids.Id.TheInside.{Inside}

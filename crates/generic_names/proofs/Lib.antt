@@ -1,2 +1,4 @@
 mod QualifierLaws
 mod FaultLaws
+mod CoverLaws
+mod WalkLaws

@@ -1,9 +1,10 @@
 -- The qualifiers of a text, from place to place.
-use Rattle.std.proofs.Common.{◌≡◌, ℕ, zero, suc, ◌+◌, ◌-◌, ◌<◌, ◌≤◌, Bool, true, false, cond, eqb, ltb, leb, List, [], ◌∷◌, length, get_or, take, drop, refl, ap, sym, ◌∙◌, subst, arith, add-zero, add-suc}
+use Rattle.std.proofs.Common.{◌≡◌, ℕ, zero, suc, ◌+◌, ◌-◌, ◌<◌, ◌≤◌, Bool, true, false, cond, eqb, ltb, leb, List, [], ◌∷◌, length, get_or, take, drop, refl, ap, sym, ◌∙◌, subst, arith, add-zero, add-suc, ⊎_elim}
 use Rattle.std.specs.List.{slice_split, onto_first, slice_range}
 use Rattle.std.proofs.lemmas.Bool.Decides.{nat_tests}
 use Rattle.std.proofs.lemmas.List.Splits.{slice_split-cons_no}
-use Rattle.generic_names.specs.Spelled.{qualifiers}
+use Rattle.std.proofs.lemmas.Bool.{cases_lt}
+use Rattle.generic_names.specs.Spelled.{qualifiers, is_empty}
 use Rattle.generic_names.specs.Reading.{rest_at}
 
 not_period : (x : ℕ) → (x ≡ 46 → ⊥) → eqb x 46 ≡ false
@@ -44,3 +45,26 @@ rest_at-first xs at n h m before period =
     ∙ ap (λ rest. take n (drop at xs) ∷ rest) (rest_at-drop at (suc n) xs h)
     ∙ ap (λ k. take n (drop at xs) ∷ rest_at xs k) next
     ∙ ap (λ k. take k (drop at xs) ∷ rest_at xs (at + n + 1)) (sym width)
+
+onto_first-some : (x : ℕ) (qs : List (List ℕ)) → is_empty (onto_first x qs) ≡ false
+onto_first-some x [] = refl
+onto_first-some x (q ∷ qs) = refl
+
+-- there is a first qualifier
+pub qualifiers-some : (xs : List ℕ) → is_empty (qualifiers xs) ≡ false
+qualifiers-some [] = refl
+qualifiers-some (x ∷ xs) = elim (eqb x 46) as (λ v. is_empty (cond v ([] ∷ qualifiers xs) (onto_first x (qualifiers xs))) ≡ false) [ true ↦ refl | false ↦ onto_first-some x (qualifiers xs) ]
+
+-- the last qualifier is the one that ends with the text
+pub rest_at-last : (xs : List ℕ) (end : ℕ) → end ≤ length xs → eqb end (length xs) ≡ is_empty (rest_at xs (end + 1))
+rest_at-last xs end h =
+    ⊎_elim
+        (λ (less : end < length xs).
+            let within : rest_at xs (end + 1) ≡ qualifiers (drop (end + 1) xs) = rest_at-within (end + 1) xs (omega arith) in
+            let other : eqb end (length xs) ≡ false = grind (arith, nat_tests) in
+            rw (within, other) (sym (qualifiers-some (drop (end + 1) xs))))
+        (λ (more : length xs ≤ end).
+            let past : rest_at xs (end + 1) ≡ [] = rest_at-past (end + 1) xs (omega arith) in
+            let same : eqb end (length xs) ≡ true = grind (arith, nat_tests) in
+            rw (past, same) refl)
+        (cases_lt end (length xs))

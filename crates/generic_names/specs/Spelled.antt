@@ -1,5 +1,5 @@
 -- A name is a kind and a spelling, and a spelling is read as its qualifiers.
-use Rattle.std.specs.Prelude.{ℕ, List, ◌==◌}
+use Rattle.std.specs.Prelude.{ℕ, ◌==◌, Bool, true, false, List, [], ◌∷◌}
 use Rattle.std.specs.List.{slice_split}
 use Rattle.generic_names.specs.declared.kind.NameKind.{NameKind}
 
@@ -21,3 +21,8 @@ asterisk = 42
 -- the qualifiers of a text, which stand between its periods; one that is empty counts
 abbrev pub qualifiers : List ℕ → List (List ℕ)
 qualifiers text = slice_split (λ b. b == period) text
+
+-- whether a list has no element
+abbrev pub is_empty : {A : Type 0} → List A → Bool
+is_empty [] = true
+is_empty (x ∷ xs) = false

@@ -1,9 +1,12 @@
 //! Names of resources and of profiles.
 #![tactic(auto)]
 
+mod covering;
 mod fault;
 mod form;
 mod kind;
+mod member;
+mod pattern;
 mod qualifiers;
 mod reading;
 mod resource;
@@ -11,4 +14,6 @@ mod spelling;
 
 pub use fault::NameFault;
 pub use kind::NameKind;
+pub use member::MemberName;
+pub use pattern::Pattern;
 pub use resource::Resource;

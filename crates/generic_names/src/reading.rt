@@ -195,7 +195,7 @@ fn stands_whole(form: Form, qualifier: &[u8]) -> bool
 }
 
 /// Whether a qualifier has a generic character.
-fn has_generic_byte(qualifier: &[u8]) -> bool
+pub(crate) fn has_generic_byte(qualifier: &[u8]) -> bool
     ensures { result ≡ list_any (λ b. (b == percent) || (b == asterisk)) qualifier.now }
 {
     qualifier.iter().any(|byte| *byte == b'%' || *byte == b'*')

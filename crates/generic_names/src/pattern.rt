@@ -1,0 +1,80 @@
+ghost use Rattle.std.specs.Prelude.{◌≡◌, Ok};
+ghost use Rattle.generic_names.specs.Faults.{pattern_of};
+ghost use Rattle.generic_names.specs.Covers.{is_generic, covers};
+
+use crate::covering::covers_text;
+use crate::fault::NameFault;
+use crate::form::Form;
+use crate::kind::NameKind;
+use crate::reading::{fault_in, has_generic_byte};
+use crate::resource::Resource;
+use crate::spelling::Spelling;
+use std::marker::Model;
+
+/// The name of a profile, discrete or generic. `%` stands for one byte other than a period, a `*` at
+/// the end of a qualifier for the rest of it, a whole qualifier `*` for one qualifier and `**` for any
+/// number. The `*` that ends the name of a general class reaches to the end of the resource's name.
+/// (After RACF's enhanced generic naming, always on; in detail this product's own rules.)
+#[derive(Clone, Copy)]
+pub struct Pattern {
+    name: Spelling,
+}
+
+impl Model for Pattern {
+    ghost use Rattle.std.specs.Prelude.{◌≡◌, Ok};
+    ghost use Rattle.generic_names.specs.Spelled.{Spelled};
+    ghost use Rattle.generic_names.specs.Faults.{pattern_of};
+
+    ghost Value = { Spelled };
+
+    ghost view = { λ p. p.name };
+
+    ghost invariant = { λ p. pattern_of p.name.kind p.name.text ≡ Ok p.name };
+
+    ghost inverse = { λ name. record { name = name } };
+}
+
+impl Pattern {
+    /// Reads the name of a profile of this kind. Lower case is not folded.
+    pub fn read(kind: NameKind, bytes: &[u8]) -> Result<Pattern, NameFault>
+        ensures { result ≡ pattern_of kind bytes.now }
+    {
+        if let Some(fault) = fault_in(Form::Generic, kind, bytes) {
+            return Err(fault);
+        }
+        Ok(Pattern {
+            name: Spelling::of(kind, bytes),
+        })
+    }
+
+    /// Whose name it is.
+    pub fn kind(&self) -> NameKind
+        ensures { result ≡ self.now.kind }
+    {
+        self.name.kind()
+    }
+
+    /// The name as it was read.
+    pub fn text(&self) -> &[u8]
+        ensures text { result.now ≡ self.now.text }
+        ensures name { pattern_of self.now.kind self.now.text ≡ Ok self.now }
+    {
+        self.name.text()
+    }
+
+    /// Whether it has a generic character.
+    pub fn is_generic(&self) -> bool
+        ensures { result ≡ is_generic self.now }
+    {
+        has_generic_byte(self.name.text())
+    }
+
+    /// Whether it covers the name of a resource. This takes about as many steps as the two names have
+    /// bytes, and with `**` at most as many as the product of their lengths.
+    pub fn covers(&self, name: &Resource) -> bool
+        requires { self.now.kind ≡ name.now.kind }
+        ensures { result ≡ covers self.now name.now }
+    {
+        covers_text(self.name.kind(), self.name.text(), name.text())
+    }
+}

@@ -28,7 +28,6 @@ onto h x xs (Some y) e = rw e refl
 pub filter_map-cons : {A B : Type 0} (h : A → Option B) (x : A) (xs : List A) → filter_map h (x ∷ xs) ≡ option_to_list (h x) ++ filter_map h xs
 filter_map-cons h x xs = onto h x xs (h x) refl
 
-
 walked_feed : (raw : List ℕ) → NoFeed raw → IsWalked stream (raw ++ 10 ∷ []) (option_to_list (item_of (line_of raw)))
 unfolding stream
 walked_feed raw h =
@@ -92,6 +91,7 @@ from_text r shown read old new h e reads = by_read read reads
   where
     taken : (raw : List ℕ) × line.TakesLine raw old new × (line_of raw ≡ Text shown.now)
     taken = subst (λ x. line.Nexts x old new) e h
+
     by_read : (read : Result (Option Item) Stop) → ReadsItem read shown.now → NextsItem read old new
     by_read (Ok item) reads =
         let t : TakesItems stream (option_to_list (item_of (Text shown.now))) (taken.0 ++ line.end_of new.ended) old new = takes_line taken.0 (Text shown.now) old new taken.1 taken.2 in

@@ -24,7 +24,7 @@ begun_at source before faults = Walk-none stream source before faults
 pub begun : (reader : Reader) (s : State) (before : Option (List ℕ)) → reader ≡ at_start reader.left reader.faults → s ≡ new_stream → Walk stream reader.left reader s before before
 begun reader s before fresh new =
     let at_new : Walk stream reader.left reader new_stream before before =
-        subst (λ (r : Reader). Walk stream reader.left r new_stream before before) (sym fresh) (begun_at reader.left before reader.faults) in
+    subst (λ (r : Reader). Walk stream reader.left r new_stream before before) (sym fresh) (begun_at reader.left before reader.faults) in
     subst (λ (x : State). Walk stream reader.left reader x before before) (sym new) at_new
 
 pub passed_none : (reader : Reader) → reader ≡ at_start reader.left reader.faults → reader.passed ≤ 2 ^ 28

@@ -180,7 +180,7 @@ pub Walk-write_fault : {S I : Type 0} (m : Machine S I) (item : I) (count : ℕ)
 unfolding Walk-items
 Walk-write_fault m item count bytes source left old new s before now then w taken wrote =
     let next : Walk m source new (m.step item s) before (append_known now (output m (item ∷ []) s)) =
-        Walk-items m (item ∷ []) bytes source old new s (m.step item s) before now _ w taken refl refl in
+    Walk-items m (item ∷ []) bytes source old new s (m.step item s) before now _ w taken refl refl in
     record {
       read = next.read;
       more = new.unread;

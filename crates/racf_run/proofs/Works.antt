@@ -19,10 +19,9 @@ worked_state item s t old out d = d.left
 
 pub worked_all : (item : Item) (given : Option Item) (s t : State) (old out : List ℕ) (before now : Option (List ℕ)) → given ≡ Some item → old ≡ [] → DoesAs (answer item s) t old out → now ≡ append_known before out → (t ≡ after stream (option_to_list given) s) × (now ≡ append_known before (output stream (option_to_list given) s))
 worked_all item given s t old out before now is none d wrote =
-    rw is
-    (
-        worked_state item s t old out d,
-        wrote ∙ ap (append_known before) (worked_text item s t old out none d ∙ sym (append-nil (stream.text item s)))
+    rw is (
+      worked_state item s t old out d,
+      wrote ∙ ap (append_known before) (worked_text item s t old out none d ∙ sym (append-nil (stream.text item s))),
     )
 
 pub worked_front : (item : Item) (given : Option Item) (s t : State) (old out : List ℕ) (before now : Option (List ℕ)) → given ≡ Some item → old ≡ [] → DoesAs (answer item s) t old out → (count : ℕ) × (now ≡ append_known before (take count out)) → (worked : Item) × (count : ℕ) × (given ≡ Some worked) × (now ≡ append_known before (take count (stream.text worked s)))

@@ -17,7 +17,7 @@ stream = record {
   start = new_stream;
   step = step;
   text = text;
-  has_refused = λ s. s.has_refused
+  has_refused = λ s. s.has_refused;
 }
 
 -- what is written for a whole input

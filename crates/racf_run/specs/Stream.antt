@@ -60,29 +60,29 @@ is_in_use acee s = list_any (λ held. bytes_eq held acee) s.acees
 -- RDEFINE is refused exactly where the name is defined. A new profile stands last, and is counted.
 unfoldable pub rdefine : Profile → State → Answer
 rdefine profile s =
-  if is_defined profile.name s then refuse (Exists profile.name) s
-  else if nat_le most_profiles (length s.profiles) then refuse NotBuilt s
-  else record { state = record s { number = s.number + 1; profiles = s.profiles ++ profile ∷ [] }; reply = Accepted }
+    if is_defined profile.name s then refuse (Exists profile.name) s
+    else if nat_le most_profiles (length s.profiles) then refuse NotBuilt s
+    else record { state = record s { number = s.number + 1; profiles = s.profiles ++ profile ∷ [] }; reply = Accepted }
 
 -- VERIFY begins an ACEE under a name that isn't in use.
 unfoldable pub verify : List ℕ → State → Answer
 verify acee s =
-  if is_in_use acee s || nat_le most_acees (length s.acees)
-  then refuse NotBuilt s
-  else record { state = record s { acees = s.acees ++ acee ∷ [] }; reply = Verified }
+    if is_in_use acee s || nat_le most_acees (length s.acees)
+    then refuse NotBuilt s
+    else record { state = record s { acees = s.acees ++ acee ∷ [] }; reply = Verified }
 
 -- The universal access suffices where it is at least the level that is asked for.
 abbrev pub decide : Option Profile → Level → Decision
 decide None asked = NoProfile
 decide (Some profile) asked =
-  if suffices profile.universal_access asked then UniversalAccess profile else Insufficient profile
+    if suffices profile.universal_access asked then UniversalAccess profile else Insufficient profile
 
 -- AUTH is refused exactly where the ACEE isn't in use. An answer changes nothing.
 unfoldable pub auth : List ℕ → Spelled → Level → State → Answer
 auth acee name asked s =
-  if is_in_use acee s
-  then record { state = s; reply = Decided (decide (profile_of name s) asked) }
-  else refuse (NoAcee acee) s
+    if is_in_use acee s
+    then record { state = s; reply = Decided (decide (profile_of name s) asked) }
+    else refuse (NoAcee acee) s
 
 -- the answer to each kind of line
 abbrev pub answer : Item → State → Answer

@@ -21,7 +21,10 @@ pub(crate) enum Stop {
 }
 
 /// The item of the next line; `None` where that line is skipped.
-pub(crate) fn next_item<S: Source>(alloc: Global, lines: &mut Lines<S>) -> Result<Option<Item>, Stop>
+pub(crate) fn next_item<S: Source>(
+    alloc: Global,
+    lines: &mut Lines<S>,
+) -> Result<Option<Item>, Stop>
     ensures item { NextsItem result lines.old lines.new }
     ensures faults { lines.old.faults ≤ lines.new.faults }
     ensures limit { lines.new.passed ≤ 2 ^ 28 }

@@ -11,3 +11,4 @@ mod top;
 
 pub use scripts::script;
 pub use status::Status;
+pub use top::racf;

@@ -78,7 +78,12 @@ fn run<S: Source, O: Sink>(alloc: Global, lines: &mut Lines<S>, sink: &mut O) ->
 }
 
 /// Works an item, where there is one, and writes its text.
-fn work_item<O: Sink>(stream: &mut Stream, item: Option<Item>, out: &mut Vec<u8>, sink: &mut O) -> Result<(), WorkFault>
+fn work_item<O: Sink>(
+    stream: &mut Stream,
+    item: Option<Item>,
+    out: &mut Vec<u8>,
+    sink: &mut O,
+) -> Result<(), WorkFault>
     ensures works { Works result item stream.old stream.new (O.taken sink.old) (O.taken sink.new) }
     ensures write_fault { result ≡ Err WorkFault.WriteFault → Rose (O.faults sink.old) (O.faults sink.new) }
     ensures sink_faults { O.faults sink.old ≤ O.faults sink.new }

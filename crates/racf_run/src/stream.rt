@@ -106,7 +106,13 @@ impl Stream {
 
     /// AUTH (RACROUTE Macro Reference, REQUEST=AUTH).
     #[tactic(auto, unfolding(crate::specs::Stream::auth))]
-    fn auth(&mut self, acee: Id, name: &Resource, asked: Level, out: &mut Vec<u8>) -> Result<(), AllocError>
+    fn auth(
+        &mut self,
+        acee: Id,
+        name: &Resource,
+        asked: Level,
+        out: &mut Vec<u8>,
+    ) -> Result<(), AllocError>
         ensures ok { OnOk result (DoesAs (auth acee name.now asked self.old) self.new out.old.items out.new.items) }
         ensures err { OnErr result (self.new ≡ self.old) }
     {
@@ -138,7 +144,9 @@ impl Stream {
     fn profile_of(&self, name: &Resource) -> Option<&Profile>
         ensures { option_copied result ≡ profile_of name.now self.now }
     {
-        self.profiles.iter().find(|profile| profile.name.text() == name.text())
+        self.profiles
+            .iter()
+            .find(|profile| profile.name.text() == name.text())
     }
 
     /// Whether an ACEE of this name is in use.
@@ -155,7 +163,9 @@ fn decision_on(found: Option<&Profile>, asked: Level) -> Decision
 {
     match found {
         None => Decision::NoProfile,
-        Some(profile) if profile.universal_access.suffices(asked) => Decision::UniversalAccess(*profile),
+        Some(profile) if profile.universal_access.suffices(asked) => Decision::UniversalAccess(
+            *profile,
+        ),
         Some(profile) => Decision::Insufficient(*profile),
     }
 }

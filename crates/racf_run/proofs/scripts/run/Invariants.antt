@@ -9,7 +9,7 @@ invariant-loop-item g l =
       walk : Walk stream l.fn.lines.left l.lines l.stream (g.O.Sink.taken l.fn.sink) (g.O.Sink.taken l.sink);
       most : l.lines.passed ≤ 2 ^ 28;
       source_faults : l.fn.lines.faults ≤ l.lines.faults;
-      sink_faults : g.O.Sink.faults l.fn.sink ≤ g.O.Sink.faults l.sink
+      sink_faults : g.O.Sink.faults l.fn.sink ≤ g.O.Sink.faults l.sink;
     }
 
 abbrev pub decreases-loop-item : goal.decreases-loop-item

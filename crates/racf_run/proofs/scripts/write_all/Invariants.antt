@@ -7,7 +7,7 @@ invariant-loop-at g l =
     record {
       within : l.at ≤ length l.bytes;
       written : g.O.Sink.taken l.sink ≡ append_known (g.O.Sink.taken l.fn.sink) (take l.at l.bytes);
-      faults : g.O.Sink.faults l.fn.sink ≤ g.O.Sink.faults l.sink
+      faults : g.O.Sink.faults l.fn.sink ≤ g.O.Sink.faults l.sink;
     }
 
 abbrev pub decreases-loop-at : goal.decreases-loop-at

@@ -7,6 +7,8 @@ mod reply;
 mod scripts;
 mod status;
 mod stream;
+#[cfg(test)]
+mod tests;
 mod top;
 
 pub use scripts::script;

@@ -1,13 +1,16 @@
-// A library with one function.
+//! The stream of the first path: lines of commands and requests in, replies and answers out.
 #![tactic(auto)]
 
-ghost use Rattle.std.specs.Prelude.{◌≡◌};
-ghost use Rattle.racf_run.specs.Echo.{echo_of};
+mod input;
+mod item;
+mod reply;
+mod scripts;
+mod status;
+mod stream;
+#[cfg(test)]
+mod tests;
+mod top;
 
-// The `ensures` clause is the contract: what `echo` returns is `echo_of` of its argument, a definition
-// in `specs/Echo.antt`, which a caller's clause can cite too.
-pub fn echo(x: usize) -> usize
-    ensures { result ≡ echo_of x }
-{
-    x
-}
+pub use scripts::script;
+pub use status::Status;
+pub use top::racf;

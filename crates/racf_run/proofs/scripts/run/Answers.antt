@@ -1,0 +1,35 @@
+use Rattle.std.proofs.Common.{arith}
+use Rattle.racf_run.specs.Script.{stream}
+use Rattle.racf_run.proofs.Walk.{Walk-items}
+use Rattle.racf_run.proofs.StreamWalk.{begun, passed_none, stopped, unanswered}
+use Rattle.racf_run.proofs.scripts.run.Goals as goal
+
+pub loop-item-init : goal.loop-item-init
+loop-item-init g c =
+    record {
+      walk = begun c.args.lines.now c.new-stream.result _ c.requires c.new-stream.ensures;
+      most = passed_none c.args.lines.now c.requires;
+      source_faults = omega arith;
+      sink_faults = omega arith;
+    }
+
+pub returns-in-Err-clause-ran : goal.returns-in-Err-clause-ran
+returns-in-Err-clause-ran g c =
+    stopped c.in-Err.stop c.has_refused.result c.stop_status.result _ c.loop-item.lines c.next_item.new.lines c.loop-item.stream _ _
+    c.loop-item.invariant.walk c.in-Err.ensures.item c.next_item.ensures.limit c.has_refused.ensures c.stop_status.ensures
+
+pub loop-item-preserved : goal.loop-item-preserved
+loop-item-preserved g c =
+    record {
+      walk =
+          Walk-items stream _ c.in-Ok.ensures.item.0 _ c.loop-item.lines c.next_item.new.lines c.loop-item.stream c.work_item.new.stream _ _ _
+          c.loop-item.invariant.walk c.in-Ok.ensures.item.1 c.in-Ok-work_item.ensures.works.0 c.in-Ok-work_item.ensures.works.1;
+      most = c.next_item.ensures.limit;
+      source_faults = omega (arith, c.loop-item.invariant.source_faults, c.next_item.ensures.faults);
+      sink_faults = omega (arith, c.loop-item.invariant.sink_faults, c.work_item.ensures.sink_faults);
+    }
+
+pub returns-in-Err-work_item-clause-ran : goal.returns-in-Err-work_item-clause-ran
+returns-in-Err-work_item-clause-ran g c =
+    unanswered c.in-Err-work_item.fault c.fault_status.result c.in-Ok.item _ c.next_item.new.lines.left c.loop-item.lines c.next_item.new.lines
+    c.loop-item.stream c.work_item.new.stream _ _ _ c.loop-item.invariant.walk c.in-Ok.ensures.item c.in-Err-work_item.ensures.works c.fault_status.ensures

@@ -1,0 +1,102 @@
+-- What a line of a stream asks for. Three kinds of line are built, each exactly its words in upper case, parted by
+-- single blanks; every other line is not built.
+use Rattle.std.specs.Prelude.{ℕ, ◌-◌, Bool, true, false, ◌||◌, ◌&&◌, ◌==◌, Option, Some, None, List, [], ◌∷◌, length, take, drop, codes, nat_eq, unwrap_or, if◌then◌else◌}
+use Rattle.std.specs.List.{starts_with, list_all, slice_split}
+use Rattle.std.specs.Str.{bytes_eq}
+use Rattle.std.specs.Result.{result_ok}
+use Rattle.racf_outside.specs.Lines.{Line, Text, TooLong}
+use Rattle.access_levels.specs.Spelling.{id_of, level_of}
+use Rattle.access_levels.specs.declared.levels.Level.{Level}
+use Rattle.access_levels.specs.declared.levels.Level.TheVariants.{NoAccess, Execute, Read, Update, Control, Alter}
+use Rattle.generic_names.specs.Faults.{resource_of}
+use Rattle.generic_names.specs.declared.kind.NameKind.TheVariants.{General}
+use Rattle.racf_run.specs.declared.item.Item.{Item}
+use Rattle.racf_run.specs.declared.item.Item.TheVariants.{Rdefine, Verify, Auth, NotBuilt}
+
+-- `Some x`, and then what follows from it
+infixl 10 ◌>>=◌
+abbrev pub ◌>>=◌ : {A B : Type 0} → Option A → (A → Option B) → Option B
+(Some x) >>= f = f x
+None >>= f = None
+
+-- a blank or a tab
+abbrev pub is_blank : ℕ → Bool
+is_blank byte = (byte == 32) || (byte == 9)
+
+-- A line of blanks and tabs alone, and a comment, whose first two bytes are `/*`, are skipped.
+abbrev pub is_skipped : List ℕ → Bool
+is_skipped text = list_all is_blank text || starts_with nat_eq text (codes "/*")
+
+-- the words of a line, parted by single blanks
+abbrev pub words : List ℕ → List (List ℕ)
+words text = slice_split (λ byte. byte == 32) text
+
+-- what follows a front, and what precedes an end
+abbrev pub without_prefix : List ℕ → List ℕ → Option (List ℕ)
+without_prefix front text = if bytes_eq (take (length front) text) front then Some (drop (length front) text) else None
+
+abbrev pub without_suffix : List ℕ → List ℕ → Option (List ℕ)
+without_suffix end text = let n = length text - length end in if bytes_eq (drop n text) end then Some (take n text) else None
+
+-- `UACC(level)`: the level
+abbrev pub universal_access_of : List ℕ → Option Level
+universal_access_of word = do
+  inner ← without_prefix (codes "UACC(") word
+  level ← without_suffix (codes ")") inner
+  level_of level
+
+-- READ, UPDATE, CONTROL or ALTER: no other level can be asked for.
+abbrev pub can_be_asked : Level → Bool
+can_be_asked NoAccess = false
+can_be_asked Execute = false
+can_be_asked Read = true
+can_be_asked Update = true
+can_be_asked Control = true
+can_be_asked Alter = true
+
+abbrev pub asked_level_of : List ℕ → Option Level
+asked_level_of word = do
+  level ← level_of word
+  if can_be_asked level then Some level else None
+
+-- `RDEFINE FACILITY name UACC(level)`: name is a general resource name
+unfoldable pub rdefine_of : List ℕ → List ℕ → Option Item
+rdefine_of name access = do
+  resource ← result_ok (resource_of General name)
+  level ← universal_access_of access
+  Some (Rdefine (record { name = resource; universal_access = level }))
+
+-- `VERIFY acee IBMUSER`: the ACEE's name has an ID's spelling
+unfoldable pub verify_of : List ℕ → Option Item
+verify_of acee = do
+  id ← result_ok (id_of acee)
+  Some (Verify id)
+
+-- `AUTH acee FACILITY name level`
+unfoldable pub auth_of : List ℕ → List ℕ → List ℕ → Option Item
+auth_of acee name level = do
+  id ← result_ok (id_of acee)
+  resource ← result_ok (resource_of General name)
+  asked ← asked_level_of level
+  Some (Auth id resource asked)
+
+abbrev pub is_rdefine : List ℕ → List ℕ → Bool
+is_rdefine verb class = bytes_eq verb (codes "RDEFINE") && bytes_eq class (codes "FACILITY")
+
+abbrev pub is_verify : List ℕ → List ℕ → Bool
+is_verify verb user = bytes_eq verb (codes "VERIFY") && bytes_eq user (codes "IBMUSER")
+
+abbrev pub is_auth : List ℕ → List ℕ → Bool
+is_auth verb class = bytes_eq verb (codes "AUTH") && bytes_eq class (codes "FACILITY")
+
+-- what the words of one of the three kinds of line ask for
+unfoldable pub built : List (List ℕ) → Option Item
+built (verb ∷ acee ∷ user ∷ []) = if is_verify verb user then verify_of acee else None
+built (verb ∷ class ∷ name ∷ access ∷ []) = if is_rdefine verb class then rdefine_of name access else None
+built (verb ∷ acee ∷ class ∷ name ∷ level ∷ []) = if is_auth verb class then auth_of acee name level else None
+built others = None
+
+-- What a line asks for: nothing, where it is skipped. A line of more than 4,096 bytes isn't built.
+unfoldable pub item_of : Line → Option Item
+item_of TooLong = Some NotBuilt
+item_of (Text text) = if is_skipped text then None else Some (unwrap_or (built (words text)) NotBuilt)

@@ -1,0 +1,53 @@
+ghost use Rattle.std.specs.Prelude.{◌≡◌};
+ghost use Rattle.std.specs.Option.{option_map};
+ghost use Rattle.racf_run.specs.Status.{code_of, message_of};
+
+/// How a run of the program ended.
+#[derive(Clone, Copy, Debug, PartialEq, Eq)]
+pub enum Status {
+    /// Every input was read to its end, and no line was refused.
+    Done,
+    /// Every input was read to its end, and a line was refused.
+    Refusals,
+    /// The words of the command line aren't of a form that the program has.
+    Usage,
+    /// An input couldn't be opened, or reading it failed.
+    ReadFault,
+    /// An output couldn't be opened, or writing it failed.
+    WriteFault,
+    /// Memory ran out.
+    NoMemory,
+    /// A line doesn't end within the longest input, 2^28 bytes.
+    InputTooLong,
+}
+
+impl Status {
+    /// The exit status of the process.
+    pub fn code(self) -> u8
+        ensures { result ≡ code_of self }
+    {
+        match self {
+            Status::Done => 0,
+            Status::Refusals => 4,
+            Status::Usage => 8,
+            Status::ReadFault => 12,
+            Status::WriteFault => 16,
+            Status::NoMemory => 28,
+            Status::InputTooLong => 36,
+        }
+    }
+
+    /// The line for standard error, without its line feed: none where every input was read to its end.
+    pub fn message(self) -> Option<&'static str>
+        ensures { option_map (λ text. text.now) result ≡ message_of self }
+    {
+        match self {
+            Status::Done | Status::Refusals => None,
+            Status::Usage => Some("USAGE"),
+            Status::ReadFault => Some("READ FAULT"),
+            Status::WriteFault => Some("WRITE FAULT"),
+            Status::NoMemory => Some("NO MEMORY"),
+            Status::InputTooLong => Some("INPUT TOO LONG"),
+        }
+    }
+}

@@ -1,0 +1,100 @@
+//! The top call: the words of the command line, over a shelf of named inputs and outputs.
+
+ghost use Rattle.std.specs.Prelude.{◌≡◌, ◌↔◌, ◌≤◌, ◌<◌, map, IsNone, IsTrue, IfSome, length, string_bytes};
+ghost use Rattle.std.specs.Option.{option_map};
+ghost use Rattle.racf_outside.specs.Causes.{Rose};
+ghost use Rattle.racf_outside.specs.Shelf.{SameBytes};
+ghost use Rattle.racf_run.specs.Racf.{script_files, Leaves, IsWholeOutput, OpensNone};
+ghost use Rattle.racf_run.specs.Runs.{longest_input};
+ghost use Rattle.racf_run.specs.Script.{is_whole};
+
+use crate::scripts::script;
+use crate::status::Status;
+use racf_outside::{Failed, Shelf};
+use std::alloc::Global;
+
+/// What the words `script IN OUT` name.
+#[derive(Clone, Copy)]
+struct Files<'a> {
+    input: &'a str,
+    output: &'a str,
+}
+
+/// The program: works what the words ask for, over the inputs and outputs of a shelf. The words `script IN OUT` work the
+/// stream of the input IN, and write to the output OUT; IN and OUT differ or are both `-`. Other words are `Usage`.
+///
+/// The input is opened first, then the output; each that was opened is handed back, under its name.
+pub fn racf<F: Shelf>(alloc: Global, words: &[String], shelf: &mut F) -> Status
+    // What the outputs tell afterwards, wherever the stream stopped.
+    ensures leaves { IfSome (script_files (map string_bytes words.now)) (λ files.
+        Leaves result (F.input shelf.old files.input) files.output (F.output shelf.old) (F.output shelf.new)) }
+
+    // Where the input was read to its end, all of its output was written, and nothing else.
+    ensures whole { IsTrue (is_whole result) → IfSome (script_files (map string_bytes words.now)) (λ files.
+        IsWholeOutput result (F.input shelf.old files.input) (F.output shelf.new files.output)) }
+
+    // Why it stopped.
+    ensures usage { (result ≡ Status.Usage) ↔ IsNone (script_files (map string_bytes words.now)) }
+    ensures nothing_opened { result ≡ Status.Usage → shelf.new ≡ shelf.old }
+    ensures read_fault { result ≡ Status.ReadFault → Rose (F.source_faults shelf.old) (F.source_faults shelf.new) }
+    ensures write_fault { result ≡ Status.WriteFault → Rose (F.sink_faults shelf.old) (F.sink_faults shelf.new) }
+    ensures too_long { result ≡ Status.InputTooLong → IfSome (script_files (map string_bytes words.now)) (λ files.
+        IfSome (F.input shelf.old files.input) (λ bytes. longest_input < length bytes)) }
+    ensures not_too_long { IsTrue (is_whole result) → IfSome (script_files (map string_bytes words.now)) (λ files.
+        IfSome (F.input shelf.old files.input) (λ bytes. length bytes ≤ longest_input)) }
+
+    // What stays.
+    ensures inputs { SameBytes (F.input shelf.old) (F.input shelf.new) }
+    ensures handed_back { OpensNone (F.is_open shelf.old) (F.is_open shelf.new) }
+    ensures source_faults { F.source_faults shelf.old ≤ F.source_faults shelf.new }
+    ensures sink_faults { F.sink_faults shelf.old ≤ F.sink_faults shelf.new }
+{
+    match script_files(words) {
+        None => Status::Usage,
+        Some(files) => script_between(alloc, files.input, files.output, shelf),
+    }
+}
+
+/// Works a stream from an input of a shelf to an output.
+fn script_between<F: Shelf>(alloc: Global, input: &str, output: &str, shelf: &mut F) -> Status
+    ensures leaves { Leaves result (F.input shelf.old input.now) output.now (F.output shelf.old) (F.output shelf.new) }
+    ensures whole { IsTrue (is_whole result) → IsWholeOutput result (F.input shelf.old input.now) (F.output shelf.new output.now) }
+    ensures read_fault { result ≡ Status.ReadFault → Rose (F.source_faults shelf.old) (F.source_faults shelf.new) }
+    ensures write_fault { result ≡ Status.WriteFault → Rose (F.sink_faults shelf.old) (F.sink_faults shelf.new) }
+    ensures too_long { result ≡ Status.InputTooLong → IfSome (F.input shelf.old input.now) (λ bytes. longest_input < length bytes) }
+    ensures not_too_long { IsTrue (is_whole result) → IfSome (F.input shelf.old input.now) (λ bytes. length bytes ≤ longest_input) }
+    ensures inputs { SameBytes (F.input shelf.old) (F.input shelf.new) }
+    ensures handed_back { OpensNone (F.is_open shelf.old) (F.is_open shelf.new) }
+    ensures source_faults { F.source_faults shelf.old ≤ F.source_faults shelf.new }
+    ensures sink_faults { F.sink_faults shelf.old ≤ F.sink_faults shelf.new }
+{
+    let Ok(source) = shelf.source(input) else {
+        return Status::ReadFault;
+    };
+    let mut sink = match shelf.sink(output) {
+        Ok(sink) => sink,
+        Err(Failed) => {
+            shelf.take_back(input, source);
+            return Status::WriteFault;
+        }
+    };
+    let (status, source) = script(alloc, source, &mut sink);
+    shelf.take_back(input, source);
+    shelf.give_back(output, sink);
+    status
+}
+
+/// The files that the words name, where they are `script IN OUT`, and IN and OUT differ or are both `-`.
+fn script_files(words: &[String]) -> Option<Files<'_>>
+    ensures { option_map (λ files. record { input = files.input.now; output = files.output.now }) result ≡ script_files (map string_bytes words.now) }
+{
+    let [verb, input, output] = words else {
+        return None;
+    };
+    let (input, output) = (input.as_str(), output.as_str());
+    if verb.as_str() == "script" && (input != output || input == "-") {
+        Some(Files { input, output })
+    } else {
+        None
+    }
+}

@@ -2,7 +2,7 @@ ghost use Rattle.std.specs.Prelude.{◌≡◌};
 ghost use Rattle.std.specs.Option.{option_map};
 ghost use Rattle.racf_run.specs.Status.{code_of, message_of};
 
-/// How a run of the program ended.
+/// How a run of the program ended. The statuses and their codes are this product's own.
 #[derive(Clone, Copy, Debug, PartialEq, Eq)]
 pub enum Status {
     /// Every input was read to its end, and no line was refused.

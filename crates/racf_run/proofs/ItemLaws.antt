@@ -1,5 +1,5 @@
 -- What the lines of the stream are as its items.
-use Rattle.std.proofs.Common.{◌≡◌, ℕ, ◌+◌, ◌<◌, Bool, true, false, List, [], ◌∷◌, ◌++◌, length, None, Some, refl, sym, ◌∙◌, ap, subst, arith, append-nil, length-append}
+use Rattle.std.proofs.Common.{◌≡◌, ℕ, ◌<◌, Bool, true, false, List, [], ◌∷◌, ◌++◌, length, None, Some, refl, sym, ◌∙◌, ap, subst, arith, append-nil, length-append}
 use Rattle.std.specs.Prelude.{Option, Result, Ok, Err}
 use Rattle.std.specs.Borrow.{Bor}
 use Rattle.std.specs.Option.{option_to_list}
@@ -18,7 +18,7 @@ use Rattle.racf_run.specs.declared.item.Item.{Item}
 use Rattle.racf_run.specs.declared.item.Item.TheVariants.{NotBuilt}
 use Rattle.racf_run.specs.declared.input.Stop.{Stop}
 use Rattle.racf_run.specs.declared.input.Stop.TheVariants as stop
-use Rattle.racf_run.specs.NextItem.{IsWalked, IsLast, TakesItems, TakesFront, TakesTooMuch, NextsItem, ReadsItem}
+use Rattle.racf_run.specs.NextItem.{IsWalked, TakesItems, TakesFront, TakesTooMuch, NextsItem, ReadsItem}
 
 onto : {A B : Type 0} (h : A → Option B) (x : A) (xs : List A) (o : Option B) → h x ≡ o → filter_map h (x ∷ xs) ≡ option_to_list o ++ filter_map h xs
 onto h x xs None e = rw e refl

@@ -1,5 +1,5 @@
--- What a line of a stream asks for. Three kinds of line are built, each exactly its words in upper case, parted by
--- single blanks; every other line is not built.
+-- What a line of a stream asks for. The words of a line stand between its blanks, so that two blanks have an empty word
+-- between them. RDEFINE, VERIFY and AUTH are built, in upper case and with just these words; no other line is.
 use Rattle.std.specs.Prelude.{ℕ, ◌-◌, Bool, true, false, ◌||◌, ◌&&◌, ◌==◌, Option, Some, None, List, [], ◌∷◌, length, take, drop, codes, nat_eq, unwrap_or, if◌then◌else◌}
 use Rattle.std.specs.List.{starts_with, list_all, slice_split}
 use Rattle.std.specs.Str.{bytes_eq}

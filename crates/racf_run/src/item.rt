@@ -21,11 +21,11 @@ pub struct Profile {
 /// What a line of a stream asks for.
 #[derive(Clone, Copy)]
 pub enum Item {
-    /// RDEFINE: define a profile.
+    /// RDEFINE: define a profile (z/OS Security Server RACF Command Language Reference).
     Rdefine(Profile),
-    /// VERIFY: begin an ACEE of this name.
+    /// VERIFY: begin an ACEE of this name (RACROUTE Macro Reference).
     Verify(Id),
-    /// AUTH: may the user of an ACEE use a resource?
+    /// AUTH: may the user of an ACEE use a resource (RACROUTE Macro Reference)?
     Auth {
         /// The name of the ACEE.
         acee: Id,
@@ -39,8 +39,8 @@ pub enum Item {
 }
 
 impl Item {
-    #[tactic(auto, unfolding(crate::specs::Items::item_of))]
     /// What a line of text asks for; `None` where it is skipped. Takes memory for the list of its words.
+    #[tactic(auto, unfolding(crate::specs::Items::item_of))]
     pub(crate) fn read(alloc: Global, text: &[u8]) -> Result<Option<Item>, AllocError>
         ensures { IfOk result (λ item. item ≡ item_of (Text text.now)) }
     {

@@ -11,10 +11,10 @@ use generic_names::Resource;
 use std::alloc::{AllocError, Global};
 use std::marker::Model;
 
-/// The most profiles that a class has.
+/// The most profiles that a class has (this product's own rule).
 const MOST_PROFILES: usize = 50_000;
 
-/// The most ACEEs that are in use at once.
+/// The most ACEEs that are in use at once (this product's own rule).
 const MOST_ACEES: usize = 256;
 
 /// The state of a stream. A profile, and an ACEE, is looked for from the front: the cost of a line grows with their number.

@@ -1,9 +1,10 @@
 -- Where a pattern can't be met by a name any more.
-use Rattle.std.proofs.Common.{◌≡◌, ◌≢◌, ℕ, zero, suc, ◌+◌, ◌-◌, ◌<◌, ◌≤◌, Bool, true, false, cond, not, ◌&&◌, ◌||◌, eqb, ltb, List, [], ◌∷◌, ◌++◌, map, length, take, drop, get_or, Ordering, append-nil, refl, ap, sym, ◌∙◌, subst, arith, ⊎_elim, ◌⊎◌, inl, inr}
+use Rattle.std.proofs.Common.{◌≡◌, ◌≢◌, ℕ, zero, suc, ◌+◌, ◌-◌, ◌<◌, ◌≤◌, Bool, true, false, cond, not, ◌&&◌, ◌||◌, eqb, ltb, List, [], ◌∷◌, ◌++◌, map, length, take, drop, get_or, Ordering, append-nil, append_assoc, length-append, add-one, refl, ap, sym, ◌∙◌, subst, arith, ⊎_elim, ◌⊎◌, inl, inr}
 use Rattle.std.specs.declared.cmp.Ordering.TheVariants.{Less, Equal, Greater}
 use Rattle.std.specs.Ordering.{nat_cmp, is_lt, ordering_then}
 use Rattle.std.specs.Cmp.Lexicographic.{slice_cmp}
-use Rattle.std.specs.List.{join_with_byte}
+use Rattle.std.specs.List.{join_with_byte, onto_first}
+use Rattle.std.proofs.lemmas.List.{take_at}
 use Rattle.std.proofs.lemmas.Bool.Decides.{nat_tests}
 use Rattle.std.proofs.lemmas.Slice.Eq.{bytes_eq-Decides}
 use Rattle.generic_names.specs.declared.kind.NameKind.{NameKind}
@@ -16,7 +17,11 @@ use Rattle.generic_names.specs.Follows.{may_follow}
 use Rattle.generic_names.specs.Laws.{IsPattern, IsResource}
 use Rattle.generic_names.proofs.Lawful.{EachByte, EachQualifier, IsPlain, resource-plain, pattern-small}
 use Rattle.generic_names.proofs.OrderLaws.{rank-cases, rank-other}
-use Rattle.generic_names.proofs.FirstLaws.{front, last, front-take, last-get, no-periods, plain-rank, either, both, equal_byte, one_byte, is_nil, IsBehind, no-match, behind-first, no_name, ends_open}
+use Rattle.generic_names.specs.Reading.{rest_at}
+use Rattle.generic_names.proofs.QualifierLaws.{rest_at-past}
+use Rattle.generic_names.proofs.RankLaws.{rest_at-end, rest_at-byte}
+use Rattle.generic_names.proofs.CompareLaws.{Between, between}
+use Rattle.generic_names.proofs.FirstLaws.{less_head, same_front, front, last, front-take, last-get, no-periods, plain-rank, either, both, equal_byte, one_byte, is_nil, IsBehind, no-match, behind-first, no_name, ends_open}
 
 -- a byte of a pattern's qualifier
 pub record IsByte (b : ℕ) : Type 0 where
@@ -254,3 +259,127 @@ follows kind begun c cs name plain w = settled begun w.left w.bytes w.ranked w.c
     settled false [] bytes ranked covered = absurd (cc (covered))
     settled true (p ∷ ps) bytes ranked covered = whole p ps (is_double p) refl bytes ranked covered
     settled false (p ∷ ps) bytes ranked covered = within-follows kind false c cs p ps name plain bytes ranked covered
+
+-- ranks that may not follow
+none_of : (begun : Bool) (s t u : Bool) → s ≡ false → t ≡ false → u ≡ false → (s || t || (begun && u)) ≡ false
+none_of true s t u hs ht hu = rw (hs, ht, hu) refl
+none_of false s t u hs ht hu = rw (hs, ht) refl
+
+other_code : (c d : ℕ) → c ≢ d → eqb c d ≡ false
+other_code c d h = grind (arith, nat_tests)
+
+pub none-past : (text : List ℕ) (begun : Bool) (at c : ℕ) → length text < at → c ≢ 259 → c ≢ 260 → may_follow begun (rest_at text at) c ≡ false
+none-past text begun at c past a b =
+    let none : rest_at text at ≡ [] = rest_at-past at text past in
+    let first : eqb c 259 ≡ false = other_code c 259 a in
+    let second : eqb c 260 ≡ false = other_code c 260 b in
+    rw (none, first, second) refl
+
+pub none-end : (text : List ℕ) (begun : Bool) (at c : ℕ) → at ≤ length text → (at < length text → get_or text at 0 ≡ 46) → c ≢ 257 → c ≢ 258 → c ≢ 260 → may_follow begun (rest_at text at) c ≡ false
+none-end text begun at c h ends a b d =
+    ap (λ (qs : List (List ℕ)). may_follow begun qs c) (rest_at-end text at h ends)
+    ∙ none_of begun (eqb c 257) (eqb c 258) (eqb c 260) (other_code c 257 a) (other_code c 258 b) (other_code c 260 d)
+
+pub none-byte : (text : List ℕ) (begun : Bool) (at c : ℕ) → at < length text → (get_or text at 0 ≡ 46 → ⊥) → c ≢ get_or text at 0 → c ≢ 256 → c ≢ 258 → c ≢ 260 → may_follow begun (rest_at text at) c ≡ false
+none-byte text begun at c h other e a b d =
+    let found = rest_at-byte text at h other in
+    ap (λ (qs : List (List ℕ)). may_follow begun qs c) found.2
+    ∙ four (eqb c (get_or text at 0)) (other_code c (get_or text at 0) e)
+  where
+    four : (t : Bool) → t ≡ false → (t || eqb c 256 || eqb c 258 || (begun && eqb c 260)) ≡ false
+    four t h = rw (h) (none_of begun (eqb c 256) (eqb c 258) (eqb c 260) (other_code c 256 a) (other_code c 258 b) (other_code c 260 d))
+
+-- A pattern has been met by a name up to a place, which is also the number of its ranks so far. Each pattern with these
+-- ranks in front that covers the name has what is left of it covering what is left of the name.
+pub record Met (pattern name : List ℕ) (begun : Bool) (count : ℕ) (these : List ℕ) : Type 0 where
+  pub front : ranks (qualifiers pattern) ≡ take count (ranks (qualifiers pattern)) ++ these
+  pub size : length (take count (ranks (qualifiers pattern))) ≡ count
+  pub reach : (kind : NameKind) (xs : List (List ℕ)) (rest : List ℕ) → EachQualifier IsByte xs → ranks xs ≡ take count (ranks (qualifiers pattern)) ++ rest → covers_all kind xs (qualifiers name) ≡ true → Reached kind begun rest (rest_at name count)
+
+pub met-start : (pattern name : List ℕ) → Met pattern name true 0 (ranks (qualifiers pattern))
+met-start pattern name = record {
+  front = refl;
+  size = refl;
+  reach = λ kind xs rest bytes ranked covered. record { left = xs; bytes = bytes; ranked = ranked; covered = covered };
+}
+
+module _ {pattern name : List ℕ} {begun : Bool} {count : ℕ} {these : List ℕ} (m : Met pattern name begun count these) (r : ℕ) (rest : List ℕ) (next : these ≡ r ∷ rest) where
+  longer : take (count + 1) (ranks (qualifiers pattern)) ≡ take count (ranks (qualifiers pattern)) ++ r ∷ []
+  longer =
+      let whole : ranks (qualifiers pattern) ≡ (take count (ranks (qualifiers pattern)) ++ r ∷ []) ++ rest = m.front ∙ ap (λ (xs : List ℕ). take count (ranks (qualifiers pattern)) ++ xs) next ∙ sym (append_assoc (take count (ranks (qualifiers pattern))) (r ∷ []) rest) in
+      let more : length (take count (ranks (qualifiers pattern)) ++ r ∷ []) ≡ count + 1 = length-append (take count (ranks (qualifiers pattern))) (r ∷ []) ∙ ap (λ (n : ℕ). n + 1) m.size in
+      ap (λ (xs : List ℕ). take (count + 1) xs) whole ∙ take_at (take count (ranks (qualifiers pattern)) ++ r ∷ []) rest (count + 1) more
+
+  longer-size : length (take (count + 1) (ranks (qualifiers pattern))) ≡ count + 1
+  longer-size = ap (λ (xs : List ℕ). length xs) longer ∙ length-append (take count (ranks (qualifiers pattern))) (r ∷ []) ∙ ap (λ (n : ℕ). n + 1) m.size
+
+  longer-front : ranks (qualifiers pattern) ≡ take (count + 1) (ranks (qualifiers pattern)) ++ rest
+  longer-front = m.front ∙ ap (λ (xs : List ℕ). take count (ranks (qualifiers pattern)) ++ xs) next ∙ sym (append_assoc (take count (ranks (qualifiers pattern))) (r ∷ []) rest) ∙ ap (λ (xs : List ℕ). xs ++ rest) (sym longer)
+
+  earlier : (xs : List (List ℕ)) (more : List ℕ) → ranks xs ≡ take (count + 1) (ranks (qualifiers pattern)) ++ more → ranks xs ≡ take count (ranks (qualifiers pattern)) ++ r ∷ more
+  earlier xs more ranked = ranked ∙ ap (λ (ys : List ℕ). ys ++ more) longer ∙ append_assoc (take count (ranks (qualifiers pattern))) (r ∷ []) more
+
+  -- by a byte
+  pub met-byte : r < 257 → count < length name → (get_or name count 0 ≡ 46 → ⊥) → Met pattern name false (count + 1) rest
+  met-byte low within_name other =
+      let found = rest_at-byte name count within_name other in
+      record {
+        front = longer-front;
+        size = longer-size;
+        reach = λ kind xs more bytes ranked covered.
+          let reached = subst (λ (ns : List (List ℕ)). Reached kind begun (r ∷ more) ns) found.2 (m.reach kind xs (r ∷ more) bytes (earlier xs more ranked) covered) in
+          let stepped = step-byte kind r more (get_or name count 0) found.0 found.1 low (within kind begun r more ((get_or name count 0 ∷ found.0) ∷ found.1) (λ e. omega arith) (λ e. omega arith) reached) in
+          rw add-one (subst (λ (ns : List (List ℕ)). Reached kind false more ns) (sym found.3) stepped);
+      }
+
+  -- by the end of a qualifier
+  pub met-end : r ≡ 257 → count ≤ length name → (count < length name → get_or name count 0 ≡ 46) → Met pattern name true (count + 1) rest
+  met-end is within_name ends =
+      let found = rest_at-end name count within_name ends in
+      record {
+        front = longer-front;
+        size = longer-size;
+        reach = λ kind xs more bytes ranked covered.
+          let reached = subst (λ (ns : List (List ℕ)). Reached kind begun (r ∷ more) ns) found (m.reach kind xs (r ∷ more) bytes (earlier xs more ranked) covered) in
+          let in_qualifier = within kind begun r more ([] ∷ rest_at name (count + 1)) (λ e. omega arith) (λ e. omega arith) reached in
+          step-end kind more (rest_at name (count + 1)) (subst (λ (c : ℕ). Within kind (c ∷ more) ([] ∷ rest_at name (count + 1))) is in_qualifier);
+      }
+
+  -- no pattern goes on with a rank that may not follow
+  pub met-gap : (least : ℕ) → r < least → ((c : ℕ) → r ≤ c → c < least → may_follow begun (rest_at name count) c ≡ false) → EachQualifier IsPlain (rest_at name count) → (p : Spelled) → IsPattern p → is_lt (slice_cmp nat_cmp (ranks (qualifiers p.text)) (ranks (qualifiers pattern))) ≡ false → is_lt (slice_cmp nat_cmp (ranks (qualifiers p.text)) (take count (ranks (qualifiers pattern)) ++ least ∷ [])) ≡ true → covers_all p.kind (qualifiers p.text) (qualifiers name) ≡ false
+  met-gap least room none plain p lawful not_before below = settled (covers_all p.kind (qualifiers p.text) (qualifiers name)) refl
+    where
+      found : Between (take count (ranks (qualifiers pattern))) r least (ranks (qualifiers p.text))
+      found = between (take count (ranks (qualifiers pattern))) r least rest (ranks (qualifiers p.text)) (subst (λ (ys : List ℕ). is_lt (slice_cmp nat_cmp (ranks (qualifiers p.text)) ys) ≡ false) (m.front ∙ ap (λ (xs : List ℕ). take count (ranks (qualifiers pattern)) ++ xs) next) not_before) below
+      settled : (t : Bool) → covers_all p.kind (qualifiers p.text) (qualifiers name) ≡ t → t ≡ false
+      settled false is = refl
+      settled true is =
+          let reached = m.reach p.kind (qualifiers p.text) (found.rank ∷ found.rest) (pattern-bytes p lawful) found.split is in
+          let met : may_follow begun (rest_at name count) found.rank ≡ true = follows p.kind begun found.rank found.rest (rest_at name count) plain reached in
+          let unmet : may_follow begun (rest_at name count) found.rank ≡ false = none found.rank found.from found.below in
+          absurd (cc (met, unmet))
+
+  pub met-onward : (least : ℕ) → r < least → is_lt (slice_cmp nat_cmp (ranks (qualifiers pattern)) (take count (ranks (qualifiers pattern)) ++ least ∷ [])) ≡ true
+  met-onward least room =
+      ap (λ (xs : List ℕ). is_lt (slice_cmp nat_cmp xs (take count (ranks (qualifiers pattern)) ++ least ∷ []))) (m.front ∙ ap (λ (xs : List ℕ). take count (ranks (qualifiers pattern)) ++ xs) next)
+      ∙ ap is_lt (same_front (take count (ranks (qualifiers pattern))) (r ∷ rest) (least ∷ []) ∙ less_head r least rest [] room)
+
+  pub met-room : count < length (ranks (qualifiers pattern))
+  met-room =
+      let whole : length (ranks (qualifiers pattern)) ≡ length (take count (ranks (qualifiers pattern))) + length these = ap (λ (xs : List ℕ). length xs) m.front ∙ length-append (take count (ranks (qualifiers pattern))) these in
+      let one : length these ≡ length rest + 1 = ap (λ (xs : List ℕ). length xs) next ∙ (omega arith) in
+      omega (arith, m.size)
+
+-- the bytes of what is left of a name are plain
+plain-first : (b : ℕ) (qs : List (List ℕ)) → EachQualifier IsPlain (onto_first b qs) → EachQualifier IsPlain qs
+plain-first b [] plain = tt
+plain-first b (q ∷ qs) plain = (plain.0.1, plain.1)
+
+pub plain-rest : (name : List ℕ) (at : ℕ) → EachQualifier IsPlain (qualifiers name) → EachQualifier IsPlain (rest_at name at)
+plain-rest name zero plain = plain
+plain-rest [] (suc at) plain = tt
+plain-rest (b ∷ name) (suc at) plain = plain-rest name at (settled (eqb b 46) plain)
+  where
+    settled : (t : Bool) → EachQualifier IsPlain (cond t ([] ∷ qualifiers name) (onto_first b (qualifiers name))) → EachQualifier IsPlain (qualifiers name)
+    settled true p = p.1
+    settled false p = plain-first b (qualifiers name) p

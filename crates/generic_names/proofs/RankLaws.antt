@@ -16,7 +16,7 @@ ranks_at-past text true at past = ap (λ (qs : List (List ℕ)). ranks qs) (rest
 ranks_at-past text false at past = ap (λ (qs : List (List ℕ)). ranks_within qs) (rest_at-past at text past)
 
 -- where a qualifier ends
-rest_at-end : (text : List ℕ) (at : ℕ) → at ≤ length text → (at < length text → get_or text at 0 ≡ 46) → rest_at text at ≡ [] ∷ rest_at text (at + 1)
+pub rest_at-end : (text : List ℕ) (at : ℕ) → at ≤ length text → (at < length text → get_or text at 0 ≡ 46) → rest_at text at ≡ [] ∷ rest_at text (at + 1)
 rest_at-end text at h ends =
     let room : length (drop at text) ≡ length text - at = length-drop at text in
     let same : at + 0 ≡ at = omega arith in
@@ -35,7 +35,7 @@ onto_first-is x [] some = absurd (cc (some))
 onto_first-is x (q ∷ qs) some = (q, qs, refl, refl)
 
 -- at a byte of a qualifier
-rest_at-byte : (text : List ℕ) (at : ℕ) → at < length text → (get_or text at 0 ≡ 46 → ⊥) → (q : List ℕ) × (qs : List (List ℕ)) × (rest_at text at ≡ (get_or text at 0 ∷ q) ∷ qs) × (rest_at text (suc at) ≡ q ∷ qs)
+pub rest_at-byte : (text : List ℕ) (at : ℕ) → at < length text → (get_or text at 0 ≡ 46 → ⊥) → (q : List ℕ) × (qs : List (List ℕ)) × (rest_at text at ≡ (get_or text at 0 ∷ q) ∷ qs) × (rest_at text (suc at) ≡ q ∷ qs)
 rest_at-byte [] at h other = absurd (omega arith)
 rest_at-byte (x ∷ xs) zero h other =
     let found = onto_first-is x (qualifiers xs) (qualifiers-some xs) in

@@ -4,6 +4,7 @@
 mod covering;
 mod fault;
 mod form;
+mod gap;
 mod kind;
 mod laws;
 mod member;

@@ -1,5 +1,5 @@
 -- A profile that is put goes to its place in the order.
-use Rattle.std.proofs.Common.{◌≡◌, ◌⊎◌, ℕ, Bool, true, false, cond, ◌&&◌, List, [], ◌∷◌, length, Option, Some, option_and_then, refl, sym, ◌∙◌, ap, subst, ⊎_elim}
+use Rattle.std.proofs.Common.{◌≡◌, ◌⊎◌, ℕ, Bool, true, false, cond, ◌&&◌, List, [], ◌∷◌, length, Some, option_and_then, refl, sym, ◌∙◌, ap, ⊎_elim}
 use Rattle.std.specs.List.{find}
 use Rattle.std.specs.Str.{bytes_eq}
 use Rattle.std.proofs.lemmas.Bool.{cases_Bool, both_ways}
@@ -37,9 +37,9 @@ put_profile-found x [] = find-hit (is_profile x.name) x [] (same_name x.name.tex
 put_profile-found x (y ∷ ys) = ⊎_elim
     (λ (same : is_profile x.name y ≡ true). ap (find (is_profile x.name)) (put-same x y ys same) ∙ find-hit (is_profile x.name) x ys (same_name x.name.text))
     (λ (other : is_profile x.name y ≡ false). ⊎_elim
-        (λ (first : before x.name y.name ≡ true). ap (find (is_profile x.name)) (put-before x y ys other first) ∙ find-hit (is_profile x.name) x (y ∷ ys) (same_name x.name.text))
-        (λ (later : before x.name y.name ≡ false). ap (find (is_profile x.name)) (put-behind x y ys other later) ∙ find-miss (is_profile x.name) y (put_profile x ys) other ∙ put_profile-found x ys)
-        (cases_Bool (before x.name y.name)))
+    (λ (first : before x.name y.name ≡ true). ap (find (is_profile x.name)) (put-before x y ys other first) ∙ find-hit (is_profile x.name) x (y ∷ ys) (same_name x.name.text))
+    (λ (later : before x.name y.name ≡ false). ap (find (is_profile x.name)) (put-behind x y ys other later) ∙ find-miss (is_profile x.name) y (put_profile x ys) other ∙ put_profile-found x ys)
+    (cases_Bool (before x.name y.name)))
     (cases_Bool (is_profile x.name y))
 
 -- A name that is before what is put and before the others is before what there is then.
@@ -48,9 +48,9 @@ comes_first-put name x [] first others = first
 comes_first-put name x (y ∷ ys) first others = ⊎_elim
     (λ (same : is_profile x.name y ≡ true). ap (comes_first name) (put-same x y ys same) ∙ first)
     (λ (other : is_profile x.name y ≡ false). ⊎_elim
-        (λ (above : before x.name y.name ≡ true). ap (comes_first name) (put-before x y ys other above) ∙ first)
-        (λ (later : before x.name y.name ≡ false). ap (comes_first name) (put-behind x y ys other later) ∙ others)
-        (cases_Bool (before x.name y.name)))
+    (λ (above : before x.name y.name ≡ true). ap (comes_first name) (put-before x y ys other above) ∙ first)
+    (λ (later : before x.name y.name ≡ false). ap (comes_first name) (put-behind x y ys other later) ∙ others)
+    (cases_Bool (before x.name y.name)))
     (cases_Bool (is_profile x.name y))
 
 -- Names of one kind and one text are the same name.
@@ -70,14 +70,14 @@ pub put_profile-in_order : OneIsBefore → (kind : NameKind) (x : Profile) (ys :
 put_profile-in_order total kind x [] lawful is named ordered = refl
 put_profile-in_order total kind x (y ∷ ys) lawful is named ordered = ⊎_elim
     (λ (same : is_profile x.name y ≡ true).
-        let name : y.name ≡ x.name = same_spelled y.name x.name (named.0.1 ∙ sym is) same in
-        ap is_in_order (put-same x y ys same) ∙ ap (λ (n : Spelled). comes_first n ys && is_in_order ys) (sym name) ∙ ordered)
+    let name : y.name ≡ x.name = same_spelled y.name x.name (named.0.1 ∙ sym is) same in
+    ap is_in_order (put-same x y ys same) ∙ ap (λ (n : Spelled). comes_first n ys && is_in_order ys) (sym name) ∙ ordered)
     (λ (other : is_profile x.name y ≡ false). ⊎_elim
-        (λ (first : before x.name y.name ≡ true). ap is_in_order (put-before x y ys other first) ∙ both _ _ first ordered)
-        (λ (later : before x.name y.name ≡ false). ap is_in_order (put-behind x y ys other later)
-            ∙ both _ _ (comes_first-put y.name x ys (the_other_way total x.name y.name lawful named.0.0 (is ∙ sym named.0.1) other later) (all_head _ _ ordered))
-                (put_profile-in_order total kind x ys lawful is named.1 (all_tail _ _ ordered)))
-        (cases_Bool (before x.name y.name)))
+    (λ (first : before x.name y.name ≡ true). ap is_in_order (put-before x y ys other first) ∙ both _ _ first ordered)
+    (λ (later : before x.name y.name ≡ false). ap is_in_order (put-behind x y ys other later)
+    ∙ both _ _ (comes_first-put y.name x ys (the_other_way total x.name y.name lawful named.0.0 (is ∙ sym named.0.1) other later) (all_head _ _ ordered))
+    (put_profile-in_order total kind x ys lawful is named.1 (all_tail _ _ ordered)))
+    (cases_Bool (before x.name y.name)))
     (cases_Bool (is_profile x.name y))
 
 -- A class that is listed has its live profiles as its copy.
@@ -87,15 +87,15 @@ effective_in-listed name row [] copies found long = cc
 effective_in-listed name row (class ∷ classes) [] found long = cc
 effective_in-listed name row (class ∷ classes) (old ∷ copies) found long = ⊎_elim
     (λ (hit : is_class name class ≡ true).
-        let some : Some class ≡ Some row = sym (find-hit (is_class name) class classes hit) ∙ found in
-        let same : class ≡ row = cc in
-        ap (λ b. effective_in name (cond b (with_listed true class ∷ classes) (class ∷ at_class name (with_listed true) classes)) (cond b (class.profiles ∷ copies) (old ∷ copy_at name (λ (c : ClassRow). c.profiles) classes copies))) hit
-        ∙ ap (λ b. cond b (Some class.profiles) (effective_in name classes copies)) hit ∙ ap (λ (c : ClassRow). Some c.profiles) same)
+    let some : Some class ≡ Some row = sym (find-hit (is_class name) class classes hit) ∙ found in
+    let same : class ≡ row = cc in
+    ap (λ b. effective_in name (cond b (with_listed true class ∷ classes) (class ∷ at_class name (with_listed true) classes)) (cond b (class.profiles ∷ copies) (old ∷ copy_at name (λ (c : ClassRow). c.profiles) classes copies))) hit
+    ∙ ap (λ b. cond b (Some class.profiles) (effective_in name classes copies)) hit ∙ ap (λ (c : ClassRow). Some c.profiles) same)
     (λ (miss : is_class name class ≡ false).
-        let others : length copies ≡ length classes = cc in
-        ap (λ b. effective_in name (cond b (with_listed true class ∷ classes) (class ∷ at_class name (with_listed true) classes)) (cond b (class.profiles ∷ copies) (old ∷ copy_at name (λ (c : ClassRow). c.profiles) classes copies))) miss
-        ∙ ap (λ b. cond b (Some (cond class.listed old class.profiles)) (effective_in name (at_class name (with_listed true) classes) (copy_at name (λ (c : ClassRow). c.profiles) classes copies))) miss
-        ∙ effective_in-listed name row classes copies (sym (find-miss (is_class name) class classes miss) ∙ found) others)
+    let others : length copies ≡ length classes = cc in
+    ap (λ b. effective_in name (cond b (with_listed true class ∷ classes) (class ∷ at_class name (with_listed true) classes)) (cond b (class.profiles ∷ copies) (old ∷ copy_at name (λ (c : ClassRow). c.profiles) classes copies))) miss
+    ∙ ap (λ b. cond b (Some (cond class.listed old class.profiles)) (effective_in name (at_class name (with_listed true) classes) (copy_at name (λ (c : ClassRow). c.profiles) classes copies))) miss
+    ∙ effective_in-listed name row classes copies (sym (find-miss (is_class name) class classes miss) ∙ found) others)
     (cases_Bool (is_class name class))
 
 -- A profile that is put into a class is found there.
@@ -104,10 +104,10 @@ pub profile-put : (class : List ℕ) (x : Profile) (row : ClassRow) (classes : L
 profile-put class x row [] found = cc
 profile-put class x row (first ∷ classes) found = ⊎_elim
     (λ (hit : is_class class first ≡ true).
-        ap (λ b. option_and_then (λ (r : ClassRow). find (is_profile x.name) r.profiles) (find (is_class class) (cond b (with_profile x first ∷ classes) (first ∷ at_class class (with_profile x) classes)))) hit
-        ∙ ap (λ o. option_and_then (λ (r : ClassRow). find (is_profile x.name) r.profiles) o) (find-hit (is_class class) (with_profile x first) classes hit) ∙ put_profile-found x first.profiles)
+    ap (λ b. option_and_then (λ (r : ClassRow). find (is_profile x.name) r.profiles) (find (is_class class) (cond b (with_profile x first ∷ classes) (first ∷ at_class class (with_profile x) classes)))) hit
+    ∙ ap (λ o. option_and_then (λ (r : ClassRow). find (is_profile x.name) r.profiles) o) (find-hit (is_class class) (with_profile x first) classes hit) ∙ put_profile-found x first.profiles)
     (λ (miss : is_class class first ≡ false).
-        ap (λ b. option_and_then (λ (r : ClassRow). find (is_profile x.name) r.profiles) (find (is_class class) (cond b (with_profile x first ∷ classes) (first ∷ at_class class (with_profile x) classes)))) miss
-        ∙ ap (λ o. option_and_then (λ (r : ClassRow). find (is_profile x.name) r.profiles) o) (find-miss (is_class class) first (at_class class (with_profile x) classes) miss)
-        ∙ profile-put class x row classes (sym (find-miss (is_class class) first classes miss) ∙ found))
+    ap (λ b. option_and_then (λ (r : ClassRow). find (is_profile x.name) r.profiles) (find (is_class class) (cond b (with_profile x first ∷ classes) (first ∷ at_class class (with_profile x) classes)))) miss
+    ∙ ap (λ o. option_and_then (λ (r : ClassRow). find (is_profile x.name) r.profiles) o) (find-miss (is_class class) first (at_class class (with_profile x) classes) miss)
+    ∙ profile-put class x row classes (sym (find-miss (is_class class) first classes miss) ∙ found))
     (cases_Bool (is_class class first))

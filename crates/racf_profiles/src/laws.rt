@@ -55,8 +55,7 @@ pub fn puts_keep_the_order()
 /// A class that is listed has its live profiles as its effective ones.
 pub fn listed_is_live()
     ensures { (name : List ℕ) (row : ClassRow) (state : State) → class_of name state.rows ≡ Some row → length state.copies ≡ length state.rows.classes → effective name (edited_state (edit.List name) state) ≡ Some row.profiles }
-{
-}
+{}
 
 /// After a restart the effective profiles of each class are its live ones.
 pub fn restart_is_live()

@@ -1,6 +1,5 @@
 -- The rows of a new database.
 use Rattle.std.specs.Prelude.{ℕ, Bool, true, false, List, [], ◌∷◌, Some, None, codes, map}
-use Rattle.std.specs.Str.{bytes_eq}
 use Rattle.access_levels.specs.declared.entries.Attributes.{Attributes}
 use Rattle.access_levels.specs.declared.authorities.GroupAuthority.TheVariants.{MayJoin}
 use Rattle.racf_profiles.specs.declared.users.User.{User}
@@ -11,6 +10,7 @@ use Rattle.racf_profiles.specs.declared.class_rows.ClassRow.{ClassRow}
 use Rattle.racf_profiles.specs.declared.class_rows.LogOption.TheVariants.{ByProfile}
 use Rattle.racf_profiles.specs.declared.rows.Rows.{Rows}
 use Rattle.racf_profiles.specs.declared.fixed_classes.FixedClass.{FixedClass}
+use Rattle.racf_profiles.specs.declared.fixed_classes.FixedClass.TheVariants.{Dataset}
 use Rattle.racf_profiles.specs.ClassTable.{class_name, fixed_classes}
 
 -- IBMUSER may do everything, and is connected to SYS1, its default group, with JOIN.
@@ -42,10 +42,17 @@ empty_class active class = record { name = class_name class; active = active; li
 abbrev pub no_options : Options
 no_options = record { grplist = false; protectall = false; mls = false; categories = [] }
 
+abbrev pub new_classes : (FixedClass → Bool) → List ClassRow
+new_classes is_active = map (λ class. empty_class (is_active class) class) fixed_classes
+
 -- The rows of a new database, by which classes are active in it.
-abbrev pub new_rows : (List ℕ → Bool) → Rows
-new_rows is_active = record { users = ibmuser ∷ []; groups = sys1 ∷ []; classes = map (λ class. empty_class (is_active (class_name class)) class) fixed_classes; options = no_options }
+abbrev pub new_rows : (FixedClass → Bool) → Rows
+new_rows is_active = record { users = ibmuser ∷ []; groups = sys1 ∷ []; classes = new_classes is_active; options = no_options }
 
 -- DATASET alone is active.
+abbrev pub is_dataset : FixedClass → Bool
+is_dataset Dataset = true
+is_dataset _ = false
+
 abbrev pub new_database : Rows
-new_database = new_rows (bytes_eq (codes "DATASET"))
+new_database = new_rows is_dataset

@@ -3,6 +3,7 @@ ghost use Rattle.std.specs.Prelude.{◌≡◌, Ok, option_copied};
 ghost use Rattle.access_levels.specs.Spelling.{id_of};
 ghost use Rattle.racf_profiles.specs.ClassTable.{class_name, fixed_class, class_table, facts_of};
 
+use crate::known::known_id;
 use access_levels::Id;
 
 /// The fixed classes, in the order of the table (this product's own).
@@ -92,6 +93,13 @@ impl FixedClass {
             FixedClass::Seclabel => b"SECLABEL".as_slice(),
             FixedClass::Global => b"GLOBAL".as_slice(),
         }
+    }
+
+    /// The name of the class, as an identifier.
+    pub fn id(self) -> Id
+        ensures { result ≡ class_name self }
+    {
+        known_id(self.name())
     }
 
     /// The fixed class of that name.

@@ -5,7 +5,8 @@ use Rattle.std.specs.Option.{option_eq}
 use Rattle.racf_profiles.specs.declared.groups.Group.{Group}
 use Rattle.group_tree.specs.declared.climb.Climb.{Climb}
 use Rattle.group_tree.specs.declared.climb.Climb.TheVariants.{BySuperiors, ByOwners}
-use Rattle.group_tree.specs.Groups.{find_group, IsGroup, root_name}
+use Rattle.racf_profiles.specs.NewDatabase.{sys1}
+use Rattle.group_tree.specs.Groups.{find_group, IsGroup}
 use Rattle.group_tree.specs.Scope.{IsWay, IsUnder, IsUnderOwner}
 use Rattle.group_tree.specs.Climb.{above, IsLinkedBy, LeadsUp}
 use Rattle.group_tree.specs.Lawful.{IsTree}
@@ -76,7 +77,7 @@ module _ (climb : Climb) (groups : List Group) (current to : List ℕ) where
 -- ---- how far the root is
 -- the group's way to the root fits in the steps that are left
 abbrev pub HasSteps : List Group → (current : List ℕ) → (steps : ℕ) → Type 0
-HasSteps groups current steps = IsGroup groups current → (others : List (List ℕ)) × IsWay IsUnder groups current others root_name × (length others + steps < length groups)
+HasSteps groups current steps = IsGroup groups current → (others : List (List ℕ)) × IsWay IsUnder groups current others sys1.id × (length others + steps < length groups)
 
 pub steps_first : (groups : List Group) → IsTree groups → (id : List ℕ) → HasSteps groups id 0
 steps_first groups tree id there =
@@ -87,7 +88,7 @@ pub steps_next : (groups : List Group) → IsTree groups → (climb : Climb) (cu
 steps_next groups tree climb current next group steps here up has there =
     let w = has (ap is_some here) in by w.0 w.1 w.2
   where
-    by : (others : List (List ℕ)) → IsWay IsUnder groups current others root_name → length others + steps < length groups → (more : List (List ℕ)) × IsWay IsUnder groups next more root_name × (length more + (steps + 1) < length groups)
+    by : (others : List (List ℕ)) → IsWay IsUnder groups current others sys1.id → length others + steps < length groups → (more : List (List ℕ)) × IsWay IsUnder groups next more sys1.id × (length more + (steps + 1) < length groups)
     by [] v fits =
         let some : group.superior ≡ Some next = superior-above climb group next up in
         let none : group.superior ≡ None = (tree.root_alone current group here).1 v.1 in
@@ -97,7 +98,7 @@ steps_next groups tree climb current next group steps here up has there =
         let one : r.0 ≡ group = (let a = r.1 in cc) in
         let some : r.0.superior ≡ Some next = ap (λ g. g.superior) one ∙ superior-above climb group next up in
         let it : n ≡ next = (let a : r.0.superior ≡ Some n = r.2 in cc) in
-        (others, subst (λ x. IsWay IsUnder groups x others root_name) it v.1, omega (arith, fits))
+        (others, subst (λ x. IsWay IsUnder groups x others sys1.id) it v.1, omega (arith, fits))
 
 pub steps_all : (climb : Climb) (groups : List Group) (current to : List ℕ) (steps : ℕ) → length groups ≤ steps → HasSteps groups current steps → LeadsUp climb groups current to → ⊥
 steps_all climb groups current to steps all has w =

@@ -10,7 +10,8 @@ use Rattle.std.proofs.lemmas.List.{length-map, map-append}
 use Rattle.std.proofs.lemmas.Map.Keys.{IsDistinct-push, IsDistinct-head, IsDistinct-tail, IsDistinct-cons}
 use Rattle.std.proofs.lemmas.List.Filters.{length-filter_both}
 use Rattle.racf_profiles.specs.declared.groups.Group.{Group}
-use Rattle.group_tree.specs.Groups.{find_group, IsGroup, root_name, first_absent, first_subgroup, with_group, at_group, with_superior, with_owner}
+use Rattle.racf_profiles.specs.NewDatabase.{sys1}
+use Rattle.group_tree.specs.Groups.{find_group, IsGroup, first_absent, first_subgroup, with_group, at_group, with_superior, with_owner}
 use Rattle.racf_profiles.specs.Lookup.{is_group}
 use Rattle.racf_profiles.specs.Edits.{drop_row}
 use Rattle.group_tree.specs.Scope.{IsWay, IsUnder, IsWithin}
@@ -61,11 +62,11 @@ module _ (groups : List Group) (tree : IsTree groups) (group superior owner : Li
   row : Group
   row = record { id = group; superior = Some superior; owner = owner }
 
-  stays : (id : List ℕ) (others : List (List ℕ)) → IsWay IsUnder groups id others root_name → IsWay IsUnder (with_group groups group superior owner) id others root_name
+  stays : (id : List ℕ) (others : List (List ℕ)) → IsWay IsUnder groups id others sys1.id → IsWay IsUnder (with_group groups group superior owner) id others sys1.id
   unfolding row
   stays id others w = way-kept IsUnder groups (with_group groups group superior owner)
       (λ x g h. holds_of (find_group (with_group groups group superior owner) x) (λ r. (next : List ℕ) → IsUnder g next → IsUnder r next) g (find_group-push_other groups row x g h) (λ n u. u))
-      id others root_name w
+      id others sys1.id w
 
   there_or_new : (id : List ℕ) (g : Group) → find_group (with_group groups group superior owner) id ≡ Some g → (o : Option Group) → find_group groups id ≡ o → (find_group groups id ≡ Some g) ⊎ ((id ≡ group) × (g ≡ row))
   unfolding row
@@ -80,8 +81,8 @@ module _ (groups : List Group) (tree : IsTree groups) (group superior owner : Li
         subst (IsDistinct bytes_eq) (sym names) (IsDistinct-push nat_list_eq_equiv (map (λ (g : Group). g.id) groups) group tree.distinct (is_member-names groups group ∙ ap is_some can.name_free));
     most = omega (arith, can.room, length-append groups (row ∷ []));
     root =
-        let r = some_of (find_group groups root_name) tree.root in
-        ap is_some (find_group-push_other groups row root_name r.0 r.1);
+        let r = some_of (find_group groups sys1.id) tree.root in
+        ap is_some (find_group-push_other groups row sys1.id r.0 r.1);
     root_alone = λ id g h. ⊎_elim (λ e. tree.root_alone id g e) (λ n. new_root id g n.0 n.1) (there_or_new id g h (find_group groups id) refl);
     upwards = λ id h.
         let g = some_of (find_group (with_group groups group superior owner) id) h in
@@ -93,7 +94,7 @@ module _ (groups : List Group) (tree : IsTree groups) (group superior owner : Li
           record { others = superior ∷ w.others; way = (holds_of (find_group (with_group groups group superior owner) id) (λ r. IsUnder r superior) row here refl, stays superior w.others w.way) })
         (there_or_new id g.0 g.1 (find_group groups id) refl) }
     where
-      new_root : (id : List ℕ) (g : Group) → id ≡ group → g ≡ record { id = group; superior = Some superior; owner = owner } → ((g.superior ≡ None) ↔ (id ≡ root_name))
+      new_root : (id : List ℕ) (g : Group) → id ≡ group → g ≡ record { id = group; superior = Some superior; owner = owner } → ((g.superior ≡ None) ↔ (id ≡ sys1.id))
       new_root id g n e =
           let some : g.superior ≡ Some superior = ap (λ r. r.superior) e in
           (λ none. cc, λ r. absurd (true≢false (sym tree.root ∙ ap (λ x. is_some (find_group groups x)) (sym r ∙ n) ∙ ap is_some can.name_free)))
@@ -138,21 +139,21 @@ module _ (groups : List Group) (tree : IsTree groups) (group owner : List ℕ) w
   tree-with_owner = record {
     distinct = subst (IsDistinct bytes_eq) (sym (names-at_group (with_owner owner) (λ g. refl) group groups)) tree.distinct;
     most = omega (arith, tree.most, length-map {A = Group} {B = Group} groups (λ g. cond (bytes_eq g.id group) (with_owner owner g) g));
-    root = is_some-at_group (with_owner owner) (λ g. refl) group groups root_name ∙ tree.root;
+    root = is_some-at_group (with_owner owner) (λ g. refl) group groups sys1.id ∙ tree.root;
     root_alone = λ id h e.
         let g = find_group-at_group_back (with_owner owner) (λ g. refl) group groups id h e in
         let up : h.superior ≡ g.0.superior = ap (λ r. r.superior) (sym g.2) ∙ new_owner (bytes_eq id group) g.0 in
-        subst (λ s. (s ≡ None) ↔ (id ≡ root_name)) (sym up) (tree.root_alone id g.0 g.1);
+        subst (λ s. (s ≡ None) ↔ (id ≡ sys1.id)) (sym up) (tree.root_alone id g.0 g.1);
     upwards = λ id h.
         let w = tree.upwards id (sym (is_some-at_group (with_owner owner) (λ g. refl) group groups id) ∙ h) in
         record {
           others = w.others;
           way = way-kept IsUnder groups (at_group group (with_owner owner) groups)
               (λ x g e. holds_of (find_group (at_group group (with_owner owner) groups) x) (λ r. (next : List ℕ) → IsUnder g next → IsUnder r next) (cond (bytes_eq x group) (with_owner owner g) g) (find_group-at_group (with_owner owner) (λ g. refl) group groups x g e) (λ n u. new_owner (bytes_eq x group) g ∙ u))
-              id w.others root_name w.way } }
+              id w.others sys1.id w.way } }
 
 -- another superior group
-module _ (groups : List Group) (tree : IsTree groups) (group superior : List ℕ) (can : CanMove groups group superior) (below : group ≡ root_name → ⊥) where
+module _ (groups : List Group) (tree : IsTree groups) (group superior : List ℕ) (can : CanMove groups group superior) (below : group ≡ sys1.id → ⊥) where
   moved : List Group
   moved = at_group group (with_superior superior) groups
 
@@ -165,7 +166,7 @@ module _ (groups : List Group) (tree : IsTree groups) (group superior : List ℕ
   moved_here id g e h = find_group-at_group (with_superior superior) (λ g. refl) group groups id g h ∙ ap (λ b. Some (cond b (with_superior superior g) g)) e
 
   -- a way that doesn't meet the group stays
-  way-apart : (id : List ℕ) (others : List (List ℕ)) → (IsWithin groups group id → ⊥) → IsWay IsUnder groups id others root_name → IsWay IsUnder moved id others root_name
+  way-apart : (id : List ℕ) (others : List (List ℕ)) → (IsWithin groups group id → ⊥) → IsWay IsUnder groups id others sys1.id → IsWay IsUnder moved id others sys1.id
   way-apart id [] away w =
       let g = some_of (find_group groups id) w.0 in
       let other : bytes_eq id group ≡ false = apart id group (λ e. below (sym e ∙ w.1)) in
@@ -177,14 +178,14 @@ module _ (groups : List Group) (tree : IsTree groups) (group superior : List ℕ
       , way-apart next others (λ i. away (record { others = next ∷ i.others; way = (w.0, i.way) })) w.1 )
 
   -- and one that meets it goes on by the new superior group
-  way-moved : (id : List ℕ) (others : List (List ℕ)) → IsWay IsUnder groups id others root_name → IsWithin moved root_name superior → IsWithin moved root_name id
+  way-moved : (id : List ℕ) (others : List (List ℕ)) → IsWay IsUnder groups id others sys1.id → IsWithin moved sys1.id superior → IsWithin moved sys1.id id
   way-moved id [] w s =
       let g = some_of (find_group groups id) w.0 in
       let other : bytes_eq id group ≡ false = apart id group (λ e. below (sym e ∙ w.1)) in
       record { others = []; way = (ap is_some (moved_other id g.0 other g.1), w.1) }
   way-moved id (next ∷ others) w s = by (bytes_eq id group) refl (way-moved next others w.1 s)
     where
-      by : (b : Bool) → bytes_eq id group ≡ b → IsWithin moved root_name next → IsWithin moved root_name id
+      by : (b : Bool) → bytes_eq id group ≡ b → IsWithin moved sys1.id next → IsWithin moved sys1.id id
       by true e rest =
           let g = value_of (find_group groups id) (λ r. IsUnder r next) w.0 in
           record { others = superior ∷ s.others; way = (holds_of (find_group moved id) (λ r. IsUnder r superior) (with_superior superior g.0) (moved_here id g.0 e g.1) refl, s.way) }
@@ -192,18 +193,18 @@ module _ (groups : List Group) (tree : IsTree groups) (group superior : List ℕ
           let g = value_of (find_group groups id) (λ r. IsUnder r next) w.0 in
           record { others = next ∷ rest.others; way = (holds_of (find_group moved id) (λ r. IsUnder r next) g.0 (moved_other id g.0 e g.1) g.2, rest.way) }
 
-  moved_root : (id : List ℕ) (g h : Group) → find_group groups id ≡ Some g → (b : Bool) → bytes_eq id group ≡ b → cond b (with_superior superior g) g ≡ h → ((h.superior ≡ None) ↔ (id ≡ root_name))
+  moved_root : (id : List ℕ) (g h : Group) → find_group groups id ≡ Some g → (b : Bool) → bytes_eq id group ≡ b → cond b (with_superior superior g) g ≡ h → ((h.superior ≡ None) ↔ (id ≡ sys1.id))
   moved_root id g h there true e f =
       let some : h.superior ≡ Some superior = ap (λ r. r.superior) (sym f) in
       (λ none. cc, λ r. absurd (below (sym (same id group e) ∙ r)))
-  moved_root id g h there false e f = subst (λ r. (r.superior ≡ None) ↔ (id ≡ root_name)) f (tree.root_alone id g there)
+  moved_root id g h there false e f = subst (λ r. (r.superior ≡ None) ↔ (id ≡ sys1.id)) f (tree.root_alone id g there)
 
   pub tree-with_superior : IsTree (at_group group (with_superior superior) groups)
   unfolding moved
   tree-with_superior = record {
     distinct = subst (IsDistinct bytes_eq) (sym (names-at_group (with_superior superior) (λ g. refl) group groups)) tree.distinct;
     most = omega (arith, tree.most, length-map {A = Group} {B = Group} groups (λ g. cond (bytes_eq g.id group) (with_superior superior g) g));
-    root = is_some-at_group (with_superior superior) (λ g. refl) group groups root_name ∙ tree.root;
+    root = is_some-at_group (with_superior superior) (λ g. refl) group groups sys1.id ∙ tree.root;
     root_alone = λ id h e.
         let g = find_group-at_group_back (with_superior superior) (λ g. refl) group groups id h e in
         moved_root id g.0 h g.1 (bytes_eq id group) refl g.2;
@@ -242,8 +243,8 @@ distinct-drop gone (g ∷ gs) h = by (not (bytes_eq g.id gone)) (distinct-drop g
     by true rest = IsDistinct-cons bytes_eq g.id (map (λ (r : Group). r.id) (drop_row (is_group gone) gs)) (all-drop (λ y. bytes_eq g.id y ≡ false) gone gs (IsDistinct-head bytes_eq g.id (map (λ (r : Group). r.id) gs) h)) rest
     by false rest = rest
 
-module _ (groups : List Group) (tree : IsTree groups) (gone : List ℕ) (can : CanRemove groups gone) (below : gone ≡ root_name → ⊥) where
-  way-left : (id : List ℕ) (others : List (List ℕ)) → bytes_eq id gone ≡ false → IsWay IsUnder groups id others root_name → IsWay IsUnder (drop_row (is_group gone) groups) id others root_name
+module _ (groups : List Group) (tree : IsTree groups) (gone : List ℕ) (can : CanRemove groups gone) (below : gone ≡ sys1.id → ⊥) where
+  way-left : (id : List ℕ) (others : List (List ℕ)) → bytes_eq id gone ≡ false → IsWay IsUnder groups id others sys1.id → IsWay IsUnder (drop_row (is_group gone) groups) id others sys1.id
   way-left id [] other w = (ap is_some (find_group-drop_other gone groups id other) ∙ w.0, w.1)
   way-left id (next ∷ others) other w =
       let g = value_of (find_group groups id) (λ r. IsUnder r next) w.0 in
@@ -260,7 +261,7 @@ module _ (groups : List Group) (tree : IsTree groups) (gone : List ℕ) (can : C
   tree-drop = record {
     distinct = distinct-drop gone groups tree.distinct;
     most = omega (arith, tree.most, length-filter_both (λ (g : Group). not (bytes_eq g.id gone)) (λ (g : Group). not (not (bytes_eq g.id gone))) (λ g. refl) groups);
-    root = ap is_some (find_group-drop_other gone groups root_name (apart root_name gone (λ e. below (sym e)))) ∙ tree.root;
+    root = ap is_some (find_group-drop_other gone groups sys1.id (apart sys1.id gone (λ e. below (sym e)))) ∙ tree.root;
     root_alone = λ id g h. tree.root_alone id g (left id g h (bytes_eq id gone) refl).1;
     upwards = λ id h.
         let g = some_of (find_group (drop_row (is_group gone) groups) id) h in

@@ -9,7 +9,8 @@ use Rattle.std.proofs.lemmas.Map.Keys.{IsDistinct-cons}
 use Rattle.std.proofs.lemmas.Map.Made.{length-le_from_is_member}
 use Rattle.std.proofs.lemmas.List.{length-map}
 use Rattle.racf_profiles.specs.declared.groups.Group.{Group}
-use Rattle.group_tree.specs.Groups.{find_group, IsGroup, root_name}
+use Rattle.racf_profiles.specs.NewDatabase.{sys1}
+use Rattle.group_tree.specs.Groups.{find_group, IsGroup}
 use Rattle.group_tree.specs.Scope.{IsWay, IsUnder, IsUnderOwner, IsWithin, InScopeGroup}
 use Rattle.group_tree.specs.Lawful.{IsTree, IsBelow}
 use Rattle.group_tree.proofs.Rows.{same, turned, apart, value_of, holds_of, some_of, id-find_group}
@@ -46,9 +47,9 @@ unfolding IsDistinct
 distinct_nil = tt
 
 -- ---- the way to the root
-module _ (groups : List Group) (root_alone : (id : List ℕ) (group : Group) → find_group groups id ≡ Some group → ((group.superior ≡ None) ↔ (id ≡ root_name))) where
+module _ (groups : List Group) (root_alone : (id : List ℕ) (group : Group) → find_group groups id ≡ Some group → ((group.superior ≡ None) ↔ (id ≡ sys1.id))) where
   -- all that one group has are equally long
-  pub length-way : (id : List ℕ) (xs ys : List (List ℕ)) → IsWay IsUnder groups id xs root_name → IsWay IsUnder groups id ys root_name → length xs ≡ length ys
+  pub length-way : (id : List ℕ) (xs ys : List (List ℕ)) → IsWay IsUnder groups id xs sys1.id → IsWay IsUnder groups id ys sys1.id → length xs ≡ length ys
   length-way id [] [] v w = refl
   length-way id [] (y ∷ ys) v w =
       let g = value_of (find_group groups id) (λ g. IsUnder g y) w.0 in
@@ -63,17 +64,17 @@ module _ (groups : List Group) (root_alone : (id : List ℕ) (group : Group) →
       let h = value_of (find_group groups id) (λ g. IsUnder g y) w.0 in
       let row : g.0 ≡ h.0 = (let a = g.1 in let b = h.1 in cc) in
       let one : x ≡ y = (let a : g.0.superior ≡ Some x = g.2 in let b : h.0.superior ≡ Some y = h.2 in let c : g.0.superior ≡ h.0.superior = ap (λ r. r.superior) row in cc) in
-      ap suc (length-way x xs ys v.1 (subst (λ z. IsWay IsUnder groups z ys root_name) (sym one) w.1))
+      ap suc (length-way x xs ys v.1 (subst (λ z. IsWay IsUnder groups z ys sys1.id) (sym one) w.1))
 
   -- no group is met on a shorter way than its own
-  pub not_met : (id : List ℕ) (own : List (List ℕ)) → IsWay IsUnder groups id own root_name → (first : List ℕ) (others : List (List ℕ)) → IsWay IsUnder groups first others root_name → length others < length own → AllByRecursion (λ y. bytes_eq id y ≡ false) (first ∷ others)
-  not_met id own v first [] w less = (apart id first (λ e. absurd (omega (arith, length-way id own [] v (subst (λ z. IsWay IsUnder groups z [] root_name) (sym e) w), less))), tt)
+  pub not_met : (id : List ℕ) (own : List (List ℕ)) → IsWay IsUnder groups id own sys1.id → (first : List ℕ) (others : List (List ℕ)) → IsWay IsUnder groups first others sys1.id → length others < length own → AllByRecursion (λ y. bytes_eq id y ≡ false) (first ∷ others)
+  not_met id own v first [] w less = (apart id first (λ e. absurd (omega (arith, length-way id own [] v (subst (λ z. IsWay IsUnder groups z [] sys1.id) (sym e) w), less))), tt)
   not_met id own v first (y ∷ ys) w less =
-      ( apart id first (λ e. absurd (omega (arith, length-way id own (y ∷ ys) v (subst (λ z. IsWay IsUnder groups z (y ∷ ys) root_name) (sym e) w), less)))
+      ( apart id first (λ e. absurd (omega (arith, length-way id own (y ∷ ys) v (subst (λ z. IsWay IsUnder groups z (y ∷ ys) sys1.id) (sym e) w), less)))
       , not_met id own v y ys w.1 (omega (arith, less)) )
 
   -- so no group is met twice on it
-  pub distinct-way : (id : List ℕ) (others : List (List ℕ)) → IsWay IsUnder groups id others root_name → IsDistinct bytes_eq (id ∷ others)
+  pub distinct-way : (id : List ℕ) (others : List (List ℕ)) → IsWay IsUnder groups id others sys1.id → IsDistinct bytes_eq (id ∷ others)
   distinct-way id [] w = IsDistinct-cons bytes_eq id [] tt distinct_nil
   distinct-way id (y ∷ ys) w = IsDistinct-cons bytes_eq id (y ∷ ys) (not_met id (y ∷ ys) w y ys w.1 (omega arith)) (distinct-way y ys w.1)
 
@@ -98,9 +99,9 @@ members-way groups id (y ∷ ys) last w q m =
     (or_cases (bytes_eq q id) (is_member bytes_eq (y ∷ ys) q) m)
 
 -- a way to the root is no longer than the list of the groups
-pub length-way_le : (groups : List Group) → IsTree groups → (id : List ℕ) (others : List (List ℕ)) → IsWay IsUnder groups id others root_name → length others < length groups
+pub length-way_le : (groups : List Group) → IsTree groups → (id : List ℕ) (others : List (List ℕ)) → IsWay IsUnder groups id others sys1.id → length others < length groups
 length-way_le groups tree id others w =
-    let all = length-le_from_is_member nat_list_eq_equiv (id ∷ others) (map (λ (g : Group). g.id) groups) (distinct-way groups tree.root_alone id others w) (λ q m. is_member-names groups q ∙ members-way groups id others root_name w q m) in
+    let all = length-le_from_is_member nat_list_eq_equiv (id ∷ others) (map (λ (g : Group). g.id) groups) (distinct-way groups tree.root_alone id others w) (λ q m. is_member-names groups q ∙ members-way groups id others sys1.id w q m) in
     omega (arith, all, length-map {A = Group} {B = List ℕ} groups (λ g. g.id))
 
 -- no group is below itself
@@ -110,6 +111,6 @@ none_below_itself groups tree id below =
     let up = value_of row.0.superior (IsWithin groups id) row.2 in
     let there : IsGroup groups id = ap is_some row.1 in
     let own = tree.upwards id there in
-    let back = way-append IsUnder groups up.0 up.2.others id own.others root_name up.2.way own.way in
-    let round : IsWay IsUnder groups id (up.0 ∷ (up.2.others ++ own.others)) root_name = (holds_of (find_group groups id) (λ g. IsUnder g up.0) row.0 row.1 up.1, back) in
+    let back = way-append IsUnder groups up.0 up.2.others id own.others sys1.id up.2.way own.way in
+    let round : IsWay IsUnder groups id (up.0 ∷ (up.2.others ++ own.others)) sys1.id = (holds_of (find_group groups id) (λ g. IsUnder g up.0) row.0 row.1 up.1, back) in
     omega (arith, length-way groups tree.root_alone id (up.0 ∷ (up.2.others ++ own.others)) own.others round own.way, length-append up.2.others own.others)

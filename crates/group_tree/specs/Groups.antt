@@ -1,5 +1,5 @@
 -- The list of the groups, each with its superior group and its owner, and how a call changes it.
-use Rattle.std.specs.Prelude.{ℕ, List, [], ◌∷◌, ◌++◌, map, find, not, if◌then◌else◌, Option, Some, IsSome, is_some, bytes_eq, codes}
+use Rattle.std.specs.Prelude.{ℕ, List, [], ◌∷◌, ◌++◌, map, find, not, if◌then◌else◌, Option, Some, IsSome, is_some, bytes_eq}
 use Rattle.std.specs.Option.{option_eq}
 use Rattle.racf_profiles.specs.declared.groups.Group.{Group}
 use Rattle.racf_profiles.specs.Lookup.{is_group}
@@ -9,13 +9,6 @@ use Rattle.racf_profiles.specs.Lookup.{is_group}
 pub record GroupTree : Type 0 where
   pub groups : List Group
   pub spare : ℕ
-
--- The group that all others are below, and the user who owns it in a new tree.
-abbrev pub root_name : List ℕ
-root_name = codes "SYS1"
-
-abbrev pub first_owner : List ℕ
-first_owner = codes "IBMUSER"
 
 -- The group of that name.
 abbrev pub find_group : List Group → List ℕ → Option Group

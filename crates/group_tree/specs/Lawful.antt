@@ -2,7 +2,8 @@
 use Rattle.std.specs.Prelude.{◌≡◌, ℕ, ◌≤◌, ◌↔◌, List, map, length, Option, Some, None, IsSomeAnd, bytes_eq}
 use Rattle.std.specs.List.{IsDistinct}
 use Rattle.racf_profiles.specs.declared.groups.Group.{Group}
-use Rattle.group_tree.specs.Groups.{find_group, IsGroup, root_name}
+use Rattle.racf_profiles.specs.NewDatabase.{sys1}
+use Rattle.group_tree.specs.Groups.{find_group, IsGroup}
 use Rattle.group_tree.specs.Scope.{IsWithin}
 
 -- The most groups that a tree has.
@@ -14,9 +15,9 @@ most_groups = 8000
 pub record IsTree (groups : List Group) : Type 0 where
   pub distinct : IsDistinct bytes_eq (map (λ group. group.id) groups)
   pub most : length groups ≤ most_groups
-  pub root : IsGroup groups root_name
-  pub root_alone : (id : List ℕ) (group : Group) → find_group groups id ≡ Some group → ((group.superior ≡ None) ↔ (id ≡ root_name))
-  pub upwards : (id : List ℕ) → IsGroup groups id → IsWithin groups root_name id
+  pub root : IsGroup groups sys1.id
+  pub root_alone : (id : List ℕ) (group : Group) → find_group groups id ≡ Some group → ((group.superior ≡ None) ↔ (id ≡ sys1.id))
+  pub upwards : (id : List ℕ) → IsGroup groups id → IsWithin groups sys1.id id
 
 -- The group is below `top`: its superior group is `top` or below it.
 abbrev pub IsBelow : List Group → (top group : List ℕ) → Type 0

@@ -2,7 +2,8 @@
 ghost use Rattle.access_levels.specs.Spelling.{id_of};
 ghost use Rattle.std.specs.Prelude.{◌≡◌, ℕ, ◌<◌, List, ◌∷◌, [], length, slice_get, Ok, Some, None, IfOk, IfErr};
 ghost use Rattle.std.specs.Option.{option_copied};
-ghost use Rattle.group_tree.specs.Groups.{root_name, first_owner, find_group};
+ghost use Rattle.racf_profiles.specs.NewDatabase.{sys1};
+ghost use Rattle.group_tree.specs.Groups.{find_group};
 ghost use Rattle.group_tree.specs.Lawful.{IsTree, IsBelow};
 
 mod changes;
@@ -45,7 +46,7 @@ impl Tree {
     ///
     /// `NoMemory` alone.
     pub fn new(alloc: Global) -> Result<Tree, TreeFault>
-        ensures made { IfOk result (λ tree. tree.groups ≡ record { id = root_name; superior = None; owner = first_owner } ∷ []) }
+        ensures made { IfOk result (λ tree. tree ≡ record { groups = sys1 ∷ []; spare = 0 }) }
         ensures refused { IfErr result (λ fault. fault ≡ TreeFault.NoMemory) }
     {
         let root = Group {

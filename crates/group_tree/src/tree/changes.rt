@@ -3,7 +3,8 @@ ghost use Rattle.std.specs.Prelude.{◌≡◌, ◌≢◌, ◌-◌, ◌∷◌, []
 ghost use Rattle.std.specs.Option.{option_map};
 ghost use Rattle.racf_profiles.specs.Lookup.{is_group};
 ghost use Rattle.racf_profiles.specs.Edits.{drop_row};
-ghost use Rattle.group_tree.specs.Groups.{root_name, find_group, first_subgroup, with_group, at_group, with_superior, with_owner};
+ghost use Rattle.racf_profiles.specs.NewDatabase.{sys1};
+ghost use Rattle.group_tree.specs.Groups.{find_group, first_subgroup, with_group, at_group, with_superior, with_owner};
 ghost use Rattle.group_tree.specs.Answers.{CanAdd, AddRefused, CanMove, MoveRefused, OwnerRefused, CanRemove, RemoveRefused};
 
 use access_levels::Id;
@@ -58,7 +59,7 @@ impl Tree {
     /// The first that fits of: `NoGroup` of the group, `NoGroup` of the superior group, `Cycle` of the group, where
     /// the superior group is the group or below it.
     pub fn set_superior(&mut self, group: Id, superior: Id) -> Result<(), TreeFault>
-        requires { group ≢ root_name }
+        requires { group ≢ sys1.id }
         ensures accepted { OnOk result (CanMove self.old.groups group superior) }
         ensures groups { OnOk result (self.new.groups ≡ at_group group (with_superior superior) self.old.groups) }
         ensures spare { self.new.spare ≡ self.old.spare }
@@ -106,7 +107,7 @@ impl Tree {
     /// The first that fits of: `NoGroup` of the group, `HasSubgroup` of the first group, in order of definition, that
     /// has it as its superior group.
     pub fn remove(&mut self, group: Id) -> Result<(), TreeFault>
-        requires { group ≢ root_name }
+        requires { group ≢ sys1.id }
         ensures accepted { OnOk result (CanRemove self.old.groups group) }
         ensures groups { OnOk result (self.new.groups ≡ drop_row (is_group group) self.old.groups) }
         ensures spare { self.new.spare ≡ self.old.spare }

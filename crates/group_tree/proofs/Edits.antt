@@ -89,10 +89,11 @@ module _ (groups : List Group) (tree : IsTree groups) (group superior owner : Li
         ⊎_elim
         (λ e. let w = tree.upwards id (ap is_some e) in record { others = w.others; way = stays id w.others w.way })
         (λ n.
-          let w = tree.upwards superior (there_one groups superior can.superior_there) in
-          let here : find_group (with_group groups group superior owner) id ≡ Some row = subst (λ i. find_group (with_group groups group superior owner) i ≡ Some row) (sym n.0) (find_group-push_here groups row can.name_free) in
-          record { others = superior ∷ w.others; way = (holds_of (find_group (with_group groups group superior owner) id) (λ r. IsUnder r superior) row here refl, stays superior w.others w.way) })
-        (there_or_new id g.0 g.1 (find_group groups id) refl) }
+        let w = tree.upwards superior (there_one groups superior can.superior_there) in
+        let here : find_group (with_group groups group superior owner) id ≡ Some row = subst (λ i. find_group (with_group groups group superior owner) i ≡ Some row) (sym n.0) (find_group-push_here groups row can.name_free) in
+        record { others = superior ∷ w.others; way = (holds_of (find_group (with_group groups group superior owner) id) (λ r. IsUnder r superior) row here refl, stays superior w.others w.way) })
+        (there_or_new id g.0 g.1 (find_group groups id) refl);
+  }
     where
       new_root : (id : List ℕ) (g : Group) → id ≡ group → g ≡ record { id = group; superior = Some superior; owner = owner } → ((g.superior ≡ None) ↔ (id ≡ sys1.id))
       new_root id g n e =
@@ -150,7 +151,9 @@ module _ (groups : List Group) (tree : IsTree groups) (group owner : List ℕ) w
           others = w.others;
           way = way-kept IsUnder groups (at_group group (with_owner owner) groups)
               (λ x g e. holds_of (find_group (at_group group (with_owner owner) groups) x) (λ r. (next : List ℕ) → IsUnder g next → IsUnder r next) (cond (bytes_eq x group) (with_owner owner g) g) (find_group-at_group (with_owner owner) (λ g. refl) group groups x g e) (λ n u. new_owner (bytes_eq x group) g ∙ u))
-              id w.others sys1.id w.way } }
+              id w.others sys1.id w.way;
+        };
+  }
 
 -- another superior group
 module _ (groups : List Group) (tree : IsTree groups) (group superior : List ℕ) (can : CanMove groups group superior) (below : group ≡ sys1.id → ⊥) where
@@ -173,9 +176,10 @@ module _ (groups : List Group) (tree : IsTree groups) (group superior : List ℕ
       (ap is_some (moved_other id g.0 other g.1), w.1)
   way-apart id (next ∷ others) away w =
       let g = value_of (find_group groups id) (λ r. IsUnder r next) w.0 in
-      let other : bytes_eq id group ≡ false = apart id group (λ e. away (record { others = []; way = (ap is_some g.1, e) })) in
-      ( holds_of (find_group moved id) (λ r. IsUnder r next) g.0 (moved_other id g.0 other g.1) g.2
-      , way-apart next others (λ i. away (record { others = next ∷ i.others; way = (w.0, i.way) })) w.1 )
+      let other : bytes_eq id group ≡ false = apart id group (λ e. away (record { others = []; way = (ap is_some g.1, e) })) in (
+        holds_of (find_group moved id) (λ r. IsUnder r next) g.0 (moved_other id g.0 other g.1) g.2,
+        way-apart next others (λ i. away (record { others = next ∷ i.others; way = (w.0, i.way) })) w.1,
+      )
 
   -- and one that meets it goes on by the new superior group
   way-moved : (id : List ℕ) (others : List (List ℕ)) → IsWay IsUnder groups id others sys1.id → IsWithin moved sys1.id superior → IsWithin moved sys1.id id
@@ -211,7 +215,8 @@ module _ (groups : List Group) (tree : IsTree groups) (group superior : List ℕ
     upwards = λ id h.
         let w = tree.upwards id (sym (is_some-at_group (with_superior superior) (λ g. refl) group groups id) ∙ h) in
         let s = tree.upwards superior ((there_two groups group superior can.both_there).1) in
-        way-moved id w.others w.way (record { others = s.others; way = way-apart superior s.others can.no_cycle s.way }) }
+        way-moved id w.others w.way (record { others = s.others; way = way-apart superior s.others can.no_cycle s.way });
+  }
 
 -- ---- a group taken away
 -- no superior group has a name that no group has as its superior group
@@ -267,4 +272,5 @@ module _ (groups : List Group) (tree : IsTree groups) (gone : List ℕ) (can : C
         let g = some_of (find_group (drop_row (is_group gone) groups) id) h in
         let old = left id g.0 g.1 (bytes_eq id gone) refl in
         let w = tree.upwards id (ap is_some old.1) in
-        record { others = w.others; way = way-left id w.others old.0 w.way } }
+        record { others = w.others; way = way-left id w.others old.0 w.way };
+  }

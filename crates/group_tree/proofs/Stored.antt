@@ -64,7 +64,7 @@ module _ (change : Group → Group) (id : List ℕ) where
           let here : e.1 ≡ row = cc in
           let name : id ≡ e.1.id = same id e.0 t ∙ named-head e es named in
           let none : AllByRecursion (λ y. bytes_eq id y ≡ false) (map (λ (g : Group). g.id) (values_of es)) =
-              subst (λ n. AllByRecursion (λ y. bytes_eq n y ≡ false) (map (λ (g : Group). g.id) (values_of es))) (sym name) (IsDistinct-head bytes_eq e.1.id (map (λ (g : Group). g.id) (values_of es)) distinct) in
+          subst (λ n. AllByRecursion (λ y. bytes_eq n y ≡ false) (map (λ (g : Group). g.id) (values_of es))) (sym name) (IsDistinct-head bytes_eq e.1.id (map (λ (g : Group). g.id) (values_of es)) distinct) in
           ap (λ b. values_of (cond b ((e.0, change row) ∷ es) (e ∷ set_value (bytes_eq id) es (change row)))) t
           ∙ ap (λ r. change r ∷ values_of es) (sym here)
           ∙ ap (λ rest. change e.1 ∷ rest) (sym (at_group-absent (values_of es) none))
@@ -97,7 +97,7 @@ module _ (id : List ℕ) where
       by true t rest =
           let name : id ≡ e.1.id = same id e.0 t ∙ named-head e es named in
           let none : AllByRecursion (λ y. bytes_eq id y ≡ false) (map (λ (g : Group). g.id) (values_of es)) =
-              subst (λ n. AllByRecursion (λ y. bytes_eq n y ≡ false) (map (λ (g : Group). g.id) (values_of es))) (sym name) (IsDistinct-head bytes_eq e.1.id (map (λ (g : Group). g.id) (values_of es)) distinct) in
+          subst (λ n. AllByRecursion (λ y. bytes_eq n y ≡ false) (map (λ (g : Group). g.id) (values_of es))) (sym name) (IsDistinct-head bytes_eq e.1.id (map (λ (g : Group). g.id) (values_of es)) distinct) in
           ap (λ b. values_of (cond b es (e ∷ remove_entry (bytes_eq id) es))) t
           ∙ sym (drop-absent (values_of es) none)
           ∙ ap (λ b. cond (not b) (e.1 ∷ drop_row (is_group id) (values_of es)) (drop_row (is_group id) (values_of es))) (sym (turned e.1.id id ∙ ap (bytes_eq id) (sym (named-head e es named)) ∙ t))

@@ -2,11 +2,10 @@
 ghost use Rattle.std.specs.Prelude.{◌≡◌, ◌↔◌, IsTrue};
 ghost use Rattle.group_tree.specs.Scope.{InScopeGroup, InScopeUser, InScopeProfile};
 
-use access_levels::Id;
-use racf_profiles::View;
-
 use crate::climb::Climb;
 use crate::tree::Tree;
+use access_levels::Id;
+use racf_profiles::View;
 
 impl Tree {
     /// Whether the group is in scope of `top`: it is `top`, or its owner is its superior group and that one is

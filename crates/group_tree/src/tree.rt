@@ -8,13 +8,12 @@ ghost use Rattle.group_tree.specs.Lawful.{IsTree, IsBelow};
 
 mod changes;
 
+use crate::faults::TreeFault;
 use access_levels::Id;
 use indexmap::IndexMap;
 use racf_profiles::Group;
 use std::alloc::Global;
 use std::marker::Model;
-
-use crate::faults::TreeFault;
 
 /// The most groups that a tree has (this product's own rule).
 const MOST_GROUPS: usize = 8000;

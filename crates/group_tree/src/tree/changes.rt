@@ -7,12 +7,11 @@ ghost use Rattle.racf_profiles.specs.NewDatabase.{sys1};
 ghost use Rattle.group_tree.specs.Groups.{find_group, first_subgroup, with_group, at_group, with_superior, with_owner};
 ghost use Rattle.group_tree.specs.Answers.{CanAdd, AddRefused, CanMove, MoveRefused, OwnerRefused, CanRemove, RemoveRefused};
 
-use access_levels::Id;
-use racf_profiles::Group;
-
 use super::{MOST_GROUPS, Tree};
 use crate::climb::Climb;
 use crate::faults::TreeFault;
+use access_levels::Id;
+use racf_profiles::Group;
 
 impl Tree {
     /// Adds a group below that superior group, as the last in order of definition. Any ID may own it. It takes no

@@ -1,5 +1,5 @@
 -- What edits do to rows.
-use Rattle.std.specs.Prelude.{ℕ, Bool, true, false, not, if◌then◌else◌, List, [], ◌∷◌, filter, map}
+use Rattle.std.specs.Prelude.{ℕ, Bool, true, false, if◌then◌else◌, List, [], ◌∷◌}
 use Rattle.generic_names.specs.Spelled.{Spelled}
 use Rattle.generic_names.specs.Before.{before}
 use Rattle.racf_profiles.specs.declared.users.User.{User}
@@ -18,9 +18,10 @@ abbrev pub put_row : {X : Type 0} → (X → Bool) → X → List X → List X
 put_row replaces row [] = row ∷ []
 put_row replaces row (other ∷ rows) = if replaces other then row ∷ rows else other ∷ put_row replaces row rows
 
--- The rows that a test doesn't name.
+-- The rows without the first that is to go.
 abbrev pub drop_row : {X : Type 0} → (X → Bool) → List X → List X
-drop_row drops rows = filter (λ row. not (drops row)) rows
+drop_row goes [] = []
+drop_row goes (row ∷ rows) = if goes row then rows else row ∷ drop_row goes rows
 
 -- A profile in place of the one of its name, or else before the first that is less specific.
 abbrev pub put_profile : Profile → List Profile → List Profile
@@ -29,7 +30,8 @@ put_profile profile (other ∷ profiles) = if is_profile profile.name other then
 
 -- A change of one class, by its name.
 abbrev pub at_class : List ℕ → (ClassRow → ClassRow) → List ClassRow → List ClassRow
-at_class name change classes = map (λ class. if is_class name class then change class else class) classes
+at_class name change [] = []
+at_class name change (class ∷ classes) = if is_class name class then change class ∷ classes else class ∷ at_class name change classes
 
 abbrev pub with_profile : Profile → ClassRow → ClassRow
 with_profile profile class = record class { profiles = put_profile profile class.profiles }

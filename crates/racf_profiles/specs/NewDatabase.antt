@@ -10,8 +10,7 @@ use Rattle.racf_profiles.specs.declared.class_rows.ClassRow.{ClassRow}
 use Rattle.racf_profiles.specs.declared.class_rows.LogOption.TheVariants.{ByProfile}
 use Rattle.racf_profiles.specs.declared.rows.Rows.{Rows}
 use Rattle.racf_profiles.specs.declared.fixed_classes.FixedClass.{FixedClass}
-use Rattle.racf_profiles.specs.declared.fixed_classes.FixedClass.TheVariants.{Dataset}
-use Rattle.racf_profiles.specs.ClassTable.{class_name, fixed_classes}
+use Rattle.racf_profiles.specs.ClassTable.{class_name, fixed_classes, is_dataset}
 
 -- IBMUSER may do everything, and is connected to SYS1, its default group, with JOIN.
 abbrev pub ibmuser_connect : Connect
@@ -50,9 +49,5 @@ abbrev pub new_rows : (FixedClass → Bool) → Rows
 new_rows is_active = record { users = ibmuser ∷ []; groups = sys1 ∷ []; classes = new_classes is_active; options = no_options }
 
 -- DATASET alone is active.
-abbrev pub is_dataset : FixedClass → Bool
-is_dataset Dataset = true
-is_dataset _ = false
-
 abbrev pub new_database : Rows
 new_database = new_rows is_dataset

@@ -25,7 +25,7 @@ restart rows = record { rows = rows; copies = map live_copy rows.classes }
 abbrev pub copy_at : List ℕ → (ClassRow → List Profile) → List ClassRow → List (List Profile) → List (List Profile)
 copy_at name copy [] copies = copies
 copy_at name copy (class ∷ classes) [] = []
-copy_at name copy (class ∷ classes) (old ∷ copies) = (if is_class name class then copy class else old) ∷ copy_at name copy classes copies
+copy_at name copy (class ∷ classes) (old ∷ copies) = if is_class name class then copy class ∷ copies else old ∷ copy_at name copy classes copies
 
 abbrev pub copies_after : Edit → State → List (List Profile)
 copies_after (ListCopy class) state = copy_at class (λ row. row.profiles) state.rows.classes state.copies

@@ -1,11 +1,12 @@
 //! The rows of a database.
 ghost use Rattle.std.specs.Prelude.{◌≡◌, IfOk};
-ghost use Rattle.racf_profiles.specs.NewDatabase.{new_database, ibmuser, is_dataset, empty_class, new_classes};
+ghost use Rattle.racf_profiles.specs.NewDatabase.{new_database, ibmuser, empty_class, new_classes};
+ghost use Rattle.racf_profiles.specs.ClassTable.{is_dataset};
 
 use crate::class_rows::{ClassRow, ClassRows, LogOption};
 use crate::fixed_classes::FixedClass;
-use crate::known::{ibmuser, sys1};
 use crate::groups::{Group, Groups};
+use crate::known::{ibmuser, sys1};
 use crate::options::{CategoryNames, Options};
 use crate::profiles::Profiles;
 use crate::users::{Classes, Connect, Connects, NoMemory, User, Users};

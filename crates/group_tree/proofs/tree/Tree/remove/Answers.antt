@@ -12,7 +12,7 @@ use Rattle.group_tree.proofs.tree.Tree.remove.Goals as goal
 pub invariant_of-self : goal.invariant_of-self
 invariant_of-self c =
     let old = c.self.inside.groups in
-    let new = taken c.args.group old.entries c.shift_remove.new.self.entries c.self.invariant.named c.self.invariant.lawful.distinct c.shift_remove.ensures.entries in
+    let new = taken c.args.group old.entries c.shift_remove.new.self.entries c.self.invariant.named c.shift_remove.ensures.entries in
     let can : CanRemove c.args.self.now.groups c.args.group = record {
       there = one_there c.args.self.now.groups c.args.group c.in_ok-check_there.ensures.there;
       no_subgroup = none_from_map _ (first_subgroup c.args.self.now.groups c.args.group) (sym c.in-None.ensures);
@@ -25,5 +25,5 @@ invariant_of-self c =
 
 pub returns-in-None-clause-groups : goal.returns-in-None-clause-groups
 returns-in-None-clause-groups c =
-    let new = taken c.args.group c.self.inside.groups.entries c.shift_remove.new.self.entries c.self.invariant.named c.self.invariant.lawful.distinct c.shift_remove.ensures.entries in
+    let new = taken c.args.group c.self.inside.groups.entries c.shift_remove.new.self.entries c.self.invariant.named c.shift_remove.ensures.entries in
     new.0 ∙ ap (λ v. drop_row (is_group c.args.group) v.groups) c.self.view_is

@@ -4,8 +4,11 @@
 mod covering;
 mod fault;
 mod form;
+mod gap;
 mod kind;
+mod laws;
 mod member;
+mod order;
 mod pattern;
 mod qualifiers;
 mod reading;
@@ -17,3 +20,6 @@ pub use kind::NameKind;
 pub use member::MemberName;
 pub use pattern::Pattern;
 pub use resource::Resource;
+
+#[cfg(test)]
+mod tests;

@@ -2,10 +2,7 @@
 use Rattle.std.specs.Prelude.{ℕ, Bool, true, false, if◌then◌else◌, List, [], ◌∷◌}
 use Rattle.generic_names.specs.Spelled.{Spelled}
 use Rattle.generic_names.specs.Before.{before}
-use Rattle.racf_profiles.specs.declared.users.User.{User}
-use Rattle.racf_profiles.specs.declared.groups.Group.{Group}
 use Rattle.racf_profiles.specs.declared.profiles.Profile.{Profile}
-use Rattle.racf_profiles.specs.declared.options.Options.{Options}
 use Rattle.racf_profiles.specs.declared.class_rows.ClassRow.{ClassRow}
 use Rattle.racf_profiles.specs.declared.class_rows.LogOption.{LogOption}
 use Rattle.racf_profiles.specs.declared.rows.Rows.{Rows}

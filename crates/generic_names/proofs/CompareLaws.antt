@@ -1,5 +1,5 @@
 -- Lists of ranks, compared from the front.
-use Rattle.std.proofs.Common.{◌≡◌, ◌≢◌, ℕ, zero, suc, ◌+◌, ◌-◌, ◌<◌, ◌≤◌, Bool, true, false, cond, eqb, ltb, List, [], ◌∷◌, ◌++◌, length, take, drop, Ordering, refl, ap, sym, ◌∙◌, subst, arith, ⊎_elim, ◌⊎◌, inl, inr}
+use Rattle.std.proofs.Common.{◌≡◌, ◌≢◌, ℕ, suc, ◌-◌, ◌<◌, ◌≤◌, true, false, ltb, List, [], ◌∷◌, ◌++◌, length, take, Ordering, refl, ap, sym, ◌∙◌, subst, arith, ⊎_elim}
 use Rattle.std.specs.declared.cmp.Ordering.TheVariants.{Less, Equal, Greater}
 use Rattle.std.specs.Ordering.{nat_cmp, is_lt, ordering_then}
 use Rattle.std.specs.Cmp.Lexicographic.{slice_cmp}
@@ -34,7 +34,7 @@ not_below_nil (x ∷ xs) = refl
 pub is_lt-last : (x y : ℕ) (xs : List ℕ) → is_lt (slice_cmp nat_cmp (x ∷ xs) (y ∷ [])) ≡ ltb x y
 is_lt-last x y xs = ⊎_elim
     (λ (e : x ≡ y). let test : ltb x y ≡ false = grind (arith, nat_tests) in
-      subst (λ (z : ℕ). is_lt (slice_cmp nat_cmp (x ∷ xs) (z ∷ [])) ≡ false) e (ap is_lt (same_head x xs []) ∙ not_below_nil xs) ∙ sym test)
+    subst (λ (z : ℕ). is_lt (slice_cmp nat_cmp (x ∷ xs) (z ∷ [])) ≡ false) e (ap is_lt (same_head x xs []) ∙ not_below_nil xs) ∙ sym test)
     (λ (n : x ≡ y → ⊥). is_lt-heads x y xs [] n)
     (cases_eq x y)
 
@@ -50,22 +50,22 @@ pub between : (front : List ℕ) (low high : ℕ) (rest xs : List ℕ) → is_lt
 between [] low high rest [] h k = absurd (cc (h))
 between [] low high rest (x ∷ xs) h k =
     let low_test : ltb x low ≡ false = ⊎_elim
-        (λ (e : x ≡ low). (grind (arith, nat_tests)))
-        (λ (n : x ≡ low → ⊥). sym (is_lt-heads x low xs rest n) ∙ h)
-        (cases_eq x low) in
+    (λ (e : x ≡ low). (grind (arith, nat_tests)))
+    (λ (n : x ≡ low → ⊥). sym (is_lt-heads x low xs rest n) ∙ h)
+    (cases_eq x low) in
     let high_test : ltb x high ≡ true = sym (is_lt-last x high xs) ∙ k in
     record { rank = x; rest = xs; split = refl; from = grind (arith, nat_tests); below = grind (arith, nat_tests) }
 between (f ∷ front) low high rest [] h k = absurd (cc (h))
 between (f ∷ front) low high rest (x ∷ xs) h k = ⊎_elim
     (λ (e : x ≡ f).
-      let again = between front low high rest xs
-          (sym (ap is_lt (same_head f xs (front ++ low ∷ rest))) ∙ subst (λ (z : ℕ). is_lt (slice_cmp nat_cmp (z ∷ xs) (f ∷ (front ++ low ∷ rest))) ≡ false) e h)
-          (sym (ap is_lt (same_head f xs (front ++ high ∷ []))) ∙ subst (λ (z : ℕ). is_lt (slice_cmp nat_cmp (z ∷ xs) (f ∷ (front ++ high ∷ []))) ≡ true) e k) in
-      record { rank = again.rank; rest = again.rest; split = cc (e, again.split); from = again.from; below = again.below })
+    let again = between front low high rest xs
+    (sym (ap is_lt (same_head f xs (front ++ low ∷ rest))) ∙ subst (λ (z : ℕ). is_lt (slice_cmp nat_cmp (z ∷ xs) (f ∷ (front ++ low ∷ rest))) ≡ false) e h)
+    (sym (ap is_lt (same_head f xs (front ++ high ∷ []))) ∙ subst (λ (z : ℕ). is_lt (slice_cmp nat_cmp (z ∷ xs) (f ∷ (front ++ high ∷ []))) ≡ true) e k) in
+    record { rank = again.rank; rest = again.rest; split = cc (e, again.split); from = again.from; below = again.below })
     (λ (n : x ≡ f → ⊥). absurd (
-      let refused : ltb x f ≡ false = sym (is_lt-heads x f xs (front ++ low ∷ rest) n) ∙ h in
-      let met : ltb x f ≡ true = sym (is_lt-heads x f xs (front ++ high ∷ []) n) ∙ k in
-      cc (refused, met)))
+    let refused : ltb x f ≡ false = sym (is_lt-heads x f xs (front ++ low ∷ rest) n) ∙ h in
+    let met : ltb x f ≡ true = sym (is_lt-heads x f xs (front ++ high ∷ []) n) ∙ k in
+    cc (refused, met)))
     (cases_eq x f)
 
 -- the next rank is the first of those that are left

@@ -1,27 +1,25 @@
 -- Where a pattern can't be met by a name any more.
-use Rattle.std.proofs.Common.{◌≡◌, ◌≢◌, ℕ, zero, suc, ◌+◌, ◌-◌, ◌<◌, ◌≤◌, Bool, true, false, cond, not, ◌&&◌, ◌||◌, eqb, ltb, List, [], ◌∷◌, ◌++◌, map, length, take, drop, get_or, Ordering, append-nil, append_assoc, length-append, add-one, refl, ap, sym, ◌∙◌, subst, arith, ⊎_elim, ◌⊎◌, inl, inr}
-use Rattle.std.specs.declared.cmp.Ordering.TheVariants.{Less, Equal, Greater}
-use Rattle.std.specs.Ordering.{nat_cmp, is_lt, ordering_then}
+use Rattle.std.proofs.Common.{◌≡◌, ◌≢◌, ℕ, zero, suc, ◌+◌, ◌-◌, ◌<◌, ◌≤◌, Bool, true, false, cond, not, ◌&&◌, ◌||◌, eqb, List, [], ◌∷◌, ◌++◌, map, length, take, get_or, append_assoc, length-append, add-one, refl, ap, sym, ◌∙◌, subst, arith, ⊎_elim, ◌⊎◌, inl, inr}
+use Rattle.std.specs.Ordering.{nat_cmp, is_lt}
 use Rattle.std.specs.Cmp.Lexicographic.{slice_cmp}
 use Rattle.std.specs.List.{join_with_byte, onto_first}
 use Rattle.std.proofs.lemmas.List.{take_at}
 use Rattle.std.proofs.lemmas.Bool.Decides.{nat_tests}
-use Rattle.std.proofs.lemmas.Slice.Eq.{bytes_eq-Decides}
 use Rattle.generic_names.specs.declared.kind.NameKind.{NameKind}
 use Rattle.generic_names.specs.declared.kind.NameKind.TheVariants.{DataSet, General}
 use Rattle.generic_names.specs.Spelled.{Spelled, qualifiers, is_empty}
-use Rattle.generic_names.specs.Covers.{is_double, is_final, is_open, matches, begins, some_end, first_and_rest, covers_all, covers}
-use Rattle.generic_names.specs.Before.{rank, ranks, before}
+use Rattle.generic_names.specs.Covers.{is_double, is_open, matches, begins, some_end, first_and_rest, covers_all}
+use Rattle.generic_names.specs.Before.{rank, ranks}
 use Rattle.generic_names.specs.Ranked.{ranks_within}
 use Rattle.generic_names.specs.Follows.{may_follow}
-use Rattle.generic_names.specs.Laws.{IsPattern, IsResource}
-use Rattle.generic_names.proofs.Lawful.{EachByte, EachQualifier, IsPlain, resource-plain, pattern-small}
-use Rattle.generic_names.proofs.OrderLaws.{rank-cases, rank-other}
+use Rattle.generic_names.specs.Laws.{IsPattern}
+use Rattle.generic_names.proofs.Lawful.{EachByte, EachQualifier, IsPlain, pattern-small}
+use Rattle.generic_names.proofs.OrderLaws.{rank-other}
 use Rattle.generic_names.specs.Reading.{rest_at}
 use Rattle.generic_names.proofs.QualifierLaws.{rest_at-past}
 use Rattle.generic_names.proofs.RankLaws.{rest_at-end, rest_at-byte}
 use Rattle.generic_names.proofs.CompareLaws.{Between, between}
-use Rattle.generic_names.proofs.FirstLaws.{less_head, same_front, front, last, front-take, last-get, no-periods, plain-rank, either, both, equal_byte, one_byte, is_nil, IsBehind, no-match, behind-first, no_name, ends_open}
+use Rattle.generic_names.proofs.FirstLaws.{less_head, same_front, front, front-take, last-get, no-periods, plain-rank, either, both, equal_byte, one_byte, no-match, behind-first, no_name, ends_open}
 
 -- a byte of a pattern's qualifier
 pub record IsByte (b : ℕ) : Type 0 where
@@ -72,6 +70,7 @@ within kind begun c cs name no_end no_double w = settled begun w.left w.bytes w.
       ranked = ranked;
       covered = sym (ap (λ (u : Bool). cond u (some_end (λ end. covers_all kind ps end) name) (covers_within kind (p ∷ ps) name)) is) ∙ covered;
     }
+
     settled : (t : Bool) (ps : List (List ℕ)) → EachQualifier IsByte ps → cond t (ranks ps) (ranks_within ps) ≡ c ∷ cs → cond t (covers_all kind ps name) (covers_within kind ps name) ≡ true → Within kind (c ∷ cs) name
     settled true [] bytes ranked covered = absurd (let head : ◌≡◌ {A = ℕ} 259 c = (cc) in no_end (sym head))
     settled false [] bytes ranked covered = absurd (cc (covered))
@@ -139,10 +138,10 @@ after-byte kind a [] ps b n ns plain h =
     let none : is_open kind (is_empty ps) [] ≡ false = open-none kind (is_empty ps) in
     let met : (((eqb a 42) && true) || (((eqb a 37) || (eqb a b)) && matches [] n)) && covers_all kind ps ns ≡ true = rw shut at h in
     both (((eqb a 42) && true) || (((eqb a 37) || (eqb a b)) && matches [] n)) (covers_all kind ps ns) met
-      (λ one rest. either ((eqb a 42) && true) (((eqb a 37) || (eqb a b)) && matches [] n) one
-        (λ star. absurd (both (eqb a 42) true star (λ e _. absurd (cc (e, plain)))))
-        (λ like. both ((eqb a 37) || (eqb a b)) (matches [] n) like
-          (λ _ end. rw (none, end) rest)))
+    (λ one rest. either ((eqb a 42) && true) (((eqb a 37) || (eqb a b)) && matches [] n) one
+    (λ star. absurd (both (eqb a 42) true star (λ e _. absurd (cc (e, plain)))))
+    (λ like. both ((eqb a 37) || (eqb a b)) (matches [] n) like
+    (λ _ end. rw (none, end) rest)))
 after-byte kind a (c ∷ p) ps b n ns plain h = settled (is_open kind (is_empty ps) (c ∷ p)) refl
   where
     settled : (t : Bool) → is_open kind (is_empty ps) (c ∷ p) ≡ t → covers_within kind ((c ∷ p) ∷ ps) (n ∷ ns) ≡ true
@@ -150,17 +149,17 @@ after-byte kind a (c ∷ p) ps b n ns plain h = settled (is_open kind (is_empty 
         let opened : is_open kind (is_empty ps) (a ∷ c ∷ p) ≡ true = open-tail kind (is_empty ps) a c p ∙ is in
         let begun : begins (take (length (a ∷ c ∷ p) - 1) (a ∷ c ∷ p)) (join_with_byte 46 ((b ∷ n) ∷ ns)) ≡ true = rw opened at h in
         let met : begins (a ∷ front (c ∷ p)) (b ∷ join_with_byte 46 (n ∷ ns)) ≡ true =
-            sym (ap (λ (f : List ℕ). begins f (b ∷ join_with_byte 46 (n ∷ ns))) (front-take (a ∷ c ∷ p))) ∙ sym (ap (λ (xs : List ℕ). begins (take (length (a ∷ c ∷ p) - 1) (a ∷ c ∷ p)) xs) (join-behind b n ns)) ∙ begun in
+        sym (ap (λ (f : List ℕ). begins f (b ∷ join_with_byte 46 (n ∷ ns))) (front-take (a ∷ c ∷ p))) ∙ sym (ap (λ (xs : List ℕ). begins (take (length (a ∷ c ∷ p) - 1) (a ∷ c ∷ p)) xs) (join-behind b n ns)) ∙ begun in
         both (cond (eqb a 37) (not (eqb b 46)) (eqb a b)) (begins (front (c ∷ p)) (join_with_byte 46 (n ∷ ns))) met
-          (λ _ rest. rw is (ap (λ (f : List ℕ). begins f (join_with_byte 46 (n ∷ ns))) (front-take (c ∷ p)) ∙ rest))
+        (λ _ rest. rw is (ap (λ (f : List ℕ). begins f (join_with_byte 46 (n ∷ ns))) (front-take (c ∷ p)) ∙ rest))
     settled false is =
         let shut : is_open kind (is_empty ps) (a ∷ c ∷ p) ≡ false = open-tail kind (is_empty ps) a c p ∙ is in
         let met : (((eqb a 42) && false) || (((eqb a 37) || (eqb a b)) && matches (c ∷ p) n)) && covers_all kind ps ns ≡ true = rw shut at h in
         both (((eqb a 42) && false) || (((eqb a 37) || (eqb a b)) && matches (c ∷ p) n)) (covers_all kind ps ns) met
-          (λ one rest. either ((eqb a 42) && false) (((eqb a 37) || (eqb a b)) && matches (c ∷ p) n) one
-            (λ star. absurd (both (eqb a 42) false star (λ _ e. absurd (cc (e)))))
-            (λ like. both ((eqb a 37) || (eqb a b)) (matches (c ∷ p) n) like
-              (λ _ more. rw (is, more) rest)))
+        (λ one rest. either ((eqb a 42) && false) (((eqb a 37) || (eqb a b)) && matches (c ∷ p) n) one
+        (λ star. absurd (both (eqb a 42) false star (λ _ e. absurd (cc (e)))))
+        (λ like. both ((eqb a 37) || (eqb a b)) (matches (c ∷ p) n) like
+        (λ _ more. rw (is, more) rest)))
 
 -- a byte of the pattern has been met by one of the name
 pub step-byte : (kind : NameKind) (c : ℕ) (cs : List ℕ) (b : ℕ) (n : List ℕ) (ns : List (List ℕ)) → c < 257 → Within kind (c ∷ cs) ((b ∷ n) ∷ ns) → Reached kind false cs (n ∷ ns)
@@ -203,18 +202,18 @@ open-follows kind begun l a (d ∷ p) [] ns byte plain opened m =
     absurd (no-match a (front (d ∷ p)) behind.0 byte.no_period behind.1 met)
 open-follows kind begun l a (d ∷ p) (b ∷ n) ns byte plain opened m =
     let met : begins (a ∷ front (d ∷ p)) (b ∷ join_with_byte 46 (n ∷ ns)) ≡ true =
-        sym (ap (λ (f : List ℕ). begins f (b ∷ join_with_byte 46 (n ∷ ns))) (front-take (a ∷ d ∷ p))) ∙ sym (ap (λ (xs : List ℕ). begins (take (length (a ∷ d ∷ p) - 1) (a ∷ d ∷ p)) xs) (join-behind b n ns)) ∙ m in
+    sym (ap (λ (f : List ℕ). begins f (b ∷ join_with_byte 46 (n ∷ ns))) (front-take (a ∷ d ∷ p))) ∙ sym (ap (λ (xs : List ℕ). begins (take (length (a ∷ d ∷ p) - 1) (a ∷ d ∷ p)) xs) (join-behind b n ns)) ∙ m in
     both (cond (eqb a 37) (not (eqb b 46)) (eqb a b)) (begins (front (d ∷ p)) (join_with_byte 46 (n ∷ ns))) met
-      (λ one _. fits-follow begun a b n ns plain.0 (one_byte (eqb a 37) a b refl one))
+    (λ one _. fits-follow begun a b n ns plain.0 (one_byte (eqb a 37) a b refl one))
 
 like-follows : (begun : Bool) (a : ℕ) (p n : List ℕ) (ns : List (List ℕ)) → IsByte a → EachByte IsPlain n → matches (a ∷ p) n ≡ true → may_follow begun (n ∷ ns) (rank a) ≡ true
 like-follows begun a p [] ns byte plain m = both (eqb a 42) (is_empty p) m
     (λ star _. let value : rank a ≡ 258 = rank-star a byte.small star in rw value (star-follow begun ([] ∷ ns) refl))
 like-follows begun a p (b ∷ n) ns byte plain m = either ((eqb a 42) && is_empty p) (((eqb a 37) || (eqb a b)) && matches p n) m
     (λ final. both (eqb a 42) (is_empty p) final
-      (λ star _. let value : rank a ≡ 258 = rank-star a byte.small star in rw value (star-follow begun ((b ∷ n) ∷ ns) refl)))
+    (λ star _. let value : rank a ≡ 258 = rank-star a byte.small star in rw value (star-follow begun ((b ∷ n) ∷ ns) refl)))
     (λ rest. both ((eqb a 37) || (eqb a b)) (matches p n) rest
-      (λ one _. fits-follow begun a b n ns plain.0 (either (eqb a 37) (eqb a b) one (λ any. inl (equal_byte a 37 any)) (λ same. inr (equal_byte a b same)))))
+    (λ one _. fits-follow begun a b n ns plain.0 (either (eqb a 37) (eqb a b) one (λ any. inl (equal_byte a 37 any)) (λ same. inr (equal_byte a b same)))))
 
 within-follows : (kind : NameKind) (begun : Bool) (c : ℕ) (cs : List ℕ) (p : List ℕ) (ps name : List (List ℕ)) → EachQualifier IsPlain name → EachQualifier IsByte (p ∷ ps) → map rank p ++ 257 ∷ ranks ps ≡ c ∷ cs → covers_within kind (p ∷ ps) name ≡ true → may_follow begun name c ≡ true
 within-follows kind begun c cs p ps [] plain bytes ranked covered = absurd (settled (is_open kind (is_empty ps) p) covered)
@@ -230,6 +229,7 @@ within-follows kind begun c cs (a ∷ p) ps (n ∷ ns) plain bytes ranked covere
   where
     same : c ≡ rank a
     same = (cc (ranked))
+
     settled : (t : Bool) → is_open kind (is_empty ps) (a ∷ p) ≡ t → cond t (begins (take (length (a ∷ p) - 1) (a ∷ p)) (join_with_byte 46 (n ∷ ns))) (matches (a ∷ p) n && covers_all kind ps ns) ≡ true → may_follow begun (n ∷ ns) (rank a) ≡ true
     settled true is e = open-follows kind begun (is_empty ps) a p n ns bytes.0.0 plain.0 is e
     settled false is e = both (matches (a ∷ p) n) (covers_all kind ps ns) e (λ like _. like-follows begun a p n ns bytes.0.0 plain.0 like)
@@ -251,6 +251,7 @@ follows kind begun c cs name plain w = settled begun w.left w.bytes w.ranked w.c
     whole p ps true is bytes ranked covered = let head : c ≡ 260 = (cc) in rw head (double-follows name)
     whole p ps false is bytes ranked covered =
         within-follows kind true c cs p ps name plain bytes ranked (sym (ap (λ (u : Bool). cond u (some_end (λ end. covers_all kind ps end) name) (covers_within kind (p ∷ ps) name)) is) ∙ covered)
+
     settled : (t : Bool) (ps : List (List ℕ)) → EachQualifier IsByte ps → cond t (ranks ps) (ranks_within ps) ≡ c ∷ cs → cond t (covers_all kind ps name) (covers_within kind ps name) ≡ true → may_follow t name c ≡ true
     settled true [] bytes ranked covered =
         let head : c ≡ 259 = (cc) in
@@ -327,9 +328,9 @@ module _ {pattern name : List ℕ} {begun : Bool} {count : ℕ} {these : List �
         front = longer-front;
         size = longer-size;
         reach = λ kind xs more bytes ranked covered.
-          let reached = subst (λ (ns : List (List ℕ)). Reached kind begun (r ∷ more) ns) found.2 (m.reach kind xs (r ∷ more) bytes (earlier xs more ranked) covered) in
-          let stepped = step-byte kind r more (get_or name count 0) found.0 found.1 low (within kind begun r more ((get_or name count 0 ∷ found.0) ∷ found.1) (λ e. omega arith) (λ e. omega arith) reached) in
-          rw add-one (subst (λ (ns : List (List ℕ)). Reached kind false more ns) (sym found.3) stepped);
+            let reached = subst (λ (ns : List (List ℕ)). Reached kind begun (r ∷ more) ns) found.2 (m.reach kind xs (r ∷ more) bytes (earlier xs more ranked) covered) in
+            let stepped = step-byte kind r more (get_or name count 0) found.0 found.1 low (within kind begun r more ((get_or name count 0 ∷ found.0) ∷ found.1) (λ e. omega arith) (λ e. omega arith) reached) in
+            rw add-one (subst (λ (ns : List (List ℕ)). Reached kind false more ns) (sym found.3) stepped);
       }
 
   -- by the end of a qualifier
@@ -340,9 +341,9 @@ module _ {pattern name : List ℕ} {begun : Bool} {count : ℕ} {these : List �
         front = longer-front;
         size = longer-size;
         reach = λ kind xs more bytes ranked covered.
-          let reached = subst (λ (ns : List (List ℕ)). Reached kind begun (r ∷ more) ns) found (m.reach kind xs (r ∷ more) bytes (earlier xs more ranked) covered) in
-          let in_qualifier = within kind begun r more ([] ∷ rest_at name (count + 1)) (λ e. omega arith) (λ e. omega arith) reached in
-          step-end kind more (rest_at name (count + 1)) (subst (λ (c : ℕ). Within kind (c ∷ more) ([] ∷ rest_at name (count + 1))) is in_qualifier);
+            let reached = subst (λ (ns : List (List ℕ)). Reached kind begun (r ∷ more) ns) found (m.reach kind xs (r ∷ more) bytes (earlier xs more ranked) covered) in
+            let in_qualifier = within kind begun r more ([] ∷ rest_at name (count + 1)) (λ e. omega arith) (λ e. omega arith) reached in
+            step-end kind more (rest_at name (count + 1)) (subst (λ (c : ℕ). Within kind (c ∷ more) ([] ∷ rest_at name (count + 1))) is in_qualifier);
       }
 
   -- no pattern goes on with a rank that may not follow
@@ -351,6 +352,7 @@ module _ {pattern name : List ℕ} {begun : Bool} {count : ℕ} {these : List �
     where
       found : Between (take count (ranks (qualifiers pattern))) r least (ranks (qualifiers p.text))
       found = between (take count (ranks (qualifiers pattern))) r least rest (ranks (qualifiers p.text)) (subst (λ (ys : List ℕ). is_lt (slice_cmp nat_cmp (ranks (qualifiers p.text)) ys) ≡ false) (m.front ∙ ap (λ (xs : List ℕ). take count (ranks (qualifiers pattern)) ++ xs) next) not_before) below
+
       settled : (t : Bool) → covers_all p.kind (qualifiers p.text) (qualifiers name) ≡ t → t ≡ false
       settled false is = refl
       settled true is =

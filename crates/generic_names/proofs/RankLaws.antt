@@ -1,6 +1,6 @@
 -- The ranks of a name, from place to place.
-use Rattle.std.proofs.Common.{◌≡◌, ◌≢◌, ℕ, zero, suc, ◌+◌, ◌-◌, ◌<◌, ◌≤◌, Bool, true, false, cond, ◌&&◌, eqb, List, [], ◌∷◌, ◌++◌, map, length, get_or, take, drop, refl, ap, sym, ◌∙◌, subst, arith, ⊎_elim, ◌⊎◌, inl, inr, add-zero, add-one}
-use Rattle.std.specs.List.{slice_split, onto_first, slice_range}
+use Rattle.std.proofs.Common.{◌≡◌, ℕ, zero, suc, ◌+◌, ◌-◌, ◌<◌, ◌≤◌, Bool, true, false, cond, ◌&&◌, eqb, List, [], ◌∷◌, length, get_or, take, drop, refl, ap, ◌∙◌, arith, add-one}
+use Rattle.std.specs.List.{onto_first}
 use Rattle.std.proofs.lemmas.List.{length-drop, get_or-drop}
 use Rattle.std.proofs.lemmas.List.Splits.{slice_split-cons_no}
 use Rattle.generic_names.specs.Spelled.{qualifiers, is_empty}
@@ -8,7 +8,7 @@ use Rattle.generic_names.specs.Covers.{is_double}
 use Rattle.generic_names.specs.Before.{rank, ranks}
 use Rattle.generic_names.specs.Reading.{rest_at}
 use Rattle.generic_names.specs.Ranked.{ranks_within, ranks_at, first_is_double}
-use Rattle.generic_names.proofs.QualifierLaws.{rest_at-past, rest_at-within, rest_at-first, qualifiers-some, not_period}
+use Rattle.generic_names.proofs.QualifierLaws.{rest_at-past, rest_at-first, qualifiers-some, not_period}
 
 -- past the end stands the end of the name
 pub ranks_at-past : (text : List ℕ) (begins : Bool) (at : ℕ) → length text < at → ranks_at text begins at ≡ 259 ∷ []

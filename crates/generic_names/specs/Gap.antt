@@ -15,3 +15,7 @@ is_below name gap = is_lt (slice_cmp nat_cmp (ranks (qualifiers name.text)) gap)
 abbrev pub NoneCovers : Spelled → List ℕ → Spelled → Type 0
 NoneCovers first gap name =
     (p : Spelled) → IsPattern p → p.kind ≡ name.kind → before p first ≡ false → is_below p gap ≡ true → covers p name ≡ false
+
+-- what is more specific than a pattern below the end of a gap is below it
+abbrev pub GapIsClosed : Type 0
+GapIsClosed = (a b : Spelled) (gap : List ℕ) → before a b ≡ true → is_below b gap ≡ true → is_below a gap ≡ true

@@ -9,19 +9,19 @@ returns-then-at-name-clause-none c k low high = none-past c.args.name.now c.args
 pub returns-then-rank-le257-clause-none : goal.returns-then-rank-le257-clause-none
 returns-then-rank-le257-clause-none c k low high =
     let ends : c.args.at < length c.args.name.now → get_or c.args.name.now c.args.at 0 ≡ 46 = λ l.
-        elim c.then-at-name-2.branch [
-          then-at-name-2-via-then-at-name-2 w ↦ absurd (omega arith)
-          | then-at-name-2-via-else-at-name-2+then-name-at-eq46 w ↦ w.if-name-at-eq46.true
-        ] in
+    elim c.then-at-name-2.branch [
+      | then-at-name-2-via-then-at-name-2 w ↦ absurd (omega arith)
+      | then-at-name-2-via-else-at-name-2+then-name-at-eq46 w ↦ w.if-name-at-eq46.true
+    ] in
     none-end c.args.name.now c.args.begun c.args.at k c.if-at-name.false ends (λ e. omega arith) (λ e. omega arith) (λ e. omega arith)
 
 pub returns-then-rank-eq259-clause-none : goal.returns-then-rank-eq259-clause-none
 returns-then-rank-eq259-clause-none c k low high =
     let ends : c.args.at < length c.args.name.now → get_or c.args.name.now c.args.at 0 ≡ 46 = λ l.
-        elim c.then-at-name-2.branch [
-          then-at-name-2-via-then-at-name-2 w ↦ absurd (omega arith)
-          | then-at-name-2-via-else-at-name-2+then-name-at-eq46 w ↦ w.if-name-at-eq46.true
-        ] in
+    elim c.then-at-name-2.branch [
+      | then-at-name-2-via-then-at-name-2 w ↦ absurd (omega arith)
+      | then-at-name-2-via-else-at-name-2+then-name-at-eq46 w ↦ w.if-name-at-eq46.true
+    ] in
     none-end c.args.name.now c.args.begun c.args.at k c.if-at-name.false ends (λ e. omega arith) (λ e. omega arith) (λ e. omega arith)
 
 pub returns-then-rank-byte-clause-none : goal.returns-then-rank-byte-clause-none

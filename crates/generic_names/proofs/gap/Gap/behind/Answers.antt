@@ -1,11 +1,11 @@
-use Rattle.std.proofs.Common.{◌≡◌, ◌<◌, ◌+◌, ◌∙◌, List, ℕ, Bool, true, false, eqb, sym, ap, subst, arith, ⊎_elim}
+use Rattle.std.proofs.Common.{◌≡◌, ◌∙◌, List, ℕ, true, false, eqb, sym, ap, subst, arith, ⊎_elim}
 use Rattle.std.proofs.lemmas.Bool.{cases_eq}
 use Rattle.std.proofs.lemmas.Bool.Decides.{nat_tests}
 use Rattle.generic_names.specs.Spelled.{qualifiers}
 use Rattle.generic_names.specs.Covers.{covers_all}
 use Rattle.generic_names.proofs.Lawful.{EachQualifier, IsPlain, resource-plain}
 use Rattle.generic_names.proofs.CompareLaws.{next-head}
-use Rattle.generic_names.proofs.GapLaws.{Met, met-byte, met-end, met-gap, met-onward, plain-rest}
+use Rattle.generic_names.proofs.GapLaws.{met-byte, met-end, met-gap, met-onward, plain-rest}
 use Rattle.generic_names.proofs.gap.Gap.behind.Goals as goal
 
 pub returns-then-rank-least-clause-none : goal.returns-then-rank-least-clause-none
@@ -28,12 +28,12 @@ loop-count-preserved c =
     let next = c.next-rank.ensures.next (λ e. omega arith) in
     let same : c.least_that_follows-least.result ≡ rank = omega (arith, c.least_that_follows-least.ensures.from, c.if-rank-least.false) in
     ⊎_elim
-      (λ (e : rank ≡ 257).
-        let test : eqb rank 257 ≡ true = grind (arith, nat_tests) in
-        let ends = c.least_that_follows-least.ensures.end same e in
-        rw test (met-end c.loop-count.invariant rank c.next-rank.new.self next e ends.0 ends.1))
-      (λ (n : rank ≡ 257 → ⊥).
-        let test : eqb rank 257 ≡ false = grind (arith, nat_tests) in
-        let met = c.least_that_follows-least.ensures.byte same (omega arith) in
-        rw test (met-byte c.loop-count.invariant rank c.next-rank.new.self next (omega arith) met.0 met.1))
-      (cases_eq rank 257)
+    (λ (e : rank ≡ 257).
+    let test : eqb rank 257 ≡ true = grind (arith, nat_tests) in
+    let ends = c.least_that_follows-least.ensures.end same e in
+    rw test (met-end c.loop-count.invariant rank c.next-rank.new.self next e ends.0 ends.1))
+    (λ (n : rank ≡ 257 → ⊥).
+    let test : eqb rank 257 ≡ false = grind (arith, nat_tests) in
+    let met = c.least_that_follows-least.ensures.byte same (omega arith) in
+    rw test (met-byte c.loop-count.invariant rank c.next-rank.new.self next (omega arith) met.0 met.1))
+    (cases_eq rank 257)

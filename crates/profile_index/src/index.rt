@@ -1,10 +1,15 @@
-ghost use Rattle.std.specs.Prelude.{◌≡◌, ◌+◌, ◌<◌, ◌≤◌, [], length, max, IsOk, IfOk, OnOk, OnErr, Some};
+ghost use Rattle.std.specs.Prelude.{◌≡◌, ◌+◌, ◌-◌, ◌*◌, ◌^◌, ◌<◌, ◌≤◌, [], length, max, find, IsOk, IfOk, OnOk, OnErr, Some, is_some, if◌then◌else◌};
+ghost use Rattle.std.specs.Option.{option_map};
+ghost use Rattle.generic_names.specs.Best.{best};
 ghost use Rattle.std.specs.List.{slice_get};
 
 use crate::entry::Entry;
-use generic_names::Pattern;
+use crate::search::{end_of_those_before, first_that_covers, place_named, place_of};
+use crate::steps::Steps;
+use generic_names::{Pattern, Resource};
 use std::alloc::{AllocError, Global};
 use std::marker::Model;
+use std::sync::ledger::Ledger;
 
 /// Want of memory.
 pub type NoMemory = AllocError;
@@ -30,6 +35,8 @@ impl<T> Model for Index<T> {
 }
 
 impl<T> Index<T> {
+    ghost use Rattle.profile_index.specs.Indexed.{name_of, has_name, AreOf, IsAbsent, IsPlaceOf, with_entry, without};
+
     /// An index without entries. It takes no memory yet.
     pub fn new(alloc: Global) -> Result<Index<T>, NoMemory>
         ensures ok { IsOk result }
@@ -77,5 +84,56 @@ impl<T> Index<T> {
     {
         let entry = &self.entries[place];
         (&entry.name, &entry.item)
+    }
+
+    /// The most specific entry that covers a name. An entry before the very name isn't looked at, and of
+    /// those behind it whole runs are passed over that can't cover it: those that differ from it by their
+    /// first byte, or at any later one before the first `*`. Entries that differ behind a `*` or `**` alone
+    /// are looked at one by one.
+    pub fn find(&self, name: &Resource) -> Option<usize>
+        requires { AreOf name.now.kind self.now.entries }
+        ensures { IsPlaceOf self.now.entries (best name_of self.now.entries name.now) result }
+    {
+        first_that_covers(&self.entries, name)
+    }
+
+    /// The entry of the very name, in as many comparisons as the number of entries has binary digits.
+    pub fn find_discrete<L: Ledger>(&self, name: &Resource, steps: &mut Steps<L>) -> Option<usize>
+        requires { AreOf name.now.kind self.now.entries }
+        ensures place { IsPlaceOf self.now.entries (find (has_name name.now) self.now.entries) result }
+        ensures onward { steps.old ≤ steps.new }
+        ensures cost { 2 ^ (steps.new - steps.old) ≤ 2 * length self.now.entries + 1 }
+    {
+        place_of(&self.entries, name, steps)
+    }
+
+    /// Adds an entry at its place in the order. It takes no memory, and moves those behind it.
+    pub fn insert(&mut self, name: Pattern, item: T)
+        requires room { 0 < self.old.spare }
+        requires kind { AreOf name.kind self.old.entries }
+        requires absent { IsAbsent name self.old.entries }
+        ensures entries { self.new.entries ≡ with_entry (record { name = name; item = item }) self.old.entries }
+        ensures spare { self.new.spare + 1 ≡ self.old.spare }
+    {
+        // That the text is a pattern's is what the laws of the order rest on.
+        let _ = name.text();
+        let place = end_of_those_before(&self.entries, &name);
+        self.spare -= 1;
+        self.entries.insert(place, Entry { name, item }).unwrap();
+    }
+
+    /// Takes the entry of a name out, if there is one. It moves those behind it.
+    pub fn remove(&mut self, name: &Pattern) -> Option<T>
+        requires { AreOf name.now.kind self.old.entries }
+        ensures item { result ≡ option_map (λ e. e.item) (find (has_name name.now) self.old.entries) }
+        ensures entries { self.new.entries ≡ without name.now self.old.entries }
+        ensures spare { self.new.spare ≡ self.old.spare + (if is_some result then 1 else 0) }
+    {
+        let Some(place) = place_named(&self.entries, name) else {
+            return None;
+        };
+        self.spare += 1;
+        let Entry { name: _, item } = self.entries.remove(place);
+        Some(item)
     }
 }

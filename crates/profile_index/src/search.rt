@@ -1,14 +1,20 @@
-ghost use Rattle.std.specs.Prelude.{◌≡◌, ℕ, ◌+◌, ◌-◌, ◌*◌, ◌^◌, ◌<◌, ◌≤◌, true, false, List, length, get_or, MatchOption};
+ghost use Rattle.std.specs.Prelude.{◌≡◌, ℕ, ◌+◌, ◌-◌, ◌*◌, ◌^◌, ◌<◌, ◌≤◌, true, false, List, length, get_or};
 ghost use Rattle.std.specs.List.{AllWithin};
+ghost use Rattle.std.specs.Str.{bytes_eq};
 ghost use Rattle.generic_names.specs.Covers.{covers};
-ghost use Rattle.generic_names.specs.Before.{before};
+ghost use Rattle.generic_names.specs.Before.{before, order};
+ghost use Rattle.generic_names.specs.Laws.{IsResource};
 ghost use Rattle.generic_names.specs.Gap.{is_below};
 ghost use Rattle.generic_names.specs.Best.{IsInOrder, AreNamed};
-ghost use Rattle.profile_index.specs.Indexed.{name_of, AreOf};
+ghost use Rattle.profile_index.specs.Indexed.{name_of, has_name, AreOf};
+ghost use Rattle.profile_index.specs.Places.{IsFirst, IsOnly};
 ghost use Rattle.profile_index.specs.declared.entry.Entry.{Entry};
 
 use crate::entry::Entry;
+use crate::steps::Steps;
 use generic_names::{Gap, Pattern, Resource};
+use std::cmp::Ordering;
+use std::sync::ledger::Ledger;
 
 /// Where the entries that are before a name end.
 pub(crate) fn end_of_those_before<T>(entries: &[Entry<T>], name: &Pattern) -> usize
@@ -59,12 +65,8 @@ pub(crate) fn first_that_covers<T>(entries: &[Entry<T>], name: &Resource) -> Opt
     requires ordered { IsInOrder name_of entries.now }
     requires named { AreNamed name_of entries.now }
     requires kinds { AreOf name.now.kind entries.now }
-    ensures {
-        MatchOption result (AllWithin (λ e. covers e.name name.now ≡ false) entries.now 0 (length entries.now))
-            (λ place. (place < length entries.now)
-                × AllWithin (λ e. covers e.name name.now ≡ false) entries.now 0 place
-                × ((d : Entry T) → covers (get_or entries.now place d).name name.now ≡ true))
-    }
+    ensures resource { IsResource name.now }
+    ensures first { IsFirst (λ e. covers e.name name.now) entries.now result }
 {
     // That the text is a resource's name is what the laws of the order rest on.
     let _ = name.text();
@@ -80,4 +82,68 @@ pub(crate) fn first_that_covers<T>(entries: &[Entry<T>], name: &Resource) -> Opt
         };
     }
     None
+}
+
+/// The place of a resource's very name, by halving. Each comparison is counted.
+pub(crate) fn place_of<T, L: Ledger>(
+    entries: &[Entry<T>],
+    name: &Resource,
+    steps: &mut Steps<L>,
+) -> Option<usize>
+    requires ordered { IsInOrder name_of entries.now }
+    requires named { AreNamed name_of entries.now }
+    requires kinds { AreOf name.now.kind entries.now }
+    ensures first { IsFirst (has_name name.now) entries.now result }
+    ensures onward { steps.old ≤ steps.new }
+    ensures cost { 2 ^ (steps.new - steps.old) ≤ 2 * length entries.now + 1 }
+{
+    let _ = name.text();
+    let mut low = 0;
+    let mut size = entries.len();
+    while size > 0 {
+        let half = size / 2;
+        let middle = low + half;
+        match counted(&entries[middle].name, name, steps) {
+            Ordering::Equal => return Some(middle),
+            Ordering::Less => {
+                low = middle + 1;
+                size -= half + 1;
+            }
+            Ordering::Greater => size = half,
+        }
+    }
+    None
+}
+
+/// Which of the two names comes first. Every comparison of names in `place_of` is made here and counted.
+fn counted<L: Ledger>(pattern: &Pattern, name: &Resource, steps: &mut Steps<L>) -> Ordering
+    requires { pattern.now.kind ≡ name.now.kind }
+    ensures order { result ≡ order pattern.now name.now }
+    ensures counted { steps.new ≡ steps.old + 1 }
+{
+    steps.tick();
+    pattern.order_of_name(name)
+}
+
+/// The place of a pattern's name.
+pub(crate) fn place_named<T>(entries: &[Entry<T>], name: &Pattern) -> Option<usize>
+    requires ordered { IsInOrder name_of entries.now }
+    requires kinds { AreOf name.now.kind entries.now }
+    ensures first { IsFirst (has_name name.now) entries.now result }
+    ensures alone { IsOnly (has_name name.now) entries.now result }
+{
+    let place = end_of_those_before(entries, name);
+    if place == entries.len() {
+        return None;
+    }
+    if !have_one_text(&entries[place].name, name) {
+        return None;
+    }
+    Some(place)
+}
+
+fn have_one_text(first: &Pattern, second: &Pattern) -> bool
+    ensures { result ≡ bytes_eq first.now.text second.now.text }
+{
+    first.text() == second.text()
 }

@@ -2,11 +2,12 @@
 use Rattle.std.proofs.Common.{◌≡◌, ◌≢◌, ℕ, zero, suc, ◌+◌, ◌-◌, ◌<◌, ◌≤◌, Bool, true, false, cond, not, List, [], ◌∷◌, ◌++◌, length, get_or, take, drop, Option, Some, None, refl, ap, sym, ◌∙◌, subst, arith, ⊎_elim, ◌⊎◌, inl, inr, find, filter}
 use Rattle.std.specs.List.{AllByRecursion, AllWithin, slice_get, insert, remove}
 use Rattle.std.specs.Option.{option_and_then, MatchOption}
+use Rattle.std.proofs.lemmas.Slice.Eq.{bytes_eq-Decides}
 use Rattle.generic_names.specs.Spelled.{Spelled}
 use Rattle.generic_names.specs.Before.{before}
 use Rattle.generic_names.specs.Best.{IsInOrder}
 use Rattle.profile_index.specs.declared.entry.Entry.{Entry}
-use Rattle.profile_index.specs.Indexed.{IsPlaceOf, with_entry}
+use Rattle.profile_index.specs.Indexed.{IsPlaceOf, IsAbsent, has_name, with_entry, without}
 use Rattle.profile_index.specs.Places.{IsFirst, IsOnly}
 
 module _ {A : Type 0} where
@@ -97,3 +98,20 @@ module _ {T : Type 0} where
   with_entry-at (x ∷ xs) (suc p) new h below above =
       ap (λ (t : Bool). cond t (x ∷ with_entry new xs) (new ∷ x ∷ xs)) (below 0 x (omega arith) (omega arith))
       ∙ ap (λ (ys : List (Entry T)). x ∷ ys) (with_entry-at xs p new (omega arith) (front (λ e. before e.name new.name ≡ true) x xs 0 p below (omega arith)) (back (λ e. before e.name new.name ≡ false) x xs p (length xs) above))
+
+  -- where no entry has a name, each has another
+  pub absent-at : (name : Spelled) (xs : List (Entry T)) → IsAbsent name xs → AllByRecursion (λ e. e.name ≢ name) xs
+  absent-at name [] absent = tt
+  absent-at name (x ∷ xs) absent = settled (has_name name x) refl absent (absent-at name xs)
+    where
+      settled : (t : Bool) → has_name name x ≡ t → cond t (Some x) (find (has_name name) xs) ≡ None → (IsAbsent name xs → AllByRecursion (λ e. e.name ≢ name) xs) → AllByRecursion (λ e. e.name ≢ name) (x ∷ xs)
+      settled true is e again = absurd (cc (e))
+      settled false is e again = ((λ same. let alike : has_name name x ≡ true = (bytes_eq-Decides x.name.text name.text).1 (ap (λ (n : Spelled). n.text) same) in absurd (cc (alike, is))), again e)
+
+  pub all-without : (P : Entry T → Type 0) (xs : List (Entry T)) (name : Spelled) → AllByRecursion P xs → AllByRecursion P (without name xs)
+  all-without P [] name all = tt
+  all-without P (x ∷ xs) name all = settled (has_name name x) (all-without P xs name all.1)
+    where
+      settled : (t : Bool) → AllByRecursion P (without name xs) → AllByRecursion P (cond (not t) (x ∷ without name xs) (without name xs))
+      settled true rest = rest
+      settled false rest = (all.0, rest)

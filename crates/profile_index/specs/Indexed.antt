@@ -1,5 +1,5 @@
 -- An index is the list of its entries in the order of specificity, with how many more fit.
-use Rattle.std.specs.Prelude.{◌≡◌, ◌≢◌, ℕ, ◌<◌, Bool, not, if◌then◌else◌, List, [], ◌∷◌, length, filter, find, Option, IfSome}
+use Rattle.std.specs.Prelude.{◌≡◌, ◌≢◌, ℕ, ◌<◌, Bool, not, if◌then◌else◌, List, [], ◌∷◌, length, filter, find, Option, None, IfSome}
 use Rattle.std.specs.List.{AllByRecursion, slice_get}
 use Rattle.std.specs.Option.{option_map, option_and_then}
 use Rattle.std.specs.Str.{bytes_eq}
@@ -27,7 +27,7 @@ module _ {T : Type 0} where
 
   -- no entry has this name
   abbrev pub IsAbsent : Spelled → List (Entry T) → Type 0
-  IsAbsent name entries = AllByRecursion (λ e. e.name ≢ name) entries
+  IsAbsent name entries = find (has_name name) entries ≡ None
 
   -- the list with an entry at its place in the order
   abbrev pub with_entry : Entry T → List (Entry T) → List (Entry T)

@@ -1,6 +1,6 @@
 ghost use Rattle.std.specs.Prelude.{◌≡◌, ◌+◌, ◌-◌, ◌*◌, ◌^◌, ◌<◌, ◌≤◌, [], length, max, find, IsOk, IfOk, OnOk, OnErr, Some, is_some, if◌then◌else◌};
 ghost use Rattle.std.specs.Option.{option_map};
-ghost use Rattle.generic_names.specs.Best.{best};
+ghost use Rattle.generic_names.specs.Best.{best, IsInOrder, AreNamed};
 ghost use Rattle.std.specs.List.{slice_get};
 
 use crate::entry::Entry;
@@ -63,9 +63,11 @@ impl<T> Index<T> {
         Ok(())
     }
 
-    /// How many entries there are.
+    /// How many entries there are. They stand in the order of specificity, so no name comes twice.
     pub fn len(&self) -> usize
-        ensures { result ≡ length self.now.entries }
+        ensures len { result ≡ length self.now.entries }
+        ensures ordered { IsInOrder name_of self.now.entries }
+        ensures named { AreNamed name_of self.now.entries }
     {
         self.entries.len()
     }
@@ -107,12 +109,21 @@ impl<T> Index<T> {
         place_of(&self.entries, name, steps)
     }
 
+    /// The entry of a pattern's name, generic or not.
+    pub fn find_named(&self, name: &Pattern) -> Option<usize>
+        requires { AreOf name.now.kind self.now.entries }
+        ensures { IsPlaceOf self.now.entries (find (has_name name.now) self.now.entries) result }
+    {
+        place_named(&self.entries, name)
+    }
+
     /// Adds an entry at its place in the order. It takes no memory, and moves those behind it.
     pub fn insert(&mut self, name: Pattern, item: T)
         requires room { 0 < self.old.spare }
         requires kind { AreOf name.kind self.old.entries }
         requires absent { IsAbsent name self.old.entries }
         ensures entries { self.new.entries ≡ with_entry (record { name = name; item = item }) self.old.entries }
+        ensures kinds { AreOf name.kind self.new.entries }
         ensures spare { self.new.spare + 1 ≡ self.old.spare }
     {
         // That the text is a pattern's is what the laws of the order rest on.
@@ -127,6 +138,7 @@ impl<T> Index<T> {
         requires { AreOf name.now.kind self.old.entries }
         ensures item { result ≡ option_map (λ e. e.item) (find (has_name name.now) self.old.entries) }
         ensures entries { self.new.entries ≡ without name.now self.old.entries }
+        ensures kinds { AreOf name.now.kind self.new.entries }
         ensures spare { self.new.spare ≡ self.old.spare + (if is_some result then 1 else 0) }
     {
         let Some(place) = place_named(&self.entries, name) else {

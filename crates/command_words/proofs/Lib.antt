@@ -1,0 +1,2 @@
+pub mod Skips
+mod TokenRows

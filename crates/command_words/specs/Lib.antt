@@ -1,0 +1,4 @@
+pub mod Bytes
+pub mod Quotes
+pub mod Tokens
+pub mod Pieces

@@ -1,0 +1,16 @@
+-- The pieces that the code reads, as tokens.
+use Rattle.std.specs.Prelude.{◌≡◌, List, [], ◌∷◌, Option, None, Some, MatchOption}
+use Rattle.command_words.specs.declared.tokens.Piece.{Piece}
+use Rattle.command_words.specs.declared.tokens.Tokens.{Tokens}
+use Rattle.command_words.specs.declared.tokens.Piece.TheVariants as piece
+use Rattle.command_words.specs.Tokens.{Unread, Token, Word, Group, Open, Close, tokens}
+
+abbrev pub seen : Piece → Token
+seen (piece.Word p w) = Word p w.now
+seen (piece.Group tied p t) = Group tied p t
+seen (piece.Open tied p place) = Open tied p place
+seen (piece.Close p) = Close p
+
+-- what a list of tokens begins with, and what follows it
+abbrev pub PieceAt : Option (Piece × Unread) → List Token → Type 0
+PieceAt found ts = MatchOption found (ts ≡ []) (λ t. ts ≡ seen t.0 ∷ tokens t.1)

@@ -1,13 +1,14 @@
-// A library with one function.
+//! Identifiers, access levels, group authorities, and the small values that profiles are made of.
 #![tactic(auto)]
 
-ghost use Rattle.std.specs.Prelude.{◌≡◌};
-ghost use Rattle.access_levels.specs.Echo.{echo_of};
+mod categories;
+mod entries;
+mod ids;
+mod levels;
+mod texts;
 
-// The `ensures` clause is the contract: what `echo` returns is `echo_of` of its argument, a definition
-// in `specs/Echo.antt`, which a caller's clause can cite too.
-pub fn echo(x: usize) -> usize
-    ensures { result ≡ echo_of x }
-{
-    x
-}
+pub use categories::Categories;
+pub use entries::{Attributes, CondEntry, Condition, Entry, PortClass, Who};
+pub use ids::{Id, IdFault};
+pub use levels::{GroupAuthority, Level};
+pub use texts::Text;

@@ -2,10 +2,12 @@
 #![tactic(auto)]
 
 mod bytes;
+mod items;
 mod quoting;
 mod scan;
 mod tokens;
 
 pub use bytes::{folded, is_faulty};
+pub use items::{Item, faulty_at, is_cut, is_spelled};
 pub use quoting::Quoting;
 pub use tokens::{Piece, Tokens};

@@ -1,13 +1,12 @@
-// A library with one function.
+//! The grammar of commands, both ways: `parse` reads a command from its text, and `print` writes its canonical text.
 #![tactic(auto)]
 
-ghost use Rattle.std.specs.Prelude.{◌≡◌};
-ghost use Rattle.command_parser.specs.Echo.{echo_of};
+mod faults;
+mod table;
+mod values;
+mod words;
 
-// The `ensures` clause is the contract: what `echo` returns is `echo_of` of its argument, a definition
-// in `specs/Echo.antt`, which a caller's clause can cite too.
-pub fn echo(x: usize) -> usize
-    ensures { result ≡ echo_of x }
-{
-    x
-}
+pub use faults::{ParseFault, Syntax};
+pub use table::{Kind, Operand, Position, Verb};
+pub use values::{Content, Ids};
+pub use words::Word;

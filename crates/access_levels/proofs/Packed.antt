@@ -6,7 +6,6 @@ use Rattle.access_levels.specs.Spelling.{id_of}
 use Rattle.access_levels.specs.Padding.{IsPadded}
 use Rattle.access_levels.specs.declared.ids.Id.TheInside.{Inside}
 
-
 pub IsPadded-before_zeros : (text : List ℕ) → length text ≤ 8 → id_of text ≡ Ok text → let id : Inside = record { bytes = text ++ drop (length text) (replicate 8 0); len = length text } in IsPadded id
 IsPadded-before_zeros text short spelled =
     let zeros : drop (length text) (replicate 8 0) ≡ replicate (8 - length text) 0 = drop-replicate (length text) 8 0 in

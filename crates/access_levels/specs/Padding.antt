@@ -26,5 +26,5 @@ padded-spelling id h =
     let fits : id.len ≤ length id.bytes = omega (arith, h.full, h.within) in
     let count : length (take id.len id.bytes) ≡ id.len = length-take-le id.len id.bytes fits in
     let whole : take id.len id.bytes ++ replicate (8 - id.len) 0 ≡ id.bytes =
-        ap (λ zeros. take id.len id.bytes ++ zeros) (sym h.zeros) ∙ take-append-drop id.len id.bytes in
+    ap (λ zeros. take id.len id.bytes ++ zeros) (sym h.zeros) ∙ take-append-drop id.len id.bytes in
     rejoined id.bytes id.len _ _ count whole

@@ -1,6 +1,6 @@
 //! Sets of category numbers.
-ghost use Rattle.std.specs.Prelude.{◌≡◌, ℕ, ◌<◌, ◌==◌, ◌||◌, ◌&&◌, not};
-ghost use Rattle.access_levels.specs.Category.{is_member, IsFirstMissing};
+ghost use Rattle.std.specs.Prelude.{◌≡◌, ℕ, ◌==◌, ◌||◌, ◌&&◌, not, nat_eq};
+ghost use Rattle.access_levels.specs.Category.{is_member, including, excluding, first_missing, IsFirstMissing};
 
 use std::marker::Model;
 
@@ -43,7 +43,8 @@ impl Categories {
 
     /// The set with a number added.
     pub fn with(self, n: u8) -> Categories
-        ensures { (m : ℕ) → m < 256 → is_member result m ≡ (m == n || is_member self m) }
+        ensures value { result ≡ including self n }
+        ensures members { (m : ℕ) → is_member result m ≡ (m == n || is_member self m) }
     {
         let mut words = self.words;
         words[usize::from(n / 64)] |= 1 << (n % 64);
@@ -52,7 +53,8 @@ impl Categories {
 
     /// The set with a number taken away.
     pub fn without(self, n: u8) -> Categories
-        ensures { (m : ℕ) → m < 256 → is_member result m ≡ (not (m == n) && is_member self m) }
+        ensures value { result ≡ excluding self n }
+        ensures members { (m : ℕ) → is_member result m ≡ (not (m == n) && is_member self m) }
     {
         let mut words = self.words;
         words[usize::from(n / 64)] &= !(1 << (n % 64));
@@ -61,7 +63,8 @@ impl Categories {
 
     /// The least number that `wanted` has and this set hasn't.
     pub fn first_missing(&self, wanted: &Categories) -> Option<u8>
-        ensures { IsFirstMissing self.now wanted.now result }
+        ensures value { result ≡ first_missing self.now wanted.now }
+        ensures least { IsFirstMissing self.now wanted.now result }
     {
         for i in 0..WORDS {
             let missing = wanted.words[i] & !self.words[i];

@@ -111,7 +111,11 @@ impl Id {
 fn is_id_byte(byte: u8) -> bool
     ensures { result ≡ is_id_byte byte }
 {
-    byte.is_ascii_uppercase() || byte.is_ascii_digit() || byte == b'#' || byte == b'$' || byte == b'@'
+    byte.is_ascii_uppercase()
+        || byte.is_ascii_digit()
+        || byte == b'#'
+        || byte == b'$'
+        || byte == b'@'
 }
 
 // The place, from 1, of the first byte that no identifier has.

@@ -30,7 +30,10 @@ impl Level {
     pub fn read(bytes: &[u8]) -> Option<Level>
         ensures { result ≡ level_of bytes.now }
     {
-        Level::ALL.iter().copied().find(|level| level.name() == bytes)
+        Level::ALL
+            .iter()
+            .copied()
+            .find(|level| level.name() == bytes)
     }
 
     /// Its place among the levels, from 0.
@@ -86,7 +89,10 @@ impl GroupAuthority {
     pub fn read(bytes: &[u8]) -> Option<GroupAuthority>
         ensures { result ≡ authority_of bytes.now }
     {
-        GroupAuthority::ALL.iter().copied().find(|authority| authority.name() == bytes)
+        GroupAuthority::ALL
+            .iter()
+            .copied()
+            .find(|authority| authority.name() == bytes)
     }
 
     /// Its place among the authorities, from 0.

@@ -1,5 +1,5 @@
 -- Words together with the values behind them.
-use Rattle.std.specs.Prelude.{ℕ, suc, List, [], ◌∷◌, Bool, true, false, ◌&&◌, not, if◌then◌else◌, Option, None, Some}
+use Rattle.std.specs.Prelude.{ℕ, suc, List, [], ◌∷◌, Bool, true, false, ◌&&◌, not, if◌then◌else◌, Option, None, Some, length, ◌+◌, ◌<◌, ◌^◌}
 use Rattle.command_words.specs.declared.quoting.Quoting.{Quoting}
 use Rattle.command_words.specs.Bytes.{is_faulty_byte}
 use Rattle.command_words.specs.Quotes.{after, hides}
@@ -39,3 +39,10 @@ opens_value (Close p ∷ ts) = false
 abbrev pub faulty_at : Quoting → ℕ → List ℕ → Option ℕ
 faulty_at q p [] = None
 faulty_at q p (b ∷ bs) = if not (hides q) && is_faulty_byte b then Some p else faulty_at (after q p b) (suc p) bs
+
+-- a word ends within the places that the code counts
+abbrev pub IsItemInReach : Item → Type 0
+IsItemInReach (Bare p w) = p + length w < 2 ^ 30
+IsItemInReach (With p w t) = p + length w < 2 ^ 30
+IsItemInReach (Unbounded p w place) = p + length w < 2 ^ 30
+IsItemInReach (Odd p) = Unit {0}

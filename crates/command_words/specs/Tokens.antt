@@ -1,5 +1,5 @@
 -- The words and values of a text, each with its place. Places count the bytes of the command's text from 1.
-use Rattle.std.specs.Prelude.{◌≡◌, ℕ, ◌+◌, ◌-◌, zero, suc, List, [], ◌∷◌, Bool, true, false, ◌||◌, ◌&&◌, not, ◌==◌, if◌then◌else◌, Result, Ok, Err, take}
+use Rattle.std.specs.Prelude.{◌≡◌, ℕ, ◌+◌, ◌-◌, zero, suc, List, [], ◌∷◌, Bool, true, false, ◌||◌, ◌&&◌, not, ◌==◌, if◌then◌else◌, Result, Ok, Err, take, length, ◌<◌, ◌^◌}
 use Rattle.command_words.specs.declared.quoting.Quoting.{Quoting}
 use Rattle.command_words.specs.declared.quoting.Quoting.TheVariants.{Ignored, Outside, Inside, Met}
 use Rattle.command_words.specs.Bytes.{is_blank_byte, is_gap_byte, is_word_byte}
@@ -86,3 +86,10 @@ word_then q b p bs = worded (word_len (after q p b) (suc p) bs) b p bs (λ k. to
 abbrev pub BeginsWithNoGap : List ℕ → Type 0
 BeginsWithNoGap [] = Unit {0}
 BeginsWithNoGap (b ∷ bs) = is_gap_byte b ≡ false
+
+-- a word ends within the places that the code counts
+abbrev pub IsInReach : Token → Type 0
+IsInReach (Word p w) = p + length w < 2 ^ 30
+IsInReach (Group tied p t) = Unit {0}
+IsInReach (Open tied p place) = Unit {0}
+IsInReach (Close p) = Unit {0}

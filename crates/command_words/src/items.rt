@@ -1,11 +1,11 @@
 //! A word together with the value behind it, and the tests of single words.
 
-ghost use Rattle.std.specs.Prelude.{◌≡◌, ◌+◌, ◌<◌, ◌^◌, [], ◌∷◌, length, map, MatchOption, bytes_eq};
+ghost use Rattle.std.specs.Prelude.{◌≡◌, ◌+◌, ◌<◌, ◌^◌, [], ◌∷◌, length, map, MatchOption, IfSome, bytes_eq};
 ghost use Rattle.std.specs.List.{starts_with};
 ghost use Rattle.std.specs.Prelude.{nat_eq};
 ghost use Rattle.command_words.specs.Bytes.{upper};
 ghost use Rattle.command_words.specs.Tokens.{tokens, Word};
-ghost use Rattle.command_words.specs.Items.{items, opens_value, faulty_at as first_faulty};
+ghost use Rattle.command_words.specs.Items.{items, opens_value, faulty_at as first_faulty, IsItemInReach};
 ghost use Rattle.command_words.specs.Pieces.{seen_item};
 
 use crate::bytes::{folded, is_faulty};
@@ -28,7 +28,8 @@ pub enum Item<'a> {
 impl<'a> Tokens<'a> {
     /// The first item, and the text behind it.
     pub fn split_item(&self) -> Option<(Item<'a>, Tokens<'a>)>
-        ensures { MatchOption result (items (tokens self.now) ≡ []) (λ t. items (tokens self.now) ≡ seen_item t.0 ∷ items (tokens t.1)) }
+        ensures items { MatchOption result (items (tokens self.now) ≡ []) (λ t. items (tokens self.now) ≡ seen_item t.0 ∷ items (tokens t.1)) }
+        ensures reach { IfSome result (λ t. IsItemInReach (seen_item t.0)) }
     {
         let (piece, rest) = self.split_first()?;
         match piece {
@@ -53,7 +54,9 @@ impl<'a> Tokens<'a> {
 
 /// The word with the value behind it, which `rest` may begin with.
 fn behind_word<'a>(place: u32, word: &'a [u8], rest: Tokens<'a>) -> (Item<'a>, Tokens<'a>)
-    ensures { items (Word place word.now ∷ tokens rest.entry) ≡ seen_item result.0 ∷ items (tokens result.1) }
+    requires { place + length word.now < 2 ^ 30 }
+    ensures items { items (Word place word.now ∷ tokens rest.entry) ≡ seen_item result.0 ∷ items (tokens result.1) }
+    ensures reach { IsItemInReach (seen_item result.0) }
 {
     let Some((piece, behind)) = rest.split_first() else {
         return (Item::Bare(place, word), rest);

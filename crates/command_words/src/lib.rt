@@ -5,9 +5,11 @@ mod bytes;
 mod items;
 mod quoting;
 mod scan;
+mod short_word;
 mod tokens;
 
 pub use bytes::{folded, is_faulty};
 pub use items::{Item, faulty_at, is_cut, is_spelled};
 pub use quoting::Quoting;
+pub use short_word::ShortWord;
 pub use tokens::{Piece, Tokens};

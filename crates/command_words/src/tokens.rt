@@ -1,7 +1,7 @@
 //! Words and values in parentheses, one at a time from the left.
 
-ghost use Rattle.std.specs.Prelude.{◌≡◌, ◌+◌, ◌<◌, ◌^◌, [], ◌∷◌, false, length, MatchOption};
-ghost use Rattle.command_words.specs.Tokens.{tokens, tokens_from, word_then, Close, BeginsWithNoGap};
+ghost use Rattle.std.specs.Prelude.{◌≡◌, ◌+◌, ◌<◌, ◌^◌, [], ◌∷◌, false, length};
+ghost use Rattle.command_words.specs.Tokens.{tokens, tokens_from, word_then, Close, BeginsWithNoGap, IsInReach};
 ghost use Rattle.command_words.specs.Pieces.{seen, PieceAt};
 
 use crate::quoting::Quoting;
@@ -61,7 +61,7 @@ impl<'a> Tokens<'a> {
     /// The first piece, and the text behind it.
     #[tactic(auto, unfolding(crate::specs::Tokens::tokens))]
     pub fn split_first(&self) -> Option<(Piece<'a>, Tokens<'a>)>
-        ensures { MatchOption result (tokens self.now ≡ []) (λ t. tokens self.now ≡ seen t.0 ∷ tokens t.1) }
+        ensures { PieceAt result (tokens self.now) }
     {
         let (tied, place, bytes) = past_gaps(self.quoting, self.tied, self.place, self.bytes);
         piece_at(self.quoting, tied, place, bytes)
@@ -86,7 +86,8 @@ fn piece_at<'a>(quoting: Quoting, tied: bool, place: u32, bytes: &'a [u8]) -> Op
 #[tactic(auto, unfolding(crate::specs::Tokens::tokens))]
 fn closing<'a>(quoting: Quoting, place: u32, rest: &'a [u8]) -> (Piece<'a>, Tokens<'a>)
     requires { place + length rest.now + 1 < 2 ^ 30 }
-    ensures { Close place ∷ tokens_from quoting false 0 (place + 1) rest.now ≡ seen result.0 ∷ tokens result.1 }
+    ensures tokens { Close place ∷ tokens_from quoting false 0 (place + 1) rest.now ≡ seen result.0 ∷ tokens result.1 }
+    ensures reach { IsInReach (seen result.0) }
 {
     (
         Piece::Close(place),
@@ -103,7 +104,8 @@ fn closing<'a>(quoting: Quoting, place: u32, rest: &'a [u8]) -> (Piece<'a>, Toke
 #[tactic(auto, unfolding(crate::specs::Tokens::tokens))]
 fn group<'a>(quoting: Quoting, tied: bool, place: u32, rest: &'a [u8]) -> (Piece<'a>, Tokens<'a>)
     requires { place + length rest.now + 1 < 2 ^ 30 }
-    ensures { tokens_from quoting tied 0 place (40 ∷ rest.now) ≡ seen result.0 ∷ tokens result.1 }
+    ensures tokens { tokens_from quoting tied 0 place (40 ∷ rest.now) ≡ seen result.0 ∷ tokens result.1 }
+    ensures reach { IsInReach (seen result.0) }
 {
     match group_end(place, rest) {
         Err(open) => (
@@ -138,7 +140,8 @@ fn group<'a>(quoting: Quoting, tied: bool, place: u32, rest: &'a [u8]) -> (Piece
 fn word<'a>(quoting: Quoting, place: u32, byte: u8, rest: &'a [u8], bytes: &'a [u8]) -> (Piece<'a>, Tokens<'a>)
     requires reach { place + length rest.now + 1 < 2 ^ 30 }
     requires same { bytes.now ≡ byte ∷ rest.now }
-    ensures { word_then quoting byte place rest.now ≡ seen result.0 ∷ tokens result.1 }
+    ensures tokens { word_then quoting byte place rest.now ≡ seen result.0 ∷ tokens result.1 }
+    ensures reach { IsInReach (seen result.0) }
 {
     let letters = word_len(quoting.after(place, byte), place + 1, rest);
     let behind = Tokens {

@@ -6,7 +6,7 @@ use Rattle.command_parser.specs.declared.faults.Syntax.{Syntax}
 use Rattle.command_parser.specs.declared.faults.Syntax.TheVariants.{UnknownCommand, UnknownOperand, AmbiguousOperand, Missing, Repeated, Excluded, BadValue, Unclosed, TextTooLong}
 use Rattle.command_parser.specs.declared.words.Word.TheVariants as words
 use Rattle.command_parser.specs.Results.{◌>>=◌}
-use Rattle.command_parser.specs.Context.{Context}
+use Rattle.command_parser.specs.declared.values.Context.{Context}
 use Rattle.command_parser.specs.Canon.{canon, spelled}
 
 by_joe : Context

@@ -9,7 +9,7 @@ use Rattle.command_parser.specs.declared.values.Content.TheVariants as contents
 use Rattle.command_parser.specs.Words.{spelling_of}
 use Rattle.command_parser.specs.Table.{full_name, operands_of}
 use Rattle.command_parser.specs.Results.{◌>>=◌}
-use Rattle.command_parser.specs.Context.{Context}
+use Rattle.command_parser.specs.declared.values.Context.{Context}
 use Rattle.command_parser.specs.Values.{text_of}
 use Rattle.command_parser.specs.Reading.{Generic, Slots, parsed}
 

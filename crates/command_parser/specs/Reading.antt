@@ -19,7 +19,7 @@ use Rattle.command_parser.specs.declared.values.Content.{Content}
 use Rattle.command_parser.specs.Words.{spelling_of}
 use Rattle.command_parser.specs.Table.{positions_of, operands_of, verb_named}
 use Rattle.command_parser.specs.Results.{◌>>=◌, or_fault}
-use Rattle.command_parser.specs.Context.{Context}
+use Rattle.command_parser.specs.declared.values.Context.{Context}
 use Rattle.command_parser.specs.Values.{clean, single, value, one, bare}
 
 -- A word names the operand that it spells; else the only one that it is the beginning of.

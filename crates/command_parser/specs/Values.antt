@@ -15,7 +15,7 @@ use Rattle.command_parser.specs.declared.table.Kind.TheVariants as kinds
 use Rattle.command_parser.specs.declared.values.Content.{Content}
 use Rattle.command_parser.specs.declared.values.Content.TheVariants as contents
 use Rattle.command_parser.specs.Results.{◌>>=◌, or_fault}
-use Rattle.command_parser.specs.Context.{Context}
+use Rattle.command_parser.specs.declared.values.Context.{Context}
 
 -- A word with a faulty byte is refused at that byte before it is judged.
 abbrev pub clean_if : Option ℕ → List ℕ → Result (List ℕ) Syntax
@@ -97,14 +97,18 @@ quotes_of kinds.Ids = Ignored
 quotes_of kinds.Classes = Ignored
 
 -- behind a value of one word nothing may stand
-abbrev pub alone : Quoting → List Item → Content → Result Content Syntax
-alone q [] v = Ok v
-alone q (i ∷ is) v = Err (faults.BadValue (refused_at q i))
+abbrev pub stray : Quoting → List Item → Option ℕ
+stray q [] = None
+stray q (i ∷ is) = Some (refused_at q i)
+
+abbrev pub unless_stray : Option ℕ → Content → Result Content Syntax
+unless_stray None v = Ok v
+unless_stray (Some place) v = Err (faults.BadValue place)
 
 -- a value of one word; where there is none it is refused at place p
 abbrev pub single : Context → Kind → ℕ → List Item → Result Content Syntax
 single at k p [] = Err (faults.BadValue p)
-single at k p (i ∷ is) = word_of (quotes_of k) i >>= λ w. one at k w.0 w.1 >>= λ v. alone (quotes_of k) is v
+single at k p (i ∷ is) = word_of (quotes_of k) i >>= λ w. one at k w.0 w.1 >>= λ v. unless_stray (stray (quotes_of k) is) v
 
 -- the names of a list, behind those of `front`
 abbrev pub names : Kind → List (List ℕ) → List Item → Result (List (List ℕ)) Syntax

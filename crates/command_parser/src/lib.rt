@@ -3,10 +3,11 @@
 
 mod faults;
 mod table;
+mod value;
 mod values;
 mod words;
 
 pub use faults::{ParseFault, Syntax};
 pub use table::{Kind, Operand, Position, Verb};
-pub use values::{Content, Ids};
+pub use values::{Content, Context, Ids};
 pub use words::Word;

@@ -31,3 +31,10 @@ pub enum Content {
     /// A list of names.
     Ids(Ids),
 }
+
+/// What the reading of a value may depend on beside its text.
+#[derive(Clone, Copy, Debug)]
+pub struct Context {
+    /// Who gives the command.
+    pub issuer: Id,
+}

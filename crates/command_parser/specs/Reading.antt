@@ -77,17 +77,17 @@ fresh rows slots k = if is_given slots k then Err (faults.Repeated (row_at rows 
 abbrev pub slot_of : List Operand → Slots → ℕ → List ℕ → Result ℕ Syntax
 slot_of rows slots p w = clean Ignored p w >>= λ w. named rows p (map upper w) >>= λ k. fresh rows slots k
 
--- The slots with one operand more.
-abbrev pub filled : Context → List Operand → Slots → Item → Result Slots Syntax
-filled at rows slots (Bare p w) = slot_of rows slots p w >>= λ k. bare (row_at rows k).kind p >>= λ v. Ok (slice_set slots k (Some v))
-filled at rows slots (With p w t) = slot_of rows slots p w >>= λ k. value at (row_at rows k).kind p (items (tokens t)) >>= λ v. Ok (slice_set slots k (Some v))
-filled at rows slots (Unbounded p w place) = slot_of rows slots p w >>= λ k. Err (faults.Unclosed place)
-filled at rows slots (Odd p) = Err (faults.UnknownOperand p)
+-- An operand: its row, and its value.
+abbrev pub operand_at : Context → List Operand → Slots → Item → Result (ℕ × Content) Syntax
+operand_at at rows slots (Bare p w) = slot_of rows slots p w >>= λ k. bare (row_at rows k).kind p >>= λ v. Ok (k, v)
+operand_at at rows slots (With p w t) = slot_of rows slots p w >>= λ k. value at (row_at rows k).kind p (items (tokens t)) >>= λ v. Ok (k, v)
+operand_at at rows slots (Unbounded p w place) = slot_of rows slots p w >>= λ k. Err (faults.Unclosed place)
+operand_at at rows slots (Odd p) = Err (faults.UnknownOperand p)
 
 -- The operands from the left.
 abbrev pub operands_at : Context → List Operand → Slots → List Item → Result Slots Syntax
 operands_at at rows slots [] = Ok slots
-operands_at at rows slots (i ∷ is) = filled at rows slots i >>= λ now. operands_at at rows now is
+operands_at at rows slots (i ∷ is) = operand_at at rows slots i >>= λ x. operands_at at rows (slice_set slots x.0 (Some x.1)) is
 
 -- the rows that were given, in the order of the table
 abbrev pub given : List Operand → Slots → List Operand

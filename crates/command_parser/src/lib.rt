@@ -2,6 +2,7 @@
 #![tactic(auto)]
 
 mod faults;
+mod operands;
 mod table;
 mod value;
 mod values;

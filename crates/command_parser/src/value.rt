@@ -182,8 +182,8 @@ fn name_named(alloc: Global, word: &[u8]) -> Result<Option<Text>, AllocError>
 }
 
 // The value that a word is.
-fn one(alloc: Global, _at: Context, kind: Kind, place: u32, word: &[u8]) -> Result<Content, ParseFault>
-    ensures { Gives (λ v. v) result (one_of _at kind place word.now) }
+fn one(alloc: Global, _at: &Context, kind: Kind, place: u32, word: &[u8]) -> Result<Content, ParseFault>
+    ensures { Gives (λ v. v) result (one_of _at.now kind place word.now) }
 {
     let bad = Syntax::BadValue(place);
     match kind {
@@ -196,8 +196,8 @@ fn one(alloc: Global, _at: Context, kind: Kind, place: u32, word: &[u8]) -> Resu
 }
 
 /// A value of one word. Where there is no word it is refused at `place`.
-pub fn single(alloc: Global, at: Context, kind: Kind, place: u32, inner: Tokens<'_>) -> Result<Content, ParseFault>
-    ensures { Gives (λ v. v) result (single_of at kind place (items (tokens inner.entry))) }
+pub fn single(alloc: Global, at: &Context, kind: Kind, place: u32, inner: Tokens<'_>) -> Result<Content, ParseFault>
+    ensures { Gives (λ v. v) result (single_of at.now kind place (items (tokens inner.entry))) }
 {
     let Some((item, rest)) = inner.split_item() else {
         return Err(ParseFault::Syntax(Syntax::BadValue(place)));
@@ -236,8 +236,8 @@ fn several(alloc: Global, kind: Kind, place: u32, inner: Tokens<'_>) -> Result<C
 }
 
 /// The value in the parentheses behind an operand at `place`.
-pub fn value(alloc: Global, at: Context, kind: Kind, place: u32, inner: Tokens<'_>) -> Result<Content, ParseFault>
-    ensures { Gives (λ v. v) result (value_of at kind place (items (tokens inner.entry))) }
+pub fn value(alloc: Global, at: &Context, kind: Kind, place: u32, inner: Tokens<'_>) -> Result<Content, ParseFault>
+    ensures { Gives (λ v. v) result (value_of at.now kind place (items (tokens inner.entry))) }
 {
     match kind {
         Kind::Flag => Err(ParseFault::Syntax(Syntax::BadValue(place))),

@@ -3,6 +3,7 @@
 
 mod faults;
 mod operands;
+mod reading;
 mod table;
 mod value;
 mod values;

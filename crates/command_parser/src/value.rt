@@ -181,8 +181,8 @@ fn name_named(alloc: Global, word: &[u8]) -> Result<Option<Text>, AllocError>
     Ok(Some(Text::of(alloc, text.as_slice())?))
 }
 
-// The value that a word is.
-fn one(alloc: Global, _at: &Context, kind: Kind, place: u32, word: &[u8]) -> Result<Content, ParseFault>
+/// The value that a word is.
+pub fn one(alloc: Global, _at: &Context, kind: Kind, place: u32, word: &[u8]) -> Result<Content, ParseFault>
     ensures { Gives (λ v. v) result (one_of _at.now kind place word.now) }
 {
     let bad = Syntax::BadValue(place);

@@ -1,6 +1,6 @@
 -- The values of positional words and operands: what is read, and how a value is written.
 use Rattle.std.specs.Prelude.{ℕ, ◌+◌, zero, suc, List, [], ◌∷◌, ◌++◌, Bool, true, false, ◌&&◌, not, ◌==◌, nat_le, length, map, codes, bytes_eq, if◌then◌else◌, unwrap_or, Option, None, Some, Result, Ok, Err}
-use Rattle.std.specs.List.{list_all, join_with_byte}
+use Rattle.std.specs.List.{list_all}
 use Rattle.std.specs.Result.{result_ok}
 use Rattle.access_levels.specs.Spelling.{id_of, group_of, authority_of}
 use Rattle.access_levels.specs.Level.{authority_name}
@@ -145,10 +145,19 @@ abbrev pub doubled : List ℕ → List ℕ
 doubled [] = []
 doubled (b ∷ bs) = if b == 39 then 39 ∷ 39 ∷ doubled bs else b ∷ doubled bs
 
+-- names parted by one blank: the first, and those behind it
+abbrev pub more_text : List (List ℕ) → List ℕ
+more_text [] = []
+more_text (x ∷ xs) = 32 ∷ (x ++ more_text xs)
+
+abbrev pub ids_text : List (List ℕ) → List ℕ
+ids_text [] = []
+ids_text (x ∷ xs) = x ++ more_text xs
+
 -- how a value is written
 abbrev pub text_of : Content → List ℕ
 text_of contents.Flag = []
 text_of (contents.Id w) = w
 text_of (contents.Authority a) = authority_name a
 text_of (contents.Name t) = 39 ∷ (doubled t ++ 39 ∷ [])
-text_of (contents.Ids xs) = join_with_byte 32 xs
+text_of (contents.Ids xs) = ids_text xs

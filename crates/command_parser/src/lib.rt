@@ -3,6 +3,7 @@
 
 mod faults;
 mod operands;
+mod printing;
 mod reading;
 mod table;
 mod value;

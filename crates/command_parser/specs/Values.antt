@@ -7,6 +7,7 @@ use Rattle.access_levels.specs.Level.{authority_name}
 use Rattle.command_words.specs.declared.quoting.Quoting.{Quoting}
 use Rattle.command_words.specs.declared.quoting.Quoting.TheVariants.{Ignored, Outside}
 use Rattle.command_words.specs.Bytes.{upper}
+use Rattle.command_words.specs.Quotes.{doubled}
 use Rattle.command_words.specs.Items.{Item, Bare, With, Unbounded, Odd, faulty_at}
 use Rattle.command_parser.specs.declared.faults.Syntax.{Syntax}
 use Rattle.command_parser.specs.declared.faults.Syntax.TheVariants as faults
@@ -139,11 +140,6 @@ bare kinds.Authority p = Err (faults.BadValue p)
 bare kinds.Name p = Err (faults.BadValue p)
 bare kinds.Ids p = Err (faults.BadValue p)
 bare kinds.Classes p = Err (faults.BadValue p)
-
--- a text as it stands between quotes, each quote twice
-abbrev pub doubled : List ℕ → List ℕ
-doubled [] = []
-doubled (b ∷ bs) = if b == 39 then 39 ∷ 39 ∷ doubled bs else b ∷ doubled bs
 
 -- names parted by one blank: the first, and those behind it
 abbrev pub more_text : List (List ℕ) → List ℕ

@@ -1,7 +1,8 @@
 //! The canonical text of a command.
 
 ghost use Rattle.std.specs.Prelude.{◌≡◌, ◌++◌, ◌∷◌, [], OnOk, IfOk};
-ghost use Rattle.command_parser.specs.Values.{doubled, ids_text, text_of};
+ghost use Rattle.command_words.specs.Quotes.{doubled};
+ghost use Rattle.command_parser.specs.Values.{ids_text, text_of};
 ghost use Rattle.command_parser.specs.Canon.{value_text, positions_text, operands_text, canon};
 ghost use Rattle.command_parser.specs.Parts.{generic};
 ghost use Rattle.command_parser.specs.Words.{spelling_of};

@@ -23,3 +23,8 @@ hides (Met q) = false
 abbrev pub word_len : Quoting → ℕ → List ℕ → ℕ
 word_len q p [] = 0
 word_len q p (b ∷ bs) = if hides q || is_word_byte b then suc (word_len (after q p b) (suc p) bs) else 0
+
+-- a text as it stands between quotes, each quote twice
+abbrev pub doubled : List ℕ → List ℕ
+doubled [] = []
+doubled (b ∷ bs) = if b == 39 then 39 ∷ (39 ∷ doubled bs) else b ∷ doubled bs

@@ -1,5 +1,5 @@
 use Rattle.std.proofs.Common.{◌≡◌, ◌++◌, drop}
-use Rattle.command_parser.specs.Values.{doubled}
+use Rattle.command_words.specs.Quotes.{doubled}
 use Rattle.command_parser.proofs.printing.push_doubled.Given as goal
 
 abbrev pub invariant-loop-byte : goal.invariant-loop-byte

@@ -2,6 +2,7 @@
 use Rattle.std.proofs.Common.{◌≡◌, ℕ, zero, suc, ◌+◌, ◌-◌, ◌<◌, List, [], ◌∷◌, ◌++◌, length, take, drop, Bool, true, false, ◌&&◌, ◌||◌, not, Result, Ok, Err, refl, sym, ap, subst, ◌∙◌, arith, add-zero, add-one, length-append, append_assoc}
 use Rattle.std.specs.Prelude.{◌==◌}
 use Rattle.std.specs.List.{list_all}
+use Rattle.std.proofs.lemmas.List.{append-nil}
 use Rattle.std.proofs.Math.Seq.{take-append_seam, take-length, drop-append_seam, drop-length}
 use Rattle.std.proofs.lemmas.Bool.Decides.{nat_tests}
 use Rattle.command_words.specs.declared.quoting.Quoting.{Quoting}
@@ -112,3 +113,7 @@ quoted_token tied p t =
     worded-at Outside 39 p (length (doubled t ++ 39 ∷ [])) (doubled t ++ 39 ∷ []) measured
         ∙ ap (λ v. Word p v ∷ tokens_from Outside true 0 (p + 1 + length (doubled t ++ 39 ∷ [])) (drop (length (doubled t ++ 39 ∷ [])) (doubled t ++ 39 ∷ []))) whole
         ∙ ap (λ bs. Word p (quoted t) ∷ tokens_from Outside true 0 (p + 1 + length (doubled t ++ 39 ∷ [])) bs) (drop-length (doubled t ++ 39 ∷ []))
+
+-- a word alone
+pub word_alone : (q : Quoting) → IsSteady q → (tied : Bool) (p b : ℕ) (w : List ℕ) → list_all is_letter (b ∷ w) ≡ true → tokens_from q tied 0 p (b ∷ w) ≡ Word p (b ∷ w) ∷ []
+word_alone q s tied p b w h = ap (λ bs. tokens_from q tied 0 p (b ∷ bs)) (sym (append-nil w)) ∙ word_token q s tied p b w [] h tt

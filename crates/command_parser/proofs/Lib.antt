@@ -1,3 +1,5 @@
 pub mod Names
 pub mod ValueAgain
+pub mod TableFacts
+pub mod ReadAgain
 mod CommandRows

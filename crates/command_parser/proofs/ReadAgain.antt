@@ -9,7 +9,9 @@ use Rattle.command_words.specs.Tokens.{Token, Word, Group, within, tokens, token
 use Rattle.command_words.specs.Items.{Item, Bare, With, items, opens_value, faulty_at}
 use Rattle.command_words.proofs.Letters.{is_letter, both_first, both_second, Ignored-steady, EndsWord}
 use Rattle.command_words.proofs.Spelled.{word_token, group_token}
+use Rattle.access_levels.specs.Spelling.{id_of}
 use Rattle.command_parser.specs.declared.faults.Syntax.{Syntax}
+use Rattle.command_parser.specs.declared.faults.Syntax.TheVariants as faults
 use Rattle.command_parser.specs.declared.table.Verb.{Verb}
 use Rattle.command_parser.specs.declared.table.Kind.{Kind}
 use Rattle.command_parser.specs.declared.table.Kind.TheVariants as kinds
@@ -159,3 +161,101 @@ operands_again at rows pre (o ∷ os) front (Some v ∷ ss) k tied p whole at_pr
         ∙ ap (λ slots. operands_at at rows slots (items (tokens_from Ignored read.tied_behind 0 read.place_behind (operands_text os ss)))) stored
         ∙ operands_again at rows (pre ++ o ∷ []) os (front ++ Some v ∷ []) ss (suc k) read.tied_behind read.place_behind whole' pre' front' found.1 h.1
         ∙ ap Ok (append_assoc front (Some v ∷ []) ss)
+
+-- a positional word
+record IsNameValue (k : Kind) (v : Content) : Type 0 where
+  name : List ℕ
+  is : v ≡ contents.Id name
+  plain : IsPlainName name
+  reads : (at : Context) (p : ℕ) → one at k p name ≡ Ok v
+
+name_value : (k : Kind) (v : Content) → is_name_kind k ≡ true → Fits k v → IsNameValue k v
+name_value kinds.Id (contents.Id w) names h = record { name = w; is = refl; plain = name-plain kinds.Id w w h; reads = λ at p. rw h refl }
+name_value kinds.Group (contents.Id w) names h = record { name = w; is = refl; plain = name-plain kinds.Group w w h; reads = λ at p. rw h refl }
+name_value kinds.Id contents.Flag names h = absurd h
+name_value kinds.Id (contents.Authority a) names h = absurd h
+name_value kinds.Id (contents.Name t) names h = absurd h
+name_value kinds.Id (contents.Ids xs) names h = absurd h
+name_value kinds.Group contents.Flag names h = absurd h
+name_value kinds.Group (contents.Authority a) names h = absurd h
+name_value kinds.Group (contents.Name t) names h = absurd h
+name_value kinds.Group (contents.Ids xs) names h = absurd h
+name_value kinds.Flag v names h = cc
+name_value kinds.Authority v names h = cc
+name_value kinds.Name v names h = cc
+name_value kinds.Ids v names h = cc
+name_value kinds.Classes v names h = cc
+
+plain-some : (w : List ℕ) → IsPlainName w → IsMore w
+plain-some [] plain = let no : id_of [] ≡ Ok [] = plain.spelled in cc
+plain-some (b ∷ w) plain = tt
+
+-- no value opens: the word is judged
+judged : (at : Context) (rows : List Operand) (pos : Position) (p : ℕ) (w : List ℕ) (ts : List Token) (v : Content) → opens_value ts ≡ false → faulty_at Ignored p w ≡ None → one at pos.kind p w ≡ Ok v
+    → position_at at rows pos (Word p w ∷ ts) ≡ Ok (v, ts)
+judged at rows pos p w ts v opens sound reads = rw (opens, sound, reads) refl
+
+record ArePositionsRead (at : Context) (rows : List Operand) (ps : List Position) (front vs : List Content) (rest : List ℕ) (tied : Bool) (p : ℕ) : Type 0 where
+  tied_behind : Bool
+  place_behind : ℕ
+  reads : positions_at at rows ps front (tokens_from Ignored tied 0 p (positions_text vs ++ rest)) ≡ Ok (front ++ vs, tokens_from Ignored tied_behind 0 place_behind rest)
+
+positions-apart : (ps : List Position) (vs : List Content) (rest : List ℕ) → list_all (λ (pos : Position). is_name_kind pos.kind) ps ≡ true → FitsPositions ps vs → IsApart rest → IsApart (positions_text vs ++ rest)
+positions-apart [] [] rest names h apart = apart
+positions-apart [] (v ∷ vs) rest names h apart = absurd h
+positions-apart (pos ∷ ps) [] rest names h apart = absurd h
+positions-apart (pos ∷ ps) (v ∷ vs) rest names h apart =
+    let named = name_value pos.kind v (both_first _ _ names) h.0 in
+    let more = positions-apart ps vs rest (both_second _ _ names) h.1 apart in
+    let regrouped : 32 ∷ (named.name ++ (positions_text vs ++ rest)) ≡ positions_text (v ∷ vs) ++ rest =
+        ap (λ bs. 32 ∷ bs) (sym (append_assoc named.name (positions_text vs) rest)) ∙ ap (λ u. positions_text (u ∷ vs) ++ rest) (sym named.is) in
+    subst (λ (bs : List ℕ). IsApart bs) regrouped (word-apart named.name (positions_text vs ++ rest) (plain-some named.name named.plain) named.plain.letters more.ends)
+
+positions_again : (at : Context) (rows : List Operand) (ps : List Position) (front vs : List Content) (rest : List ℕ) (tied : Bool) (p : ℕ) → list_all (λ (pos : Position). is_name_kind pos.kind) ps ≡ true → FitsPositions ps vs → IsApart rest
+    → ArePositionsRead at rows ps front vs rest tied p
+positions_again at rows [] front [] rest tied p names h apart =
+    record { tied_behind = tied; place_behind = p; reads = ap (λ vs. Ok (vs, tokens_from Ignored tied 0 p rest)) (sym (append-nil front)) }
+positions_again at rows [] front (v ∷ vs) rest tied p names h apart = absurd h
+positions_again at rows (pos ∷ ps) front [] rest tied p names h apart = absurd h
+positions_again at rows (pos ∷ ps) front (v ∷ vs) rest tied p names h apart =
+    let named = name_value pos.kind v (both_first _ _ names) h.0 in
+    let behind = positions-apart ps vs rest (both_second _ _ names) h.1 apart in
+    let regrouped : positions_text (v ∷ vs) ++ rest ≡ 32 ∷ (named.name ++ (positions_text vs ++ rest)) =
+        ap (λ u. positions_text (u ∷ vs) ++ rest) named.is ∙ ap (λ bs. 32 ∷ bs) (append_assoc named.name (positions_text vs) rest) in
+    let first : tokens_from Ignored tied 0 p (positions_text (v ∷ vs) ++ rest) ≡ Word (suc p) named.name ∷ tokens_from Ignored true 0 (suc p + length named.name) (positions_text vs ++ rest) =
+        ap (tokens_from Ignored tied 0 p) regrouped
+            ∙ plain_token (tied && true) (suc p) named.name (positions_text vs ++ rest) (plain-some named.name named.plain) named.plain.letters behind.ends in
+    let more = positions_again at rows ps (front ++ v ∷ []) vs rest true (suc p + length named.name) (both_second _ _ names) h.1 apart in
+    record {
+      tied_behind = more.tied_behind;
+      place_behind = more.place_behind;
+      reads = ap (positions_at at rows (pos ∷ ps) front) first
+          ∙ ap (λ r. r >>= λ x. positions_at at rows ps (front ++ x.0 ∷ []) x.1)
+              (judged at rows pos (suc p) named.name (tokens_from Ignored true 0 (suc p + length named.name) (positions_text vs ++ rest)) v
+                  (behind.opens true (suc p + length named.name)) (named.plain.sound (suc p)) (named.reads at (suc p)))
+          ∙ more.reads
+          ∙ ap (λ us. Ok (us, tokens_from Ignored more.tied_behind 0 more.place_behind rest)) (append_assoc front (v ∷ []) vs)
+    }
+
+-- what follows the command's name
+body_again : (at : Context) (g : Generic) (tied : Bool) (p : ℕ) → IsLawful g
+    → body_at at g.verb (tokens_from Ignored tied 0 p (positions_text g.positions ++ operands_text (operands_of g.verb) g.slots)) ≡ Ok g
+body_again at g tied p lawful =
+    let read = positions_again at (operands_of g.verb) (positions_of g.verb) [] g.positions (operands_text (operands_of g.verb) g.slots) tied p (positions-names g.verb) lawful.fits_positions (operands-apart (operands_of g.verb) g.slots) in
+    let filled : operands_at at (operands_of g.verb) (no_slots (operands_of g.verb)) (items (tokens_from Ignored read.tied_behind 0 read.place_behind (operands_text (operands_of g.verb) g.slots))) ≡ Ok g.slots =
+        operands_again at (operands_of g.verb) [] (operands_of g.verb) [] g.slots 0 read.tied_behind read.place_behind refl refl refl (operands-found g.verb) lawful.fits_operands in
+    rw (read.reads, filled, lawful.apart) refl
+
+text-apart : (g : Generic) → IsLawful g → IsApart (positions_text g.positions ++ operands_text (operands_of g.verb) g.slots)
+text-apart g lawful = positions-apart (positions_of g.verb) g.positions (operands_text (operands_of g.verb) g.slots) (positions-names g.verb) lawful.fits_positions (operands-apart (operands_of g.verb) g.slots)
+
+pub read_again : (at : Context) (g : Generic) → IsLawful g → nat_lt 30000 (length (canon g)) ≡ false → parsed at (canon g) ≡ Ok g
+unfolding tokens
+read_again at g lawful short =
+    let plain = full_name-plain g.verb in
+    let sound : faulty_at Ignored 1 (full_name g.verb) ≡ None = plain.sound 1 in
+    let first : tokens_from Ignored false 0 1 (canon g) ≡ Word 1 (full_name g.verb) ∷ tokens_from Ignored true 0 (1 + length (full_name g.verb)) (positions_text g.positions ++ operands_text (operands_of g.verb) g.slots) =
+        plain_token false 1 (full_name g.verb) (positions_text g.positions ++ operands_text (operands_of g.verb) g.slots) plain.some plain.letters (text-apart g lawful).ends in
+    ap (λ b. cond b (Err faults.TextTooLong) (command_at at (tokens_from Ignored false 0 1 (canon g)))) short
+        ∙ ap (command_at at) first
+        ∙ rw (sound, plain.folded, verb_named-full_name g.verb) (body_again at g true (1 + length (full_name g.verb)) lawful)

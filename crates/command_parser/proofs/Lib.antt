@@ -2,4 +2,5 @@ pub mod Names
 pub mod ValueAgain
 pub mod TableFacts
 pub mod ReadAgain
+pub mod ReadLawful
 mod CommandRows

@@ -3,4 +3,5 @@ pub mod ValueAgain
 pub mod TableFacts
 pub mod ReadAgain
 pub mod ReadLawful
+pub mod Takes
 mod CommandRows

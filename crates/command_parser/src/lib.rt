@@ -1,7 +1,9 @@
 //! The grammar of commands, both ways: `parse` reads a command from its text, and `print` writes its canonical text.
 #![tactic(auto)]
 
+mod convert;
 mod faults;
+mod forms;
 mod operands;
 mod printing;
 mod reading;
@@ -10,6 +12,7 @@ mod value;
 mod values;
 mod words;
 
+pub use forms::{AddGroup, AddUser, AltGroup, AltUser, Connect, DelGroup, DelUser, Form, Remove};
 pub use faults::{ParseFault, Syntax};
 pub use table::{Kind, Operand, Position, Verb};
 pub use values::{Content, Context, Ids};

@@ -4,4 +4,6 @@ pub mod TableFacts
 pub mod ReadAgain
 pub mod ReadLawful
 pub mod Takes
+pub mod OneForm
+pub mod Written
 mod CommandRows

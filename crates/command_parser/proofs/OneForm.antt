@@ -23,7 +23,7 @@ use Rattle.command_parser.specs.declared.forms.Remove.{Remove}
 use Rattle.command_parser.specs.Reading.{Generic, Slots}
 use Rattle.command_parser.specs.Results.{Fails, Gives}
 use Rattle.command_parser.specs.Canon.{spelled}
-use Rattle.command_parser.specs.Forms.{flag_slot, id_slot, authority_slot, name_slot, ids_slot, slots_of_add_user, slots_of_alt_user, slots_of_add_group, slots_of_alt_group, slots_of_connect, slots_of_remove, generic_form, Spells, IsUnlessMemory}
+use Rattle.command_parser.specs.Forms.{flag_slot, id_slot, authority_slot, name_slot, ids_slot, slots_of_add_user, slots_of_alt_user, slots_of_add_group, slots_of_alt_group, slots_of_connect, slots_of_remove, generic_form, given_by, Spells, IsUnlessMemory}
 
 flag_same : (x y : Bool) → flag_slot x ≡ flag_slot y → x ≡ y
 flag_same true true h = refl
@@ -272,13 +272,13 @@ generic_form-same (forms.Remove a) (forms.DelGroup b) h = let no : verbs.Remove 
 generic_form-same (forms.Remove a) (forms.Connect b) h = let no : verbs.Remove ≡ verbs.Connect = ap (λ (g : Generic). g.verb) h in cc
 generic_form-same (forms.Remove a) (forms.Remove b) h = ap (λ (x : Remove). forms.Remove x) (remove_same a b (one_same a.user b.user (ap (λ (g : Generic). g.positions) h)) (ap (λ (g : Generic). g.slots) h))
 
-pub only_found : (r : Result Form ParseFault) (at : Context) (text : List ℕ) (c : Form) → Gives generic_form r (spelled at text) → Spells at text c → IsUnlessMemory r c
-only_found (Ok d) at text c h spells = generic_form-same d c (ok-same (generic_form d) (generic_form c) (sym h ∙ spells))
+pub only_found : (r : Result Form ParseFault) (issuer text : List ℕ) (c : Form) → Gives generic_form r (spelled (given_by issuer) text) → Spells issuer text c → IsUnlessMemory r c
+only_found (Ok d) issuer text c h spells = generic_form-same d c (ok-same (generic_form d) (generic_form c) (sym h ∙ spells))
   where
     ok-same : (x y : Generic) → let read : Result Generic Syntax = Ok x in read ≡ Ok y → x ≡ y
     ok-same x y h = cc
-only_found (Err reasons.NoMemory) at text c h spells = tt
-only_found (Err (reasons.Syntax e)) at text c h spells = wrong (generic_form c) e (sym h ∙ spells)
+only_found (Err reasons.NoMemory) issuer text c h spells = tt
+only_found (Err (reasons.Syntax e)) issuer text c h spells = wrong (generic_form c) e (sym h ∙ spells)
   where
     wrong : (g : Generic) (e : Syntax) → let read : Result Generic Syntax = Err e in read ≡ Ok g → ⊥
     wrong g e h = cc

@@ -1,6 +1,8 @@
 -- Commands as the table sees them: each field of a command in the slot of its operand.
 use Rattle.std.specs.Prelude.{◌≡◌, ℕ, List, [], ◌∷◌, Bool, true, false, Option, None, Some, Result, Ok, Err, length}
 use Rattle.access_levels.specs.declared.levels.GroupAuthority.{GroupAuthority}
+use Rattle.std.specs.Result.{result_err}
+use Rattle.command_parser.specs.declared.faults.Syntax.{Syntax}
 use Rattle.command_parser.specs.declared.faults.ParseFault.{ParseFault}
 use Rattle.command_parser.specs.declared.faults.ParseFault.TheVariants as reasons
 use Rattle.command_parser.specs.declared.table.Verb.TheVariants as verbs
@@ -79,9 +81,22 @@ generic_form (forms.Remove a) = record { verb = verbs.Remove; positions = conten
 abbrev pub canonical : Form → List ℕ
 canonical c = canon (generic_form c)
 
+-- what reading depends on where this issuer gives the command
+abbrev pub given_by : List ℕ → Context
+given_by issuer = record { issuer = issuer }
+
 -- The text spells the command, where this issuer gives it.
-abbrev pub Spells : Context → List ℕ → Form → Type 0
-Spells at text c = spelled at text ≡ Ok (generic_form c)
+abbrev pub Spells : List ℕ → List ℕ → Form → Type 0
+Spells issuer text c = spelled (given_by issuer) text ≡ Ok (generic_form c)
+
+-- the first fault of a text that spells no command
+abbrev pub fault : List ℕ → List ℕ → Option Syntax
+fault issuer text = result_err (spelled (given_by issuer) text)
+
+-- the first fault, unless memory ran out
+abbrev pub IsFault : List ℕ → List ℕ → ParseFault → Type 0
+IsFault issuer text (reasons.Syntax e) = fault issuer text ≡ Some e
+IsFault issuer text reasons.NoMemory = Unit {0}
 
 -- a command that was read, unless memory ran out
 abbrev pub IsUnlessMemory : Result Form ParseFault → Form → Type 0
@@ -92,4 +107,4 @@ IsUnlessMemory (Err (reasons.Syntax e)) c = ⊥
 -- What the type of commands keeps: the text that it holds is the canonical one, which spells it for every issuer.
 pub record IsWritten (c : Form) (text : List ℕ) : Type 0 where
   pub canonic : text ≡ canonical c
-  pub spells : (at : Context) → Spells at text c
+  pub spells : (issuer : List ℕ) → Spells issuer text c

@@ -1,12 +1,11 @@
 //! Commands, read from their text and written as their canonical text.
 
-ghost use Rattle.std.specs.Prelude.{◌≡◌, ◌++◌, IfOk, IfErr, OnOk, OnErr, IsTrue, is_ok};
+ghost use Rattle.std.specs.Prelude.{◌≡◌, ◌++◌, List, ℕ, IfOk, IfErr, OnOk, OnErr, IsTrue, IsErr, MatchOption, is_ok};
 ghost use Rattle.access_levels.specs.Spelling.{group_of};
-ghost use Rattle.command_parser.specs.declared.values.Context.{Context};
 ghost use Rattle.command_parser.specs.declared.forms.Form.{Form};
-ghost use Rattle.command_parser.specs.Results.{Fails, Gives};
+ghost use Rattle.command_parser.specs.Results.{Gives};
 ghost use Rattle.command_parser.specs.Canon.{spelled};
-ghost use Rattle.command_parser.specs.Forms.{generic_form, canonical, Spells, IsUnlessMemory};
+ghost use Rattle.command_parser.specs.Forms.{generic_form, canonical, Spells, IsFault, IsUnlessMemory};
 
 use crate::convert::form;
 use crate::faults::{ParseFault, Syntax};
@@ -27,6 +26,18 @@ pub struct Issuer {
     pub id: Id,
     pub group: Id,
     pub ghost group_spelled: { IsTrue (is_ok (group_of group)) },
+}
+
+impl Issuer {
+    /// The issuer, unless the group has no group name's spelling.
+    pub fn new(id: Id, group: Id) -> Option<Issuer>
+        ensures { MatchOption result (IsErr (group_of group)) (λ issuer. (issuer.id ≡ id) × (issuer.group ≡ group)) }
+    {
+        match Id::read_group(group.text()) {
+            Ok(_) => Some(Issuer { id, group }),
+            Err(_) => None,
+        }
+    }
 }
 
 /// A command with its canonical text, seen by contracts as its `Form`. The canonical text has at most 30,000 bytes, and
@@ -83,13 +94,13 @@ fn parse_exact(alloc: Global, at: &Context, text: &[u8]) -> Result<Command, Pars
 /// The command that the text spells where `issuer` gives it, or the text's first fault.
 pub fn parse(alloc: Global, issuer: Id, text: &[u8]) -> Result<Command, ParseFault>
     // What is read is spelled so.
-    ensures found { let at : Context = record { issuer = issuer } in IfOk result (Spells at text.now) }
+    ensures found { IfOk result (Spells issuer text.now) }
 
     // What is spelled so is read, unless memory runs out.
-    ensures only { let at : Context = record { issuer = issuer } in (c : Form) → Spells at text.now c → IsUnlessMemory result c }
+    ensures only { (c : Form) → Spells issuer text.now c → IsUnlessMemory result c }
 
     // Which fault it is.
-    ensures fault { let at : Context = record { issuer = issuer } in IfErr result (λ e. Fails e (spelled at text.now)) }
+    ensures fault { IfErr result (IsFault issuer text.now) }
 {
     parse_exact(alloc, &Context { issuer }, text)
 }
@@ -104,7 +115,7 @@ pub fn print(command: &Command, out: &mut Vec<u8>) -> Result<(), NoMemory>
 
 /// The law of both directions: the canonical text of a command spells it, whoever gives it.
 pub fn printed_is_read(command: &Command)
-    ensures { (at : Context) → Spells at (canonical command.now) command.now }
+    ensures { (issuer : List ℕ) → Spells issuer (canonical command.now) command.now }
 {
     let _form = &command.form;
 }

@@ -19,3 +19,6 @@ pub use faults::{ParseFault, Syntax};
 pub use table::{Kind, Operand, Position, Verb};
 pub use values::{Content, Context, Ids};
 pub use words::Word;
+
+#[cfg(test)]
+mod tests;

@@ -28,9 +28,21 @@ impl Quoting {
     {
         match self {
             Quoting::Ignored => Quoting::Ignored,
-            Quoting::Outside => if byte == b'\'' { Quoting::Inside(place) } else { Quoting::Outside },
-            Quoting::Inside(open) => if byte == b'\'' { Quoting::Met(open) } else { Quoting::Inside(open) },
-            Quoting::Met(open) => if byte == b'\'' { Quoting::Inside(open) } else { Quoting::Outside },
+            Quoting::Outside => if byte == b'\'' {
+                Quoting::Inside(place)
+            } else {
+                Quoting::Outside
+            },
+            Quoting::Inside(open) => if byte == b'\'' {
+                Quoting::Met(open)
+            } else {
+                Quoting::Inside(open)
+            },
+            Quoting::Met(open) => if byte == b'\'' {
+                Quoting::Inside(open)
+            } else {
+                Quoting::Outside
+            },
         }
     }
 

@@ -26,7 +26,7 @@ at_class-absent name change [] absent = refl
 at_class-absent name change (class ∷ classes) absent = ⊎_elim
     (λ (hit : is_class name class ≡ true). let found : Some class ≡ None = sym (find-hit (is_class name) class classes hit) ∙ absent in cc)
     (λ (miss : is_class name class ≡ false). ap (λ b. cond b (change class ∷ classes) (class ∷ at_class name change classes)) miss
-        ∙ ap (λ rest. class ∷ rest) (at_class-absent name change classes (sym (find-miss (is_class name) class classes miss) ∙ absent)))
+    ∙ ap (λ rest. class ∷ rest) (at_class-absent name change classes (sym (find-miss (is_class name) class classes miss) ∙ absent)))
     (cases_Bool (is_class name class))
 
 pub at_class-without_absent : (class : List ℕ) (name : Spelled) (classes : List ClassRow)
@@ -34,11 +34,11 @@ pub at_class-without_absent : (class : List ℕ) (name : Spelled) (classes : Lis
 at_class-without_absent class name [] absent = refl
 at_class-without_absent class name (row ∷ classes) absent = ⊎_elim
     (λ (hit : is_class class row ≡ true).
-        let none : find (is_profile name) row.profiles ≡ None = sym (ap (λ o. option_and_then (λ (r : ClassRow). find (is_profile name) r.profiles) o) (find-hit (is_class class) row classes hit)) ∙ absent in
-        ap (λ b. cond b (without_profile name row ∷ classes) (row ∷ at_class class (without_profile name) classes)) hit
-        ∙ ap (λ profiles. record row { profiles = profiles } ∷ classes) (drop_row-absent (is_profile name) row.profiles none))
+    let none : find (is_profile name) row.profiles ≡ None = sym (ap (λ o. option_and_then (λ (r : ClassRow). find (is_profile name) r.profiles) o) (find-hit (is_class class) row classes hit)) ∙ absent in
+    ap (λ b. cond b (without_profile name row ∷ classes) (row ∷ at_class class (without_profile name) classes)) hit
+    ∙ ap (λ profiles. record row { profiles = profiles } ∷ classes) (drop_row-absent (is_profile name) row.profiles none))
     (λ (miss : is_class class row ≡ false). ap (λ b. cond b (without_profile name row ∷ classes) (row ∷ at_class class (without_profile name) classes)) miss
-        ∙ ap (λ rest. row ∷ rest) (at_class-without_absent class name classes (sym (ap (λ o. option_and_then (λ (r : ClassRow). find (is_profile name) r.profiles) o) (find-miss (is_class class) row classes miss)) ∙ absent)))
+    ∙ ap (λ rest. row ∷ rest) (at_class-without_absent class name classes (sym (ap (λ o. option_and_then (λ (r : ClassRow). find (is_profile name) r.profiles) o) (find-miss (is_class class) row classes miss)) ∙ absent)))
     (cases_Bool (is_class class row))
 
 pub copy_at-absent : (name : List ℕ) (copy : ClassRow → List Profile) (classes : List ClassRow) (copies : List (List Profile)) → find (is_class name) classes ≡ None → copy_at name copy classes copies ≡ copies
@@ -47,7 +47,7 @@ copy_at-absent name copy (class ∷ classes) [] absent = refl
 copy_at-absent name copy (class ∷ classes) (old ∷ copies) absent = ⊎_elim
     (λ (hit : is_class name class ≡ true). let found : Some class ≡ None = sym (find-hit (is_class name) class classes hit) ∙ absent in cc)
     (λ (miss : is_class name class ≡ false). ap (λ b. cond b (copy class ∷ copies) (old ∷ copy_at name copy classes copies)) miss
-        ∙ ap (λ rest. old ∷ rest) (copy_at-absent name copy classes copies (sym (find-miss (is_class name) class classes miss) ∙ absent)))
+    ∙ ap (λ rest. old ∷ rest) (copy_at-absent name copy classes copies (sym (find-miss (is_class name) class classes miss) ∙ absent)))
     (cases_Bool (is_class name class))
 
 -- What is put is found.
@@ -82,7 +82,7 @@ pub effective_in-live : (name : List ℕ) (classes : List ClassRow) → effectiv
 effective_in-live name [] = refl
 effective_in-live name (class ∷ classes) = ⊎_elim
     (λ (hit : is_class name class ≡ true). ap (λ b. cond b (Some (cond class.listed (live_copy class) class.profiles)) (effective_in name classes (map live_copy classes))) hit ∙ ap Some (live class.listed class.profiles)
-        ∙ sym (ap (λ o. option_map (λ (row : ClassRow). row.profiles) o) (find-hit (is_class name) class classes hit)))
+    ∙ sym (ap (λ o. option_map (λ (row : ClassRow). row.profiles) o) (find-hit (is_class name) class classes hit)))
     (λ (miss : is_class name class ≡ false). ap (λ b. cond b (Some (cond class.listed (live_copy class) class.profiles)) (effective_in name classes (map live_copy classes))) miss ∙ effective_in-live name classes
-        ∙ sym (ap (λ o. option_map (λ (row : ClassRow). row.profiles) o) (find-miss (is_class name) class classes miss)))
+    ∙ sym (ap (λ o. option_map (λ (row : ClassRow). row.profiles) o) (find-miss (is_class name) class classes miss)))
     (cases_Bool (is_class name class))

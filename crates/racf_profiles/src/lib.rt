@@ -16,7 +16,7 @@ mod view;
 
 pub use class_rows::{ClassRow, ClassRows, LogOption};
 pub use edits::{Change, Edit, Edits};
-pub use fixed_classes::{class_facts, class_table, ClassFacts, FixedClass, NameForm, CLASS_TABLE};
+pub use fixed_classes::{CLASS_TABLE, ClassFacts, FixedClass, NameForm, class_facts, class_table};
 pub use groups::{Group, Groups};
 pub use known::{ibmuser, sys1};
 pub use options::{CategoryNames, Options};

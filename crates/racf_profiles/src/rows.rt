@@ -5,8 +5,8 @@ ghost use Rattle.racf_profiles.specs.ClassTable.{is_dataset};
 
 use crate::class_rows::{ClassRow, ClassRows, LogOption};
 use crate::fixed_classes::FixedClass;
-use crate::known::{ibmuser, sys1};
 use crate::groups::{Group, Groups};
+use crate::known::{ibmuser, sys1};
 use crate::options::{CategoryNames, Options};
 use crate::profiles::Profiles;
 use crate::users::{Classes, Connect, Connects, NoMemory, User, Users};

@@ -1,0 +1,6 @@
+pub mod Limits
+pub mod Names
+pub mod Security
+pub mod Effects
+pub mod Edits
+pub mod Conflicts

@@ -58,7 +58,8 @@ new_user issuer c rows = record {
     auditor = switched c.auditor c.noauditor false;
     restricted = switched c.restricted c.norestricted false;
     revoked = false;
-    uaudit = false };
+    uaudit = false;
+  };
   classes = fold with_class [] c.clauth;
   level = unwrap_or (option_and_then (level_number rows) c.seclevel) 0;
   categories = fold (with_category rows) 0 c.addcategory;
@@ -74,7 +75,8 @@ attributes_after c old = record {
   auditor = switched c.auditor c.noauditor old.auditor;
   restricted = switched c.restricted c.norestricted old.restricted;
   revoked = switched c.revoke c.resume old.revoked;
-  uaudit = switched c.uaudit c.nouaudit old.uaudit }
+  uaudit = switched c.uaudit c.nouaudit old.uaudit;
+}
 
 abbrev pub level_after : AltUser → Rows → ℕ → ℕ
 level_after c rows old = if c.noseclevel then 0 else unwrap_or (option_and_then (level_number rows) c.seclevel) old
@@ -91,7 +93,8 @@ altered_user c rows old = record old {
   classes = without_classes c.noclauth (fold with_class old.classes c.clauth);
   level = level_after c rows old.level;
   categories = fold (with_category rows) (fold (without_category rows) old.categories c.delcategory) c.addcategory;
-  label = label_after c old.label }
+  label = label_after c old.label;
+}
 
 -- ADDGROUP.
 abbrev pub new_group : Issuer → AddGroup → Group
@@ -108,7 +111,8 @@ altered_connection c old = record old {
   special = switched c.special c.nospecial old.special;
   operations = switched c.operations c.nooperations old.operations;
   auditor = switched c.auditor c.noauditor old.auditor;
-  revoked = switched c.revoke c.resume old.revoked }
+  revoked = switched c.revoke c.resume old.revoked;
+}
 
 abbrev pub connects_after : Connect → List ℕ → List Connection → List Connection
 connects_after c group [] = altered_connection c (new_connection group) ∷ []

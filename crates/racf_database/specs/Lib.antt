@@ -4,3 +4,5 @@ pub mod Security
 pub mod Effects
 pub mod Edits
 pub mod Conflicts
+pub mod UserList
+pub mod KeptUsers

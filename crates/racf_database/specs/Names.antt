@@ -1,5 +1,5 @@
 -- Who and what is there.
-use Rattle.std.specs.Prelude.{ℕ, Bool, ◌||◌, ◌&&◌, not, List, [], Option, is_some, sum_by, count_by, length, codes, bytes_eq}
+use Rattle.std.specs.Prelude.{ℕ, Bool, ◌||◌, ◌&&◌, not, List, [], Option, is_some, sum_by, length, codes, bytes_eq, if◌then◌else◌}
 use Rattle.std.specs.List.{list_any}
 use Rattle.std.specs.Option.{option_map_or}
 use Rattle.racf_profiles.specs.declared.users.User.{User}
@@ -31,9 +31,16 @@ connects_of id rows = option_map_or (λ (user : User). user.connects) (user_of i
 abbrev pub is_administrator : User → Bool
 is_administrator user = user.attributes.special && not user.attributes.revoked
 
-abbrev pub administrators : List User → ℕ
-administrators users = count_by is_administrator users
+-- How many such users one user is.
+abbrev pub administering : User → ℕ
+administering user = if is_administrator user then 1 else 0
 
--- All connections, of all users.
+abbrev pub administrators : List User → ℕ
+administrators users = sum_by administering users
+
+-- To how many groups a user is connected, and all connections of all users.
+abbrev pub connected_to : User → ℕ
+connected_to user = length user.connects
+
 abbrev pub connections : List User → ℕ
-connections users = sum_by (λ (user : User). length user.connects) users
+connections users = sum_by connected_to users

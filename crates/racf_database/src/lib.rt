@@ -3,6 +3,7 @@
 
 mod command;
 mod conflict;
+mod user_table;
 
 pub use command::{
     AddGroup, AddUser, AltGroup, AltUser, Command, Connect, DelGroup, DelUser, Form, Ids, Issuer,

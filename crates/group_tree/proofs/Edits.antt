@@ -8,7 +8,6 @@ use Rattle.std.specs.Cmp.Lexicographic.{nat_list_eq_equiv}
 use Rattle.std.proofs.lemmas.Bool.{cases_Bool}
 use Rattle.std.proofs.lemmas.List.{length-map, map-append}
 use Rattle.std.proofs.lemmas.Map.Keys.{IsDistinct-push, IsDistinct-head, IsDistinct-tail, IsDistinct-cons}
-use Rattle.std.proofs.lemmas.List.Filters.{length-filter_both}
 use Rattle.racf_profiles.specs.declared.groups.Group.{Group}
 use Rattle.racf_profiles.specs.NewDatabase.{sys1}
 use Rattle.group_tree.specs.Groups.{find_group, IsGroup, first_absent, first_subgroup, with_group, at_group, with_superior, with_owner}
@@ -89,10 +88,11 @@ module _ (groups : List Group) (tree : IsTree groups) (group superior owner : Li
         ⊎_elim
         (λ e. let w = tree.upwards id (ap is_some e) in record { others = w.others; way = stays id w.others w.way })
         (λ n.
-          let w = tree.upwards superior (there_one groups superior can.superior_there) in
-          let here : find_group (with_group groups group superior owner) id ≡ Some row = subst (λ i. find_group (with_group groups group superior owner) i ≡ Some row) (sym n.0) (find_group-push_here groups row can.name_free) in
-          record { others = superior ∷ w.others; way = (holds_of (find_group (with_group groups group superior owner) id) (λ r. IsUnder r superior) row here refl, stays superior w.others w.way) })
-        (there_or_new id g.0 g.1 (find_group groups id) refl) }
+        let w = tree.upwards superior (there_one groups superior can.superior_there) in
+        let here : find_group (with_group groups group superior owner) id ≡ Some row = subst (λ i. find_group (with_group groups group superior owner) i ≡ Some row) (sym n.0) (find_group-push_here groups row can.name_free) in
+        record { others = superior ∷ w.others; way = (holds_of (find_group (with_group groups group superior owner) id) (λ r. IsUnder r superior) row here refl, stays superior w.others w.way) })
+        (there_or_new id g.0 g.1 (find_group groups id) refl);
+  }
     where
       new_root : (id : List ℕ) (g : Group) → id ≡ group → g ≡ record { id = group; superior = Some superior; owner = owner } → ((g.superior ≡ None) ↔ (id ≡ sys1.id))
       new_root id g n e =
@@ -150,7 +150,9 @@ module _ (groups : List Group) (tree : IsTree groups) (group owner : List ℕ) w
           others = w.others;
           way = way-kept IsUnder groups (at_group group (with_owner owner) groups)
               (λ x g e. holds_of (find_group (at_group group (with_owner owner) groups) x) (λ r. (next : List ℕ) → IsUnder g next → IsUnder r next) (cond (bytes_eq x group) (with_owner owner g) g) (find_group-at_group (with_owner owner) (λ g. refl) group groups x g e) (λ n u. new_owner (bytes_eq x group) g ∙ u))
-              id w.others sys1.id w.way } }
+              id w.others sys1.id w.way;
+        };
+  }
 
 -- another superior group
 module _ (groups : List Group) (tree : IsTree groups) (group superior : List ℕ) (can : CanMove groups group superior) (below : group ≡ sys1.id → ⊥) where
@@ -173,9 +175,10 @@ module _ (groups : List Group) (tree : IsTree groups) (group superior : List ℕ
       (ap is_some (moved_other id g.0 other g.1), w.1)
   way-apart id (next ∷ others) away w =
       let g = value_of (find_group groups id) (λ r. IsUnder r next) w.0 in
-      let other : bytes_eq id group ≡ false = apart id group (λ e. away (record { others = []; way = (ap is_some g.1, e) })) in
-      ( holds_of (find_group moved id) (λ r. IsUnder r next) g.0 (moved_other id g.0 other g.1) g.2
-      , way-apart next others (λ i. away (record { others = next ∷ i.others; way = (w.0, i.way) })) w.1 )
+      let other : bytes_eq id group ≡ false = apart id group (λ e. away (record { others = []; way = (ap is_some g.1, e) })) in (
+        holds_of (find_group moved id) (λ r. IsUnder r next) g.0 (moved_other id g.0 other g.1) g.2,
+        way-apart next others (λ i. away (record { others = next ∷ i.others; way = (w.0, i.way) })) w.1,
+      )
 
   -- and one that meets it goes on by the new superior group
   way-moved : (id : List ℕ) (others : List (List ℕ)) → IsWay IsUnder groups id others sys1.id → IsWithin moved sys1.id superior → IsWithin moved sys1.id id
@@ -211,7 +214,8 @@ module _ (groups : List Group) (tree : IsTree groups) (group superior : List ℕ
     upwards = λ id h.
         let w = tree.upwards id (sym (is_some-at_group (with_superior superior) (λ g. refl) group groups id) ∙ h) in
         let s = tree.upwards superior ((there_two groups group superior can.both_there).1) in
-        way-moved id w.others w.way (record { others = s.others; way = way-apart superior s.others can.no_cycle s.way }) }
+        way-moved id w.others w.way (record { others = s.others; way = way-apart superior s.others can.no_cycle s.way });
+  }
 
 -- ---- a group taken away
 -- no superior group has a name that no group has as its superior group
@@ -229,19 +233,27 @@ no_subgroup (r ∷ rs) id x g none h up = by (option_eq bytes_eq r.superior (Som
 
 all-drop : (P : List ℕ → Type 0) (gone : List ℕ) (groups : List Group) → AllByRecursion P (map (λ (g : Group). g.id) groups) → AllByRecursion P (map (λ (g : Group). g.id) (drop_row (is_group gone) groups))
 all-drop P gone [] h = tt
-all-drop P gone (g ∷ gs) h = by (not (bytes_eq g.id gone)) (all-drop P gone gs h.1)
+all-drop P gone (g ∷ gs) h = by (bytes_eq g.id gone) (all-drop P gone gs h.1)
   where
-    by : (b : Bool) → AllByRecursion P (map (λ (g : Group). g.id) (drop_row (is_group gone) gs)) → AllByRecursion P (map (λ (g : Group). g.id) (cond b (g ∷ drop_row (is_group gone) gs) (drop_row (is_group gone) gs)))
-    by true rest = (h.0, rest)
-    by false rest = rest
+    by : (b : Bool) → AllByRecursion P (map (λ (g : Group). g.id) (drop_row (is_group gone) gs)) → AllByRecursion P (map (λ (g : Group). g.id) (cond b gs (g ∷ drop_row (is_group gone) gs)))
+    by true rest = h.1
+    by false rest = (h.0, rest)
 
 distinct-drop : (gone : List ℕ) (groups : List Group) → IsDistinct bytes_eq (map (λ (g : Group). g.id) groups) → IsDistinct bytes_eq (map (λ (g : Group). g.id) (drop_row (is_group gone) groups))
 distinct-drop gone [] h = h
-distinct-drop gone (g ∷ gs) h = by (not (bytes_eq g.id gone)) (distinct-drop gone gs (IsDistinct-tail bytes_eq g.id (map (λ (r : Group). r.id) gs) h))
+distinct-drop gone (g ∷ gs) h = by (bytes_eq g.id gone) (IsDistinct-tail bytes_eq g.id (map (λ (r : Group). r.id) gs) h) (distinct-drop gone gs (IsDistinct-tail bytes_eq g.id (map (λ (r : Group). r.id) gs) h))
   where
-    by : (b : Bool) → IsDistinct bytes_eq (map (λ (r : Group). r.id) (drop_row (is_group gone) gs)) → IsDistinct bytes_eq (map (λ (r : Group). r.id) (cond b (g ∷ drop_row (is_group gone) gs) (drop_row (is_group gone) gs)))
-    by true rest = IsDistinct-cons bytes_eq g.id (map (λ (r : Group). r.id) (drop_row (is_group gone) gs)) (all-drop (λ y. bytes_eq g.id y ≡ false) gone gs (IsDistinct-head bytes_eq g.id (map (λ (r : Group). r.id) gs) h)) rest
-    by false rest = rest
+    by : (b : Bool) → IsDistinct bytes_eq (map (λ (r : Group). r.id) gs) → IsDistinct bytes_eq (map (λ (r : Group). r.id) (drop_row (is_group gone) gs)) → IsDistinct bytes_eq (map (λ (r : Group). r.id) (cond b gs (g ∷ drop_row (is_group gone) gs)))
+    by true all rest = all
+    by false all rest = IsDistinct-cons bytes_eq g.id (map (λ (r : Group). r.id) (drop_row (is_group gone) gs)) (all-drop (λ y. bytes_eq g.id y ≡ false) gone gs (IsDistinct-head bytes_eq g.id (map (λ (r : Group). r.id) gs) h)) rest
+
+length-drop_le : (gone : List ℕ) (groups : List Group) → length (drop_row (is_group gone) groups) ≤ length groups
+length-drop_le gone [] = omega arith
+length-drop_le gone (g ∷ gs) = by (bytes_eq g.id gone) (length-drop_le gone gs)
+  where
+    by : (b : Bool) → length (drop_row (is_group gone) gs) ≤ length gs → length (cond b gs (g ∷ drop_row (is_group gone) gs)) ≤ length (g ∷ gs)
+    by true rest = omega arith
+    by false rest = omega arith
 
 module _ (groups : List Group) (tree : IsTree groups) (gone : List ℕ) (can : CanRemove groups gone) (below : gone ≡ sys1.id → ⊥) where
   way-left : (id : List ℕ) (others : List (List ℕ)) → bytes_eq id gone ≡ false → IsWay IsUnder groups id others sys1.id → IsWay IsUnder (drop_row (is_group gone) groups) id others sys1.id
@@ -253,18 +265,19 @@ module _ (groups : List Group) (tree : IsTree groups) (gone : List ℕ) (can : C
 
   left : (id : List ℕ) (g : Group) → find_group (drop_row (is_group gone) groups) id ≡ Some g → (b : Bool) → bytes_eq id gone ≡ b → (b ≡ false) × (find_group groups id ≡ Some g)
   left id g h true e =
-      let none : find_group (drop_row (is_group gone) groups) id ≡ None = ap (find_group (drop_row (is_group gone) groups)) (same id gone e) ∙ find_group-drop_gone gone groups in
+      let none : find_group (drop_row (is_group gone) groups) id ≡ None = ap (find_group (drop_row (is_group gone) groups)) (same id gone e) ∙ find_group-drop_gone gone groups tree.distinct in
       cc
   left id g h false e = (refl, sym (find_group-drop_other gone groups id e) ∙ h)
 
   pub tree-drop : IsTree (drop_row (is_group gone) groups)
   tree-drop = record {
     distinct = distinct-drop gone groups tree.distinct;
-    most = omega (arith, tree.most, length-filter_both (λ (g : Group). not (bytes_eq g.id gone)) (λ (g : Group). not (not (bytes_eq g.id gone))) (λ g. refl) groups);
+    most = omega (arith, tree.most, length-drop_le gone groups);
     root = ap is_some (find_group-drop_other gone groups sys1.id (apart sys1.id gone (λ e. below (sym e)))) ∙ tree.root;
     root_alone = λ id g h. tree.root_alone id g (left id g h (bytes_eq id gone) refl).1;
     upwards = λ id h.
         let g = some_of (find_group (drop_row (is_group gone) groups) id) h in
         let old = left id g.0 g.1 (bytes_eq id gone) refl in
         let w = tree.upwards id (ap is_some old.1) in
-        record { others = w.others; way = way-left id w.others old.0 w.way } }
+        record { others = w.others; way = way-left id w.others old.0 w.way };
+  }

@@ -8,6 +8,7 @@ use Rattle.std.specs.Cmp.Lexicographic.{nat_list_eq_equiv}
 use Rattle.std.proofs.lemmas.Bool.{false_from_ne_true}
 use Rattle.std.proofs.lemmas.List.Folds.{find-append}
 use Rattle.std.proofs.lemmas.Slice.Eq.{bytes_eq-Decides}
+use Rattle.std.proofs.lemmas.Map.Keys.{IsDistinct-head, IsDistinct-tail}
 use Rattle.racf_profiles.specs.declared.groups.Group.{Group}
 use Rattle.racf_profiles.specs.Lookup.{is_group}
 use Rattle.racf_profiles.specs.Edits.{drop_row}
@@ -106,27 +107,35 @@ module _ (f : Group → Group) (keeps : (group : Group) → (f group).id ≡ gro
   names-map (g ∷ gs) = ap (λ k. k ∷ map (λ (h : Group). h.id) (map f gs)) (keeps g) ∙ ap (λ ks. g.id ∷ ks) (names-map gs)
 
 -- ---- a group taken away
+-- a name that differs from each finds none
+pub find_group-absent : (id : List ℕ) (groups : List Group) → AllByRecursion (λ y. bytes_eq id y ≡ false) (map (λ (g : Group). g.id) groups) → find_group groups id ≡ None
+find_group-absent id [] h = refl
+find_group-absent id (g ∷ gs) h = ap (λ b. cond b (Some g) (find_group gs id)) (turned g.id id ∙ h.0) ∙ find_group-absent id gs h.1
+
 module _ (gone : List ℕ) where
   pub find_group-drop_other : (groups : List Group) (id : List ℕ) → bytes_eq id gone ≡ false → find_group (drop_row (is_group gone) groups) id ≡ find_group groups id
   find_group-drop_other [] id other = refl
   find_group-drop_other (g ∷ gs) id other = by (bytes_eq g.id gone) refl (bytes_eq g.id id) refl (find_group-drop_other gs id other)
     where
       by : (b : Bool) → bytes_eq g.id gone ≡ b → (c : Bool) → bytes_eq g.id id ≡ c → find_group (drop_row (is_group gone) gs) id ≡ find_group gs id
-          → find_group (cond (not (bytes_eq g.id gone)) (g ∷ drop_row (is_group gone) gs) (drop_row (is_group gone) gs)) id ≡ find_group (g ∷ gs) id
+          → find_group (cond (bytes_eq g.id gone) gs (g ∷ drop_row (is_group gone) gs)) id ≡ find_group (g ∷ gs) id
       by true e true i rest = absurd (unlike id gone other (sym (same g.id id i) ∙ same g.id gone e))
       by true e false i rest =
-          ap (λ b. find_group (cond (not b) (g ∷ drop_row (is_group gone) gs) (drop_row (is_group gone) gs)) id) e ∙ rest
+          ap (λ b. find_group (cond b gs (g ∷ drop_row (is_group gone) gs)) id) e
           ∙ sym (ap (λ b. cond b (Some g) (find_group gs id)) i)
       by false e c i rest =
-          ap (λ b. find_group (cond (not b) (g ∷ drop_row (is_group gone) gs) (drop_row (is_group gone) gs)) id) e
+          ap (λ b. find_group (cond b gs (g ∷ drop_row (is_group gone) gs)) id) e
           ∙ ap (cond (bytes_eq g.id id) (Some g)) rest
 
-  pub find_group-drop_gone : (groups : List Group) → find_group (drop_row (is_group gone) groups) gone ≡ None
-  find_group-drop_gone [] = refl
-  find_group-drop_gone (g ∷ gs) = by (bytes_eq g.id gone) refl (find_group-drop_gone gs)
+  pub find_group-drop_gone : (groups : List Group) → IsDistinct bytes_eq (map (λ (g : Group). g.id) groups) → find_group (drop_row (is_group gone) groups) gone ≡ None
+  find_group-drop_gone [] distinct = refl
+  find_group-drop_gone (g ∷ gs) distinct =
+      by (bytes_eq g.id gone) refl (find_group-drop_gone gs (IsDistinct-tail bytes_eq g.id (map (λ (h : Group). h.id) gs) distinct))
     where
-      by : (b : Bool) → bytes_eq g.id gone ≡ b → find_group (drop_row (is_group gone) gs) gone ≡ None → find_group (cond (not (bytes_eq g.id gone)) (g ∷ drop_row (is_group gone) gs) (drop_row (is_group gone) gs)) gone ≡ None
-      by true e rest = ap (λ b. find_group (cond (not b) (g ∷ drop_row (is_group gone) gs) (drop_row (is_group gone) gs)) gone) e ∙ rest
+      by : (b : Bool) → bytes_eq g.id gone ≡ b → find_group (drop_row (is_group gone) gs) gone ≡ None → find_group (cond (bytes_eq g.id gone) gs (g ∷ drop_row (is_group gone) gs)) gone ≡ None
+      by true e rest =
+          ap (λ b. find_group (cond b gs (g ∷ drop_row (is_group gone) gs)) gone) e
+          ∙ find_group-absent gone gs (subst (λ n. AllByRecursion (λ y. bytes_eq n y ≡ false) (map (λ (h : Group). h.id) gs)) (same g.id gone e) (IsDistinct-head bytes_eq g.id (map (λ (h : Group). h.id) gs) distinct))
       by false e rest =
-          ap (λ b. find_group (cond (not b) (g ∷ drop_row (is_group gone) gs) (drop_row (is_group gone) gs)) gone) e
+          ap (λ b. find_group (cond b gs (g ∷ drop_row (is_group gone) gs)) gone) e
           ∙ ap (λ b. cond b (Some g) (find_group (drop_row (is_group gone) gs) gone)) e ∙ rest

@@ -64,7 +64,7 @@ module _ (change : Group → Group) (id : List ℕ) where
           let here : e.1 ≡ row = cc in
           let name : id ≡ e.1.id = same id e.0 t ∙ named-head e es named in
           let none : AllByRecursion (λ y. bytes_eq id y ≡ false) (map (λ (g : Group). g.id) (values_of es)) =
-              subst (λ n. AllByRecursion (λ y. bytes_eq n y ≡ false) (map (λ (g : Group). g.id) (values_of es))) (sym name) (IsDistinct-head bytes_eq e.1.id (map (λ (g : Group). g.id) (values_of es)) distinct) in
+          subst (λ n. AllByRecursion (λ y. bytes_eq n y ≡ false) (map (λ (g : Group). g.id) (values_of es))) (sym name) (IsDistinct-head bytes_eq e.1.id (map (λ (g : Group). g.id) (values_of es)) distinct) in
           ap (λ b. values_of (cond b ((e.0, change row) ∷ es) (e ∷ set_value (bytes_eq id) es (change row)))) t
           ∙ ap (λ r. change r ∷ values_of es) (sym here)
           ∙ ap (λ rest. change e.1 ∷ rest) (sym (at_group-absent (values_of es) none))
@@ -83,30 +83,18 @@ written change keeps id es fs named distinct row found new keys =
 
 -- ---- one taken away
 module _ (id : List ℕ) where
-  drop-absent : (groups : List Group) → AllByRecursion (λ y. bytes_eq id y ≡ false) (map (λ (g : Group). g.id) groups) → drop_row (is_group id) groups ≡ groups
-  drop-absent [] h = refl
-  drop-absent (g ∷ gs) h = ap (λ b. cond (not b) (g ∷ drop_row (is_group id) gs) (drop_row (is_group id) gs)) (turned g.id id ∙ h.0) ∙ ap (λ rest. g ∷ rest) (drop-absent gs h.1)
-
-  pub values-remove_entry : (es : List (List ℕ × Group)) → IsNamed es → IsDistinct bytes_eq (map (λ (g : Group). g.id) (values_of es)) → values_of (remove_entry (bytes_eq id) es) ≡ drop_row (is_group id) (values_of es)
-  values-remove_entry [] named distinct = refl
-  values-remove_entry (e ∷ es) named distinct =
-      by (bytes_eq id e.0) refl (values-remove_entry es (named-tail e es named) (IsDistinct-tail bytes_eq e.1.id (map (λ (g : Group). g.id) (values_of es)) distinct))
+  values-remove_entry : (es : List (List ℕ × Group)) → IsNamed es → values_of (remove_entry (bytes_eq id) es) ≡ drop_row (is_group id) (values_of es)
+  values-remove_entry [] named = refl
+  values-remove_entry (e ∷ es) named =
+      ap (λ b. values_of (cond b es (e ∷ remove_entry (bytes_eq id) es))) (ap (bytes_eq id) (named-head e es named) ∙ turned id e.1.id)
+      ∙ by (bytes_eq e.1.id id) (values-remove_entry es (named-tail e es named))
     where
-      by : (b : Bool) → bytes_eq id e.0 ≡ b → values_of (remove_entry (bytes_eq id) es) ≡ drop_row (is_group id) (values_of es)
-          → values_of (cond (bytes_eq id e.0) es (e ∷ remove_entry (bytes_eq id) es)) ≡ cond (not (bytes_eq e.1.id id)) (e.1 ∷ drop_row (is_group id) (values_of es)) (drop_row (is_group id) (values_of es))
-      by true t rest =
-          let name : id ≡ e.1.id = same id e.0 t ∙ named-head e es named in
-          let none : AllByRecursion (λ y. bytes_eq id y ≡ false) (map (λ (g : Group). g.id) (values_of es)) =
-              subst (λ n. AllByRecursion (λ y. bytes_eq n y ≡ false) (map (λ (g : Group). g.id) (values_of es))) (sym name) (IsDistinct-head bytes_eq e.1.id (map (λ (g : Group). g.id) (values_of es)) distinct) in
-          ap (λ b. values_of (cond b es (e ∷ remove_entry (bytes_eq id) es))) t
-          ∙ sym (drop-absent (values_of es) none)
-          ∙ ap (λ b. cond (not b) (e.1 ∷ drop_row (is_group id) (values_of es)) (drop_row (is_group id) (values_of es))) (sym (turned e.1.id id ∙ ap (bytes_eq id) (sym (named-head e es named)) ∙ t))
-      by false t rest =
-          ap (λ b. values_of (cond b es (e ∷ remove_entry (bytes_eq id) es))) t
-          ∙ ap (λ rest. e.1 ∷ rest) rest
-          ∙ ap (λ b. cond (not b) (e.1 ∷ drop_row (is_group id) (values_of es)) (drop_row (is_group id) (values_of es))) (sym (turned e.1.id id ∙ ap (bytes_eq id) (sym (named-head e es named)) ∙ t))
+      by : (b : Bool) → values_of (remove_entry (bytes_eq id) es) ≡ drop_row (is_group id) (values_of es)
+          → values_of (cond b es (e ∷ remove_entry (bytes_eq id) es)) ≡ cond b (values_of es) (e.1 ∷ drop_row (is_group id) (values_of es))
+      by true rest = refl
+      by false rest = ap (λ gs. e.1 ∷ gs) rest
 
-  pub named-remove_entry : (es : List (List ℕ × Group)) → IsNamed es → IsNamed (remove_entry (bytes_eq id) es)
+  named-remove_entry : (es : List (List ℕ × Group)) → IsNamed es → IsNamed (remove_entry (bytes_eq id) es)
   named-remove_entry [] named = refl
   named-remove_entry (e ∷ es) named = by (bytes_eq id e.0) (named-remove_entry es (named-tail e es named))
     where
@@ -114,5 +102,5 @@ module _ (id : List ℕ) where
       by true rest = named-tail e es named
       by false rest = ap (λ k. k ∷ keys_of (remove_entry (bytes_eq id) es)) (named-head e es named) ∙ ap (λ ks. e.1.id ∷ ks) rest
 
-pub taken : (id : List ℕ) (es fs : List (List ℕ × Group)) → IsNamed es → IsDistinct bytes_eq (map (λ (g : Group). g.id) (values_of es)) → fs ≡ remove_entry (bytes_eq id) es → (values_of fs ≡ drop_row (is_group id) (values_of es)) × IsNamed fs
-taken id es fs named distinct new = (ap values_of new ∙ values-remove_entry id es named distinct, subst IsNamed (sym new) (named-remove_entry id es named))
+  pub taken : (es fs : List (List ℕ × Group)) → IsNamed es → fs ≡ remove_entry (bytes_eq id) es → (values_of fs ≡ drop_row (is_group id) (values_of es)) × IsNamed fs
+  taken es fs named new = (ap values_of new ∙ values-remove_entry es named, subst IsNamed (sym new) (named-remove_entry es named))

@@ -69,9 +69,10 @@ module _ (groups : List Group) (root_alone : (id : List ℕ) (group : Group) →
   -- no group is met on a shorter way than its own
   pub not_met : (id : List ℕ) (own : List (List ℕ)) → IsWay IsUnder groups id own sys1.id → (first : List ℕ) (others : List (List ℕ)) → IsWay IsUnder groups first others sys1.id → length others < length own → AllByRecursion (λ y. bytes_eq id y ≡ false) (first ∷ others)
   not_met id own v first [] w less = (apart id first (λ e. absurd (omega (arith, length-way id own [] v (subst (λ z. IsWay IsUnder groups z [] sys1.id) (sym e) w), less))), tt)
-  not_met id own v first (y ∷ ys) w less =
-      ( apart id first (λ e. absurd (omega (arith, length-way id own (y ∷ ys) v (subst (λ z. IsWay IsUnder groups z (y ∷ ys) sys1.id) (sym e) w), less)))
-      , not_met id own v y ys w.1 (omega (arith, less)) )
+  not_met id own v first (y ∷ ys) w less = (
+    apart id first (λ e. absurd (omega (arith, length-way id own (y ∷ ys) v (subst (λ z. IsWay IsUnder groups z (y ∷ ys) sys1.id) (sym e) w), less))),
+    not_met id own v y ys w.1 (omega (arith, less)),
+  )
 
   -- so no group is met twice on it
   pub distinct-way : (id : List ℕ) (others : List (List ℕ)) → IsWay IsUnder groups id others sys1.id → IsDistinct bytes_eq (id ∷ others)

@@ -2,10 +2,9 @@
 ghost use Rattle.std.specs.Prelude.{◌≡◌, ◌↔◌, IsTrue};
 ghost use Rattle.group_tree.specs.Climb.{above, LeadsUp};
 
+use crate::tree::Tree;
 use access_levels::Id;
 use racf_profiles::Group;
-
-use crate::tree::Tree;
 
 /// By what a walk goes up from a group.
 #[derive(Clone, Copy)]

@@ -3,8 +3,10 @@
 
 mod climb;
 mod faults;
-mod tree;
 mod scope;
+#[cfg(test)]
+mod tests;
+mod tree;
 
 pub use faults::TreeFault;
 pub use tree::Tree;

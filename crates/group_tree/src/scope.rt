@@ -1,14 +1,21 @@
 //! What is in scope of a group: the walk up by the groups' owners.
 ghost use Rattle.std.specs.Prelude.{◌≡◌, ◌↔◌, IsTrue};
-ghost use Rattle.group_tree.specs.Scope.{InScopeGroup, InScopeUser, InScopeProfile};
-
-use access_levels::Id;
-use racf_profiles::View;
+ghost use Rattle.group_tree.specs.Scope.{IsWithin, InScopeGroup, InScopeUser, InScopeProfile};
 
 use crate::climb::Climb;
 use crate::tree::Tree;
+use access_levels::Id;
+use racf_profiles::View;
 
 impl Tree {
+    /// Whether the group is `top` or below it: superior groups lead from it to `top`. One look-up by name for each
+    /// group on the way.
+    pub fn is_within(&self, top: Id, group: Id) -> bool
+        ensures { IsTrue result ↔ IsWithin self.now.groups top group }
+    {
+        self.leads_up(Climb::BySuperiors, group, top)
+    }
+
     /// Whether the group is in scope of `top`: it is `top`, or its owner is its superior group and that one is
     /// in scope. One look-up by name for each group on the way.
     pub fn in_scope_group(&self, top: Id, group: Id) -> bool

@@ -1,20 +1,19 @@
 //! The tree of groups.
 ghost use Rattle.access_levels.specs.Spelling.{id_of};
 ghost use Rattle.std.specs.Prelude.{◌≡◌, ℕ, ◌<◌, List, ◌∷◌, [], length, slice_get, Ok, Some, None, IfOk, IfErr};
-ghost use Rattle.std.specs.Option.{option_copied};
+ghost use Rattle.std.specs.Option.{option_copied, option_map};
 ghost use Rattle.racf_profiles.specs.NewDatabase.{sys1};
-ghost use Rattle.group_tree.specs.Groups.{find_group};
+ghost use Rattle.group_tree.specs.Groups.{find_group, first_subgroup};
 ghost use Rattle.group_tree.specs.Lawful.{IsTree, IsBelow};
 
 mod changes;
 
+use crate::faults::TreeFault;
 use access_levels::Id;
 use indexmap::IndexMap;
 use racf_profiles::Group;
 use std::alloc::Global;
 use std::marker::Model;
-
-use crate::faults::TreeFault;
 
 /// The most groups that a tree has (this product's own rule).
 const MOST_GROUPS: usize = 8000;
@@ -83,6 +82,18 @@ impl Tree {
         ensures { slice_get self.now.groups place ≡ Some result.now }
     {
         &self.groups[place]
+    }
+
+    /// The name of the first group, in order of definition, that has that superior group. It looks at every group.
+    pub fn first_subgroup(&self, superior: Id) -> Option<Id>
+        ensures { result ≡ option_map (λ row. row.id) (first_subgroup self.now.groups superior) }
+    {
+        for group in self.groups.values() {
+            if group.superior == Some(superior) {
+                return Some(group.id);
+            }
+        }
+        None
     }
 }
 

@@ -7,12 +7,10 @@ ghost use Rattle.racf_profiles.specs.NewDatabase.{sys1};
 ghost use Rattle.group_tree.specs.Groups.{find_group, first_subgroup, with_group, at_group, with_superior, with_owner};
 ghost use Rattle.group_tree.specs.Answers.{CanAdd, AddRefused, CanMove, MoveRefused, OwnerRefused, CanRemove, RemoveRefused};
 
+use super::{MOST_GROUPS, Tree};
+use crate::faults::TreeFault;
 use access_levels::Id;
 use racf_profiles::Group;
-
-use super::{MOST_GROUPS, Tree};
-use crate::climb::Climb;
-use crate::faults::TreeFault;
 
 impl Tree {
     /// Adds a group below that superior group, as the last in order of definition. Any ID may own it. It takes no
@@ -69,7 +67,7 @@ impl Tree {
     {
         self.check_there(group)?;
         self.check_there(superior)?;
-        if self.leads_up(Climb::BySuperiors, superior, group) {
+        if self.is_within(group, superior) {
             return Err(TreeFault::Cycle(group));
         }
         let Some(row) = self.groups.get_mut(&group) else {
@@ -166,17 +164,5 @@ impl Tree {
         } else {
             Err(TreeFault::NoGroup(id))
         }
-    }
-
-    // The name of the first group, in order of definition, with that superior group.
-    fn first_subgroup(&self, superior: Id) -> Option<Id>
-        ensures { result ≡ option_map (λ row. row.id) (first_subgroup self.now.groups superior) }
-    {
-        for group in self.groups.values() {
-            if group.superior == Some(superior) {
-                return Some(group.id);
-            }
-        }
-        None
     }
 }

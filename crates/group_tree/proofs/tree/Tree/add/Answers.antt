@@ -17,11 +17,13 @@ invariant_of-self c =
     let can : CanAdd c.args.self.now.groups c.args.group c.args.superior = record {
       superior_there = one_there c.args.self.now.groups c.args.superior c.in_ok-check_there.ensures.there;
       name_free = free;
-      room = omega (arith, c.len.ensures.count, c.len.ensures.lawful.most, c.if-len-eq-MOST_GROUPS.false) } in
+      room = omega (arith, c.len.ensures.count, c.len.ensures.lawful.most, c.if-len-eq-MOST_GROUPS.false);
+    } in
     record {
       lawful = subst IsTree (sym new.0) (tree-with_group (values old) c.self.invariant.lawful c.args.group c.args.superior c.args.owner (subst (λ v. CanAdd v.groups c.args.group c.args.superior) (sym c.self.view_is) can));
       named = new.1;
-      room = omega (arith, c.self.invariant.room, c.insert.ensures.spare, c.saturating_sub-self-inside.ensures) }
+      room = omega (arith, c.self.invariant.room, c.insert.ensures.spare, c.saturating_sub-self-inside.ensures);
+    }
 
 pub returns-in-Ok-clause-groups : goal.returns-in-Ok-clause-groups
 returns-in-Ok-clause-groups c =

@@ -11,7 +11,8 @@ loop-step-init c = record {
   count = c.len-step-end.ensures.count;
   down = λ w. w;
   up = λ w. w;
-  steps = steps_first c.args.self.now.groups c.len-step-end.ensures.lawful c.args.from }
+  steps = steps_first c.args.self.now.groups c.len-step-end.ensures.lawful c.args.from;
+}
 
 pub loop-step-preserved : goal.loop-step-preserved
 loop-step-preserved c =
@@ -23,7 +24,8 @@ loop-step-preserved c =
       count = c.loop-step.invariant.count;
       down = λ w. c.loop-step.invariant.down (leads_from_next c.args.climb c.args.self.now.groups c.loop-step.current c.args.to c.in-Some.group.now c.in-Some-above.next here next w);
       up = λ w. leads_to_next c.args.climb c.args.self.now.groups c.loop-step.current c.args.to c.in-Some.group.now c.in-Some-above.next here next past (c.loop-step.invariant.up w);
-      steps = steps_next c.args.self.now.groups c.loop-step.invariant.lawful c.args.climb c.loop-step.current c.in-Some-above.next c.in-Some.group.now c.loop-step._step here next c.loop-step.invariant.steps }
+      steps = steps_next c.args.self.now.groups c.loop-step.invariant.lawful c.args.climb c.loop-step.current c.in-Some-above.next c.in-Some.group.now c.loop-step._step here next c.loop-step.invariant.steps;
+    }
 
 pub returns-in_default : goal.returns-in_default
 returns-in_default c =

@@ -11,4 +11,5 @@ invariant-loop-step l = record {
   count : l._step-end ≡ length l.self.groups;
   down : LeadsUp l.climb l.self.groups l.current l.to → LeadsUp l.climb l.self.groups l.fn.from l.to;
   up : LeadsUp l.climb l.self.groups l.fn.from l.to → LeadsUp l.climb l.self.groups l.current l.to;
-  steps : HasSteps l.self.groups l.current l._step }
+  steps : HasSteps l.self.groups l.current l._step;
+}

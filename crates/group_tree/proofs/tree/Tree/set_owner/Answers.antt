@@ -16,7 +16,8 @@ invariant_of-self-2 c =
     record {
       lawful = subst IsTree (sym new.0) (tree-with_owner (values old) c.self.invariant.lawful c.args.group c.args.owner);
       named = new.1;
-      room = omega (arith, c.self.invariant.room, held.6) }
+      room = omega (arith, c.self.invariant.room, held.6);
+    }
 
 pub returns-clause-groups : goal.returns-clause-groups
 returns-clause-groups c =

@@ -20,11 +20,13 @@ invariant_of-self c =
     let new = written (with_superior c.args.superior) (λ g. refl) c.args.group old.entries (c.get_mut.follows.lender row).entries c.self.invariant.named c.self.invariant.lawful.distinct c.in-Some.row.now (sym c.in-Some.ensures.value) held.0 held.1 in
     let can : CanMove c.args.self.now.groups c.args.group c.args.superior = record {
       both_there = both_there c.args.self.now.groups c.args.group c.args.superior c.in_ok-check_there.ensures.there c.in_ok-check_there-2.ensures.there;
-      no_cycle = λ w. true≢false (sym (c.leads_up.ensures.1 (record { others = w.others; way = w.way })) ∙ c.if-leads_up.false) } in
+      no_cycle = λ w. true≢false (sym (c.is_within.ensures.1 w) ∙ c.if-is_within.false);
+    } in
     record {
       lawful = subst IsTree (sym new.0) (tree-with_superior (values old) c.self.invariant.lawful c.args.group c.args.superior (subst (λ v. CanMove v.groups c.args.group c.args.superior) (sym c.self.view_is) can) c.requires);
       named = new.1;
-      room = omega (arith, c.self.invariant.room, held.6) }
+      room = omega (arith, c.self.invariant.room, held.6);
+    }
 
 pub returns-clause-groups : goal.returns-clause-groups
 returns-clause-groups c =

@@ -24,3 +24,6 @@ pub use profiles::{AuditRule, CondEntries, Entries, Member, Members, Profile, Pr
 pub use rows::Rows;
 pub use users::{Classes, Connect, Connects, NoMemory, User, Users};
 pub use view::View;
+
+#[cfg(test)]
+mod tests;

@@ -1,5 +1,5 @@
 //! The users, and what they hold together.
-ghost use Rattle.std.specs.Prelude.{◌≡◌, ℕ, ◌<◌, ◌≤◌, [], length, find, OnOk};
+ghost use Rattle.std.specs.Prelude.{◌≡◌, ℕ, ◌+◌, ◌<◌, ◌≤◌, [], length, find, OnOk};
 ghost use Rattle.std.specs.Option.{option_copied, option_map_or};
 ghost use Rattle.racf_profiles.specs.Lookup.{is_user};
 ghost use Rattle.racf_profiles.specs.Edits.{put_row, drop_row};
@@ -175,4 +175,11 @@ pub(crate) fn growth(user: &User, group: Id) -> usize
     ensures { result ≡ growth group user.now.connects }
 {
     if is_connected_to(user, group) { 0 } else { 1 }
+}
+
+/// How many connections a user has, once he is connected to the group.
+pub(crate) fn connections_with(user: &User, group: Id) -> usize
+    ensures { result ≡ connected_to user.now + growth group user.now.connects }
+{
+    user.connects.items.len() + growth(user, group)
 }

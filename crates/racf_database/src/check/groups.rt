@@ -48,11 +48,17 @@ impl Database {
     fn meets(&self, from: Id, group: Id) -> bool
         ensures { result ≡ meets group from self.now.rows.groups }
     {
+        // That it says of the groups that they are a tree is what makes the two answers one.
+        let _count = self.tree.len();
         self.tree.is_within(group, from)
     }
 
     /// A group that would own the new group is its superior group.
-    pub(super) fn check_new_owner(&self, issuer: &Issuer, command: &AddGroup) -> Result<(), Conflict>
+    pub(super) fn check_new_owner(
+        &self,
+        issuer: &Issuer,
+        command: &AddGroup,
+    ) -> Result<(), Conflict>
         ensures { result_err result ≡ owner_not_superior command.now.supgroup command.now.owner (Some (new_group issuer.now command.now)) self.now.rows }
     {
         let group = new_group(issuer, command);
@@ -75,7 +81,12 @@ impl Database {
 
     // The same, of a group as it is after the command.
     #[tactic(auto, unfolding(crate::specs::Conflicts::owner_not_superior))]
-    fn check_owner_superior(&self, superior: Option<Id>, owner: Option<Id>, group: &Group) -> Result<(), Conflict>
+    fn check_owner_superior(
+        &self,
+        superior: Option<Id>,
+        owner: Option<Id>,
+        group: &Group,
+    ) -> Result<(), Conflict>
         ensures { result_err result ≡ owner_not_superior superior owner (Some group.now) self.now.rows }
     {
         if superior.is_none() && owner.is_none() {
@@ -102,7 +113,11 @@ impl Database {
 
     /// One more group is within the limit.
     #[tactic(auto, unfolding(crate::specs::Conflicts::groups_full))]
-    pub(super) fn check_group_fits(&self, issuer: &Issuer, command: &AddGroup) -> Result<(), Conflict>
+    pub(super) fn check_group_fits(
+        &self,
+        issuer: &Issuer,
+        command: &AddGroup,
+    ) -> Result<(), Conflict>
         ensures { result_err result ≡ groups_full issuer.now (form.AddGroup command.now) self.now.rows }
     {
         check_count(Kind::Groups, MOST_GROUPS, self.tree.len() + 1)

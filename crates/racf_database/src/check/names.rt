@@ -1,9 +1,7 @@
 //! Who and what has to be there, or not.
-ghost use Rattle.std.specs.Prelude.{◌≡◌, IfSome, is_some};
+ghost use Rattle.std.specs.Prelude.{◌≡◌, codes, bytes_eq};
 ghost use Rattle.std.specs.Result.{result_err};
-ghost use Rattle.racf_profiles.specs.Lookup.{class_of};
-ghost use Rattle.racf_database.specs.Contents.{rows_of};
-ghost use Rattle.racf_database.specs.Names.{is_taken, is_class_word, is_connected_to};
+ghost use Rattle.racf_database.specs.Names.{is_taken, is_class_word};
 ghost use Rattle.racf_database.specs.Conflicts.{no_user, no_group, no_owner, no_named_group, no_class, name_taken, not_connected, default_not_connected, default_group, has_profile, has_connected};
 
 use crate::command::Ids;
@@ -81,7 +79,11 @@ impl Database {
     pub(super) fn check_classes(&self, classes: &Ids) -> Result<(), Conflict>
         ensures { result_err result ≡ no_class classes.now self.now.rows }
     {
-        match classes.items.iter().find(|name| !self.is_class_word(**name)) {
+        match classes
+            .items
+            .iter()
+            .find(|name| !self.is_class_word(**name))
+        {
             Some(name) => Err(Conflict::NoClass(*name)),
             None => Ok(()),
         }
@@ -105,7 +107,11 @@ impl Database {
 
     /// The same of a default group that is named.
     #[tactic(auto, unfolding(crate::specs::Conflicts::default_not_connected))]
-    pub(super) fn check_default_connected(&self, user: Id, group: Option<Id>) -> Result<(), Conflict>
+    pub(super) fn check_default_connected(
+        &self,
+        user: Id,
+        group: Option<Id>,
+    ) -> Result<(), Conflict>
         ensures { result_err result ≡ default_not_connected user group self.now.rows }
     {
         match group {
@@ -166,6 +172,16 @@ impl Database {
         ensures { result ≡ is_class_word self.now.rows name }
     {
         let _users = &self.users;
-        name.text() == b"USER".as_slice() || FixedClass::of(name).is_some()
+        if is_user_word(name) {
+            return true;
+        }
+        FixedClass::of(name).is_some()
     }
+}
+
+// Whether the name is the word USER.
+fn is_user_word(name: Id) -> bool
+    ensures { result ≡ bytes_eq name (codes "USER") }
+{
+    name.text() == b"USER".as_slice()
 }

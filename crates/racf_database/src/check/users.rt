@@ -14,7 +14,7 @@ use crate::conflict::{Conflict, Kind};
 use crate::database::Database;
 use crate::limits::{MOST_CONNECTIONS, MOST_CONNECTIONS_IN_ALL, MOST_USERS, check_count};
 use crate::made::attributes_after;
-use crate::user_table::growth;
+use crate::user_table::{connections_with, growth};
 use access_levels::Id;
 use racf_profiles::View;
 
@@ -29,57 +29,92 @@ impl Database {
 
     /// One more connection, that of a new user, is within the limit of all.
     #[tactic(auto, unfolding(crate::specs::Conflicts::connections_full))]
-    pub(super) fn check_new_connection_fits(&self, issuer: &Issuer, command: &AddUser) -> Result<(), Conflict>
+    pub(super) fn check_new_connection_fits(
+        &self,
+        issuer: &Issuer,
+        command: &AddUser,
+    ) -> Result<(), Conflict>
         ensures { result_err result ≡ connections_full issuer.now (form.AddUser command.now) self.now.rows }
     {
-        check_count(Kind::AllConnections, MOST_CONNECTIONS_IN_ALL, self.users.connections() + 1)
+        check_count(
+            Kind::AllConnections,
+            MOST_CONNECTIONS_IN_ALL,
+            self.users.connections() + 1,
+        )
     }
 
     /// The user's connections are within the limit, once he is connected to the group.
     #[tactic(auto, unfolding(crate::specs::Conflicts::user_full))]
-    pub(super) fn check_connects_of_user(&self, command: &Connect, group: Id) -> Result<(), Conflict>
+    pub(super) fn check_connects_of_user(
+        &self,
+        command: &Connect,
+        group: Id,
+    ) -> Result<(), Conflict>
         ensures { result_err result ≡ user_full (connects_after command.now group (connects_of command.now.user self.now.rows)) }
     {
         match self.user(command.user) {
             None => Ok(()),
-            Some(user) => check_count(Kind::Connections, MOST_CONNECTIONS, user.connects.items.len() + growth(user, group)),
+            Some(user) => check_count(
+                Kind::Connections,
+                MOST_CONNECTIONS,
+                connections_with(user, group),
+            ),
         }
     }
 
     /// All connections are within the limit, once the user is connected to the group.
     #[tactic(auto, unfolding(crate::specs::Conflicts::connections_full))]
-    pub(super) fn check_connection_fits(&self, issuer: &Issuer, command: &Connect, group: Id) -> Result<(), Conflict>
+    pub(super) fn check_connection_fits(
+        &self,
+        issuer: &Issuer,
+        command: &Connect,
+        group: Id,
+    ) -> Result<(), Conflict>
         requires { group ≡ group_or_current issuer.now command.now.group }
         ensures { result_err result ≡ connections_full issuer.now (form.Connect command.now) self.now.rows }
     {
+        let count = self.users.connections();
         match self.user(command.user) {
-            None => Ok(()),
-            Some(user) => check_count(Kind::AllConnections, MOST_CONNECTIONS_IN_ALL, self.users.connections() + growth(user, group)),
+            None => check_count(Kind::AllConnections, MOST_CONNECTIONS_IN_ALL, count),
+            Some(user) => check_count(
+                Kind::AllConnections,
+                MOST_CONNECTIONS_IN_ALL,
+                count + growth(user, group),
+            ),
         }
     }
 
     /// After ALTUSER a user who isn't revoked has SPECIAL.
     #[tactic(auto, unfolding(crate::specs::Conflicts::last_special))]
-    pub(super) fn check_administrator_altered(&self, issuer: &Issuer, command: &AltUser) -> Result<(), Conflict>
+    pub(super) fn check_administrator_altered(
+        &self,
+        issuer: &Issuer,
+        command: &AltUser,
+    ) -> Result<(), Conflict>
         ensures { result_err result ≡ last_special issuer.now (form.AltUser command.now) command.now.user self.now.rows }
     {
-        if self.administers_after(command) || self.users.administrators_beside(command.user) > 0 {
-            Ok(())
-        } else {
-            Err(Conflict::LastSpecial(command.user))
+        if self.administers_after(command) {
+            return Ok(());
         }
+        if self.users.administrators_beside(command.user) == 0 {
+            return Err(Conflict::LastSpecial(command.user));
+        }
+        Ok(())
     }
 
     /// After DELUSER a user who isn't revoked has SPECIAL.
     #[tactic(auto, unfolding(crate::specs::Conflicts::last_special))]
-    pub(super) fn check_administrator_gone(&self, issuer: &Issuer, command: &DelUser) -> Result<(), Conflict>
+    pub(super) fn check_administrator_gone(
+        &self,
+        issuer: &Issuer,
+        command: &DelUser,
+    ) -> Result<(), Conflict>
         ensures { result_err result ≡ last_special issuer.now (form.DelUser command.now) command.now.user self.now.rows }
     {
-        if self.users.administrators_beside(command.user) > 0 {
-            Ok(())
-        } else {
-            Err(Conflict::LastSpecial(command.user))
+        if self.users.administrators_beside(command.user) == 0 {
+            return Err(Conflict::LastSpecial(command.user));
         }
+        Ok(())
     }
 
     // Whether the user has SPECIAL and isn't revoked, after ALTUSER.

@@ -1,0 +1,9 @@
+pub mod Names
+pub mod ValueAgain
+pub mod TableFacts
+pub mod ReadAgain
+pub mod ReadLawful
+pub mod Takes
+pub mod OneForm
+pub mod Written
+mod CommandRows

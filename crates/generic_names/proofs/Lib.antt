@@ -2,3 +2,10 @@ mod QualifierLaws
 mod FaultLaws
 mod CoverLaws
 mod WalkLaws
+mod RankLaws
+mod ReplaceLaws
+mod Lawful
+mod OrderLaws
+mod FirstLaws
+mod CompareLaws
+mod GapLaws

@@ -1,5 +1,5 @@
 -- A walk along a pattern and a name, from place to place.
-use Rattle.std.proofs.Common.{◌≡◌, ℕ, ◌+◌, ◌-◌, ◌<◌, ◌≤◌, Bool, true, false, cond, eqb, ltb, List, [], ◌∷◌, length, take, drop, refl, ap, sym, ◌∙◌, subst, arith, ⊎_elim}
+use Rattle.std.proofs.Common.{◌≡◌, ℕ, ◌+◌, ◌-◌, ◌<◌, ◌≤◌, Bool, true, false, cond, eqb, ltb, List, [], ◌∷◌, length, take, drop, refl, ap, sym, ◌∙◌, arith, ⊎_elim}
 use Rattle.std.specs.List.{slice_range}
 use Rattle.std.proofs.lemmas.Bool.{cases_lt}
 use Rattle.std.proofs.lemmas.List.{take-take, take_rest, length-drop, length-take-le}
@@ -8,13 +8,13 @@ use Rattle.std.proofs.lemmas.List.Splits.{join_with_byte-slice_split}
 use Rattle.std.specs.List.{join_with_byte}
 use Rattle.generic_names.specs.declared.kind.NameKind.{NameKind}
 use Rattle.generic_names.specs.declared.covering.WalkEnd.{WalkEnd}
-use Rattle.generic_names.specs.declared.covering.WalkEnd.TheVariants.{Covered, Refused, Double}
+use Rattle.generic_names.specs.declared.covering.WalkEnd.TheVariants.{Covered, Refused}
 use Rattle.generic_names.specs.Spelled.{is_empty, qualifiers}
 use Rattle.generic_names.specs.Covers.{is_double, is_open, matches, begins, some_end, covers_all}
 use Rattle.generic_names.specs.Reading.{rest_at}
 use Rattle.generic_names.specs.Walked.{covers_at, covers_end_at, LeftAt, Walked}
 use Rattle.generic_names.proofs.QualifierLaws.{rest_at-past, rest_at-within, rest_at-last, qualifiers-some}
-use Rattle.generic_names.proofs.CoverLaws.{walk-double-same, walk-double-some, walk-none, walk-open, walk-unlike, walk-like-same, walk-like-some, some_end-whole, some_end-all}
+use Rattle.generic_names.proofs.CoverLaws.{walk-double-same, walk-double-some, walk-none, walk-open, walk-unlike, walk-like-same, walk-like-some, some_end-all}
 
 -- A walk has come to these places. It is as good from there as from its beginning, and where the pattern covers
 -- some end of the name, what is left of it covers some end of what is left.
@@ -38,13 +38,13 @@ rest_at-text name from h = ap (λ (qs : List (List ℕ)). join_with_byte 46 qs) 
 rest_at-spent : (name : List ℕ) (from : ℕ) → is_empty (rest_at name from) ≡ ltb (length name) from
 rest_at-spent name from = ⊎_elim
     (λ (past : length name < from).
-        let none : rest_at name from ≡ [] = rest_at-past from name past in
-        let holds : ltb (length name) from ≡ true = grind (arith, nat_tests) in
-        rw (none, holds) refl)
+    let none : rest_at name from ≡ [] = rest_at-past from name past in
+    let holds : ltb (length name) from ≡ true = grind (arith, nat_tests) in
+    rw (none, holds) refl)
     (λ (within : from ≤ length name).
-        let some : rest_at name from ≡ qualifiers (drop from name) = rest_at-within from name within in
-        let not_past : ltb (length name) from ≡ false = grind (arith, nat_tests) in
-        rw (some, not_past) (qualifiers-some (drop from name)))
+    let some : rest_at name from ≡ qualifiers (drop from name) = rest_at-within from name within in
+    let not_past : ltb (length name) from ≡ false = grind (arith, nat_tests) in
+    rw (some, not_past) (qualifiers-some (drop from name)))
     (cases_lt (length name) from)
 
 first_of_some : (qs : List (List ℕ)) → is_empty qs ≡ false → (q : List ℕ) × (rest : List (List ℕ)) × (qs ≡ q ∷ rest)
@@ -94,7 +94,7 @@ module _ {kind : NameKind} {pattern name : List ℕ} {at from later there : ℕ}
           let some : is_empty (rest_at name there) ≡ false = rest_at-spent name there ∙ (grind (arith, nat_tests)) in
           let next = first_of_some (rest_at name there) some in
           let whole : covers_at kind pattern at name from ≡ begins (take (length p - 1) p) (join_with_byte 46 (rest_at name there)) =
-              walk-open kind (rest_at pattern at) (rest_at name from) (rest_at pattern later) (rest_at name there) w.same w.some p (rest_at pattern (end + 1)) first next.0 next.1 next.2 (sym is_doubled ∙ one) opened in
+          walk-open kind (rest_at pattern at) (rest_at name from) (rest_at pattern later) (rest_at name there) w.same w.some p (rest_at pattern (end + 1)) first next.0 next.1 next.2 (sym is_doubled ∙ one) opened in
           let front : take (length p - 1) p ≡ take (end - 1 - later) (drop later pattern) = front_of_range pattern later end low high in
           let text : join_with_byte 46 (rest_at name there) ≡ take (length name - there) (drop there name) = rest_at-text name there within ∙ sym (take_rest name there) in
           rw is (Walked-decided kind pattern at name from answer (whole ∙ ap (λ (xs : List ℕ). begins xs (join_with_byte 46 (rest_at name there))) front ∙ ap (λ (xs : List ℕ). begins (take (end - 1 - later) (drop later pattern)) xs) text ∙ sym is_begun))

@@ -1,5 +1,5 @@
 -- The profile that decides on a name: the most specific of those that cover it.
-use Rattle.std.specs.Prelude.{Bool, if◌then◌else◌, List, [], ◌∷◌, Option, Some, None, find, filter}
+use Rattle.std.specs.Prelude.{if◌then◌else◌, List, [], ◌∷◌, Option, Some, None, find, filter}
 use Rattle.std.specs.Option.{option_or}
 use Rattle.std.specs.Str.{bytes_eq}
 use Rattle.generic_names.specs.Spelled.{Spelled}
@@ -21,4 +21,4 @@ module _ {A : Type 0} (name_of : A → Spelled) where
   abbrev pub best : List A → Spelled → Option A
   best profiles name =
       option_or (find (λ p. bytes_eq (name_of p).text name.text) profiles)
-          (most_specific (filter (λ p. covers (name_of p) name) profiles))
+      (most_specific (filter (λ p. covers (name_of p) name) profiles))

@@ -1,14 +1,20 @@
-ghost use Rattle.std.specs.Prelude.{◌≡◌, Ok};
+ghost use Rattle.std.specs.Prelude.{◌≡◌, true, Ok, IfOk, IfSome};
+ghost use Rattle.std.specs.Result.{result_ok};
 ghost use Rattle.generic_names.specs.Faults.{pattern_of};
 ghost use Rattle.generic_names.specs.Covers.{is_generic, covers};
+ghost use Rattle.generic_names.specs.Before.{before, order};
+ghost use Rattle.generic_names.specs.Gap.{is_below, NoneCovers};
 
 use crate::covering::covers_text;
 use crate::fault::NameFault;
 use crate::form::Form;
+use crate::gap::Gap;
 use crate::kind::NameKind;
+use crate::order::compare;
 use crate::reading::{fault_in, has_generic_byte};
 use crate::resource::Resource;
 use crate::spelling::Spelling;
+use std::cmp::Ordering;
 use std::marker::Model;
 
 /// The name of a profile, discrete or generic. `%` stands for one byte other than a period, a `*` at
@@ -37,7 +43,8 @@ impl Model for Pattern {
 impl Pattern {
     /// Reads the name of a profile of this kind. Lower case is not folded.
     pub fn read(kind: NameKind, bytes: &[u8]) -> Result<Pattern, NameFault>
-        ensures { result ≡ pattern_of kind bytes.now }
+        ensures name { result ≡ pattern_of kind bytes.now }
+        ensures kind { IfOk result (λ name. name.kind ≡ kind) }
     {
         if let Some(fault) = fault_in(Form::Generic, kind, bytes) {
             return Err(fault);
@@ -45,6 +52,16 @@ impl Pattern {
         Ok(Pattern {
             name: Spelling::of(kind, bytes),
         })
+    }
+
+    /// The pattern with this spelling, if it is the name of one.
+    pub(crate) fn spelled(name: Spelling) -> Option<Pattern>
+        ensures { result ≡ result_ok (pattern_of name.kind name.text) }
+    {
+        if fault_in(Form::Generic, name.kind(), name.text()).is_some() {
+            return None;
+        }
+        Some(Pattern { name })
     }
 
     /// Whose name it is.
@@ -76,5 +93,47 @@ impl Pattern {
         ensures { result ≡ covers self.now name.now }
     {
         covers_text(self.name.kind(), self.name.text(), name.text())
+    }
+
+    /// Whether it is more specific than another pattern of its kind.
+    pub fn before(&self, other: &Pattern) -> bool
+        requires { self.now.kind ≡ other.now.kind }
+        ensures { result ≡ before self.now other.now }
+    {
+        compare(self.name.text(), other.name.text()).is_lt()
+    }
+
+    /// Which of two patterns of a kind comes first in the order of specificity.
+    pub fn order(&self, other: &Pattern) -> Ordering
+        requires { self.now.kind ≡ other.now.kind }
+        ensures { result ≡ order self.now other.now }
+    {
+        compare(self.name.text(), other.name.text())
+    }
+
+    /// The same, with the pattern of a resource's very name.
+    pub fn order_of_name(&self, name: &Resource) -> Ordering
+        requires { self.now.kind ≡ name.now.kind }
+        ensures { result ≡ order self.now name.now }
+    {
+        compare(self.name.text(), name.text())
+    }
+
+    /// Behind a pattern that doesn't cover a name, how far no other pattern does either, so that a search
+    /// through patterns in order can pass over those. None where the two differ behind a `*` or `**` only,
+    /// or not at all. It takes about as many steps as the name has bytes.
+    pub fn gap<'a>(&'a self, name: &Resource) -> Option<Gap<'a>>
+        requires { self.now.kind ≡ name.now.kind }
+        ensures none { IfSome result (λ gap. NoneCovers self.now gap name.now) }
+        ensures onward { IfSome result (λ gap. is_below self.now gap ≡ true) }
+    {
+        Gap::behind(self.name.text(), name)
+    }
+
+    /// Whether it lies before the end of a gap.
+    pub fn is_below(&self, gap: &Gap) -> bool
+        ensures { result ≡ is_below self.now gap.now }
+    {
+        gap.is_above(self.name.text())
     }
 }

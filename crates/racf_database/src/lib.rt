@@ -14,3 +14,6 @@ mod user_table;
 pub use conflict::{Conflict, Holder, Kind, Named};
 pub use database::Database;
 pub use limits::{MOST_CONNECTIONS, MOST_CONNECTIONS_IN_ALL, MOST_GROUPS, MOST_USERS};
+
+#[cfg(test)]
+mod tests;

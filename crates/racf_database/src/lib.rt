@@ -1,0 +1,19 @@
+//! The database of users, groups and connections: what a command conflicts with, and one step of the rows.
+#![tactic(auto)]
+
+mod apply;
+mod check;
+mod conflict;
+mod database;
+mod edits;
+mod limits;
+mod made;
+mod prepare;
+mod user_table;
+
+pub use conflict::{Conflict, Holder, Kind, Named};
+pub use database::Database;
+pub use limits::{MOST_CONNECTIONS, MOST_CONNECTIONS_IN_ALL, MOST_GROUPS, MOST_USERS};
+
+#[cfg(test)]
+mod tests;

@@ -1,26 +1,18 @@
 -- Told bytes, piece by piece.
-use Rattle.std.proofs.Common.{ℕ, ◌+◌, ◌-◌, ◌<◌, ◌≤◌, ◌≡◌, List, [], ◌∷◌, ◌++◌, length, take, drop, get_or, Bool, true, cond, zero, suc, add-one, Option, None, Some, refl, sym, ◌∙◌, ap, arith, append_assoc, append-nil}
+use Rattle.std.proofs.Common.{ℕ, ◌+◌, ◌-◌, ◌<◌, ◌≤◌, ◌≡◌, List, [], ◌∷◌, ◌++◌, length, take, drop, Bool, true, cond, zero, suc, add-one, Option, None, Some, refl, sym, ◌∙◌, ap, arith, append_assoc}
 use Rattle.std.specs.Prelude.{slice_index}
 use Rattle.std.specs.List.{slice_range}
-use Rattle.std.specs.Io.KnownBytes.{prepend_known, append_known}
-use Rattle.std.proofs.lemmas.List.{take-append-drop, drop-take, drop-drop, take_rest, length-take, length-take-le, take-append-le, get_or-take}
-use Rattle.std.proofs.Math.Seq.{take-append-add, take-length, take-suc}
+use Rattle.std.specs.Io.KnownBytes.{prepend_known}
+use Rattle.std.proofs.lemmas.List.{take-append-drop, drop-take, drop-drop, take_rest, length-take, length-take-le, take-append-le}
+use Rattle.std.proofs.Math.Seq.{take-append-add, take-suc}
 
 pub prepend-append : (xs ys : List ℕ) (known : Option (List ℕ)) → prepend_known (xs ++ ys) known ≡ prepend_known xs (prepend_known ys known)
 prepend-append xs ys None = refl
 prepend-append xs ys (Some zs) = ap Some (append_assoc xs ys zs)
 
-pub append-append : (known : Option (List ℕ)) (xs ys : List ℕ) → append_known known (xs ++ ys) ≡ append_known (append_known known xs) ys
-append-append None xs ys = refl
-append-append (Some zs) xs ys = ap Some (sym (append_assoc zs xs ys))
-
 pub prepend-nil : (known : Option (List ℕ)) → prepend_known [] known ≡ known
 prepend-nil None = refl
 prepend-nil (Some zs) = refl
-
-pub append-none : (known : Option (List ℕ)) → append_known known [] ≡ known
-append-none None = refl
-append-none (Some zs) = ap Some (append-nil zs)
 
 -- the first n of the bytes at hand, and then the others
 pub prepend-split : (n : ℕ) (ready : List ℕ) (left : Option (List ℕ)) → prepend_known ready left ≡ prepend_known (take n ready) (prepend_known (drop n ready) left)

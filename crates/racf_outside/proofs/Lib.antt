@@ -1,6 +1,6 @@
-pub mod Bytes
+mod Bytes
 pub mod LineLaws
-pub mod LineRows
-pub mod Rises
+mod LineRows
+mod Rises
 mod ScanLaws
 mod SlotLaws

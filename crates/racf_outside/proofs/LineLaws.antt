@@ -1,7 +1,6 @@
 -- How the lines of an input go on, line by line.
-use Rattle.std.proofs.Common.{ℕ, ◌+◌, ◌<◌, ◌≤◌, ◌≡◌, ◌≢◌, eqb, Bool, true, false, List, [], ◌∷◌, ◌++◌, length, refl, sym, ◌∙◌, ap, subst, arith, append_assoc, append-nil}
+use Rattle.std.proofs.Common.{ℕ, ◌<◌, ◌≡◌, ◌≢◌, eqb, false, List, [], ◌∷◌, ◌++◌, length, refl, sym, ◌∙◌, ap, arith, append_assoc}
 use Rattle.std.specs.Prelude.{All}
-use Rattle.std.specs.List.{slice_split}
 use Rattle.std.proofs.lemmas.Bool.{ne_eqb}
 use Rattle.std.proofs.lemmas.List.Elements.{All-weaker}
 use Rattle.std.proofs.lemmas.List.Splits.{slice_split_at, slice_split_none, length-slice_split}
@@ -63,15 +62,3 @@ IsWalked-feed read raw walked w h =
   where
     joined : (more : List ℕ) → (read ++ (raw ++ 10 ∷ [])) ++ more ≡ read ++ (raw ++ 10 ∷ more)
     joined more = append_assoc read (raw ++ 10 ∷ []) more ∙ ap (λ bs. read ++ bs) (append_assoc raw (10 ∷ []) more)
-
--- behind the front of a line the whole lines are those walked
-pub IsWalked-front : (read raw : List ℕ) (walked : List Line) → IsWalked read walked → NoFeed raw → whole_lines (read ++ raw) ≡ walked
-IsWalked-front read raw walked w h = w.whole raw ∙ ap (λ ls. walked ++ ls) (whole_lines-front raw h) ∙ append-nil walked
-
--- at the input's end the lines are those walked
-pub IsWalked-end : (read : List ℕ) (walked : List Line) → IsWalked read walked → lines read ≡ walked
-IsWalked-end read walked w = ap lines (sym (append-nil read)) ∙ w.all [] ∙ append-nil walked
-
--- and a last line that the input's end ended
-pub IsWalked-last : (read raw : List ℕ) (walked : List Line) → IsWalked read walked → NoFeed raw → 0 < length raw → lines (read ++ raw) ≡ walked ++ line_of raw ∷ []
-IsWalked-last read raw walked w h some = w.all raw ∙ ap (λ ls. walked ++ ls) (lines-last raw h some)

@@ -1,6 +1,6 @@
 -- Worked rows of the lines of an input.
-use Rattle.std.specs.Prelude.{ℕ, ◌≡◌, List, [], ◌∷◌, ◌++◌, replicate, codes, refl}
-use Rattle.racf_outside.specs.Lines.{Line, Text, TooLong, lines, whole_lines}
+use Rattle.std.specs.Prelude.{◌≡◌, [], ◌∷◌, ◌++◌, replicate, codes, refl}
+use Rattle.racf_outside.specs.Lines.{Text, TooLong, lines, whole_lines}
 
 -- an empty input has no line
 empty : lines [] ≡ []

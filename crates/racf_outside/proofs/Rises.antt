@@ -5,7 +5,3 @@ use Rattle.racf_outside.specs.Causes.{Rose}
 -- what rose in a later call rose since before an earlier one
 pub Rose-later : (first before now : ℕ) → first ≤ before → Rose before now → Rose first now
 Rose-later first before now h rose = grind arith
-
--- what rose in an earlier call rose by after a later one
-pub Rose-since : (before now last : ℕ) → now ≤ last → Rose before now → Rose before last
-Rose-since before now last h rose = grind arith

@@ -1,5 +1,5 @@
 -- The steps of the search for the end of a line.
-use Rattle.std.proofs.Common.{ℕ, zero, suc, ◌+◌, ◌-◌, ◌^◌, ◌<◌, ◌≤◌, ◌≡◌, ◌≢◌, eqb, ltb, Bool, true, false, cond, List, [], ◌∷◌, ◌++◌, length, take, drop, Option, None, Some, Result, Ok, Err, refl, sym, ◌∙◌, ap, subst, arith, append_assoc, append-nil, length-append}
+use Rattle.std.proofs.Common.{ℕ, ◌+◌, ◌^◌, ◌<◌, ◌≤◌, ◌≡◌, ◌≢◌, eqb, ltb, Bool, true, false, cond, List, [], ◌∷◌, ◌++◌, length, take, drop, Option, None, Some, Ok, Err, refl, sym, ◌∙◌, ap, subst, arith, append_assoc, append-nil, length-append}
 use Rattle.std.specs.Prelude.{slice_index, IfSome, ⊤}
 use Rattle.std.specs.Io.BufRead.{strip_last}
 use Rattle.std.specs.Io.KnownBytes.{prepend_known, IsAtEnd}
@@ -10,16 +10,16 @@ use Rattle.std.proofs.Math.Seq.{take-length}
 use Rattle.racf_outside.specs.Blocks.{Block, unread_of}
 use Rattle.racf_outside.specs.Lines as text
 use Rattle.racf_outside.specs.LineBuffer.{Begun, IsBegun}
-use Rattle.racf_outside.specs.Next.{TakesLine, TakesEnd, TakesFront, TakesTooMuch, end_of}
+use Rattle.racf_outside.specs.Next.{TakesLine, end_of}
 use Rattle.racf_outside.specs.Reader.{Reader}
-use Rattle.racf_outside.specs.Scan.{TakesMore, TakesFeed, TakesNone, FailsToRead, GoesTooFar, Pieces, Finds, IsScanned, IsFirstFeed}
+use Rattle.racf_outside.specs.Scan.{TakesMore, TakesFeed, TakesNone, Pieces, Finds, IsScanned, IsFirstFeed}
 use Rattle.racf_outside.specs.declared.lines.LineFault.{LineFault}
 use Rattle.racf_outside.specs.declared.lines.LineFault.TheVariants.{ReadFault, InputTooLong}
 use Rattle.racf_outside.specs.declared.scanner.Found.{Found}
 use Rattle.racf_outside.specs.declared.scanner.Found.TheVariants as found
 use Rattle.racf_outside.proofs.LineLaws.{lines-feed, lines-last}
 use Rattle.racf_outside.proofs.Rises.{Rose-later}
-use Rattle.racf_outside.proofs.Bytes.{prepend-append, prepend-nil, prepend-twice, prepend-split, take-take-append, take-through, take-window}
+use Rattle.racf_outside.proofs.Bytes.{prepend-nil, prepend-twice, prepend-split, take-take-append, take-through, take-window}
 
 -- what a block leaves behind goes before what is still to come
 pub unread_of-pass : (n : ℕ) (block next : Block) → next.ready ≡ drop n block.ready → next.left ≡ block.left → unread_of block ≡ prepend_known (take n block.ready) (unread_of next)

@@ -42,7 +42,7 @@ lines bytes = all_of (parts bytes)
 abbrev pub NoFeed : List ℕ → Type 0
 NoFeed bytes = All (λ b. b ≢ 10) bytes
 
--- The bytes `read` of an input are exactly its lines `walked`: whatever comes next, the lines go on with those of what comes.
+-- The bytes `read` of an input are exactly its lines `walked`: whatever comes next, its lines come next.
 pub record IsWalked (read : List ℕ) (walked : List Line) : Type 0 where
   pub whole : (more : List ℕ) → whole_lines (read ++ more) ≡ walked ++ whole_lines more
   pub all : (more : List ℕ) → lines (read ++ more) ≡ walked ++ lines more

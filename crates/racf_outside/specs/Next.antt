@@ -1,5 +1,5 @@
 -- What the reader of lines does at each call.
-use Rattle.std.specs.Prelude.{ℕ, ◌+◌, ◌^◌, ◌<◌, ◌≤◌, ◌≡◌, Bool, true, false, List, [], ◌∷◌, ◌++◌, length, Option, IfSome, Result, Ok, Err}
+use Rattle.std.specs.Prelude.{ℕ, ◌+◌, ◌^◌, ◌<◌, ◌≡◌, Bool, true, false, List, [], ◌∷◌, ◌++◌, length, IfSome, Result, Ok, Err}
 use Rattle.std.specs.Io.KnownBytes.{prepend_known, IsAtEnd}
 use Rattle.racf_outside.specs.Causes.{Rose}
 use Rattle.racf_outside.specs.Lines as text
@@ -14,9 +14,10 @@ abbrev pub end_of : Bool → List ℕ
 end_of false = 10 ∷ []
 end_of true = []
 
--- The lines of what was unread are this one, and then those of what is still unread.
+-- Where the bytes are told, the lines of what was unread are this one, and then those of what is still unread.
 abbrev pub GivesFirst : text.Line → Reader → Reader → Type 0
-GivesFirst line old new = IfSome old.unread (λ bytes. IfSome new.unread (λ rest. text.lines bytes ≡ line ∷ text.lines rest))
+GivesFirst line old new =
+    IfSome old.unread (λ bytes. IfSome new.unread (λ rest. text.lines bytes ≡ line ∷ text.lines rest))
 
 -- A line was taken whose bytes are `raw`, and with them its line feed, or the input's end behind at least one byte.
 pub record TakesLine (raw : List ℕ) (old new : Reader) : Type 0 where
@@ -57,7 +58,8 @@ pub record TakesTooMuch (raw : List ℕ) (next : ℕ) (old new : Reader) : Type 
 
 -- What the next line is, or the end, or the fault in its place.
 abbrev pub Nexts : Result Line LineFault → Reader → Reader → Type 0
-Nexts (Ok (line.Text shown)) old new = (raw : List ℕ) × TakesLine raw old new × (text.line_of raw ≡ text.Text shown.now)
+Nexts (Ok (line.Text shown)) old new =
+    (raw : List ℕ) × TakesLine raw old new × (text.line_of raw ≡ text.Text shown.now)
 Nexts (Ok line.TooLong) old new = (raw : List ℕ) × TakesLine raw old new × (text.line_of raw ≡ text.TooLong)
 Nexts (Ok line.End) old new = TakesEnd old new
 Nexts (Err ReadFault) old new = (raw : List ℕ) × TakesFront raw old new

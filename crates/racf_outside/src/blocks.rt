@@ -27,7 +27,11 @@ impl<S: Source> Model for Blocks<S> {
 
     ghost Value = { Block };
 
-    ghost view = { λ a. record { ready = slice_range a.block.items a.from a.to; left = S.left a.source; faults = S.faults a.source } };
+    ghost view = { λ a. record {
+      ready = slice_range a.block.items a.from a.to;
+      left = S.left a.source;
+      faults = S.faults a.source;
+    } };
 
     ghost invariant = { λ a. (a.from ≤ a.to) × (a.to ≤ length a.block.items) × (0 < length a.block.items) };
 }

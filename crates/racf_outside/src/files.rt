@@ -3,6 +3,7 @@
 ghost use Rattle.std.specs.Prelude.{◌≡◌, ◌≤◌, length, None, IfOk};
 ghost use Rattle.racf_outside.specs.Slots.{is_lent};
 
+use crate::faults::Faults;
 use crate::outputs::Outputs;
 use crate::shelf::Shelf;
 use crate::streams::{Failed, Sink, Source};
@@ -38,7 +39,7 @@ impl<R: Files + Input> Origin<R> {
 #[derive(Drop)]
 pub struct FileSource<R: Files + Input> {
     origin: Origin<R>,
-    faults: u64,
+    faults: Faults,
 }
 
 impl<R: Files + Input> Model for FileSource<R> {
@@ -54,7 +55,7 @@ impl<R: Files + Input> FileSource<R> {
     pub fn faults(&self) -> u64
         ensures { result ≡ self.now }
     {
-        self.faults
+        self.faults.number()
     }
 }
 
@@ -66,10 +67,7 @@ impl<R: Files + Input> Source for FileSource<R> {
     fn read(&mut self, into: &mut [u8]) -> Result<usize, Failed> {
         match self.origin.read(into) {
             Ok(count) => Ok(count),
-            Err(_) => {
-                self.faults = self.faults.saturating_add(1);
-                Err(Failed)
-            }
+            Err(_) => Err(self.faults.count()),
         }
     }
 }
@@ -96,7 +94,7 @@ impl<R: Files + Print + Drop> Target<R> {
 #[derive(Drop)]
 pub struct FileSink<R: Files + Print + Drop> {
     target: Target<R>,
-    faults: u64,
+    faults: Faults,
 }
 
 impl<R: Files + Print + Drop> Model for FileSink<R> {
@@ -112,7 +110,7 @@ impl<R: Files + Print + Drop> FileSink<R> {
     pub fn faults(&self) -> u64
         ensures { result ≡ self.now }
     {
-        self.faults
+        self.faults.number()
     }
 }
 
@@ -124,10 +122,7 @@ impl<R: Files + Print + Drop> Sink for FileSink<R> {
     fn write(&mut self, bytes: &[u8]) -> Result<usize, Failed> {
         match self.target.write(bytes) {
             Ok(count) if count > 0 || bytes.is_empty() => Ok(count),
-            _ => {
-                self.faults = self.faults.saturating_add(1);
-                Err(Failed)
-            }
+            _ => Err(self.faults.count()),
         }
     }
 }
@@ -139,8 +134,8 @@ pub struct FileShelf<R: Files + Input + Print + Clone + Drop> {
     alloc: Global,
     runtime: R,
     outputs: Outputs,
-    source_faults: u64,
-    sink_faults: u64,
+    source_faults: Faults,
+    sink_faults: Faults,
 }
 
 impl<R: Files + Input + Print + Clone + Drop> FileShelf<R> {
@@ -153,8 +148,8 @@ impl<R: Files + Input + Print + Clone + Drop> FileShelf<R> {
             alloc,
             runtime,
             outputs: Outputs::new(alloc),
-            source_faults: 0,
-            sink_faults: 0,
+            source_faults: Faults::new(),
+            sink_faults: Faults::new(),
         }
     }
 
@@ -192,38 +187,33 @@ impl<R: Files + Input + Print + Clone + Drop> Shelf for FileShelf<R> {
 
     fn source(&mut self, name: &str) -> Result<FileSource<R>, Failed> {
         match self.origin(name) {
-            Ok(origin) => Ok(FileSource { origin, faults: 0 }),
-            Err(_) => {
-                self.source_faults = self.source_faults.saturating_add(1);
-                Err(Failed)
-            }
+            Ok(origin) => Ok(FileSource {
+                origin,
+                faults: Faults::new(),
+            }),
+            Err(_) => Err(self.source_faults.count()),
         }
     }
 
     fn sink(&mut self, name: &str) -> Result<FileSink<R>, Failed> {
         let Ok(target) = self.target(name) else {
-            self.sink_faults = self.sink_faults.saturating_add(1);
-            return Err(Failed);
+            return Err(self.sink_faults.count());
         };
         match self.outputs.lend(self.alloc, name) {
-            Ok(()) => Ok(FileSink { target, faults: 0 }),
-            Err(_) => {
-                self.sink_faults = self.sink_faults.saturating_add(1);
-                Err(Failed)
-            }
+            Ok(()) => Ok(FileSink {
+                target,
+                faults: Faults::new(),
+            }),
+            Err(_) => Err(self.sink_faults.count()),
         }
     }
 
     fn give_back(&mut self, name: &str, out: FileSink<R>) {
-        if out.faults() > 0 {
-            self.sink_faults = self.sink_faults.saturating_add(1);
-        }
+        self.sink_faults.take_over(out.faults());
         self.outputs.give_back(name, None);
     }
 
     fn take_back(&mut self, _name: &str, source: FileSource<R>) {
-        if source.faults() > 0 {
-            self.source_faults = self.source_faults.saturating_add(1);
-        }
+        self.source_faults.take_over(source.faults());
     }
 }

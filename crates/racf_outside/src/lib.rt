@@ -4,16 +4,19 @@
 #![tactic(auto)]
 
 mod blocks;
-pub mod calls;
-pub mod files;
+mod calls;
+mod faults;
+mod files;
 mod line_buffer;
-pub mod lines;
-pub mod memory;
-pub mod memory_shelf;
+mod lines;
+mod memory;
+mod memory_shelf;
 mod outputs;
 mod scanner;
-pub mod shelf;
-pub mod streams;
+mod shelf;
+mod streams;
+#[cfg(test)]
+mod tests;
 
 pub use files::{FileShelf, FileSink, FileSource};
 pub use lines::{Line, LineFault, Lines};

@@ -67,7 +67,8 @@ impl<S: Source> Lines<S> {
         }
     }
 
-    /// The next line, or the fault in its place. Takes no memory. Behind the end of the input each call answers `End`.
+    /// The next line, or the fault in its place. Takes no memory. Behind the end of the input each call answers `End`;
+    /// behind a fault a call goes on after the bytes that were taken.
     pub fn next(&mut self) -> Result<Line<'_>, LineFault>
         ensures* after { sem 𝓛 (Rests (the_row S.row S.Source) self.entry
             (λ new. Nexts result self.old new × (self.old.faults ≤ new.faults) × (new.passed ≤ 2 ^ 28))) }

@@ -115,9 +115,12 @@ impl MemoryShelf {
     /// those of the numbers `failing`, counted from 1, are to fail.
     pub fn put(&mut self, name: &str, bytes: Vec<u8>, failing: Vec<u64>) -> Result<(), AllocError>
         ensures here { OnOk result (⟦<MemoryShelf as Shelf>⟧.input self.new name.now ≡ Some bytes.items) }
-        ensures others { SameOthers name.now (⟦<MemoryShelf as Shelf>⟧.input self.old) (⟦<MemoryShelf as Shelf>⟧.input self.new) }
-        ensures err { OnErr result (SameBytes (⟦<MemoryShelf as Shelf>⟧.input self.old) (⟦<MemoryShelf as Shelf>⟧.input self.new)) }
-        ensures outputs { SameBytes (⟦<MemoryShelf as Shelf>⟧.output self.old) (⟦<MemoryShelf as Shelf>⟧.output self.new) }
+        ensures others { SameOthers name.now
+            (⟦<MemoryShelf as Shelf>⟧.input self.old) (⟦<MemoryShelf as Shelf>⟧.input self.new) }
+        ensures err { OnErr result (SameBytes
+            (⟦<MemoryShelf as Shelf>⟧.input self.old) (⟦<MemoryShelf as Shelf>⟧.input self.new)) }
+        ensures outputs { SameBytes
+            (⟦<MemoryShelf as Shelf>⟧.output self.old) (⟦<MemoryShelf as Shelf>⟧.output self.new) }
     {
         let name = String::from_str(self.alloc, name)?;
         self.inputs.put(Stored {
@@ -170,15 +173,11 @@ impl Shelf for MemoryShelf {
     }
 
     fn give_back(&mut self, name: &str, out: MemorySink) {
-        if out.faults() > 0 {
-            self.sinks.fault();
-        }
+        self.sinks.take_over(out.faults());
         self.outputs.give_back(name, Some(out.into_bytes()));
     }
 
     fn take_back(&mut self, _name: &str, source: MemorySource) {
-        if source.faults() > 0 {
-            self.sources.fault();
-        }
+        self.sources.take_over(source.faults());
     }
 }

@@ -53,7 +53,13 @@ impl<S: Source> Model for Scanner<S> {
 
     ghost Value = { Reader };
 
-    ghost view = { λ a. record { unread = unread_of a.blocks; left = a.blocks.left; faults = a.blocks.faults; ended = a.ended; passed = a.passed } };
+    ghost view = { λ a. record {
+      unread = unread_of a.blocks;
+      left = a.blocks.left;
+      faults = a.blocks.faults;
+      ended = a.ended;
+      passed = a.passed;
+    } };
 
     ghost invariant = { λ a. (a.passed ≤ 2 ^ 28) × (a.ended ≡ true → IsAtEnd (unread_of a.blocks)) };
 }
@@ -168,7 +174,8 @@ fn line_found(line: &LineBuffer) -> Found
 
 /// What a line is that the input's end ended.
 fn last_found(line: &LineBuffer) -> Found
-    ensures { result ≡ (if line.now.size == 0 then Found.End else (if nat_lt 4096 line.now.size then Found.TooLong else Found.Text)) }
+    ensures { result ≡ (if line.now.size == 0 then Found.End
+        else (if nat_lt 4096 line.now.size then Found.TooLong else Found.Text)) }
 {
     if line.size() == 0 {
         Found::End

@@ -1,4 +1,4 @@
-use Rattle.std.proofs.Common.{◌≤◌, ◌≡◌, length, arith, ap}
+use Rattle.std.proofs.Common.{◌≡◌, length, arith, ap}
 use Rattle.std.specs.List.{slice_range}
 use Rattle.racf_outside.proofs.Bytes.{drop-slice_range}
 use Rattle.racf_outside.proofs.blocks.Blocks.pass.Goals as goal

@@ -1,4 +1,4 @@
-use Rattle.std.proofs.Common.{◌≤◌, ◌≡◌, ◌+◌, ◌-◌, ◌∙◌, length, take, vec_len, arith, ap}
+use Rattle.std.proofs.Common.{◌≡◌, ◌-◌, ◌∙◌, length, take, vec_len, arith, ap}
 use Rattle.std.specs.Result.{is_ok}
 use Rattle.std.proofs.lemmas.List.{length-take}
 use Rattle.racf_outside.proofs.Bytes.{appended}

@@ -1,4 +1,4 @@
-use Rattle.std.proofs.Common.{ℕ, ◌≡◌, ◌≤◌, ◌-◌, length, take, drop, arith}
+use Rattle.std.proofs.Common.{◌≤◌, ◌-◌, length, take, drop, arith}
 use Rattle.racf_outside.proofs.Bytes.{read_front_bytes}
 use Rattle.racf_outside.proofs.memory.Remaining.read_front.Goals as goal
 

@@ -1,7 +1,6 @@
-use Rattle.std.proofs.Common.{ℕ, ◌≡◌, ◌∙◌, true, false, ap, sym, refl, List}
+use Rattle.std.proofs.Common.{◌∙◌, false, ap, sym, refl}
 use Rattle.std.proofs.lemmas.Bool.{false≢true}
 use Rattle.racf_outside.specs.Slots.{told_of, lent_of}
-use Rattle.racf_outside.specs.declared.outputs.Slot.{Slot}
 use Rattle.racf_outside.proofs.SlotLaws.{find-replaced, find-other, find-missing}
 use Rattle.racf_outside.proofs.outputs.Outputs.give_back.Goals as goal
 

@@ -1,4 +1,4 @@
-use Rattle.std.proofs.Common.{ℕ, ◌+◌, ◌-◌, ◌<◌, ◌≤◌, ◌≡◌, ◌∙◌, false, length, take, arith, ap, sym, refl, ◌^◌, ◌++◌}
+use Rattle.std.proofs.Common.{◌+◌, ◌-◌, ◌<◌, ◌≡◌, ◌∙◌, length, take, arith, ap, sym, refl, ◌^◌, ◌++◌}
 use Rattle.std.specs.Prelude.{slice_index}
 use Rattle.std.proofs.lemmas.List.{length-take, length-take-le}
 use Rattle.racf_outside.proofs.ScanLaws.{some_ready, takes_too_far, takes_to_feed, takes_window}

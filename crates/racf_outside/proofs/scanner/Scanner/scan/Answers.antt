@@ -1,4 +1,4 @@
-use Rattle.std.proofs.Common.{ℕ, ◌≤◌, ◌≡◌, ◌++◌, ◌∙◌, arith, ap, sym}
+use Rattle.std.proofs.Common.{◌++◌}
 use Rattle.racf_outside.proofs.ScanLaws.{IsScanned-more, Finds-feed, Finds-last}
 use Rattle.racf_outside.proofs.scanner.Scanner.scan.Goals as goal
 

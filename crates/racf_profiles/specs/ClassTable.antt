@@ -1,5 +1,5 @@
 -- The fixed classes: their names, their order, and what each allows.
-use Rattle.std.specs.Prelude.{ℕ, Bool, true, false, ◌||◌, ◌&&◌, not, List, [], ◌∷◌, Option, codes, map}
+use Rattle.std.specs.Prelude.{ℕ, Bool, true, false, ◌||◌, ◌&&◌, not, List, [], ◌∷◌, Option, option_map, codes, map}
 use Rattle.std.specs.Str.{bytes_eq}
 use Rattle.std.specs.List.{find}
 use Rattle.racf_profiles.specs.declared.fixed_classes.FixedClass.{FixedClass}
@@ -62,4 +62,26 @@ class_table = map facts_of_class fixed_classes
 
 -- What the class of a name allows.
 abbrev pub facts_of : List ℕ → Option ClassFacts
-facts_of name = find (λ facts. bytes_eq (class_name facts.class) name) class_table
+facts_of name = option_map facts_of_class (fixed_class name)
+
+-- What holds of each class: only data sets and general resources have generic profiles, only classes with generic profiles heed OPERATIONS,
+-- and names of data sets stand in DATASET alone.
+abbrev pub has_wide_names : NameForm → Bool
+has_wide_names names.DataSet = true
+has_wide_names names.General = true
+has_wide_names _ = false
+
+abbrev pub has_dataset_names : NameForm → Bool
+has_dataset_names names.DataSet = true
+has_dataset_names _ = false
+
+abbrev pub is_dataset : FixedClass → Bool
+is_dataset Dataset = true
+is_dataset _ = false
+
+abbrev pub bool_eq : Bool → Bool → Bool
+bool_eq true b = b
+bool_eq false b = not b
+
+abbrev pub is_consistent : ClassFacts → Bool
+is_consistent facts = bool_eq facts.generic (has_wide_names facts.names) && (not facts.operations || facts.generic) && bool_eq (has_dataset_names facts.names) (is_dataset facts.class)

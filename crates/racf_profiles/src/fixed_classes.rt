@@ -1,8 +1,9 @@
 //! The fixed classes and what each of them allows.
 ghost use Rattle.std.specs.Prelude.{◌≡◌, Ok, option_copied};
 ghost use Rattle.access_levels.specs.Spelling.{id_of};
-ghost use Rattle.racf_profiles.specs.ClassTable.{class_name, fixed_class, class_table, facts_of};
+ghost use Rattle.racf_profiles.specs.ClassTable.{class_name, fixed_class, facts_of_class, class_table, facts_of};
 
+use crate::known::known_id;
 use access_levels::Id;
 
 /// The fixed classes, in the order of the table (this product's own).
@@ -94,6 +95,20 @@ impl FixedClass {
         }
     }
 
+    /// The name of the class, as an identifier.
+    pub fn id(self) -> Id
+        ensures { result ≡ class_name self }
+    {
+        known_id(self.name())
+    }
+
+    /// What the class allows.
+    pub fn facts(self) -> &'static ClassFacts
+        ensures { result.now ≡ facts_of_class self }
+    {
+        &CLASS_TABLE[self as usize]
+    }
+
     /// The fixed class of that name.
     pub fn of(name: Id) -> Option<FixedClass>
         ensures { result ≡ fixed_class name }
@@ -107,20 +122,104 @@ impl FixedClass {
 
 /// The table of the fixed classes.
 pub const CLASS_TABLE: [ClassFacts; 14] = [
-    ClassFacts { class: FixedClass::Dataset, names: NameForm::DataSet, operations: true, generic: true, raclist: false },
-    ClassFacts { class: FixedClass::Facility, names: NameForm::General, operations: false, generic: true, raclist: true },
-    ClassFacts { class: FixedClass::Terminal, names: NameForm::General, operations: false, generic: true, raclist: true },
-    ClassFacts { class: FixedClass::Console, names: NameForm::General, operations: false, generic: true, raclist: true },
-    ClassFacts { class: FixedClass::Jesinput, names: NameForm::General, operations: false, generic: true, raclist: true },
-    ClassFacts { class: FixedClass::Appcport, names: NameForm::General, operations: false, generic: true, raclist: true },
-    ClassFacts { class: FixedClass::Appl, names: NameForm::General, operations: false, generic: true, raclist: true },
-    ClassFacts { class: FixedClass::Opercmds, names: NameForm::General, operations: false, generic: true, raclist: true },
-    ClassFacts { class: FixedClass::Surrogat, names: NameForm::General, operations: false, generic: true, raclist: true },
-    ClassFacts { class: FixedClass::Tapevol, names: NameForm::General, operations: true, generic: true, raclist: true },
-    ClassFacts { class: FixedClass::Dasdvol, names: NameForm::General, operations: true, generic: true, raclist: true },
-    ClassFacts { class: FixedClass::Secdata, names: NameForm::LevelOrCategory, operations: false, generic: false, raclist: false },
-    ClassFacts { class: FixedClass::Seclabel, names: NameForm::Identifier, operations: false, generic: false, raclist: true },
-    ClassFacts { class: FixedClass::Global, names: NameForm::Class, operations: false, generic: false, raclist: false },
+    ClassFacts {
+        class: FixedClass::Dataset,
+        names: NameForm::DataSet,
+        operations: true,
+        generic: true,
+        raclist: false,
+    },
+    ClassFacts {
+        class: FixedClass::Facility,
+        names: NameForm::General,
+        operations: false,
+        generic: true,
+        raclist: true,
+    },
+    ClassFacts {
+        class: FixedClass::Terminal,
+        names: NameForm::General,
+        operations: false,
+        generic: true,
+        raclist: true,
+    },
+    ClassFacts {
+        class: FixedClass::Console,
+        names: NameForm::General,
+        operations: false,
+        generic: true,
+        raclist: true,
+    },
+    ClassFacts {
+        class: FixedClass::Jesinput,
+        names: NameForm::General,
+        operations: false,
+        generic: true,
+        raclist: true,
+    },
+    ClassFacts {
+        class: FixedClass::Appcport,
+        names: NameForm::General,
+        operations: false,
+        generic: true,
+        raclist: true,
+    },
+    ClassFacts {
+        class: FixedClass::Appl,
+        names: NameForm::General,
+        operations: false,
+        generic: true,
+        raclist: true,
+    },
+    ClassFacts {
+        class: FixedClass::Opercmds,
+        names: NameForm::General,
+        operations: false,
+        generic: true,
+        raclist: true,
+    },
+    ClassFacts {
+        class: FixedClass::Surrogat,
+        names: NameForm::General,
+        operations: false,
+        generic: true,
+        raclist: true,
+    },
+    ClassFacts {
+        class: FixedClass::Tapevol,
+        names: NameForm::General,
+        operations: true,
+        generic: true,
+        raclist: true,
+    },
+    ClassFacts {
+        class: FixedClass::Dasdvol,
+        names: NameForm::General,
+        operations: true,
+        generic: true,
+        raclist: true,
+    },
+    ClassFacts {
+        class: FixedClass::Secdata,
+        names: NameForm::LevelOrCategory,
+        operations: false,
+        generic: false,
+        raclist: false,
+    },
+    ClassFacts {
+        class: FixedClass::Seclabel,
+        names: NameForm::Identifier,
+        operations: false,
+        generic: false,
+        raclist: true,
+    },
+    ClassFacts {
+        class: FixedClass::Global,
+        names: NameForm::Class,
+        operations: false,
+        generic: false,
+        raclist: false,
+    },
 ];
 
 /// The table of the fixed classes, in its order.
@@ -134,7 +233,8 @@ pub fn class_table() -> &'static [ClassFacts]
 pub fn class_facts(name: Id) -> Option<&'static ClassFacts>
     ensures { option_copied result ≡ facts_of name }
 {
-    class_table()
-        .iter()
-        .find(|facts| facts.class.name() == name.text())
+    match FixedClass::of(name) {
+        Some(class) => Some(class.facts()),
+        None => None,
+    }
 }

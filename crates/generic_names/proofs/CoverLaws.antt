@@ -80,8 +80,8 @@ module _ (kind : NameKind) (p : List ℕ) (ps : List (List ℕ)) where
   some_end-one q (r ∷ qs) double one h =
       let here : (matches p q && covers_all kind ps (r ∷ qs)) || some_end (λ end. covers_all kind (p ∷ ps) end) (r ∷ qs) ≡ true = rw (covers_all-one q (r ∷ qs) double one) at h in
       either _ _ here
-          (λ now. some_end-whole (λ end. covers_all kind ps end) (r ∷ qs) (and_second (matches p q) _ now))
-          (λ later. or_second (covers_all kind ps (r ∷ qs)) _ (some_end-one r qs double one later))
+      (λ now. some_end-whole (λ end. covers_all kind ps end) (r ∷ qs) (and_second (matches p q) _ now))
+      (λ later. or_second (covers_all kind ps (r ∷ qs)) _ (some_end-one r qs double one later))
 
 -- A walk from a pattern P₀ and a name N₀ has come to P and N. It is as good from there, and where the pattern
 -- covers some end of the name, what is left of it covers some end of what is left.

@@ -2,3 +2,9 @@ mod QualifierLaws
 mod FaultLaws
 mod CoverLaws
 mod WalkLaws
+mod RankLaws
+mod ReplaceLaws
+mod Lawful
+mod OrderLaws
+mod FirstLaws
+mod GapLaws

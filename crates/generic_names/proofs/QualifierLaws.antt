@@ -7,7 +7,7 @@ use Rattle.std.proofs.lemmas.Bool.{cases_lt}
 use Rattle.generic_names.specs.Spelled.{qualifiers, is_empty}
 use Rattle.generic_names.specs.Reading.{rest_at}
 
-not_period : (x : ℕ) → (x ≡ 46 → ⊥) → eqb x 46 ≡ false
+pub not_period : (x : ℕ) → (x ≡ 46 → ⊥) → eqb x 46 ≡ false
 not_period x h = grind (arith, nat_tests)
 
 -- the first qualifier runs to the first period
@@ -59,12 +59,12 @@ qualifiers-some (x ∷ xs) = elim (eqb x 46) as (λ v. is_empty (cond v ([] ∷ 
 pub rest_at-last : (xs : List ℕ) (end : ℕ) → end ≤ length xs → eqb end (length xs) ≡ is_empty (rest_at xs (end + 1))
 rest_at-last xs end h =
     ⊎_elim
-        (λ (less : end < length xs).
-            let within : rest_at xs (end + 1) ≡ qualifiers (drop (end + 1) xs) = rest_at-within (end + 1) xs (omega arith) in
-            let other : eqb end (length xs) ≡ false = grind (arith, nat_tests) in
-            rw (within, other) (sym (qualifiers-some (drop (end + 1) xs))))
-        (λ (more : length xs ≤ end).
-            let past : rest_at xs (end + 1) ≡ [] = rest_at-past (end + 1) xs (omega arith) in
-            let same : eqb end (length xs) ≡ true = grind (arith, nat_tests) in
-            rw (past, same) refl)
-        (cases_lt end (length xs))
+    (λ (less : end < length xs).
+    let within : rest_at xs (end + 1) ≡ qualifiers (drop (end + 1) xs) = rest_at-within (end + 1) xs (omega arith) in
+    let other : eqb end (length xs) ≡ false = grind (arith, nat_tests) in
+    rw (within, other) (sym (qualifiers-some (drop (end + 1) xs))))
+    (λ (more : length xs ≤ end).
+    let past : rest_at xs (end + 1) ≡ [] = rest_at-past (end + 1) xs (omega arith) in
+    let same : eqb end (length xs) ≡ true = grind (arith, nat_tests) in
+    rw (past, same) refl)
+    (cases_lt end (length xs))

@@ -38,13 +38,13 @@ rest_at-text name from h = ap (λ (qs : List (List ℕ)). join_with_byte 46 qs) 
 rest_at-spent : (name : List ℕ) (from : ℕ) → is_empty (rest_at name from) ≡ ltb (length name) from
 rest_at-spent name from = ⊎_elim
     (λ (past : length name < from).
-        let none : rest_at name from ≡ [] = rest_at-past from name past in
-        let holds : ltb (length name) from ≡ true = grind (arith, nat_tests) in
-        rw (none, holds) refl)
+    let none : rest_at name from ≡ [] = rest_at-past from name past in
+    let holds : ltb (length name) from ≡ true = grind (arith, nat_tests) in
+    rw (none, holds) refl)
     (λ (within : from ≤ length name).
-        let some : rest_at name from ≡ qualifiers (drop from name) = rest_at-within from name within in
-        let not_past : ltb (length name) from ≡ false = grind (arith, nat_tests) in
-        rw (some, not_past) (qualifiers-some (drop from name)))
+    let some : rest_at name from ≡ qualifiers (drop from name) = rest_at-within from name within in
+    let not_past : ltb (length name) from ≡ false = grind (arith, nat_tests) in
+    rw (some, not_past) (qualifiers-some (drop from name)))
     (cases_lt (length name) from)
 
 first_of_some : (qs : List (List ℕ)) → is_empty qs ≡ false → (q : List ℕ) × (rest : List (List ℕ)) × (qs ≡ q ∷ rest)
@@ -94,7 +94,7 @@ module _ {kind : NameKind} {pattern name : List ℕ} {at from later there : ℕ}
           let some : is_empty (rest_at name there) ≡ false = rest_at-spent name there ∙ (grind (arith, nat_tests)) in
           let next = first_of_some (rest_at name there) some in
           let whole : covers_at kind pattern at name from ≡ begins (take (length p - 1) p) (join_with_byte 46 (rest_at name there)) =
-              walk-open kind (rest_at pattern at) (rest_at name from) (rest_at pattern later) (rest_at name there) w.same w.some p (rest_at pattern (end + 1)) first next.0 next.1 next.2 (sym is_doubled ∙ one) opened in
+          walk-open kind (rest_at pattern at) (rest_at name from) (rest_at pattern later) (rest_at name there) w.same w.some p (rest_at pattern (end + 1)) first next.0 next.1 next.2 (sym is_doubled ∙ one) opened in
           let front : take (length p - 1) p ≡ take (end - 1 - later) (drop later pattern) = front_of_range pattern later end low high in
           let text : join_with_byte 46 (rest_at name there) ≡ take (length name - there) (drop there name) = rest_at-text name there within ∙ sym (take_rest name there) in
           rw is (Walked-decided kind pattern at name from answer (whole ∙ ap (λ (xs : List ℕ). begins xs (join_with_byte 46 (rest_at name there))) front ∙ ap (λ (xs : List ℕ). begins (take (end - 1 - later) (drop later pattern)) xs) text ∙ sym is_begun))

@@ -1,5 +1,6 @@
 -- Which of two patterns is more specific.
 use Rattle.std.specs.Prelude.{ℕ, ◌==◌, Bool, ◌&&◌, if◌then◌else◌, List, [], ◌∷◌, ◌++◌, map}
+use Rattle.std.specs.declared.cmp.Ordering.{Ordering}
 use Rattle.std.specs.Ordering.{nat_cmp, is_lt}
 use Rattle.std.specs.Cmp.Lexicographic.{slice_cmp}
 use Rattle.generic_names.specs.Spelled.{Spelled, percent, asterisk, qualifiers}
@@ -15,6 +16,10 @@ abbrev pub ranks : List (List ℕ) → List ℕ
 ranks [] = 259 ∷ []
 ranks (q ∷ qs) = if is_double q then 260 ∷ ranks qs else map rank q ++ 257 ∷ ranks qs
 
--- whether the first name is more specific: its ranks are lower where the two first differ
+-- which of two names comes first: the one whose ranks are lower where the two first differ
+abbrev pub order : Spelled → Spelled → Ordering
+order a b = slice_cmp nat_cmp (ranks (qualifiers a.text)) (ranks (qualifiers b.text))
+
+-- whether the first name is more specific
 abbrev pub before : Spelled → Spelled → Bool
-before a b = is_lt (slice_cmp nat_cmp (ranks (qualifiers a.text)) (ranks (qualifiers b.text)))
+before a b = is_lt (order a b)

@@ -21,4 +21,4 @@ module _ {A : Type 0} (name_of : A → Spelled) where
   abbrev pub best : List A → Spelled → Option A
   best profiles name =
       option_or (find (λ p. bytes_eq (name_of p).text name.text) profiles)
-          (most_specific (filter (λ p. covers (name_of p) name) profiles))
+      (most_specific (filter (λ p. covers (name_of p) name) profiles))

@@ -96,7 +96,11 @@ fn walk(kind: NameKind, pattern: &[u8], mut at: usize, name: &[u8], mut from: us
 fn covered(yes: bool) -> WalkEnd
     ensures { result ≡ (if yes then WalkEnd.Covered else WalkEnd.Refused) }
 {
-    if yes { WalkEnd::Covered } else { WalkEnd::Refused }
+    if yes {
+        WalkEnd::Covered
+    } else {
+        WalkEnd::Refused
+    }
 }
 
 /// Whether a pattern's qualifier matches a name's.
@@ -135,7 +139,7 @@ fn begins_with(front: &[u8], text: &[u8]) -> bool
 }
 
 /// Whether it is the whole qualifier `**`.
-fn is_double_asterisk(qualifier: &[u8]) -> bool
+pub(crate) fn is_double_asterisk(qualifier: &[u8]) -> bool
     ensures { result ≡ is_double qualifier.now }
 {
     qualifier == b"**".as_slice()

@@ -5,7 +5,9 @@ mod covering;
 mod fault;
 mod form;
 mod kind;
+mod laws;
 mod member;
+mod order;
 mod pattern;
 mod qualifiers;
 mod reading;
@@ -17,3 +19,6 @@ pub use kind::NameKind;
 pub use member::MemberName;
 pub use pattern::Pattern;
 pub use resource::Resource;
+
+#[cfg(test)]
+mod tests;

@@ -1,14 +1,18 @@
-ghost use Rattle.std.specs.Prelude.{◌≡◌, Ok};
+ghost use Rattle.std.specs.Prelude.{◌≡◌, Ok, IfOk};
+ghost use Rattle.std.specs.Result.{result_ok};
 ghost use Rattle.generic_names.specs.Faults.{pattern_of};
 ghost use Rattle.generic_names.specs.Covers.{is_generic, covers};
+ghost use Rattle.generic_names.specs.Before.{before, order};
 
 use crate::covering::covers_text;
 use crate::fault::NameFault;
 use crate::form::Form;
 use crate::kind::NameKind;
+use crate::order::compare;
 use crate::reading::{fault_in, has_generic_byte};
 use crate::resource::Resource;
 use crate::spelling::Spelling;
+use std::cmp::Ordering;
 use std::marker::Model;
 
 /// The name of a profile, discrete or generic. `%` stands for one byte other than a period, a `*` at
@@ -37,7 +41,8 @@ impl Model for Pattern {
 impl Pattern {
     /// Reads the name of a profile of this kind. Lower case is not folded.
     pub fn read(kind: NameKind, bytes: &[u8]) -> Result<Pattern, NameFault>
-        ensures { result ≡ pattern_of kind bytes.now }
+        ensures name { result ≡ pattern_of kind bytes.now }
+        ensures kind { IfOk result (λ name. name.kind ≡ kind) }
     {
         if let Some(fault) = fault_in(Form::Generic, kind, bytes) {
             return Err(fault);
@@ -45,6 +50,16 @@ impl Pattern {
         Ok(Pattern {
             name: Spelling::of(kind, bytes),
         })
+    }
+
+    /// The pattern with this spelling, if it is the name of one.
+    pub(crate) fn spelled(name: Spelling) -> Option<Pattern>
+        ensures { result ≡ result_ok (pattern_of name.kind name.text) }
+    {
+        if fault_in(Form::Generic, name.kind(), name.text()).is_some() {
+            return None;
+        }
+        Some(Pattern { name })
     }
 
     /// Whose name it is.
@@ -76,5 +91,29 @@ impl Pattern {
         ensures { result ≡ covers self.now name.now }
     {
         covers_text(self.name.kind(), self.name.text(), name.text())
+    }
+
+    /// Whether it is more specific than another pattern of its kind.
+    pub fn before(&self, other: &Pattern) -> bool
+        requires { self.now.kind ≡ other.now.kind }
+        ensures { result ≡ before self.now other.now }
+    {
+        compare(self.name.text(), other.name.text()).is_lt()
+    }
+
+    /// Which of two patterns of a kind comes first in the order of specificity.
+    pub fn order(&self, other: &Pattern) -> Ordering
+        requires { self.now.kind ≡ other.now.kind }
+        ensures { result ≡ order self.now other.now }
+    {
+        compare(self.name.text(), other.name.text())
+    }
+
+    /// The same, with the pattern of a resource's very name.
+    pub fn order_of_name(&self, name: &Resource) -> Ordering
+        requires { self.now.kind ≡ name.now.kind }
+        ensures { result ≡ order self.now name.now }
+    {
+        compare(self.name.text(), name.text())
     }
 }

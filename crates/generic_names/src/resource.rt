@@ -1,4 +1,4 @@
-ghost use Rattle.std.specs.Prelude.{◌≡◌, Ok};
+ghost use Rattle.std.specs.Prelude.{◌≡◌, Ok, IfOk};
 ghost use Rattle.generic_names.specs.Faults.{resource_of};
 
 use crate::fault::NameFault;
@@ -31,7 +31,8 @@ impl Model for Resource {
 impl Resource {
     /// Reads the name of a resource of this kind. Lower case is not folded.
     pub fn read(kind: NameKind, bytes: &[u8]) -> Result<Resource, NameFault>
-        ensures { result ≡ resource_of kind bytes.now }
+        ensures name { result ≡ resource_of kind bytes.now }
+        ensures kind { IfOk result (λ name. name.kind ≡ kind) }
     {
         if let Some(fault) = fault_in(Form::Discrete, kind, bytes) {
             return Err(fault);

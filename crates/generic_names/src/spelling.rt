@@ -1,4 +1,4 @@
-ghost use Rattle.std.specs.Prelude.{◌≡◌, ℕ, ◌-◌, ◌≤◌, ◌++◌, length, replicate};
+ghost use Rattle.std.specs.Prelude.{◌≡◌, ℕ, ◌+◌, ◌-◌, ◌<◌, ◌≤◌, ◌++◌, length, replicate, OnSome, IfNone};
 ghost use Rattle.generic_names.specs.Spelled.{Spelled};
 
 use crate::kind::NameKind;
@@ -42,6 +42,20 @@ impl Spelling {
             length: text.len(),
             bytes: padded(text),
         }
+    }
+
+    /// Adds bytes at the end of the text, unless it would be longer than any name.
+    pub(crate) fn push(&mut self, part: &[u8]) -> Option<()>
+        ensures pushed { OnSome result (self.new ≡ record { kind = self.old.kind; text = self.old.text ++ part.now }) }
+        ensures full { IfNone result (246 < length self.old.text + length part.now) }
+    {
+        if part.len() > LONGEST - self.length {
+            return None;
+        }
+        let length = self.length + part.len();
+        self.bytes[self.length..length].copy_from_slice(part);
+        self.length = length;
+        Some(())
     }
 
     pub(crate) fn kind(&self) -> NameKind

@@ -1,0 +1,29 @@
+-- What holds of the definitions.
+use Rattle.std.specs.Prelude.{◌≡◌, ◌⊎◌, true, false, Ok}
+use Rattle.generic_names.specs.Spelled.{Spelled}
+use Rattle.generic_names.specs.Faults.{resource_of, pattern_of}
+use Rattle.generic_names.specs.Covers.{covers}
+use Rattle.generic_names.specs.Before.{before}
+
+-- names that a text spells
+abbrev pub IsResource : Spelled → Type 0
+IsResource name = resource_of name.kind name.text ≡ Ok name
+
+abbrev pub IsPattern : Spelled → Type 0
+IsPattern name = pattern_of name.kind name.text ≡ Ok name
+
+-- of two patterns of one kind that differ one is more specific
+abbrev pub OneIsBefore : Type 0
+OneIsBefore = (a b : Spelled) → IsPattern a → IsPattern b → a.kind ≡ b.kind → (a ≡ b) ⊎ ((before a b ≡ true) ⊎ (before b a ≡ true))
+
+-- and not both
+abbrev pub NotBoth : Type 0
+NotBoth = (a b : Spelled) → before a b ≡ true → before b a ≡ false
+
+-- what is more specific than a more specific one is more specific
+abbrev pub PassedOn : Type 0
+PassedOn = (a b c : Spelled) → before a b ≡ true → before b c ≡ true → before a c ≡ true
+
+-- a profile of the very name is before every other one that covers it
+abbrev pub VeryNameIsFirst : Type 0
+VeryNameIsFirst = (pattern name : Spelled) → IsResource name → pattern.kind ≡ name.kind → covers pattern name ≡ true → (pattern ≡ name) ⊎ (before name pattern ≡ true)

@@ -1,0 +1,5 @@
+pub mod Rows
+pub mod Ways
+pub mod Edits
+pub mod Climbs
+pub mod Stored

@@ -1,0 +1,10 @@
+use Rattle.std.proofs.Common.{◌∙◌, ap, bytes_eq, is_some}
+use Rattle.group_tree.specs.Groups.{find_group}
+use Rattle.group_tree.proofs.Rows.{lookup_named}
+use Rattle.group_tree.proofs.tree.Tree.contains.Goals as goal
+
+-- the map has the name where the list has the group
+pub returns : goal.returns
+returns c =
+    c.contains_key.ensures
+    ∙ ap is_some (lookup_named c.args.id c.self.inside.groups.entries c.self.invariant.named ∙ ap (λ v. find_group v.groups c.args.id) c.self.view_is)

@@ -1,0 +1,50 @@
+use Rattle.std.proofs.Common.{◌≡◌, ◌≤◌, length, Some, None, true, false, bytes_eq, refl, sym, ap, ◌∙◌, arith}
+use Rattle.group_tree.specs.Groups.{find_group}
+use Rattle.group_tree.specs.Climb.{LeadsUp, above}
+use Rattle.group_tree.proofs.Rows.{same, unlike}
+use Rattle.group_tree.proofs.Climbs.{leads_none, leads_here, leads_stuck, leads_from_next, leads_to_next, steps_first, steps_next, steps_all}
+use Rattle.group_tree.proofs.tree.Tree.leads_up.Goals as goal
+
+pub loop-step-init : goal.loop-step-init
+loop-step-init c = record {
+  lawful = c.len-step-end.ensures.lawful;
+  count = c.len-step-end.ensures.count;
+  down = λ w. w;
+  up = λ w. w;
+  steps = steps_first c.args.self.now.groups c.len-step-end.ensures.lawful c.args.from;
+}
+
+pub loop-step-preserved : goal.loop-step-preserved
+loop-step-preserved c =
+    let here : find_group c.args.self.now.groups c.loop-step.current ≡ Some c.in-Some.group.now = sym c.in-Some.ensures in
+    let next : above c.args.climb c.in-Some.group.now ≡ Some c.in-Some-above.next = sym c.above.ensures ∙ c.in-Some-above.is in
+    let past = unlike c.loop-step.current c.args.to (sym c.eq.ensures ∙ c.if-eq.false) in
+    record {
+      lawful = c.loop-step.invariant.lawful;
+      count = c.loop-step.invariant.count;
+      down = λ w. c.loop-step.invariant.down (leads_from_next c.args.climb c.args.self.now.groups c.loop-step.current c.args.to c.in-Some.group.now c.in-Some-above.next here next w);
+      up = λ w. leads_to_next c.args.climb c.args.self.now.groups c.loop-step.current c.args.to c.in-Some.group.now c.in-Some-above.next here next past (c.loop-step.invariant.up w);
+      steps = steps_next c.args.self.now.groups c.loop-step.invariant.lawful c.args.climb c.loop-step.current c.in-Some-above.next c.in-Some.group.now c.loop-step._step here next c.loop-step.invariant.steps;
+    }
+
+pub returns-in_default : goal.returns-in_default
+returns-in_default c =
+    let none : find_group c.args.self.now.groups c.loop-step.current ≡ None = sym c.in_default.ensures in
+    (λ t. absurd (let e = t in cc), λ w. absurd (leads_none c.args.climb c.args.self.now.groups c.loop-step.current c.args.to none (c.loop-step.invariant.up w)))
+
+pub returns-then-eq : goal.returns-then-eq
+returns-then-eq c =
+    let here : find_group c.args.self.now.groups c.loop-step.current ≡ Some c.in-Some.group.now = sym c.in-Some.ensures in
+    (λ t. c.loop-step.invariant.down (leads_here c.args.climb c.args.self.now.groups c.loop-step.current c.args.to c.in-Some.group.now here (same c.loop-step.current c.args.to (sym c.eq.ensures ∙ c.if-eq.true))), λ w. refl)
+
+pub returns-in_default-above : goal.returns-in_default-above
+returns-in_default-above c =
+    let here : find_group c.args.self.now.groups c.loop-step.current ≡ Some c.in-Some.group.now = sym c.in-Some.ensures in
+    let stuck : above c.args.climb c.in-Some.group.now ≡ None = sym c.in_default-above.ensures in
+    let past = unlike c.loop-step.current c.args.to (sym c.eq.ensures ∙ c.if-eq.false) in
+    (λ t. absurd (let e = t in cc), λ w. absurd (leads_stuck c.args.climb c.args.self.now.groups c.loop-step.current c.args.to c.in-Some.group.now here past stuck (c.loop-step.invariant.up w)))
+
+pub returns : goal.returns
+returns c =
+    let all : length c.args.self.now.groups ≤ c.loop-step._step = omega arith in
+    (λ t. absurd (let e = t in cc), λ w. absurd (steps_all c.args.climb c.args.self.now.groups c.loop-step.current c.args.to c.loop-step._step all c.loop-step.invariant.steps (c.loop-step.invariant.up w)))

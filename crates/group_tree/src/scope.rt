@@ -1,0 +1,48 @@
+//! What is in scope of a group: the walk up by the groups' owners.
+ghost use Rattle.std.specs.Prelude.{◌≡◌, ◌↔◌, IsTrue};
+ghost use Rattle.group_tree.specs.Scope.{IsWithin, InScopeGroup, InScopeUser, InScopeProfile};
+
+use crate::climb::Climb;
+use crate::tree::Tree;
+use access_levels::Id;
+use racf_profiles::View;
+
+impl Tree {
+    /// Whether the group is `top` or below it: superior groups lead from it to `top`. One look-up by name for each
+    /// group on the way.
+    pub fn is_within(&self, top: Id, group: Id) -> bool
+        ensures { IsTrue result ↔ IsWithin self.now.groups top group }
+    {
+        self.leads_up(Climb::BySuperiors, group, top)
+    }
+
+    /// Whether the group is in scope of `top`: it is `top`, or its owner is its superior group and that one is
+    /// in scope. One look-up by name for each group on the way.
+    pub fn in_scope_group(&self, top: Id, group: Id) -> bool
+        ensures { IsTrue result ↔ InScopeGroup self.now.groups top group }
+    {
+        self.leads_up(Climb::ByOwners, group, top)
+    }
+
+    /// Whether a user with that owner is in scope of `top`.
+    pub fn in_scope_user(&self, top: Id, owner: Id) -> bool
+        ensures { IsTrue result ↔ InScopeUser self.now.groups top owner }
+    {
+        self.in_scope_group(top, owner)
+    }
+
+    /// Whether a profile with that owner is in scope of `top` (this product's own rule): a group in scope owns it,
+    /// or a user in scope.
+    pub fn in_scope_profile<V: View>(&self, view: &V, top: Id, owner: Id) -> bool
+        requires { self.now.groups ≡ (V.rows view.now).groups }
+        ensures { IsTrue result ↔ InScopeProfile (V.rows view.now) top owner }
+    {
+        if self.in_scope_group(top, owner) {
+            return true;
+        }
+        match view.user(owner) {
+            Some(user) => self.in_scope_user(top, user.owner),
+            None => false,
+        }
+    }
+}

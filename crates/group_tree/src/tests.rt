@@ -1,0 +1,163 @@
+//! Scope over a group that a user owns, each fault, and a full tree.
+ghost use Rattle.std.specs.Prelude.{◌∷◌, [], false};
+
+use crate::{Tree, TreeFault};
+use access_levels::{Attributes, Categories, Id, Text};
+use generic_names::Pattern;
+use racf_profiles::{Classes, Connects, Group, Profile, User, View};
+use std::alloc::Global;
+use std::test::Fail;
+
+// SYS1, and below it D1, D2, D3 and D4, each below the one before. The user ADM owns D3; the superior group owns each other.
+fn three_levels(alloc: Global) -> Result<Tree, Fail> {
+    let mut tree = Tree::new(alloc)?;
+    let (root, adm) = (Id::read(b"SYS1")?, Id::read(b"ADM")?);
+    let (first, second) = (Id::read(b"D1")?, Id::read(b"D2")?);
+    let (third, fourth) = (Id::read(b"D3")?, Id::read(b"D4")?);
+    tree.reserve()?;
+    tree.add(first, root, root)?;
+    tree.add(second, first, first)?;
+    tree.add(third, second, adm)?;
+    tree.add(fourth, third, third)?;
+    Ok(tree)
+}
+
+#[test]
+fn scope(rt: HostRuntime) -> Result<(), Fail> {
+    let tree = three_levels(rt.alloc())?;
+    let rows = [
+        (b"SYS1".as_slice(), b"SYS1".as_slice(), true),
+        (b"SYS1".as_slice(), b"D2".as_slice(), true),
+        (b"D1".as_slice(), b"D2".as_slice(), true),
+        (b"D2".as_slice(), b"D1".as_slice(), false),
+        (b"D2".as_slice(), b"D3".as_slice(), false),
+        (b"SYS1".as_slice(), b"D4".as_slice(), false),
+        (b"D3".as_slice(), b"D4".as_slice(), true),
+        (b"D3".as_slice(), b"ADM".as_slice(), false),
+        (b"ADM".as_slice(), b"D3".as_slice(), false),
+        (b"GONE".as_slice(), b"GONE".as_slice(), false),
+    ];
+    for (top, owner, within) in rows {
+        let (top, owner) = (Id::read(top)?, Id::read(owner)?);
+        assert_eq!(rt; tree.in_scope_group(top, owner), within);
+        assert_eq!(rt; tree.in_scope_user(top, owner), within);
+    }
+    Ok(())
+}
+
+// A view of the groups of a tree and of one user.
+#[derive(Drop)]
+struct OneUser<'a> {
+    tree: &'a Tree,
+    user: User,
+}
+
+impl View for OneUser<'_> {
+    ghost rows = { λ view. record { users = view.user ∷ []; groups = view.tree.now.groups; classes = []; options = record { grplist = false; protectall = false; mls = false; categories = [] } } };
+
+    fn user(&self, id: Id) -> Option<&User> {
+        if self.user.id == id {
+            Some(&self.user)
+        } else {
+            None
+        }
+    }
+
+    fn group(&self, id: Id) -> Option<&Group> {
+        self.tree.get(id)
+    }
+
+    fn profile(&self, _class: Id, _name: &Pattern) -> Option<&Profile> {
+        None
+    }
+}
+
+#[test]
+fn scope_of_profiles(rt: HostRuntime) -> Result<(), Fail> {
+    let tree = three_levels(rt.alloc())?;
+    let user = User {
+        id: Id::read(b"SUE")?,
+        default_group: Id::read(b"D2")?,
+        owner: Id::read(b"D2")?,
+        name: Text::of(rt.alloc(), b"")?,
+        attributes: Attributes::default(),
+        classes: Classes {
+            items: Vec::new(rt.alloc()),
+        },
+        level: 0,
+        categories: Categories::NONE,
+        label: None,
+        connects: Connects {
+            items: Vec::new(rt.alloc()),
+        },
+    };
+    let view = OneUser { tree: &tree, user };
+    for (top, owner, within) in [
+        (b"D1".as_slice(), b"D2".as_slice(), true),
+        (b"D1".as_slice(), b"SUE".as_slice(), true),
+        (b"D3".as_slice(), b"SUE".as_slice(), false),
+        (b"D1".as_slice(), b"D3".as_slice(), false),
+        (b"D1".as_slice(), b"BOB".as_slice(), false),
+    ] {
+        assert_eq!(rt;
+            tree.in_scope_profile(&view, Id::read(top)?, Id::read(owner)?),
+            within
+        );
+    }
+    Ok(())
+}
+
+#[test]
+fn faults(rt: HostRuntime) -> Result<(), Fail> {
+    let mut tree = three_levels(rt.alloc())?;
+    let (root, gone) = (Id::read(b"SYS1")?, Id::read(b"GONE")?);
+    let (first, second) = (Id::read(b"D1")?, Id::read(b"D2")?);
+    let (third, fourth) = (Id::read(b"D3")?, Id::read(b"D4")?);
+    assert_eq!(rt; tree.add(first, gone, root), Err(TreeFault::NoGroup(gone)));
+    assert_eq!(rt; tree.add(first, root, gone), Err(TreeFault::Exists(first)));
+    assert_eq!(rt;
+        tree.set_superior(gone, gone),
+        Err(TreeFault::NoGroup(gone))
+    );
+    assert_eq!(rt;
+        tree.set_superior(second, gone),
+        Err(TreeFault::NoGroup(gone))
+    );
+    assert_eq!(rt;
+        tree.set_superior(second, fourth),
+        Err(TreeFault::Cycle(second))
+    );
+    assert_eq!(rt;
+        tree.set_superior(second, second),
+        Err(TreeFault::Cycle(second))
+    );
+    assert_eq!(rt; tree.set_owner(gone, first), Err(TreeFault::NoGroup(gone)));
+    assert_eq!(rt; tree.remove(gone), Err(TreeFault::NoGroup(gone)));
+    assert_eq!(rt; tree.remove(second), Err(TreeFault::HasSubgroup(third)));
+    assert_eq!(rt; tree.len(), 5);
+    assert_eq!(rt; tree.set_superior(fourth, first), Ok(()));
+    assert_eq!(rt; tree.set_owner(fourth, first), Ok(()));
+    assert_eq!(rt; tree.in_scope_group(root, fourth), true);
+    assert_eq!(rt; tree.remove(third), Ok(()));
+    assert_eq!(rt; tree.get(third).is_none(), true);
+    assert_eq!(rt; tree.len(), 4);
+    Ok(())
+}
+
+#[test]
+fn full(rt: HostRuntime) -> Result<(), Fail> {
+    let mut tree = Tree::new(rt.alloc())?;
+    let root = Id::read(b"SYS1")?;
+    for number in 1..8000u32 {
+        let name = format!(in rt.alloc(); "G{number}")?;
+        tree.add(Id::read(name.as_bytes())?, root, root)?;
+    }
+    assert_eq!(rt; tree.len(), 8000);
+    assert_eq!(rt; tree.at(7999).id, Id::read(b"G7999")?);
+    assert_eq!(rt;
+        tree.add(Id::read(b"NEW")?, root, root),
+        Err(TreeFault::Full)
+    );
+    assert_eq!(rt; tree.in_scope_group(root, Id::read(b"G4711")?), true);
+    Ok(())
+}

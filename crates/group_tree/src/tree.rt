@@ -1,0 +1,109 @@
+//! The tree of groups.
+ghost use Rattle.access_levels.specs.Spelling.{id_of};
+ghost use Rattle.std.specs.Prelude.{◌≡◌, ℕ, ◌<◌, List, ◌∷◌, [], length, slice_get, Ok, Some, None, IfOk, IfErr};
+ghost use Rattle.std.specs.Option.{option_copied, option_map};
+ghost use Rattle.racf_profiles.specs.NewDatabase.{sys1};
+ghost use Rattle.group_tree.specs.Groups.{find_group, first_subgroup};
+ghost use Rattle.group_tree.specs.Lawful.{IsTree, IsBelow};
+
+mod changes;
+
+use crate::faults::TreeFault;
+use access_levels::Id;
+use indexmap::IndexMap;
+use racf_profiles::Group;
+use std::alloc::Global;
+use std::marker::Model;
+
+/// The most groups that a tree has (this product's own rule).
+const MOST_GROUPS: usize = 8000;
+
+/// The groups with their superior groups and owners, in order of definition. Nothing else is kept: a question
+/// of scope walks up from group to group, with one look-up by name a step.
+#[derive(Drop)]
+pub struct Tree {
+    groups: IndexMap<Id, Group>,
+    spare: usize,
+}
+
+impl Model for Tree {
+    ghost use Rattle.group_tree.specs.Groups.{GroupTree};
+
+    ghost Value = { GroupTree };
+
+    ghost use Rattle.group_tree.specs.Keyed.{stored, IsStored};
+
+    ghost view = { stored };
+
+    ghost invariant = { IsStored };
+}
+
+impl Tree {
+    /// The tree of a new database: SYS1 alone, owned by IBMUSER.
+    ///
+    /// # Errors
+    ///
+    /// `NoMemory` alone.
+    pub fn new(alloc: Global) -> Result<Tree, TreeFault>
+        ensures made { IfOk result (λ tree. tree ≡ record { groups = sys1 ∷ []; spare = 0 }) }
+        ensures refused { IfErr result (λ fault. fault ≡ TreeFault.NoMemory) }
+    {
+        let root = Group {
+            id: spelled(b"SYS1"),
+            superior: None,
+            owner: spelled(b"IBMUSER"),
+        };
+        let mut groups = IndexMap::new(alloc);
+        match groups.insert(root.id, root) {
+            Ok(_) => Ok(Tree { groups, spare: 0 }),
+            Err(_) => Err(TreeFault::NoMemory),
+        }
+    }
+
+    /// How many groups there are, at most 8,000.
+    pub fn len(&self) -> usize
+        ensures count { result ≡ length self.now.groups }
+        ensures lawful { IsTree self.now.groups }
+        ensures no_group_below_itself { (id : List ℕ) → ¬ (IsBelow self.now.groups id id) }
+    {
+        self.groups.len()
+    }
+
+    /// The group of that name.
+    pub fn get(&self, id: Id) -> Option<&Group>
+        ensures { option_copied result ≡ find_group self.now.groups id }
+    {
+        self.groups.get(&id)
+    }
+
+    /// The group at that place, from 0, in order of definition.
+    pub fn at(&self, place: usize) -> &Group
+        requires { place < length self.now.groups }
+        ensures { slice_get self.now.groups place ≡ Some result.now }
+    {
+        &self.groups[place]
+    }
+
+    /// The name of the first group, in order of definition, that has that superior group. It looks at every group.
+    pub fn first_subgroup(&self, superior: Id) -> Option<Id>
+        ensures { result ≡ option_map (λ row. row.id) (first_subgroup self.now.groups superior) }
+    {
+        for group in self.groups.values() {
+            if group.superior == Some(superior) {
+                return Some(group.id);
+            }
+        }
+        None
+    }
+}
+
+// The identifier that a text spells.
+fn spelled(text: &[u8]) -> Id
+    requires { id_of text.now ≡ Ok text.now }
+    ensures { result ≡ text.now }
+{
+    match Id::read(text) {
+        Ok(id) => id,
+        Err(_) => unreachable!(),
+    }
+}

@@ -1,0 +1,88 @@
+-- Texts of commands, and their canonical text or the first fault.
+use Rattle.std.proofs.Common.{◌≡◌, ℕ, List, [], ◌∷◌, ◌++◌, Result, Ok, Err, refl}
+use Rattle.std.specs.Prelude.{codes}
+use Rattle.command_words.specs.Tokens.{tokens}
+use Rattle.command_parser.specs.declared.faults.Syntax.{Syntax}
+use Rattle.command_parser.specs.declared.faults.Syntax.TheVariants.{UnknownCommand, UnknownOperand, AmbiguousOperand, Missing, Repeated, Excluded, BadValue, Unclosed, TextTooLong}
+use Rattle.command_parser.specs.declared.words.Word.TheVariants as words
+use Rattle.command_parser.specs.Results.{◌>>=◌}
+use Rattle.command_parser.specs.declared.values.Context.{Context}
+use Rattle.command_parser.specs.Canon.{canon, spelled}
+
+by_joe : Context
+by_joe = record { issuer = codes "JOE" }
+
+abbrev written : List ℕ → Result (List ℕ) Syntax
+written text = spelled by_joe text >>= λ g. Ok (canon g)
+
+default-group : written (codes "adduser joe dfltgrp(sys1)") ≡ Ok (codes "ADDUSER JOE DFLTGRP(SYS1)")
+unfolding tokens
+default-group = refl
+
+no-separators : written (codes "AU(JOE)OWNER(X)NAME('Y')") ≡ Ok (codes "ADDUSER JOE NAME('Y') OWNER(X)")
+unfolding tokens
+no-separators = refl
+
+name-in-quotes : written (codes "AU JOE NAME('It''s (me')") ≡ Ok (codes "ADDUSER JOE NAME('It''s (me')")
+unfolding tokens
+name-in-quotes = refl
+
+table-order : written (codes "CO U3 NOAUDITOR,REVOKE SP") ≡ Ok (codes "CONNECT U3 SPECIAL NOAUDITOR REVOKE")
+unfolding tokens
+table-order = refl
+
+list-as-given : written (codes "ALU U2 ADDCATEGORY(CATB,CATA CATB)") ≡ Ok (codes "ALTUSER U2 ADDCATEGORY(CATB CATA CATB)")
+unfolding tokens
+list-as-given = refl
+
+no-command : written (codes "LISTCAT") ≡ Err UnknownCommand
+unfolding tokens
+no-command = refl
+
+user-lacks : written (codes "AU OWNER (X") ≡ Err (Missing words.User)
+unfolding tokens
+user-lacks = refl
+
+no-operand : written (codes "AU JOE OWNER (X) (Y)") ≡ Err (UnknownOperand 18)
+unfolding tokens
+no-operand = refl
+
+several-operands : written (codes "ALU JOE SEC(") ≡ Err (AmbiguousOperand 9)
+unfolding tokens
+several-operands = refl
+
+repeated-at-once : written (codes "ALU JOE REVOKE REV FOO") ≡ Err (Repeated words.Revoke)
+unfolding tokens
+repeated-at-once = refl
+
+excluded-last : written (codes "ALU JOE NOSPECIAL SPECIAL FOO(X)") ≡ Err (UnknownOperand 27)
+unfolding tokens
+excluded-last = refl
+
+excluded-in-order : written (codes "ALU JOE NOSECLABEL RESUME REVOKE SECLABEL(A)") ≡ Err (Excluded words.Revoke words.Resume)
+unfolding tokens
+excluded-in-order = refl
+
+second-word : written (codes "AU JOE OWNER(A B)") ≡ Err (BadValue 16)
+unfolding tokens
+second-word = refl
+
+word-with-value : written (codes "AU JOE OWNER(A(B))") ≡ Err (BadValue 14)
+unfolding tokens
+word-with-value = refl
+
+value-lacks : written (codes "AU JOE OWNER,(A)") ≡ Err (BadValue 8)
+unfolding tokens
+value-lacks = refl
+
+group-name : written (codes "AG 9G") ≡ Err (BadValue 4)
+unfolding tokens
+group-name = refl
+
+open-quote : written (codes "ALU JOE NAME('x'')") ≡ Err (Unclosed 14)
+unfolding tokens
+open-quote = refl
+
+open-parenthesis : written (codes "ALU JOE NAME('x'") ≡ Err (Unclosed 13)
+unfolding tokens
+open-parenthesis = refl

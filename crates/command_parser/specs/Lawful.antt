@@ -1,0 +1,50 @@
+-- Which values a text can spell, and which commands.
+use Rattle.std.specs.Prelude.{◌≡◌, ℕ, List, [], ◌∷◌, true, Option, None, Some}
+use Rattle.command_parser.specs.declared.table.Kind.{Kind}
+use Rattle.command_parser.specs.declared.table.Kind.TheVariants as kinds
+use Rattle.command_parser.specs.declared.table.Position.{Position}
+use Rattle.command_parser.specs.declared.table.Operand.{Operand}
+use Rattle.command_parser.specs.declared.values.Content.{Content}
+use Rattle.command_parser.specs.declared.values.Content.TheVariants as contents
+use Rattle.command_parser.specs.Table.{positions_of, operands_of}
+use Rattle.command_parser.specs.Values.{name_of, is_name}
+use Rattle.command_parser.specs.Reading.{Generic, Slots, given, clash}
+
+-- names that are written as they are read
+abbrev pub AreNames : Kind → List (List ℕ) → Type 0
+AreNames k [] = Unit {0}
+AreNames k (w ∷ ws) = (name_of k w ≡ Some w) × AreNames k ws
+
+abbrev pub IsNonEmpty : List (List ℕ) → Type 0
+IsNonEmpty [] = ⊥
+IsNonEmpty (w ∷ ws) = Unit {0}
+
+-- a value of its kind
+abbrev pub Fits : Kind → Content → Type 0
+Fits kinds.Flag contents.Flag = Unit {0}
+Fits kinds.Id (contents.Id w) = name_of kinds.Id w ≡ Some w
+Fits kinds.Group (contents.Id w) = name_of kinds.Group w ≡ Some w
+Fits kinds.Authority (contents.Authority a) = Unit {0}
+Fits kinds.Name (contents.Name t) = is_name t ≡ true
+Fits kinds.Ids (contents.Ids ws) = IsNonEmpty ws × AreNames kinds.Ids ws
+Fits kinds.Classes (contents.Ids ws) = IsNonEmpty ws × AreNames kinds.Classes ws
+Fits k v = ⊥
+
+-- a value for each positional word
+abbrev pub FitsPositions : List Position → List Content → Type 0
+FitsPositions [] [] = Unit {0}
+FitsPositions (pos ∷ more) (v ∷ vs) = Fits pos.kind v × FitsPositions more vs
+FitsPositions ps vs = ⊥
+
+-- a slot for each row, with a value of its kind where the operand was given
+abbrev pub FitsAll : List Operand → Slots → Type 0
+FitsAll [] [] = Unit {0}
+FitsAll (o ∷ os) (None ∷ ss) = FitsAll os ss
+FitsAll (o ∷ os) (Some v ∷ ss) = Fits o.kind v × FitsAll os ss
+FitsAll os ss = ⊥
+
+-- What a text can spell.
+pub record IsLawful (g : Generic) : Type 0 where
+  pub fits_positions : FitsPositions (positions_of g.verb) g.positions
+  pub fits_operands : FitsAll (operands_of g.verb) g.slots
+  pub apart : clash (given (operands_of g.verb) g.slots) ≡ None

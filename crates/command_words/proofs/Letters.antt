@@ -1,0 +1,64 @@
+-- Bytes of words that quotes and parentheses have no part in.
+use Rattle.std.proofs.Common.{◌≡◌, ℕ, suc, ◌+◌, List, [], ◌∷◌, ◌++◌, length, Bool, true, false, ◌&&◌, ◌||◌, not, refl, sym, ap, ◌∙◌, arith}
+use Rattle.std.specs.Prelude.{◌==◌}
+use Rattle.std.specs.List.{list_all}
+use Rattle.std.proofs.lemmas.Bool.Decides.{nat_tests}
+use Rattle.command_words.specs.declared.quoting.Quoting.{Quoting}
+use Rattle.command_words.specs.declared.quoting.Quoting.TheVariants.{Ignored, Outside}
+use Rattle.command_words.specs.Bytes.{is_gap_byte, is_word_byte, is_faulty_byte, upper}
+use Rattle.command_words.specs.Quotes.{after, hides, word_len}
+
+-- a byte of a word, and no quote
+abbrev pub is_letter : ℕ → Bool
+is_letter b = is_word_byte b && not (b == 39)
+
+pub letter-word : (b : ℕ) → is_letter b ≡ true → is_word_byte b ≡ true
+letter-word b h = grind (arith, nat_tests)
+
+pub letter-gap : (b : ℕ) → is_letter b ≡ true → is_gap_byte b ≡ false
+letter-gap b h = grind (arith, nat_tests)
+
+pub letter-quote : (b : ℕ) → is_letter b ≡ true → (b == 39) ≡ false
+letter-quote b h = grind (arith, nat_tests)
+
+pub letter-open : (b : ℕ) → is_letter b ≡ true → (b == 40) ≡ false
+letter-open b h = grind (arith, nat_tests)
+
+pub letter-close : (b : ℕ) → is_letter b ≡ true → (b == 41) ≡ false
+letter-close b h = grind (arith, nat_tests)
+
+-- both tests of a pair
+pub both_first : (a b : Bool) → (a && b) ≡ true → a ≡ true
+both_first true b h = refl
+both_first false b h = h
+
+pub both_second : (a b : Bool) → (a && b) ≡ true → b ≡ true
+both_second true b h = h
+both_second false b h = cc
+
+-- bytes other than quotes leave these as they are
+pub record IsSteady (q : Quoting) : Type 0 where
+  pub open_to_all : hides q ≡ false
+  pub stays : (p b : ℕ) → (b == 39) ≡ false → after q p b ≡ q
+
+pub Ignored-steady : IsSteady Ignored
+Ignored-steady = record { open_to_all = refl; stays = λ p b h. refl }
+
+pub Outside-steady : IsSteady Outside
+Outside-steady = record { open_to_all = refl; stays = λ p b h. rw h refl }
+
+-- what may follow a word
+abbrev pub EndsWord : List ℕ → Type 0
+EndsWord [] = Unit {0}
+EndsWord (b ∷ bs) = is_word_byte b ≡ false
+
+pub word_len-letters : (q : Quoting) → IsSteady q → (p : ℕ) (w rest : List ℕ) → list_all is_letter w ≡ true → EndsWord rest → word_len q p (w ++ rest) ≡ length w
+word_len-letters q s p [] [] h e = refl
+word_len-letters q s p [] (b ∷ bs) h e = rw (s.open_to_all, e) refl
+word_len-letters q s p (b ∷ w) rest h e =
+    let letter : is_letter b ≡ true = both_first _ _ h in
+    let letters : list_all is_letter w ≡ true = both_second _ _ h in
+    let word : is_word_byte b ≡ true = letter-word b letter in
+    let same : after q p b ≡ q = s.stays p b (letter-quote b letter) in
+    let more : word_len q (suc p) (w ++ rest) ≡ length w = word_len-letters q s (suc p) w rest letters e in
+    rw (s.open_to_all, word, same) (ap suc more)

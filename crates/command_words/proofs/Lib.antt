@@ -1,0 +1,4 @@
+pub mod Letters
+pub mod Skips
+pub mod Spelled
+mod TokenRows

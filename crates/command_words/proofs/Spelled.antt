@@ -1,0 +1,119 @@
+-- The tokens of texts that were written: words, values in parentheses, texts in quotes.
+use Rattle.std.proofs.Common.{◌≡◌, ℕ, zero, suc, ◌+◌, ◌-◌, ◌<◌, List, [], ◌∷◌, ◌++◌, length, take, drop, Bool, true, false, ◌&&◌, ◌||◌, not, Result, Ok, Err, refl, sym, ap, subst, ◌∙◌, arith, add-zero, add-one, length-append, append_assoc}
+use Rattle.std.specs.Prelude.{◌==◌}
+use Rattle.std.specs.List.{list_all}
+use Rattle.std.proofs.lemmas.List.{append-nil}
+use Rattle.std.proofs.Math.Seq.{take-append_seam, take-length, drop-append_seam, drop-length}
+use Rattle.std.proofs.lemmas.Bool.Decides.{nat_tests}
+use Rattle.command_words.specs.declared.quoting.Quoting.{Quoting}
+use Rattle.command_words.specs.declared.quoting.Quoting.TheVariants.{Ignored, Outside, Inside, Met}
+use Rattle.command_words.specs.Quotes.{after, hides, word_len, doubled}
+use Rattle.command_words.specs.Tokens.{Token, Word, Group, within, group_end, depth_after, tokens_from, word_then}
+use Rattle.command_words.proofs.Letters.{is_letter, letter-gap, letter-open, letter-close, letter-quote, both_first, both_second, IsSteady, EndsWord, word_len-letters}
+use Rattle.command_words.proofs.Skips.{grouped-ok, worded-at}
+
+-- a word of letters, and what follows it
+pub word_token : (q : Quoting) → IsSteady q → (tied : Bool) (p b : ℕ) (w rest : List ℕ) → list_all is_letter (b ∷ w) ≡ true → EndsWord rest
+    → tokens_from q tied 0 p (b ∷ (w ++ rest)) ≡ Word p (b ∷ w) ∷ tokens_from q true 0 (p + length (b ∷ w)) rest
+word_token q s tied p b w rest h e =
+    let letter : is_letter b ≡ true = both_first _ _ h in
+    let letters : list_all is_letter w ≡ true = both_second _ _ h in
+    let same : after q p b ≡ q = s.stays p b (letter-quote b letter) in
+    let measured : length w ≡ word_len (after q p b) (p + 1) (w ++ rest) = rw same (sym (word_len-letters q s (p + 1) w rest letters e)) in
+    let next : p + 1 + length w ≡ p + length (b ∷ w) = omega arith in
+    let whole : take (length w + 1) (b ∷ (w ++ rest)) ≡ b ∷ w = rw (add-one, take-append_seam) refl in
+    let first : tokens_from q tied 0 p (b ∷ (w ++ rest)) ≡ word_then q b p (w ++ rest) = rw (letter-gap b letter, letter-close b letter, letter-open b letter) refl in
+    first ∙ worded-at q b p (length w) (w ++ rest) measured
+        ∙ ap (λ v. Word p v ∷ tokens_from q true 0 (p + 1 + length w) (drop (length w) (w ++ rest))) whole
+        ∙ ap (λ n. Word p (b ∷ w) ∷ tokens_from q true 0 n (drop (length w) (w ++ rest))) next
+        ∙ ap (λ bs. Word p (b ∷ w) ∷ tokens_from q true 0 (p + length (b ∷ w)) bs) (drop-append_seam w rest)
+
+-- a value in parentheses, where the one that closes it is known
+pub group_token : (q : Quoting) (tied : Bool) (p : ℕ) (inside rest : List ℕ) → group_end p Outside 0 (suc p) (inside ++ 41 ∷ rest) ≡ Ok (suc p + length inside)
+    → tokens_from q tied 0 p (40 ∷ (inside ++ 41 ∷ rest)) ≡ Group tied p (within p inside) ∷ tokens_from q false 0 (p + length inside + 2) rest
+group_token q tied p inside rest bounded =
+    let above : p < suc p + length inside = omega arith in
+    let closed : Ok (suc p + length inside) ≡ group_end p Outside 0 (p + 1) (inside ++ 41 ∷ rest) = rw add-one (sym bounded) in
+    let count : suc p + length inside - p - 1 ≡ length inside = omega arith in
+    let count' : suc p + length inside - p ≡ length inside + 1 = omega arith in
+    let next : suc p + length inside + 1 ≡ p + length inside + 2 = omega arith in
+    let held : take (suc p + length inside - p - 1) (inside ++ 41 ∷ rest) ≡ inside = rw count (take-append_seam inside (41 ∷ rest)) in
+    let left : drop (suc p + length inside - p) (inside ++ 41 ∷ rest) ≡ rest =
+        rw count' (ap (λ bs. drop (length inside + 1) bs) (sym (append_assoc inside (41 ∷ []) rest))
+            ∙ ap (λ n. drop n ((inside ++ 41 ∷ []) ++ rest)) (sym (length-append inside (41 ∷ [])))
+            ∙ drop-append_seam (inside ++ 41 ∷ []) rest) in
+    grouped-ok q tied p (suc p + length inside) (inside ++ 41 ∷ rest) closed above
+        ∙ ap (λ bs. Group tied p (within p bs) ∷ tokens_from q false 0 (suc p + length inside + 1) (drop (suc p + length inside - p) (inside ++ 41 ∷ rest))) held
+        ∙ ap (λ bs. Group tied p (within p inside) ∷ tokens_from q false 0 (suc p + length inside + 1) bs) left
+        ∙ ap (λ n. Group tied p (within p inside) ∷ tokens_from q false 0 n rest) next
+
+-- bytes that neither quotes nor parentheses are
+abbrev pub is_calm : ℕ → Bool
+is_calm b = not (b == 39) && (not (b == 40) && not (b == 41))
+
+calm-quote : (b : ℕ) → is_calm b ≡ true → (b == 39) ≡ false
+calm-quote b h = grind (arith, nat_tests)
+
+calm-open : (b : ℕ) → is_calm b ≡ true → (b == 40) ≡ false
+calm-open b h = grind (arith, nat_tests)
+
+calm-close : (b : ℕ) → is_calm b ≡ true → (b == 41) ≡ false
+calm-close b h = grind (arith, nat_tests)
+
+pub letter-calm : (b : ℕ) → is_letter b ≡ true → is_calm b ≡ true
+letter-calm b h = rw (letter-quote b h, letter-open b h, letter-close b h) refl
+
+pub group_end-calm : (outer p : ℕ) (inside rest : List ℕ) → list_all is_calm inside ≡ true → group_end outer Outside 0 p (inside ++ 41 ∷ rest) ≡ Ok (p + length inside)
+group_end-calm outer p [] rest h = rw add-zero refl
+group_end-calm outer p (b ∷ inside) rest h =
+    let calm : is_calm b ≡ true = both_first _ _ h in
+    let next : suc p + length inside ≡ p + length (b ∷ inside) = omega arith in
+    rw (calm-quote b calm, calm-open b calm, calm-close b calm)
+        (group_end-calm outer (suc p) inside rest (both_second _ _ h) ∙ ap Ok next)
+
+-- through the text between quotes, and past its closing quote
+group_end-one : (outer open_at p b : ℕ) (t rest : List ℕ) (c : Bool) → (b == 39) ≡ c
+    → ((p : ℕ) → group_end outer (Inside open_at) 0 p (doubled t ++ (39 ∷ (41 ∷ rest))) ≡ Ok (p + length (doubled t) + 1))
+    → group_end outer (Inside open_at) 0 p (doubled (b ∷ t) ++ (39 ∷ (41 ∷ rest))) ≡ Ok (p + length (doubled (b ∷ t)) + 1)
+group_end-one outer open_at p b t rest true quote more =
+    let next : suc (suc p) + length (doubled t) + 1 ≡ p + length (39 ∷ 39 ∷ doubled t) + 1 = omega arith in
+    rw quote (more (suc (suc p)) ∙ ap Ok next)
+group_end-one outer open_at p b t rest false other more =
+    let next : suc p + length (doubled t) + 1 ≡ p + length (b ∷ doubled t) + 1 = omega arith in
+    rw other (rw other (more (suc p) ∙ ap Ok next))
+
+group_end-inside : (outer open_at p : ℕ) (t rest : List ℕ) → group_end outer (Inside open_at) 0 p (doubled t ++ (39 ∷ (41 ∷ rest))) ≡ Ok (p + length (doubled t) + 1)
+group_end-inside outer open_at p [] rest = ap Ok (omega arith)
+group_end-inside outer open_at p (b ∷ t) rest = group_end-one outer open_at p b t rest (b == 39) refl (λ n. group_end-inside outer open_at n t rest)
+
+abbrev pub quoted : List ℕ → List ℕ
+quoted t = 39 ∷ (doubled t ++ 39 ∷ [])
+
+pub group_end-quoted : (outer p : ℕ) (t rest : List ℕ) → group_end outer Outside 0 p (quoted t ++ 41 ∷ rest) ≡ Ok (p + length (quoted t))
+group_end-quoted outer p t rest =
+    let next : suc p + length (doubled t) + 1 ≡ p + length (quoted t) = omega (arith, length-append (doubled t) (39 ∷ [])) in
+    ap (λ bs. group_end outer (Inside p) 0 (suc p) bs) (append_assoc (doubled t) (39 ∷ []) (41 ∷ rest))
+        ∙ group_end-inside outer p (suc p) t rest ∙ ap Ok next
+
+-- a word of a value that is a text in quotes goes to its closing quote
+word_len-one : (open_at p b : ℕ) (t : List ℕ) (c : Bool) → (b == 39) ≡ c
+    → ((p : ℕ) → word_len (Inside open_at) p (doubled t ++ 39 ∷ []) ≡ length (doubled t ++ 39 ∷ []))
+    → word_len (Inside open_at) p (doubled (b ∷ t) ++ 39 ∷ []) ≡ length (doubled (b ∷ t) ++ 39 ∷ [])
+word_len-one open_at p b t true quote more = rw quote (ap (λ n. suc (suc n)) (more (suc (suc p))))
+word_len-one open_at p b t false other more = rw other (rw other (ap suc (more (suc p))))
+
+word_len-inside : (open_at p : ℕ) (t : List ℕ) → word_len (Inside open_at) p (doubled t ++ 39 ∷ []) ≡ length (doubled t ++ 39 ∷ [])
+word_len-inside open_at p [] = refl
+word_len-inside open_at p (b ∷ t) = word_len-one open_at p b t (b == 39) refl (λ n. word_len-inside open_at n t)
+
+pub quoted_token : (tied : Bool) (p : ℕ) (t : List ℕ) → tokens_from Outside tied 0 p (quoted t) ≡ Word p (quoted t) ∷ []
+quoted_token tied p t =
+    let measured : length (doubled t ++ 39 ∷ []) ≡ word_len (after Outside p 39) (p + 1) (doubled t ++ 39 ∷ []) = sym (word_len-inside p (p + 1) t) in
+    let whole : take (length (doubled t ++ 39 ∷ []) + 1) (quoted t) ≡ quoted t = rw (add-one, take-length) refl in
+    worded-at Outside 39 p (length (doubled t ++ 39 ∷ [])) (doubled t ++ 39 ∷ []) measured
+        ∙ ap (λ v. Word p v ∷ tokens_from Outside true 0 (p + 1 + length (doubled t ++ 39 ∷ [])) (drop (length (doubled t ++ 39 ∷ [])) (doubled t ++ 39 ∷ []))) whole
+        ∙ ap (λ bs. Word p (quoted t) ∷ tokens_from Outside true 0 (p + 1 + length (doubled t ++ 39 ∷ [])) bs) (drop-length (doubled t ++ 39 ∷ []))
+
+-- a word alone
+pub word_alone : (q : Quoting) → IsSteady q → (tied : Bool) (p b : ℕ) (w : List ℕ) → list_all is_letter (b ∷ w) ≡ true → tokens_from q tied 0 p (b ∷ w) ≡ Word p (b ∷ w) ∷ []
+word_alone q s tied p b w h = ap (λ bs. tokens_from q tied 0 p (b ∷ bs)) (sym (append-nil w)) ∙ word_token q s tied p b w [] h tt

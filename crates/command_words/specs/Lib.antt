@@ -1,0 +1,5 @@
+pub mod Bytes
+pub mod Quotes
+pub mod Tokens
+pub mod Pieces
+pub mod Items

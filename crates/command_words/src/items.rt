@@ -1,0 +1,117 @@
+//! A word together with the value behind it, and the tests of single words.
+
+ghost use Rattle.std.specs.Prelude.{◌≡◌, ◌+◌, ◌<◌, ◌^◌, [], ◌∷◌, length, map, MatchOption, IfSome, bytes_eq};
+ghost use Rattle.std.specs.List.{starts_with};
+ghost use Rattle.std.specs.Prelude.{nat_eq};
+ghost use Rattle.command_words.specs.Bytes.{upper};
+ghost use Rattle.command_words.specs.Tokens.{tokens, Word};
+ghost use Rattle.command_words.specs.Items.{items, opens_value, faulty_at as first_faulty, IsItemInReach};
+ghost use Rattle.command_words.specs.Pieces.{seen_item};
+
+use crate::bytes::{folded, is_faulty};
+use crate::quoting::Quoting;
+use crate::tokens::{Piece, Tokens};
+
+/// A word with the value behind it, or a parenthesis where a word should stand.
+#[derive(Drop)]
+pub enum Item<'a> {
+    /// A word alone: its place, and its bytes as they were written.
+    Bare(u32, &'a [u8]),
+    /// A word and what its value holds.
+    With(u32, &'a [u8], Tokens<'a>),
+    /// A word whose value nothing closes, with the place of what isn't closed.
+    Unbounded(u32, &'a [u8], u32),
+    /// A parenthesis, at its place.
+    Odd(u32),
+}
+
+impl<'a> Tokens<'a> {
+    /// The first item, and the text behind it.
+    pub fn split_item(&self) -> Option<(Item<'a>, Tokens<'a>)>
+        ensures items { MatchOption result (items (tokens self.now) ≡ []) (λ t. items (tokens self.now) ≡ seen_item t.0 ∷ items (tokens t.1)) }
+        ensures reach { IfSome result (λ t. IsItemInReach (seen_item t.0)) }
+    {
+        let (piece, rest) = self.split_first()?;
+        match piece {
+            Piece::Word(place, word) => Some(behind_word(place, word, rest)),
+            Piece::Group(_, place, _) => Some((Item::Odd(place), rest)),
+            Piece::Open(_, place, _) => Some((Item::Odd(place), rest)),
+            Piece::Close(place) => Some((Item::Odd(place), rest)),
+        }
+    }
+
+    /// Whether a value of the word in front comes next.
+    pub fn opens_value(&self) -> bool
+        ensures { result ≡ opens_value (tokens self.now) }
+    {
+        match self.split_first() {
+            Some((Piece::Group(tied, _, _), _)) => tied,
+            Some((Piece::Open(tied, _, _), _)) => tied,
+            _ => false,
+        }
+    }
+}
+
+/// The word with the value behind it, which `rest` may begin with.
+fn behind_word<'a>(place: u32, word: &'a [u8], rest: Tokens<'a>) -> (Item<'a>, Tokens<'a>)
+    requires { place + length word.now < 2 ^ 30 }
+    ensures items { items (Word place word.now ∷ tokens rest.entry) ≡ seen_item result.0 ∷ items (tokens result.1) }
+    ensures reach { IsItemInReach (seen_item result.0) }
+{
+    let Some((piece, behind)) = rest.split_first() else {
+        return (Item::Bare(place, word), rest);
+    };
+    match piece {
+        Piece::Group(true, _, value) => (Item::With(place, word, value), behind),
+        Piece::Open(true, _, open) => (Item::Unbounded(place, word, open), behind),
+        _ => (Item::Bare(place, word), rest),
+    }
+}
+
+/// The place of the first faulty byte of a word that begins at `place`. Where quotes count, those inside them are not
+/// looked at.
+pub fn faulty_at(mut quoting: Quoting, mut place: u32, word: &[u8]) -> Option<u32>
+    requires { place + length word.now < 2 ^ 30 }
+    ensures { result ≡ first_faulty quoting place word.now }
+{
+    let mut rest = word;
+    while let Some((byte, behind)) = rest.split_first() {
+        if !quoting.hides() && is_faulty(*byte) {
+            return Some(place);
+        }
+        quoting = quoting.after(place, *byte);
+        place += 1;
+        rest = behind;
+    }
+    None
+}
+
+/// Whether the word, folded to upper case, is this spelling.
+pub fn is_spelled(word: &[u8], spelling: &[u8]) -> bool
+    ensures { result ≡ bytes_eq (map upper word.now) spelling.now }
+{
+    let (mut word, mut spelling) = (word, spelling);
+    while let (Some((byte, left)), Some((letter, behind))) = (word.split_first(), spelling.split_first()) {
+        if folded(*byte) != *letter {
+            return false;
+        }
+        word = left;
+        spelling = behind;
+    }
+    word.is_empty() && spelling.is_empty()
+}
+
+/// Whether the word, folded to upper case, begins this spelling.
+pub fn is_cut(word: &[u8], spelling: &[u8]) -> bool
+    ensures { result ≡ starts_with nat_eq spelling.now (map upper word.now) }
+{
+    let (mut word, mut spelling) = (word, spelling);
+    while let (Some((byte, left)), Some((letter, behind))) = (word.split_first(), spelling.split_first()) {
+        if folded(*byte) != *letter {
+            return false;
+        }
+        word = left;
+        spelling = behind;
+    }
+    word.is_empty()
+}

@@ -1,0 +1,82 @@
+//! How far quotes hide the bytes of a text.
+
+ghost use Rattle.std.specs.Prelude.{◌≡◌};
+
+use crate::bytes::is_blank;
+
+/// Where a byte stands to quotes. The number is the place of the quote that opened.
+#[derive(Clone, Copy, Debug)]
+pub enum Quoting {
+    /// Quotes are bytes like others, as in the command's own words.
+    Ignored,
+    /// Outside quotes, where a quote opens.
+    Outside,
+    /// Inside quotes, which hide blanks, commas and parentheses.
+    Inside(u32),
+    /// Behind a quote that has closed, unless another follows at once: that is a quote written twice.
+    Met(u32),
+}
+
+impl Quoting {
+    ghost use Rattle.std.specs.Prelude.{◌+◌, ◌<◌, ◌^◌, length};
+    ghost use Rattle.command_words.specs.Quotes.{after, hides};
+    ghost use Rattle.command_words.specs.Tokens.{depth_after, stays_tied, unclosed};
+
+    /// How the byte behind this one stands to quotes.
+    pub fn after(self, place: u32, byte: u8) -> Quoting
+        ensures { result ≡ after self place byte }
+    {
+        match self {
+            Quoting::Ignored => Quoting::Ignored,
+            Quoting::Outside => if byte == b'\'' { Quoting::Inside(place) } else { Quoting::Outside },
+            Quoting::Inside(open) => if byte == b'\'' { Quoting::Met(open) } else { Quoting::Inside(open) },
+            Quoting::Met(open) => if byte == b'\'' { Quoting::Inside(open) } else { Quoting::Outside },
+        }
+    }
+
+    /// Whether a byte here is hidden by quotes.
+    pub fn hides(self) -> bool
+        ensures { result ≡ hides self }
+    {
+        match self {
+            Quoting::Inside(_) => true,
+            _ => false,
+        }
+    }
+
+    /// How many parentheses are open behind this byte of a value, where `depth` were.
+    pub fn depth_after(self, byte: u8, depth: u32) -> u32
+        requires { depth < 2 ^ 31 }
+        ensures { result ≡ depth_after self byte depth }
+    {
+        if self.hides() {
+            return depth;
+        }
+        match byte {
+            b'(' => depth + 1,
+            b')' => depth.saturating_sub(1),
+            _ => depth,
+        }
+    }
+
+    /// What isn't closed where the text ends: the open quote, else the parenthesis at the place `outer`.
+    pub fn unclosed(self, outer: u32) -> u32
+        ensures { result ≡ unclosed self outer }
+    {
+        match self {
+            Quoting::Inside(open) => open,
+            _ => outer,
+        }
+    }
+
+    /// Whether a value behind this byte, which parts words, would still be that of the word in front. Only blanks and
+    /// tabs may stand before an operand's value, and nothing before one within a value.
+    pub fn stays_tied(self, tied: bool, byte: u8) -> bool
+        ensures { result ≡ stays_tied self tied byte }
+    {
+        match self {
+            Quoting::Ignored => tied && is_blank(byte),
+            _ => false,
+        }
+    }
+}

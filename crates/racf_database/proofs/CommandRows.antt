@@ -1,0 +1,78 @@
+-- Runs of commands, computed by the definitions: what each is refused for, and the rows in the end.
+use Rattle.std.proofs.Common.{◌≡◌, ℕ, Bool, true, false, List, [], ◌∷◌, ◌++◌, map, Option, None, Some, codes, refl, length}
+use Rattle.racf_profiles.specs.declared.rows.Rows.{Rows}
+use Rattle.racf_profiles.specs.declared.users.User.{User}
+use Rattle.racf_profiles.specs.declared.users.Connect.{Connect as Connection}
+use Rattle.racf_profiles.specs.NewDatabase.{new_rows, ibmuser}
+use Rattle.racf_profiles.specs.Edits.{changed}
+use Rattle.access_levels.specs.declared.authorities.GroupAuthority.{GroupAuthority}
+use Rattle.access_levels.specs.declared.authorities.GroupAuthority.TheVariants.{MayUse, MayConnect, MayJoin}
+use Rattle.racf_database.specs.declared.conflict.Conflict.{Conflict}
+use Rattle.racf_database.specs.declared.conflict.Conflict.TheVariants.{NoUser, NoGroup, NoClass, Exists, NotConnected, Root, InUse, Cycle, OwnerNotSuperior, DefaultGroup, LastSpecial, UnknownName, Full}
+use Rattle.racf_database.specs.declared.conflict.Named.TheVariants as named
+use Rattle.racf_database.specs.declared.conflict.Holder.TheVariants.{Subgroup, Connected}
+use Rattle.racf_database.specs.declared.command.Issuer.{Issuer}
+use Rattle.racf_database.specs.declared.command.AddUser.{AddUser}
+use Rattle.racf_database.specs.declared.command.AltUser.{AltUser}
+use Rattle.racf_database.specs.declared.command.Connect.{Connect}
+use Rattle.racf_database.specs.declared.command.Form.{Form}
+use Rattle.racf_database.specs.declared.command.Form.TheVariants as form
+use Rattle.racf_database.specs.Effects.{step}
+use Rattle.racf_database.specs.Edits.{edits_of}
+use Rattle.racf_database.specs.Conflicts.{conflict_of, no_user, no_owner, no_group, no_named_group, no_class, name_taken, not_connected, default_not_connected, has_subgroup, has_connected, has_profile, cycle, owner_not_superior, default_group, last_special, unknown_level, unknown_category, never_category, unknown_label, add_user_conflicts, alt_user_conflicts, del_user_conflicts, add_group_conflicts, alt_group_conflicts, del_group_conflicts, connect_conflicts, remove_conflicts}
+
+abbrev start : Rows
+start = new_rows (λ _. true)
+
+abbrev ibm : Issuer
+ibm = record { id = codes "IBMUSER"; group = codes "SYS1" }
+
+-- What each command is refused for, if it is, over the rows that the ones before it leave.
+abbrev left : Option Conflict → Form → Rows → Rows
+left None c rows = step ibm c rows
+left (Some conflict) c rows = rows
+
+abbrev outcomes : List Form → Rows → List (Option Conflict)
+outcomes [] rows = []
+outcomes (c ∷ cs) rows = conflict_of ibm c rows ∷ outcomes cs (left (conflict_of ibm c rows) c rows)
+
+abbrev rows_after : List Form → Rows → Rows
+rows_after [] rows = rows
+rows_after (c ∷ cs) rows = rows_after cs (left (conflict_of ibm c rows) c rows)
+
+-- ---- commands with few operands
+abbrev add_user : List ℕ → AddUser
+add_user user = record { user = user; name = None; dfltgrp = None; owner = None; authority = None; special = false; nospecial = false; operations = false; nooperations = false; auditor = false; noauditor = false; restricted = false; norestricted = false; clauth = []; seclevel = None; addcategory = []; seclabel = None }
+
+abbrev alt_user : List ℕ → AltUser
+alt_user user = record { user = user; name = None; dfltgrp = None; owner = None; special = false; nospecial = false; operations = false; nooperations = false; auditor = false; noauditor = false; restricted = false; norestricted = false; uaudit = false; nouaudit = false; revoke = false; resume = false; clauth = []; noclauth = []; seclevel = None; noseclevel = false; addcategory = []; delcategory = []; seclabel = None; noseclabel = false }
+
+abbrev connect : List ℕ → Option (List ℕ) → Connect
+connect user group = record { user = user; group = group; authority = None; special = false; nospecial = false; operations = false; nooperations = false; auditor = false; noauditor = false; revoke = false; resume = false }
+
+abbrev au : List ℕ → Form
+au user = form.AddUser (add_user user)
+
+abbrev au_in : List ℕ → List ℕ → Form
+au_in user group = form.AddUser (record (add_user user) { dfltgrp = Some group })
+
+abbrev du : List ℕ → Form
+du user = form.DelUser (record { user = user })
+
+abbrev ag : List ℕ → Option (List ℕ) → Option (List ℕ) → Form
+ag group superior owner = form.AddGroup (record { group = group; supgroup = superior; owner = owner })
+
+abbrev alg : List ℕ → Option (List ℕ) → Option (List ℕ) → Form
+alg group superior owner = form.AltGroup (record { group = group; supgroup = superior; owner = owner })
+
+abbrev dg : List ℕ → Form
+dg group = form.DelGroup (record { group = group })
+
+abbrev re : List ℕ → List ℕ → Form
+re user group = form.Remove (record { user = user; group = Some group })
+
+-- AG A OWNER(SYS1) | AG B SUPGROUP(A) OWNER(A) | ALG A SUPGROUP(B) OWNER(B) | DG A | AU JOE DFLTGRP(B) | DG B | RE JOE GROUP(B) | DU JOE | DG B | DG SYS1
+groups_come_and_go : outcomes (ag (codes "A") None (Some (codes "SYS1")) ∷ ag (codes "B") (Some (codes "A")) (Some (codes "A")) ∷ alg (codes "A") (Some (codes "B")) (Some (codes "B")) ∷ dg (codes "A") ∷ au_in (codes "JOE") (codes "B") ∷ dg (codes "B") ∷ re (codes "JOE") (codes "B") ∷ du (codes "JOE") ∷ dg (codes "B") ∷ dg (codes "SYS1") ∷ []) start
+    ≡ None ∷ None ∷ Some (Cycle (codes "A")) ∷ Some (InUse (Subgroup (codes "B"))) ∷ None ∷ Some (InUse (Connected (codes "JOE"))) ∷ Some (DefaultGroup (codes "B")) ∷ None ∷ None ∷ Some Root ∷ []
+unfolding no_user no_owner no_group no_named_group no_class name_taken not_connected default_not_connected has_subgroup has_connected has_profile cycle owner_not_superior default_group last_special unknown_level unknown_category never_category unknown_label add_user_conflicts alt_user_conflicts del_user_conflicts add_group_conflicts alt_group_conflicts del_group_conflicts connect_conflicts remove_conflicts
+groups_come_and_go = refl

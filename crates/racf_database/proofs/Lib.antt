@@ -1,0 +1,4 @@
+mod CommandRows
+pub mod RowLaws
+pub mod Keyed
+pub mod Counts

@@ -1,0 +1,245 @@
+-- What a command conflicts with. Conflicts are judged on the rows before the command; LastSpecial, OwnerNotSuperior and
+-- Full alone speak of the rows after it.
+use Rattle.std.specs.Prelude.{ℕ, zero, suc, Bool, ◌&&◌, ◌||◌, not, ◌==◌, nat_lt, List, [], ◌∷◌, length, Option, None, Some, is_some, find, option_map, option_and_then, codes, bytes_eq, if◌then◌else◌}
+use Rattle.std.specs.List.{list_any, before_first}
+use Rattle.std.specs.Option.{option_map_or, option_eq}
+use Rattle.generic_names.specs.Spelled.{period}
+use Rattle.racf_profiles.specs.declared.users.User.{User}
+use Rattle.racf_profiles.specs.declared.groups.Group.{Group}
+use Rattle.racf_profiles.specs.declared.profiles.Profile.{Profile}
+use Rattle.racf_profiles.specs.declared.class_rows.ClassRow.{ClassRow}
+use Rattle.racf_profiles.specs.declared.rows.Rows.{Rows}
+use Rattle.racf_profiles.specs.Lookup.{user_of, group_of, class_of}
+use Rattle.racf_database.specs.declared.conflict.Conflict.{Conflict}
+use Rattle.racf_database.specs.declared.conflict.Conflict.TheVariants.{NoUser, NoGroup, NoClass, Exists, NotConnected, Root, InUse, Cycle, OwnerNotSuperior, DefaultGroup, LastSpecial, UnknownName, Full}
+use Rattle.racf_database.specs.declared.conflict.Named.TheVariants as named
+use Rattle.racf_database.specs.declared.conflict.Holder.TheVariants.{Subgroup, Connected, Profile as ProfileOf}
+use Rattle.racf_database.specs.declared.conflict.Kind.{Kind}
+use Rattle.racf_database.specs.declared.conflict.Kind.TheVariants.{Users, Groups, Connections, AllConnections}
+use Rattle.racf_database.specs.declared.command.Issuer.{Issuer}
+use Rattle.racf_database.specs.declared.command.AddUser.{AddUser}
+use Rattle.racf_database.specs.declared.command.AltUser.{AltUser}
+use Rattle.racf_database.specs.declared.command.DelUser.{DelUser}
+use Rattle.racf_database.specs.declared.command.AddGroup.{AddGroup}
+use Rattle.racf_database.specs.declared.command.AltGroup.{AltGroup}
+use Rattle.racf_database.specs.declared.command.DelGroup.{DelGroup}
+use Rattle.racf_database.specs.declared.command.Connect.{Connect}
+use Rattle.racf_database.specs.declared.command.Remove.{Remove}
+use Rattle.racf_database.specs.declared.command.Form.{Form}
+use Rattle.racf_database.specs.declared.command.Form.TheVariants as form
+use Rattle.racf_database.specs.Limits.{most_users, most_groups, most_connections, most_connections_in_all}
+use Rattle.racf_database.specs.Names.{is_taken, is_class_word, is_to, is_connected_to, connects_of, administrators, connections}
+use Rattle.racf_database.specs.Security.{level_number, is_category, category_number, is_label}
+use Rattle.racf_database.specs.Effects.{group_or_current, new_user, new_group, altered_group, connects_after, step}
+
+-- The conflict, where it is met.
+abbrev pub if_met : Bool → Conflict → Option Conflict
+if_met met conflict = if met then Some conflict else None
+
+-- ---- who and what has to be there
+unfoldable pub no_user : List ℕ → Rows → Option Conflict
+no_user id rows = if_met (not (is_some (user_of id rows))) (NoUser id)
+
+unfoldable pub no_group : List ℕ → Rows → Option Conflict
+no_group id rows = if_met (not (is_some (group_of id rows))) (NoGroup id)
+
+-- OWNER names a user or a group.
+unfoldable pub no_owner : Option (List ℕ) → Rows → Option Conflict
+no_owner None rows = None
+no_owner (Some owner) rows = if_met (not (is_taken owner rows)) (NoUser owner)
+
+-- DFLTGRP of ALTUSER, and SUPGROUP of ALTGROUP, name a group.
+unfoldable pub no_named_group : Option (List ℕ) → Rows → Option Conflict
+no_named_group None rows = None
+no_named_group (Some group) rows = no_group group rows
+
+-- The first class of a list that isn't in the table.
+unfoldable pub no_class : List (List ℕ) → Rows → Option Conflict
+no_class classes rows = option_map NoClass (find (λ name. not (is_class_word rows name)) classes)
+
+-- What is to be defined isn't there.
+unfoldable pub name_taken : List ℕ → Rows → Option Conflict
+name_taken id rows = if_met (is_taken id rows) (Exists (named.Id id))
+
+unfoldable pub not_connected : List ℕ → List ℕ → Rows → Option Conflict
+not_connected user group rows = if_met (not (list_any (is_to group) (connects_of user rows))) (NotConnected group)
+
+-- ALTUSER: the new default group is one that the user is connected to.
+unfoldable pub default_not_connected : List ℕ → Option (List ℕ) → Rows → Option Conflict
+default_not_connected user None rows = None
+default_not_connected user (Some group) rows = not_connected user group rows
+
+-- ---- what has to stay
+abbrev pub is_root : List ℕ → Bool
+is_root group = bytes_eq group (codes "SYS1")
+
+-- A group that others are below.
+unfoldable pub has_subgroup : List ℕ → Rows → Option Conflict
+has_subgroup id rows = option_map (λ (group : Group). InUse (Subgroup group.id)) (find (λ (group : Group). option_eq bytes_eq group.superior (Some id)) rows.groups)
+
+-- A group that a user is connected to.
+unfoldable pub has_connected : List ℕ → Rows → Option Conflict
+has_connected id rows = option_map (λ (user : User). InUse (Connected user.id)) (find (is_connected_to id) rows.users)
+
+-- A user or a group whose ID is the first qualifier of a data set profile.
+abbrev pub begins_with : List ℕ → Profile → Bool
+begins_with id profile = bytes_eq (before_first (λ byte. byte == period) profile.name.text) id
+
+unfoldable pub has_profile : List ℕ → Rows → Option Conflict
+has_profile id rows = option_map (λ (profile : Profile). InUse (ProfileOf profile.name)) (option_and_then (λ (class : ClassRow). find (begins_with id) class.profiles) (class_of (codes "DATASET") rows))
+
+-- The groups that a walk up meets: the group itself, its superior group, and so on. No walk has more steps than there
+-- are groups.
+abbrev pub superior_of : List Group → List ℕ → Option (List ℕ)
+superior_of groups id = option_and_then (λ (group : Group). group.superior) (find (λ (group : Group). bytes_eq group.id id) groups)
+
+abbrev pub walk_up : ℕ → List Group → List ℕ → List (List ℕ)
+walk_up zero groups id = []
+walk_up (suc steps) groups id = id ∷ option_map_or (walk_up steps groups) (superior_of groups id) []
+
+-- ALTGROUP: the walk up from the new superior group meets the group.
+unfoldable pub cycle : List ℕ → Option (List ℕ) → Rows → Option Conflict
+cycle group None rows = None
+cycle group (Some superior) rows = if_met (list_any (λ met. bytes_eq met group) (walk_up (length rows.groups) rows.groups superior)) (Cycle group)
+
+-- A group that owns a group is its superior group. SYS1 has none, so that no group owns it.
+abbrev pub owner_apart : Group → Rows → Option Conflict
+owner_apart group rows = if_met (is_some (group_of group.owner rows) && not (option_eq bytes_eq group.superior (Some group.owner))) (OwnerNotSuperior group.owner)
+
+-- It is asked where the command has SUPGROUP or OWNER, of the group after the command.
+unfoldable pub owner_not_superior : Option (List ℕ) → Option (List ℕ) → Option Group → Rows → Option Conflict
+owner_not_superior None None group rows = None
+owner_not_superior (Some superior) owner group rows = option_and_then (λ group. owner_apart group rows) group
+owner_not_superior None (Some owner) group rows = option_and_then (λ group. owner_apart group rows) group
+
+-- REMOVE: the default group stays.
+unfoldable pub default_group : List ℕ → List ℕ → Rows → Option Conflict
+default_group id group rows = option_and_then (λ (user : User). if_met (bytes_eq user.default_group group) (DefaultGroup group)) (user_of id rows)
+
+-- After the command no user who isn't revoked has SPECIAL.
+unfoldable pub last_special : List ℕ → Rows → Option Conflict
+last_special id after = if_met (administrators after.users == 0) (LastSpecial id)
+
+-- ---- levels, categories and labels
+unfoldable pub unknown_level : Option (List ℕ) → Rows → Option Conflict
+unknown_level None rows = None
+unknown_level (Some name) rows = if_met (not (is_some (level_number rows name))) (UnknownName name)
+
+-- The first of ADDCATEGORY that is no category; the first of DELCATEGORY that never was one.
+unfoldable pub unknown_category : List (List ℕ) → Rows → Option Conflict
+unknown_category names rows = option_map UnknownName (find (λ name. not (is_category rows name)) names)
+
+unfoldable pub never_category : List (List ℕ) → Rows → Option Conflict
+never_category names rows = option_map UnknownName (find (λ name. not (is_some (category_number rows name))) names)
+
+unfoldable pub unknown_label : Option (List ℕ) → Rows → Option Conflict
+unknown_label None rows = None
+unknown_label (Some name) rows = if_met (not (is_label rows name)) (UnknownName name)
+
+-- ---- limits
+abbrev pub over : Kind → ℕ → ℕ → Option Conflict
+over kind limit count = if_met (nat_lt limit count) (Full kind limit)
+
+-- ---- the conflicts of each command, in the order in which they are tested: by their kinds, and of one kind in the order
+-- of the operands in the canonical text
+unfoldable pub add_user_conflicts : Issuer → AddUser → Rows → List (Option Conflict)
+add_user_conflicts issuer c rows =
+    let after = step issuer (form.AddUser c) rows in
+    no_owner c.owner rows
+    ∷ no_group (group_or_current issuer c.dfltgrp) rows
+    ∷ no_class c.clauth rows
+    ∷ name_taken c.user rows
+    ∷ unknown_level c.seclevel rows
+    ∷ unknown_category c.addcategory rows
+    ∷ unknown_label c.seclabel rows
+    ∷ over Users most_users (length after.users)
+    ∷ over Connections most_connections (length (new_user issuer c rows).connects)
+    ∷ over AllConnections most_connections_in_all (connections after.users)
+    ∷ []
+
+unfoldable pub alt_user_conflicts : Issuer → AltUser → Rows → List (Option Conflict)
+alt_user_conflicts issuer c rows =
+    no_user c.user rows
+    ∷ no_owner c.owner rows
+    ∷ no_named_group c.dfltgrp rows
+    ∷ no_class c.clauth rows
+    ∷ no_class c.noclauth rows
+    ∷ default_not_connected c.user c.dfltgrp rows
+    ∷ last_special c.user (step issuer (form.AltUser c) rows)
+    ∷ unknown_level c.seclevel rows
+    ∷ unknown_category c.addcategory rows
+    ∷ never_category c.delcategory rows
+    ∷ unknown_label c.seclabel rows
+    ∷ []
+
+unfoldable pub del_user_conflicts : Issuer → DelUser → Rows → List (Option Conflict)
+del_user_conflicts issuer c rows =
+    no_user c.user rows
+    ∷ has_profile c.user rows
+    ∷ last_special c.user (step issuer (form.DelUser c) rows)
+    ∷ []
+
+unfoldable pub add_group_conflicts : Issuer → AddGroup → Rows → List (Option Conflict)
+add_group_conflicts issuer c rows =
+    no_owner c.owner rows
+    ∷ no_group (group_or_current issuer c.supgroup) rows
+    ∷ name_taken c.group rows
+    ∷ owner_not_superior c.supgroup c.owner (Some (new_group issuer c)) rows
+    ∷ over Groups most_groups (length (step issuer (form.AddGroup c) rows).groups)
+    ∷ []
+
+unfoldable pub alt_group_conflicts : AltGroup → Rows → List (Option Conflict)
+alt_group_conflicts c rows =
+    no_owner c.owner rows
+    ∷ no_group c.group rows
+    ∷ no_named_group c.supgroup rows
+    ∷ if_met (is_root c.group && is_some c.supgroup) Root
+    ∷ cycle c.group c.supgroup rows
+    ∷ owner_not_superior c.supgroup c.owner (option_map (altered_group c) (group_of c.group rows)) rows
+    ∷ []
+
+unfoldable pub del_group_conflicts : DelGroup → Rows → List (Option Conflict)
+del_group_conflicts c rows =
+    no_group c.group rows
+    ∷ if_met (is_root c.group) Root
+    ∷ has_subgroup c.group rows
+    ∷ has_connected c.group rows
+    ∷ has_profile c.group rows
+    ∷ []
+
+unfoldable pub connect_conflicts : Issuer → Connect → Rows → List (Option Conflict)
+connect_conflicts issuer c rows =
+    let group = group_or_current issuer c.group in
+    no_user c.user rows
+    ∷ no_group group rows
+    ∷ over Connections most_connections (length (connects_after c group (connects_of c.user rows)))
+    ∷ over AllConnections most_connections_in_all (connections (step issuer (form.Connect c) rows).users)
+    ∷ []
+
+unfoldable pub remove_conflicts : Issuer → Remove → Rows → List (Option Conflict)
+remove_conflicts issuer c rows =
+    let group = group_or_current issuer c.group in
+    no_user c.user rows
+    ∷ no_group group rows
+    ∷ not_connected c.user group rows
+    ∷ default_group c.user group rows
+    ∷ []
+
+abbrev pub conflicts : Issuer → Form → Rows → List (Option Conflict)
+conflicts issuer (form.AddUser c) rows = add_user_conflicts issuer c rows
+conflicts issuer (form.AltUser c) rows = alt_user_conflicts issuer c rows
+conflicts issuer (form.DelUser c) rows = del_user_conflicts issuer c rows
+conflicts issuer (form.AddGroup c) rows = add_group_conflicts issuer c rows
+conflicts issuer (form.AltGroup c) rows = alt_group_conflicts c rows
+conflicts issuer (form.DelGroup c) rows = del_group_conflicts c rows
+conflicts issuer (form.Connect c) rows = connect_conflicts issuer c rows
+conflicts issuer (form.Remove c) rows = remove_conflicts issuer c rows
+
+-- The first that is met.
+abbrev pub first_met : List (Option Conflict) → Option Conflict
+first_met [] = None
+first_met (None ∷ tests) = first_met tests
+first_met (Some conflict ∷ tests) = Some conflict
+
+abbrev pub conflict_of : Issuer → Form → Rows → Option Conflict
+conflict_of issuer command rows = first_met (conflicts issuer command rows)

@@ -1,0 +1,16 @@
+-- How much a database holds (this product's own limits).
+use Rattle.std.specs.Prelude.{ℕ}
+
+abbrev pub most_users : ℕ
+most_users = 20000
+
+abbrev pub most_groups : ℕ
+most_groups = 8000
+
+-- of one user
+abbrev pub most_connections : ℕ
+most_connections = 300
+
+-- of all users
+abbrev pub most_connections_in_all : ℕ
+most_connections_in_all = 200000

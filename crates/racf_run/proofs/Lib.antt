@@ -1,6 +1,10 @@
 mod Rows
+mod JoinRows
 pub mod Folds
 pub mod Walk
+pub mod Words
+pub mod MarkLaws
+pub mod FrontLaws
 pub mod ItemLaws
 pub mod Pieces
 pub mod Works

@@ -3,7 +3,7 @@ use Rattle.std.proofs.Common.{◌≡◌, ℕ, List, [], ◌∷◌, ◌++◌, ref
 use Rattle.std.specs.Prelude.{codes}
 use Rattle.std.specs.Fmt.{digits}
 use Rattle.racf_run.specs.declared.status.Status.TheVariants.{Done, Refusals}
-use Rattle.racf_run.specs.Items.{rdefine_of, verify_of, auth_of, built, item_of}
+use Rattle.racf_run.specs.Items.{rdefine_of, verify_of, auth_of, built_request, built_command, request_of, command_of, is_request}
 use Rattle.racf_run.specs.Replies.{reply_line}
 use Rattle.racf_run.specs.Stream.{rdefine, verify, auth, step, text}
 use Rattle.racf_run.specs.Script.{stream, script_output, script_status}
@@ -17,11 +17,11 @@ first_stream =
 first_output : script_output first_stream
     ≡ codes "1 ACCEPTED\n1 0 VERIFIED\n1 0 UACC BPX.X READ\n1 8 INSUFFICIENT BPX.X READ\n1 4 NOPROFILE\n"
     ++ codes "1 REFUSED EXISTS BPX.X\n1 REFUSED NOACEE B\n1 REFUSED NOTBUILT\n"
-unfolding digits rdefine_of verify_of auth_of built item_of reply_line rdefine verify auth step text stream
+unfolding digits rdefine_of verify_of auth_of built_request built_command request_of command_of is_request reply_line rdefine verify auth step text stream
 first_output = refl
 
 first_status : script_status first_stream ≡ Refusals
-unfolding digits rdefine_of verify_of auth_of built item_of reply_line rdefine verify auth step text stream
+unfolding digits rdefine_of verify_of auth_of built_request built_command request_of command_of is_request reply_line rdefine verify auth step text stream
 first_status = refl
 
 -- the empty input
@@ -36,5 +36,5 @@ no_status = refl
 -- what is skipped, and what isn't: a comment and a line of blanks print nothing, and the last line may lack its end
 skipped : script_output (codes "/* \n \t\n\n/*\r\n /* x\nVERIFY A IBMUSER")
     ≡ codes "0 REFUSED NOTBUILT\n0 0 VERIFIED\n"
-unfolding digits rdefine_of verify_of auth_of built item_of reply_line rdefine verify auth step text stream
+unfolding digits rdefine_of verify_of auth_of built_request built_command request_of command_of is_request reply_line rdefine verify auth step text stream
 skipped = refl

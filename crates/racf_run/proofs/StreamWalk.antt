@@ -14,7 +14,7 @@ use Rattle.racf_run.specs.NextItem.{NextsItem, TakesItems}
 use Rattle.racf_run.specs.Stream.{State, new_stream}
 use Rattle.racf_run.specs.Script.{stream}
 use Rattle.racf_run.specs.Work.{Works, stop_status, fault_status}
-use Rattle.racf_run.proofs.ItemLaws.{no_items}
+use Rattle.racf_run.proofs.FrontLaws.{no_items}
 use Rattle.racf_run.proofs.Walk.{Walk, Walk-none, Walk-items, Walk-done, Walk-refusals, Walk-read_fault, Walk-too_long, Walk-no_memory, Walk-write_fault}
 
 begun_at : (source before : Option (List ℕ)) (faults : ℕ) → Walk stream source (at_start source faults) new_stream before before

@@ -3,7 +3,7 @@ use Rattle.std.specs.Prelude.{ℕ, Bool, true, false, List, ◌++◌, codes, dec
 use Rattle.access_levels.specs.Level.{level_name}
 use Rattle.racf_run.specs.declared.item.Profile.{Profile}
 use Rattle.racf_run.specs.declared.reply.Refusal.{Refusal}
-use Rattle.racf_run.specs.declared.reply.Refusal.TheVariants.{Exists, NoAcee, NotBuilt}
+use Rattle.racf_run.specs.declared.reply.Refusal.TheVariants.{Exists, NoAcee, NotBuilt, LineTooLong}
 use Rattle.racf_run.specs.declared.reply.Decision.{Decision}
 use Rattle.racf_run.specs.declared.reply.Decision.TheVariants.{NoProfile, UniversalAccess, Insufficient}
 use Rattle.racf_run.specs.declared.reply.Reply.{Reply}
@@ -14,6 +14,7 @@ abbrev pub refusal_words : Refusal → List ℕ
 refusal_words (Exists name) = codes "EXISTS " ++ name.text
 refusal_words (NoAcee acee) = codes "NOACEE " ++ acee
 refusal_words NotBuilt = codes "NOTBUILT"
+refusal_words LineTooLong = codes "LINETOOLONG"
 
 -- a profile's name, and the universal access that it gives
 abbrev pub access_words : Profile → List ℕ

@@ -1,4 +1,4 @@
--- The stream: what stands between two lines, and the answer to each kind of line.
+-- The stream: what stands between two lines, and the answer to each item.
 use Rattle.std.specs.Prelude.{◌≡◌, ℕ, ◌+◌, Bool, true, false, ◌||◌, nat_le, is_some, Option, Some, None, List, [], ◌∷◌, ◌++◌, length, find, if◌then◌else◌}
 use Rattle.std.specs.List.{list_any}
 use Rattle.std.specs.Str.{bytes_eq}
@@ -9,7 +9,7 @@ use Rattle.racf_run.specs.declared.item.Profile.{Profile}
 use Rattle.racf_run.specs.declared.item.Item.{Item}
 use Rattle.racf_run.specs.declared.item.Item.TheVariants as item
 use Rattle.racf_run.specs.declared.reply.Refusal.{Refusal}
-use Rattle.racf_run.specs.declared.reply.Refusal.TheVariants.{Exists, NoAcee, NotBuilt}
+use Rattle.racf_run.specs.declared.reply.Refusal.TheVariants.{Exists, NoAcee, NotBuilt, LineTooLong}
 use Rattle.racf_run.specs.declared.reply.Decision.{Decision}
 use Rattle.racf_run.specs.declared.reply.Decision.TheVariants.{NoProfile, UniversalAccess, Insufficient}
 use Rattle.racf_run.specs.declared.reply.Reply.{Reply}
@@ -84,12 +84,14 @@ auth acee name asked s =
     then record { state = s; reply = Decided (decide (profile_of name s) asked) }
     else refuse (NoAcee acee) s
 
--- the answer to each kind of line
+-- the answer to each item
 abbrev pub answer : Item → State → Answer
 answer (item.Rdefine profile) s = rdefine profile s
 answer (item.Verify acee) s = verify acee s
 answer (item.Auth acee name asked) s = auth acee name asked s
+answer (item.Command text) s = refuse NotBuilt s
 answer item.NotBuilt s = refuse NotBuilt s
+answer item.LineTooLong s = refuse LineTooLong s
 
 -- what stands after an item
 unfoldable pub step : Item → State → State

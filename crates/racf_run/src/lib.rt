@@ -3,6 +3,8 @@
 
 mod input;
 mod item;
+mod joining;
+mod mark;
 mod reply;
 mod scripts;
 mod status;

@@ -18,6 +18,8 @@ pub enum Refusal {
     NoAcee(Id),
     /// This program doesn't have what the line asks for.
     NotBuilt,
+    /// A line of more than 4,096 bytes.
+    LineTooLong,
 }
 
 /// The decision on a request for access.
@@ -59,6 +61,7 @@ impl Refusal {
                 out.extend_from_slice(acee.text())
             }
             Refusal::NotBuilt => out.extend_from_slice(b"NOTBUILT"),
+            Refusal::LineTooLong => out.extend_from_slice(b"LINETOOLONG"),
         }
     }
 }

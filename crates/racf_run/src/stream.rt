@@ -68,7 +68,9 @@ impl Stream {
             Item::Rdefine(profile) => self.rdefine(profile, out),
             Item::Verify(acee) => self.verify(*acee, out),
             Item::Auth { acee, name, asked } => self.auth(*acee, name, *asked, out),
+            Item::Command(_) => self.refuse(Refusal::NotBuilt, out),
             Item::NotBuilt => self.refuse(Refusal::NotBuilt, out),
+            Item::LineTooLong => self.refuse(Refusal::LineTooLong, out),
         }
     }
 

@@ -1,12 +1,11 @@
 -- What a pattern covers, from place to place.
-use Rattle.std.proofs.Common.{◌≡◌, ℕ, zero, suc, ◌+◌, ◌-◌, ◌<◌, ◌≤◌, Bool, true, false, cond, not, ◌&&◌, ◌||◌, eqb, List, [], ◌∷◌, length, get_or, take, drop, refl, ap, sym, ◌∙◌, subst, arith}
+use Rattle.std.proofs.Common.{◌≡◌, ℕ, suc, ◌-◌, ◌<◌, ◌≤◌, Bool, true, false, cond, not, ◌&&◌, ◌||◌, eqb, List, [], ◌∷◌, length, take, drop, refl, ap, sym, ◌∙◌, arith}
 use Rattle.std.specs.List.{join_with_byte}
 use Rattle.std.proofs.lemmas.List.{drop_more, drop_all, length-drop}
 use Rattle.std.proofs.lemmas.Bool.Decides.{nat_tests}
 use Rattle.generic_names.specs.declared.kind.NameKind.{NameKind}
-use Rattle.generic_names.specs.declared.kind.NameKind.TheVariants.{DataSet, General}
 use Rattle.generic_names.specs.Spelled.{is_empty}
-use Rattle.generic_names.specs.Covers.{is_double, is_open, matches, begins, some_end, first_and_rest, covers_all, is_final}
+use Rattle.generic_names.specs.Covers.{is_double, is_open, matches, begins, some_end, first_and_rest, covers_all}
 
 -- two tests that hold together are one
 pub same_tests : (a b : Bool) → (a ≡ true → b ≡ true) → (b ≡ true → a ≡ true) → a ≡ b

@@ -1,5 +1,5 @@
 -- The faults of a text, from place to place.
-use Rattle.std.proofs.Common.{◌≡◌, ℕ, ◌+◌, ◌<◌, Bool, false, eqb, List, ◌∷◌, length, get_or, drop, Option, Some, None, refl, add-one, true, ◌-◌, ap, sym, ◌∙◌, arith, drop-cons, length-drop}
+use Rattle.std.proofs.Common.{◌≡◌, ℕ, ◌+◌, ◌<◌, Bool, false, eqb, List, ◌∷◌, length, get_or, drop, Option, Some, None, refl, add-one, ◌-◌, ap, ◌∙◌, arith, drop-cons, length-drop}
 use Rattle.std.specs.Option.{option_or, is_some}
 use Rattle.std.proofs.lemmas.Bool.Decides.{nat_tests}
 use Rattle.generic_names.specs.declared.kind.NameKind.{NameKind}

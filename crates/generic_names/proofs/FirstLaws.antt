@@ -1,6 +1,6 @@
 -- The profile of the very name comes first.
-use Rattle.std.proofs.Common.{◌≡◌, ◌≢◌, ℕ, zero, suc, ◌+◌, ◌-◌, ◌<◌, ◌≤◌, Bool, true, false, cond, not, ◌&&◌, ◌||◌, eqb, ltb, List, [], ◌∷◌, ◌++◌, map, length, take, get_or, Ordering, append-nil, refl, ap, sym, ◌∙◌, subst, arith, ⊎_elim, ◌⊎◌, inl, inr}
-use Rattle.std.specs.declared.cmp.Ordering.TheVariants.{Less, Equal, Greater}
+use Rattle.std.proofs.Common.{◌≡◌, ◌≢◌, ℕ, suc, ◌-◌, ◌<◌, Bool, true, false, cond, not, ◌&&◌, ◌||◌, eqb, List, [], ◌∷◌, ◌++◌, map, length, take, get_or, Ordering, append-nil, refl, ap, sym, ◌∙◌, subst, arith, ⊎_elim, ◌⊎◌, inl, inr}
+use Rattle.std.specs.declared.cmp.Ordering.TheVariants.{Less, Equal}
 use Rattle.std.specs.Ordering.{nat_cmp, is_lt, ordering_then}
 use Rattle.std.specs.Cmp.Lexicographic.{slice_cmp}
 use Rattle.std.specs.List.{join_with_byte, onto_first}
@@ -9,7 +9,7 @@ use Rattle.std.proofs.lemmas.Slice.Eq.{bytes_eq-Decides}
 use Rattle.generic_names.specs.declared.kind.NameKind.{NameKind}
 use Rattle.generic_names.specs.declared.kind.NameKind.TheVariants.{DataSet, General}
 use Rattle.generic_names.specs.Spelled.{Spelled, qualifiers, is_empty}
-use Rattle.generic_names.specs.Covers.{is_double, is_final, is_open, matches, begins, some_end, first_and_rest, covers_all, covers}
+use Rattle.generic_names.specs.Covers.{is_double, is_final, is_open, matches, begins, covers_all, covers}
 use Rattle.generic_names.specs.Before.{rank, ranks, before}
 use Rattle.generic_names.specs.Laws.{IsResource}
 use Rattle.generic_names.proofs.Lawful.{EachByte, EachQualifier, IsPlain, resource-plain}
@@ -131,11 +131,10 @@ last-get (a ∷ c ∷ p) =
     ap (λ (k : ℕ). get_or (a ∷ c ∷ p) k 0) outer ∙ ap (λ (k : ℕ). get_or (c ∷ p) k 0) (sym inner) ∙ last-get (c ∷ p)
 
 -- the text behind a qualifier: nothing, or a period and the rest
-IsBehind : List ℕ → Type 0
+abbrev pub IsBehind : List ℕ → Type 0
 IsBehind more = (more ≡ []) ⊎ ((rest : List ℕ) × (more ≡ 46 ∷ rest))
 
-no-match : (a : ℕ) (f more : List ℕ) → a ≢ 46 → IsBehind more → begins (a ∷ f) more ≡ true → ⊥
-unfolding IsBehind
+pub no-match : (a : ℕ) (f more : List ℕ) → a ≢ 46 → IsBehind more → begins (a ∷ f) more ≡ true → ⊥
 no-match a f more other ends m = ⊎_elim
     (λ (none : more ≡ []). let e : begins (a ∷ f) [] ≡ true = subst (λ (xs : List ℕ). begins (a ∷ f) xs ≡ true) none m in absurd (cc (e)))
     (λ (some : (rest : List ℕ) × (more ≡ 46 ∷ rest)).
@@ -189,16 +188,15 @@ no-periods (x ∷ xs) = settled (no-periods xs) (eqb x 46) refl
     settled each false is = onto-each x (qualifiers xs) (let other : x ≢ 46 = grind (arith, nat_tests) in other) each
 
 -- a text is its first qualifier and what stands behind it
-behind-first : (n : List ℕ) (ns : List (List ℕ)) → (more : List ℕ) × IsBehind more × (join_with_byte 46 (n ∷ ns) ≡ n ++ more)
-unfolding IsBehind
+pub behind-first : (n : List ℕ) (ns : List (List ℕ)) → (more : List ℕ) × IsBehind more × (join_with_byte 46 (n ∷ ns) ≡ n ++ more)
 behind-first n [] = ([], inl refl, sym (append-nil n))
 behind-first n (m ∷ ns) = (46 ∷ join_with_byte 46 (m ∷ ns), inr (join_with_byte 46 (m ∷ ns), refl), refl)
 
-no_name : (ns : List (List ℕ)) → is_empty ns ≡ true → [] ≡ ns
+pub no_name : (ns : List (List ℕ)) → is_empty ns ≡ true → [] ≡ ns
 no_name [] h = refl
 no_name (n ∷ ns) h = absurd (cc (h))
 
-ends_open : (kind : NameKind) (last : Bool) (p : List ℕ) → is_open kind last p ≡ true → eqb (get_or p (length p - 1) 0) 42 ≡ true
+pub ends_open : (kind : NameKind) (last : Bool) (p : List ℕ) → is_open kind last p ≡ true → eqb (get_or p (length p - 1) 0) 42 ≡ true
 ends_open DataSet last p h = absurd (cc (h))
 ends_open General last p h = both last (eqb (get_or p (length p - 1) 0) 42) h (λ _ star. star)
 

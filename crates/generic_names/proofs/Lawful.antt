@@ -1,17 +1,16 @@
 -- The bytes of lawful names.
-use Rattle.std.proofs.Common.{◌≡◌, ◌≢◌, ℕ, zero, suc, ◌+◌, ◌<◌, ◌≤◌, Bool, true, false, cond, not, ◌&&◌, ◌||◌, eqb, leb, ltb, List, [], ◌∷◌, length, Option, Some, None, Ok, Result, refl, ap, sym, ◌∙◌, subst, arith, ⊎_elim, ◌⊎◌, inl, inr}
+use Rattle.std.proofs.Common.{◌≡◌, ◌≢◌, ℕ, ◌+◌, ◌<◌, Bool, true, false, cond, not, ◌&&◌, ◌||◌, eqb, ltb, List, [], ◌∷◌, length, Option, Some, None, Ok, refl, ap, sym, ◌∙◌, subst, arith}
 use Rattle.std.specs.Option.{option_or}
-use Rattle.std.specs.Str.{bytes_eq}
 use Rattle.std.proofs.lemmas.Bool.Decides.{nat_tests}
 use Rattle.std.proofs.lemmas.Slice.Eq.{bytes_eq-Decides}
 use Rattle.generic_names.specs.declared.kind.NameKind.{NameKind}
 use Rattle.generic_names.specs.declared.kind.NameKind.TheVariants.{DataSet, General}
 use Rattle.generic_names.specs.declared.form.Form.{Form}
-use Rattle.generic_names.specs.declared.form.Form.TheVariants.{Discrete, Generic, Symbolic}
+use Rattle.generic_names.specs.declared.form.Form.TheVariants.{Discrete, Generic}
 use Rattle.generic_names.specs.declared.fault.NameFault.{NameFault}
 use Rattle.generic_names.specs.declared.fault.NameFault.TheVariants.{Empty, TooLong, EmptyQualifier, QualifierTooLong, BadByte, StarInside, GenericFirst}
 use Rattle.generic_names.specs.Spelled.{Spelled, qualifiers}
-use Rattle.generic_names.specs.Faults.{is_letter, is_digit, is_ordinary, byte_fault, bytes_fault, qualifier_fault, qualifiers_fault, fault_of, name_of, unless, longest, is_too_long, is_whole, is_generic_first}
+use Rattle.generic_names.specs.Faults.{pattern_of, is_letter, is_digit, is_ordinary, byte_fault, bytes_fault, qualifier_fault, qualifiers_fault, fault_of, unless, longest, is_too_long, is_whole, is_generic_first}
 use Rattle.generic_names.specs.Laws.{IsResource, IsPattern}
 
 -- a byte that stands for itself in a pattern
@@ -144,3 +143,61 @@ resource-plain name h = discrete_qualifiers name.kind 1 1 (qualifiers name.text)
 
 pub pattern-small : (name : Spelled) → IsPattern name → EachQualifier (λ b. b < 256) (qualifiers name.text)
 pattern-small name h = small_qualifiers name.kind 1 1 (qualifiers name.text) (fault_none Generic name.kind name.text (spelled_none (fault_of Generic name.kind name.text) _ name h))
+
+-- a resource's name is a pattern too
+generic_byte : (kind : NameKind) (first last : Bool) (place b : ℕ) → byte_fault Discrete kind first last place b ≡ None → byte_fault Generic kind first last place b ≡ None
+generic_byte kind first last place b h =
+    let plain = discrete_byte kind first last place b h in
+    let percent : eqb b 37 ≡ false = (let n : b ≢ 37 = plain.no_percent in grind (arith, nat_tests)) in
+    let asterisk : eqb b 42 ≡ false = (let n : b ≢ 42 = plain.no_asterisk in grind (arith, nat_tests)) in
+    rw (percent, asterisk) h
+
+generic_bytes : (kind : NameKind) (first : Bool) (place : ℕ) (q : List ℕ) → bytes_fault Discrete kind first place q ≡ None → bytes_fault Generic kind first place q ≡ None
+generic_bytes kind first place [] h = refl
+generic_bytes kind first place (b ∷ bs) h =
+    let parts = first_none (byte_fault Discrete kind first (eqb (length bs) 0) place b) (bytes_fault Discrete kind false (place + 1) bs) h in
+    ap (λ (o : Option NameFault). option_or o (bytes_fault Generic kind false (place + 1) bs)) (generic_byte kind first (eqb (length bs) 0) place b parts.0)
+    ∙ generic_bytes kind false (place + 1) bs parts.1
+
+whole_or : (t : Bool) (o : Option NameFault) → o ≡ None → cond t None o ≡ None
+whole_or true o h = refl
+whole_or false o h = h
+
+kept_test : (t : Bool) (x : NameFault) (rest other : Option NameFault) → cond t (Some x) rest ≡ None → (rest ≡ None → other ≡ None) → cond t (Some x) other ≡ None
+kept_test true x rest other h k = absurd (cc (h))
+kept_test false x rest other h k = k h
+
+generic_qualifier : (kind : NameKind) (number place : ℕ) (q : List ℕ) → qualifier_fault Discrete kind number place q ≡ None → qualifier_fault Generic kind number place q ≡ None
+generic_qualifier kind number place q h =
+    kept_test (eqb (length q) 0) (EmptyQualifier number) _ _ h
+    (λ h₂. kept_test (is_too_long kind q) (QualifierTooLong number) _ _ h₂
+    (λ h₃.
+    let parts = first_none (bytes_fault Discrete kind true place q) (cond (is_generic_first kind number q) (Some GenericFirst) None) h₃ in
+    let bytes : cond (is_whole Generic q) None (bytes_fault Generic kind true place q) ≡ None = whole_or (is_whole Generic q) _ (generic_bytes kind true place q parts.0) in
+    ap (λ (o : Option NameFault). option_or o (cond (is_generic_first kind number q) (Some GenericFirst) None)) bytes ∙ parts.1))
+
+generic_qualifiers : (kind : NameKind) (number place : ℕ) (qs : List (List ℕ)) → qualifiers_fault Discrete kind number place qs ≡ None → qualifiers_fault Generic kind number place qs ≡ None
+generic_qualifiers kind number place [] h = refl
+generic_qualifiers kind number place (q ∷ qs) h =
+    let parts = first_none (qualifier_fault Discrete kind number place q) (qualifiers_fault Discrete kind (number + 1) (place + length q + 1) qs) h in
+    ap (λ (o : Option NameFault). option_or o (qualifiers_fault Generic kind (number + 1) (place + length q + 1) qs)) (generic_qualifier kind number place q parts.0)
+    ∙ generic_qualifiers kind (number + 1) (place + length q + 1) qs parts.1
+
+pub resource-pattern : (name : Spelled) → IsResource name → IsPattern name
+resource-pattern name h =
+    let none : fault_of Discrete name.kind name.text ≡ None = spelled_none (fault_of Discrete name.kind name.text) _ name h in
+    let same : fault_of Generic name.kind name.text ≡ None =
+    kept_test (eqb (length name.text) 0) Empty _ _ none
+    (λ h₂. kept_test (ltb (longest name.kind) (length name.text)) TooLong _ _ h₂
+    (λ h₃. generic_qualifiers name.kind 1 1 (qualifiers name.text) h₃)) in
+    ap (λ (o : Option NameFault). unless o name) same
+
+-- what is read has the text that was read
+pub reads_back : (kind : NameKind) (text : List ℕ) (name : Spelled) → pattern_of kind text ≡ Ok name → (name ≡ record { kind = kind; text = text }) × IsPattern name
+reads_back kind text name h = settled (fault_of Generic kind text) refl h
+  where
+    settled : (o : Option NameFault) → fault_of Generic kind text ≡ o → unless o (record { kind = kind; text = text }) ≡ Ok name → (name ≡ record { kind = kind; text = text }) × IsPattern name
+    settled None is e =
+        let same : name ≡ record { kind = kind; text = text } = (cc (e)) in
+        (same, subst (λ (n : Spelled). IsPattern n) (sym same) (ap (λ (o : Option NameFault). unless o (record { kind = kind; text = text })) is))
+    settled (Some x) is e = absurd (cc (e))

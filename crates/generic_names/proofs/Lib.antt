@@ -7,4 +7,5 @@ mod ReplaceLaws
 mod Lawful
 mod OrderLaws
 mod FirstLaws
+mod CompareLaws
 mod GapLaws

@@ -1,8 +1,7 @@
 -- The order of specificity.
-use Rattle.std.proofs.Common.{◌≡◌, ◌≢◌, ℕ, zero, suc, ◌+◌, ◌<◌, ◌≤◌, Bool, true, false, cond, eqb, ltb, List, [], ◌∷◌, ◌++◌, map, length, Ordering, refl, ap, sym, ◌∙◌, subst, arith, ⊎_elim, ◌⊎◌, inl, inr}
+use Rattle.std.proofs.Common.{◌≡◌, ◌≢◌, ℕ, ◌<◌, Bool, true, false, cond, eqb, List, [], ◌∷◌, ◌++◌, map, Ordering, refl, ap, sym, ◌∙◌, arith, ⊎_elim, ◌⊎◌, inl, inr}
 use Rattle.std.specs.declared.cmp.Ordering.TheVariants.{Less, Equal, Greater}
 use Rattle.std.specs.Ordering.{nat_cmp, is_lt, ordering_then, ordering_reverse}
-use Rattle.std.specs.Cmp.{nat_cmp_total}
 use Rattle.std.specs.Cmp.Lexicographic.{slice_cmp, nat_list_cmp_total}
 use Rattle.std.specs.FinMap.{nat_cmp-IsAntisymmetric, slice_cmp-IsAntisymmetric}
 use Rattle.std.specs.List.{join_with_byte}
@@ -12,8 +11,8 @@ use Rattle.std.proofs.lemmas.List.Splits.{join_with_byte-slice_split}
 use Rattle.generic_names.specs.declared.kind.NameKind.{NameKind}
 use Rattle.generic_names.specs.Spelled.{Spelled, qualifiers}
 use Rattle.generic_names.specs.Covers.{is_double}
-use Rattle.generic_names.specs.Before.{rank, ranks, before}
-use Rattle.generic_names.specs.Laws.{IsPattern, IsResource}
+use Rattle.generic_names.specs.Before.{rank, ranks, before, order}
+use Rattle.generic_names.specs.Laws.{IsPattern}
 use Rattle.generic_names.proofs.Lawful.{EachByte, EachQualifier, pattern-small}
 
 -- which bytes a rank comes from
@@ -112,3 +111,18 @@ not_both a b h = ap is_lt (nat_list_cmp_total.antisymm (ranks (qualifiers b.text
 
 pub passed_on : (a b c : Spelled) → before a b ≡ true → before b c ≡ true → before a c ≡ true
 passed_on a b c ab bc = ap is_lt (nat_list_cmp_total.trans (ranks (qualifiers a.text)) (ranks (qualifiers b.text)) (ranks (qualifiers c.text)) (is_less _ ab) (is_less _ bc))
+
+pub ties_are_equal : (a b : Spelled) → IsPattern a → IsPattern b → a.kind ≡ b.kind → order a b ≡ Equal → a ≡ b
+ties_are_equal a b ha hb kind is =
+    let same = slice_cmp-IsAntisymmetric nat_cmp-IsAntisymmetric (ranks (qualifiers a.text)) (ranks (qualifiers b.text)) is in
+    same_spelled a b kind (qualifiers-injective a.text b.text (ranks-injective (qualifiers a.text) (qualifiers b.text) (pattern-small a ha) (pattern-small b hb) same))
+
+same_ties : (xs : List ℕ) → slice_cmp nat_cmp xs xs ≡ Equal
+same_ties [] = refl
+same_ties (x ∷ xs) = let equal : nat_cmp x x ≡ Equal = grind (arith, nat_tests) in ap (λ (r : Ordering). ordering_then r (slice_cmp nat_cmp xs xs)) equal ∙ same_ties xs
+
+pub equals_tie : (a : Spelled) → order a a ≡ Equal
+equals_tie a = same_ties (ranks (qualifiers a.text))
+
+pub gap_closed : (a b : Spelled) (gap : List ℕ) → before a b ≡ true → is_lt (slice_cmp nat_cmp (ranks (qualifiers b.text)) gap) ≡ true → is_lt (slice_cmp nat_cmp (ranks (qualifiers a.text)) gap) ≡ true
+gap_closed a b gap ab below = ap is_lt (nat_list_cmp_total.trans (ranks (qualifiers a.text)) (ranks (qualifiers b.text)) gap (is_less _ ab) (is_less _ below))

@@ -1,6 +1,6 @@
 -- The ranks of a name, from place to place.
-use Rattle.std.proofs.Common.{◌≡◌, ◌≢◌, ℕ, zero, suc, ◌+◌, ◌-◌, ◌<◌, ◌≤◌, Bool, true, false, cond, ◌&&◌, eqb, List, [], ◌∷◌, ◌++◌, map, length, get_or, take, drop, refl, ap, sym, ◌∙◌, subst, arith, ⊎_elim, ◌⊎◌, inl, inr, add-zero, add-one}
-use Rattle.std.specs.List.{slice_split, onto_first, slice_range}
+use Rattle.std.proofs.Common.{◌≡◌, ℕ, zero, suc, ◌+◌, ◌-◌, ◌<◌, ◌≤◌, Bool, true, false, cond, ◌&&◌, eqb, List, [], ◌∷◌, length, get_or, take, drop, refl, ap, ◌∙◌, arith, add-one}
+use Rattle.std.specs.List.{onto_first}
 use Rattle.std.proofs.lemmas.List.{length-drop, get_or-drop}
 use Rattle.std.proofs.lemmas.List.Splits.{slice_split-cons_no}
 use Rattle.generic_names.specs.Spelled.{qualifiers, is_empty}
@@ -8,7 +8,7 @@ use Rattle.generic_names.specs.Covers.{is_double}
 use Rattle.generic_names.specs.Before.{rank, ranks}
 use Rattle.generic_names.specs.Reading.{rest_at}
 use Rattle.generic_names.specs.Ranked.{ranks_within, ranks_at, first_is_double}
-use Rattle.generic_names.proofs.QualifierLaws.{rest_at-past, rest_at-within, rest_at-first, qualifiers-some, not_period}
+use Rattle.generic_names.proofs.QualifierLaws.{rest_at-past, rest_at-first, qualifiers-some, not_period}
 
 -- past the end stands the end of the name
 pub ranks_at-past : (text : List ℕ) (begins : Bool) (at : ℕ) → length text < at → ranks_at text begins at ≡ 259 ∷ []
@@ -16,7 +16,7 @@ ranks_at-past text true at past = ap (λ (qs : List (List ℕ)). ranks qs) (rest
 ranks_at-past text false at past = ap (λ (qs : List (List ℕ)). ranks_within qs) (rest_at-past at text past)
 
 -- where a qualifier ends
-rest_at-end : (text : List ℕ) (at : ℕ) → at ≤ length text → (at < length text → get_or text at 0 ≡ 46) → rest_at text at ≡ [] ∷ rest_at text (at + 1)
+pub rest_at-end : (text : List ℕ) (at : ℕ) → at ≤ length text → (at < length text → get_or text at 0 ≡ 46) → rest_at text at ≡ [] ∷ rest_at text (at + 1)
 rest_at-end text at h ends =
     let room : length (drop at text) ≡ length text - at = length-drop at text in
     let same : at + 0 ≡ at = omega arith in
@@ -35,7 +35,7 @@ onto_first-is x [] some = absurd (cc (some))
 onto_first-is x (q ∷ qs) some = (q, qs, refl, refl)
 
 -- at a byte of a qualifier
-rest_at-byte : (text : List ℕ) (at : ℕ) → at < length text → (get_or text at 0 ≡ 46 → ⊥) → (q : List ℕ) × (qs : List (List ℕ)) × (rest_at text at ≡ (get_or text at 0 ∷ q) ∷ qs) × (rest_at text (suc at) ≡ q ∷ qs)
+pub rest_at-byte : (text : List ℕ) (at : ℕ) → at < length text → (get_or text at 0 ≡ 46 → ⊥) → (q : List ℕ) × (qs : List (List ℕ)) × (rest_at text at ≡ (get_or text at 0 ∷ q) ∷ qs) × (rest_at text (suc at) ≡ q ∷ qs)
 rest_at-byte [] at h other = absurd (omega arith)
 rest_at-byte (x ∷ xs) zero h other =
     let found = onto_first-is x (qualifiers xs) (qualifiers-some xs) in

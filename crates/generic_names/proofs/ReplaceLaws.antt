@@ -1,15 +1,14 @@
 -- The text of a member with its symbols replaced, from place to place.
-use Rattle.std.proofs.Common.{◌≡◌, ℕ, ◌+◌, ◌-◌, ◌<◌, ◌≤◌, Bool, true, false, cond, eqb, ltb, List, [], ◌∷◌, ◌++◌, map, length, drop, refl, Option, Some, None, IfNone, append-nil, ap, sym, ◌∙◌, subst, arith, append_assoc, length-append}
+use Rattle.std.proofs.Common.{◌≡◌, ℕ, ◌+◌, ◌<◌, ◌≤◌, true, false, eqb, ltb, List, [], ◌∷◌, ◌++◌, map, length, drop, refl, Option, Some, None, IfNone, append-nil, ap, sym, ◌∙◌, arith, append_assoc, length-append}
 use Rattle.std.specs.List.{join_with_byte, slice_range}
 use Rattle.std.specs.Result.{result_ok}
 use Rattle.std.proofs.lemmas.Bool.Decides.{nat_tests}
 use Rattle.generic_names.specs.declared.kind.NameKind.{NameKind}
 use Rattle.generic_names.specs.declared.kind.NameKind.TheVariants.{DataSet, General}
-use Rattle.generic_names.specs.declared.form.Form.TheVariants.{Generic}
-use Rattle.generic_names.specs.Spelled.{Spelled, qualifiers, is_empty}
-use Rattle.generic_names.specs.Faults.{pattern_of, fault_of, longest}
+use Rattle.generic_names.specs.Spelled.{Spelled, is_empty}
+use Rattle.generic_names.specs.Faults.{pattern_of}
 use Rattle.generic_names.specs.Reading.{rest_at}
-use Rattle.generic_names.specs.Resolve.{stands_for, replaced}
+use Rattle.generic_names.specs.Resolve.{stands_for}
 use Rattle.generic_names.proofs.QualifierLaws.{rest_at-past, rest_at-within, qualifiers-some}
 
 module _ (user group : List ℕ) where

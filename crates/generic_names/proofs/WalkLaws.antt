@@ -1,5 +1,5 @@
 -- A walk along a pattern and a name, from place to place.
-use Rattle.std.proofs.Common.{◌≡◌, ℕ, ◌+◌, ◌-◌, ◌<◌, ◌≤◌, Bool, true, false, cond, eqb, ltb, List, [], ◌∷◌, length, take, drop, refl, ap, sym, ◌∙◌, subst, arith, ⊎_elim}
+use Rattle.std.proofs.Common.{◌≡◌, ℕ, ◌+◌, ◌-◌, ◌<◌, ◌≤◌, Bool, true, false, cond, eqb, ltb, List, [], ◌∷◌, length, take, drop, refl, ap, sym, ◌∙◌, arith, ⊎_elim}
 use Rattle.std.specs.List.{slice_range}
 use Rattle.std.proofs.lemmas.Bool.{cases_lt}
 use Rattle.std.proofs.lemmas.List.{take-take, take_rest, length-drop, length-take-le}
@@ -8,13 +8,13 @@ use Rattle.std.proofs.lemmas.List.Splits.{join_with_byte-slice_split}
 use Rattle.std.specs.List.{join_with_byte}
 use Rattle.generic_names.specs.declared.kind.NameKind.{NameKind}
 use Rattle.generic_names.specs.declared.covering.WalkEnd.{WalkEnd}
-use Rattle.generic_names.specs.declared.covering.WalkEnd.TheVariants.{Covered, Refused, Double}
+use Rattle.generic_names.specs.declared.covering.WalkEnd.TheVariants.{Covered, Refused}
 use Rattle.generic_names.specs.Spelled.{is_empty, qualifiers}
 use Rattle.generic_names.specs.Covers.{is_double, is_open, matches, begins, some_end, covers_all}
 use Rattle.generic_names.specs.Reading.{rest_at}
 use Rattle.generic_names.specs.Walked.{covers_at, covers_end_at, LeftAt, Walked}
 use Rattle.generic_names.proofs.QualifierLaws.{rest_at-past, rest_at-within, rest_at-last, qualifiers-some}
-use Rattle.generic_names.proofs.CoverLaws.{walk-double-same, walk-double-some, walk-none, walk-open, walk-unlike, walk-like-same, walk-like-some, some_end-whole, some_end-all}
+use Rattle.generic_names.proofs.CoverLaws.{walk-double-same, walk-double-some, walk-none, walk-open, walk-unlike, walk-like-same, walk-like-some, some_end-all}
 
 -- A walk has come to these places. It is as good from there as from its beginning, and where the pattern covers
 -- some end of the name, what is left of it covers some end of what is left.

@@ -1,5 +1,5 @@
 -- The profile that decides on a name: the most specific of those that cover it.
-use Rattle.std.specs.Prelude.{Bool, if◌then◌else◌, List, [], ◌∷◌, Option, Some, None, find, filter}
+use Rattle.std.specs.Prelude.{if◌then◌else◌, List, [], ◌∷◌, Option, Some, None, find, filter}
 use Rattle.std.specs.Option.{option_or}
 use Rattle.std.specs.Str.{bytes_eq}
 use Rattle.generic_names.specs.Spelled.{Spelled}

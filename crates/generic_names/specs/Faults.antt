@@ -9,7 +9,7 @@ use Rattle.generic_names.specs.declared.form.Form.{Form}
 use Rattle.generic_names.specs.declared.form.Form.TheVariants.{Discrete, Generic, Symbolic}
 use Rattle.generic_names.specs.declared.fault.NameFault.{NameFault}
 use Rattle.generic_names.specs.declared.fault.NameFault.TheVariants.{Empty, TooLong, EmptyQualifier, QualifierTooLong, BadByte, StarInside, GenericFirst}
-use Rattle.generic_names.specs.Spelled.{Spelled, period, percent, asterisk, qualifiers}
+use Rattle.generic_names.specs.Spelled.{Spelled, percent, asterisk, qualifiers}
 
 -- A to Z, or one of the national characters #, $ and @
 abbrev pub is_letter : ℕ → Bool

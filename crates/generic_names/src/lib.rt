@@ -4,8 +4,9 @@
 mod covering;
 mod fault;
 mod form;
+mod gap;
 mod kind;
-mod laws;
+pub mod laws;
 mod member;
 mod order;
 mod pattern;
@@ -15,6 +16,7 @@ mod resource;
 mod spelling;
 
 pub use fault::NameFault;
+pub use gap::Gap;
 pub use kind::NameKind;
 pub use member::MemberName;
 pub use pattern::Pattern;

@@ -49,6 +49,7 @@ impl<'a> Ranks<'a> {
     pub(crate) fn next(&mut self) -> u16
         ensures next { result ≢ 259 → self.old ≡ result ∷ self.new }
         ensures end { result ≡ 259 → self.old ≡ 259 ∷ [] }
+        ensures highest { result ≤ 260 }
     {
         let step = step_at(self.text, self.begins, self.at);
         self.begins = step.begins;
@@ -71,6 +72,7 @@ fn step_at(text: &[u8], begins: bool, at: usize) -> Step
     ensures next { result.rank ≢ 259 → ranks_at text.now begins at ≡ result.rank ∷ ranks_at text.now result.begins result.at }
     ensures end { result.rank ≡ 259 → ranks_at text.now begins at ≡ 259 ∷ [] }
     ensures within { result.at ≤ length text.now + 1 }
+    ensures highest { result.rank ≤ 260 }
 {
     if at > text.len() {
         return Step {
@@ -112,7 +114,8 @@ fn begins_double(text: &[u8], begins: bool, at: usize) -> bool
 
 /// The rank of a byte.
 fn rank_of(byte: u8) -> u16
-    ensures { result ≡ rank byte }
+    ensures rank { result ≡ rank byte }
+    ensures highest { result ≤ 258 }
 {
     match byte {
         b'%' => 256,

@@ -1,12 +1,14 @@
-ghost use Rattle.std.specs.Prelude.{◌≡◌, Ok, IfOk};
+ghost use Rattle.std.specs.Prelude.{◌≡◌, true, Ok, IfOk, IfSome};
 ghost use Rattle.std.specs.Result.{result_ok};
 ghost use Rattle.generic_names.specs.Faults.{pattern_of};
 ghost use Rattle.generic_names.specs.Covers.{is_generic, covers};
 ghost use Rattle.generic_names.specs.Before.{before, order};
+ghost use Rattle.generic_names.specs.Gap.{is_below, NoneCovers};
 
 use crate::covering::covers_text;
 use crate::fault::NameFault;
 use crate::form::Form;
+use crate::gap::Gap;
 use crate::kind::NameKind;
 use crate::order::compare;
 use crate::reading::{fault_in, has_generic_byte};
@@ -115,5 +117,23 @@ impl Pattern {
         ensures { result ≡ order self.now name.now }
     {
         compare(self.name.text(), name.text())
+    }
+
+    /// Behind a pattern that doesn't cover a name, how far no other pattern does either, so that a search
+    /// through patterns in order can pass over those. None where the two differ behind a `*` or `**` only,
+    /// or not at all. It takes about as many steps as the name has bytes.
+    pub fn gap<'a>(&'a self, name: &Resource) -> Option<Gap<'a>>
+        requires { self.now.kind ≡ name.now.kind }
+        ensures none { IfSome result (λ gap. NoneCovers self.now gap name.now) }
+        ensures onward { IfSome result (λ gap. is_below self.now gap ≡ true) }
+    {
+        Gap::behind(self.name.text(), name)
+    }
+
+    /// Whether it lies before the end of a gap.
+    pub fn is_below(&self, gap: &Gap) -> bool
+        ensures { result ≡ is_below self.now gap.now }
+    {
+        gap.is_above(self.name.text())
     }
 }

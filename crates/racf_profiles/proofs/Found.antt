@@ -1,5 +1,5 @@
 -- Searches of a list, by cases on its first entry.
-use Rattle.std.proofs.Common.{◌≡◌, Bool, true, false, cond, ◌&&◌, List, [], ◌∷◌, Option, Some, refl, sym, ◌∙◌, ap, subst, ⊎_elim}
+use Rattle.std.proofs.Common.{◌≡◌, Bool, true, false, cond, ◌&&◌, List, [], ◌∷◌, Some, refl, sym, ◌∙◌, ap, subst, ⊎_elim}
 use Rattle.std.specs.List.{find, list_all}
 use Rattle.std.proofs.lemmas.Bool.{cases_Bool}
 
@@ -9,11 +9,11 @@ find-hit p x xs hit = ap (λ b. cond b (Some x) (find p xs)) hit
 pub find-miss : {X : Type 0} (p : X → Bool) (x : X) (xs : List X) → p x ≡ false → find p (x ∷ xs) ≡ find p xs
 find-miss p x xs miss = ap (λ b. cond b (Some x) (find p xs)) miss
 
-all_head : (a b : Bool) → (a && b) ≡ true → a ≡ true
+pub all_head : (a b : Bool) → (a && b) ≡ true → a ≡ true
 all_head true b h = refl
 all_head false b h = h
 
-all_tail : (a b : Bool) → (a && b) ≡ true → b ≡ true
+pub all_tail : (a b : Bool) → (a && b) ≡ true → b ≡ true
 all_tail true b h = h
 all_tail false b h = cc
 

@@ -1,6 +1,6 @@
 -- The class table, class by class.
-use Rattle.std.proofs.Common.{◌≡◌, ℕ, Bool, true, false, cond, List, [], ◌∷◌, map, Option, Some, None, option_map, refl, ap, ◌∙◌, subst, ◌&&◌}
-use Rattle.std.specs.List.{find, list_all}
+use Rattle.std.proofs.Common.{◌≡◌, ℕ, Bool, true, List, [], ◌∷◌, map, Option, Some, None, option_map, refl, ap, ◌∙◌, subst, ◌&&◌}
+use Rattle.std.specs.List.{list_all}
 use Rattle.racf_profiles.specs.ClassTable.{class_name, fixed_class, fixed_classes, facts_of_class, class_table, facts_of, is_consistent}
 use Rattle.racf_profiles.specs.declared.fixed_classes.FixedClass.{FixedClass}
 use Rattle.racf_profiles.specs.declared.fixed_classes.FixedClass.TheVariants.{Dataset, Facility, Terminal, Console, Jesinput, Appcport, Appl, Opercmds, Surrogat, Tapevol, Dasdvol, Secdata, Seclabel, Global}

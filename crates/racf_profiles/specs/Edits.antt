@@ -1,11 +1,11 @@
 -- What edits do to rows.
-use Rattle.std.specs.Prelude.{ℕ, Bool, true, false, if◌then◌else◌, List, [], ◌∷◌}
+use Rattle.std.specs.Prelude.{◌≡◌, ℕ, Bool, true, false, ◌&&◌, if◌then◌else◌, List, [], ◌∷◌}
+use Rattle.std.specs.List.{AllByRecursion}
 use Rattle.generic_names.specs.Spelled.{Spelled}
 use Rattle.generic_names.specs.Before.{before}
-use Rattle.racf_profiles.specs.declared.users.User.{User}
-use Rattle.racf_profiles.specs.declared.groups.Group.{Group}
+use Rattle.generic_names.specs.Laws.{IsPattern}
+use Rattle.generic_names.specs.declared.kind.NameKind.{NameKind}
 use Rattle.racf_profiles.specs.declared.profiles.Profile.{Profile}
-use Rattle.racf_profiles.specs.declared.options.Options.{Options}
 use Rattle.racf_profiles.specs.declared.class_rows.ClassRow.{ClassRow}
 use Rattle.racf_profiles.specs.declared.class_rows.LogOption.{LogOption}
 use Rattle.racf_profiles.specs.declared.rows.Rows.{Rows}
@@ -62,3 +62,16 @@ edited (Unlist class) rows = record rows { classes = at_class class (with_listed
 abbrev pub changed : List Edit → Rows → Rows
 changed [] rows = rows
 changed (edit ∷ edits) rows = changed edits (edited edit rows)
+
+-- The profiles of a class stand in order of specificity, each name but once.
+abbrev pub comes_first : Spelled → List Profile → Bool
+comes_first name [] = true
+comes_first name (profile ∷ profiles) = before name profile.name
+
+abbrev pub is_in_order : List Profile → Bool
+is_in_order [] = true
+is_in_order (profile ∷ profiles) = comes_first profile.name profiles && is_in_order profiles
+
+-- They have lawful names of one kind.
+abbrev pub AreNamed : NameKind → List Profile → Type 0
+AreNamed kind profiles = AllByRecursion (λ (profile : Profile). IsPattern profile.name × (profile.name.kind ≡ kind)) profiles

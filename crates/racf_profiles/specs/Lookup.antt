@@ -1,5 +1,5 @@
 -- Rows by their names.
-use Rattle.std.specs.Prelude.{ℕ, Bool, List, [], ◌∷◌, Option, option_and_then}
+use Rattle.std.specs.Prelude.{ℕ, Bool, List, Option, option_and_then}
 use Rattle.std.specs.Str.{bytes_eq}
 use Rattle.std.specs.List.{find}
 use Rattle.generic_names.specs.Spelled.{Spelled}

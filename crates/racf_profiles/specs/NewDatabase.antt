@@ -1,6 +1,5 @@
 -- The rows of a new database.
-use Rattle.std.specs.Prelude.{ℕ, Bool, true, false, List, [], ◌∷◌, Some, None, codes, map}
-use Rattle.access_levels.specs.declared.entries.Attributes.{Attributes}
+use Rattle.std.specs.Prelude.{Bool, true, false, List, [], ◌∷◌, None, codes, map}
 use Rattle.access_levels.specs.declared.authorities.GroupAuthority.TheVariants.{MayJoin}
 use Rattle.racf_profiles.specs.declared.users.User.{User}
 use Rattle.racf_profiles.specs.declared.users.Connect.{Connect}

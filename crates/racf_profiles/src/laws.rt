@@ -2,9 +2,11 @@
 ghost use Rattle.std.specs.Prelude.{◌≡◌, ℕ, false, List, length, Some, None, option_map, IsTrue};
 ghost use Rattle.std.specs.Str.{bytes_eq};
 ghost use Rattle.generic_names.specs.Spelled.{Spelled};
+ghost use Rattle.generic_names.specs.Laws.{IsPattern};
+ghost use Rattle.generic_names.specs.declared.kind.NameKind.{NameKind};
 ghost use Rattle.racf_profiles.specs.ClassTable.{class_name, facts_of_class, facts_of, is_consistent};
 ghost use Rattle.racf_profiles.specs.Lookup.{user_of, group_of, class_of, profile_of};
-ghost use Rattle.racf_profiles.specs.Edits.{edited};
+ghost use Rattle.racf_profiles.specs.Edits.{edited, put_profile, is_in_order, AreNamed};
 ghost use Rattle.racf_profiles.specs.State.{State, restart, effective, edited_state};
 ghost use Rattle.racf_profiles.specs.declared.fixed_classes.FixedClass.{FixedClass};
 ghost use Rattle.racf_profiles.specs.declared.fixed_classes.ClassFacts.{ClassFacts};
@@ -39,7 +41,20 @@ pub fn what_is_put_is_found()
     ensures user { (user : User) (rows : Rows) → user_of user.id (edited (edit.PutUser user) rows) ≡ Some user }
     ensures other_user { (user : User) (id : List ℕ) (rows : Rows) → bytes_eq user.id id ≡ false → user_of id (edited (edit.PutUser user) rows) ≡ user_of id rows }
     ensures group { (group : Group) (rows : Rows) → group_of group.id (edited (edit.PutGroup group) rows) ≡ Some group }
+    ensures profile { (class : List ℕ) (row : ClassRow) (profile : Profile) (rows : Rows) → class_of class rows ≡ Some row → profile_of class profile.name (edited (edit.PutProfile class profile) rows) ≡ Some profile }
     ensures other_group { (group : Group) (id : List ℕ) (rows : Rows) → bytes_eq group.id id ≡ false → group_of id (edited (edit.PutGroup group) rows) ≡ group_of id rows }
+{}
+
+/// A profile that is put into a class's list goes to its place in the order of specificity.
+pub fn puts_keep_the_order()
+    ensures { (kind : NameKind) (profile : Profile) (profiles : List Profile) → IsPattern profile.name → profile.name.kind ≡ kind → AreNamed kind profiles → IsTrue (is_in_order profiles) → IsTrue (is_in_order (put_profile profile profiles)) }
+{
+    generic_names::laws::order_is_total();
+}
+
+/// A class that is listed has its live profiles as its effective ones.
+pub fn listed_is_live()
+    ensures { (name : List ℕ) (row : ClassRow) (state : State) → class_of name state.rows ≡ Some row → length state.copies ≡ length state.rows.classes → effective name (edited_state (edit.List name) state) ≡ Some row.profiles }
 {}
 
 /// After a restart the effective profiles of each class are its live ones.

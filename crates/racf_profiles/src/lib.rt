@@ -22,8 +22,11 @@ pub use known::{ibmuser, sys1};
 pub use options::{CategoryNames, Options};
 pub use profiles::{AuditRule, CondEntries, Entries, Member, Members, Profile, Profiles};
 pub use rows::Rows;
-pub use users::{Classes, Connect, Connects, NoMemory, User, Users};
+pub use users::{Classes, Connect, Connects, User, Users};
 pub use view::View;
+
+/// The answer of a call that got no memory.
+pub type NoMemory = std::alloc::AllocError;
 
 #[cfg(test)]
 mod tests;

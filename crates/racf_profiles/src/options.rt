@@ -1,7 +1,7 @@
 //! The options that hold for the whole system.
 ghost use Rattle.std.specs.Prelude.{◌≡◌, IfOk};
 
-use crate::users::NoMemory;
+use crate::NoMemory;
 use access_levels::Id;
 use std::alloc::Global;
 use std::marker::Model;

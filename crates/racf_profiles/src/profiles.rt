@@ -1,7 +1,7 @@
 //! Profiles of resources: their access lists, auditing and members.
 ghost use Rattle.std.specs.Prelude.{◌≡◌, IfOk};
 
-use crate::users::NoMemory;
+use crate::NoMemory;
 use access_levels::{Categories, CondEntry, Entry, Id, Level};
 use generic_names::{MemberName, Pattern};
 use std::alloc::Global;

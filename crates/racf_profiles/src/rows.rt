@@ -3,13 +3,14 @@ ghost use Rattle.std.specs.Prelude.{◌≡◌, IfOk};
 ghost use Rattle.racf_profiles.specs.NewDatabase.{new_database, ibmuser, empty_class, new_classes};
 ghost use Rattle.racf_profiles.specs.ClassTable.{is_dataset};
 
+use crate::NoMemory;
 use crate::class_rows::{ClassRow, ClassRows, LogOption};
 use crate::fixed_classes::FixedClass;
 use crate::groups::{Group, Groups};
 use crate::known::{ibmuser, sys1};
 use crate::options::{CategoryNames, Options};
 use crate::profiles::Profiles;
-use crate::users::{Classes, Connect, Connects, NoMemory, User, Users};
+use crate::users::{Classes, Connect, Connects, User, Users};
 use access_levels::{Attributes, Categories, GroupAuthority, Id, Text};
 use std::alloc::Global;
 

@@ -1,12 +1,10 @@
 //! Users and their connections to groups.
 ghost use Rattle.std.specs.Prelude.{◌≡◌, IfOk};
 
+use crate::NoMemory;
 use access_levels::{Attributes, Categories, GroupAuthority, Id, Text};
-use std::alloc::{AllocError, Global};
+use std::alloc::Global;
 use std::marker::Model;
-
-/// The answer of a call that got no memory.
-pub type NoMemory = AllocError;
 
 /// A user.
 #[derive(Debug, Drop)]

@@ -1,10 +1,6 @@
-use Rattle.std.proofs.Common.{◌≡◌, ◌+◌, ◌<◌, ◌++◌, ◌∷◌, [], List, ℕ, length, ap, sym, ◌∙◌, subst, arith, append_assoc, append-nil}
-use Rattle.std.specs.List.{slice_range}
-use Rattle.generic_names.specs.declared.kind.NameKind.{NameKind}
+use Rattle.std.proofs.Common.{◌+◌, ◌<◌, ◌++◌, ◌∷◌, [], List, ℕ, length, ap, ◌∙◌, subst, arith, append_assoc}
 use Rattle.generic_names.specs.Spelled.{Spelled}
 use Rattle.generic_names.specs.Reading.{rest_at}
-use Rattle.generic_names.specs.Resolve.{stands_for}
-use Rattle.generic_names.proofs.QualifierLaws.{rest_at-past}
 use Rattle.generic_names.proofs.ReplaceLaws.{joined, replaced-more, replaced-last, replaced-longer, replaced-all, IfNone-from}
 use Rattle.generic_names.proofs.member.replaced_in.Goals as goal
 use Rattle.generic_names.proofs.member.replaced_in.Goals.{then-end-text+in_ok-push-2, else-end-text}

@@ -21,4 +21,4 @@ pub returns-clause-next : goal.returns-clause-next
 returns-clause-next c _ =
     let rest = ranks_within (rest_at c.args.text.now (c.args.at + 1)) in
     ranks_at-byte c.args.text.now c.args.begins c.args.at (omega arith) c.if-text-at-eq46.false (sym c.begins_double.ensures.test ∙ c.if-begins_double.false)
-    ∙ ap (λ r. r ∷ rest) (sym c.rank_of.ensures)
+    ∙ ap (λ r. r ∷ rest) (sym c.rank_of.ensures.rank)

@@ -1,6 +1,5 @@
-use Rattle.std.proofs.Common.{◌≡◌, ◌+◌, Bool, false, None, eqb, drop, ◌∙◌, sym, ap, arith, add_assoc}
+use Rattle.std.proofs.Common.{◌≡◌, ◌+◌, false, None, eqb, ◌∙◌, sym, arith, add_assoc}
 use Rattle.std.proofs.lemmas.Bool.Decides.{nat_tests}
-use Rattle.generic_names.specs.Faults.{bytes_fault}
 use Rattle.generic_names.proofs.FaultLaws.{bytes_fault-passed, none_from_test}
 use Rattle.generic_names.proofs.reading.fault_in_bytes.Goals as goal
 

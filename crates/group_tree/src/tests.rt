@@ -9,16 +9,19 @@ use std::alloc::Global;
 use std::test::Fail;
 
 // SYS1, and below it D1, D2, D3 and D4, each below the one before. The user ADM owns D3; the superior group owns each other.
+const THREE_LEVELS: [(&[u8], &[u8], &[u8]); 4] = [
+    (b"D1", b"SYS1", b"SYS1"),
+    (b"D2", b"D1", b"D1"),
+    (b"D3", b"D2", b"ADM"),
+    (b"D4", b"D3", b"D3"),
+];
+
 fn three_levels(alloc: Global) -> Result<Tree, Fail> {
     let mut tree = Tree::new(alloc)?;
-    let (root, adm) = (Id::read(b"SYS1")?, Id::read(b"ADM")?);
-    let (first, second) = (Id::read(b"D1")?, Id::read(b"D2")?);
-    let (third, fourth) = (Id::read(b"D3")?, Id::read(b"D4")?);
-    tree.reserve()?;
-    tree.add(first, root, root)?;
-    tree.add(second, first, first)?;
-    tree.add(third, second, adm)?;
-    tree.add(fourth, third, third)?;
+    for (group, superior, owner) in THREE_LEVELS {
+        tree.reserve()?;
+        tree.add(Id::read(group)?, Id::read(superior)?, Id::read(owner)?)?;
+    }
     Ok(tree)
 }
 
@@ -107,39 +110,153 @@ fn scope_of_profiles(rt: HostRuntime) -> Result<(), Fail> {
     Ok(())
 }
 
+#[derive(Clone, Copy)]
+enum Call {
+    Add,
+    SetSuperior,
+    SetOwner,
+    Remove,
+}
+
+#[derive(Clone, Copy)]
+enum Answer {
+    Done,
+    NoGroup,
+    Exists,
+    Cycle,
+    HasSubgroup,
+}
+
+// Makes a call that isn't about SYS1.
+fn change(tree: &mut Tree, call: Call, group: Id, other: Id) -> Result<(), TreeFault> {
+    let Ok(root) = Id::read(b"SYS1") else {
+        return Err(TreeFault::NoMemory);
+    };
+    if group == root {
+        return Err(TreeFault::NoMemory);
+    }
+    match call {
+        Call::Add => tree.add(group, other, other),
+        Call::SetSuperior => tree.set_superior(group, other),
+        Call::SetOwner => tree.set_owner(group, other),
+        Call::Remove => tree.remove(group),
+    }
+}
+
+fn expected(answer: Answer, id: Id) -> Result<(), TreeFault> {
+    match answer {
+        Answer::Done => Ok(()),
+        Answer::NoGroup => Err(TreeFault::NoGroup(id)),
+        Answer::Exists => Err(TreeFault::Exists(id)),
+        Answer::Cycle => Err(TreeFault::Cycle(id)),
+        Answer::HasSubgroup => Err(TreeFault::HasSubgroup(id)),
+    }
+}
+
 #[test]
 fn faults(rt: HostRuntime) -> Result<(), Fail> {
     let mut tree = three_levels(rt.alloc())?;
-    let (root, gone) = (Id::read(b"SYS1")?, Id::read(b"GONE")?);
-    let (first, second) = (Id::read(b"D1")?, Id::read(b"D2")?);
-    let (third, fourth) = (Id::read(b"D3")?, Id::read(b"D4")?);
-    assert_eq!(rt; tree.add(first, gone, root), Err(TreeFault::NoGroup(gone)));
-    assert_eq!(rt; tree.add(first, root, gone), Err(TreeFault::Exists(first)));
-    assert_eq!(rt;
-        tree.set_superior(gone, gone),
-        Err(TreeFault::NoGroup(gone))
-    );
-    assert_eq!(rt;
-        tree.set_superior(second, gone),
-        Err(TreeFault::NoGroup(gone))
-    );
-    assert_eq!(rt;
-        tree.set_superior(second, fourth),
-        Err(TreeFault::Cycle(second))
-    );
-    assert_eq!(rt;
-        tree.set_superior(second, second),
-        Err(TreeFault::Cycle(second))
-    );
-    assert_eq!(rt; tree.set_owner(gone, first), Err(TreeFault::NoGroup(gone)));
-    assert_eq!(rt; tree.remove(gone), Err(TreeFault::NoGroup(gone)));
-    assert_eq!(rt; tree.remove(second), Err(TreeFault::HasSubgroup(third)));
-    assert_eq!(rt; tree.len(), 5);
-    assert_eq!(rt; tree.set_superior(fourth, first), Ok(()));
-    assert_eq!(rt; tree.set_owner(fourth, first), Ok(()));
-    assert_eq!(rt; tree.in_scope_group(root, fourth), true);
-    assert_eq!(rt; tree.remove(third), Ok(()));
-    assert_eq!(rt; tree.get(third).is_none(), true);
+    let rows = [
+        (
+            Call::Add,
+            b"D1".as_slice(),
+            b"GONE".as_slice(),
+            Answer::NoGroup,
+            b"GONE".as_slice(),
+        ),
+        (
+            Call::Add,
+            b"D1".as_slice(),
+            b"D2".as_slice(),
+            Answer::Exists,
+            b"D1".as_slice(),
+        ),
+        (
+            Call::SetSuperior,
+            b"GONE".as_slice(),
+            b"GONE2".as_slice(),
+            Answer::NoGroup,
+            b"GONE".as_slice(),
+        ),
+        (
+            Call::SetSuperior,
+            b"D2".as_slice(),
+            b"GONE2".as_slice(),
+            Answer::NoGroup,
+            b"GONE2".as_slice(),
+        ),
+        (
+            Call::SetSuperior,
+            b"D2".as_slice(),
+            b"D4".as_slice(),
+            Answer::Cycle,
+            b"D2".as_slice(),
+        ),
+        (
+            Call::SetSuperior,
+            b"D2".as_slice(),
+            b"D2".as_slice(),
+            Answer::Cycle,
+            b"D2".as_slice(),
+        ),
+        (
+            Call::SetOwner,
+            b"GONE".as_slice(),
+            b"D1".as_slice(),
+            Answer::NoGroup,
+            b"GONE".as_slice(),
+        ),
+        (
+            Call::Remove,
+            b"GONE".as_slice(),
+            b"D1".as_slice(),
+            Answer::NoGroup,
+            b"GONE".as_slice(),
+        ),
+        (
+            Call::Remove,
+            b"D2".as_slice(),
+            b"D1".as_slice(),
+            Answer::HasSubgroup,
+            b"D3".as_slice(),
+        ),
+        (
+            Call::SetSuperior,
+            b"D4".as_slice(),
+            b"D1".as_slice(),
+            Answer::Done,
+            b"D4".as_slice(),
+        ),
+        (
+            Call::SetOwner,
+            b"D4".as_slice(),
+            b"D1".as_slice(),
+            Answer::Done,
+            b"D4".as_slice(),
+        ),
+        (
+            Call::Remove,
+            b"D3".as_slice(),
+            b"D1".as_slice(),
+            Answer::Done,
+            b"D3".as_slice(),
+        ),
+        (
+            Call::SetOwner,
+            b"D3".as_slice(),
+            b"D1".as_slice(),
+            Answer::NoGroup,
+            b"D3".as_slice(),
+        ),
+    ];
+    for (call, group, other, answer, named) in rows {
+        let answered = change(&mut tree, call, Id::read(group)?, Id::read(other)?);
+        assert_eq!(rt; answered, expected(answer, Id::read(named)?));
+    }
+    let (root, moved) = (Id::read(b"SYS1")?, Id::read(b"D4")?);
+    assert!(rt; tree.in_scope_group(root, moved));
+    assert!(rt; tree.is_within(root, moved));
+    assert_eq!(rt; tree.first_subgroup(root), Some(Id::read(b"D1")?));
     assert_eq!(rt; tree.len(), 4);
     Ok(())
 }

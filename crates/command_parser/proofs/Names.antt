@@ -80,10 +80,10 @@ unless_dataset-some (Some w) x h = (if-none (bytes_eq w (codes "DATASET")) (Some
 pub name-id : (k : Kind) (w x : List ℕ) → name_of k w ≡ Some x → id_of (map upper w) ≡ Ok x
 name-id kinds.Group w x h = (group_of-ok (map upper w) x (result_ok-some (group_of (map upper w)) x h)).1
 name-id kinds.Classes w x h = result_ok-some (id_of (map upper w)) x (unless_dataset-some (result_ok (id_of (map upper w))) x h)
-name-id kinds.Flag w x h = result_ok-some (id_of (map upper w)) x h
+name-id kinds.Flag w x h = cc
 name-id kinds.Id w x h = result_ok-some (id_of (map upper w)) x h
-name-id kinds.Authority w x h = result_ok-some (id_of (map upper w)) x h
-name-id kinds.Name w x h = result_ok-some (id_of (map upper w)) x h
+name-id kinds.Authority w x h = cc
+name-id kinds.Name w x h = cc
 name-id kinds.Ids w x h = result_ok-some (id_of (map upper w)) x h
 
 all_of : (p q : ℕ → Bool) → ((b : ℕ) → p b ≡ true → q b ≡ true) → (w : List ℕ) → list_all p w ≡ true → list_all q w ≡ true
@@ -120,10 +120,10 @@ name-plain k w x h =
 name_folded : (k : Kind) (v w : List ℕ) → map upper v ≡ map upper w → name_of k v ≡ name_of k w
 name_folded kinds.Group v w h = rw h refl
 name_folded kinds.Classes v w h = rw h refl
-name_folded kinds.Flag v w h = rw h refl
+name_folded kinds.Flag v w h = refl
 name_folded kinds.Id v w h = rw h refl
-name_folded kinds.Authority v w h = rw h refl
-name_folded kinds.Name v w h = rw h refl
+name_folded kinds.Authority v w h = refl
+name_folded kinds.Name v w h = refl
 name_folded kinds.Ids v w h = rw h refl
 
 -- a name that was read reads as itself

@@ -25,7 +25,7 @@ use Rattle.command_parser.specs.Words.{spelling_of}
 use Rattle.command_parser.specs.Table.{full_name, positions_of, operands_of, verb_named}
 use Rattle.command_parser.specs.Values.{clean, one, value, bare, text_of}
 use Rattle.command_parser.specs.Reading.{Generic, Slots, is_spelling, named, row_at, no_operand, position_at, positions_at, is_given, fresh, slot_of, operand_at, operands_at, given, clash, unless_clash, closed, no_slots, body_at, command_at, parsed}
-use Rattle.command_parser.specs.Canon.{value_text, positions_text, operands_text, canon}
+use Rattle.command_parser.specs.Canon.{value_text, positions_text, operands_text, canon, spelled}
 use Rattle.command_parser.specs.Lawful.{Fits, FitsPositions, FitsAll, IsLawful}
 use Rattle.command_parser.proofs.Names.{IsPlainName, name-plain}
 use Rattle.command_parser.proofs.ValueAgain.{word_items, IsShown, value-again, value-ends}
@@ -259,3 +259,6 @@ read_again at g lawful short =
     ap (λ b. cond b (Err faults.TextTooLong) (command_at at (tokens_from Ignored false 0 1 (canon g)))) short
         ∙ ap (command_at at) first
         ∙ rw (sound, plain.folded, verb_named-full_name g.verb) (body_again at g true (1 + length (full_name g.verb)) lawful)
+
+pub spelled_again : (at : Context) (g : Generic) → IsLawful g → nat_lt 30000 (length (canon g)) ≡ false → spelled at (canon g) ≡ Ok g
+spelled_again at g lawful short = rw (read_again at g lawful short, short) refl

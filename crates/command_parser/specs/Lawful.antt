@@ -48,3 +48,27 @@ pub record IsLawful (g : Generic) : Type 0 where
   pub fits_positions : FitsPositions (positions_of g.verb) g.positions
   pub fits_operands : FitsAll (operands_of g.verb) g.slots
   pub apart : clash (given (operands_of g.verb) g.slots) ≡ None
+
+-- The first slot is empty, or has a value of this kind.
+abbrev pub FrontFits : Kind → Slots → Type 0
+FrontFits k [] = ⊥
+FrontFits k (None ∷ ss) = Unit {0}
+FrontFits k (Some v ∷ ss) = Fits k v
+
+-- one positional word, which is a name
+abbrev pub IsOneName : List Content → Type 0
+IsOneName [] = ⊥
+IsOneName (contents.Id w ∷ []) = Unit {0}
+IsOneName (contents.Id w ∷ v ∷ vs) = ⊥
+IsOneName (contents.Flag ∷ vs) = ⊥
+IsOneName (contents.Authority a ∷ vs) = ⊥
+IsOneName (contents.Name t ∷ vs) = ⊥
+IsOneName (contents.Ids ws ∷ vs) = ⊥
+
+-- the name that a value is
+abbrev pub id_of_content : Content → Option (List ℕ)
+id_of_content contents.Flag = None
+id_of_content (contents.Id w) = Some w
+id_of_content (contents.Authority a) = None
+id_of_content (contents.Name t) = None
+id_of_content (contents.Ids ws) = None

@@ -69,13 +69,13 @@ unless_dataset (Some w) = if bytes_eq w (codes "DATASET") then None else Some w
 
 -- the name that a word spells where a name of this kind stands
 abbrev pub name_of : Kind → List ℕ → Option (List ℕ)
+name_of kinds.Id w = result_ok (id_of (map upper w))
+name_of kinds.Ids w = result_ok (id_of (map upper w))
 name_of kinds.Group w = result_ok (group_of (map upper w))
 name_of kinds.Classes w = unless_dataset (result_ok (id_of (map upper w)))
-name_of kinds.Flag w = result_ok (id_of (map upper w))
-name_of kinds.Id w = result_ok (id_of (map upper w))
-name_of kinds.Authority w = result_ok (id_of (map upper w))
-name_of kinds.Name w = result_ok (id_of (map upper w))
-name_of kinds.Ids w = result_ok (id_of (map upper w))
+name_of kinds.Flag w = None
+name_of kinds.Authority w = None
+name_of kinds.Name w = None
 
 -- the value that the word at place p is
 abbrev pub one : Context → Kind → ℕ → List ℕ → Result Content Syntax

@@ -1,7 +1,10 @@
 //! The grammar of commands, both ways: `parse` reads a command from its text, and `print` writes its canonical text.
 #![tactic(auto)]
 
+mod commands;
+mod convert;
 mod faults;
+mod forms;
 mod operands;
 mod printing;
 mod reading;
@@ -10,7 +13,12 @@ mod value;
 mod values;
 mod words;
 
+pub use forms::{AddGroup, AddUser, AltGroup, AltUser, Connect, DelGroup, DelUser, Form, Remove};
+pub use commands::{Command, Issuer, NoMemory, parse, print, printed_is_read};
 pub use faults::{ParseFault, Syntax};
 pub use table::{Kind, Operand, Position, Verb};
 pub use values::{Content, Context, Ids};
 pub use words::Word;
+
+#[cfg(test)]
+mod tests;

@@ -87,9 +87,11 @@ fn name_of(kind: Kind, word: &[u8]) -> Option<Id>
     ensures { result ≡ name_in kind word.now }
 {
     match kind {
+        Kind::Id => id_named(word),
+        Kind::Ids => id_named(word),
         Kind::Group => group_named(word),
         Kind::Classes => class_named(word),
-        _ => id_named(word),
+        _ => None,
     }
 }
 

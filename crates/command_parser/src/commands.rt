@@ -1,0 +1,121 @@
+//! Commands, read from their text and written as their canonical text.
+
+ghost use Rattle.std.specs.Prelude.{◌≡◌, ◌++◌, List, ℕ, IfOk, IfErr, OnOk, OnErr, IsTrue, IsErr, MatchOption, is_ok};
+ghost use Rattle.access_levels.specs.Spelling.{group_of};
+ghost use Rattle.command_parser.specs.declared.forms.Form.{Form};
+ghost use Rattle.command_parser.specs.Results.{Gives};
+ghost use Rattle.command_parser.specs.Canon.{spelled};
+ghost use Rattle.command_parser.specs.Forms.{generic_form, canonical, Spells, IsFault, IsUnlessMemory};
+
+use crate::convert::form;
+use crate::faults::{ParseFault, Syntax};
+use crate::forms::Form;
+use crate::printing::printed;
+use crate::reading::{LONGEST, read};
+use crate::values::Context;
+use access_levels::Id;
+use std::alloc::{AllocError, Global};
+use std::marker::Model;
+
+/// Want of memory.
+pub type NoMemory = AllocError;
+
+/// Who gives a command, and the group that is current for him.
+#[derive(Clone, Copy, Debug)]
+pub struct Issuer {
+    pub id: Id,
+    pub group: Id,
+    pub ghost group_spelled: { IsTrue (is_ok (group_of group)) },
+}
+
+impl Issuer {
+    /// The issuer, unless the group has no group name's spelling.
+    pub fn new(id: Id, group: Id) -> Option<Issuer>
+        ensures { MatchOption result (IsErr (group_of group)) (λ issuer. (issuer.id ≡ id) × (issuer.group ≡ group)) }
+    {
+        match Id::read_group(group.text()) {
+            Ok(_) => Some(Issuer { id, group }),
+            Err(_) => None,
+        }
+    }
+}
+
+/// A command with its canonical text, seen by contracts as its `Form`. The canonical text has at most 30,000 bytes, and
+/// spells the command for every issuer.
+#[derive(Debug, Drop)]
+pub struct Command {
+    form: Form,
+    text: Vec<u8>,
+}
+
+impl Model for Command {
+    ghost use Rattle.command_parser.specs.declared.forms.Form.{Form};
+    ghost use Rattle.command_parser.specs.Forms.{IsWritten};
+
+    ghost Value = { Form };
+
+    ghost view = { λ c. c.form };
+
+    ghost invariant = { λ c. IsWritten c.form c.text.items };
+}
+
+impl Command {
+    /// Which command it is, and its fields.
+    pub fn form(&self) -> &Form
+        ensures { result.now ≡ self.now }
+    {
+        &self.form
+    }
+
+    /// Its canonical text.
+    pub fn text(&self) -> &[u8]
+        ensures { result.now ≡ canonical self.now }
+    {
+        &self.text
+    }
+}
+
+// What the text spells.
+fn parse_exact(alloc: Global, at: &Context, text: &[u8]) -> Result<Command, ParseFault>
+    ensures { Gives generic_form result (spelled at.now text.now) }
+{
+    let parts = read(alloc, at, text)?;
+    let canonical = printed(alloc, &parts)?;
+    if canonical.len() > LONGEST {
+        return Err(ParseFault::Syntax(Syntax::TextTooLong));
+    }
+    let form = form(alloc, parts);
+    Ok(Command {
+        form,
+        text: canonical,
+    })
+}
+
+/// The command that the text spells where `issuer` gives it, or the text's first fault.
+pub fn parse(alloc: Global, issuer: Id, text: &[u8]) -> Result<Command, ParseFault>
+    // What is read is spelled so.
+    ensures found { IfOk result (Spells issuer text.now) }
+
+    // What is spelled so is read, unless memory runs out.
+    ensures only { (c : Form) → Spells issuer text.now c → IsUnlessMemory result c }
+
+    // Which fault it is.
+    ensures fault { IfErr result (IsFault issuer text.now) }
+{
+    parse_exact(alloc, &Context { issuer }, text)
+}
+
+/// Writes the canonical text of a command behind what stands in `out`.
+pub fn print(command: &Command, out: &mut Vec<u8>) -> Result<(), NoMemory>
+    ensures ok { OnOk result (out.new.items ≡ out.old.items ++ canonical command.now) }
+    ensures err { OnErr result (out.new.items ≡ out.old.items) }
+{
+    out.extend_from_slice(command.text())
+}
+
+/// The law of both directions: the canonical text of a command spells it, whoever gives it.
+pub fn printed_is_read(command: &Command)
+    ensures { (issuer : List ℕ) → Spells issuer (canonical command.now) command.now }
+{
+    let _form = &command.form;
+}

@@ -19,7 +19,7 @@ use Rattle.racf_database.specs.declared.command.Form.{Form}
 use Rattle.racf_database.specs.declared.command.Form.TheVariants as form
 use Rattle.racf_database.specs.Effects.{step}
 use Rattle.racf_database.specs.Edits.{edits_of}
-use Rattle.racf_database.specs.Conflicts.{conflict_of, no_user, no_owner, no_group, no_named_group, no_class, name_taken, not_connected, default_not_connected, has_subgroup, has_connected, has_profile, cycle, owner_not_superior, default_group, last_special, unknown_level, unknown_category, never_category, unknown_label, add_user_conflicts, alt_user_conflicts, del_user_conflicts, add_group_conflicts, alt_group_conflicts, del_group_conflicts, connect_conflicts, remove_conflicts}
+use Rattle.racf_database.specs.Conflicts.{conflict_of, no_user, no_owner, no_group, no_named_group, no_class, name_taken, not_connected, default_not_connected, has_subgroup, has_connected, has_profile, cycle, owner_not_superior, default_group, last_special, unknown_level, unknown_category, never_category, unknown_label, is_root, meets, users_full, groups_full, connections_full, user_full, add_user_conflicts, alt_user_conflicts, del_user_conflicts, add_group_conflicts, alt_group_conflicts, del_group_conflicts, connect_conflicts, remove_conflicts}
 
 abbrev start : Rows
 start = new_rows (λ _. true)
@@ -74,5 +74,5 @@ re user group = form.Remove (record { user = user; group = Some group })
 -- AG A OWNER(SYS1) | AG B SUPGROUP(A) OWNER(A) | ALG A SUPGROUP(B) OWNER(B) | DG A | AU JOE DFLTGRP(B) | DG B | RE JOE GROUP(B) | DU JOE | DG B | DG SYS1
 groups_come_and_go : outcomes (ag (codes "A") None (Some (codes "SYS1")) ∷ ag (codes "B") (Some (codes "A")) (Some (codes "A")) ∷ alg (codes "A") (Some (codes "B")) (Some (codes "B")) ∷ dg (codes "A") ∷ au_in (codes "JOE") (codes "B") ∷ dg (codes "B") ∷ re (codes "JOE") (codes "B") ∷ du (codes "JOE") ∷ dg (codes "B") ∷ dg (codes "SYS1") ∷ []) start
     ≡ None ∷ None ∷ Some (Cycle (codes "A")) ∷ Some (InUse (Subgroup (codes "B"))) ∷ None ∷ Some (InUse (Connected (codes "JOE"))) ∷ Some (DefaultGroup (codes "B")) ∷ None ∷ None ∷ Some Root ∷ []
-unfolding no_user no_owner no_group no_named_group no_class name_taken not_connected default_not_connected has_subgroup has_connected has_profile cycle owner_not_superior default_group last_special unknown_level unknown_category never_category unknown_label add_user_conflicts alt_user_conflicts del_user_conflicts add_group_conflicts alt_group_conflicts del_group_conflicts connect_conflicts remove_conflicts
+unfolding no_user no_owner no_group no_named_group no_class name_taken not_connected default_not_connected has_subgroup has_connected has_profile cycle owner_not_superior default_group last_special unknown_level unknown_category never_category unknown_label is_root meets users_full groups_full connections_full user_full add_user_conflicts alt_user_conflicts del_user_conflicts add_group_conflicts alt_group_conflicts del_group_conflicts connect_conflicts remove_conflicts
 groups_come_and_go = refl

@@ -2,3 +2,5 @@ mod CommandRows
 pub mod RowLaws
 pub mod Keyed
 pub mod Counts
+pub mod AfterLaws
+pub mod Walks

@@ -9,7 +9,9 @@ use Rattle.racf_profiles.specs.declared.groups.Group.{Group}
 use Rattle.racf_profiles.specs.declared.profiles.Profile.{Profile}
 use Rattle.racf_profiles.specs.declared.class_rows.ClassRow.{ClassRow}
 use Rattle.racf_profiles.specs.declared.rows.Rows.{Rows}
+use Rattle.racf_profiles.specs.declared.users.Connect.{Connect as Connection}
 use Rattle.racf_profiles.specs.Lookup.{user_of, group_of, class_of}
+use Rattle.group_tree.specs.Groups.{find_group, first_subgroup}
 use Rattle.racf_database.specs.declared.conflict.Conflict.{Conflict}
 use Rattle.racf_database.specs.declared.conflict.Conflict.TheVariants.{NoUser, NoGroup, NoClass, Exists, NotConnected, Root, InUse, Cycle, OwnerNotSuperior, DefaultGroup, LastSpecial, UnknownName, Full}
 use Rattle.racf_database.specs.declared.conflict.Named.TheVariants as named
@@ -70,12 +72,12 @@ default_not_connected user None rows = None
 default_not_connected user (Some group) rows = not_connected user group rows
 
 -- ---- what has to stay
-abbrev pub is_root : List ℕ → Bool
+unfoldable pub is_root : List ℕ → Bool
 is_root group = bytes_eq group (codes "SYS1")
 
 -- A group that others are below.
 unfoldable pub has_subgroup : List ℕ → Rows → Option Conflict
-has_subgroup id rows = option_map (λ (group : Group). InUse (Subgroup group.id)) (find (λ (group : Group). option_eq bytes_eq group.superior (Some id)) rows.groups)
+has_subgroup id rows = option_map (λ subgroup. InUse (Subgroup subgroup)) (option_map (λ (group : Group). group.id) (first_subgroup rows.groups id))
 
 -- A group that a user is connected to.
 unfoldable pub has_connected : List ℕ → Rows → Option Conflict
@@ -90,17 +92,21 @@ has_profile id rows = option_map (λ (profile : Profile). InUse (ProfileOf profi
 
 -- The groups that a walk up meets: the group itself, its superior group, and so on. No walk has more steps than there
 -- are groups.
-abbrev pub superior_of : List Group → List ℕ → Option (List ℕ)
-superior_of groups id = option_and_then (λ (group : Group). group.superior) (find (λ (group : Group). bytes_eq group.id id) groups)
+abbrev pub and_above : (List ℕ → List (List ℕ)) → Option Group → List (List ℕ)
+and_above walk None = []
+and_above walk (Some group) = group.id ∷ option_map_or walk group.superior []
 
 abbrev pub walk_up : ℕ → List Group → List ℕ → List (List ℕ)
 walk_up zero groups id = []
-walk_up (suc steps) groups id = id ∷ option_map_or (walk_up steps groups) (superior_of groups id) []
+walk_up (suc steps) groups id = and_above (walk_up steps groups) (find_group groups id)
+
+unfoldable pub meets : List ℕ → List ℕ → List Group → Bool
+meets group from groups = list_any (λ met. bytes_eq met group) (walk_up (length groups) groups from)
 
 -- ALTGROUP: the walk up from the new superior group meets the group.
 unfoldable pub cycle : List ℕ → Option (List ℕ) → Rows → Option Conflict
 cycle group None rows = None
-cycle group (Some superior) rows = if_met (list_any (λ met. bytes_eq met group) (walk_up (length rows.groups) rows.groups superior)) (Cycle group)
+cycle group (Some superior) rows = if_met (meets group superior rows.groups) (Cycle group)
 
 -- A group that owns a group is its superior group. SYS1 has none, so that no group owns it.
 abbrev pub owner_apart : Group → Rows → Option Conflict
@@ -117,8 +123,8 @@ unfoldable pub default_group : List ℕ → List ℕ → Rows → Option Conflic
 default_group id group rows = option_and_then (λ (user : User). if_met (bytes_eq user.default_group group) (DefaultGroup group)) (user_of id rows)
 
 -- After the command no user who isn't revoked has SPECIAL.
-unfoldable pub last_special : List ℕ → Rows → Option Conflict
-last_special id after = if_met (administrators after.users == 0) (LastSpecial id)
+unfoldable pub last_special : Issuer → Form → List ℕ → Rows → Option Conflict
+last_special issuer command id rows = if_met (administrators (step issuer command rows).users == 0) (LastSpecial id)
 
 -- ---- levels, categories and labels
 unfoldable pub unknown_level : Option (List ℕ) → Rows → Option Conflict
@@ -136,15 +142,28 @@ unfoldable pub unknown_label : Option (List ℕ) → Rows → Option Conflict
 unknown_label None rows = None
 unknown_label (Some name) rows = if_met (not (is_label rows name)) (UnknownName name)
 
--- ---- limits
+-- ---- limits: more of a kind than the limit
 abbrev pub over : Kind → ℕ → ℕ → Option Conflict
 over kind limit count = if_met (nat_lt limit count) (Full kind limit)
+
+-- after the command
+unfoldable pub users_full : Issuer → Form → Rows → Option Conflict
+users_full issuer command rows = over Users most_users (length (step issuer command rows).users)
+
+unfoldable pub groups_full : Issuer → Form → Rows → Option Conflict
+groups_full issuer command rows = over Groups most_groups (length (step issuer command rows).groups)
+
+unfoldable pub connections_full : Issuer → Form → Rows → Option Conflict
+connections_full issuer command rows = over AllConnections most_connections_in_all (connections (step issuer command rows).users)
+
+-- of the user whom the command makes, or connects
+unfoldable pub user_full : List Connection → Option Conflict
+user_full connects = over Connections most_connections (length connects)
 
 -- ---- the conflicts of each command, in the order in which they are tested: by their kinds, and of one kind in the order
 -- of the operands in the canonical text
 unfoldable pub add_user_conflicts : Issuer → AddUser → Rows → List (Option Conflict)
 add_user_conflicts issuer c rows =
-    let after = step issuer (form.AddUser c) rows in
     no_owner c.owner rows
     ∷ no_group (group_or_current issuer c.dfltgrp) rows
     ∷ no_class c.clauth rows
@@ -152,9 +171,9 @@ add_user_conflicts issuer c rows =
     ∷ unknown_level c.seclevel rows
     ∷ unknown_category c.addcategory rows
     ∷ unknown_label c.seclabel rows
-    ∷ over Users most_users (length after.users)
-    ∷ over Connections most_connections (length (new_user issuer c rows).connects)
-    ∷ over AllConnections most_connections_in_all (connections after.users)
+    ∷ users_full issuer (form.AddUser c) rows
+    ∷ user_full (new_user issuer c rows).connects
+    ∷ connections_full issuer (form.AddUser c) rows
     ∷ []
 
 unfoldable pub alt_user_conflicts : Issuer → AltUser → Rows → List (Option Conflict)
@@ -165,7 +184,7 @@ alt_user_conflicts issuer c rows =
     ∷ no_class c.clauth rows
     ∷ no_class c.noclauth rows
     ∷ default_not_connected c.user c.dfltgrp rows
-    ∷ last_special c.user (step issuer (form.AltUser c) rows)
+    ∷ last_special issuer (form.AltUser c) c.user rows
     ∷ unknown_level c.seclevel rows
     ∷ unknown_category c.addcategory rows
     ∷ never_category c.delcategory rows
@@ -176,7 +195,7 @@ unfoldable pub del_user_conflicts : Issuer → DelUser → Rows → List (Option
 del_user_conflicts issuer c rows =
     no_user c.user rows
     ∷ has_profile c.user rows
-    ∷ last_special c.user (step issuer (form.DelUser c) rows)
+    ∷ last_special issuer (form.DelUser c) c.user rows
     ∷ []
 
 unfoldable pub add_group_conflicts : Issuer → AddGroup → Rows → List (Option Conflict)
@@ -185,7 +204,7 @@ add_group_conflicts issuer c rows =
     ∷ no_group (group_or_current issuer c.supgroup) rows
     ∷ name_taken c.group rows
     ∷ owner_not_superior c.supgroup c.owner (Some (new_group issuer c)) rows
-    ∷ over Groups most_groups (length (step issuer (form.AddGroup c) rows).groups)
+    ∷ groups_full issuer (form.AddGroup c) rows
     ∷ []
 
 unfoldable pub alt_group_conflicts : AltGroup → Rows → List (Option Conflict)
@@ -212,8 +231,8 @@ connect_conflicts issuer c rows =
     let group = group_or_current issuer c.group in
     no_user c.user rows
     ∷ no_group group rows
-    ∷ over Connections most_connections (length (connects_after c group (connects_of c.user rows)))
-    ∷ over AllConnections most_connections_in_all (connections (step issuer (form.Connect c) rows).users)
+    ∷ user_full (connects_after c group (connects_of c.user rows))
+    ∷ connections_full issuer (form.Connect c) rows
     ∷ []
 
 unfoldable pub remove_conflicts : Issuer → Remove → Rows → List (Option Conflict)

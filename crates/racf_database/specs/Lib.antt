@@ -6,3 +6,5 @@ pub mod Edits
 pub mod Conflicts
 pub mod UserList
 pub mod KeptUsers
+pub mod Contents
+pub mod Kept

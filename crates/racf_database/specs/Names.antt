@@ -44,3 +44,7 @@ connected_to user = length user.connects
 
 abbrev pub connections : List User → ℕ
 connections users = sum_by connected_to users
+
+-- How many connections a user gets, once he is connected to the group: none where he is.
+abbrev pub growth : List ℕ → List Connection → ℕ
+growth group connects = if list_any (is_to group) connects then 0 else 1

@@ -1,8 +1,12 @@
 //! The database of users, groups and connections: what a command conflicts with, and one step of the rows.
 #![tactic(auto)]
 
+mod check;
 mod command;
 mod conflict;
+mod database;
+mod limits;
+mod made;
 mod user_table;
 
 pub use command::{
@@ -10,3 +14,5 @@ pub use command::{
     Remove,
 };
 pub use conflict::{Conflict, Holder, Kind, Named};
+pub use database::Database;
+pub use limits::{MOST_CONNECTIONS, MOST_CONNECTIONS_IN_ALL, MOST_GROUPS, MOST_USERS};

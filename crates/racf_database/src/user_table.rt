@@ -1,9 +1,9 @@
 //! The users, and what they hold together.
-ghost use Rattle.std.specs.Prelude.{◌≡◌, ℕ, ◌<◌, ◌≤◌, [], length, find, OnOk};
+ghost use Rattle.std.specs.Prelude.{◌≡◌, ℕ, ◌+◌, ◌<◌, ◌≤◌, [], length, find, OnOk};
 ghost use Rattle.std.specs.Option.{option_copied, option_map_or};
 ghost use Rattle.racf_profiles.specs.Lookup.{is_user};
 ghost use Rattle.racf_profiles.specs.Edits.{put_row, drop_row};
-ghost use Rattle.racf_database.specs.Names.{connections, administrators, is_administrator, administering, connected_to, is_connected_to};
+ghost use Rattle.racf_database.specs.Names.{connections, administrators, is_administrator, administering, connected_to, is_connected_to, growth};
 ghost use Rattle.racf_database.specs.Limits.{most_users, most_connections_in_all};
 ghost use Rattle.racf_database.specs.UserList.{CanPut};
 
@@ -69,11 +69,11 @@ impl UserTable {
         self.connections
     }
 
-    /// How many of them have SPECIAL and aren't revoked.
-    pub(crate) fn administrators(&self) -> usize
-        ensures { result ≡ administrators self.now.users }
+    /// How many users other than that one have SPECIAL and aren't revoked.
+    pub(crate) fn administrators_beside(&self, id: Id) -> usize
+        ensures { result ≡ administrators (drop_row (is_user id) self.now.users) }
     {
-        self.administrators
+        self.administrators - self.share_of(id).administrators
     }
 
     /// The first user who is connected to the group. It goes through the users.
@@ -168,4 +168,18 @@ pub(crate) fn is_connected_to(user: &User, group: Id) -> bool
         .items
         .iter()
         .any(|connection| connection.group == group)
+}
+
+/// How many connections a user gets, once he is connected to the group: none where he is.
+pub(crate) fn growth(user: &User, group: Id) -> usize
+    ensures { result ≡ growth group user.now.connects }
+{
+    if is_connected_to(user, group) { 0 } else { 1 }
+}
+
+/// How many connections a user has, once he is connected to the group.
+pub(crate) fn connections_with(user: &User, group: Id) -> usize
+    ensures { result ≡ connected_to user.now + growth group user.now.connects }
+{
+    user.connects.items.len() + growth(user, group)
 }

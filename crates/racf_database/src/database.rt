@@ -1,0 +1,99 @@
+//! The database: its rows, by name, and the change that was prepared.
+ghost use Rattle.std.specs.Prelude.{◌≡◌, None, IfOk};
+ghost use Rattle.racf_database.specs.Contents.{first_rows};
+
+use crate::user_table::UserTable;
+use access_levels::Id;
+use generic_names::Pattern;
+use group_tree::Tree;
+use racf_profiles::{Change, Group, NoMemory, Profile, Rows, User, View};
+use std::alloc::{AllocError, Global};
+use std::marker::Model;
+
+/// The users, groups and connections of a database. Users and groups are found by name in one look-up, whatever their
+/// number. Every class is active, no profile is there, and the options are off: no command changes them yet.
+///
+/// A command is judged by `check`, then `prepare` takes all memory and answers its edits, and `apply` makes them.
+#[derive(Drop)]
+pub struct Database {
+    pub(crate) users: UserTable,
+    pub(crate) tree: Tree,
+    pub(crate) prepared: Option<Change>,
+}
+
+impl Model for Database {
+    ghost use Rattle.racf_database.specs.Contents.{Contents};
+
+    ghost Value = { Contents };
+
+    ghost use Rattle.racf_database.specs.Kept.{contents_of, IsReady};
+
+    ghost view = { contents_of };
+
+    ghost invariant = { IsReady };
+}
+
+impl Database {
+    /// A new database, but that every class is active.
+    pub fn new(alloc: Global) -> Result<Database, NoMemory>
+        ensures rows { IfOk result (λ database. database.rows ≡ first_rows) }
+        ensures nothing_prepared { IfOk result (λ database. database.prepared ≡ None) }
+    {
+        let users = first_users(alloc)?;
+        let tree = first_tree(alloc)?;
+        Ok(Database {
+            users,
+            tree,
+            prepared: None,
+        })
+    }
+
+    /// The tree of its groups.
+    pub fn tree(&self) -> &Tree
+        ensures { result.now.groups ≡ self.now.rows.groups }
+    {
+        &self.tree
+    }
+}
+
+impl View for Database {
+    ghost rows = { λ database. database.rows };
+
+    fn user(&self, id: Id) -> Option<&User> {
+        self.users.get(id)
+    }
+
+    fn group(&self, id: Id) -> Option<&Group> {
+        self.tree.get(id)
+    }
+
+    /// None, since no profile is there yet.
+    fn profile(&self, _class: Id, _name: &Pattern) -> Option<&Profile> {
+        let _users = &self.users;
+        None
+    }
+}
+
+// The users of a new database.
+fn first_users(alloc: Global) -> Result<UserTable, NoMemory>
+    ensures { IfOk result (λ table. table.users ≡ first_rows.users) }
+{
+    let rows = Rows::new_database(alloc)?;
+    let mut items = rows.users.items;
+    let mut table = UserTable::new(alloc);
+    if let Some(user) = items.pop() {
+        table.reserve()?;
+        table.put(user);
+    }
+    Ok(table)
+}
+
+// The tree of a new database.
+fn first_tree(alloc: Global) -> Result<Tree, NoMemory>
+    ensures { IfOk result (λ tree. tree.groups ≡ first_rows.groups) }
+{
+    match Tree::new(alloc) {
+        Ok(tree) => Ok(tree),
+        Err(_) => Err(AllocError),
+    }
+}

@@ -4,3 +4,5 @@ pub mod Keyed
 pub mod Counts
 pub mod AfterLaws
 pub mod Walks
+pub mod ConnectLaws
+pub mod GroupLaws

@@ -1,6 +1,6 @@
 -- Rows that are put, changed and dropped: what they add up to.
 use Rattle.std.proofs.Common.{◌≡◌, ℕ, ◌+◌, ◌≤◌, Bool, true, false, cond, List, [], ◌∷◌, ◌++◌, length, Option, None, Some, refl, sym, ap, ◌∙◌, arith}
-use Rattle.std.specs.Prelude.{find, sum_by}
+use Rattle.std.specs.Prelude.{find, sum_by, fold}
 use Rattle.std.specs.Option.{option_map_or}
 use Rattle.std.proofs.lemmas.List.Sums.{sum_by-cons}
 use Rattle.racf_profiles.specs.Edits.{put_row, drop_row}
@@ -62,3 +62,8 @@ module _ {X : Type 0} (it : X → Bool) where
           → cond b (row ∷ xs) (x ∷ put_row it row xs) ≡ x ∷ (xs ++ row ∷ [])
       by true f rest = cc
       by false f rest = ap (λ ys. x ∷ ys) (rest f)
+
+-- steps that change nothing
+pub fold-same : {A B : Type 0} (f : A → B → A) (a : A) (xs : List B) → ((x : B) → f a x ≡ a) → fold f a xs ≡ a
+fold-same f a [] same = refl
+fold-same f a (x ∷ xs) same = ap (λ b. fold f b xs) (same x) ∙ fold-same f a xs same

@@ -45,21 +45,25 @@ owner_or_issuer issuer given = unwrap_or given issuer.id
 abbrev pub new_connection : List ℕ → Connection
 new_connection group = record { group = group; authority = MayUse; special = false; operations = false; auditor = false; revoked = false }
 
--- ADDUSER: the user, connected to the default group with AUTHORITY.
+-- ADDUSER: the attributes that are named.
+abbrev pub first_attributes : AddUser → Attributes
+first_attributes c = record {
+  special = switched c.special c.nospecial false;
+  operations = switched c.operations c.nooperations false;
+  auditor = switched c.auditor c.noauditor false;
+  restricted = switched c.restricted c.norestricted false;
+  revoked = false;
+  uaudit = false;
+}
+
+-- The user, connected to the default group with AUTHORITY.
 abbrev pub new_user : Issuer → AddUser → Rows → User
 new_user issuer c rows = record {
   id = c.user;
   default_group = group_or_current issuer c.dfltgrp;
   owner = owner_or_issuer issuer c.owner;
   name = unwrap_or c.name [];
-  attributes = record {
-    special = switched c.special c.nospecial false;
-    operations = switched c.operations c.nooperations false;
-    auditor = switched c.auditor c.noauditor false;
-    restricted = switched c.restricted c.norestricted false;
-    revoked = false;
-    uaudit = false;
-  };
+  attributes = first_attributes c;
   classes = fold with_class [] c.clauth;
   level = unwrap_or (option_and_then (level_number rows) c.seclevel) 0;
   categories = fold (with_category rows) 0 c.addcategory;

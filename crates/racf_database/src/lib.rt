@@ -1,10 +1,12 @@
 //! The database of users, groups and connections: what a command conflicts with, and one step of the rows.
 #![tactic(auto)]
 
+mod apply;
 mod check;
 mod command;
 mod conflict;
 mod database;
+mod edits;
 mod limits;
 mod made;
 mod user_table;

@@ -1,10 +1,15 @@
 //! The rows that a command makes.
 ghost use Rattle.std.specs.Prelude.{◌≡◌};
-ghost use Rattle.racf_database.specs.Effects.{switched, new_group, altered_group, attributes_after, group_or_current, owner_or_issuer};
+ghost use Rattle.racf_database.specs.Effects.{switched, group_or_current, owner_or_issuer, new_group, altered_group};
 
-use crate::command::{AddGroup, AltGroup, AltUser, Issuer};
-use access_levels::{Attributes, Id};
+mod classes;
+mod connects;
+mod users;
+
+use crate::command::{AddGroup, AltGroup, Issuer};
+use access_levels::Id;
 use racf_profiles::Group;
+pub(crate) use users::{attributes_after, connected_user, removed_user};
 
 /// The group that is named, or else the issuer's current one.
 pub(crate) fn group_or_current(issuer: &Issuer, given: Option<Id>) -> Id
@@ -20,7 +25,7 @@ pub(crate) fn owner_or_issuer(issuer: &Issuer, given: Option<Id>) -> Id
     given.unwrap_or(issuer.id)
 }
 
-/// An attribute after X, and NOX behind it.
+/// An attribute after X, which gives it, and NOX behind it, which takes it away.
 pub(crate) fn switched(on: bool, off: bool, before: bool) -> bool
     ensures { result ≡ switched on off before }
 {
@@ -46,19 +51,5 @@ pub(crate) fn altered_group(command: &AltGroup, old: &Group) -> Group
         id: old.id,
         superior: command.supgroup.or(old.superior),
         owner: command.owner.unwrap_or(old.owner),
-    }
-}
-
-/// The attributes of a user after ALTUSER.
-pub(crate) fn attributes_after(command: &AltUser, old: Attributes) -> Attributes
-    ensures { result ≡ attributes_after command.now old }
-{
-    Attributes {
-        special: switched(command.special, command.nospecial, old.special),
-        operations: switched(command.operations, command.nooperations, old.operations),
-        auditor: switched(command.auditor, command.noauditor, old.auditor),
-        restricted: switched(command.restricted, command.norestricted, old.restricted),
-        revoked: switched(command.revoke, command.resume, old.revoked),
-        uaudit: switched(command.uaudit, command.nouaudit, old.uaudit),
     }
 }

@@ -2,8 +2,9 @@ mod Rows
 mod JoinRows
 pub mod Folds
 pub mod Walk
-pub mod Words
+pub mod WordLaws
 pub mod MarkLaws
+pub mod Forms
 pub mod FrontLaws
 pub mod ItemLaws
 pub mod Pieces

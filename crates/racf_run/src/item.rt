@@ -57,6 +57,17 @@ pub enum Item {
     LineTooLong,
 }
 
+impl CommandText {
+    ghost use Rattle.std.specs.Prelude.{◌≡◌};
+
+    /// Its bytes.
+    pub(crate) fn as_slice(&self) -> &[u8]
+        ensures { result.now ≡ self.now }
+    {
+        self.bytes.as_slice()
+    }
+}
+
 impl Item {
     ghost use Rattle.racf_run.specs.Items.{request_of, command_of};
 

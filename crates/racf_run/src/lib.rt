@@ -1,6 +1,7 @@
 //! The stream of the first path: lines of commands and requests in, replies and answers out.
 #![tactic(auto)]
 
+mod commands;
 mod input;
 mod item;
 mod joining;
@@ -12,6 +13,7 @@ mod stream;
 #[cfg(test)]
 mod tests;
 mod top;
+mod words;
 
 pub use scripts::script;
 pub use status::Status;

@@ -1,6 +1,6 @@
 use Rattle.std.proofs.Common.{sym, ◌∙◌}
 use Rattle.racf_run.specs.Items.{is_blank}
-use Rattle.racf_run.proofs.Words.{before_first-some, before_first-none}
+use Rattle.racf_run.proofs.WordLaws.{before_first-some, before_first-none}
 use Rattle.racf_run.proofs.item.up_to_blank.Goals as goal
 
 pub returns-in-Some : goal.returns-in-Some

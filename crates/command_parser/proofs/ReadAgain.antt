@@ -250,7 +250,7 @@ text-apart : (g : Generic) → IsLawful g → IsApart (positions_text g.position
 text-apart g lawful = positions-apart (positions_of g.verb) g.positions (operands_text (operands_of g.verb) g.slots) (positions-names g.verb) lawful.fits_positions (operands-apart (operands_of g.verb) g.slots)
 
 pub read_again : (at : Context) (g : Generic) → IsLawful g → nat_lt 30000 (length (canon g)) ≡ false → parsed at (canon g) ≡ Ok g
-unfolding tokens
+unfolding tokens parsed canon
 read_again at g lawful short =
     let plain = full_name-plain g.verb in
     let sound : faulty_at Ignored 1 (full_name g.verb) ≡ None = plain.sound 1 in

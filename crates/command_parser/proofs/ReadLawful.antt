@@ -244,6 +244,7 @@ command-lawful at (Open tied p place ∷ ts) g h = cc
 command-lawful at (Close p ∷ ts) g h = cc
 
 pub read_lawful : (at : Context) (text : List ℕ) (g : Generic) → parsed at text ≡ Ok g → IsLawful g
+unfolding parsed
 read_lawful at text g h =
     let short = if-err (nat_lt 30000 (length text)) faults.TextTooLong (command_at at (tokens (of_command text))) g h in
     command-lawful at (tokens (of_command text)) g short.1

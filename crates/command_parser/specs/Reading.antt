@@ -143,5 +143,5 @@ command_at at (Open tied p place ∷ ts) = Err faults.UnknownCommand
 command_at at (Close p ∷ ts) = Err faults.UnknownCommand
 
 -- A text of more than 30,000 bytes is too long before every other fault.
-abbrev pub parsed : Context → List ℕ → Result Generic Syntax
+unfoldable pub parsed : Context → List ℕ → Result Generic Syntax
 parsed at text = if nat_lt 30000 (length text) then Err faults.TextTooLong else command_at at (tokens (of_command text))

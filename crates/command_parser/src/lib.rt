@@ -20,5 +20,3 @@ pub use table::{Kind, Operand, Position, Verb};
 pub use values::{Content, Context, Ids};
 pub use words::Word;
 
-#[cfg(test)]
-mod tests;

@@ -108,6 +108,7 @@ fn push_operands(out: &mut Vec<u8>, rows: &[Operand], slots: &[Option<Content>])
 }
 
 /// The canonical text of a command.
+#[tactic(auto, unfolding(crate::specs::Canon::canon))]
 pub fn printed(alloc: Global, parts: &Parts) -> Result<Vec<u8>, AllocError>
     ensures { IfOk result (λ text. text.items ≡ canon (generic parts.now)) }
 {

@@ -122,6 +122,7 @@ fn body(alloc: Global, at: &Context, verb: Verb, text: Tokens<'_>) -> Result<Par
 }
 
 /// What the text spells, but for the length of its canonical text.
+#[tactic(auto, unfolding(crate::specs::Reading::parsed))]
 pub fn read(alloc: Global, at: &Context, text: &[u8]) -> Result<Parts, ParseFault>
     ensures { Gives generic result (parsed at.now text.now) }
 {

@@ -6,3 +6,6 @@ pub mod AfterLaws
 pub mod Walks
 pub mod ConnectLaws
 pub mod GroupLaws
+pub mod Unmet
+pub mod StepLaws
+pub mod Ready

@@ -9,6 +9,7 @@ mod database;
 mod edits;
 mod limits;
 mod made;
+mod prepare;
 mod user_table;
 
 pub use command::{

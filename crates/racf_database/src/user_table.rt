@@ -90,6 +90,8 @@ impl UserTable {
         ensures users { self.new.users ≡ self.old.users }
         ensures spare { OnOk result (0 < self.new.spare) }
         ensures kept { self.old.spare ≤ self.new.spare }
+        ensures few_users { length self.new.users ≤ most_users }
+        ensures few_connections { connections self.new.users ≤ most_connections_in_all }
     {
         self.users.reserve(1)
     }

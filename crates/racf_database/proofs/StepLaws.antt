@@ -1,0 +1,65 @@
+-- The edits of a command that meets no conflict make the rows that the command makes.
+use Rattle.std.proofs.Common.{◌≡◌, ℕ, List, [], ◌∷◌, ◌++◌, Option, None, Some, refl, sym, ap, ◌∙◌}
+use Rattle.std.specs.Prelude.{find}
+use Rattle.racf_profiles.specs.declared.users.User.{User}
+use Rattle.racf_profiles.specs.declared.groups.Group.{Group}
+use Rattle.racf_profiles.specs.declared.rows.Rows.{Rows}
+use Rattle.racf_profiles.specs.Lookup.{user_of, group_of, is_user, is_group}
+use Rattle.racf_profiles.specs.Edits.{put_row, changed}
+use Rattle.group_tree.proofs.Rows.{same, find-passes}
+use Rattle.racf_database.specs.declared.command.Issuer.{Issuer}
+use Rattle.racf_database.specs.declared.command.AddUser.{AddUser}
+use Rattle.racf_database.specs.declared.command.AddGroup.{AddGroup}
+use Rattle.racf_database.specs.declared.command.Form.{Form}
+use Rattle.racf_database.specs.declared.command.Form.TheVariants as form
+use Rattle.racf_database.specs.Effects.{at_row, step, new_user, altered_user, new_group, altered_group, connected_user, removed_user, group_or_current}
+use Rattle.racf_database.specs.Edits.{edits_of, put_user, put_group}
+use Rattle.racf_database.specs.Conflicts.{conflict_of, add_user_conflicts, add_group_conflicts}
+use Rattle.racf_database.proofs.RowLaws.{put_row-at_row, put_row-new}
+use Rattle.racf_database.proofs.AfterLaws.{at_row-absent}
+use Rattle.racf_database.proofs.Unmet.{each_unmet, name_free}
+
+-- ---- a row that is there
+pub put_user-at : (change : User → User) → ((user : User) → (change user).id ≡ user.id) → (id : List ℕ) (users : List User) (user : User) → find (is_user id) users ≡ Some user
+    → put_row (is_user (change user).id) (change user) users ≡ at_row (is_user id) change users
+put_user-at change keeps id users user found =
+    ap (λ n. put_row (is_user n) (change user) users) (keeps user ∙ same user.id id (find-passes (is_user id) users user found))
+    ∙ put_row-at_row (is_user id) change user users found
+
+changed-users : (change : User → User) → ((user : User) → (change user).id ≡ user.id) → (id : List ℕ) (rows : Rows)
+    → changed (put_user change (user_of id rows)) rows ≡ record rows { users = at_row (is_user id) change rows.users }
+changed-users change keeps id rows = by (user_of id rows) refl
+  where
+    by : (o : Option User) → user_of id rows ≡ o → changed (put_user change o) rows ≡ record rows { users = at_row (is_user id) change rows.users }
+    by None none = sym (ap (λ (us : List User). record rows { users = us }) (at_row-absent (is_user id) change rows.users none))
+    by (Some user) found = ap (λ (us : List User). record rows { users = us }) (put_user-at change keeps id rows.users user found)
+
+changed-groups : (change : Group → Group) → ((group : Group) → (change group).id ≡ group.id) → (id : List ℕ) (rows : Rows)
+    → changed (put_group change (group_of id rows)) rows ≡ record rows { groups = at_row (is_group id) change rows.groups }
+changed-groups change keeps id rows = by (group_of id rows) refl
+  where
+    by : (o : Option Group) → group_of id rows ≡ o → changed (put_group change o) rows ≡ record rows { groups = at_row (is_group id) change rows.groups }
+    by None none = sym (ap (λ (gs : List Group). record rows { groups = gs }) (at_row-absent (is_group id) change rows.groups none))
+    by (Some group) found =
+        ap (λ n. record rows { groups = put_row (is_group n) (change group) rows.groups }) (keeps group ∙ same group.id id (find-passes (is_group id) rows.groups group found))
+        ∙ ap (λ (gs : List Group). record rows { groups = gs }) (put_row-at_row (is_group id) change group rows.groups found)
+
+-- ---- the name of what ADDUSER and ADDGROUP define is free
+pub add_user-free : (issuer : Issuer) (c : AddUser) (rows : Rows) → conflict_of issuer (form.AddUser c) rows ≡ None → (user_of c.user rows ≡ None) × (group_of c.user rows ≡ None)
+unfolding add_user_conflicts
+add_user-free issuer c rows h = name_free c.user rows (each_unmet (add_user_conflicts issuer c rows) h).1.1.1.0
+
+pub add_group-free : (issuer : Issuer) (c : AddGroup) (rows : Rows) → conflict_of issuer (form.AddGroup c) rows ≡ None → (user_of c.group rows ≡ None) × (group_of c.group rows ≡ None)
+unfolding add_group_conflicts
+add_group-free issuer c rows h = name_free c.group rows (each_unmet (add_group_conflicts issuer c rows) h).1.1.0
+
+-- ---- each command
+pub changed-edits_of : (issuer : Issuer) (command : Form) (rows : Rows) → conflict_of issuer command rows ≡ None → changed (edits_of issuer command rows) rows ≡ step issuer command rows
+changed-edits_of issuer (form.AddUser c) rows h = ap (λ (us : List User). record rows { users = us }) (put_row-new (is_user c.user) (new_user issuer c rows) rows.users (add_user-free issuer c rows h).0)
+changed-edits_of issuer (form.AltUser c) rows h = changed-users (altered_user c rows) (λ user. refl) c.user rows
+changed-edits_of issuer (form.DelUser c) rows h = refl
+changed-edits_of issuer (form.AddGroup c) rows h = ap (λ (gs : List Group). record rows { groups = gs }) (put_row-new (is_group c.group) (new_group issuer c) rows.groups (add_group-free issuer c rows h).1)
+changed-edits_of issuer (form.AltGroup c) rows h = changed-groups (altered_group c) (λ group. refl) c.group rows
+changed-edits_of issuer (form.DelGroup c) rows h = refl
+changed-edits_of issuer (form.Connect c) rows h = changed-users (connected_user issuer c) (λ user. refl) c.user rows
+changed-edits_of issuer (form.Remove c) rows h = changed-users (removed_user issuer c) (λ user. refl) c.user rows

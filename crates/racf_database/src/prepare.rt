@@ -1,0 +1,50 @@
+//! Taking all memory that a command needs, and what it makes of the rows.
+ghost use Rattle.std.specs.Prelude.{◌≡◌, None, Some, IfOk, OnErr};
+ghost use Rattle.racf_profiles.specs.Edits.{changed};
+ghost use Rattle.racf_database.specs.Effects.{step};
+ghost use Rattle.racf_database.specs.Edits.{edits_of};
+ghost use Rattle.racf_database.specs.Conflicts.{conflict_of};
+
+use crate::command::{Command, Issuer};
+use crate::database::Database;
+use crate::edits::copies;
+use racf_profiles::{Change, Edits, NoMemory};
+use std::alloc::{AllocError, Global};
+
+impl Database {
+    /// The change that the command makes. It stays prepared until another is, or until it is applied. It is kept twice, here
+    /// and in what is answered.
+    ///
+    /// # Errors
+    ///
+    /// Want of memory: nothing is prepared then, and the rows are as they were.
+    pub fn prepare(
+        &mut self,
+        alloc: Global,
+        issuer: &Issuer,
+        command: &Command,
+    ) -> Result<Change, NoMemory>
+        requires { conflict_of issuer.now command.now self.old.rows ≡ None }
+        ensures edits { IfOk result (λ change. change.edits ≡ edits_of issuer.now command.now self.old.rows) }
+        ensures step { IfOk result (λ change. changed change.edits self.old.rows ≡ step issuer.now command.now self.old.rows) }
+        ensures prepared { IfOk result (λ change. self.new.prepared ≡ Some change) }
+        ensures rows { self.new.rows ≡ self.old.rows }
+        ensures refused { OnErr result (self.new.prepared ≡ None) }
+    {
+        self.prepared = None;
+        let edits = self.edits(alloc, issuer, command)?;
+        let kept = copies(alloc, edits.as_slice())?;
+        self.users.reserve()?;
+        let Ok(()) = self.tree.reserve() else {
+            return Err(AllocError);
+        };
+        // What holds of every tree is what the next change rests on.
+        let _count = self.tree.len();
+        self.prepared = Some(Change {
+            edits: Edits { items: kept },
+        });
+        Ok(Change {
+            edits: Edits { items: edits },
+        })
+    }
+}

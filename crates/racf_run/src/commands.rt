@@ -4,7 +4,6 @@ ghost use Rattle.std.specs.Prelude.{◌≡◌, map, not, position, IfOk};
 ghost use Rattle.std.specs.List.{before_first};
 ghost use Rattle.command_words.specs.Bytes.{is_gap_byte, is_word_byte, upper};
 ghost use Rattle.racf_run.specs.Commands.{past_gaps, command_name, is_data_set_command, is_general_command, is_list_command, is_other_command, names_any, names_security, built_form, read_command};
-
 ghost use Rattle.command_parser.specs.declared.forms.Form.TheVariants as form;
 
 use crate::reply::Refusal;
@@ -15,7 +14,10 @@ use std::alloc::{AllocError, Global};
 
 /// The command of a text, or why it isn't one that is built.
 #[tactic(auto, unfolding(crate::specs::Commands::read_command))]
-pub(crate) fn read_command(alloc: Global, text: &[u8]) -> Result<Result<Command, Refusal>, AllocError>
+pub(crate) fn read_command(
+    alloc: Global,
+    text: &[u8],
+) -> Result<Result<Command, Refusal>, AllocError>
     ensures { IfOk result (λ read. read ≡ read_command text.now) }
 {
     if is_other_command(text) {

@@ -75,7 +75,12 @@ impl Stream {
     }
 
     /// Works an item, and writes its text at the end of `out`. Where memory is short, nothing has changed.
-    pub(crate) fn work(&mut self, alloc: Global, item: &Item, out: &mut Vec<u8>) -> Result<(), AllocError>
+    pub(crate) fn work(
+        &mut self,
+        alloc: Global,
+        item: &Item,
+        out: &mut Vec<u8>,
+    ) -> Result<(), AllocError>
         ensures ok { OnOk result (DoesAs (answer item.now self.old) self.new out.old.items out.new.items) }
         ensures err { OnErr result (self.new ≡ self.old) }
     {
@@ -112,7 +117,12 @@ impl Stream {
 
     /// A command: refused, or worked on the rows.
     #[tactic(auto, unfolding(crate::specs::Stream::command))]
-    fn command(&mut self, alloc: Global, text: &CommandText, out: &mut Vec<u8>) -> Result<(), AllocError>
+    fn command(
+        &mut self,
+        alloc: Global,
+        text: &CommandText,
+        out: &mut Vec<u8>,
+    ) -> Result<(), AllocError>
         ensures ok { OnOk result (DoesAs (command text.now self.old) self.new out.old.items out.new.items) }
         ensures err { OnErr result (self.new ≡ self.old) }
     {
@@ -123,7 +133,12 @@ impl Stream {
     }
 
     /// A command that the text spelled. All memory is taken, and the text stands whole, before the rows change.
-    fn work_form(&mut self, alloc: Global, command: &Command, out: &mut Vec<u8>) -> Result<(), AllocError>
+    fn work_form(
+        &mut self,
+        alloc: Global,
+        command: &Command,
+        out: &mut Vec<u8>,
+    ) -> Result<(), AllocError>
         ensures ok { OnOk result (DoesAs (work_form command.now self.old) self.new out.old.items out.new.items) }
         ensures err { OnErr result (self.new ≡ self.old) }
     {

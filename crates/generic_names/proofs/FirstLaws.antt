@@ -34,7 +34,7 @@ plain-rank b p =
     let asterisk : eqb b 42 ≡ false = (let n : b ≢ 42 = p.no_asterisk in grind (arith, nat_tests)) in
     rw (percent, asterisk) refl
 
-plain-single : (q : List ℕ) → EachByte IsPlain q → is_double q ≡ false
+pub plain-single : (q : List ℕ) → EachByte IsPlain q → is_double q ≡ false
 plain-single q h = settled (is_double q) refl
   where
     settled : (t : Bool) → is_double q ≡ t → t ≡ false

@@ -4,8 +4,9 @@ mod CoverLaws
 mod WalkLaws
 mod RankLaws
 mod ReplaceLaws
-mod Lawful
-mod OrderLaws
+pub mod Lawful
+pub mod OrderLaws
 mod FirstLaws
 mod CompareLaws
 mod GapLaws
+pub mod BestLaws

@@ -1,12 +1,8 @@
 -- The text of a member with its symbols replaced, from place to place.
-use Rattle.std.proofs.Common.{◌≡◌, ℕ, ◌+◌, ◌<◌, ◌≤◌, true, false, eqb, ltb, List, [], ◌∷◌, ◌++◌, map, length, drop, refl, Option, Some, None, IfNone, append-nil, ap, sym, ◌∙◌, arith, append_assoc, length-append}
+use Rattle.std.proofs.Common.{◌≡◌, ℕ, ◌+◌, ◌<◌, ◌≤◌, false, List, [], ◌∷◌, ◌++◌, map, length, drop, refl, Option, Some, None, IfNone, append-nil, ap, sym, ◌∙◌, arith, append_assoc, length-append}
 use Rattle.std.specs.List.{join_with_byte, slice_range}
-use Rattle.std.specs.Result.{result_ok}
-use Rattle.std.proofs.lemmas.Bool.Decides.{nat_tests}
 use Rattle.generic_names.specs.declared.kind.NameKind.{NameKind}
-use Rattle.generic_names.specs.declared.kind.NameKind.TheVariants.{DataSet, General}
 use Rattle.generic_names.specs.Spelled.{Spelled, is_empty}
-use Rattle.generic_names.specs.Faults.{pattern_of}
 use Rattle.generic_names.specs.Reading.{rest_at}
 use Rattle.generic_names.specs.Resolve.{stands_for}
 use Rattle.generic_names.proofs.QualifierLaws.{rest_at-past, rest_at-within, qualifiers-some}
@@ -47,17 +43,6 @@ module _ (user group : List ℕ) where
 pub IfNone-from : {A : Type 0} (o : Option A) (P : Type 0) → P → IfNone o P
 IfNone-from None P h = h
 IfNone-from (Some x) P h = tt
-
--- a text that is longer than any name resolves to none
-pub resolve-long : (kind : NameKind) (text : List ℕ) → 246 < length text → result_ok (pattern_of kind text) ≡ None
-resolve-long DataSet text long =
-    let some : eqb (length text) 0 ≡ false = grind (arith, nat_tests) in
-    let past : ltb 44 (length text) ≡ true = grind (arith, nat_tests) in
-    rw (some, past) refl
-resolve-long General text long =
-    let some : eqb (length text) 0 ≡ false = grind (arith, nat_tests) in
-    let past : ltb 246 (length text) ≡ true = grind (arith, nat_tests) in
-    rw (some, past) refl
 
 -- Nothing of the text is left: what has been written is the whole.
 pub replaced-all : (user group : List ℕ) (kind : NameKind) (name : Spelled) (text whole : List ℕ) (at : ℕ) → length text < at → name.kind ≡ kind → name.text ++ joined user group (rest_at text at) ≡ whole → name ≡ record { kind = kind; text = whole }

@@ -1,10 +1,13 @@
 -- The profile that decides on a name: the most specific of those that cover it.
-use Rattle.std.specs.Prelude.{if◌then◌else◌, List, [], ◌∷◌, Option, Some, None, find, filter}
+use Rattle.std.specs.Prelude.{◌≡◌, true, if◌then◌else◌, List, [], ◌∷◌, Option, Some, None, find, filter}
 use Rattle.std.specs.Option.{option_or}
+use Rattle.std.specs.List.{AllByRecursion}
 use Rattle.std.specs.Str.{bytes_eq}
 use Rattle.generic_names.specs.Spelled.{Spelled}
 use Rattle.generic_names.specs.Covers.{covers}
 use Rattle.generic_names.specs.Before.{before}
+use Rattle.generic_names.specs.Laws.{IsResource, IsPattern}
+use Rattle.generic_names.specs.declared.kind.NameKind.{NameKind}
 
 module _ {A : Type 0} (name_of : A → Spelled) where
   -- the more specific of a profile and another, if there is one
@@ -22,3 +25,22 @@ module _ {A : Type 0} (name_of : A → Spelled) where
   best profiles name =
       option_or (find (λ p. bytes_eq (name_of p).text name.text) profiles)
       (most_specific (filter (λ p. covers (name_of p) name) profiles))
+
+  -- each profile is before all behind it
+  abbrev pub IsInOrder : List A → Type 0
+  IsInOrder [] = Unit {0}
+  IsInOrder (x ∷ xs) = AllByRecursion (λ y. before (name_of x) (name_of y) ≡ true) xs × IsInOrder xs
+
+  -- the names are patterns
+  abbrev pub AreNamed : List A → Type 0
+  AreNamed profiles = AllByRecursion (λ x. IsPattern (name_of x)) profiles
+
+  -- they have the kind of a name
+  abbrev pub AreOfKind : NameKind → List A → Type 0
+  AreOfKind kind profiles = AllByRecursion (λ x. (name_of x).kind ≡ kind) profiles
+
+  -- of profiles in order the best is the first that covers the name
+  abbrev pub BestIsFirst : Type 0
+  BestIsFirst =
+      (profiles : List A) (name : Spelled) → IsResource name → AreNamed profiles → AreOfKind name.kind profiles → IsInOrder profiles
+      → best profiles name ≡ find (λ p. covers (name_of p) name) profiles

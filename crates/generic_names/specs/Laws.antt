@@ -44,3 +44,7 @@ ReadsBack = (kind : NameKind) (text : List ℕ) (name : Spelled) → pattern_of 
 -- the name of a resource is that of a profile
 abbrev pub ResourceIsPattern : Type 0
 ResourceIsPattern = (name : Spelled) → IsResource name → IsPattern name
+
+-- the very name covers itself
+abbrev pub CoversItself : Type 0
+CoversItself = (name : Spelled) → IsResource name → covers name name ≡ true

@@ -9,6 +9,7 @@ use crate::kind::NameKind;
 use crate::qualifiers::qualifier_end;
 
 /// How a walk along a pattern and a name ends.
+#[derive(Clone, Copy)]
 pub(crate) enum WalkEnd {
     Covered,
     Refused,

@@ -54,6 +54,15 @@ impl Pattern {
         })
     }
 
+    /// The discrete pattern of a resource's very name.
+    pub fn discrete(name: &Resource) -> Pattern
+        ensures { result ≡ name.now }
+    {
+        Pattern {
+            name: Spelling::of(name.kind(), name.text()),
+        }
+    }
+
     /// The pattern with this spelling, if it is the name of one.
     pub(crate) fn spelled(name: Spelling) -> Option<Pattern>
         ensures { result ≡ result_ok (pattern_of name.kind name.text) }

@@ -6,7 +6,7 @@ mod RankLaws
 mod ReplaceLaws
 pub mod Lawful
 pub mod OrderLaws
-mod FirstLaws
+pub mod FirstLaws
 mod CompareLaws
 mod GapLaws
 pub mod BestLaws

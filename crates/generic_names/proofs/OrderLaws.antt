@@ -126,3 +126,8 @@ equals_tie a = same_ties (ranks (qualifiers a.text))
 
 pub gap_closed : (a b : Spelled) (gap : List ℕ) → before a b ≡ true → is_lt (slice_cmp nat_cmp (ranks (qualifiers b.text)) gap) ≡ true → is_lt (slice_cmp nat_cmp (ranks (qualifiers a.text)) gap) ≡ true
 gap_closed a b gap ab below = ap is_lt (nat_list_cmp_total.trans (ranks (qualifiers a.text)) (ranks (qualifiers b.text)) gap (is_less _ ab) (is_less _ below))
+
+-- what comes behind is that before which the other comes
+pub before-from-greater : (a b : Spelled) → order a b ≡ Greater → before b a ≡ true
+before-from-greater a b is =
+    ap is_lt (nat_list_cmp_total.antisymm (ranks (qualifiers b.text)) (ranks (qualifiers a.text)) ∙ ap ordering_reverse is)

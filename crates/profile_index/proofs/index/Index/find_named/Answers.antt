@@ -1,0 +1,9 @@
+use Rattle.std.proofs.Common.{ap, subst, ◌∙◌, find}
+use Rattle.profile_index.specs.Indexed.{has_name, IsPlaceOf}
+use Rattle.profile_index.proofs.PlaceLaws.{place-from-first}
+use Rattle.profile_index.proofs.index.Index.find_named.Goals as goal
+
+pub returns : goal.returns
+returns g c =
+    let view = c.deref.ensures.value ∙ ap (λ x. x.entries) c.self.view_is in
+    subst (λ xs. IsPlaceOf xs (find (has_name c.args.name.now) xs) c.place_named.result) view (place-from-first (has_name c.args.name.now) c.deref.result.now c.place_named.result c.place_named.ensures.first)

@@ -1,0 +1,151 @@
+ghost use Rattle.std.specs.Prelude.{◌≡◌, ◌+◌, ◌-◌, ◌*◌, ◌^◌, ◌<◌, ◌≤◌, [], length, max, find, IsOk, IfOk, OnOk, OnErr, Some, is_some, if◌then◌else◌};
+ghost use Rattle.std.specs.Option.{option_map};
+ghost use Rattle.generic_names.specs.Best.{best, IsInOrder, AreNamed};
+ghost use Rattle.std.specs.List.{slice_get};
+
+use crate::entry::Entry;
+use crate::search::{end_of_those_before, first_that_covers, place_named, place_of};
+use crate::steps::Steps;
+use generic_names::{Pattern, Resource};
+use std::alloc::{AllocError, Global};
+use std::marker::Model;
+use std::sync::ledger::Ledger;
+
+/// Want of memory.
+pub type NoMemory = AllocError;
+
+/// Entries in the order of specificity of their names, which are of one kind.
+#[derive(Drop)]
+pub struct Index<T> {
+    entries: Vec<Entry<T>>,
+    spare: usize,
+}
+
+impl<T> Model for Index<T> {
+    ghost use Rattle.std.specs.Prelude.{ℕ, ◌+◌, ◌≤◌, vec_len};
+    ghost use Rattle.std.specs.Vec.{vec_capacity};
+    ghost use Rattle.generic_names.specs.Best.{IsInOrder, AreNamed};
+    ghost use Rattle.profile_index.specs.Indexed.{Indexed, name_of};
+
+    ghost Value = { Indexed T };
+
+    ghost view = { λ x. record { entries = x.entries.items; spare = x.spare } };
+
+    ghost invariant = { λ x. (vec_len x.entries + x.spare ≤ vec_capacity x.entries) × IsInOrder name_of x.entries.items × AreNamed name_of x.entries.items };
+}
+
+impl<T> Index<T> {
+    ghost use Rattle.profile_index.specs.Indexed.{name_of, has_name, AreOf, IsAbsent, IsPlaceOf, with_entry, without};
+
+    /// An index without entries. It takes no memory yet.
+    pub fn new(alloc: Global) -> Result<Index<T>, NoMemory>
+        ensures ok { IsOk result }
+        ensures empty { IfOk result (λ index. index.entries ≡ []) }
+        ensures none_spare { IfOk result (λ index. index.spare ≡ 0) }
+    {
+        Ok(Index {
+            entries: Vec::new(alloc),
+            spare: 0,
+        })
+    }
+
+    /// Makes room for at least this many entries more.
+    pub fn reserve(&mut self, n: usize) -> Result<(), NoMemory>
+        ensures spare { OnOk result (self.new.spare ≡ max self.old.spare n) }
+        ensures entries { self.new.entries ≡ self.old.entries }
+        ensures err { OnErr result (self.new.spare ≡ self.old.spare) }
+        ensures enough { n ≤ self.old.spare → IsOk result }
+    {
+        if self.spare < n {
+            self.entries.reserve(n)?;
+            self.spare = n;
+        }
+        Ok(())
+    }
+
+    /// How many entries there are. They stand in the order of specificity, so no name comes twice.
+    pub fn len(&self) -> usize
+        ensures len { result ≡ length self.now.entries }
+        ensures ordered { IsInOrder name_of self.now.entries }
+        ensures named { AreNamed name_of self.now.entries }
+    {
+        self.entries.len()
+    }
+
+    /// How many entries can be inserted before the next `reserve`.
+    pub fn spare(&self) -> usize
+        ensures { result ≡ self.now.spare }
+    {
+        self.spare
+    }
+
+    /// The name and the item at a place.
+    pub fn at(&self, place: usize) -> (&Pattern, &T)
+        requires { place < length self.now.entries }
+        ensures { slice_get self.now.entries place ≡ Some (record { name = result.0.now; item = result.1.now }) }
+    {
+        let entry = &self.entries[place];
+        (&entry.name, &entry.item)
+    }
+
+    /// The most specific entry that covers a name. An entry before the very name isn't looked at, and of
+    /// those behind it whole runs are passed over that can't cover it: those that differ from it by their
+    /// first byte, or at any later one before the first `*`. Entries that differ behind a `*` or `**` alone
+    /// are looked at one by one.
+    pub fn find(&self, name: &Resource) -> Option<usize>
+        requires { AreOf name.now.kind self.now.entries }
+        ensures { IsPlaceOf self.now.entries (best name_of self.now.entries name.now) result }
+    {
+        first_that_covers(&self.entries, name)
+    }
+
+    /// The entry of the very name, in as many comparisons as the number of entries has binary digits.
+    pub fn find_discrete<L: Ledger>(&self, name: &Resource, steps: &mut Steps<L>) -> Option<usize>
+        requires { AreOf name.now.kind self.now.entries }
+        ensures place { IsPlaceOf self.now.entries (find (has_name name.now) self.now.entries) result }
+        ensures onward { steps.old ≤ steps.new }
+        ensures cost { 2 ^ (steps.new - steps.old) ≤ 2 * length self.now.entries + 1 }
+    {
+        place_of(&self.entries, name, steps)
+    }
+
+    /// The entry of a pattern's name, generic or not.
+    pub fn find_named(&self, name: &Pattern) -> Option<usize>
+        requires { AreOf name.now.kind self.now.entries }
+        ensures { IsPlaceOf self.now.entries (find (has_name name.now) self.now.entries) result }
+    {
+        place_named(&self.entries, name)
+    }
+
+    /// Adds an entry at its place in the order. It takes no memory, and moves those behind it.
+    pub fn insert(&mut self, name: Pattern, item: T)
+        requires room { 0 < self.old.spare }
+        requires kind { AreOf name.kind self.old.entries }
+        requires absent { IsAbsent name self.old.entries }
+        ensures entries { self.new.entries ≡ with_entry (record { name = name; item = item }) self.old.entries }
+        ensures kinds { AreOf name.kind self.new.entries }
+        ensures spare { self.new.spare + 1 ≡ self.old.spare }
+    {
+        // That the text is a pattern's is what the laws of the order rest on.
+        let _ = name.text();
+        let place = end_of_those_before(&self.entries, &name);
+        self.spare -= 1;
+        self.entries.insert(place, Entry { name, item }).unwrap();
+    }
+
+    /// Takes the entry of a name out, if there is one. It moves those behind it.
+    pub fn remove(&mut self, name: &Pattern) -> Option<T>
+        requires { AreOf name.now.kind self.old.entries }
+        ensures item { result ≡ option_map (λ e. e.item) (find (has_name name.now) self.old.entries) }
+        ensures entries { self.new.entries ≡ without name.now self.old.entries }
+        ensures kinds { AreOf name.now.kind self.new.entries }
+        ensures spare { self.new.spare ≡ self.old.spare + (if is_some result then 1 else 0) }
+    {
+        let Some(place) = place_named(&self.entries, name) else {
+            return None;
+        };
+        self.spare += 1;
+        let Entry { name: _, item } = self.entries.remove(place);
+        Some(item)
+    }
+}

@@ -1,0 +1,11 @@
+//! Profiles in the order of specificity.
+#![tactic(auto)]
+
+mod entry;
+mod index;
+mod search;
+mod steps;
+
+pub use entry::Entry;
+pub use index::Index;
+pub use steps::Steps;

@@ -1,0 +1,149 @@
+ghost use Rattle.std.specs.Prelude.{◌≡◌, ℕ, ◌+◌, ◌-◌, ◌*◌, ◌^◌, ◌<◌, ◌≤◌, true, false, List, length, get_or};
+ghost use Rattle.std.specs.List.{AllWithin};
+ghost use Rattle.std.specs.Str.{bytes_eq};
+ghost use Rattle.generic_names.specs.Covers.{covers};
+ghost use Rattle.generic_names.specs.Before.{before, order};
+ghost use Rattle.generic_names.specs.Laws.{IsResource};
+ghost use Rattle.generic_names.specs.Gap.{is_below};
+ghost use Rattle.generic_names.specs.Best.{IsInOrder, AreNamed};
+ghost use Rattle.profile_index.specs.Indexed.{name_of, has_name, AreOf};
+ghost use Rattle.profile_index.specs.Places.{IsFirst, IsOnly};
+ghost use Rattle.profile_index.specs.declared.entry.Entry.{Entry};
+
+use crate::entry::Entry;
+use crate::steps::Steps;
+use generic_names::{Gap, Pattern, Resource};
+use std::cmp::Ordering;
+use std::sync::ledger::Ledger;
+
+/// Where the entries that are before a name end.
+pub(crate) fn end_of_those_before<T>(entries: &[Entry<T>], name: &Pattern) -> usize
+    requires ordered { IsInOrder name_of entries.now }
+    requires kinds { AreOf name.now.kind entries.now }
+    ensures within { result ≤ length entries.now }
+    ensures below { AllWithin (λ e. before e.name name.now ≡ true) entries.now 0 result }
+    ensures above { AllWithin (λ e. before e.name name.now ≡ false) entries.now result (length entries.now) }
+{
+    let mut low = 0;
+    let mut high = entries.len();
+    while low < high {
+        let middle = low + (high - low) / 2;
+        if entries[middle].name.before(name) {
+            low = middle + 1;
+        } else {
+            high = middle;
+        }
+    }
+    low
+}
+
+/// Where the entries end that lie before the end of a gap, from a place on at which one does.
+fn end_of_gap<T>(entries: &[Entry<T>], from: usize, gap: &Gap) -> usize
+    requires ordered { IsInOrder name_of entries.now }
+    requires within { from < length entries.now }
+    requires begun { (d : Entry T) → is_below (get_or entries.now from d).name gap.now ≡ true }
+    ensures onward { from < result }
+    ensures within { result ≤ length entries.now }
+    ensures below { AllWithin (λ e. is_below e.name gap.now ≡ true) entries.now from result }
+{
+    let mut low = from + 1;
+    let mut high = entries.len();
+    while low < high {
+        let middle = low + (high - low) / 2;
+        if entries[middle].name.is_below(gap) {
+            low = middle + 1;
+        } else {
+            high = middle;
+        }
+    }
+    low
+}
+
+/// The first entry that covers a name. Entries before the very name don't, and behind one that doesn't
+/// those that can't for the same reason are passed over.
+pub(crate) fn first_that_covers<T>(entries: &[Entry<T>], name: &Resource) -> Option<usize>
+    requires ordered { IsInOrder name_of entries.now }
+    requires named { AreNamed name_of entries.now }
+    requires kinds { AreOf name.now.kind entries.now }
+    ensures resource { IsResource name.now }
+    ensures first { IsFirst (λ e. covers e.name name.now) entries.now result }
+{
+    // That the text is a resource's name is what the laws of the order rest on.
+    let _ = name.text();
+    let mut place = end_of_those_before(entries, &Pattern::discrete(name));
+    while place < entries.len() {
+        let pattern = &entries[place].name;
+        if pattern.covers(name) {
+            return Some(place);
+        }
+        place = match pattern.gap(name) {
+            Some(gap) => end_of_gap(entries, place, &gap),
+            None => place + 1,
+        };
+    }
+    None
+}
+
+/// The place of a resource's very name, by halving. Each comparison is counted.
+pub(crate) fn place_of<T, L: Ledger>(
+    entries: &[Entry<T>],
+    name: &Resource,
+    steps: &mut Steps<L>,
+) -> Option<usize>
+    requires ordered { IsInOrder name_of entries.now }
+    requires named { AreNamed name_of entries.now }
+    requires kinds { AreOf name.now.kind entries.now }
+    ensures first { IsFirst (has_name name.now) entries.now result }
+    ensures onward { steps.old ≤ steps.new }
+    ensures cost { 2 ^ (steps.new - steps.old) ≤ 2 * length entries.now + 1 }
+{
+    let _ = name.text();
+    let mut low = 0;
+    let mut size = entries.len();
+    while size > 0 {
+        let half = size / 2;
+        let middle = low + half;
+        match counted(&entries[middle].name, name, steps) {
+            Ordering::Equal => return Some(middle),
+            Ordering::Less => {
+                low = middle + 1;
+                size -= half + 1;
+            }
+            Ordering::Greater => size = half,
+        }
+    }
+    None
+}
+
+/// Which of the two names comes first. Every comparison of names in `place_of` is made here and counted.
+fn counted<L: Ledger>(pattern: &Pattern, name: &Resource, steps: &mut Steps<L>) -> Ordering
+    requires { pattern.now.kind ≡ name.now.kind }
+    ensures order { result ≡ order pattern.now name.now }
+    ensures counted { steps.new ≡ steps.old + 1 }
+{
+    steps.tick();
+    pattern.order_of_name(name)
+}
+
+/// The place of a pattern's name.
+pub(crate) fn place_named<T>(entries: &[Entry<T>], name: &Pattern) -> Option<usize>
+    requires ordered { IsInOrder name_of entries.now }
+    requires kinds { AreOf name.now.kind entries.now }
+    ensures first { IsFirst (has_name name.now) entries.now result }
+    ensures alone { IsOnly (has_name name.now) entries.now result }
+{
+    let place = end_of_those_before(entries, name);
+    if place == entries.len() {
+        return None;
+    }
+    if !have_one_text(&entries[place].name, name) {
+        return None;
+    }
+    Some(place)
+}
+
+fn have_one_text(first: &Pattern, second: &Pattern) -> bool
+    ensures { result ≡ bytes_eq first.now.text second.now.text }
+{
+    first.text() == second.text()
+}

@@ -1,13 +1,12 @@
 -- One step of a walk up, and that it ends.
-use Rattle.std.proofs.Common.{◌≡◌, ℕ, ◌+◌, ◌<◌, ◌≤◌, Bool, true, false, cond, List, [], ◌∷◌, length, Option, Some, None, IsSome, is_some, bytes_eq, refl, sym, ap, subst, ◌∙◌, true≢false, arith}
-use Rattle.std.specs.Prelude.{IsSomeAnd, ◌↔◌}
+use Rattle.std.proofs.Common.{◌≡◌, ℕ, ◌+◌, ◌<◌, ◌≤◌, Bool, true, false, cond, List, [], ◌∷◌, length, Option, Some, None, is_some, bytes_eq, refl, sym, ap, subst, ◌∙◌, true≢false, arith}
 use Rattle.std.specs.Option.{option_eq}
 use Rattle.racf_profiles.specs.declared.groups.Group.{Group}
 use Rattle.group_tree.specs.declared.climb.Climb.{Climb}
 use Rattle.group_tree.specs.declared.climb.Climb.TheVariants.{BySuperiors, ByOwners}
 use Rattle.racf_profiles.specs.NewDatabase.{sys1}
 use Rattle.group_tree.specs.Groups.{find_group, IsGroup}
-use Rattle.group_tree.specs.Scope.{IsWay, IsUnder, IsUnderOwner}
+use Rattle.group_tree.specs.Scope.{IsWay, IsUnder}
 use Rattle.group_tree.specs.Climb.{above, IsLinkedBy, LeadsUp}
 use Rattle.group_tree.specs.Lawful.{IsTree}
 use Rattle.group_tree.proofs.Rows.{same, itself, value_of, holds_of}

@@ -1,11 +1,10 @@
 -- A tree that is changed as the calls change it is a tree.
-use Rattle.std.proofs.Common.{◌≡◌, ℕ, ◌+◌, ◌≤◌, ◌<◌, Bool, true, false, cond, not, map, filter, List, [], ◌∷◌, ◌++◌, length, Option, Some, None, IsSome, is_some, bytes_eq, refl, sym, ap, subst, ◌∙◌, true≢false, arith, ⊎_elim, inl, inr, length-append}
-use Rattle.std.specs.Prelude.{IsSomeAnd, ◌↔◌, ◌⊎◌, find}
-use Rattle.std.specs.List.{list_any, IsDistinct, AllByRecursion}
+use Rattle.std.proofs.Common.{◌≡◌, ℕ, ◌≤◌, Bool, true, false, cond, not, map, List, [], ◌∷◌, length, Option, Some, None, is_some, bytes_eq, refl, sym, ap, subst, ◌∙◌, true≢false, arith, ⊎_elim, inl, inr, length-append}
+use Rattle.std.specs.Prelude.{◌↔◌, ◌⊎◌}
+use Rattle.std.specs.List.{IsDistinct, AllByRecursion}
 use Rattle.std.specs.Option.{option_map, option_eq}
 use Rattle.std.specs.Set.{is_member}
 use Rattle.std.specs.Cmp.Lexicographic.{nat_list_eq_equiv}
-use Rattle.std.proofs.lemmas.Bool.{cases_Bool}
 use Rattle.std.proofs.lemmas.List.{length-map, map-append}
 use Rattle.std.proofs.lemmas.Map.Keys.{IsDistinct-push, IsDistinct-head, IsDistinct-tail, IsDistinct-cons}
 use Rattle.racf_profiles.specs.declared.groups.Group.{Group}
@@ -14,10 +13,10 @@ use Rattle.group_tree.specs.Groups.{find_group, IsGroup, first_absent, first_sub
 use Rattle.racf_profiles.specs.Lookup.{is_group}
 use Rattle.racf_profiles.specs.Edits.{drop_row}
 use Rattle.group_tree.specs.Scope.{IsWay, IsUnder, IsWithin}
-use Rattle.group_tree.specs.Lawful.{IsTree, most_groups}
+use Rattle.group_tree.specs.Lawful.{IsTree}
 use Rattle.group_tree.specs.Answers.{CanAdd, CanMove, CanRemove}
-use Rattle.group_tree.proofs.Rows.{same, itself, apart, unlike, value_of, holds_of, some_of, id-find_group, find_group-push_other, find_group-push_here, find_group-push_cases, find_group-map, names-map, find_group-drop_other, find_group-drop_gone}
-use Rattle.group_tree.proofs.Ways.{way-first, way-kept, is_member-names}
+use Rattle.group_tree.proofs.Rows.{same, itself, apart, value_of, holds_of, some_of, id-find_group, find_group-push_other, find_group-push_here, find_group-push_cases, find_group-map, names-map, find_group-drop_other, find_group-drop_gone}
+use Rattle.group_tree.proofs.Ways.{way-kept, is_member-names}
 
 -- ---- the names that have to be there
 pub there_one : (groups : List Group) (id : List ℕ) → first_absent groups (id ∷ []) ≡ None → IsGroup groups id

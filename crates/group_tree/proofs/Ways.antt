@@ -1,19 +1,19 @@
 -- Ways up through the groups: how far they lead, and that each group has one way to the root.
-use Rattle.std.proofs.Common.{◌≡◌, ℕ, ◌+◌, ◌≤◌, ◌<◌, Bool, true, false, cond, map, List, [], ◌∷◌, ◌++◌, length, suc, ◌||◌, Option, Some, None, IsSome, is_some, bytes_eq, refl, sym, ap, subst, ◌∙◌, true≢false, arith, ⊎_elim, length-append}
+use Rattle.std.proofs.Common.{◌≡◌, ℕ, ◌<◌, Bool, true, false, cond, map, List, [], ◌∷◌, ◌++◌, length, suc, ◌||◌, Some, None, is_some, bytes_eq, refl, sym, ap, subst, ◌∙◌, true≢false, arith, ⊎_elim, length-append}
 use Rattle.std.specs.Prelude.{IsSomeAnd, ◌↔◌}
-use Rattle.std.specs.List.{list_any, IsDistinct, AllByRecursion}
+use Rattle.std.specs.List.{IsDistinct, AllByRecursion}
 use Rattle.std.specs.Set.{is_member}
 use Rattle.std.specs.Cmp.Lexicographic.{nat_list_eq_equiv}
-use Rattle.std.proofs.lemmas.Bool.{cases_Bool, or_cases}
+use Rattle.std.proofs.lemmas.Bool.{or_cases}
 use Rattle.std.proofs.lemmas.Map.Keys.{IsDistinct-cons}
 use Rattle.std.proofs.lemmas.Map.Made.{length-le_from_is_member}
 use Rattle.std.proofs.lemmas.List.{length-map}
 use Rattle.racf_profiles.specs.declared.groups.Group.{Group}
 use Rattle.racf_profiles.specs.NewDatabase.{sys1}
 use Rattle.group_tree.specs.Groups.{find_group, IsGroup}
-use Rattle.group_tree.specs.Scope.{IsWay, IsUnder, IsUnderOwner, IsWithin, InScopeGroup}
+use Rattle.group_tree.specs.Scope.{IsWay, IsUnder, IsWithin}
 use Rattle.group_tree.specs.Lawful.{IsTree, IsBelow}
-use Rattle.group_tree.proofs.Rows.{same, turned, apart, value_of, holds_of, some_of, id-find_group}
+use Rattle.group_tree.proofs.Rows.{same, turned, apart, value_of, holds_of, some_of}
 
 -- ---- ways of any link
 module _ (L : Group → List ℕ → Type 0) (groups : List Group) where

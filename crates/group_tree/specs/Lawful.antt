@@ -1,5 +1,5 @@
 -- What every tree of groups keeps.
-use Rattle.std.specs.Prelude.{◌≡◌, ℕ, ◌≤◌, ◌↔◌, List, map, length, Option, Some, None, IsSomeAnd, bytes_eq}
+use Rattle.std.specs.Prelude.{◌≡◌, ℕ, ◌≤◌, ◌↔◌, List, map, length, Some, None, IsSomeAnd, bytes_eq}
 use Rattle.std.specs.List.{IsDistinct}
 use Rattle.racf_profiles.specs.declared.groups.Group.{Group}
 use Rattle.racf_profiles.specs.NewDatabase.{sys1}

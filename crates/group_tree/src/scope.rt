@@ -17,22 +17,23 @@ impl Tree {
     }
 
     /// Whether the group is in scope of `top`: it is `top`, or its owner is its superior group and that one is
-    /// in scope. One look-up by name for each group on the way.
+    /// in scope (the scope of a group: z/OS Security Server RACF Security Administrator's Guide). A name that no group
+    /// has is in scope of none, and has none in scope. One look-up by name for each group on the way.
     pub fn in_scope_group(&self, top: Id, group: Id) -> bool
         ensures { IsTrue result ↔ InScopeGroup self.now.groups top group }
     {
         self.leads_up(Climb::ByOwners, group, top)
     }
 
-    /// Whether a user with that owner is in scope of `top`.
+    /// Whether a user with that owner is in scope of `top`: a group in scope owns it (the same book).
     pub fn in_scope_user(&self, top: Id, owner: Id) -> bool
         ensures { IsTrue result ↔ InScopeUser self.now.groups top owner }
     {
         self.in_scope_group(top, owner)
     }
 
-    /// Whether a profile with that owner is in scope of `top` (this product's own rule): a group in scope owns it,
-    /// or a user in scope.
+    /// Whether a profile with that owner is in scope of `top`: a group in scope owns it, or a user in scope (this
+    /// product's own rule). The view tells the users; its groups are those of the tree.
     pub fn in_scope_profile<V: View>(&self, view: &V, top: Id, owner: Id) -> bool
         requires { self.now.groups ≡ (V.rows view.now).groups }
         ensures { IsTrue result ↔ InScopeProfile (V.rows view.now) top owner }

@@ -1,10 +1,9 @@
 //! The calls that change a tree. One that is refused leaves it as it was.
-ghost use Rattle.std.specs.Prelude.{◌≡◌, ◌≢◌, ◌-◌, ◌∷◌, [], max, None, is_some, IsNone, IsSome, IfErr, OnOk, OnErr};
-ghost use Rattle.std.specs.Option.{option_map};
+ghost use Rattle.std.specs.Prelude.{◌≡◌, ◌≢◌, ◌-◌, max, is_some, IsNone, IsSome, IfErr, OnOk, OnErr};
 ghost use Rattle.racf_profiles.specs.Lookup.{is_group};
 ghost use Rattle.racf_profiles.specs.Edits.{drop_row};
 ghost use Rattle.racf_profiles.specs.NewDatabase.{sys1};
-ghost use Rattle.group_tree.specs.Groups.{find_group, first_subgroup, with_group, at_group, with_superior, with_owner};
+ghost use Rattle.group_tree.specs.Groups.{find_group, with_group, at_group, with_superior, with_owner};
 ghost use Rattle.group_tree.specs.Answers.{CanAdd, AddRefused, CanMove, MoveRefused, OwnerRefused, CanRemove, RemoveRefused};
 
 use super::{MOST_GROUPS, Tree};

@@ -1,8 +1,8 @@
-use Rattle.std.proofs.Common.{◌≡◌, ◌<◌, ◌∙◌, length, Some, None, ap, sym, subst, bytes_eq, arith}
+use Rattle.std.proofs.Common.{◌≡◌, ◌∙◌, Some, None, ap, sym, subst, bytes_eq, arith}
 use Rattle.indexmap.specs.IndexMap.{values, get}
 use Rattle.indexmap.proofs.CallerLemmas.{insert_entry-new}
 use Rattle.group_tree.specs.Groups.{find_group, with_group}
-use Rattle.group_tree.specs.Lawful.{IsTree, most_groups}
+use Rattle.group_tree.specs.Lawful.{IsTree}
 use Rattle.group_tree.specs.Answers.{CanAdd}
 use Rattle.group_tree.proofs.Edits.{tree-with_group, one_there, none_from_is_some}
 use Rattle.group_tree.proofs.Stored.{looked, pushed}

@@ -1,4 +1,4 @@
-use Rattle.std.proofs.Common.{◌∙◌, ap, bytes_eq, is_some}
+use Rattle.std.proofs.Common.{◌∙◌, ap, is_some}
 use Rattle.group_tree.specs.Groups.{find_group}
 use Rattle.group_tree.proofs.Rows.{lookup_named}
 use Rattle.group_tree.proofs.tree.Tree.contains.Goals as goal

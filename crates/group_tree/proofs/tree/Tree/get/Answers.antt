@@ -1,4 +1,4 @@
-use Rattle.std.proofs.Common.{◌∙◌, ap, bytes_eq}
+use Rattle.std.proofs.Common.{◌∙◌, ap}
 use Rattle.group_tree.specs.Groups.{find_group}
 use Rattle.group_tree.proofs.Rows.{lookup_named}
 use Rattle.group_tree.proofs.tree.Tree.get.Goals as goal

@@ -1,6 +1,6 @@
-use Rattle.std.proofs.Common.{◌≡◌, ◌≤◌, length, Some, None, true, false, bytes_eq, refl, sym, ap, ◌∙◌, arith}
+use Rattle.std.proofs.Common.{◌≡◌, ◌≤◌, length, Some, None, refl, sym, ◌∙◌, arith}
 use Rattle.group_tree.specs.Groups.{find_group}
-use Rattle.group_tree.specs.Climb.{LeadsUp, above}
+use Rattle.group_tree.specs.Climb.{above}
 use Rattle.group_tree.proofs.Rows.{same, unlike}
 use Rattle.group_tree.proofs.Climbs.{leads_none, leads_here, leads_stuck, leads_from_next, leads_to_next, steps_first, steps_next, steps_all}
 use Rattle.group_tree.proofs.tree.Tree.leads_up.Goals as goal

@@ -1,4 +1,4 @@
-use Rattle.std.proofs.Common.{◌≡◌, ◌∙◌, None, ap, sym, subst, arith}
+use Rattle.std.proofs.Common.{◌∙◌, ap, sym, subst, arith}
 use Rattle.indexmap.specs.IndexMap.{values}
 use Rattle.group_tree.specs.Groups.{first_subgroup}
 use Rattle.racf_profiles.specs.Lookup.{is_group}

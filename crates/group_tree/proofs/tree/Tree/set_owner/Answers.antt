@@ -1,7 +1,5 @@
-use Rattle.std.proofs.Common.{◌≡◌, ◌∙◌, ap, sym, subst, refl, Some, is_some, bytes_eq, arith}
-use Rattle.std.specs.Map.{lookup}
+use Rattle.std.proofs.Common.{◌∙◌, ap, sym, subst, refl, is_some, arith}
 use Rattle.indexmap.specs.IndexMap.{values}
-use Rattle.racf_profiles.specs.declared.groups.Group.{Group}
 use Rattle.group_tree.specs.Groups.{at_group, with_owner}
 use Rattle.group_tree.specs.Lawful.{IsTree}
 use Rattle.group_tree.proofs.Edits.{tree-with_owner, absent_one}

@@ -1,4 +1,4 @@
-use Rattle.std.proofs.Common.{◌≡◌, ◌∙◌, ap, sym, subst, refl, true≢false, is_some, arith}
+use Rattle.std.proofs.Common.{◌∙◌, ap, sym, subst, refl, true≢false, is_some, arith}
 use Rattle.indexmap.specs.IndexMap.{values}
 use Rattle.group_tree.specs.Groups.{at_group, with_superior}
 use Rattle.group_tree.specs.Lawful.{IsTree}

@@ -102,7 +102,7 @@ flag-read o rest tied p h apart =
       item_first = ap items (plain_token (tied && true) (suc p) (spelling_of o.word) rest plain.some plain.letters apart.ends)
           ∙ word_items (tokens_from Ignored true 0 (suc p + length (spelling_of o.word)) rest) (suc p) (spelling_of o.word) (apart.opens true (suc p + length (spelling_of o.word)));
       reads = λ at rows slots k here found free.
-          rw (slot-ok rows slots (suc p) o k found free, here, bare-again o.kind (suc p) h) refl
+          rw (slot-ok rows slots (suc p) o k found free, here, bare-again o.kind (suc p) h) refl;
     }
 
 -- an operand and its value
@@ -112,10 +112,10 @@ valued-read o v rest tied p h shown written =
     let S : List ℕ = spelling_of o.word in
     let q : ℕ = suc p + length (spelling_of o.word) in
     let regrouped : value_text v ++ rest ≡ 40 ∷ (text_of v ++ 41 ∷ rest) =
-        ap (λ bs. bs ++ rest) written ∙ ap (λ bs. 40 ∷ bs) (append_assoc (text_of v) (41 ∷ []) rest) in
+    ap (λ bs. bs ++ rest) written ∙ ap (λ bs. 40 ∷ bs) (append_assoc (text_of v) (41 ∷ []) rest) in
     let first : tokens_from Ignored (tied && true) 0 (suc p) (spelling_of o.word ++ (value_text v ++ rest)) ≡ Word (suc p) (spelling_of o.word) ∷ tokens_from Ignored true 0 (suc p + length (spelling_of o.word)) (40 ∷ (text_of v ++ 41 ∷ rest)) =
-        ap (λ bs. tokens_from Ignored (tied && true) 0 (suc p) (spelling_of o.word ++ bs)) regrouped
-            ∙ plain_token (tied && true) (suc p) (spelling_of o.word) (40 ∷ (text_of v ++ 41 ∷ rest)) plain.some plain.letters refl in
+    ap (λ bs. tokens_from Ignored (tied && true) 0 (suc p) (spelling_of o.word ++ bs)) regrouped
+    ∙ plain_token (tied && true) (suc p) (spelling_of o.word) (40 ∷ (text_of v ++ 41 ∷ rest)) plain.some plain.letters refl in
     let second = group_token Ignored true (suc p + length (spelling_of o.word)) (text_of v) rest (value-ends o.kind v (suc p + length (spelling_of o.word)) (suc (suc p + length (spelling_of o.word))) rest h shown) in
     record {
       item = With (suc p) (spelling_of o.word) (within (suc p + length (spelling_of o.word)) (text_of v));
@@ -123,7 +123,7 @@ valued-read o v rest tied p h shown written =
       place_behind = suc p + length (spelling_of o.word) + length (text_of v) + 2;
       item_first = ap items first ∙ ap (λ ts. items (Word (suc p) (spelling_of o.word) ∷ ts)) second;
       reads = λ at rows slots k here found free.
-          rw (slot-ok rows slots (suc p) o k found free, here, value-again at o.kind (suc p) (suc p + length (spelling_of o.word)) v h shown) refl
+          rw (slot-ok rows slots (suc p) o k found free, here, value-again at o.kind (suc p) (suc p + length (spelling_of o.word)) v h shown) refl;
     }
 
 operand-read : (o : Operand) (v : Content) (rest : List ℕ) (tied : Bool) (p : ℕ) → Fits o.kind v → IsApart rest → IsReadAs o v rest tied p
@@ -144,8 +144,8 @@ operands_again at rows pre (o ∷ os) front (None ∷ ss) k tied p whole at_pre 
     let front' : length (front ++ None ∷ []) ≡ suc k = omega (arith, length-append front (None ∷ [])) in
     let whole' : rows ≡ (pre ++ o ∷ []) ++ os = whole ∙ sym (append_assoc pre (o ∷ []) os) in
     ap (λ slots. operands_at at rows slots (items (tokens_from Ignored tied 0 p (operands_text os ss)))) (sym (append_assoc front (None ∷ []) (replicate (length os) None)))
-        ∙ operands_again at rows (pre ++ o ∷ []) os (front ++ None ∷ []) ss (suc k) tied p whole' pre' front' found.1 h
-        ∙ ap Ok (append_assoc front (None ∷ []) ss)
+    ∙ operands_again at rows (pre ++ o ∷ []) os (front ++ None ∷ []) ss (suc k) tied p whole' pre' front' found.1 h
+    ∙ ap Ok (append_assoc front (None ∷ []) ss)
 operands_again at rows pre (o ∷ os) front (Some v ∷ ss) k tied p whole at_pre at_front found h =
     let pre' : length (pre ++ o ∷ []) ≡ suc k = omega (arith, length-append pre (o ∷ [])) in
     let front' : length (front ++ Some v ∷ []) ≡ suc k = omega (arith, length-append front (Some v ∷ [])) in
@@ -154,13 +154,13 @@ operands_again at rows pre (o ∷ os) front (Some v ∷ ss) k tied p whole at_pr
     let free : is_given (front ++ None ∷ replicate (length os) None) k ≡ false = ap is_some (get_or_at front None (replicate (length os) None) None k at_front) in
     let read = operand-read o v (operands_text os ss) tied p h.0 (operands-apart os ss) in
     let stored : slice_set (front ++ None ∷ replicate (length os) None) k (Some v) ≡ (front ++ Some v ∷ []) ++ replicate (length os) None =
-        set_at front None (replicate (length os) None) (Some v) k at_front ∙ sym (append_assoc front (Some v ∷ []) (replicate (length os) None)) in
+    set_at front None (replicate (length os) None) (Some v) k at_front ∙ sym (append_assoc front (Some v ∷ []) (replicate (length os) None)) in
     ap (operands_at at rows (front ++ None ∷ replicate (length os) None)) read.item_first
-        ∙ ap (λ r. r >>= λ x. operands_at at rows (slice_set (front ++ None ∷ replicate (length os) None) x.0 (Some x.1)) (items (tokens_from Ignored read.tied_behind 0 read.place_behind (operands_text os ss))))
-            (read.reads at rows (front ++ None ∷ replicate (length os) None) k here found.0 free)
-        ∙ ap (λ slots. operands_at at rows slots (items (tokens_from Ignored read.tied_behind 0 read.place_behind (operands_text os ss)))) stored
-        ∙ operands_again at rows (pre ++ o ∷ []) os (front ++ Some v ∷ []) ss (suc k) read.tied_behind read.place_behind whole' pre' front' found.1 h.1
-        ∙ ap Ok (append_assoc front (Some v ∷ []) ss)
+    ∙ ap (λ r. r >>= λ x. operands_at at rows (slice_set (front ++ None ∷ replicate (length os) None) x.0 (Some x.1)) (items (tokens_from Ignored read.tied_behind 0 read.place_behind (operands_text os ss))))
+    (read.reads at rows (front ++ None ∷ replicate (length os) None) k here found.0 free)
+    ∙ ap (λ slots. operands_at at rows slots (items (tokens_from Ignored read.tied_behind 0 read.place_behind (operands_text os ss)))) stored
+    ∙ operands_again at rows (pre ++ o ∷ []) os (front ++ Some v ∷ []) ss (suc k) read.tied_behind read.place_behind whole' pre' front' found.1 h.1
+    ∙ ap Ok (append_assoc front (Some v ∷ []) ss)
 
 -- a positional word
 record IsNameValue (k : Kind) (v : Content) : Type 0 where
@@ -208,7 +208,7 @@ positions-apart (pos ∷ ps) (v ∷ vs) rest names h apart =
     let named = name_value pos.kind v (both_first _ _ names) h.0 in
     let more = positions-apart ps vs rest (both_second _ _ names) h.1 apart in
     let regrouped : 32 ∷ (named.name ++ (positions_text vs ++ rest)) ≡ positions_text (v ∷ vs) ++ rest =
-        ap (λ bs. 32 ∷ bs) (sym (append_assoc named.name (positions_text vs) rest)) ∙ ap (λ u. positions_text (u ∷ vs) ++ rest) (sym named.is) in
+    ap (λ bs. 32 ∷ bs) (sym (append_assoc named.name (positions_text vs) rest)) ∙ ap (λ u. positions_text (u ∷ vs) ++ rest) (sym named.is) in
     subst (λ (bs : List ℕ). IsApart bs) regrouped (word-apart named.name (positions_text vs ++ rest) (plain-some named.name named.plain) named.plain.letters more.ends)
 
 positions_again : (at : Context) (rows : List Operand) (ps : List Position) (front vs : List Content) (rest : List ℕ) (tied : Bool) (p : ℕ) → list_all (λ (pos : Position). is_name_kind pos.kind) ps ≡ true → FitsPositions ps vs → IsApart rest
@@ -221,20 +221,20 @@ positions_again at rows (pos ∷ ps) front (v ∷ vs) rest tied p names h apart 
     let named = name_value pos.kind v (both_first _ _ names) h.0 in
     let behind = positions-apart ps vs rest (both_second _ _ names) h.1 apart in
     let regrouped : positions_text (v ∷ vs) ++ rest ≡ 32 ∷ (named.name ++ (positions_text vs ++ rest)) =
-        ap (λ u. positions_text (u ∷ vs) ++ rest) named.is ∙ ap (λ bs. 32 ∷ bs) (append_assoc named.name (positions_text vs) rest) in
+    ap (λ u. positions_text (u ∷ vs) ++ rest) named.is ∙ ap (λ bs. 32 ∷ bs) (append_assoc named.name (positions_text vs) rest) in
     let first : tokens_from Ignored tied 0 p (positions_text (v ∷ vs) ++ rest) ≡ Word (suc p) named.name ∷ tokens_from Ignored true 0 (suc p + length named.name) (positions_text vs ++ rest) =
-        ap (tokens_from Ignored tied 0 p) regrouped
-            ∙ plain_token (tied && true) (suc p) named.name (positions_text vs ++ rest) (plain-some named.name named.plain) named.plain.letters behind.ends in
+    ap (tokens_from Ignored tied 0 p) regrouped
+    ∙ plain_token (tied && true) (suc p) named.name (positions_text vs ++ rest) (plain-some named.name named.plain) named.plain.letters behind.ends in
     let more = positions_again at rows ps (front ++ v ∷ []) vs rest true (suc p + length named.name) (both_second _ _ names) h.1 apart in
     record {
       tied_behind = more.tied_behind;
       place_behind = more.place_behind;
       reads = ap (positions_at at rows (pos ∷ ps) front) first
           ∙ ap (λ r. r >>= λ x. positions_at at rows ps (front ++ x.0 ∷ []) x.1)
-              (judged at rows pos (suc p) named.name (tokens_from Ignored true 0 (suc p + length named.name) (positions_text vs ++ rest)) v
-                  (behind.opens true (suc p + length named.name)) (named.plain.sound (suc p)) (named.reads at (suc p)))
+          (judged at rows pos (suc p) named.name (tokens_from Ignored true 0 (suc p + length named.name) (positions_text vs ++ rest)) v
+          (behind.opens true (suc p + length named.name)) (named.plain.sound (suc p)) (named.reads at (suc p)))
           ∙ more.reads
-          ∙ ap (λ us. Ok (us, tokens_from Ignored more.tied_behind 0 more.place_behind rest)) (append_assoc front (v ∷ []) vs)
+          ∙ ap (λ us. Ok (us, tokens_from Ignored more.tied_behind 0 more.place_behind rest)) (append_assoc front (v ∷ []) vs);
     }
 
 -- what follows the command's name
@@ -243,7 +243,7 @@ body_again : (at : Context) (g : Generic) (tied : Bool) (p : ℕ) → IsLawful g
 body_again at g tied p lawful =
     let read = positions_again at (operands_of g.verb) (positions_of g.verb) [] g.positions (operands_text (operands_of g.verb) g.slots) tied p (positions-names g.verb) lawful.fits_positions (operands-apart (operands_of g.verb) g.slots) in
     let filled : operands_at at (operands_of g.verb) (no_slots (operands_of g.verb)) (items (tokens_from Ignored read.tied_behind 0 read.place_behind (operands_text (operands_of g.verb) g.slots))) ≡ Ok g.slots =
-        operands_again at (operands_of g.verb) [] (operands_of g.verb) [] g.slots 0 read.tied_behind read.place_behind refl refl refl (operands-found g.verb) lawful.fits_operands in
+    operands_again at (operands_of g.verb) [] (operands_of g.verb) [] g.slots 0 read.tied_behind read.place_behind refl refl refl (operands-found g.verb) lawful.fits_operands in
     rw (read.reads, filled, lawful.apart) refl
 
 text-apart : (g : Generic) → IsLawful g → IsApart (positions_text g.positions ++ operands_text (operands_of g.verb) g.slots)
@@ -255,10 +255,10 @@ read_again at g lawful short =
     let plain = full_name-plain g.verb in
     let sound : faulty_at Ignored 1 (full_name g.verb) ≡ None = plain.sound 1 in
     let first : tokens_from Ignored false 0 1 (canon g) ≡ Word 1 (full_name g.verb) ∷ tokens_from Ignored true 0 (1 + length (full_name g.verb)) (positions_text g.positions ++ operands_text (operands_of g.verb) g.slots) =
-        plain_token false 1 (full_name g.verb) (positions_text g.positions ++ operands_text (operands_of g.verb) g.slots) plain.some plain.letters (text-apart g lawful).ends in
+    plain_token false 1 (full_name g.verb) (positions_text g.positions ++ operands_text (operands_of g.verb) g.slots) plain.some plain.letters (text-apart g lawful).ends in
     ap (λ b. cond b (Err faults.TextTooLong) (command_at at (tokens_from Ignored false 0 1 (canon g)))) short
-        ∙ ap (command_at at) first
-        ∙ rw (sound, plain.folded, verb_named-full_name g.verb) (body_again at g true (1 + length (full_name g.verb)) lawful)
+    ∙ ap (command_at at) first
+    ∙ rw (sound, plain.folded, verb_named-full_name g.verb) (body_again at g true (1 + length (full_name g.verb)) lawful)
 
 pub spelled_again : (at : Context) (g : Generic) → IsLawful g → nat_lt 30000 (length (canon g)) ≡ false → spelled at (canon g) ≡ Ok g
 spelled_again at g lawful short = rw (read_again at g lawful short, short) refl

@@ -119,8 +119,8 @@ names_step k front tied p (b ∷ w) xs h hs =
     let plain = name-plain k (b ∷ w) (b ∷ w) h in
     let sound : faulty_at Ignored p (b ∷ w) ≡ None = plain.sound p in
     ap (λ ts. names k front (items ts)) (word_token Outside Outside-steady tied p b w (more_text xs) plain.letters (more_ends xs))
-        ∙ ap (names k front) (word_items (tokens_from Outside true 0 (p + length (b ∷ w)) (more_text xs)) p (b ∷ w) (more_opens k (p + length (b ∷ w)) true xs hs))
-        ∙ rw (sound, h) refl
+    ∙ ap (names k front) (word_items (tokens_from Outside true 0 (p + length (b ∷ w)) (more_text xs)) p (b ∷ w) (more_opens k (p + length (b ∷ w)) true xs hs))
+    ∙ rw (sound, h) refl
 
 names_again : (k : Kind) (front : List (List ℕ)) (tied : Bool) (p : ℕ) (xs : List (List ℕ)) → AreNames k xs
     → names k front (items (tokens_from Outside tied 0 p (more_text xs))) ≡ Ok (front ++ xs)
@@ -138,7 +138,7 @@ unfolding tokens
 several_again k p q [] some h = absurd some
 several_again k p q (x ∷ xs) some h =
     several-some k p (items (tokens_from Outside false 0 (suc q) (x ++ more_text xs))) x xs
-        (names_step k [] false (suc q) x xs h.0 h.1 ∙ names_again k (x ∷ []) true (suc q + length x) xs h.1)
+    (names_step k [] false (suc q) x xs h.0 h.1 ∙ names_again k (x ∷ []) true (suc q + length x) xs h.1)
 
 -- a value other than none
 abbrev pub IsShown : Content → Type 0

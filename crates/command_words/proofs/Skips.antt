@@ -21,9 +21,9 @@ grouped-ok q tied p end rest closed above =
     let less : end - suc p ≡ end - p - 1 = omega arith in
     let next : suc p + (end - p) ≡ end + 1 = omega arith in
     ap (λ r. grouped r tied p rest (λ k. tokens_from q false k (suc p) rest)) closed'
-        ∙ ap (λ n. Group tied p (within p (take n rest)) ∷ tokens_from q false (end - p) (suc p) rest) less
-        ∙ ap (λ ts. Group tied p (within p (take (end - p - 1) rest)) ∷ ts)
-            (tokens_from-skip q false (end - p) (suc p) rest ∙ ap (λ n. tokens_from q false 0 n (drop (end - p) rest)) next)
+    ∙ ap (λ n. Group tied p (within p (take n rest)) ∷ tokens_from q false (end - p) (suc p) rest) less
+    ∙ ap (λ ts. Group tied p (within p (take (end - p - 1) rest)) ∷ ts)
+    (tokens_from-skip q false (end - p) (suc p) rest ∙ ap (λ n. tokens_from q false 0 n (drop (end - p) rest)) next)
 
 -- a word of one byte and k more
 pub worded-at : (q : Quoting) (b p k : ℕ) (rest : List ℕ) → k ≡ word_len (after q p b) (p + 1) rest
@@ -31,5 +31,5 @@ pub worded-at : (q : Quoting) (b p k : ℕ) (rest : List ℕ) → k ≡ word_len
 worded-at q b p k rest measured =
     let k' : word_len (after q p b) (suc p) rest ≡ k = rw (← add-one) (sym measured) in
     ap (λ n. worded n b p rest (λ k. tokens_from q true k (suc p) rest)) k'
-        ∙ ap (λ ts. Word p (b ∷ take k rest) ∷ ts) (tokens_from-skip q true k (suc p) rest)
-        ∙ rw (add-one p, add-one k) refl
+    ∙ ap (λ ts. Word p (b ∷ take k rest) ∷ ts) (tokens_from-skip q true k (suc p) rest)
+    ∙ rw (add-one p, add-one k) refl

@@ -10,8 +10,8 @@ use Rattle.racf_profiles.specs.declared.users.User.{User}
 use Rattle.racf_profiles.specs.declared.users.Connect.{Connect as Connection}
 use Rattle.racf_profiles.specs.Lookup.{is_user}
 use Rattle.racf_profiles.specs.Edits.{put_row, drop_row}
-use Rattle.racf_database.specs.declared.command.Issuer.{Issuer}
-use Rattle.racf_database.specs.declared.command.Connect.{Connect}
+use Rattle.command_parser.specs.declared.commands.Issuer.{Issuer}
+use Rattle.command_parser.specs.declared.forms.Connect.{Connect}
 use Rattle.racf_database.specs.Names.{is_to, growth, connected_to, connections, is_administrator, administering, administrators}
 use Rattle.racf_database.specs.Effects.{at_row, altered_connection, connects_after, connected_user, group_or_current}
 use Rattle.racf_database.proofs.RowLaws.{sum-put_row, sum-drop_row, put_row-at_row}

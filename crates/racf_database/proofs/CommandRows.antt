@@ -11,12 +11,12 @@ use Rattle.racf_database.specs.declared.conflict.Conflict.{Conflict}
 use Rattle.racf_database.specs.declared.conflict.Conflict.TheVariants.{NoUser, NoGroup, NoClass, Exists, NotConnected, Root, InUse, Cycle, OwnerNotSuperior, DefaultGroup, LastSpecial, UnknownName, Full}
 use Rattle.racf_database.specs.declared.conflict.Named.TheVariants as named
 use Rattle.racf_database.specs.declared.conflict.Holder.TheVariants.{Subgroup, Connected}
-use Rattle.racf_database.specs.declared.command.Issuer.{Issuer}
-use Rattle.racf_database.specs.declared.command.AddUser.{AddUser}
-use Rattle.racf_database.specs.declared.command.AltUser.{AltUser}
-use Rattle.racf_database.specs.declared.command.Connect.{Connect}
-use Rattle.racf_database.specs.declared.command.Form.{Form}
-use Rattle.racf_database.specs.declared.command.Form.TheVariants as form
+use Rattle.command_parser.specs.declared.commands.Issuer.{Issuer}
+use Rattle.command_parser.specs.declared.forms.AddUser.{AddUser}
+use Rattle.command_parser.specs.declared.forms.AltUser.{AltUser}
+use Rattle.command_parser.specs.declared.forms.Connect.{Connect}
+use Rattle.command_parser.specs.declared.forms.Form.{Form}
+use Rattle.command_parser.specs.declared.forms.Form.TheVariants as form
 use Rattle.racf_database.specs.Effects.{step}
 use Rattle.racf_database.specs.Edits.{edits_of}
 use Rattle.racf_database.specs.Conflicts.{conflict_of, no_user, no_owner, no_group, no_named_group, no_class, name_taken, not_connected, default_not_connected, has_subgroup, has_connected, has_profile, cycle, owner_not_superior, default_group, last_special, unknown_level, unknown_category, never_category, unknown_label, is_root, meets, users_full, groups_full, connections_full, user_full, add_user_conflicts, alt_user_conflicts, del_user_conflicts, add_group_conflicts, alt_group_conflicts, del_group_conflicts, connect_conflicts, remove_conflicts}
@@ -25,7 +25,7 @@ abbrev start : Rows
 start = new_rows (λ _. true)
 
 abbrev ibm : Issuer
-ibm = record { id = codes "IBMUSER"; group = codes "SYS1" }
+ibm = record { id = codes "IBMUSER"; group = codes "SYS1"; group_spelled = refl }
 
 -- What each command is refused for, if it is, over the rows that the ones before it leave.
 abbrev left : Option Conflict → Form → Rows → Rows

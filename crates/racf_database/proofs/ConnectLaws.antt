@@ -2,7 +2,7 @@
 use Rattle.std.proofs.Common.{◌≡◌, ℕ, Bool, true, false, List, [], ◌∷◌}
 use Rattle.racf_profiles.specs.declared.users.Connect.{Connect as Connection}
 use Rattle.racf_profiles.specs.Edits.{drop_row}
-use Rattle.racf_database.specs.declared.command.Connect.{Connect}
+use Rattle.command_parser.specs.declared.forms.Connect.{Connect}
 use Rattle.racf_database.specs.Names.{is_to}
 use Rattle.racf_database.specs.Effects.{connects_after}
 

@@ -15,16 +15,16 @@ use Rattle.group_tree.specs.Lawful.{IsTree}
 use Rattle.group_tree.specs.Answers.{CanAdd, CanMove, CanRemove}
 use Rattle.group_tree.proofs.Rows.{same, some_of, find-passes, id-find_group}
 use Rattle.group_tree.proofs.Edits.{one_there, both_there}
-use Rattle.racf_database.specs.declared.command.Issuer.{Issuer}
-use Rattle.racf_database.specs.declared.command.AddUser.{AddUser}
-use Rattle.racf_database.specs.declared.command.AltUser.{AltUser}
-use Rattle.racf_database.specs.declared.command.AddGroup.{AddGroup}
-use Rattle.racf_database.specs.declared.command.AltGroup.{AltGroup}
-use Rattle.racf_database.specs.declared.command.DelGroup.{DelGroup}
-use Rattle.racf_database.specs.declared.command.Connect.{Connect}
-use Rattle.racf_database.specs.declared.command.Remove.{Remove}
-use Rattle.racf_database.specs.declared.command.Form.{Form}
-use Rattle.racf_database.specs.declared.command.Form.TheVariants as form
+use Rattle.command_parser.specs.declared.commands.Issuer.{Issuer}
+use Rattle.command_parser.specs.declared.forms.AddUser.{AddUser}
+use Rattle.command_parser.specs.declared.forms.AltUser.{AltUser}
+use Rattle.command_parser.specs.declared.forms.AddGroup.{AddGroup}
+use Rattle.command_parser.specs.declared.forms.AltGroup.{AltGroup}
+use Rattle.command_parser.specs.declared.forms.DelGroup.{DelGroup}
+use Rattle.command_parser.specs.declared.forms.Connect.{Connect}
+use Rattle.command_parser.specs.declared.forms.Remove.{Remove}
+use Rattle.command_parser.specs.declared.forms.Form.{Form}
+use Rattle.command_parser.specs.declared.forms.Form.TheVariants as form
 use Rattle.racf_database.specs.Names.{is_to, connections, connected_to}
 use Rattle.racf_database.specs.Contents.{rows_of}
 use Rattle.racf_database.specs.UserList.{UserList, CanPut}

@@ -7,11 +7,11 @@ use Rattle.racf_profiles.specs.declared.rows.Rows.{Rows}
 use Rattle.racf_profiles.specs.Lookup.{user_of, group_of, is_user, is_group}
 use Rattle.racf_profiles.specs.Edits.{put_row, changed}
 use Rattle.group_tree.proofs.Rows.{same, find-passes}
-use Rattle.racf_database.specs.declared.command.Issuer.{Issuer}
-use Rattle.racf_database.specs.declared.command.AddUser.{AddUser}
-use Rattle.racf_database.specs.declared.command.AddGroup.{AddGroup}
-use Rattle.racf_database.specs.declared.command.Form.{Form}
-use Rattle.racf_database.specs.declared.command.Form.TheVariants as form
+use Rattle.command_parser.specs.declared.commands.Issuer.{Issuer}
+use Rattle.command_parser.specs.declared.forms.AddUser.{AddUser}
+use Rattle.command_parser.specs.declared.forms.AddGroup.{AddGroup}
+use Rattle.command_parser.specs.declared.forms.Form.{Form}
+use Rattle.command_parser.specs.declared.forms.Form.TheVariants as form
 use Rattle.racf_database.specs.Effects.{at_row, step, new_user, altered_user, new_group, altered_group, connected_user, removed_user, group_or_current}
 use Rattle.racf_database.specs.Edits.{edits_of, put_user, put_group}
 use Rattle.racf_database.specs.Conflicts.{conflict_of, add_user_conflicts, add_group_conflicts}

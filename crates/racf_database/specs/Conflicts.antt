@@ -18,17 +18,17 @@ use Rattle.racf_database.specs.declared.conflict.Named.TheVariants as named
 use Rattle.racf_database.specs.declared.conflict.Holder.TheVariants.{Subgroup, Connected, Profile as ProfileOf}
 use Rattle.racf_database.specs.declared.conflict.Kind.{Kind}
 use Rattle.racf_database.specs.declared.conflict.Kind.TheVariants.{Users, Groups, Connections, AllConnections}
-use Rattle.racf_database.specs.declared.command.Issuer.{Issuer}
-use Rattle.racf_database.specs.declared.command.AddUser.{AddUser}
-use Rattle.racf_database.specs.declared.command.AltUser.{AltUser}
-use Rattle.racf_database.specs.declared.command.DelUser.{DelUser}
-use Rattle.racf_database.specs.declared.command.AddGroup.{AddGroup}
-use Rattle.racf_database.specs.declared.command.AltGroup.{AltGroup}
-use Rattle.racf_database.specs.declared.command.DelGroup.{DelGroup}
-use Rattle.racf_database.specs.declared.command.Connect.{Connect}
-use Rattle.racf_database.specs.declared.command.Remove.{Remove}
-use Rattle.racf_database.specs.declared.command.Form.{Form}
-use Rattle.racf_database.specs.declared.command.Form.TheVariants as form
+use Rattle.command_parser.specs.declared.commands.Issuer.{Issuer}
+use Rattle.command_parser.specs.declared.forms.AddUser.{AddUser}
+use Rattle.command_parser.specs.declared.forms.AltUser.{AltUser}
+use Rattle.command_parser.specs.declared.forms.DelUser.{DelUser}
+use Rattle.command_parser.specs.declared.forms.AddGroup.{AddGroup}
+use Rattle.command_parser.specs.declared.forms.AltGroup.{AltGroup}
+use Rattle.command_parser.specs.declared.forms.DelGroup.{DelGroup}
+use Rattle.command_parser.specs.declared.forms.Connect.{Connect}
+use Rattle.command_parser.specs.declared.forms.Remove.{Remove}
+use Rattle.command_parser.specs.declared.forms.Form.{Form}
+use Rattle.command_parser.specs.declared.forms.Form.TheVariants as form
 use Rattle.racf_database.specs.Limits.{most_users, most_groups, most_connections, most_connections_in_all}
 use Rattle.racf_database.specs.Names.{is_taken, is_class_word, is_to, is_connected_to, connects_of, administrators, connections}
 use Rattle.racf_database.specs.Security.{level_number, is_category, category_number, is_label}

@@ -6,9 +6,9 @@ use Rattle.racf_profiles.specs.declared.rows.Rows.{Rows}
 use Rattle.racf_profiles.specs.declared.edits.Edit.{Edit}
 use Rattle.racf_profiles.specs.declared.edits.Edit.TheVariants.{PutUser, DropUser, PutGroup, DropGroup}
 use Rattle.racf_profiles.specs.Lookup.{user_of, group_of}
-use Rattle.racf_database.specs.declared.command.Issuer.{Issuer}
-use Rattle.racf_database.specs.declared.command.Form.{Form}
-use Rattle.racf_database.specs.declared.command.Form.TheVariants as form
+use Rattle.command_parser.specs.declared.commands.Issuer.{Issuer}
+use Rattle.command_parser.specs.declared.forms.Form.{Form}
+use Rattle.command_parser.specs.declared.forms.Form.TheVariants as form
 use Rattle.racf_database.specs.Effects.{new_user, altered_user, new_group, altered_group, connected_user, removed_user}
 
 -- A row that is there, changed.

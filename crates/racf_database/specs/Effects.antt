@@ -10,15 +10,15 @@ use Rattle.racf_profiles.specs.declared.groups.Group.{Group}
 use Rattle.racf_profiles.specs.declared.rows.Rows.{Rows}
 use Rattle.racf_profiles.specs.Lookup.{is_user, is_group}
 use Rattle.racf_profiles.specs.Edits.{drop_row}
-use Rattle.racf_database.specs.declared.command.Issuer.{Issuer}
-use Rattle.racf_database.specs.declared.command.AddUser.{AddUser}
-use Rattle.racf_database.specs.declared.command.AltUser.{AltUser}
-use Rattle.racf_database.specs.declared.command.AddGroup.{AddGroup}
-use Rattle.racf_database.specs.declared.command.AltGroup.{AltGroup}
-use Rattle.racf_database.specs.declared.command.Connect.{Connect}
-use Rattle.racf_database.specs.declared.command.Remove.{Remove}
-use Rattle.racf_database.specs.declared.command.Form.{Form}
-use Rattle.racf_database.specs.declared.command.Form.TheVariants as form
+use Rattle.command_parser.specs.declared.commands.Issuer.{Issuer}
+use Rattle.command_parser.specs.declared.forms.AddUser.{AddUser}
+use Rattle.command_parser.specs.declared.forms.AltUser.{AltUser}
+use Rattle.command_parser.specs.declared.forms.AddGroup.{AddGroup}
+use Rattle.command_parser.specs.declared.forms.AltGroup.{AltGroup}
+use Rattle.command_parser.specs.declared.forms.Connect.{Connect}
+use Rattle.command_parser.specs.declared.forms.Remove.{Remove}
+use Rattle.command_parser.specs.declared.forms.Form.{Form}
+use Rattle.command_parser.specs.declared.forms.Form.TheVariants as form
 use Rattle.racf_database.specs.Names.{is_to}
 use Rattle.racf_database.specs.Security.{level_number, with_category, without_category}
 

@@ -8,7 +8,7 @@ mod names;
 mod security;
 mod users;
 
-use crate::command::{
+use command_parser::{
     AddGroup, AddUser, AltGroup, AltUser, Command, Connect, DelGroup, DelUser, Form, Issuer, Remove,
 };
 use crate::conflict::Conflict;

@@ -6,7 +6,7 @@ ghost use Rattle.racf_profiles.specs.declared.users.User.{User};
 ghost use Rattle.racf_database.specs.Effects.{altered_user, connected_user, removed_user, altered_group};
 ghost use Rattle.racf_database.specs.Edits.{edits_of, put_user, put_group};
 
-use crate::command::{AltGroup, AltUser, Command, Connect, Form, Issuer, Remove};
+use command_parser::{AltGroup, AltUser, Command, Connect, Form, Issuer, Remove};
 use crate::database::Database;
 use crate::made::{altered_group, connected_user, new_group, removed_user};
 use racf_profiles::{Edit, NoMemory, View};

@@ -3,7 +3,6 @@
 
 mod apply;
 mod check;
-mod command;
 mod conflict;
 mod database;
 mod edits;
@@ -12,10 +11,9 @@ mod made;
 mod prepare;
 mod user_table;
 
-pub use command::{
-    AddGroup, AddUser, AltGroup, AltUser, Command, Connect, DelGroup, DelUser, Form, Ids, Issuer,
-    Remove,
-};
 pub use conflict::{Conflict, Holder, Kind, Named};
 pub use database::Database;
 pub use limits::{MOST_CONNECTIONS, MOST_CONNECTIONS_IN_ALL, MOST_GROUPS, MOST_USERS};
+
+#[cfg(test)]
+mod tests;

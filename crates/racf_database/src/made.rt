@@ -6,7 +6,7 @@ mod classes;
 mod connects;
 mod users;
 
-use crate::command::{AddGroup, AltGroup, Issuer};
+use command_parser::{AddGroup, AltGroup, Issuer};
 use access_levels::Id;
 use racf_profiles::Group;
 pub(crate) use users::{attributes_after, connected_user, removed_user};

@@ -5,7 +5,7 @@ ghost use Rattle.racf_database.specs.Effects.{step};
 ghost use Rattle.racf_database.specs.Edits.{edits_of};
 ghost use Rattle.racf_database.specs.Conflicts.{conflict_of};
 
-use crate::command::{Command, Issuer};
+use command_parser::{Command, Issuer};
 use crate::database::Database;
 use crate::edits::copies;
 use racf_profiles::{Change, Edits, NoMemory};

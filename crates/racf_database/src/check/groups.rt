@@ -2,12 +2,12 @@
 ghost use Rattle.std.specs.Prelude.{◌≡◌, ◌&&◌, Some, is_some};
 ghost use Rattle.std.specs.Option.{option_map};
 ghost use Rattle.std.specs.Result.{result_err};
-ghost use Rattle.racf_database.specs.declared.command.Form.TheVariants as form;
+ghost use Rattle.command_parser.specs.declared.forms.Form.TheVariants as form;
 ghost use Rattle.racf_profiles.specs.Lookup.{group_of};
 ghost use Rattle.racf_database.specs.Effects.{new_group, altered_group};
 ghost use Rattle.racf_database.specs.Conflicts.{if_met, is_root, has_subgroup, cycle, owner_not_superior, owner_apart, groups_full, meets};
 
-use crate::command::{AddGroup, AltGroup, DelGroup, Issuer};
+use command_parser::{AddGroup, AltGroup, DelGroup, Issuer};
 use crate::conflict::{Conflict, Holder, Kind};
 use crate::database::Database;
 use crate::limits::{MOST_GROUPS, check_count};

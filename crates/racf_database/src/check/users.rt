@@ -1,7 +1,7 @@
 //! What has to hold of the users after the command: the limits, and that someone can still administer everything.
 ghost use Rattle.std.specs.Prelude.{◌≡◌, false};
 ghost use Rattle.std.specs.Result.{result_err};
-ghost use Rattle.racf_database.specs.declared.command.Form.TheVariants as form;
+ghost use Rattle.command_parser.specs.declared.forms.Form.TheVariants as form;
 ghost use Rattle.std.specs.Option.{option_map_or};
 ghost use Rattle.racf_profiles.specs.Lookup.{user_of};
 ghost use Rattle.racf_profiles.specs.declared.users.User.{User};
@@ -9,7 +9,7 @@ ghost use Rattle.racf_database.specs.Names.{connects_of, is_administrator};
 ghost use Rattle.racf_database.specs.Effects.{connects_after, altered_user, group_or_current};
 ghost use Rattle.racf_database.specs.Conflicts.{users_full, connections_full, user_full, last_special};
 
-use crate::command::{AddUser, AltUser, Connect, DelUser, Issuer};
+use command_parser::{AddUser, AltUser, Connect, DelUser, Issuer};
 use crate::conflict::{Conflict, Kind};
 use crate::database::Database;
 use crate::limits::{MOST_CONNECTIONS, MOST_CONNECTIONS_IN_ALL, MOST_USERS, check_count};

@@ -6,7 +6,7 @@ ghost use Rattle.racf_database.specs.Effects.{new_user, first_attributes, altere
 use super::classes::{classes_after, with_classes};
 use super::connects::{connects_after, first_connects, without_connect};
 use super::{group_or_current, owner_or_issuer, switched};
-use crate::command::{AddUser, AltUser, Connect, Ids, Issuer, Remove};
+use command_parser::{AddUser, AltUser, Connect, Ids, Issuer, Remove};
 use crate::database::Database;
 use access_levels::{Attributes, Categories, Id, Text};
 use racf_profiles::{Classes, Connects, NoMemory, User};

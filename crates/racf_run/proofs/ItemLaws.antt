@@ -1,118 +1,233 @@
--- What the lines of the stream are as its items.
-use Rattle.std.proofs.Common.{◌≡◌, ℕ, ◌<◌, Bool, true, false, List, [], ◌∷◌, ◌++◌, length, None, Some, refl, sym, ◌∙◌, ap, subst, arith, append-nil, length-append}
-use Rattle.std.specs.Prelude.{Option, Result, Ok, Err}
+-- How the lines that the reader gives make an item.
+use Rattle.std.proofs.Common.{inl, inr, ◌≡◌, ℕ, ◌+◌, ◌<◌, ◌≤◌, ◌^◌, Bool, true, false, List, [], ◌∷◌, ◌++◌, length, None, Some, refl, sym, ◌∙◌, ap, subst, arith, append_assoc, append-nil, length-append}
+use Rattle.std.specs.Prelude.{Option, Result, Ok, Err, ◌⊎◌}
 use Rattle.std.specs.Borrow.{Bor}
 use Rattle.std.specs.Option.{option_to_list}
-use Rattle.std.specs.List.{filter_map}
-use Rattle.racf_outside.specs.Lines.{Line, Text, TooLong, line_of, lines, whole_lines, NoFeed}
+use Rattle.std.specs.Io.KnownBytes.{prepend_known}
+use Rattle.racf_outside.specs.Causes.{Rose}
+use Rattle.racf_outside.specs.Lines.{Text, TooLong, line_of, NoFeed}
 use Rattle.racf_outside.specs.Reader.{Reader}
 use Rattle.racf_outside.specs.Next as line
 use Rattle.racf_outside.specs.declared.lines.Line as next_line
 use Rattle.racf_outside.specs.declared.lines.Line.TheVariants as next
 use Rattle.racf_outside.specs.declared.lines.LineFault.{LineFault}
 use Rattle.racf_outside.specs.declared.lines.LineFault.TheVariants as fault
-use Rattle.racf_outside.proofs.LineLaws as laws
-use Rattle.racf_run.specs.Items.{item_of}
-use Rattle.racf_run.specs.Script.{stream}
 use Rattle.racf_run.specs.declared.item.Item.{Item}
-use Rattle.racf_run.specs.declared.item.Item.TheVariants.{NotBuilt}
+use Rattle.racf_run.specs.declared.item.Item.TheVariants.{LineTooLong}
+use Rattle.racf_run.specs.declared.joining.LineRole.{LineRole}
+use Rattle.racf_run.specs.declared.joining.LineRole.TheVariants.{Whole, GoesOn}
 use Rattle.racf_run.specs.declared.input.Stop.{Stop}
 use Rattle.racf_run.specs.declared.input.Stop.TheVariants as stop
-use Rattle.racf_run.specs.NextItem.{IsWalked, TakesItems, TakesFront, TakesTooMuch, NextsItem, ReadsItem}
+use Rattle.racf_run.specs.Fronts.{Front}
+use Rattle.racf_run.specs.Items.{command_of}
+use Rattle.racf_run.specs.Joining.{role_of, last_command}
+use Rattle.racf_run.specs.NextItem.{IsWalked, IsLast, TakesItems, TakesFront, TakesTooMuch, NextsItem}
+use Rattle.racf_run.specs.NextRole.{EndsCommand, GivesRole, NextsRole, ReadsRole, ReadsEnd}
+use Rattle.racf_run.specs.Script.{stream}
+use Rattle.racf_run.proofs.Folds.{prepend_known-append, prepend_known-nil}
+use Rattle.racf_run.proofs.FrontLaws.{IsFront, IsFront-none, IsFront-more, IsFront-walked, IsFront-last_front, IsFront-last, IsFront-end, IsFront-none_whole, no_items}
 
-onto : {A B : Type 0} (h : A → Option B) (x : A) (xs : List A) (o : Option B) → h x ≡ o → filter_map h (x ∷ xs) ≡ option_to_list o ++ filter_map h xs
-onto h x xs None e = rw e refl
-onto h x xs (Some y) e = rw e refl
+-- Whether anything was read of the item.
+abbrev pub HasBegun : Option Front → List ℕ → Reader → Reader → Type 0
+HasBegun None bytes old new = new ≡ old
+HasBegun (Some front) bytes old new = (old.ended ≡ false) × (0 < length bytes)
 
--- the items of a line and of those behind it
-pub filter_map-cons : {A B : Type 0} (h : A → Option B) (x : A) (xs : List A) → filter_map h (x ∷ xs) ≡ option_to_list (h x) ++ filter_map h xs
-filter_map-cons h x xs = onto h x xs (h x) refl
+-- The bytes of an item that were read so far: none, or those of the front of a command.
+pub record Taken (begun : Option Front) (old new : Reader) : Type 0 where
+  pub bytes : List ℕ
+  pub taken : old.unread ≡ prepend_known bytes new.unread
+  pub counted : new.passed ≡ old.passed + length bytes
+  pub has_begun : HasBegun begun bytes old new
+  pub goes_on : new.ended ≡ false → IsFront bytes begun
+  pub last : new.ended ≡ true → stream.items bytes ≡ last_command begun
 
-walked_feed : (raw : List ℕ) → NoFeed raw → IsWalked stream (raw ++ 10 ∷ []) (option_to_list (item_of (line_of raw)))
-unfolding stream
-walked_feed raw h =
-    let w = laws.IsWalked-feed [] raw [] laws.IsWalked-none h in
+pub Taken-none : (reader : Reader) → Taken None reader reader
+Taken-none reader =
     record {
-      whole = λ more. ap (filter_map item_of) (w.whole more) ∙ filter_map-cons item_of (line_of raw) (whole_lines more);
-      all = λ more. ap (filter_map item_of) (w.all more) ∙ filter_map-cons item_of (line_of raw) (lines more);
+      bytes = [];
+      taken = sym (prepend_known-nil reader.unread);
+      counted = omega arith;
+      has_begun = refl;
+      goes_on = λ e. IsFront-none;
+      last = λ e. no_items;
     }
 
-last_line : (raw : List ℕ) → NoFeed raw → 0 < length raw → stream.items raw ≡ option_to_list (item_of (line_of raw))
-unfolding stream
-last_line raw h some =
-    ap (filter_map item_of) (laws.lines-last raw h some) ∙ filter_map-cons item_of (line_of raw) [] ∙ append-nil (option_to_list (item_of (line_of raw)))
+-- The reader had not ended when the item began.
+had_begun : (begun : Option Front) (bytes : List ℕ) (old mid : Reader) → HasBegun begun bytes old mid → mid.ended ≡ false → old.ended ≡ false
+had_begun None bytes old mid h e = ap (λ (r : Reader). r.ended) (sym h) ∙ e
+had_begun (Some front) bytes old mid h e = h.0
 
-front_none : (raw : List ℕ) → NoFeed raw → stream.whole_items raw ≡ []
-unfolding stream
-front_none raw h = ap (filter_map item_of) (laws.whole_lines-front raw h)
+some_bytes : (bytes raw : List ℕ) (ended : Bool) → (ended ≡ true → 0 < length raw) → 0 < length (bytes ++ (raw ++ line.end_of ended))
+some_bytes bytes raw false some = omega (arith, length-append bytes (raw ++ 10 ∷ []), length-append raw (10 ∷ []))
+some_bytes bytes raw true some = omega (arith, length-append bytes (raw ++ []), length-append raw [], some refl)
 
-pub no_items : stream.items [] ≡ []
-unfolding stream
-no_items = refl
+taken_more : (begun : Option Front) (old mid new : Reader) (more : List ℕ) → (w : Taken begun old mid) → mid.unread ≡ prepend_known more new.unread → old.unread ≡ prepend_known (w.bytes ++ more) new.unread
+taken_more begun old mid new more w h = w.taken ∙ ap (λ known. prepend_known w.bytes known) h ∙ sym (prepend_known-append w.bytes more new.unread)
 
-some_bytes : (raw : List ℕ) (ended : Bool) → (ended ≡ true → 0 < length raw) → 0 < length (raw ++ line.end_of ended)
-some_bytes raw false some = omega (arith, length-append raw (10 ∷ []))
-some_bytes raw true some = omega (arith, length-append raw [], some refl)
+counted_more : (begun : Option Front) (old mid new : Reader) (more : List ℕ) → (w : Taken begun old mid) → new.passed ≡ mid.passed + length more → new.passed ≡ old.passed + length (w.bytes ++ more)
+counted_more begun old mid new more w h = omega (arith, h, w.counted, length-append w.bytes more)
 
-goes_on : (raw : List ℕ) (ended : Bool) → NoFeed raw → ended ≡ false → IsWalked stream (raw ++ line.end_of ended) (option_to_list (item_of (line_of raw)))
-goes_on raw false h e = walked_feed raw h
-goes_on raw true h e = cc
+-- the line goes on
+front_on : (ended : Bool) (bytes raw : List ℕ) (begun : Option Front) (front : Front) → IsFront bytes begun → NoFeed raw → role_of begun (line_of raw) ≡ GoesOn front → ended ≡ false → IsFront (bytes ++ (raw ++ line.end_of ended)) (Some front)
+front_on false bytes raw begun front w h e is = IsFront-more bytes raw begun front w h e
+front_on true bytes raw begun front w h e is = cc
 
-last : (raw : List ℕ) (ended : Bool) → NoFeed raw → 0 < length raw → ended ≡ true → stream.items (raw ++ line.end_of ended) ≡ option_to_list (item_of (line_of raw))
-last raw false h some e = cc
-last raw true h some e = ap stream.items (append-nil raw) ∙ last_line raw h some
+front_last : (ended : Bool) (bytes raw : List ℕ) (begun : Option Front) (front : Front) → IsFront bytes begun → NoFeed raw → (ended ≡ true → 0 < length raw) → role_of begun (line_of raw) ≡ GoesOn front → ended ≡ true → stream.items (bytes ++ (raw ++ line.end_of ended)) ≡ last_command (Some front)
+front_last false bytes raw begun front w h some e is = cc
+front_last true bytes raw begun front w h some e is =
+    ap (λ bs. stream.items (bytes ++ bs)) (append-nil raw) ∙ IsFront-last_front bytes raw begun front w h (some is) e
 
--- a line is its item
-takes_raw : (raw : List ℕ) (old new : Reader) → line.TakesLine raw old new → TakesItems stream (option_to_list (item_of (line_of raw))) (raw ++ line.end_of new.ended) old new
-takes_raw raw old new t =
+Taken-more : (begun : Option Front) (front : Front) (raw : List ℕ) (old mid new : Reader) → Taken begun old mid → line.TakesLine raw mid new → role_of begun (line_of raw) ≡ GoesOn front → Taken (Some front) old new
+Taken-more begun front raw old mid new w t e =
     record {
-      begun = t.begun;
-      some = some_bytes raw new.ended t.some;
-      taken = t.taken;
-      counted = t.counted;
-      goes_on = λ e. goes_on raw new.ended t.no_feed e;
-      last = λ e. record { all = last raw new.ended t.no_feed (t.some e) e; at_end = t.at_end e };
+      bytes = w.bytes ++ (raw ++ line.end_of new.ended);
+      taken = taken_more begun old mid new (raw ++ line.end_of new.ended) w t.taken;
+      counted = counted_more begun old mid new (raw ++ line.end_of new.ended) w t.counted;
+      has_begun = (had_begun begun w.bytes old mid w.has_begun t.begun, some_bytes w.bytes raw new.ended t.some);
+      goes_on = λ is. front_on new.ended w.bytes raw begun front (w.goes_on t.begun) t.no_feed e is;
+      last = λ is. front_last new.ended w.bytes raw begun front (w.goes_on t.begun) t.no_feed t.some e is;
     }
 
-pub takes_line : (raw : List ℕ) (read : Line) (old new : Reader) → line.TakesLine raw old new → line_of raw ≡ read → TakesItems stream (option_to_list (item_of read)) (raw ++ line.end_of new.ended) old new
-takes_line raw read old new t e = subst (λ l. TakesItems stream (option_to_list (item_of l)) (raw ++ line.end_of new.ended) old new) e (takes_raw raw old new t)
+-- the line ends the item, or is skipped
+walked_on : (ended : Bool) (bytes raw : List ℕ) (begun : Option Front) (item : Option Item) → IsFront bytes begun → NoFeed raw → role_of begun (line_of raw) ≡ Whole item → ended ≡ false → IsWalked stream (bytes ++ (raw ++ line.end_of ended)) (option_to_list item)
+walked_on false bytes raw begun item w h e is = IsFront-walked bytes raw begun item w h e
+walked_on true bytes raw begun item w h e is = cc
 
-pub takes_front : (raw : List ℕ) (old new : Reader) → line.TakesFront raw old new → TakesFront stream raw old new
-takes_front raw old new t =
-    record { begun = t.begun; none = front_none raw t.no_feed; taken = t.taken; none_held = t.none_held; cause = t.cause }
+walked_last : (ended : Bool) (bytes raw : List ℕ) (begun : Option Front) (item : Option Item) → IsFront bytes begun → NoFeed raw → (ended ≡ true → 0 < length raw) → role_of begun (line_of raw) ≡ Whole item → ended ≡ true → stream.items (bytes ++ (raw ++ line.end_of ended)) ≡ option_to_list item
+walked_last false bytes raw begun item w h some e is = cc
+walked_last true bytes raw begun item w h some e is =
+    ap (λ bs. stream.items (bytes ++ bs)) (append-nil raw) ∙ IsFront-last bytes raw begun item w h (some is) e
 
-pub takes_too_much : (raw : List ℕ) (next : ℕ) (old new : Reader) → line.TakesTooMuch raw next old new → TakesTooMuch stream raw next old new
-takes_too_much raw next old new t =
-    record { begun = t.begun; none = front_none raw t.no_feed; taken = t.taken; limit = t.limit }
+takes_line : (begun : Option Front) (item : Option Item) (raw : List ℕ) (old mid new : Reader) → (w : Taken begun old mid) → line.TakesLine raw mid new → role_of begun (line_of raw) ≡ Whole item → TakesItems stream (option_to_list item) (w.bytes ++ (raw ++ line.end_of new.ended)) old new
+takes_line begun item raw old mid new w t e =
+    record {
+      begun = had_begun begun w.bytes old mid w.has_begun t.begun;
+      some = some_bytes w.bytes raw new.ended t.some;
+      taken = taken_more begun old mid new (raw ++ line.end_of new.ended) w t.taken;
+      counted = counted_more begun old mid new (raw ++ line.end_of new.ended) w t.counted;
+      goes_on = λ is. walked_on new.ended w.bytes raw begun item (w.goes_on t.begun) t.no_feed e is;
+      last = λ is. record { all = walked_last new.ended w.bytes raw begun item (w.goes_on t.begun) t.no_feed t.some e is; at_end = t.at_end is };
+    }
 
--- What the reader of lines answered is the item, or the stop, that follows from it.
-pub from_text : (r : Result next_line.Line LineFault) (shown : Bor (List ℕ)) (read : Result (Option Item) Stop) (old new : Reader) → line.Nexts r old new → r ≡ Ok (next.Text shown) → ReadsItem read shown.now → NextsItem read old new
-from_text r shown read old new h e reads = by_read read reads
+-- the input's end ends the item
+end_items : (ended : Bool) (begun : Option Front) (old mid : Reader) → (w : Taken begun old mid) → mid.ended ≡ ended → stream.items w.bytes ≡ last_command begun
+end_items false begun old mid w e = IsFront-end w.bytes begun (w.goes_on e)
+end_items true begun old mid w e = w.last e
+
+takes_command : (front : Front) (old mid new : Reader) → (w : Taken (Some front) old mid) → line.TakesEnd mid new → TakesItems stream (command_of front.text ∷ []) w.bytes old new
+takes_command front old mid new w t =
+    record {
+      begun = w.has_begun.0;
+      some = w.has_begun.1;
+      taken = w.taken ∙ ap (λ known. prepend_known w.bytes known) (sym t.kept);
+      counted = t.counted ∙ w.counted;
+      goes_on = λ is. cc (t.ended, is);
+      last = λ is. record { all = end_items mid.ended (Some front) old mid w refl; at_end = t.at_end };
+    }
+
+takes_end : (begun : Option Front) (item : Option Item) (old mid new : Reader) → Taken begun old mid → EndsCommand begun (Whole item) mid new → (bytes : List ℕ) × TakesItems stream (option_to_list item) bytes old new
+takes_end begun item old mid new w ends =
+    let v : Taken (Some ends.front) old mid = subst (λ (b : Option Front). Taken b old mid) ends.is_begun w in
+    let is : Some (command_of ends.front.text) ≡ item = cc (ends.command) in
+    (v.bytes, subst (λ (i : Option Item). TakesItems stream (option_to_list i) v.bytes old new) is (takes_command ends.front old mid new v ends.at_end))
+
+-- an item came
+pub ends_item : (r : Result LineRole Stop) (begun : Option Front) (item : Option Item) (old mid new : Reader) → Taken begun old mid → NextsRole r begun mid new → r ≡ Ok (Whole item) → NextsItem (Ok item) old new
+ends_item r begun item old mid new w h e = by_way (subst (λ (x : Result LineRole Stop). NextsRole x begun mid new) e h)
+  where
+    by_way : GivesRole begun (Whole item) mid new ⊎ EndsCommand begun (Whole item) mid new → NextsItem (Ok item) old new
+    by_way way = elim way [ inl gives ↦ (w.bytes ++ (gives.raw ++ line.end_of new.ended), takes_line begun item gives.raw old mid new w gives.line gives.is_role) | inr ends ↦ takes_end begun item old mid new w ends ]
+
+-- the line goes on
+pub goes_on : (r : Result LineRole Stop) (begun : Option Front) (front : Front) (old mid new : Reader) → Taken begun old mid → NextsRole r begun mid new → r ≡ Ok (GoesOn front) → Taken (Some front) old new
+goes_on r begun front old mid new w h e = by_way (subst (λ (x : Result LineRole Stop). NextsRole x begun mid new) e h)
+  where
+    by_way : GivesRole begun (GoesOn front) mid new ⊎ EndsCommand begun (GoesOn front) mid new → Taken (Some front) old new
+    by_way way = elim way [ inl gives ↦ Taken-more begun front gives.raw old mid new w gives.line gives.is_role | inr ends ↦ cc (ends.command) ]
+
+-- it took some bytes
+pub passes_more : (r : Result LineRole Stop) (begun : Option Front) (front : Front) (mid new : Reader) → NextsRole r begun mid new → r ≡ Ok (GoesOn front) → mid.passed < new.passed
+passes_more r begun front mid new h e = by_way (subst (λ (x : Result LineRole Stop). NextsRole x begun mid new) e h)
+  where
+    by_line : (raw : List ℕ) → line.TakesLine raw mid new → mid.passed < new.passed
+    by_line raw t = omega (arith, t.counted, some_bytes [] raw new.ended t.some)
+
+    by_way : GivesRole begun (GoesOn front) mid new ⊎ EndsCommand begun (GoesOn front) mid new → mid.passed < new.passed
+    by_way way = elim way [ inl gives ↦ by_line gives.raw gives.line | inr ends ↦ cc (ends.command) ]
+
+-- no item came
+Rose-later : (first before now : ℕ) → first ≤ before → Rose before now → Rose first now
+Rose-later first before now h rose = grind arith
+
+takes_front : (begun : Option Front) (raw : List ℕ) (old mid new : Reader) → (w : Taken begun old mid) → old.faults ≤ mid.faults → line.TakesFront raw mid new → TakesFront stream (w.bytes ++ raw) old new
+takes_front begun raw old mid new w faults t =
+    record {
+      begun = had_begun begun w.bytes old mid w.has_begun t.begun;
+      none = IsFront-none_whole w.bytes raw begun (w.goes_on t.begun) t.no_feed;
+      taken = taken_more begun old mid new raw w t.taken;
+      none_held = t.none_held;
+      cause = Rose-later old.faults mid.faults new.faults faults t.cause;
+    }
+
+takes_too_much : (begun : Option Front) (raw : List ℕ) (over : ℕ) (old mid new : Reader) → (w : Taken begun old mid) → line.TakesTooMuch raw over mid new → TakesTooMuch stream (w.bytes ++ raw) over old new
+takes_too_much begun raw over old mid new w t =
+    record {
+      begun = had_begun begun w.bytes old mid w.has_begun t.begun;
+      none = IsFront-none_whole w.bytes raw begun (w.goes_on t.begun) t.no_feed;
+      taken = taken_more begun old mid new (raw ++ over ∷ []) w t.taken ∙ ap (λ bs. prepend_known bs new.unread) (sym (append_assoc w.bytes raw (over ∷ [])));
+      limit = omega (arith, t.limit, w.counted, length-append w.bytes raw);
+    }
+
+takes_none : (old mid new : Reader) → Taken None old mid → line.TakesEnd mid new → line.TakesEnd old new
+takes_none old mid new w t = subst (λ (r : Reader). line.TakesEnd r new) w.has_begun t
+
+pub stops : (r : Result LineRole Stop) (why : Stop) (begun : Option Front) (old mid new : Reader) → Taken begun old mid → old.faults ≤ mid.faults → NextsRole r begun mid new → r ≡ Err why → NextsItem (Err why) old new
+stops r why begun old mid new w faults h e = by_why why (subst (λ (x : Result LineRole Stop). NextsRole x begun mid new) e h)
+  where
+    by_why : (why : Stop) → NextsRole (Err why) begun mid new → NextsItem (Err why) old new
+    by_why stop.End h = takes_none old mid new (subst (λ (b : Option Front). Taken b old mid) h.0 w) h.1
+    by_why stop.ReadFault h = (w.bytes ++ h.0, takes_front begun h.0 old mid new w faults h.1)
+    by_why stop.InputTooLong h = (w.bytes ++ h.0, h.1, takes_too_much begun h.0 h.1 old mid new w h.2)
+    by_why stop.NoMemory h = tt
+
+-- What the reader of lines answered is the role, or the stop, that follows from it.
+pub from_text : (r : Result next_line.Line LineFault) (shown : Bor (List ℕ)) (begun : Option Front) (read : Result LineRole Stop) (old new : Reader) → line.Nexts r old new → r ≡ Ok (next.Text shown) → ReadsRole read begun shown.now → NextsRole read begun old new
+from_text r shown begun read old new h e reads = by_read read reads
   where
     taken : (raw : List ℕ) × line.TakesLine raw old new × (line_of raw ≡ Text shown.now)
     taken = subst (λ x. line.Nexts x old new) e h
 
-    by_read : (read : Result (Option Item) Stop) → ReadsItem read shown.now → NextsItem read old new
-    by_read (Ok item) reads =
-        let t : TakesItems stream (option_to_list (item_of (Text shown.now))) (taken.0 ++ line.end_of new.ended) old new = takes_line taken.0 (Text shown.now) old new taken.1 taken.2 in
-        (taken.0 ++ line.end_of new.ended, subst (λ i. TakesItems stream (option_to_list i) (taken.0 ++ line.end_of new.ended) old new) (sym reads) t)
+    by_read : (read : Result LineRole Stop) → ReadsRole read begun shown.now → NextsRole read begun old new
+    by_read (Ok role) reads = inl (record { raw = taken.0; line = taken.1; is_role = ap (role_of begun) taken.2 ∙ sym reads })
     by_read (Err stop.End) reads = absurd reads
     by_read (Err stop.ReadFault) reads = absurd reads
     by_read (Err stop.InputTooLong) reads = absurd reads
     by_read (Err stop.NoMemory) reads = tt
 
-pub from_too_long : (r : Result next_line.Line LineFault) (old new : Reader) → line.Nexts r old new → r ≡ Ok next.TooLong → (bytes : List ℕ) × TakesItems stream (NotBuilt ∷ []) bytes old new
-unfolding item_of
-from_too_long r old new h e =
+too_long : (begun : Option Front) → role_of begun TooLong ≡ Whole (Some LineTooLong)
+too_long None = refl
+too_long (Some front) = refl
+
+pub from_too_long : (r : Result next_line.Line LineFault) (begun : Option Front) (old new : Reader) → line.Nexts r old new → r ≡ Ok next.TooLong → NextsRole (Ok (Whole (Some LineTooLong))) begun old new
+from_too_long r begun old new h e =
     let taken : (raw : List ℕ) × line.TakesLine raw old new × (line_of raw ≡ TooLong) = subst (λ x. line.Nexts x old new) e h in
-    (taken.0 ++ line.end_of new.ended, takes_line taken.0 TooLong old new taken.1 taken.2)
+    inl (record { raw = taken.0; line = taken.1; is_role = ap (role_of begun) taken.2 ∙ too_long begun })
 
-pub from_read_fault : (r : Result next_line.Line LineFault) (old new : Reader) → line.Nexts r old new → r ≡ Err fault.ReadFault → (bytes : List ℕ) × TakesFront stream bytes old new
-from_read_fault r old new h e =
-    let taken : (raw : List ℕ) × line.TakesFront raw old new = subst (λ x. line.Nexts x old new) e h in
-    (taken.0, takes_front taken.0 old new taken.1)
+pub from_end : (r : Result next_line.Line LineFault) (begun : Option Front) (read : Result LineRole Stop) (old new : Reader) → line.Nexts r old new → r ≡ Ok next.End → ReadsEnd read begun → NextsRole read begun old new
+from_end r begun read old new h e reads = by_read read reads
+  where
+    ended : line.TakesEnd old new
+    ended = subst (λ x. line.Nexts x old new) e h
 
-pub from_too_much : (r : Result next_line.Line LineFault) (old new : Reader) → line.Nexts r old new → r ≡ Err fault.InputTooLong → (bytes : List ℕ) × (over : ℕ) × TakesTooMuch stream bytes over old new
-from_too_much r old new h e =
-    let taken : (raw : List ℕ) × (over : ℕ) × line.TakesTooMuch raw over old new = subst (λ x. line.Nexts x old new) e h in
-    (taken.0, taken.1, takes_too_much taken.0 taken.1 old new taken.2)
+    by_read : (read : Result LineRole Stop) → ReadsEnd read begun → NextsRole read begun old new
+    by_read (Ok role) reads = inr (record { front = reads.0; is_begun = reads.1; command = reads.2; at_end = ended })
+    by_read (Err stop.End) reads = (reads, ended)
+    by_read (Err stop.ReadFault) reads = absurd reads
+    by_read (Err stop.InputTooLong) reads = absurd reads
+    by_read (Err stop.NoMemory) reads = tt
+
+pub from_read_fault : (r : Result next_line.Line LineFault) (begun : Option Front) (old new : Reader) → line.Nexts r old new → r ≡ Err fault.ReadFault → NextsRole (Err stop.ReadFault) begun old new
+from_read_fault r begun old new h e = subst (λ x. line.Nexts x old new) e h
+
+pub from_too_much : (r : Result next_line.Line LineFault) (begun : Option Front) (old new : Reader) → line.Nexts r old new → r ≡ Err fault.InputTooLong → NextsRole (Err stop.InputTooLong) begun old new
+from_too_much r begun old new h e = subst (λ x. line.Nexts x old new) e h

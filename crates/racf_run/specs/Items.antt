@@ -1,17 +1,18 @@
--- What a line of a stream asks for. The words of a line stand between its blanks, so that two blanks have an empty word
--- between them. RDEFINE, VERIFY and AUTH are built, in upper case and with just these words; no other line is.
-use Rattle.std.specs.Prelude.{ℕ, ◌-◌, Bool, true, false, ◌||◌, ◌&&◌, ◌==◌, Option, Some, None, List, [], ◌∷◌, length, take, drop, codes, nat_eq, unwrap_or, if◌then◌else◌}
-use Rattle.std.specs.List.{starts_with, list_all, slice_split}
+-- What requests and commands ask for. Three kinds are built exactly by their words in upper case, parted by single
+-- blanks: one command, and two requests. Every other request isn't built, and every other command is read by the grammar
+-- of commands.
+use Rattle.std.specs.Prelude.{ℕ, ◌-◌, Bool, true, false, ◌||◌, ◌&&◌, ◌==◌, Option, Some, None, List, [], ◌∷◌, length, take, drop, map, codes, nat_eq, unwrap_or, if◌then◌else◌}
+use Rattle.std.specs.List.{starts_with, list_all, slice_split, before_first}
 use Rattle.std.specs.Str.{bytes_eq}
 use Rattle.std.specs.Result.{result_ok}
-use Rattle.racf_outside.specs.Lines.{Line, Text, TooLong}
+use Rattle.command_words.specs.Bytes.{upper}
 use Rattle.access_levels.specs.Spelling.{id_of, level_of}
 use Rattle.access_levels.specs.declared.levels.Level.{Level}
 use Rattle.access_levels.specs.declared.levels.Level.TheVariants.{NoAccess, Execute, Read, Update, Control, Alter}
 use Rattle.generic_names.specs.Faults.{resource_of}
 use Rattle.generic_names.specs.declared.kind.NameKind.TheVariants.{General}
 use Rattle.racf_run.specs.declared.item.Item.{Item}
-use Rattle.racf_run.specs.declared.item.Item.TheVariants.{Rdefine, Verify, Auth, NotBuilt}
+use Rattle.racf_run.specs.declared.item.Item.TheVariants.{Rdefine, Verify, Auth, NotBuilt, Command}
 
 -- `Some x`, and then what follows from it
 infixl 10 ◌>>=◌
@@ -89,14 +90,36 @@ is_verify verb user = bytes_eq verb (codes "VERIFY") && bytes_eq user (codes "IB
 abbrev pub is_auth : List ℕ → List ℕ → Bool
 is_auth verb class = bytes_eq verb (codes "AUTH") && bytes_eq class (codes "FACILITY")
 
--- what the words of one of the three kinds of line ask for
-unfoldable pub built : List (List ℕ) → Option Item
-built (verb ∷ acee ∷ user ∷ []) = if is_verify verb user then verify_of acee else None
-built (verb ∷ class ∷ name ∷ access ∷ []) = if is_rdefine verb class then rdefine_of name access else None
-built (verb ∷ acee ∷ class ∷ name ∷ level ∷ []) = if is_auth verb class then auth_of acee name level else None
-built others = None
+-- what the words of a request ask for
+unfoldable pub built_request : List (List ℕ) → Option Item
+built_request (verb ∷ acee ∷ user ∷ []) = if is_verify verb user then verify_of acee else None
+built_request (verb ∷ acee ∷ class ∷ name ∷ level ∷ []) = if is_auth verb class then auth_of acee name level else None
+built_request others = None
 
--- What a line asks for: nothing, where it is skipped. A line of more than 4,096 bytes isn't built.
-unfoldable pub item_of : Line → Option Item
-item_of TooLong = Some NotBuilt
-item_of (Text text) = if is_skipped text then None else Some (unwrap_or (built (words text)) NotBuilt)
+-- what the words of a command ask for that is built by its words
+unfoldable pub built_command : List (List ℕ) → Option Item
+built_command (verb ∷ class ∷ name ∷ access ∷ []) = if is_rdefine verb class then rdefine_of name access else None
+built_command others = None
+
+-- A request asks for an answer: VERIFY and AUTH in the two forms that are built.
+unfoldable pub request_of : List ℕ → Item
+request_of text = unwrap_or (built_request (words text)) NotBuilt
+
+-- A command asks for a change: RDEFINE in the form that is built, and what the grammar of commands says.
+unfoldable pub command_of : List ℕ → Item
+command_of text = unwrap_or (built_command (words text)) (Command text)
+
+-- a text without the blanks and tabs in front
+abbrev pub past_blanks : List ℕ → List ℕ
+past_blanks [] = []
+past_blanks (byte ∷ bytes) = if is_blank byte then past_blanks bytes else byte ∷ bytes
+
+-- The first word of a line, in upper case. Here blanks and tabs alone part words.
+abbrev pub first_word : List ℕ → List ℕ
+first_word text = map upper (before_first is_blank (past_blanks text))
+
+-- The lines of requests, and of the issuer, are known by their first word. They never go on in the next line.
+unfoldable pub is_request : List ℕ → Bool
+is_request text = let word = first_word text in
+    bytes_eq word (codes "VERIFY") || bytes_eq word (codes "AUTH") || bytes_eq word (codes "FASTAUTH")
+    || bytes_eq word (codes "DELETE") || bytes_eq word (codes "*AFTER") || bytes_eq word (codes "*ISSUER")

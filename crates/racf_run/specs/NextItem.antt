@@ -1,5 +1,5 @@
 -- What the reading of the next item does: which bytes it takes from the reader of lines, and what they are.
-use Rattle.std.specs.Prelude.{◌≡◌, ℕ, ◌+◌, ◌^◌, ◌<◌, true, false, Option, Result, Ok, Err, List, [], ◌∷◌, ◌++◌, length}
+use Rattle.std.specs.Prelude.{◌≡◌, ℕ, ◌+◌, ◌^◌, ◌<◌, Bool, true, false, Option, Result, Ok, Err, List, [], ◌∷◌, ◌++◌, length}
 use Rattle.std.specs.Option.{option_to_list}
 use Rattle.std.specs.Io.KnownBytes.{prepend_known, IsAtEnd}
 use Rattle.racf_outside.specs.Causes.{Rose}
@@ -10,8 +10,6 @@ use Rattle.racf_run.specs.declared.input.Stop.{Stop}
 use Rattle.racf_run.specs.declared.input.Stop.TheVariants.{End, ReadFault, InputTooLong, NoMemory}
 use Rattle.racf_run.specs.Runs.{Machine}
 use Rattle.racf_run.specs.Script.{stream}
-use Rattle.racf_outside.specs.Lines.{Text}
-use Rattle.racf_run.specs.Items.{item_of}
 
 -- The bytes are exactly these items: whatever comes next, the items go on with those of what comes.
 pub record IsWalked {S I : Type 0} (m : Machine S I) (bytes : List ℕ) (items : List I) : Type 0 where
@@ -54,11 +52,3 @@ NextsItem (Err End) old new = TakesEnd old new
 NextsItem (Err ReadFault) old new = (bytes : List ℕ) × TakesFront stream bytes old new
 NextsItem (Err InputTooLong) old new = (bytes : List ℕ) × (next : ℕ) × TakesTooMuch stream bytes next old new
 NextsItem (Err NoMemory) old new = Unit {0}
-
--- The item of a line of text, unless memory ran out.
-abbrev pub ReadsItem : Result (Option Item) Stop → List ℕ → Type 0
-ReadsItem (Ok item) text = item ≡ item_of (Text text)
-ReadsItem (Err End) text = ⊥
-ReadsItem (Err ReadFault) text = ⊥
-ReadsItem (Err InputTooLong) text = ⊥
-ReadsItem (Err NoMemory) text = Unit {0}

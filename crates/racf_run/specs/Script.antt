@@ -1,19 +1,18 @@
 -- The stream of the words `script IN OUT`: its items, its output, and the status that it ends with.
 use Rattle.std.specs.Prelude.{Bool, true, false, List, ℕ, if◌then◌else◌}
-use Rattle.std.specs.List.{filter_map}
 use Rattle.racf_outside.specs.Lines.{lines, whole_lines}
 use Rattle.racf_run.specs.declared.item.Item.{Item}
 use Rattle.racf_run.specs.declared.status.Status.{Status}
 use Rattle.racf_run.specs.declared.status.Status.TheVariants.{Done, Refusals}
-use Rattle.racf_run.specs.Items.{item_of}
+use Rattle.racf_run.specs.Joining.{items_of, whole_items_of}
 use Rattle.racf_run.specs.Stream.{State, new_stream, step, text}
 use Rattle.racf_run.specs.Runs.{Machine, after, output}
 
--- one item for each line that isn't skipped
+-- the stream's items are those of its lines
 unfoldable pub stream : Machine State Item
 stream = record {
-  items = λ bytes. filter_map item_of (lines bytes);
-  whole_items = λ bytes. filter_map item_of (whole_lines bytes);
+  items = λ bytes. items_of (lines bytes);
+  whole_items = λ bytes. whole_items_of (whole_lines bytes);
   start = new_stream;
   step = step;
   text = text;

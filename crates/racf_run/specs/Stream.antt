@@ -1,5 +1,5 @@
--- The stream: what stands between two lines, and the answer to each kind of line.
-use Rattle.std.specs.Prelude.{◌≡◌, ℕ, ◌+◌, Bool, true, false, ◌||◌, nat_le, is_some, Option, Some, None, List, [], ◌∷◌, ◌++◌, length, find, if◌then◌else◌}
+-- The stream: what stands between two lines, and the answer to each item.
+use Rattle.std.specs.Prelude.{◌≡◌, ℕ, ◌+◌, Bool, true, false, ◌||◌, nat_le, is_some, Option, Some, None, Result, Ok, Err, List, [], ◌∷◌, ◌++◌, length, find, if◌then◌else◌}
 use Rattle.std.specs.List.{list_any}
 use Rattle.std.specs.Str.{bytes_eq}
 use Rattle.access_levels.specs.Level.{suffices}
@@ -9,22 +9,29 @@ use Rattle.racf_run.specs.declared.item.Profile.{Profile}
 use Rattle.racf_run.specs.declared.item.Item.{Item}
 use Rattle.racf_run.specs.declared.item.Item.TheVariants as item
 use Rattle.racf_run.specs.declared.reply.Refusal.{Refusal}
-use Rattle.racf_run.specs.declared.reply.Refusal.TheVariants.{Exists, NoAcee, NotBuilt}
+use Rattle.racf_run.specs.declared.reply.Refusal.TheVariants as refusal
 use Rattle.racf_run.specs.declared.reply.Decision.{Decision}
 use Rattle.racf_run.specs.declared.reply.Decision.TheVariants.{NoProfile, UniversalAccess, Insufficient}
 use Rattle.racf_run.specs.declared.reply.Reply.{Reply}
 use Rattle.racf_run.specs.declared.reply.Reply.TheVariants.{Accepted, Refused, Verified, Decided}
+use Rattle.command_parser.specs.declared.forms.Form.{Form}
+use Rattle.racf_profiles.specs.declared.rows.Rows.{Rows}
+use Rattle.racf_database.specs.Contents.{first_rows}
+use Rattle.racf_database.specs.Effects
 use Rattle.racf_run.specs.Replies.{reply_line}
+use Rattle.racf_run.specs.Commands.{issuer, most_number, refusal_of, read_command}
 
--- The number counts the accepted commands. The names of the ACEEs in use are IDs' spellings.
+-- The number counts the accepted commands. The rows are those of users, groups and connections; beside them stand the
+-- FACILITY profiles, and the names of the ACEEs in use, which are IDs' spellings.
 pub record State : Type 0 where
   pub number : ℕ
   pub has_refused : Bool
+  pub rows : Rows
   pub profiles : List Profile
   pub acees : List (List ℕ)
 
-abbrev pub new_stream : State
-new_stream = record { number = 0; has_refused = false; profiles = []; acees = [] }
+unfoldable pub new_stream : State
+new_stream = record { number = 0; has_refused = false; rows = first_rows; profiles = []; acees = [] }
 
 -- the limits: profiles of a class, ACEEs of a file
 abbrev pub most_profiles : ℕ
@@ -60,15 +67,16 @@ is_in_use acee s = list_any (λ held. bytes_eq held acee) s.acees
 -- RDEFINE is refused exactly where the name is defined. A new profile stands last, and is counted.
 unfoldable pub rdefine : Profile → State → Answer
 rdefine profile s =
-    if is_defined profile.name s then refuse (Exists profile.name) s
-    else if nat_le most_profiles (length s.profiles) then refuse NotBuilt s
+    if is_defined profile.name s then refuse (refusal.Exists profile.name) s
+    else if nat_le most_profiles (length s.profiles) then refuse refusal.NotBuilt s
+    else if nat_le most_number s.number then refuse refusal.NumberSpent s
     else record { state = record s { number = s.number + 1; profiles = s.profiles ++ profile ∷ [] }; reply = Accepted }
 
 -- VERIFY begins an ACEE under a name that isn't in use.
 unfoldable pub verify : List ℕ → State → Answer
 verify acee s =
     if is_in_use acee s || nat_le most_acees (length s.acees)
-    then refuse NotBuilt s
+    then refuse refusal.NotBuilt s
     else record { state = record s { acees = s.acees ++ acee ∷ [] }; reply = Verified }
 
 -- The universal access suffices where it is at least the level that is asked for.
@@ -82,14 +90,34 @@ unfoldable pub auth : List ℕ → Spelled → Level → State → Answer
 auth acee name asked s =
     if is_in_use acee s
     then record { state = s; reply = Decided (decide (profile_of name s) asked) }
-    else refuse (NoAcee acee) s
+    else refuse (refusal.NoAcee acee) s
 
--- the answer to each kind of line
+-- A command is refused, or it is accepted: then it is counted, and the rows are as it leaves them.
+abbrev pub accept : Form → State → Answer
+accept form s = record { state = record s { number = s.number + 1; rows = Effects.step issuer form s.rows }; reply = Accepted }
+
+abbrev pub unless_refused : Option Refusal → Form → State → Answer
+unless_refused (Some why) form s = refuse why s
+unless_refused None form s = accept form s
+
+abbrev pub work_form : Form → State → Answer
+work_form form s = unless_refused (refusal_of form s.number s.rows) form s
+
+abbrev pub work_read : Result Form Refusal → State → Answer
+work_read (Err why) s = refuse why s
+work_read (Ok form) s = work_form form s
+
+unfoldable pub command : List ℕ → State → Answer
+command text s = work_read (read_command text) s
+
+-- the answer to each item
 abbrev pub answer : Item → State → Answer
 answer (item.Rdefine profile) s = rdefine profile s
 answer (item.Verify acee) s = verify acee s
 answer (item.Auth acee name asked) s = auth acee name asked s
-answer item.NotBuilt s = refuse NotBuilt s
+answer (item.Command text) s = command text s
+answer item.NotBuilt s = refuse refusal.NotBuilt s
+answer item.LineTooLong s = refuse refusal.LineTooLong s
 
 -- what stands after an item
 unfoldable pub step : Item → State → State

@@ -1,9 +1,11 @@
 //! The items of an input, one after another.
 
 ghost use Rattle.std.specs.Prelude.{◌≤◌, ◌^◌};
-ghost use Rattle.racf_run.specs.NextItem.{NextsItem, ReadsItem};
+ghost use Rattle.racf_run.specs.NextItem.{NextsItem};
+ghost use Rattle.racf_run.specs.NextRole.{NextsRole, ReadsRole, ReadsEnd};
 
 use crate::item::Item;
+use crate::joining::{Begun, LineRole, role_of};
 use racf_outside::{Line, LineFault, Lines, Source};
 use std::alloc::Global;
 
@@ -20,7 +22,7 @@ pub(crate) enum Stop {
     NoMemory,
 }
 
-/// The item of the next line; `None` where that line is skipped.
+/// The next item; `None` where the next line is skipped. The lines of a command are joined.
 pub(crate) fn next_item<S: Source>(
     alloc: Global,
     lines: &mut Lines<S>,
@@ -29,21 +31,54 @@ pub(crate) fn next_item<S: Source>(
     ensures faults { lines.old.faults ≤ lines.new.faults }
     ensures limit { lines.new.passed ≤ 2 ^ 28 }
 {
+    let mut begun = None;
+    loop {
+        match next_role(alloc, lines, begun) {
+            Ok(LineRole::Whole(item)) => return Ok(item),
+            Ok(LineRole::GoesOn(front)) => begun = Some(front),
+            Err(stop) => return Err(stop),
+        }
+    }
+}
+
+/// What the next line is behind the front of a command, or anew; at the input's end the command that is begun.
+fn next_role<S: Source>(
+    alloc: Global,
+    lines: &mut Lines<S>,
+    begun: Option<Begun>,
+) -> Result<LineRole, Stop>
+    ensures role { NextsRole result begun lines.old lines.new }
+    ensures faults { lines.old.faults ≤ lines.new.faults }
+    ensures limit { lines.new.passed ≤ 2 ^ 28 }
+{
     match lines.next() {
-        Ok(Line::Text(text)) => read_item(alloc, text),
-        Ok(Line::TooLong) => Ok(Some(Item::NotBuilt)),
-        Ok(Line::End) => Err(Stop::End),
+        Ok(Line::Text(text)) => read_role(alloc, begun, text),
+        Ok(Line::TooLong) => Ok(LineRole::Whole(Some(Item::LineTooLong))),
+        Ok(Line::End) => read_end(alloc, begun),
         Err(LineFault::ReadFault) => Err(Stop::ReadFault),
         Err(LineFault::InputTooLong) => Err(Stop::InputTooLong),
     }
 }
 
-/// The item of a line of text.
-fn read_item(alloc: Global, text: &[u8]) -> Result<Option<Item>, Stop>
-    ensures { ReadsItem result text.now }
+/// What a line of text is.
+fn read_role(alloc: Global, begun: Option<Begun>, text: &[u8]) -> Result<LineRole, Stop>
+    ensures { ReadsRole result begun text.now }
 {
-    match Item::read(alloc, text) {
-        Ok(item) => Ok(item),
+    match role_of(alloc, begun, text) {
+        Ok(role) => Ok(role),
+        Err(_) => Err(Stop::NoMemory),
+    }
+}
+
+/// What the input's end is.
+fn read_end(alloc: Global, begun: Option<Begun>) -> Result<LineRole, Stop>
+    ensures { ReadsEnd result begun }
+{
+    let Some(begun) = begun else {
+        return Err(Stop::End);
+    };
+    match begun.end(alloc) {
+        Ok(item) => Ok(LineRole::Whole(Some(item))),
         Err(_) => Err(Stop::NoMemory),
     }
 }

@@ -1,13 +1,14 @@
 //! What the lines of a stream ask for.
 
-ghost use Rattle.std.specs.Prelude.{◌≡◌, map, IfOk, None, if◌then◌else◌};
-ghost use Rattle.std.specs.List.{list_all};
-ghost use Rattle.racf_outside.specs.Lines.{Text};
-ghost use Rattle.racf_run.specs.Items.{is_blank, is_skipped, words, universal_access_of, asked_level_of, rdefine_of, verify_of, auth_of, is_rdefine, is_verify, is_auth, built, item_of};
+ghost use Rattle.std.specs.Prelude.{◌≡◌, map, position, IfOk, None, if◌then◌else◌};
+ghost use Rattle.std.specs.List.{list_all, before_first};
+ghost use Rattle.racf_run.specs.Items.{is_blank, is_skipped, is_request, past_blanks, words, universal_access_of, asked_level_of, rdefine_of, verify_of, auth_of, is_rdefine, is_verify, is_auth, built_request, built_command};
 
 use access_levels::{Id, Level};
+use command_words::is_spelled;
 use generic_names::{NameKind, Resource};
 use std::alloc::{AllocError, Global};
+use std::marker::Model;
 
 /// A general resource profile: the resource's name, and the level that everybody has to it.
 #[derive(Clone, Copy)]
@@ -18,14 +19,30 @@ pub struct Profile {
     pub universal_access: Level,
 }
 
-/// What a line of a stream asks for.
-#[derive(Clone, Copy)]
+/// The text of a command, its lines joined.
+#[derive(Drop)]
+pub struct CommandText {
+    bytes: Vec<u8>,
+}
+
+impl Model for CommandText {
+    ghost use Rattle.std.specs.Prelude.{List, ℕ};
+
+    ghost Value = { List ℕ };
+
+    ghost view = { λ text. text.bytes.items };
+}
+
+/// What a stream asks for at once: a command, whose lines are joined, or the line of a request.
+#[derive(Drop)]
 pub enum Item {
-    /// RDEFINE: define a profile (z/OS Security Server RACF Command Language Reference).
+    /// RDEFINE in its shortest form: define a profile.
     Rdefine(Profile),
-    /// VERIFY: begin an ACEE of this name (RACROUTE Macro Reference).
+    /// Any other command.
+    Command(CommandText),
+    /// VERIFY: begin an ACEE of this name.
     Verify(Id),
-    /// AUTH: may the user of an ACEE use a resource (RACROUTE Macro Reference)?
+    /// AUTH: may the user of an ACEE use a resource?
     Auth {
         /// The name of the ACEE.
         acee: Id,
@@ -34,26 +51,57 @@ pub enum Item {
         /// The level that is asked for.
         asked: Level,
     },
-    /// Anything else, which this program doesn't have.
+    /// A request that this program doesn't have.
     NotBuilt,
+    /// A line of more than 4,096 bytes, and with it the command that it was to go on with.
+    LineTooLong,
 }
 
-impl Item {
-    /// What a line of text asks for; `None` where it is skipped. Takes memory for the list of its words.
-    #[tactic(auto, unfolding(crate::specs::Items::item_of))]
-    pub(crate) fn read(alloc: Global, text: &[u8]) -> Result<Option<Item>, AllocError>
-        ensures { IfOk result (λ item. item ≡ item_of (Text text.now)) }
+impl CommandText {
+    ghost use Rattle.std.specs.Prelude.{◌≡◌};
+
+    /// Its bytes.
+    pub(crate) fn as_slice(&self) -> &[u8]
+        ensures { result.now ≡ self.now }
     {
-        if is_skipped(text) {
-            return Ok(None);
-        }
-        let words = words_of(alloc, text)?;
-        Ok(Some(built(words.as_slice()).unwrap_or(Item::NotBuilt)))
+        self.bytes.as_slice()
     }
 }
 
+impl Item {
+    ghost use Rattle.racf_run.specs.Items.{request_of, command_of};
+
+    /// What the line of a request asks for. Takes memory for the list of its words.
+    #[tactic(auto, unfolding(crate::specs::Items::request_of))]
+    pub(crate) fn request(alloc: Global, text: &[u8]) -> Result<Item, AllocError>
+        ensures { IfOk result (λ item. item ≡ request_of text.now) }
+    {
+        let words = words_of(alloc, text)?;
+        Ok(built_request(words.as_slice()).unwrap_or(Item::NotBuilt))
+    }
+
+    /// What the text of a command asks for. Takes memory for the list of its words.
+    #[tactic(auto, unfolding(crate::specs::Items::command_of))]
+    pub(crate) fn command(alloc: Global, text: Vec<u8>) -> Result<Item, AllocError>
+        ensures { IfOk result (λ item. item ≡ command_of text.items) }
+    {
+        match command_by_words(alloc, text.as_slice())? {
+            Some(item) => Ok(item),
+            None => Ok(Item::Command(CommandText { bytes: text })),
+        }
+    }
+}
+
+/// What a command asks for that is built by its words.
+fn command_by_words(alloc: Global, text: &[u8]) -> Result<Option<Item>, AllocError>
+    ensures { IfOk result (λ item. item ≡ built_command (words text.now)) }
+{
+    let words = words_of(alloc, text)?;
+    Ok(built_command(words.as_slice()))
+}
+
 /// A line of blanks and tabs alone, or a comment, which `/*` begins.
-fn is_skipped(text: &[u8]) -> bool
+pub(crate) fn is_skipped(text: &[u8]) -> bool
     ensures { result ≡ is_skipped text.now }
 {
     is_blank_line(text) || text.starts_with(b"/*")
@@ -67,10 +115,62 @@ fn is_blank_line(text: &[u8]) -> bool
 }
 
 /// A blank or a tab.
-fn is_blank(byte: u8) -> bool
+pub(crate) fn is_blank(byte: u8) -> bool
     ensures { result ≡ is_blank byte }
 {
     byte == b' ' || byte == b'\t'
+}
+
+/// The line of a request or of the issuer: its first word, folded to upper case, says so.
+#[tactic(auto, unfolding(crate::specs::Items::is_request))]
+pub(crate) fn is_request(text: &[u8]) -> bool
+    ensures { result ≡ is_request text.now }
+{
+    let word = first_word(text);
+    is_spelled(word, b"VERIFY")
+        || is_spelled(word, b"AUTH")
+        || is_spelled(word, b"FASTAUTH")
+        || is_spelled(word, b"DELETE")
+        || is_spelled(word, b"*AFTER")
+        || is_spelled(word, b"*ISSUER")
+}
+
+/// The first word of a line.
+fn first_word(text: &[u8]) -> &[u8]
+    ensures { result.now ≡ before_first is_blank (past_blanks text.now) }
+{
+    up_to_blank(past_blanks(text))
+}
+
+/// A text without the blanks and tabs in front.
+pub(crate) fn past_blanks(text: &[u8]) -> &[u8]
+    ensures { result.now ≡ past_blanks text.now }
+{
+    let mut rest = text;
+    while let [first, behind @ ..] = rest {
+        if !is_blank(*first) {
+            return rest;
+        }
+        rest = behind;
+    }
+    rest
+}
+
+/// A text as far as its first blank or tab.
+fn up_to_blank(text: &[u8]) -> &[u8]
+    ensures { result.now ≡ before_first is_blank text.now }
+{
+    match first_blank(text) {
+        Some(end) => &text[..end],
+        None => text,
+    }
+}
+
+/// The index of the first blank or tab.
+fn first_blank(text: &[u8]) -> Option<usize>
+    ensures { result ≡ position is_blank text.now }
+{
+    text.iter().position(|byte| is_blank(*byte))
 }
 
 /// The words of a line, parted by single blanks.
@@ -80,15 +180,25 @@ fn words_of(alloc: Global, text: &[u8]) -> Result<Vec<&[u8]>, AllocError>
     text.split(|byte| *byte == b' ').collect(alloc)
 }
 
-/// What the words of a line ask for, where they are those of a line that is built.
-#[tactic(auto, unfolding(crate::specs::Items::built))]
-fn built(words: &[&[u8]]) -> Option<Item>
-    ensures { result ≡ built (map (λ word. word.now) words.now) }
+/// What the words of a request ask for, where they are those of a line that is built.
+#[tactic(auto, unfolding(crate::specs::Items::built_request))]
+fn built_request(words: &[&[u8]]) -> Option<Item>
+    ensures { result ≡ built_request (map (λ word. word.now) words.now) }
 {
     match words {
         [verb, acee, user] => verify_line(verb, acee, user),
-        [verb, class, name, access] => rdefine_line(verb, class, name, access),
         [verb, acee, class, name, level] => auth_line(verb, acee, class, name, level),
+        _ => None,
+    }
+}
+
+/// What the words of a command ask for, where they are those of a command that is built by its words.
+#[tactic(auto, unfolding(crate::specs::Items::built_command))]
+fn built_command(words: &[&[u8]]) -> Option<Item>
+    ensures { result ≡ built_command (map (λ word. word.now) words.now) }
+{
+    match words {
+        [verb, class, name, access] => rdefine_line(verb, class, name, access),
         _ => None,
     }
 }

@@ -1,9 +1,11 @@
-//! The stream: lines of commands and requests in, replies and answers out, from a source to a sink; and the top call of the
-//! program, over a shelf of named inputs and outputs.
+//! The stream of the first path: lines of commands and requests in, replies and answers out.
 #![tactic(auto)]
 
+mod commands;
 mod input;
 mod item;
+mod joining;
+mod mark;
 mod reply;
 mod scripts;
 mod status;
@@ -11,6 +13,7 @@ mod stream;
 #[cfg(test)]
 mod tests;
 mod top;
+mod words;
 
 pub use scripts::script;
 pub use status::Status;

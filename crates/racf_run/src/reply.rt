@@ -4,20 +4,31 @@ ghost use Rattle.std.specs.Prelude.{◌≡◌, ◌++◌, OnOk};
 ghost use Rattle.racf_run.specs.Replies.{refusal_words, access_words, decision_words, reply_words, reply_line, is_refusal};
 
 use crate::item::Profile;
+use crate::words::{write_conflict, write_syntax};
 use access_levels::Id;
+use command_parser::Syntax;
 use generic_names::Resource;
 use itoa::Buffer;
+use racf_database::Conflict;
 use std::alloc::AllocError;
 
 /// Why a line was refused.
 #[derive(Clone, Copy)]
 pub enum Refusal {
+    /// The text of a command spells none: its first fault.
+    Syntax(Syntax),
+    /// What the command conflicts with.
+    Conflict(Conflict),
+    /// As many commands were accepted as there are numbers.
+    NumberSpent,
     /// A profile of this name is defined.
     Exists(Resource),
     /// No ACEE of this name is in use.
     NoAcee(Id),
     /// This program doesn't have what the line asks for.
     NotBuilt,
+    /// A line of more than 4,096 bytes.
+    LineTooLong,
 }
 
 /// The decision on a request for access.
@@ -50,6 +61,12 @@ impl Refusal {
         ensures { OnOk result (out.new.items ≡ out.old.items ++ refusal_words self.now) }
     {
         match self {
+            Refusal::Syntax(fault) => {
+                out.extend_from_slice(b"SYNTAX ")?;
+                write_syntax(fault, out)
+            }
+            Refusal::Conflict(conflict) => write_conflict(conflict, out),
+            Refusal::NumberSpent => out.extend_from_slice(b"NUMBERSPENT"),
             Refusal::Exists(name) => {
                 out.extend_from_slice(b"EXISTS ")?;
                 out.extend_from_slice(name.text())
@@ -59,6 +76,7 @@ impl Refusal {
                 out.extend_from_slice(acee.text())
             }
             Refusal::NotBuilt => out.extend_from_slice(b"NOTBUILT"),
+            Refusal::LineTooLong => out.extend_from_slice(b"LINETOOLONG"),
         }
     }
 }

@@ -63,14 +63,16 @@ fn run<S: Source, O: Sink>(alloc: Global, lines: &mut Lines<S>, sink: &mut O) ->
     ensures source_faults { lines.old.faults ≤ lines.new.faults }
     ensures sink_faults { O.faults sink.old ≤ O.faults sink.new }
 {
-    let mut stream = Stream::new(alloc);
+    let Ok(mut stream) = Stream::new(alloc) else {
+        return Status::NoMemory;
+    };
     let mut out = Vec::new(alloc);
     loop {
         let item = match next_item(alloc, lines) {
             Ok(item) => item,
             Err(stop) => return stop_status(stop, stream.has_refused()),
         };
-        match work_item(&mut stream, item, &mut out, sink) {
+        match work_item(alloc, &mut stream, item, &mut out, sink) {
             Ok(()) => {}
             Err(fault) => return fault_status(fault),
         }
@@ -79,6 +81,7 @@ fn run<S: Source, O: Sink>(alloc: Global, lines: &mut Lines<S>, sink: &mut O) ->
 
 /// Works an item, where there is one, and writes its text.
 fn work_item<O: Sink>(
+    alloc: Global,
     stream: &mut Stream,
     item: Option<Item>,
     out: &mut Vec<u8>,
@@ -92,7 +95,7 @@ fn work_item<O: Sink>(
         return Ok(());
     };
     out.clear();
-    match stream.work(&item, out) {
+    match stream.work(alloc, &item, out) {
         Ok(()) => {}
         Err(_) => return Err(WorkFault::NoMemory),
     }

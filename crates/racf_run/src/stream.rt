@@ -1,55 +1,70 @@
 //! The state between two lines of a stream, and what each item does to it.
 
-ghost use Rattle.std.specs.Prelude.{◌≡◌, ◌++◌, ◌≤◌, OnOk, OnErr, Option, None};
+ghost use Rattle.std.specs.Prelude.{◌≡◌, ◌++◌, ◌≤◌, OnOk, OnErr, IfOk, Option, None};
 ghost use Rattle.std.specs.Option.{option_copied};
 ghost use Rattle.racf_run.specs.Stream.{decide};
+ghost use Rattle.racf_run.specs.Commands.{issuer as the_issuer};
 
-use crate::item::{Item, Profile};
+use crate::commands::read_command;
+use crate::item::{CommandText, Item, Profile};
 use crate::reply::{Decision, Refusal, Reply};
 use access_levels::{Id, Level};
+use command_parser::{Command, Issuer};
 use generic_names::Resource;
+use racf_database::Database;
+use racf_profiles::{ibmuser, sys1};
 use std::alloc::{AllocError, Global};
 use std::marker::Model;
 
-/// The most profiles that a class has (this product's own rule).
+/// The most profiles that a class has.
 const MOST_PROFILES: usize = 50_000;
 
-/// The most ACEEs that are in use at once (this product's own rule).
+/// The most ACEEs that are in use at once.
 const MOST_ACEES: usize = 256;
 
-/// The state of a stream. A profile, and an ACEE, is looked for from the front: the cost of a line grows with their number.
+/// The last number that a command gets (this product's own limit).
+const MOST_NUMBER: u64 = 1 << 62;
+
+/// The state of a stream. A FACILITY profile, and an ACEE, is looked for from the front: the cost of an RDEFINE, VERIFY or
+/// AUTH grows with their number.
 #[derive(Drop)]
 pub(crate) struct Stream {
     number: u64,
     has_refused: bool,
+    database: Database,
     profiles: Vec<Profile>,
     acees: Vec<Id>,
 }
 
 impl Model for Stream {
-    ghost use Rattle.std.specs.Prelude.{◌≤◌, length};
+    ghost use Rattle.std.specs.Prelude.{◌≤◌};
+    ghost use Rattle.racf_run.specs.Commands.{most_number};
     ghost use Rattle.racf_run.specs.Stream.{State};
 
     ghost Value = { State };
 
-    ghost view = { λ s. record { number = s.number; has_refused = s.has_refused; profiles = s.profiles.items; acees = s.acees.items } };
+    ghost view = { λ s. record { number = s.number; has_refused = s.has_refused; rows = s.database.rows; profiles = s.profiles.items; acees = s.acees.items } };
 
-    ghost invariant = { λ s. s.number ≤ length s.profiles.items };
+    ghost invariant = { λ s. s.number ≤ most_number };
 }
 
 impl Stream {
-    ghost use Rattle.racf_run.specs.Stream.{new_stream, answer, rdefine, verify, auth, refuse, is_defined, is_in_use, profile_of, DoesAs};
+    ghost use Rattle.racf_run.specs.Stream.{new_stream, answer, rdefine, verify, auth, refuse, command, work_form, is_defined, is_in_use, profile_of, DoesAs};
+    ghost use Rattle.racf_run.specs.Commands.{refusal_of};
 
     /// The state before the first line.
-    pub(crate) fn new(alloc: Global) -> Stream
-        ensures { result ≡ new_stream }
+    #[tactic(auto, unfolding(crate::specs::Stream::new_stream))]
+    pub(crate) fn new(alloc: Global) -> Result<Stream, AllocError>
+        ensures { IfOk result (λ stream. stream ≡ new_stream) }
     {
-        Stream {
+        let database = Database::new(alloc)?;
+        Ok(Stream {
             number: 0,
             has_refused: false,
+            database,
             profiles: Vec::new(alloc),
             acees: Vec::new(alloc),
-        }
+        })
     }
 
     /// Whether a line was refused.
@@ -60,7 +75,12 @@ impl Stream {
     }
 
     /// Works an item, and writes its text at the end of `out`. Where memory is short, nothing has changed.
-    pub(crate) fn work(&mut self, item: &Item, out: &mut Vec<u8>) -> Result<(), AllocError>
+    pub(crate) fn work(
+        &mut self,
+        alloc: Global,
+        item: &Item,
+        out: &mut Vec<u8>,
+    ) -> Result<(), AllocError>
         ensures ok { OnOk result (DoesAs (answer item.now self.old) self.new out.old.items out.new.items) }
         ensures err { OnErr result (self.new ≡ self.old) }
     {
@@ -68,7 +88,9 @@ impl Stream {
             Item::Rdefine(profile) => self.rdefine(profile, out),
             Item::Verify(acee) => self.verify(*acee, out),
             Item::Auth { acee, name, asked } => self.auth(*acee, name, *asked, out),
+            Item::Command(text) => self.command(alloc, text, out),
             Item::NotBuilt => self.refuse(Refusal::NotBuilt, out),
+            Item::LineTooLong => self.refuse(Refusal::LineTooLong, out),
         }
     }
 
@@ -84,10 +106,63 @@ impl Stream {
         if self.profiles.len() >= MOST_PROFILES {
             return self.refuse(Refusal::NotBuilt, out);
         }
+        if self.number >= MOST_NUMBER {
+            return self.refuse(Refusal::NumberSpent, out);
+        }
         Reply::Accepted.write_line(self.number + 1, out)?;
         self.profiles.push(*profile)?;
         self.number += 1;
         Ok(())
+    }
+
+    /// A command: refused, or worked on the rows.
+    #[tactic(auto, unfolding(crate::specs::Stream::command))]
+    fn command(
+        &mut self,
+        alloc: Global,
+        text: &CommandText,
+        out: &mut Vec<u8>,
+    ) -> Result<(), AllocError>
+        ensures ok { OnOk result (DoesAs (command text.now self.old) self.new out.old.items out.new.items) }
+        ensures err { OnErr result (self.new ≡ self.old) }
+    {
+        match read_command(alloc, text.as_slice())? {
+            Ok(command) => self.work_form(alloc, &command, out),
+            Err(why) => self.refuse(why, out),
+        }
+    }
+
+    /// A command that the text spelled. All memory is taken, and the text stands whole, before the rows change.
+    fn work_form(
+        &mut self,
+        alloc: Global,
+        command: &Command,
+        out: &mut Vec<u8>,
+    ) -> Result<(), AllocError>
+        ensures ok { OnOk result (DoesAs (work_form command.now self.old) self.new out.old.items out.new.items) }
+        ensures err { OnErr result (self.new ≡ self.old) }
+    {
+        let issuer = issuer();
+        if let Some(why) = self.refusal_of(&issuer, command) {
+            return self.refuse(why, out);
+        }
+        let change = self.database.prepare(alloc, &issuer, command)?;
+        Reply::Accepted.write_line(self.number + 1, out)?;
+        self.database.apply(change);
+        self.number += 1;
+        Ok(())
+    }
+
+    /// Why a command is refused, if it is.
+    fn refusal_of(&self, issuer: &Issuer, command: &Command) -> Option<Refusal>
+        requires { issuer.now ≡ the_issuer }
+        ensures { result ≡ refusal_of command.now self.now.number self.now.rows }
+    {
+        match self.database.check(issuer, command) {
+            Err(conflict) => Some(Refusal::Conflict(conflict)),
+            Ok(()) if self.number >= MOST_NUMBER => Some(Refusal::NumberSpent),
+            Ok(()) => None,
+        }
     }
 
     /// VERIFY (RACROUTE Macro Reference, REQUEST=VERIFY).
@@ -154,6 +229,16 @@ impl Stream {
         ensures { result ≡ is_in_use acee.now self.now }
     {
         self.acees.contains(acee)
+    }
+}
+
+/// Who gives every command.
+fn issuer() -> Issuer
+    ensures { result ≡ the_issuer }
+{
+    Issuer {
+        id: ibmuser(),
+        group: sys1(),
     }
 }
 

@@ -24,6 +24,55 @@ const FIRST_OUTPUT: &str = "1 ACCEPTED
 1 4 NOPROFILE
 1 REFUSED EXISTS BPX.X
 1 REFUSED NOACEE B
+2 ACCEPTED
+";
+
+/// Groups and a user, made, moved and taken away.
+const GROUPS: &str = "AG A OWNER(SYS1)
+AG B SUPGROUP(A) OWNER(A)
+ALG A SUPGROUP(B) OWNER(B)
+DG A
+AU JOE DFLTGRP(B)
+DG B
+RE JOE GROUP(B)
+DU JOE
+DG B
+DG SYS1
+";
+
+/// The output of the groups.
+const GROUPS_OUTPUT: &str = "1 ACCEPTED
+2 ACCEPTED
+2 REFUSED CYCLE A
+2 REFUSED INUSE SUBGROUP B
+3 ACCEPTED
+3 REFUSED INUSE CONNECTED JOE
+3 REFUSED DEFAULTGROUP B
+4 ACCEPTED
+5 ACCEPTED
+5 REFUSED ROOT
+";
+
+/// A command in two lines, texts that spell no command, and a command that isn't built.
+const TEXTS: &str = "adduser joe -
+  dfltgrp(sys1)
+ALU JOE SEC(X)
+ALU JOE NAME('x'
+LISTCAT
+AD TEST.DATA
+ALU JOE SPECIAL NOSPECIAL
+ALU JOE SECLEVEL(X)
+*ISSUER JOE
+";
+
+/// Their output.
+const TEXTS_OUTPUT: &str = "1 ACCEPTED
+1 REFUSED SYNTAX AMBIGUOUS 9
+1 REFUSED SYNTAX UNCLOSED 13
+1 REFUSED SYNTAX UNKNOWNCOMMAND
+1 REFUSED NOTBUILT
+1 REFUSED SYNTAX EXCLUDED SPECIAL NOSPECIAL
+1 REFUSED NOTBUILT
 1 REFUSED NOTBUILT
 ";
 
@@ -67,6 +116,8 @@ fn works_the_shelf(rt: HostRuntime) -> Result<(), Fail> {
     let words = words(alloc)?;
     for (input, output, status) in [
         (FIRST_STREAM, FIRST_OUTPUT, Status::Refusals),
+        (GROUPS, GROUPS_OUTPUT, Status::Refusals),
+        (TEXTS, TEXTS_OUTPUT, Status::Refusals),
         ("", "", Status::Done),
     ] {
         let failing = Failing {
@@ -87,12 +138,22 @@ fn works_the_shelf(rt: HostRuntime) -> Result<(), Fail> {
     Ok(())
 }
 
+/// A command whose second line is too long, and a command behind it.
+fn too_long_in_a_command(alloc: Global) -> Result<Vec<u8>, AllocError> {
+    let mut bytes = Vec::from_slice(alloc, b"ADDUSER JOE -\n")?;
+    bytes.extend_from_slice(comment(alloc, 4097)?.as_slice())?;
+    bytes.extend_from_slice(b"\nADDUSER BOB")?;
+    Ok(bytes)
+}
+
 #[test]
 fn stops_in_mid_stream(rt: HostRuntime) -> Result<(), Fail> {
     let alloc = rt.alloc();
     let three = b"VERIFY A IBMUSER\nADDUSER JOE\nVERIFY B IBMUSER".as_slice();
+    let joined = b"VERIFY A IBMUSER\nADDUSER JOE -\nNAME('J')".as_slice();
     let longest = comment(alloc, 4096)?;
     let too_long = comment(alloc, 4097)?;
+    let too_long_inside = too_long_in_a_command(alloc)?;
     for (input, reads, writes, output, status) in [
         (
             longest.as_slice(),
@@ -105,22 +166,29 @@ fn stops_in_mid_stream(rt: HostRuntime) -> Result<(), Fail> {
             too_long.as_slice(),
             &[],
             &[],
-            "0 REFUSED NOTBUILT\n",
+            "0 REFUSED LINETOOLONG\n",
+            Status::Refusals,
+        ),
+        (
+            too_long_inside.as_slice(),
+            &[],
+            &[],
+            "0 REFUSED LINETOOLONG\n1 ACCEPTED\n",
             Status::Refusals,
         ),
         (
             three,
             &[],
             &[],
-            "0 0 VERIFIED\n0 REFUSED NOTBUILT\n0 0 VERIFIED\n",
-            Status::Refusals,
+            "0 0 VERIFIED\n1 ACCEPTED\n1 0 VERIFIED\n",
+            Status::Done,
         ),
         (three, &[1], &[], "", Status::ReadFault),
         (
             three,
             &[2],
             &[],
-            "0 0 VERIFIED\n0 REFUSED NOTBUILT\n",
+            "0 0 VERIFIED\n1 ACCEPTED\n",
             Status::ReadFault,
         ),
         (three, &[], &[1], "", Status::WriteFault),
@@ -128,14 +196,39 @@ fn stops_in_mid_stream(rt: HostRuntime) -> Result<(), Fail> {
             three,
             &[],
             &[3],
-            "0 0 VERIFIED\n0 REFUSED NOTBUILT\n",
+            "0 0 VERIFIED\n1 ACCEPTED\n",
             Status::WriteFault,
         ),
+        (joined, &[], &[], "0 0 VERIFIED\n1 ACCEPTED\n", Status::Done),
+        (joined, &[2], &[], "0 0 VERIFIED\n", Status::ReadFault),
     ] {
         let (ended, written) = worked(alloc, input, reads, writes)?;
         assert_eq!(rt; written.as_slice(), output.as_bytes());
         assert_eq!(rt; ended, status);
     }
+    Ok(())
+}
+
+/// Commands that make 7,999 groups beside SYS1, and one more.
+fn groups_to_the_limit(alloc: Global) -> Result<String, AllocError> {
+    let mut stream = String::new(alloc);
+    for number in 1..8001u32 {
+        writeln!(stream, "ADDGROUP G{number}")?;
+    }
+    Ok(stream)
+}
+
+#[test]
+fn holds_8000_groups(rt: HostRuntime) -> Result<(), Fail> {
+    let alloc = rt.alloc();
+    let stream = groups_to_the_limit(alloc)?;
+    let (ended, written) = worked(alloc, stream.as_bytes(), &[], &[])?;
+    assert_eq!(rt; ended, Status::Refusals);
+    assert!(rt;
+        written
+            .as_slice()
+            .ends_with(b"\n7999 ACCEPTED\n7999 REFUSED FULL GROUPS 8000\n")
+    );
     Ok(())
 }
 

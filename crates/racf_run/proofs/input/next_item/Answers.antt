@@ -1,19 +1,30 @@
-use Rattle.std.proofs.Common.{Ok, Err, ◌∙◌, ap}
-use Rattle.racf_run.proofs.ItemLaws.{from_text, from_too_long, from_read_fault, from_too_much}
+use Rattle.std.proofs.Common.{Ok, Err, ◌∙◌, ap, arith}
+use Rattle.racf_run.proofs.ItemLaws.{Taken-none, ends_item, goes_on, passes_more, stops}
 use Rattle.racf_run.proofs.input.next_item.Goals as goal
 
-pub returns-in-Ok-Text-clause-item : goal.returns-in-Ok-Text-clause-item
-returns-in-Ok-Text-clause-item g c =
-    from_text c.next.result c.in-Ok-Text.text c.read_item.result _ _ c.next.follows.holds-at-none.0 (c.in-Ok-Text.is ∙ ap Ok c.in-Ok-Text.field-0-is) c.read_item.ensures
+pub loop-item-init : goal.loop-item-init
+loop-item-init g c = record { taken = Taken-none c.args.lines.now; faults = omega arith }
 
-pub returns-in-Ok-TooLong-clause-item : goal.returns-in-Ok-TooLong-clause-item
-returns-in-Ok-TooLong-clause-item g c =
-    from_too_long c.next.result _ _ c.next.follows.holds-at-none.0 (c.in-Ok-TooLong.is ∙ ap Ok c.in-Ok-TooLong.field-0-is)
+pub returns-in-Ok-Whole-clause-item : goal.returns-in-Ok-Whole-clause-item
+returns-in-Ok-Whole-clause-item g c =
+    ends_item c.next_role.result c.loop-item.begun c.in-Ok-Whole.item _ c.loop-item.lines c.next_role.new.lines
+    c.loop-item.invariant.taken c.next_role.ensures.role (c.in-Ok-Whole.is ∙ ap Ok c.in-Ok-Whole.field-0-is)
 
-pub returns-in-Err-ReadFault-clause-item : goal.returns-in-Err-ReadFault-clause-item
-returns-in-Err-ReadFault-clause-item g c =
-    from_read_fault c.next.result _ _ c.next.follows.holds-at-none.0 (c.in-Err-ReadFault.is ∙ ap Err c.in-Err-ReadFault.field-0-is)
+pub loop-item-preserved : goal.loop-item-preserved
+loop-item-preserved g c =
+    record {
+      taken =
+          goes_on c.next_role.result c.loop-item.begun c.in-Ok-GoesOn.front _ c.loop-item.lines c.next_role.new.lines
+          c.loop-item.invariant.taken c.next_role.ensures.role (c.in-Ok-GoesOn.is ∙ ap Ok c.in-Ok-GoesOn.field-0-is);
+      faults = omega (arith, c.loop-item.invariant.faults, c.next_role.ensures.faults);
+    }
 
-pub returns-in-Err-InputTooLong-clause-item : goal.returns-in-Err-InputTooLong-clause-item
-returns-in-Err-InputTooLong-clause-item g c =
-    from_too_much c.next.result _ _ c.next.follows.holds-at-none.0 (c.in-Err-InputTooLong.is ∙ ap Err c.in-Err-InputTooLong.field-0-is)
+pub loop-item-smaller : goal.loop-item-smaller
+loop-item-smaller g c =
+    let more = passes_more c.next_role.result c.loop-item.begun c.in-Ok-GoesOn.front c.loop-item.lines c.next_role.new.lines c.next_role.ensures.role (c.in-Ok-GoesOn.is ∙ ap Ok c.in-Ok-GoesOn.field-0-is) in
+    omega (arith, more, c.next_role.ensures.limit)
+
+pub returns-in-Err-clause-item : goal.returns-in-Err-clause-item
+returns-in-Err-clause-item g c =
+    stops c.next_role.result c.in-Err.stop c.loop-item.begun _ c.loop-item.lines c.next_role.new.lines
+    c.loop-item.invariant.taken c.loop-item.invariant.faults c.next_role.ensures.role c.in-Err.is

@@ -1,13 +1,13 @@
 use Rattle.std.proofs.Common.{arith}
 use Rattle.racf_run.specs.Script.{stream}
 use Rattle.racf_run.proofs.Walk.{Walk-items}
-use Rattle.racf_run.proofs.StreamWalk.{begun, passed_none, stopped, unanswered}
+use Rattle.racf_run.proofs.StreamWalk.{begun, no_start, passed_none, stopped, unanswered}
 use Rattle.racf_run.proofs.scripts.run.Goals as goal
 
 pub loop-item-init : goal.loop-item-init
 loop-item-init g c =
     record {
-      walk = begun c.args.lines.now c.new-stream.result _ c.requires c.new-stream.ensures;
+      walk = begun c.args.lines.now c.in-Ok.stream _ c.requires c.in-Ok.ensures;
       most = passed_none c.args.lines.now c.requires;
       source_faults = omega arith;
       sink_faults = omega arith;
@@ -22,8 +22,8 @@ pub loop-item-preserved : goal.loop-item-preserved
 loop-item-preserved g c =
     record {
       walk =
-          Walk-items stream _ c.in-Ok.ensures.item.0 _ c.loop-item.lines c.next_item.new.lines c.loop-item.stream c.work_item.new.stream _ _ _
-          c.loop-item.invariant.walk c.in-Ok.ensures.item.1 c.in-Ok-work_item.ensures.works.0 c.in-Ok-work_item.ensures.works.1;
+          Walk-items stream _ c.in-Ok-next_item.ensures.item.0 _ c.loop-item.lines c.next_item.new.lines c.loop-item.stream c.work_item.new.stream _ _ _
+          c.loop-item.invariant.walk c.in-Ok-next_item.ensures.item.1 c.in-Ok-work_item.ensures.works.0 c.in-Ok-work_item.ensures.works.1;
       most = c.next_item.ensures.limit;
       source_faults = omega (arith, c.loop-item.invariant.source_faults, c.next_item.ensures.faults);
       sink_faults = omega (arith, c.loop-item.invariant.sink_faults, c.work_item.ensures.sink_faults);
@@ -31,5 +31,8 @@ loop-item-preserved g c =
 
 pub returns-in-Err-work_item-clause-ran : goal.returns-in-Err-work_item-clause-ran
 returns-in-Err-work_item-clause-ran g c =
-    unanswered c.in-Err-work_item.fault c.fault_status.result c.in-Ok.item _ c.next_item.new.lines.left c.loop-item.lines c.next_item.new.lines
-    c.loop-item.stream c.work_item.new.stream _ _ _ c.loop-item.invariant.walk c.in-Ok.ensures.item c.in-Err-work_item.ensures.works c.fault_status.ensures
+    unanswered c.in-Err-work_item.fault c.fault_status.result c.in-Ok-next_item.item _ c.next_item.new.lines.left c.loop-item.lines c.next_item.new.lines
+    c.loop-item.stream c.work_item.new.stream _ _ _ c.loop-item.invariant.walk c.in-Ok-next_item.ensures.item c.in-Err-work_item.ensures.works c.fault_status.ensures
+
+pub returns-in_default-clause-ran : goal.returns-in_default-clause-ran
+returns-in_default-clause-ran g c = no_start c.args.lines.now _

@@ -1,12 +1,12 @@
 -- The bits of a set when a word of it is written.
-use Rattle.std.proofs.Common.{eq-eqb, ◌≡◌, ◌≢◌, ℕ, ◌+◌, ◌-◌, ◌*◌, ◌/◌, ◌%◌, ◌^◌, ◌<◌, ◌≤◌, min, max, Bool, true, false, not, ◌&&◌, ◌||◌, eqb, List, length, get_or, set, refl, sym, ◌∙◌, ap, subst, ⊎_elim, arith, bit_or, bit_and, bit_xor, w64}
+use Rattle.std.proofs.Common.{eq-eqb, ◌≡◌, ◌≢◌, ℕ, ◌+◌, ◌*◌, ◌/◌, ◌%◌, ◌^◌, ◌<◌, ◌≤◌, max, not, ◌&&◌, ◌||◌, eqb, List, length, get_or, set, sym, ◌∙◌, ap, subst, ⊎_elim, arith, bit_or, bit_and, w64}
 use Rattle.std.specs.Int.{bit_at, bit_not}
 use Rattle.std.proofs.lemmas.Bool.{cases_eq, cases_lt, ne_eqb}
 use Rattle.std.proofs.lemmas.List.{get_or-set_same, get_or-set_other, length-set, set_past}
 use Rattle.std.proofs.lemmas.Nat.{or_lt, and_le_l}
 use Rattle.std.proofs.Math.Nat.{lt_of_le_of_lt}
-use Rattle.std.proofs.lemmas.Nat.Bits.{bit_at-lt, bit_at_and, bit_at_or, bit_at_xor, bit_at-pow_same, bit_at-pow_other, bit_at_set_same, bit_at_set_other, bit_at_clear_same, bit_at_clear_other, same_from_bits, shr_and_one}
-use Rattle.access_levels.specs.Category.{is_member, including, excluding, is_missing}
+use Rattle.std.proofs.lemmas.Nat.Bits.{bit_at-lt, bit_at_or, bit_at_xor, bit_at-pow_same, bit_at-pow_other, bit_at_set_same, bit_at_set_other, bit_at_clear_same, bit_at_clear_other, same_from_bits, shr_and_one}
+use Rattle.access_levels.specs.Category.{is_member, including, excluding}
 use Rattle.access_levels.specs.Words.{joined, AreWords, bit_at-joined}
 
 -- Four words stay four words when one is written that fits.
@@ -15,9 +15,9 @@ AreWords-set words i word h fits = record {
   four = length-set words i word ∙ h.four;
   fit = λ k. ⊎_elim
       (λ (same : k ≡ i). ⊎_elim
-          (λ (inside : i < length words). let P : ℕ → Type 0 = λ x. x < 2 ^ 64 in subst P (sym (ap (λ j. get_or (set words i word) j 0) same ∙ get_or-set_same words i word 0 inside)) fits)
-          (λ (past : length words ≤ i). let P : ℕ → Type 0 = λ x. x < 2 ^ 64 in subst P (sym (ap (λ ws. get_or ws k 0) (set_past words i word past))) (h.fit k))
-          (cases_lt i (length words)))
+      (λ (inside : i < length words). let P : ℕ → Type 0 = λ x. x < 2 ^ 64 in subst P (sym (ap (λ j. get_or (set words i word) j 0) same ∙ get_or-set_same words i word 0 inside)) fits)
+      (λ (past : length words ≤ i). let P : ℕ → Type 0 = λ x. x < 2 ^ 64 in subst P (sym (ap (λ ws. get_or ws k 0) (set_past words i word past))) (h.fit k))
+      (cases_lt i (length words)))
       (λ (other : k ≡ i → ⊥). let P : ℕ → Type 0 = λ x. x < 2 ^ 64 in subst P (sym (get_or-set_other words i k word 0 other)) (h.fit k))
       (cases_eq k i);
 }
@@ -41,10 +41,10 @@ bit_written words n word wanted h small here beside others m =
     ⊎_elim
     (λ (same : m ≡ n). ap (λ k. bit_at (get_or (set words (n / 64) word) (k / 64) 0) (k % 64)) same ∙ ap (λ x. bit_at x (n % 64)) read ∙ here ∙ ap (λ k. bit_at wanted k) (sym same))
     (λ (other : m ≡ n → ⊥). ⊎_elim
-        (λ (near : m / 64 ≡ n / 64). ap (λ k. bit_at (get_or (set words (n / 64) word) k 0) (m % 64)) near ∙ ap (λ x. bit_at x (m % 64)) read
-            ∙ beside (m % 64) (rest_below m) (λ r. other (same_place m n near r)) ∙ ap (λ k. bit_at (get_or words k 0) (m % 64)) (sym near) ∙ sym (bit_at-joined words m h.fit) ∙ sym (others m other))
-        (λ (far : m / 64 ≡ n / 64 → ⊥). ap (λ x. bit_at x (m % 64)) (get_or-set_other words (n / 64) (m / 64) word 0 far) ∙ sym (bit_at-joined words m h.fit) ∙ sym (others m other))
-        (cases_eq (m / 64) (n / 64)))
+    (λ (near : m / 64 ≡ n / 64). ap (λ k. bit_at (get_or (set words (n / 64) word) k 0) (m % 64)) near ∙ ap (λ x. bit_at x (m % 64)) read
+    ∙ beside (m % 64) (rest_below m) (λ r. other (same_place m n near r)) ∙ ap (λ k. bit_at (get_or words k 0) (m % 64)) (sym near) ∙ sym (bit_at-joined words m h.fit) ∙ sym (others m other))
+    (λ (far : m / 64 ≡ n / 64 → ⊥). ap (λ x. bit_at x (m % 64)) (get_or-set_other words (n / 64) (m / 64) word 0 far) ∙ sym (bit_at-joined words m h.fit) ∙ sym (others m other))
+    (cases_eq (m / 64) (n / 64)))
     (cases_eq m n)
 
 joined_written : (words : List ℕ) (n word wanted : ℕ) → AreWords words → n < 256 → word < 2 ^ 64

@@ -1,3 +1,5 @@
 pub mod Packed
 pub mod Bits
 pub mod Missing
+pub mod Numbered
+pub mod SameWords

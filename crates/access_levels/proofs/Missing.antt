@@ -1,12 +1,12 @@
 -- The least missing number, found word by word.
-use Rattle.std.proofs.Common.{◌≡◌, ℕ, zero, suc, ◌+◌, ◌-◌, ◌*◌, ◌/◌, ◌%◌, ◌^◌, ◌<◌, ◌≤◌, min, Bool, true, false, not, ◌&&◌, eqb, cond, List, length, get_or, Option, Some, None, MatchOption, refl, sym, ◌∙◌, ap, subst, ⊎_elim, arith, bit_and, w64}
+use Rattle.std.proofs.Common.{◌≡◌, ℕ, zero, suc, ◌+◌, ◌-◌, ◌*◌, ◌/◌, ◌%◌, ◌<◌, ◌≤◌, min, Bool, true, false, not, ◌&&◌, eqb, cond, List, get_or, Some, None, refl, sym, ◌∙◌, ap, subst, ⊎_elim, arith, bit_and, w64}
 use Rattle.std.specs.Int.{bit_at, bit_not, trailing_zeros}
 use Rattle.std.specs.List.{find, range_with_len}
 use Rattle.std.proofs.lemmas.Bool.{cases_eq, cases_lt}
 use Rattle.std.proofs.lemmas.Nat.Bits.{bit_at-lt, bit_at-zero, bit_at_and, bit_at_not, bit_at-trailing_zeros}
 use Rattle.std.proofs.lemmas.Nat.{and_le_l}
 use Rattle.std.proofs.Math.Nat.{lt_of_le_of_lt}
-use Rattle.access_levels.specs.Category.{is_member, is_missing, first_missing, IsFirstMissing}
+use Rattle.access_levels.specs.Category.{is_missing, first_missing}
 use Rattle.access_levels.specs.Words.{joined, AreWords, bit_at-joined}
 
 -- A search of numbers in order.
@@ -49,7 +49,7 @@ is_missing-in_word words wanted q i m h k small at =
     let wants : bit_at (joined wanted) m ≡ bit_at (get_or wanted q 0) i = bit_at-joined wanted m k.fit ∙ ap (λ j. bit_at (get_or wanted j 0) (m % 64)) quotient ∙ ap (λ j. bit_at (get_or wanted q 0) j) rest in
     let holds : bit_at (joined words) m ≡ bit_at (get_or words q 0) i = bit_at-joined words m h.fit ∙ ap (λ j. bit_at (get_or words j 0) (m % 64)) quotient ∙ ap (λ j. bit_at (get_or words q 0) j) rest in
     let bits : bit_at (missing_word words wanted q) i ≡ min (bit_at (get_or wanted q 0) i) (1 - bit_at (get_or words q 0) i) =
-        bit_at_and (get_or wanted q 0) (bit_not w64 (get_or words q 0)) i ∙ ap (λ x. min (bit_at (get_or wanted q 0) i) x) (bit_at_not w64 (get_or words q 0) i (h.fit q) small) in
+    bit_at_and (get_or wanted q 0) (bit_not w64 (get_or words q 0)) i ∙ ap (λ x. min (bit_at (get_or wanted q 0) i) x) (bit_at_not w64 (get_or words q 0) i (h.fit q) small) in
     ap (λ x. eqb x 1 && not (eqb (bit_at (joined words) m) 1)) wants ∙ ap (λ x. eqb (bit_at (get_or wanted q 0) i) 1 && not (eqb x 1)) holds
     ∙ sym (both _ _ (bit_at-lt (get_or wanted q 0) i) (bit_at-lt (get_or words q 0) i)) ∙ sym (ap (λ x. eqb x 1) bits)
 
@@ -66,7 +66,7 @@ none_below-more : (words wanted : List ℕ) (q : ℕ) → AreWords words → Are
 none_below-more words wanted q h k below empty m small = ⊎_elim
     (λ (under : m < 64 * q). below m under)
     (λ (over : 64 * q ≤ m). is_missing-in_word words wanted q (m - 64 * q) m h k (omega arith) (in_word m q over)
-        ∙ ap (λ x. eqb (bit_at x (m - 64 * q)) 1) empty ∙ ap (λ x. eqb x 1) (bit_at-zero (m - 64 * q)))
+    ∙ ap (λ x. eqb (bit_at x (m - 64 * q)) 1) empty ∙ ap (λ x. eqb x 1) (bit_at-zero (m - 64 * q)))
     (cases_lt m (64 * q))
 
 -- The number n is the least that is missing.
@@ -79,15 +79,16 @@ first_in_word : (words wanted : List ℕ) (q : ℕ) → AreWords words → AreWo
     → IsLeast (joined words) (joined wanted) (64 * q + trailing_zeros w64 (missing_word words wanted q))
 first_in_word words wanted q h k small below some =
     let found : (trailing_zeros w64 (missing_word words wanted q) < 64) × (bit_at (missing_word words wanted q) (trailing_zeros w64 (missing_word words wanted q)) ≡ 1)
-            × ((i : ℕ) → i < trailing_zeros w64 (missing_word words wanted q) → bit_at (missing_word words wanted q) i ≡ 0) =
-        bit_at-trailing_zeros w64 (missing_word words wanted q) (omega arith) (lt_of_le_of_lt (and_le_l _ _) (k.fit q)) in
-    (omega (arith, found.0),
-     is_missing-in_word words wanted q (trailing_zeros w64 (missing_word words wanted q)) _ h k found.0 refl ∙ ap (λ x. eqb x 1) found.1,
-     λ m under. ⊎_elim
-        (λ (lower : m < 64 * q). below m lower)
-        (λ (over : 64 * q ≤ m). is_missing-in_word words wanted q (m - 64 * q) m h k (omega (arith, found.0)) (in_word m q over)
-            ∙ ap (λ x. eqb x 1) (found.2 (m - 64 * q) (omega arith)))
-        (cases_lt m (64 * q)))
+    × ((i : ℕ) → i < trailing_zeros w64 (missing_word words wanted q) → bit_at (missing_word words wanted q) i ≡ 0) =
+    bit_at-trailing_zeros w64 (missing_word words wanted q) (omega arith) (lt_of_le_of_lt (and_le_l _ _) (k.fit q)) in (
+      omega (arith, found.0),
+      is_missing-in_word words wanted q (trailing_zeros w64 (missing_word words wanted q)) _ h k found.0 refl ∙ ap (λ x. eqb x 1) found.1,
+      λ m under. ⊎_elim
+          (λ (lower : m < 64 * q). below m lower)
+          (λ (over : 64 * q ≤ m). is_missing-in_word words wanted q (m - 64 * q) m h k (omega (arith, found.0)) (in_word m q over)
+          ∙ ap (λ x. eqb x 1) (found.2 (m - 64 * q) (omega arith)))
+          (cases_lt m (64 * q)),
+    )
 
 -- The same of the sets that the words are.
 pub found_in_word : (words wanted : List ℕ) (q set wants : ℕ) → AreWords words → AreWords wanted → joined words ≡ set → joined wanted ≡ wants

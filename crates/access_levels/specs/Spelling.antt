@@ -6,7 +6,7 @@ use Rattle.access_levels.specs.Level.{level_name, levels, authority_name, author
 use Rattle.access_levels.specs.declared.ids.IdFault.{IdFault}
 use Rattle.access_levels.specs.declared.ids.IdFault.TheVariants.{Empty, TooLong, BadByte}
 use Rattle.access_levels.specs.declared.levels.Level.{Level}
-use Rattle.access_levels.specs.declared.levels.GroupAuthority.{GroupAuthority}
+use Rattle.access_levels.specs.declared.authorities.GroupAuthority.{GroupAuthority}
 
 -- A name is made of the letters A to Z, digits, and # (35), $ (36) and @ (64).
 abbrev pub is_id_byte : ℕ → Bool

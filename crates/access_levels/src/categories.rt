@@ -1,5 +1,6 @@
 //! Sets of category numbers.
 ghost use Rattle.std.specs.Prelude.{◌≡◌, ℕ, ◌==◌, ◌||◌, ◌&&◌, not, nat_eq};
+ghost use Rattle.std.specs.Cmp.{partial_equiv_from_equiv, nat_eq_equiv};
 ghost use Rattle.access_levels.specs.Category.{is_member, including, excluding, first_missing, IsFirstMissing};
 
 use std::marker::Model;
@@ -74,4 +75,18 @@ impl Categories {
         }
         None
     }
+}
+
+impl PartialEq for Categories {
+    ghost eq = { nat_eq };
+
+    ghost laws = { partial_equiv_from_equiv nat_eq_equiv };
+
+    fn eq(&self, other: &Categories) -> bool {
+        self.words == other.words
+    }
+}
+
+impl Eq for Categories {
+    ghost laws = { nat_eq_equiv };
 }

@@ -1,11 +1,14 @@
 //! Identifiers: the names of users, groups, classes, ports, applications, labels, levels and categories.
 ghost use Rattle.std.specs.Prelude.{◌≡◌, ℕ, ◌≤◌, length, Some, Ok, refl, not, bytes_eq};
+ghost use Rattle.std.specs.Hash as fed;
 ghost use Rattle.std.specs.Ordering.{nat_cmp};
 ghost use Rattle.std.specs.Cmp.{partial_equiv_from_equiv};
 ghost use Rattle.std.specs.Cmp.Lexicographic.{slice_cmp, nat_list_eq_equiv, nat_list_cmp_total, texts_ties, texts_po};
+ghost use Rattle.access_levels.specs.Number.{as_number, same_hash};
 ghost use Rattle.access_levels.specs.Spelling.{is_id_byte, bad_byte, begins_with_digit, id_of, group_of};
 
 use std::cmp::Ordering;
+use std::hash::{Hash, Hasher};
 use std::marker::Model;
 
 /// The most bytes that an identifier has.
@@ -90,6 +93,13 @@ impl Id {
         &self.bytes[..len]
     }
 
+    // The eight bytes as one number.
+    fn as_number(&self) -> u64
+        ensures { result ≡ as_number self.now }
+    {
+        u64::from_be_bytes(self.bytes)
+    }
+
     // The identifier of a text that is known to spell one.
     fn spelled_by(text: &[u8]) -> Id
         requires short { length text.now ≤ 8 }
@@ -149,7 +159,7 @@ impl PartialEq for Id {
     ghost laws = { partial_equiv_from_equiv nat_list_eq_equiv };
 
     fn eq(&self, other: &Id) -> bool {
-        self.text() == other.text()
+        self.as_number() == other.as_number() && self.len == other.len
     }
 }
 
@@ -178,5 +188,15 @@ impl Ord for Id {
 
     fn cmp(&self, other: &Id) -> Ordering {
         self.text().cmp(other.text())
+    }
+}
+
+impl Hash for Id {
+    ghost hash_input = { λ id. fed.u64 (as_number id) };
+
+    ghost respects_eq = { same_hash };
+
+    fn hash<H: Hasher>(&self, state: &mut H) {
+        state.write_u64(self.as_number());
     }
 }

@@ -1,13 +1,26 @@
-// A library with one function.
+//! Names of resources and of profiles.
 #![tactic(auto)]
 
-ghost use Rattle.std.specs.Prelude.{◌≡◌};
-ghost use Rattle.generic_names.specs.Echo.{echo_of};
+mod covering;
+mod fault;
+mod form;
+mod gap;
+mod kind;
+pub mod laws;
+mod member;
+mod order;
+mod pattern;
+mod qualifiers;
+mod reading;
+mod resource;
+mod spelling;
 
-// The `ensures` clause is the contract: what `echo` returns is `echo_of` of its argument, a definition
-// in `specs/Echo.antt`, which a caller's clause can cite too.
-pub fn echo(x: usize) -> usize
-    ensures { result ≡ echo_of x }
-{
-    x
-}
+pub use fault::NameFault;
+pub use gap::Gap;
+pub use kind::NameKind;
+pub use member::MemberName;
+pub use pattern::Pattern;
+pub use resource::Resource;
+
+#[cfg(test)]
+mod tests;

@@ -1,6 +1,5 @@
 -- The bit that is read is the set's.
-use Rattle.std.proofs.Common.{nat_eq, ap, ◌∙◌, get_or, bit_and}
-use Rattle.std.specs.Int.{bit_at}
+use Rattle.std.proofs.Common.{nat_eq, ap, ◌∙◌}
 use Rattle.access_levels.specs.Category.{is_member}
 use Rattle.access_levels.proofs.Bits.{bit_read}
 use Rattle.access_levels.proofs.categories.Categories.has.Goals as goal

@@ -1,0 +1,101 @@
+//! Each call once, and the spellings as a table.
+use crate::{Categories, GroupAuthority, Id, IdFault, Level, PortClass, Text};
+use std::test::Fail;
+
+#[test]
+fn spellings(rt: HostRuntime) {
+    let rows = [
+        (b"".as_slice(), Some(IdFault::Empty), Some(IdFault::Empty)),
+        (b"A".as_slice(), None, None),
+        (b"IBMUSER".as_slice(), None, None),
+        (b"A2345678".as_slice(), None, None),
+        (b"#$@09AZ".as_slice(), None, None),
+        (
+            b"A23456789".as_slice(),
+            Some(IdFault::TooLong),
+            Some(IdFault::TooLong),
+        ),
+        (
+            b"9a3456789".as_slice(),
+            Some(IdFault::TooLong),
+            Some(IdFault::TooLong),
+        ),
+        (
+            b"a".as_slice(),
+            Some(IdFault::BadByte(1)),
+            Some(IdFault::BadByte(1)),
+        ),
+        (
+            b"A-B".as_slice(),
+            Some(IdFault::BadByte(2)),
+            Some(IdFault::BadByte(2)),
+        ),
+        (
+            b"ABCDEFG ".as_slice(),
+            Some(IdFault::BadByte(8)),
+            Some(IdFault::BadByte(8)),
+        ),
+        (
+            b"A\xc1".as_slice(),
+            Some(IdFault::BadByte(2)),
+            Some(IdFault::BadByte(2)),
+        ),
+        (b"9A".as_slice(), None, Some(IdFault::BadByte(1))),
+        (
+            b"9a".as_slice(),
+            Some(IdFault::BadByte(2)),
+            Some(IdFault::BadByte(1)),
+        ),
+    ];
+    for (text, id_fault, group_fault) in rows {
+        assert_eq!(rt; Id::read(text).err(), id_fault);
+        assert_eq!(rt; Id::read_group(text).err(), group_fault);
+        if let Ok(id) = Id::read(text) {
+            assert!(rt; id.text() == text);
+        }
+    }
+}
+
+#[test]
+fn words(rt: HostRuntime) {
+    assert_eq!(rt; Level::read(b"EXECUTE"), Some(Level::Execute));
+    assert_eq!(rt; Level::read(b"NONE"), Some(Level::NoAccess));
+    assert_eq!(rt; Level::read(b"READ "), None);
+    assert_eq!(rt; Level::read(b"read"), None);
+    assert_eq!(rt; Level::Alter.rank(), 5);
+    assert!(rt; Level::Control.suffices(Level::Update) && !Level::Execute.suffices(Level::Read));
+    assert_eq!(rt;
+        GroupAuthority::read(b"JOIN"),
+        Some(GroupAuthority::MayJoin)
+    );
+    assert_eq!(rt; GroupAuthority::read(b""), None);
+    assert_eq!(rt; GroupAuthority::MayConnect.rank(), 2);
+    assert!(rt; PortClass::Appcport.name() == b"APPCPORT".as_slice());
+}
+
+#[test]
+fn categories(rt: HostRuntime) {
+    let borders = [0, 63, 64, 255];
+    let mut all = Categories::NONE;
+    for n in borders {
+        assert!(rt; !all.has(n));
+        all = all.with(n);
+        assert!(rt; all.has(n) && all.with(n) == all);
+    }
+    assert!(rt; !all.has(1) && !all.has(62) && !all.has(65) && !all.has(254));
+    assert_eq!(rt; all.without(64).first_missing(&all), Some(64));
+    assert_eq!(rt; all.without(0).without(255).first_missing(&all), Some(0));
+    assert_eq!(rt; all.first_missing(&all.without(63)), None);
+    assert_eq!(rt;
+        Categories::NONE.with(64).first_missing(&all.without(0)),
+        Some(63)
+    );
+}
+
+#[test]
+fn texts(rt: HostRuntime) -> Result<(), Fail> {
+    let text = Text::of(rt.alloc(), b"A. N. OTHER")?;
+    assert!(rt; text.bytes() == b"A. N. OTHER".as_slice());
+    assert!(rt; text.clone()? == text);
+    Ok(())
+}

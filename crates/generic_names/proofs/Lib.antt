@@ -1,0 +1,12 @@
+mod QualifierLaws
+mod FaultLaws
+mod CoverLaws
+mod WalkLaws
+mod RankLaws
+mod ReplaceLaws
+pub mod Lawful
+pub mod OrderLaws
+mod FirstLaws
+mod CompareLaws
+mod GapLaws
+pub mod BestLaws

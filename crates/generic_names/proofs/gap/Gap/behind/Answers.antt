@@ -1,0 +1,39 @@
+use Rattle.std.proofs.Common.{◌≡◌, ◌∙◌, List, ℕ, true, false, eqb, sym, ap, subst, arith, ⊎_elim}
+use Rattle.std.proofs.lemmas.Bool.{cases_eq}
+use Rattle.std.proofs.lemmas.Bool.Decides.{nat_tests}
+use Rattle.generic_names.specs.Spelled.{qualifiers}
+use Rattle.generic_names.specs.Covers.{covers_all}
+use Rattle.generic_names.proofs.Lawful.{EachQualifier, IsPlain, resource-plain}
+use Rattle.generic_names.proofs.CompareLaws.{next-head}
+use Rattle.generic_names.proofs.GapLaws.{met-byte, met-end, met-gap, met-onward, plain-rest}
+use Rattle.generic_names.proofs.gap.Gap.behind.Goals as goal
+
+pub returns-then-rank-least-clause-none : goal.returns-then-rank-least-clause-none
+returns-then-rank-least-clause-none c p lawful kind not_before below =
+    let text = c.text-text.result.now in
+    let head = next-head c.loop-count.these c.next-rank.new.self c.next-rank.result c.next-rank.ensures.next c.next-rank.ensures.end in
+    let plain = subst (λ (xs : List ℕ). EachQualifier IsPlain (qualifiers xs)) (sym c.text-text.ensures.text) (resource-plain c.args.name.now c.text-text.ensures.name) in
+    ap (λ (xs : List ℕ). covers_all p.kind (qualifiers p.text) (qualifiers xs)) (sym c.text-text.ensures.text)
+    ∙ met-gap c.loop-count.invariant c.next-rank.result head.0 head.1 c.least_that_follows-least.result c.if-rank-least.true c.least_that_follows-least.ensures.none (plain-rest text c.loop-count.count plain) p lawful not_before below
+
+pub returns-then-rank-least-clause-onward : goal.returns-then-rank-least-clause-onward
+returns-then-rank-least-clause-onward c =
+    let head = next-head c.loop-count.these c.next-rank.new.self c.next-rank.result c.next-rank.ensures.next c.next-rank.ensures.end in
+    met-onward c.loop-count.invariant c.next-rank.result head.0 head.1 c.least_that_follows-least.result c.if-rank-least.true
+
+pub loop-count-preserved : goal.loop-count-preserved
+loop-count-preserved c =
+    let rank = c.next-rank.result in
+    let low = c.if-rank-gt257.false in
+    let next = c.next-rank.ensures.next (λ e. omega arith) in
+    let same : c.least_that_follows-least.result ≡ rank = omega (arith, c.least_that_follows-least.ensures.from, c.if-rank-least.false) in
+    ⊎_elim
+    (λ (e : rank ≡ 257).
+    let test : eqb rank 257 ≡ true = grind (arith, nat_tests) in
+    let ends = c.least_that_follows-least.ensures.end same e in
+    rw test (met-end c.loop-count.invariant rank c.next-rank.new.self next e ends.0 ends.1))
+    (λ (n : rank ≡ 257 → ⊥).
+    let test : eqb rank 257 ≡ false = grind (arith, nat_tests) in
+    let met = c.least_that_follows-least.ensures.byte same (omega arith) in
+    rw test (met-byte c.loop-count.invariant rank c.next-rank.new.self next (omega arith) met.0 met.1))
+    (cases_eq rank 257)

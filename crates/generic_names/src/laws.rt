@@ -1,0 +1,38 @@
+//! Laws of the definitions. The functions do nothing: their contracts are what is proved.
+
+ghost use Rattle.generic_names.specs.Laws.{OneIsBefore, NotBoth, PassedOn, TiesAreEqual, EqualsTie, VeryNameIsFirst, CoversItself, ReadsBack, ResourceIsPattern};
+ghost use Rattle.generic_names.specs.Spelled.{Spelled};
+ghost use Rattle.generic_names.specs.Best.{BestIsFirst};
+ghost use Rattle.generic_names.specs.Gap.{GapIsClosed};
+
+/// Among the patterns of one kind the order of specificity is total, and two tie only if they are equal.
+pub fn order_is_total()
+    ensures either { OneIsBefore }
+    ensures not_both { NotBoth }
+    ensures passed_on { PassedOn }
+    ensures ties { TiesAreEqual }
+    ensures equals { EqualsTie }
+{}
+
+/// A discrete profile of the very name is more specific than every other profile that covers it.
+pub fn very_name_is_first()
+    ensures first { VeryNameIsFirst }
+    ensures itself { CoversItself }
+{}
+
+/// What is read has the text that was read, and this reads as the same again. The name of a resource is that
+/// of a profile too.
+pub fn text_reads_back()
+    ensures pattern { ReadsBack }
+    ensures resource { ResourceIsPattern }
+{}
+
+/// What is more specific than a pattern before the end of a gap lies before it too.
+pub fn gap_is_closed()
+    ensures { GapIsClosed }
+{}
+
+/// Of profiles in the order of specificity the best one is the first that covers the name, whatever a profile is.
+pub fn best_is_first<T>()
+    ensures { (name_of : T → Spelled) → BestIsFirst name_of }
+{}

@@ -1,0 +1,88 @@
+-- What edits leave, by induction on the rows.
+use Rattle.std.proofs.Common.{◌≡◌, ℕ, Bool, true, false, cond, List, [], ◌∷◌, map, Some, None, option_and_then, option_map, refl, sym, ◌∙◌, ap, ⊎_elim}
+use Rattle.std.specs.List.{find}
+use Rattle.std.specs.Str.{bytes_eq}
+use Rattle.std.proofs.lemmas.Bool.{cases_Bool}
+use Rattle.std.proofs.lemmas.Slice.Eq.{bytes_eq-Decides}
+use Rattle.generic_names.specs.Spelled.{Spelled}
+use Rattle.racf_profiles.specs.declared.profiles.Profile.{Profile}
+use Rattle.racf_profiles.specs.declared.class_rows.ClassRow.{ClassRow}
+use Rattle.racf_profiles.specs.Lookup.{is_class, is_profile}
+use Rattle.racf_profiles.specs.Edits.{put_row, drop_row, at_class, without_profile}
+use Rattle.racf_profiles.specs.State.{live_copy, copy_at, effective_in}
+use Rattle.racf_profiles.proofs.Found.{find-hit, find-miss}
+
+-- A row that isn't there isn't dropped.
+pub drop_row-absent : {X : Type 0} (p : X → Bool) (xs : List X) → find p xs ≡ None → drop_row p xs ≡ xs
+drop_row-absent p [] absent = refl
+drop_row-absent p (x ∷ xs) absent = ⊎_elim
+    (λ (hit : p x ≡ true). let found : Some x ≡ None = sym (find-hit p x xs hit) ∙ absent in cc)
+    (λ (miss : p x ≡ false). ap (λ b. cond b xs (x ∷ drop_row p xs)) miss ∙ ap (λ rows. x ∷ rows) (drop_row-absent p xs (sym (find-miss p x xs miss) ∙ absent)))
+    (cases_Bool (p x))
+
+-- A class that isn't there isn't changed.
+pub at_class-absent : (name : List ℕ) (change : ClassRow → ClassRow) (classes : List ClassRow) → find (is_class name) classes ≡ None → at_class name change classes ≡ classes
+at_class-absent name change [] absent = refl
+at_class-absent name change (class ∷ classes) absent = ⊎_elim
+    (λ (hit : is_class name class ≡ true). let found : Some class ≡ None = sym (find-hit (is_class name) class classes hit) ∙ absent in cc)
+    (λ (miss : is_class name class ≡ false). ap (λ b. cond b (change class ∷ classes) (class ∷ at_class name change classes)) miss
+    ∙ ap (λ rest. class ∷ rest) (at_class-absent name change classes (sym (find-miss (is_class name) class classes miss) ∙ absent)))
+    (cases_Bool (is_class name class))
+
+pub at_class-without_absent : (class : List ℕ) (name : Spelled) (classes : List ClassRow)
+    → option_and_then (λ (row : ClassRow). find (is_profile name) row.profiles) (find (is_class class) classes) ≡ None → at_class class (without_profile name) classes ≡ classes
+at_class-without_absent class name [] absent = refl
+at_class-without_absent class name (row ∷ classes) absent = ⊎_elim
+    (λ (hit : is_class class row ≡ true).
+    let none : find (is_profile name) row.profiles ≡ None = sym (ap (λ o. option_and_then (λ (r : ClassRow). find (is_profile name) r.profiles) o) (find-hit (is_class class) row classes hit)) ∙ absent in
+    ap (λ b. cond b (without_profile name row ∷ classes) (row ∷ at_class class (without_profile name) classes)) hit
+    ∙ ap (λ profiles. record row { profiles = profiles } ∷ classes) (drop_row-absent (is_profile name) row.profiles none))
+    (λ (miss : is_class class row ≡ false). ap (λ b. cond b (without_profile name row ∷ classes) (row ∷ at_class class (without_profile name) classes)) miss
+    ∙ ap (λ rest. row ∷ rest) (at_class-without_absent class name classes (sym (ap (λ o. option_and_then (λ (r : ClassRow). find (is_profile name) r.profiles) o) (find-miss (is_class class) row classes miss)) ∙ absent)))
+    (cases_Bool (is_class class row))
+
+pub copy_at-absent : (name : List ℕ) (copy : ClassRow → List Profile) (classes : List ClassRow) (copies : List (List Profile)) → find (is_class name) classes ≡ None → copy_at name copy classes copies ≡ copies
+copy_at-absent name copy [] copies absent = refl
+copy_at-absent name copy (class ∷ classes) [] absent = refl
+copy_at-absent name copy (class ∷ classes) (old ∷ copies) absent = ⊎_elim
+    (λ (hit : is_class name class ≡ true). let found : Some class ≡ None = sym (find-hit (is_class name) class classes hit) ∙ absent in cc)
+    (λ (miss : is_class name class ≡ false). ap (λ b. cond b (copy class ∷ copies) (old ∷ copy_at name copy classes copies)) miss
+    ∙ ap (λ rest. old ∷ rest) (copy_at-absent name copy classes copies (sym (find-miss (is_class name) class classes miss) ∙ absent)))
+    (cases_Bool (is_class name class))
+
+-- What is put is found.
+pub put_row-found : {X : Type 0} (p : X → Bool) (x : X) (xs : List X) → p x ≡ true → find p (put_row p x xs) ≡ Some x
+put_row-found p x [] is = find-hit p x [] is
+put_row-found p x (y ∷ ys) is = ⊎_elim
+    (λ (hit : p y ≡ true). ap (λ b. find p (cond b (x ∷ ys) (y ∷ put_row p x ys))) hit ∙ find-hit p x ys is)
+    (λ (miss : p y ≡ false). ap (λ b. find p (cond b (x ∷ ys) (y ∷ put_row p x ys))) miss ∙ find-miss p y (put_row p x ys) miss ∙ put_row-found p x ys is)
+    (cases_Bool (p y))
+
+-- And what is sought by a test that neither it nor what it replaces passes is found as before.
+pub put_row-others : {X : Type 0} (p q : X → Bool) (x : X) (xs : List X) → q x ≡ false → ((y : X) → p y ≡ true → q y ≡ false) → find q (put_row p x xs) ≡ find q xs
+put_row-others p q x [] isnt apart = find-miss q x [] isnt
+put_row-others p q x (y ∷ ys) isnt apart = ⊎_elim
+    (λ (hit : p y ≡ true). ap (λ b. find q (cond b (x ∷ ys) (y ∷ put_row p x ys))) hit ∙ find-miss q x ys isnt ∙ sym (find-miss q y ys (apart y hit)))
+    (λ (miss : p y ≡ false). ap (λ b. find q (cond b (x ∷ ys) (y ∷ put_row p x ys))) miss ∙ ap (λ o. cond (q y) (Some y) o) (put_row-others p q x ys isnt apart))
+    (cases_Bool (p y))
+
+pub same_name : (name : List ℕ) → bytes_eq name name ≡ true
+same_name name = (bytes_eq-Decides name name).1 refl
+
+-- Who has the one name hasn't the other.
+pub other_name : (name one other : List ℕ) → bytes_eq one other ≡ false → bytes_eq name one ≡ true → bytes_eq name other ≡ false
+other_name name one other differ same = ap (λ n. bytes_eq n other) ((bytes_eq-Decides name one).0 same) ∙ differ
+
+-- The listed copies of a restart are the live profiles.
+live : (listed : Bool) (profiles : List Profile) → cond listed (cond listed profiles []) profiles ≡ profiles
+live true profiles = refl
+live false profiles = refl
+
+pub effective_in-live : (name : List ℕ) (classes : List ClassRow) → effective_in name classes (map live_copy classes) ≡ option_map (λ (class : ClassRow). class.profiles) (find (is_class name) classes)
+effective_in-live name [] = refl
+effective_in-live name (class ∷ classes) = ⊎_elim
+    (λ (hit : is_class name class ≡ true). ap (λ b. cond b (Some (cond class.listed (live_copy class) class.profiles)) (effective_in name classes (map live_copy classes))) hit ∙ ap Some (live class.listed class.profiles)
+    ∙ sym (ap (λ o. option_map (λ (row : ClassRow). row.profiles) o) (find-hit (is_class name) class classes hit)))
+    (λ (miss : is_class name class ≡ false). ap (λ b. cond b (Some (cond class.listed (live_copy class) class.profiles)) (effective_in name classes (map live_copy classes))) miss ∙ effective_in-live name classes
+    ∙ sym (ap (λ o. option_map (λ (row : ClassRow). row.profiles) o) (find-miss (is_class name) class classes miss)))
+    (cases_Bool (is_class name class))

@@ -1,0 +1,4 @@
+pub mod Found
+pub mod Tables
+pub mod EditLaws
+pub mod OrderedProfiles

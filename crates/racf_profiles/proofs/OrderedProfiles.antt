@@ -1,0 +1,113 @@
+-- A profile that is put goes to its place in the order.
+use Rattle.std.proofs.Common.{◌≡◌, ◌⊎◌, ℕ, Bool, true, false, cond, ◌&&◌, List, [], ◌∷◌, length, Some, option_and_then, refl, sym, ◌∙◌, ap, ⊎_elim}
+use Rattle.std.specs.List.{find}
+use Rattle.std.specs.Str.{bytes_eq}
+use Rattle.std.proofs.lemmas.Bool.{cases_Bool, both_ways}
+use Rattle.std.proofs.lemmas.Slice.Eq.{bytes_eq-Decides}
+use Rattle.generic_names.specs.Spelled.{Spelled}
+use Rattle.generic_names.specs.Before.{before}
+use Rattle.generic_names.specs.Laws.{IsPattern, OneIsBefore}
+use Rattle.generic_names.specs.declared.kind.NameKind.{NameKind}
+use Rattle.racf_profiles.specs.declared.profiles.Profile.{Profile}
+use Rattle.racf_profiles.specs.declared.class_rows.ClassRow.{ClassRow}
+use Rattle.racf_profiles.specs.Lookup.{is_profile, is_class}
+use Rattle.racf_profiles.specs.Edits.{put_profile, comes_first, is_in_order, AreNamed, at_class, with_listed, with_profile}
+use Rattle.racf_profiles.specs.State.{copy_at, effective_in}
+use Rattle.racf_profiles.proofs.Found.{find-hit, find-miss, all_head, all_tail}
+use Rattle.racf_profiles.proofs.EditLaws.{same_name}
+
+both : (a b : Bool) → a ≡ true → b ≡ true → (a && b) ≡ true
+both a b h k = ap (λ x. x && b) h ∙ k
+
+-- The three places of a profile that is put before y and ys.
+put-same : (x y : Profile) (ys : List Profile) → is_profile x.name y ≡ true → put_profile x (y ∷ ys) ≡ x ∷ ys
+put-same x y ys same = ap (λ b. cond b (x ∷ ys) (cond (before x.name y.name) (x ∷ y ∷ ys) (y ∷ put_profile x ys))) same
+
+put-before : (x y : Profile) (ys : List Profile) → is_profile x.name y ≡ false → before x.name y.name ≡ true → put_profile x (y ∷ ys) ≡ x ∷ y ∷ ys
+put-before x y ys other first = ap (λ b. cond b (x ∷ ys) (cond (before x.name y.name) (x ∷ y ∷ ys) (y ∷ put_profile x ys))) other
+    ∙ ap (λ b. cond b (x ∷ y ∷ ys) (y ∷ put_profile x ys)) first
+
+put-behind : (x y : Profile) (ys : List Profile) → is_profile x.name y ≡ false → before x.name y.name ≡ false → put_profile x (y ∷ ys) ≡ y ∷ put_profile x ys
+put-behind x y ys other later = ap (λ b. cond b (x ∷ ys) (cond (before x.name y.name) (x ∷ y ∷ ys) (y ∷ put_profile x ys))) other
+    ∙ ap (λ b. cond b (x ∷ y ∷ ys) (y ∷ put_profile x ys)) later
+
+-- What is put is found by its name.
+pub put_profile-found : (x : Profile) (ys : List Profile) → find (is_profile x.name) (put_profile x ys) ≡ Some x
+put_profile-found x [] = find-hit (is_profile x.name) x [] (same_name x.name.text)
+put_profile-found x (y ∷ ys) = ⊎_elim
+    (λ (same : is_profile x.name y ≡ true). ap (find (is_profile x.name)) (put-same x y ys same) ∙ find-hit (is_profile x.name) x ys (same_name x.name.text))
+    (λ (other : is_profile x.name y ≡ false). ⊎_elim
+    (λ (first : before x.name y.name ≡ true). ap (find (is_profile x.name)) (put-before x y ys other first) ∙ find-hit (is_profile x.name) x (y ∷ ys) (same_name x.name.text))
+    (λ (later : before x.name y.name ≡ false). ap (find (is_profile x.name)) (put-behind x y ys other later) ∙ find-miss (is_profile x.name) y (put_profile x ys) other ∙ put_profile-found x ys)
+    (cases_Bool (before x.name y.name)))
+    (cases_Bool (is_profile x.name y))
+
+-- A name that is before what is put and before the others is before what there is then.
+comes_first-put : (name : Spelled) (x : Profile) (ys : List Profile) → before name x.name ≡ true → comes_first name ys ≡ true → comes_first name (put_profile x ys) ≡ true
+comes_first-put name x [] first others = first
+comes_first-put name x (y ∷ ys) first others = ⊎_elim
+    (λ (same : is_profile x.name y ≡ true). ap (comes_first name) (put-same x y ys same) ∙ first)
+    (λ (other : is_profile x.name y ≡ false). ⊎_elim
+    (λ (above : before x.name y.name ≡ true). ap (comes_first name) (put-before x y ys other above) ∙ first)
+    (λ (later : before x.name y.name ≡ false). ap (comes_first name) (put-behind x y ys other later) ∙ others)
+    (cases_Bool (before x.name y.name)))
+    (cases_Bool (is_profile x.name y))
+
+-- Names of one kind and one text are the same name.
+same_spelled : (a b : Spelled) → a.kind ≡ b.kind → bytes_eq a.text b.text ≡ true → a ≡ b
+same_spelled a b kind text =
+    ap (λ (k : NameKind). let name : Spelled = record { kind = k; text = a.text } in name) kind
+    ∙ ap (λ (t : List ℕ). let name : Spelled = record { kind = b.kind; text = t } in name) ((bytes_eq-Decides a.text b.text).0 text)
+
+-- Of two names of which neither is the other's and the first isn't before the second, the second is before the first.
+the_other_way : OneIsBefore → (x y : Spelled) → IsPattern x → IsPattern y → x.kind ≡ y.kind → bytes_eq y.text x.text ≡ false → before x y ≡ false → before y x ≡ true
+the_other_way total x y lawful_x lawful_y kind other later = ⊎_elim
+    (λ (same : x ≡ y). absurd (both_ways _ other (ap (λ (n : Spelled). bytes_eq n.text x.text) (sym same) ∙ same_name x.text)))
+    (λ (one : (before x y ≡ true) ⊎ (before y x ≡ true)). ⊎_elim (λ (first : before x y ≡ true). absurd (both_ways _ later first)) (λ (second : before y x ≡ true). second) one)
+    (total x y lawful_x lawful_y kind)
+
+pub put_profile-in_order : OneIsBefore → (kind : NameKind) (x : Profile) (ys : List Profile) → IsPattern x.name → x.name.kind ≡ kind → AreNamed kind ys → is_in_order ys ≡ true → is_in_order (put_profile x ys) ≡ true
+put_profile-in_order total kind x [] lawful is named ordered = refl
+put_profile-in_order total kind x (y ∷ ys) lawful is named ordered = ⊎_elim
+    (λ (same : is_profile x.name y ≡ true).
+    let name : y.name ≡ x.name = same_spelled y.name x.name (named.0.1 ∙ sym is) same in
+    ap is_in_order (put-same x y ys same) ∙ ap (λ (n : Spelled). comes_first n ys && is_in_order ys) (sym name) ∙ ordered)
+    (λ (other : is_profile x.name y ≡ false). ⊎_elim
+    (λ (first : before x.name y.name ≡ true). ap is_in_order (put-before x y ys other first) ∙ both _ _ first ordered)
+    (λ (later : before x.name y.name ≡ false). ap is_in_order (put-behind x y ys other later)
+    ∙ both _ _ (comes_first-put y.name x ys (the_other_way total x.name y.name lawful named.0.0 (is ∙ sym named.0.1) other later) (all_head _ _ ordered))
+    (put_profile-in_order total kind x ys lawful is named.1 (all_tail _ _ ordered)))
+    (cases_Bool (before x.name y.name)))
+    (cases_Bool (is_profile x.name y))
+
+-- A class that is listed has its live profiles as its copy.
+pub effective_in-listed : (name : List ℕ) (row : ClassRow) (classes : List ClassRow) (copies : List (List Profile)) → find (is_class name) classes ≡ Some row → length copies ≡ length classes
+    → effective_in name (at_class name (with_listed true) classes) (copy_at name (λ (class : ClassRow). class.profiles) classes copies) ≡ Some row.profiles
+effective_in-listed name row [] copies found long = cc
+effective_in-listed name row (class ∷ classes) [] found long = cc
+effective_in-listed name row (class ∷ classes) (old ∷ copies) found long = ⊎_elim
+    (λ (hit : is_class name class ≡ true).
+    let some : Some class ≡ Some row = sym (find-hit (is_class name) class classes hit) ∙ found in
+    let same : class ≡ row = cc in
+    ap (λ b. effective_in name (cond b (with_listed true class ∷ classes) (class ∷ at_class name (with_listed true) classes)) (cond b (class.profiles ∷ copies) (old ∷ copy_at name (λ (c : ClassRow). c.profiles) classes copies))) hit
+    ∙ ap (λ b. cond b (Some class.profiles) (effective_in name classes copies)) hit ∙ ap (λ (c : ClassRow). Some c.profiles) same)
+    (λ (miss : is_class name class ≡ false).
+    let others : length copies ≡ length classes = cc in
+    ap (λ b. effective_in name (cond b (with_listed true class ∷ classes) (class ∷ at_class name (with_listed true) classes)) (cond b (class.profiles ∷ copies) (old ∷ copy_at name (λ (c : ClassRow). c.profiles) classes copies))) miss
+    ∙ ap (λ b. cond b (Some (cond class.listed old class.profiles)) (effective_in name (at_class name (with_listed true) classes) (copy_at name (λ (c : ClassRow). c.profiles) classes copies))) miss
+    ∙ effective_in-listed name row classes copies (sym (find-miss (is_class name) class classes miss) ∙ found) others)
+    (cases_Bool (is_class name class))
+
+-- A profile that is put into a class is found there.
+pub profile-put : (class : List ℕ) (x : Profile) (row : ClassRow) (classes : List ClassRow) → find (is_class class) classes ≡ Some row
+    → option_and_then (λ (r : ClassRow). find (is_profile x.name) r.profiles) (find (is_class class) (at_class class (with_profile x) classes)) ≡ Some x
+profile-put class x row [] found = cc
+profile-put class x row (first ∷ classes) found = ⊎_elim
+    (λ (hit : is_class class first ≡ true).
+    ap (λ b. option_and_then (λ (r : ClassRow). find (is_profile x.name) r.profiles) (find (is_class class) (cond b (with_profile x first ∷ classes) (first ∷ at_class class (with_profile x) classes)))) hit
+    ∙ ap (λ o. option_and_then (λ (r : ClassRow). find (is_profile x.name) r.profiles) o) (find-hit (is_class class) (with_profile x first) classes hit) ∙ put_profile-found x first.profiles)
+    (λ (miss : is_class class first ≡ false).
+    ap (λ b. option_and_then (λ (r : ClassRow). find (is_profile x.name) r.profiles) (find (is_class class) (cond b (with_profile x first ∷ classes) (first ∷ at_class class (with_profile x) classes)))) miss
+    ∙ ap (λ o. option_and_then (λ (r : ClassRow). find (is_profile x.name) r.profiles) o) (find-miss (is_class class) first (at_class class (with_profile x) classes) miss)
+    ∙ profile-put class x row classes (sym (find-miss (is_class class) first classes miss) ∙ found))
+    (cases_Bool (is_class class first))

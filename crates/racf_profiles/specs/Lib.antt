@@ -1,0 +1,5 @@
+pub mod ClassTable
+pub mod Lookup
+pub mod NewDatabase
+pub mod Edits
+pub mod State

@@ -1,0 +1,240 @@
+//! The fixed classes and what each of them allows.
+ghost use Rattle.std.specs.Prelude.{◌≡◌, Ok, option_copied};
+ghost use Rattle.access_levels.specs.Spelling.{id_of};
+ghost use Rattle.racf_profiles.specs.ClassTable.{class_name, fixed_class, facts_of_class, class_table, facts_of};
+
+use crate::known::known_id;
+use access_levels::Id;
+
+/// The fixed classes, in the order of the table (this product's own).
+#[derive(Clone, Copy, Debug, PartialEq, Eq)]
+pub enum FixedClass {
+    Dataset,
+    Facility,
+    Terminal,
+    Console,
+    Jesinput,
+    Appcport,
+    Appl,
+    Opercmds,
+    Surrogat,
+    Tapevol,
+    Dasdvol,
+    Secdata,
+    Seclabel,
+    Global,
+}
+
+/// Which names the profiles of a class have.
+#[derive(Clone, Copy, Debug, PartialEq, Eq)]
+pub enum NameForm {
+    /// Names of data sets.
+    DataSet,
+    /// General resource names.
+    General,
+    /// Names of at most eight bytes, spelled as user IDs are.
+    Identifier,
+    /// SECLEVEL and CATEGORY alone.
+    LevelOrCategory,
+    /// The names of classes.
+    Class,
+}
+
+/// What a class allows.
+#[derive(Clone, Copy, Debug, PartialEq, Eq)]
+pub struct ClassFacts {
+    pub class: FixedClass,
+    pub names: NameForm,
+    /// The attribute OPERATIONS gives access.
+    pub operations: bool,
+    /// Profiles may be generic.
+    pub generic: bool,
+    /// SETROPTS RACLIST may be given for it.
+    pub raclist: bool,
+}
+
+impl FixedClass {
+    /// All fixed classes, in the order of the table.
+    pub const ALL: [FixedClass; 14] = [
+        FixedClass::Dataset,
+        FixedClass::Facility,
+        FixedClass::Terminal,
+        FixedClass::Console,
+        FixedClass::Jesinput,
+        FixedClass::Appcport,
+        FixedClass::Appl,
+        FixedClass::Opercmds,
+        FixedClass::Surrogat,
+        FixedClass::Tapevol,
+        FixedClass::Dasdvol,
+        FixedClass::Secdata,
+        FixedClass::Seclabel,
+        FixedClass::Global,
+    ];
+
+    /// The name of the class.
+    pub fn name(self) -> &'static [u8]
+        ensures name { result.now ≡ class_name self }
+        ensures spelled { id_of result.now ≡ Ok result.now }
+    {
+        match self {
+            FixedClass::Dataset => b"DATASET".as_slice(),
+            FixedClass::Facility => b"FACILITY".as_slice(),
+            FixedClass::Terminal => b"TERMINAL".as_slice(),
+            FixedClass::Console => b"CONSOLE".as_slice(),
+            FixedClass::Jesinput => b"JESINPUT".as_slice(),
+            FixedClass::Appcport => b"APPCPORT".as_slice(),
+            FixedClass::Appl => b"APPL".as_slice(),
+            FixedClass::Opercmds => b"OPERCMDS".as_slice(),
+            FixedClass::Surrogat => b"SURROGAT".as_slice(),
+            FixedClass::Tapevol => b"TAPEVOL".as_slice(),
+            FixedClass::Dasdvol => b"DASDVOL".as_slice(),
+            FixedClass::Secdata => b"SECDATA".as_slice(),
+            FixedClass::Seclabel => b"SECLABEL".as_slice(),
+            FixedClass::Global => b"GLOBAL".as_slice(),
+        }
+    }
+
+    /// The name of the class, as an identifier.
+    pub fn id(self) -> Id
+        ensures { result ≡ class_name self }
+    {
+        known_id(self.name())
+    }
+
+    /// What the class allows.
+    pub fn facts(self) -> &'static ClassFacts
+        ensures { result.now ≡ facts_of_class self }
+    {
+        &CLASS_TABLE[self as usize]
+    }
+
+    /// The fixed class of that name.
+    pub fn of(name: Id) -> Option<FixedClass>
+        ensures { result ≡ fixed_class name }
+    {
+        FixedClass::ALL
+            .iter()
+            .copied()
+            .find(|class| class.name() == name.text())
+    }
+}
+
+/// The table of the fixed classes.
+pub const CLASS_TABLE: [ClassFacts; 14] = [
+    ClassFacts {
+        class: FixedClass::Dataset,
+        names: NameForm::DataSet,
+        operations: true,
+        generic: true,
+        raclist: false,
+    },
+    ClassFacts {
+        class: FixedClass::Facility,
+        names: NameForm::General,
+        operations: false,
+        generic: true,
+        raclist: true,
+    },
+    ClassFacts {
+        class: FixedClass::Terminal,
+        names: NameForm::General,
+        operations: false,
+        generic: true,
+        raclist: true,
+    },
+    ClassFacts {
+        class: FixedClass::Console,
+        names: NameForm::General,
+        operations: false,
+        generic: true,
+        raclist: true,
+    },
+    ClassFacts {
+        class: FixedClass::Jesinput,
+        names: NameForm::General,
+        operations: false,
+        generic: true,
+        raclist: true,
+    },
+    ClassFacts {
+        class: FixedClass::Appcport,
+        names: NameForm::General,
+        operations: false,
+        generic: true,
+        raclist: true,
+    },
+    ClassFacts {
+        class: FixedClass::Appl,
+        names: NameForm::General,
+        operations: false,
+        generic: true,
+        raclist: true,
+    },
+    ClassFacts {
+        class: FixedClass::Opercmds,
+        names: NameForm::General,
+        operations: false,
+        generic: true,
+        raclist: true,
+    },
+    ClassFacts {
+        class: FixedClass::Surrogat,
+        names: NameForm::General,
+        operations: false,
+        generic: true,
+        raclist: true,
+    },
+    ClassFacts {
+        class: FixedClass::Tapevol,
+        names: NameForm::General,
+        operations: true,
+        generic: true,
+        raclist: true,
+    },
+    ClassFacts {
+        class: FixedClass::Dasdvol,
+        names: NameForm::General,
+        operations: true,
+        generic: true,
+        raclist: true,
+    },
+    ClassFacts {
+        class: FixedClass::Secdata,
+        names: NameForm::LevelOrCategory,
+        operations: false,
+        generic: false,
+        raclist: false,
+    },
+    ClassFacts {
+        class: FixedClass::Seclabel,
+        names: NameForm::Identifier,
+        operations: false,
+        generic: false,
+        raclist: true,
+    },
+    ClassFacts {
+        class: FixedClass::Global,
+        names: NameForm::Class,
+        operations: false,
+        generic: false,
+        raclist: false,
+    },
+];
+
+/// The table of the fixed classes, in its order.
+pub fn class_table() -> &'static [ClassFacts]
+    ensures { result.now ≡ class_table }
+{
+    &CLASS_TABLE
+}
+
+/// What the class of that name allows; none where it is no fixed class.
+pub fn class_facts(name: Id) -> Option<&'static ClassFacts>
+    ensures { option_copied result ≡ facts_of name }
+{
+    match FixedClass::of(name) {
+        Some(class) => Some(class.facts()),
+        None => None,
+    }
+}

@@ -187,7 +187,7 @@ fn name_named(alloc: Global, word: &[u8]) -> Result<Option<Text>, AllocError>
     Ok(Some(Text::of(alloc, text.as_slice())?))
 }
 
-/// The value that a word is.
+/// The value that a word is. No kind reads the context yet.
 pub fn one(
     alloc: Global,
     _at: &Context,

@@ -1,9 +1,9 @@
 -- Texts of commands, and their canonical text or the first fault.
-use Rattle.std.proofs.Common.{◌≡◌, ℕ, List, [], ◌∷◌, ◌++◌, Result, Ok, Err, refl}
+use Rattle.std.proofs.Common.{◌≡◌, ℕ, List, Result, Ok, Err, refl}
 use Rattle.std.specs.Prelude.{codes}
 use Rattle.command_words.specs.Tokens.{tokens}
 use Rattle.command_parser.specs.declared.faults.Syntax.{Syntax}
-use Rattle.command_parser.specs.declared.faults.Syntax.TheVariants.{UnknownCommand, UnknownOperand, AmbiguousOperand, Missing, Repeated, Excluded, BadValue, Unclosed, TextTooLong}
+use Rattle.command_parser.specs.declared.faults.Syntax.TheVariants.{UnknownCommand, UnknownOperand, AmbiguousOperand, Missing, Repeated, Excluded, BadValue, Unclosed}
 use Rattle.command_parser.specs.declared.words.Word.TheVariants as words
 use Rattle.command_parser.specs.Results.{◌>>=◌}
 use Rattle.command_parser.specs.Reading.{parsed}

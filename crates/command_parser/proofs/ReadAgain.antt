@@ -1,18 +1,15 @@
 -- The canonical text of a lawful command is read as that command, whoever reads it.
-use Rattle.std.proofs.Common.{◌≡◌, ℕ, zero, suc, ◌+◌, ◌≤◌, List, [], ◌∷◌, ◌++◌, length, map, replicate, Bool, true, false, cond, ◌&&◌, Option, None, Some, Result, Ok, Err, refl, sym, ap, subst, ◌∙◌, arith, append_assoc, length-append}
+use Rattle.std.proofs.Common.{◌≡◌, ℕ, suc, ◌+◌, List, [], ◌∷◌, ◌++◌, length, replicate, Bool, true, false, cond, ◌&&◌, None, Some, Ok, Err, refl, sym, ap, subst, ◌∙◌, arith, append_assoc, length-append}
 use Rattle.std.specs.Prelude.{position, slice_set, is_some, nat_lt}
-use Rattle.std.specs.List.{list_all, slice_index_or}
+use Rattle.std.specs.List.{list_all}
 use Rattle.std.proofs.lemmas.List.{append-nil, get_or_at, set_at}
-use Rattle.command_words.specs.declared.quoting.Quoting.TheVariants.{Ignored, Outside}
-use Rattle.command_words.specs.Bytes.{upper}
-use Rattle.command_words.specs.Tokens.{Token, Word, Group, within, tokens, tokens_from, of_command}
+use Rattle.command_words.specs.declared.quoting.Quoting.TheVariants.{Ignored}
+use Rattle.command_words.specs.Tokens.{Token, Word, within, tokens, tokens_from}
 use Rattle.command_words.specs.Items.{Item, Bare, With, items, opens_value, faulty_at}
 use Rattle.command_words.proofs.Letters.{is_letter, both_first, both_second, Ignored-steady, EndsWord}
 use Rattle.command_words.proofs.Spelled.{word_token, group_token}
 use Rattle.access_levels.specs.Spelling.{id_of}
-use Rattle.command_parser.specs.declared.faults.Syntax.{Syntax}
 use Rattle.command_parser.specs.declared.faults.Syntax.TheVariants as faults
-use Rattle.command_parser.specs.declared.table.Verb.{Verb}
 use Rattle.command_parser.specs.declared.table.Kind.{Kind}
 use Rattle.command_parser.specs.declared.table.Kind.TheVariants as kinds
 use Rattle.command_parser.specs.declared.table.Position.{Position}
@@ -20,16 +17,16 @@ use Rattle.command_parser.specs.declared.table.Operand.{Operand}
 use Rattle.command_parser.specs.declared.values.Content.{Content}
 use Rattle.command_parser.specs.declared.values.Content.TheVariants as contents
 use Rattle.command_parser.specs.declared.values.Context.{Context}
-use Rattle.command_parser.specs.Results.{◌>>=◌, or_fault}
+use Rattle.command_parser.specs.Results.{◌>>=◌}
 use Rattle.command_parser.specs.Words.{spelling_of}
-use Rattle.command_parser.specs.Table.{full_name, positions_of, operands_of, verb_named}
-use Rattle.command_parser.specs.Values.{clean, one, value, bare, text_of}
-use Rattle.command_parser.specs.Reading.{Generic, Slots, is_spelling, named, row_at, no_operand, position_at, positions_at, is_given, fresh, slot_of, operand_at, operands_at, given, clash, unless_clash, closed, no_slots, body_at, command_at, parsed}
+use Rattle.command_parser.specs.Table.{full_name, positions_of, operands_of}
+use Rattle.command_parser.specs.Values.{one, bare, text_of}
+use Rattle.command_parser.specs.Reading.{Generic, Slots, is_spelling, row_at, no_operand, position_at, positions_at, is_given, slot_of, operand_at, operands_at, no_slots, body_at, command_at, parsed}
 use Rattle.command_parser.specs.Canon.{value_text, positions_text, operands_text, canon, spelled}
 use Rattle.command_parser.specs.Lawful.{Fits, FitsPositions, FitsAll, IsLawful}
 use Rattle.command_parser.proofs.Names.{IsPlainName, name-plain}
 use Rattle.command_parser.proofs.ValueAgain.{word_items, IsShown, value-again, value-ends}
-use Rattle.command_parser.proofs.TableFacts.{IsMore, IsPlainWord, spelling-plain, full_name-plain, verb_named-full_name, AreFound, operands-found, is_name_kind, positions-names}
+use Rattle.command_parser.proofs.TableFacts.{IsMore, spelling-plain, full_name-plain, verb_named-full_name, AreFound, operands-found, is_name_kind, positions-names}
 
 -- the first token is a plain word
 plain_token : (tied : Bool) (p : ℕ) (w rest : List ℕ) → IsMore w → list_all is_letter w ≡ true → EndsWord rest

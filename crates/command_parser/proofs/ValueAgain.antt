@@ -1,30 +1,26 @@
 -- A value that was written is read again, whatever follows its parenthesis.
-use Rattle.std.proofs.Common.{◌≡◌, ℕ, zero, suc, ◌+◌, List, [], ◌∷◌, ◌++◌, length, map, Bool, true, false, cond, ◌&&◌, ◌||◌, not, Option, None, Some, Result, Ok, Err, refl, sym, ap, subst, ◌∙◌, arith, append_assoc}
-use Rattle.std.specs.Prelude.{◌==◌, codes}
+use Rattle.std.proofs.Common.{◌≡◌, ℕ, suc, ◌+◌, List, [], ◌∷◌, ◌++◌, length, Bool, true, false, None, Some, Ok, refl, sym, ap, ◌∙◌, append_assoc}
+use Rattle.std.specs.Prelude.{◌==◌}
 use Rattle.std.specs.List.{list_all}
 use Rattle.std.proofs.lemmas.List.{append-nil}
 use Rattle.std.proofs.lemmas.List.Folds.{list_all-append}
 use Rattle.std.proofs.lemmas.Bool.{eqb-true}
-use Rattle.std.proofs.lemmas.Bool.Decides.{nat_tests}
 use Rattle.access_levels.specs.Level.{authority_name}
 use Rattle.access_levels.specs.declared.levels.GroupAuthority.{GroupAuthority}
 use Rattle.access_levels.specs.declared.levels.GroupAuthority.TheVariants.{MayUse, MayCreate, MayConnect, MayJoin}
 use Rattle.access_levels.specs.Spelling.{id_of}
-use Rattle.command_words.specs.declared.quoting.Quoting.TheVariants.{Ignored, Outside, Inside, Met}
-use Rattle.command_words.specs.Quotes.{after, hides, doubled}
+use Rattle.command_words.specs.declared.quoting.Quoting.TheVariants.{Ignored, Outside, Inside}
+use Rattle.command_words.specs.Quotes.{doubled}
 use Rattle.command_words.specs.Tokens.{Token, Word, Group, Open, Close, within, group_end, tokens, tokens_from}
-use Rattle.command_words.specs.Items.{Item, Bare, With, items, opens_value, faulty_at}
+use Rattle.command_words.specs.Items.{Item, Bare, items, opens_value, faulty_at}
 use Rattle.command_words.proofs.Letters.{is_letter, both_first, both_second, Outside-steady, EndsWord}
 use Rattle.command_words.proofs.Spelled.{is_calm, letter-calm, quoted, word_token, word_alone, quoted_token, group_end-calm, group_end-quoted}
-use Rattle.command_parser.specs.declared.faults.Syntax.{Syntax}
-use Rattle.command_parser.specs.declared.faults.Syntax.TheVariants as faults
 use Rattle.command_parser.specs.declared.table.Kind.{Kind}
 use Rattle.command_parser.specs.declared.table.Kind.TheVariants as kinds
 use Rattle.command_parser.specs.declared.values.Content.{Content}
 use Rattle.command_parser.specs.declared.values.Content.TheVariants as contents
 use Rattle.command_parser.specs.declared.values.Context.{Context}
-use Rattle.command_parser.specs.Results.{◌>>=◌, or_fault}
-use Rattle.command_parser.specs.Values.{clean, name_of, is_name, if_name, unquoted, name_text, single, names, several, value, more_text, ids_text, text_of}
+use Rattle.command_parser.specs.Values.{name_of, is_name, if_name, unquoted, name_text, single, names, several, value, more_text, ids_text, text_of}
 use Rattle.command_parser.specs.Lawful.{AreNames, IsNonEmpty, Fits}
 use Rattle.command_parser.proofs.Names.{IsPlainName, name-plain}
 

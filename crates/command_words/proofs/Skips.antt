@@ -1,9 +1,9 @@
 -- Tokens behind what already belongs to the token in front.
-use Rattle.std.proofs.Common.{◌≡◌, ℕ, zero, suc, ◌+◌, ◌-◌, ◌<◌, List, [], ◌∷◌, take, drop, Bool, true, false, Ok, Err, refl, sym, ap, subst, ◌∙◌, add-zero, add-one, arith}
+use Rattle.std.proofs.Common.{◌≡◌, ℕ, zero, suc, ◌+◌, ◌-◌, ◌<◌, List, [], ◌∷◌, take, drop, Bool, true, false, Ok, refl, sym, ap, ◌∙◌, add-zero, add-one, arith}
 use Rattle.command_words.specs.declared.quoting.Quoting.{Quoting}
 use Rattle.command_words.specs.declared.quoting.Quoting.TheVariants.{Outside}
 use Rattle.command_words.specs.Quotes.{after, word_len}
-use Rattle.command_words.specs.Tokens.{Token, Word, Group, Open, Unread, within, group_end, grouped, tokens_from, worded, word_then}
+use Rattle.command_words.specs.Tokens.{Word, Group, within, group_end, grouped, tokens_from, worded, word_then}
 
 pub tokens_from-skip : (q : Quoting) (tied : Bool) (k p : ℕ) (bs : List ℕ) → tokens_from q tied k p bs ≡ tokens_from q tied 0 (p + k) (drop k bs)
 tokens_from-skip q tied zero p [] = refl

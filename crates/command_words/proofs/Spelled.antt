@@ -1,14 +1,14 @@
 -- The tokens of texts that were written: words, values in parentheses, texts in quotes.
-use Rattle.std.proofs.Common.{◌≡◌, ℕ, zero, suc, ◌+◌, ◌-◌, ◌<◌, List, [], ◌∷◌, ◌++◌, length, take, drop, Bool, true, false, ◌&&◌, ◌||◌, not, Result, Ok, Err, refl, sym, ap, subst, ◌∙◌, arith, add-zero, add-one, length-append, append_assoc}
+use Rattle.std.proofs.Common.{◌≡◌, ℕ, suc, ◌+◌, ◌-◌, ◌<◌, List, [], ◌∷◌, ◌++◌, length, take, drop, Bool, true, false, ◌&&◌, not, Ok, refl, sym, ap, ◌∙◌, arith, add-zero, add-one, length-append, append_assoc}
 use Rattle.std.specs.Prelude.{◌==◌}
 use Rattle.std.specs.List.{list_all}
 use Rattle.std.proofs.lemmas.List.{append-nil}
 use Rattle.std.proofs.Math.Seq.{take-append_seam, take-length, drop-append_seam, drop-length}
 use Rattle.std.proofs.lemmas.Bool.Decides.{nat_tests}
 use Rattle.command_words.specs.declared.quoting.Quoting.{Quoting}
-use Rattle.command_words.specs.declared.quoting.Quoting.TheVariants.{Ignored, Outside, Inside, Met}
-use Rattle.command_words.specs.Quotes.{after, hides, word_len, doubled}
-use Rattle.command_words.specs.Tokens.{Token, Word, Group, within, group_end, depth_after, tokens_from, word_then}
+use Rattle.command_words.specs.declared.quoting.Quoting.TheVariants.{Outside, Inside}
+use Rattle.command_words.specs.Quotes.{after, word_len, doubled}
+use Rattle.command_words.specs.Tokens.{Word, Group, within, group_end, tokens_from, word_then}
 use Rattle.command_words.proofs.Letters.{is_letter, letter-gap, letter-open, letter-close, letter-quote, both_first, both_second, IsSteady, EndsWord, word_len-letters}
 use Rattle.command_words.proofs.Skips.{grouped-ok, worded-at}
 

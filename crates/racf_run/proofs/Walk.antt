@@ -1,12 +1,12 @@
 -- A run so far: which bytes were read, which items they are, and what was written for them. Each stop follows from it.
-use Rattle.std.proofs.Common.{◌≡◌, ℕ, ◌+◌, ◌<◌, ◌≤◌, ◌^◌, Bool, true, false, List, [], ◌∷◌, ◌++◌, length, take, None, Some, refl, sym, ◌∙◌, ap, subst, arith, append_assoc, append-nil, length-append}
-use Rattle.std.specs.Prelude.{Option, IfSome}
-use Rattle.std.specs.Io.KnownBytes.{prepend_known, append_known, IsAtEnd}
+use Rattle.std.proofs.Common.{◌≡◌, ℕ, ◌+◌, ◌≤◌, ◌^◌, Bool, true, false, List, [], ◌∷◌, ◌++◌, length, take, None, Some, refl, sym, ◌∙◌, ap, arith, append_assoc, append-nil, length-append}
+use Rattle.std.specs.Prelude.{Option}
+use Rattle.std.specs.Io.KnownBytes.{prepend_known, append_known}
 use Rattle.std.proofs.lemmas.List.{take-append-le, take_all}
 use Rattle.racf_outside.specs.Reader.{Reader, at_start}
 use Rattle.racf_outside.specs.Next.{TakesEnd}
 use Rattle.racf_run.specs.declared.status.Status.TheVariants.{Done, Refusals, ReadFault, WriteFault, NoMemory, InputTooLong}
-use Rattle.racf_run.specs.Runs.{Machine, after, output, IsRest, BeginsWith, Ran, WroteAll}
+use Rattle.racf_run.specs.Runs.{Machine, after, output, BeginsWith, Ran, WroteAll}
 use Rattle.racf_run.specs.NextItem.{IsWalked, IsLast, TakesItems, TakesFront, TakesTooMuch}
 use Rattle.racf_run.proofs.Folds.{after-append, output-append, append_known-append, append_known-nil, prepend_known-append, prepend_known-nil}
 

@@ -1,6 +1,6 @@
--- What requests and commands ask for. Three kinds are built exactly by their words in upper case, parted by single
--- blanks: one command, and two requests. Every other request isn't built, and every other command is read by the grammar
--- of commands.
+-- What requests and commands ask for. The words of a line stand between its blanks, so that two blanks have an empty word
+-- between them. VERIFY and AUTH, and RDEFINE, are built in upper case and with just these words; no other request is, and
+-- every other command is read by the grammar of commands.
 use Rattle.std.specs.Prelude.{ℕ, ◌-◌, Bool, true, false, ◌||◌, ◌&&◌, ◌==◌, Option, Some, None, List, [], ◌∷◌, length, take, drop, map, codes, nat_eq, unwrap_or, if◌then◌else◌}
 use Rattle.std.specs.List.{starts_with, list_all, slice_split, before_first}
 use Rattle.std.specs.Str.{bytes_eq}

@@ -36,13 +36,13 @@ impl Model for CommandText {
 /// What a stream asks for at once: a command, whose lines are joined, or the line of a request.
 #[derive(Drop)]
 pub enum Item {
-    /// RDEFINE in its shortest form: define a profile.
+    /// RDEFINE in its shortest form: define a profile (z/OS Security Server RACF Command Language Reference).
     Rdefine(Profile),
     /// Any other command.
     Command(CommandText),
-    /// VERIFY: begin an ACEE of this name.
+    /// VERIFY: begin an ACEE of this name (RACROUTE Macro Reference).
     Verify(Id),
-    /// AUTH: may the user of an ACEE use a resource?
+    /// AUTH: may the user of an ACEE use a resource (RACROUTE Macro Reference)?
     Auth {
         /// The name of the ACEE.
         acee: Id,

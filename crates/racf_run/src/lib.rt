@@ -1,4 +1,5 @@
-//! The stream of the first path: lines of commands and requests in, replies and answers out.
+//! The stream: lines of commands and requests in, replies and answers out, from a source to a sink; and the top call of the
+//! program, over a shelf of named inputs and outputs.
 #![tactic(auto)]
 
 mod commands;

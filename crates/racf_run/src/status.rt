@@ -2,12 +2,12 @@ ghost use Rattle.std.specs.Prelude.{◌≡◌};
 ghost use Rattle.std.specs.Option.{option_map};
 ghost use Rattle.racf_run.specs.Status.{code_of, message_of};
 
-/// How a run of the program ended.
+/// How a run of the program ended. The statuses and their codes are this product's own.
 #[derive(Clone, Copy, Debug, PartialEq, Eq)]
 pub enum Status {
-    /// Every input was read to its end, and no line was refused.
+    /// The whole input was worked, and nothing in it was refused.
     Done,
-    /// Every input was read to its end, and a line was refused.
+    /// The whole input was worked, and something in it was refused.
     Refusals,
     /// The words of the command line aren't of a form that the program has.
     Usage,
@@ -37,7 +37,7 @@ impl Status {
         }
     }
 
-    /// The line for standard error, without its line feed: none where every input was read to its end.
+    /// The line for standard error, without its line feed: none where the whole input was worked.
     pub fn message(self) -> Option<&'static str>
         ensures { option_map (λ text. text.now) result ≡ message_of self }
     {

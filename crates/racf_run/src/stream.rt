@@ -16,10 +16,10 @@ use racf_profiles::{ibmuser, sys1};
 use std::alloc::{AllocError, Global};
 use std::marker::Model;
 
-/// The most profiles that a class has.
+/// The most profiles that a class has (this product's own rule).
 const MOST_PROFILES: usize = 50_000;
 
-/// The most ACEEs that are in use at once.
+/// The most ACEEs that are in use at once (this product's own rule).
 const MOST_ACEES: usize = 256;
 
 /// The last number that a command gets (this product's own limit).

@@ -21,7 +21,8 @@ struct Files<'a> {
 }
 
 /// The program: works what the words ask for, over the inputs and outputs of a shelf. The words `script IN OUT` work the
-/// stream of the input IN, and write to the output OUT; IN and OUT differ or are both `-`. Other words are `Usage`.
+/// stream of the input IN, and write to the output OUT; IN and OUT differ or are both `-`. Other words are `Usage`. (The
+/// words are this product's own.)
 ///
 /// The input is opened first, then the output; each that was opened is handed back, under its name.
 pub fn racf<F: Shelf>(alloc: Global, words: &[String], shelf: &mut F) -> Status

@@ -58,28 +58,64 @@ fn each_conflict(rt: HostRuntime) -> Result<(), Fail> {
     let rows = [
         (b"AG A OWNER(SYS1)".as_slice(), None),
         (b"AG B SUPGROUP(A) OWNER(A)".as_slice(), None),
-        (b"ALG A SUPGROUP(B) OWNER(B)".as_slice(), Some((9, b"A".as_slice()))),
+        (
+            b"ALG A SUPGROUP(B) OWNER(B)".as_slice(),
+            Some((9, b"A".as_slice())),
+        ),
         (b"DG A".as_slice(), Some((8, b"B".as_slice()))),
         (b"AU JOE DFLTGRP(B)".as_slice(), None),
         (b"DG B".as_slice(), Some((18, b"JOE".as_slice()))),
         (b"RE JOE GROUP(B)".as_slice(), Some((14, b"B".as_slice()))),
         (b"RE JOE GROUP(A)".as_slice(), Some((6, b"A".as_slice()))),
         (b"AU JOE".as_slice(), Some((5, b"JOE".as_slice()))),
-        (b"AU ANN OWNER(BOB) DFLTGRP(C)".as_slice(), Some((1, b"BOB".as_slice()))),
-        (b"AU ANN DFLTGRP(C) CLAUTH(USER NONE)".as_slice(), Some((2, b"C".as_slice()))),
-        (b"AU ANN CLAUTH(USER FACILITY NONE)".as_slice(), Some((4, b"NONE".as_slice()))),
-        (b"AU ANN SECLEVEL(TOP)".as_slice(), Some((16, b"TOP".as_slice()))),
-        (b"AU ANN ADDCATEGORY(RED)".as_slice(), Some((16, b"RED".as_slice()))),
-        (b"AU ANN SECLABEL(L1)".as_slice(), Some((16, b"L1".as_slice()))),
-        (b"ALU JOE DELCATEGORY(RED)".as_slice(), Some((16, b"RED".as_slice()))),
-        (b"ALU IBMUSER NOSPECIAL".as_slice(), Some((15, b"IBMUSER".as_slice()))),
-        (b"ALU IBMUSER REVOKE".as_slice(), Some((15, b"IBMUSER".as_slice()))),
+        (
+            b"AU ANN OWNER(BOB) DFLTGRP(C)".as_slice(),
+            Some((1, b"BOB".as_slice())),
+        ),
+        (
+            b"AU ANN DFLTGRP(C) CLAUTH(USER NONE)".as_slice(),
+            Some((2, b"C".as_slice())),
+        ),
+        (
+            b"AU ANN CLAUTH(USER FACILITY NONE)".as_slice(),
+            Some((4, b"NONE".as_slice())),
+        ),
+        (
+            b"AU ANN SECLEVEL(TOP)".as_slice(),
+            Some((16, b"TOP".as_slice())),
+        ),
+        (
+            b"AU ANN ADDCATEGORY(RED)".as_slice(),
+            Some((16, b"RED".as_slice())),
+        ),
+        (
+            b"AU ANN SECLABEL(L1)".as_slice(),
+            Some((16, b"L1".as_slice())),
+        ),
+        (
+            b"ALU JOE DELCATEGORY(RED)".as_slice(),
+            Some((16, b"RED".as_slice())),
+        ),
+        (
+            b"ALU IBMUSER NOSPECIAL".as_slice(),
+            Some((15, b"IBMUSER".as_slice())),
+        ),
+        (
+            b"ALU IBMUSER REVOKE".as_slice(),
+            Some((15, b"IBMUSER".as_slice())),
+        ),
         (b"DU IBMUSER".as_slice(), Some((15, b"IBMUSER".as_slice()))),
-        (b"AG C SUPGROUP(B) OWNER(A)".as_slice(), Some((10, b"A".as_slice()))),
+        (
+            b"AG C SUPGROUP(B) OWNER(A)".as_slice(),
+            Some((10, b"A".as_slice())),
+        ),
         (b"ALG SYS1 OWNER(A)".as_slice(), Some((10, b"A".as_slice()))),
         (b"CO JOE GROUP(A) AUTHORITY(JOIN) SPECIAL".as_slice(), None),
         (b"CO JOE GROUP(A) OPERATIONS REVOKE".as_slice(), None),
-        (b"ALU JOE DFLTGRP(A) SECLABEL(SYSHIGH) CLAUTH(FACILITY)".as_slice(), None),
+        (
+            b"ALU JOE DFLTGRP(A) SECLABEL(SYSHIGH) CLAUTH(FACILITY)".as_slice(),
+            None,
+        ),
         (b"RE JOE GROUP(B)".as_slice(), None),
         (b"ALG B SUPGROUP(SYS1) OWNER(JOE)".as_slice(), None),
         (b"DG B".as_slice(), None),
@@ -92,8 +128,14 @@ fn each_conflict(rt: HostRuntime) -> Result<(), Fail> {
             Some((number, name)) => assert_eq!(rt; seen, Some((number, Some(named(name)?)))),
         }
     }
-    assert_eq!(rt; give(rt.alloc(), &mut database, b"DG SYS1")?.map(seen), Some((7, None)));
-    assert_eq!(rt; give(rt.alloc(), &mut database, b"ALG SYS1 SUPGROUP(A)")?.map(seen), Some((7, None)));
+    assert_eq!(rt;
+        give(rt.alloc(), &mut database, b"DG SYS1")?.map(seen),
+        Some((7, None))
+    );
+    assert_eq!(rt;
+        give(rt.alloc(), &mut database, b"ALG SYS1 SUPGROUP(A)")?.map(seen),
+        Some((7, None))
+    );
     let joe = database.user(named(b"JOE")?).ok_or("JOE")?;
     assert!(rt; is_left(joe));
     assert!(rt; database.group(named(b"B")?).is_none());
@@ -107,7 +149,12 @@ fn each_conflict(rt: HostRuntime) -> Result<(), Fail> {
 fn is_left(joe: &User) -> bool {
     let connects = joe.connects.items.as_slice();
     match connects {
-        [one] => one.group == joe.default_group && one.authority == GroupAuthority::MayJoin && one.special && one.operations && !one.auditor && one.revoked,
+        [one] => one.group == joe.default_group
+            && one.authority == GroupAuthority::MayJoin
+            && one.special
+            && one.operations
+            && !one.auditor
+            && one.revoked,
         _ => false,
     }
 }
@@ -119,18 +166,34 @@ fn the_limits(rt: HostRuntime) -> Result<(), Fail> {
         let text = format!(in rt.alloc(); "ADDGROUP G{number:05}")?;
         assert!(rt; give(rt.alloc(), &mut database, text.as_bytes())?.is_none());
     }
-    assert_eq!(rt; give(rt.alloc(), &mut database, b"ADDGROUP NEW")?.map(seen), Some((27, None)));
+    assert_eq!(rt;
+        give(rt.alloc(), &mut database, b"ADDGROUP NEW")?.map(seen),
+        Some((27, None))
+    );
     for number in 1..MOST_USERS {
         let text = format!(in rt.alloc(); "ADDUSER U{number:05}")?;
         assert!(rt; give(rt.alloc(), &mut database, text.as_bytes())?.is_none());
     }
-    assert_eq!(rt; give(rt.alloc(), &mut database, b"ADDUSER NEW")?.map(seen), Some((17, None)));
+    assert_eq!(rt;
+        give(rt.alloc(), &mut database, b"ADDUSER NEW")?.map(seen),
+        Some((17, None))
+    );
     for number in 1..MOST_CONNECTIONS {
         let text = format!(in rt.alloc(); "CONNECT U00001 GROUP(G{number:05})")?;
         assert!(rt; give(rt.alloc(), &mut database, text.as_bytes())?.is_none());
     }
-    assert_eq!(rt; give(rt.alloc(), &mut database, b"CONNECT U00001 GROUP(G07999)")?.map(seen), Some((37, None)));
-    assert!(rt; give(rt.alloc(), &mut database, b"CONNECT U00001 GROUP(G00001) SPECIAL")?.is_none());
+    assert_eq!(rt;
+        give(rt.alloc(), &mut database, b"CONNECT U00001 GROUP(G07999)")?.map(seen),
+        Some((37, None))
+    );
+    assert!(rt;
+        give(
+            rt.alloc(),
+            &mut database,
+            b"CONNECT U00001 GROUP(G00001) SPECIAL"
+        )?
+        .is_none()
+    );
     assert!(rt; give(rt.alloc(), &mut database, b"CONNECT U00002 GROUP(G07999)")?.is_none());
     Ok(())
 }

@@ -9,7 +9,7 @@ use Rattle.profile_index.proofs.search.place_named.Goals as goal
 pub returns-then-place-entries-clause-first : goal.returns-then-place-entries-clause-first
 returns-then-place-entries-clause-first g c k d low high =
     before-text (get_or c.args.entries.now k d).name c.args.name.now (all-at (λ e. e.name.kind ≡ c.args.name.now.kind) c.args.entries.now c.requires.kinds k d high)
-      (c.end_of_those_before-place.ensures.below k d low (omega arith))
+    (c.end_of_those_before-place.ensures.below k d low (omega arith))
 
 pub returns-then-not-have_one_text-clause-first : goal.returns-then-not-have_one_text-clause-first
 returns-then-not-have_one_text-clause-first g c k d low high =
@@ -17,9 +17,9 @@ returns-then-not-have_one_text-clause-first g c k d low high =
     let within : place < length c.args.entries.now = omega (arith, c.end_of_those_before-place.ensures.within, c.if-place-entries.false) in
     let e = c.index-entries-place.result in
     ⊎_elim
-      (λ less. before-text (get_or c.args.entries.now k d).name c.args.name.now (all-at (λ x. x.name.kind ≡ c.args.name.now.kind) c.args.entries.now c.requires.kinds k d high) (c.end_of_those_before-place.ensures.below k d low less))
-      (λ more. none-from name_of c.args.entries.now c.requires.ordered c.args.name.now c.requires.kinds place within e (sym c.have_one_text.ensures ∙ c.if-not-have_one_text.true) (c.end_of_those_before-place.ensures.above place e (omega arith) within) k d more high)
-      (cases_lt k place)
+    (λ less. before-text (get_or c.args.entries.now k d).name c.args.name.now (all-at (λ x. x.name.kind ≡ c.args.name.now.kind) c.args.entries.now c.requires.kinds k d high) (c.end_of_those_before-place.ensures.below k d low less))
+    (λ more. none-from name_of c.args.entries.now c.requires.ordered c.args.name.now c.requires.kinds place within e (sym c.have_one_text.ensures ∙ c.if-not-have_one_text.true) (c.end_of_those_before-place.ensures.above place e (omega arith) within) k d more high)
+    (cases_lt k place)
 
 pub returns-clause-alone : goal.returns-clause-alone
 returns-clause-alone g c =

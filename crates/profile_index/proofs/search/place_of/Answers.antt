@@ -19,10 +19,11 @@ returns-in-Equal-clause-first g c =
     let e = c.index-entries-middle.result in
     let named = all-at (λ x. IsPattern x.name) c.args.entries.now c.requires.named middle e within in
     let kind = all-at (λ x. x.name.kind ≡ c.args.name.now.kind) c.args.entries.now c.requires.kinds middle e within in
-    let same = ties_are_equal (get_or c.args.entries.now middle e).name c.args.name.now named (resource-pattern c.args.name.now c.text.ensures.name) kind (sym c.in-Equal.ensures.order) in
-    (within,
-     none-before name_of c.args.entries.now c.requires.ordered c.args.name.now c.requires.kinds middle within e same,
-     λ d. (bytes_eq-Decides _ _).1 (ap (λ (n : Spelled). n.text) (ap name_of (get_or_default c.args.entries.now middle d e within) ∙ same)))
+    let same = ties_are_equal (get_or c.args.entries.now middle e).name c.args.name.now named (resource-pattern c.args.name.now c.text.ensures.name) kind (sym c.in-Equal.ensures.order) in (
+      within,
+      none-before name_of c.args.entries.now c.requires.ordered c.args.name.now c.requires.kinds middle within e same,
+      λ d. (bytes_eq-Decides _ _).1 (ap (λ (n : Spelled). n.text) (ap name_of (get_or_default c.args.entries.now middle d e within) ∙ same)),
+    )
 
 pub returns-in-Equal-clause-cost : goal.returns-in-Equal-clause-cost
 returns-in-Equal-clause-cost g c =
@@ -68,6 +69,6 @@ pub returns-clause-first : goal.returns-clause-first
 returns-clause-first g c k d low high =
     let kind = all-at (λ x. x.name.kind ≡ c.args.name.now.kind) c.args.entries.now c.requires.kinds k d high in
     ⊎_elim
-      (λ less. before-text (get_or c.args.entries.now k d).name c.args.name.now kind (c.loop-size.invariant.below k d low less))
-      (λ more. behind-text (get_or c.args.entries.now k d).name c.args.name.now kind (c.loop-size.invariant.above k d (omega arith) high))
-      (cases_lt k c.loop-size.low)
+    (λ less. before-text (get_or c.args.entries.now k d).name c.args.name.now kind (c.loop-size.invariant.below k d low less))
+    (λ more. behind-text (get_or c.args.entries.now k d).name c.args.name.now kind (c.loop-size.invariant.above k d (omega arith) high))
+    (cases_lt k c.loop-size.low)

@@ -26,11 +26,12 @@ invariant_of-self g c =
     let lawful = c.text.ensures.name in
     let within = subst (λ xs. place ≤ length xs) value c.end_of_those_before-place.ensures.within in
     let below = subst (λ xs. AllWithin (λ e. before e.name name ≡ true) xs 0 place) value c.end_of_those_before-place.ensures.below in
-    let above = subst (λ xs. AllWithin (λ e. before e.name name ≡ false) xs place (length xs)) value c.end_of_those_before-place.ensures.above in
-    (omega (arith, size, c.insert.ensures.capacity, c.self.invariant.0, room, c.requires.room),
-     subst (λ xs. IsInOrder name_of xs) (sym inserted) (order-insert name_of items place _ within c.self.invariant.1 below
-       (λ k d low high. behind-strict (get_or items k d).name name (all-at (λ e. IsPattern e.name) items named k d high) lawful (all-at (λ e. e.name.kind ≡ name.kind) items kinds k d high) (all-at (λ e. e.name ≢ name) items absent k d high) (above k d low high))),
-     subst (λ xs. AreNamed name_of xs) (sym inserted) (all-insert (λ e. IsPattern e.name) items place _ named lawful))
+    let above = subst (λ xs. AllWithin (λ e. before e.name name ≡ false) xs place (length xs)) value c.end_of_those_before-place.ensures.above in (
+      omega (arith, size, c.insert.ensures.capacity, c.self.invariant.0, room, c.requires.room),
+      subst (λ xs. IsInOrder name_of xs) (sym inserted) (order-insert name_of items place _ within c.self.invariant.1 below
+          (λ k d low high. behind-strict (get_or items k d).name name (all-at (λ e. IsPattern e.name) items named k d high) lawful (all-at (λ e. e.name.kind ≡ name.kind) items kinds k d high) (all-at (λ e. e.name ≢ name) items absent k d high) (above k d low high))),
+      subst (λ xs. AreNamed name_of xs) (sym inserted) (all-insert (λ e. IsPattern e.name) items place _ named lawful),
+    )
 
 pub returns-clause-entries : goal.returns-clause-entries
 returns-clause-entries g c =

@@ -25,10 +25,11 @@ returns-in_default-clause-entries g c =
 pub invariant_of-self : goal.invariant_of-self
 invariant_of-self g c =
     let items = c.self.inside.entries.items in
-    let place = c.in-Some.place in
-    (omega (arith, c.remove-item.ensures.len, c.remove-item.ensures.capacity, c.self.invariant.0),
-     subst (λ xs. IsInOrder name_of xs) (sym c.remove-item.ensures.items) (order-remove name_of items place c.self.invariant.1),
-     subst (λ xs. AreNamed name_of xs) (sym c.remove-item.ensures.items) (all-remove (λ e. IsPattern e.name) items place c.self.invariant.2))
+    let place = c.in-Some.place in (
+      omega (arith, c.remove-item.ensures.len, c.remove-item.ensures.capacity, c.self.invariant.0),
+      subst (λ xs. IsInOrder name_of xs) (sym c.remove-item.ensures.items) (order-remove name_of items place c.self.invariant.1),
+      subst (λ xs. AreNamed name_of xs) (sym c.remove-item.ensures.items) (all-remove (λ e. IsPattern e.name) items place c.self.invariant.2),
+    )
 
 pub returns-clause-item : goal.returns-clause-item
 returns-clause-item g c =

@@ -12,7 +12,7 @@ use Rattle.command_parser.specs.Reading.{Generic}
 use Rattle.racf_run.specs.declared.reply.Refusal.{Refusal}
 use Rattle.racf_run.specs.declared.reply.Refusal.TheVariants as refusal
 use Rattle.racf_run.specs.Spelled.{flag_in, id_in, authority_in, name_in, ids_in, form_of}
-use Rattle.racf_run.specs.Commands.{issuer, is_other_command, built_form, found_form, read_command}
+use Rattle.racf_run.specs.Commands.{issuer, is_other_command, built_form, read_command}
 
 flag_in-slot : (b : Bool) → flag_in (flag_slot b) ≡ b
 flag_in-slot true = refl

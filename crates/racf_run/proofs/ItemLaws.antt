@@ -1,5 +1,5 @@
 -- How the lines that the reader gives make an item.
-use Rattle.std.proofs.Common.{inl, inr, ◌≡◌, ℕ, ◌+◌, ◌<◌, ◌≤◌, ◌^◌, Bool, true, false, List, [], ◌∷◌, ◌++◌, length, None, Some, refl, sym, ◌∙◌, ap, subst, arith, append_assoc, append-nil, length-append}
+use Rattle.std.proofs.Common.{inl, inr, ◌≡◌, ℕ, ◌+◌, ◌<◌, ◌≤◌, Bool, true, false, List, [], ◌∷◌, ◌++◌, length, None, Some, refl, sym, ◌∙◌, ap, subst, arith, append_assoc, append-nil, length-append}
 use Rattle.std.specs.Prelude.{Option, Result, Ok, Err, ◌⊎◌}
 use Rattle.std.specs.Borrow.{Bor}
 use Rattle.std.specs.Option.{option_to_list}
@@ -21,7 +21,7 @@ use Rattle.racf_run.specs.declared.input.Stop.TheVariants as stop
 use Rattle.racf_run.specs.Fronts.{Front}
 use Rattle.racf_run.specs.Items.{command_of}
 use Rattle.racf_run.specs.Joining.{role_of, last_command}
-use Rattle.racf_run.specs.NextItem.{IsWalked, IsLast, TakesItems, TakesFront, TakesTooMuch, NextsItem}
+use Rattle.racf_run.specs.NextItem.{IsWalked, TakesItems, TakesFront, TakesTooMuch, NextsItem}
 use Rattle.racf_run.specs.NextRole.{EndsCommand, GivesRole, NextsRole, ReadsRole, ReadsEnd}
 use Rattle.racf_run.specs.Script.{stream}
 use Rattle.racf_run.proofs.Folds.{prepend_known-append, prepend_known-nil}

@@ -2,7 +2,7 @@
 use Rattle.std.proofs.Common.{◌≡◌, ℕ, List, [], ◌∷◌, refl}
 use Rattle.std.specs.Prelude.{codes}
 use Rattle.racf_run.specs.declared.item.Item.{Item}
-use Rattle.racf_run.specs.declared.item.Item.TheVariants.{Command, Verify, NotBuilt}
+use Rattle.racf_run.specs.declared.item.Item.TheVariants.{Command, NotBuilt}
 use Rattle.racf_run.specs.Items.{rdefine_of, verify_of, auth_of, built_request, built_command, request_of, command_of, is_request}
 use Rattle.racf_run.specs.Script.{stream}
 

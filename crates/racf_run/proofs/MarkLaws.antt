@@ -1,10 +1,10 @@
 -- The mark at the end of a line, looked for from the end.
-use Rattle.std.proofs.Common.{◌≡◌, ℕ, ◌+◌, ◌-◌, ◌<◌, ◌≤◌, Bool, true, false, List, [], ◌∷◌, ◌++◌, length, take, get_or, None, Some, refl, sym, ◌∙◌, ap, cond, arith}
+use Rattle.std.proofs.Common.{◌≡◌, ℕ, ◌+◌, ◌-◌, ◌<◌, ◌≤◌, Bool, true, false, List, [], ◌∷◌, ◌++◌, length, take, get_or, None, Some, refl, sym, ◌∙◌, ap, arith}
 use Rattle.std.specs.Prelude.{Option, option_map, ◌&&◌}
 use Rattle.std.specs.List.{list_all}
 use Rattle.std.proofs.lemmas.List.{take_all, take_more}
 use Rattle.racf_run.specs.declared.mark.Mark.{Mark}
-use Rattle.racf_run.specs.Fronts.{Front, marked, behind}
+use Rattle.racf_run.specs.Fronts.{marked, behind}
 use Rattle.racf_run.specs.Items.{is_blank}
 use Rattle.racf_run.specs.Joining.{mark_of, going_on}
 

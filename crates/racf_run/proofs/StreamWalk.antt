@@ -1,6 +1,6 @@
 -- The run of the stream: how it begins, and what stands at each of its stops.
-use Rattle.std.proofs.Common.{◌≡◌, ℕ, ◌≤◌, ◌^◌, Bool, true, false, List, [], ◌∷◌, ◌++◌, None, Some, Ok, Err, refl, sym, ◌∙◌, ap, subst, arith}
-use Rattle.std.specs.Prelude.{Option, Result}
+use Rattle.std.proofs.Common.{◌≡◌, ℕ, ◌≤◌, ◌^◌, Bool, true, false, List, [], ◌∷◌, Ok, Err, refl, sym, ◌∙◌, ap, subst, arith}
+use Rattle.std.specs.Prelude.{Option}
 use Rattle.racf_outside.specs.Reader.{Reader, at_start}
 use Rattle.racf_run.specs.declared.item.Item.{Item}
 use Rattle.racf_run.specs.declared.input.Stop.{Stop}
@@ -8,14 +8,14 @@ use Rattle.racf_run.specs.declared.input.Stop.TheVariants as stop
 use Rattle.racf_run.specs.declared.scripts.WorkFault.{WorkFault}
 use Rattle.racf_run.specs.declared.scripts.WorkFault.TheVariants as fault
 use Rattle.racf_run.specs.declared.status.Status.{Status}
-use Rattle.racf_run.specs.declared.status.Status.TheVariants.{Done, Refusals, ReadFault, WriteFault, NoMemory, InputTooLong}
+use Rattle.racf_run.specs.declared.status.Status.TheVariants.{NoMemory}
 use Rattle.racf_run.specs.Runs.{Ran}
 use Rattle.racf_run.specs.NextItem.{NextsItem, TakesItems}
 use Rattle.racf_run.specs.Stream.{State, new_stream}
 use Rattle.racf_run.specs.Script.{stream}
 use Rattle.racf_run.specs.Work.{Works, stop_status, fault_status}
 use Rattle.racf_run.proofs.FrontLaws.{no_items}
-use Rattle.racf_run.proofs.Walk.{Walk, Walk-none, Walk-items, Walk-done, Walk-refusals, Walk-read_fault, Walk-too_long, Walk-no_memory, Walk-write_fault, none_read}
+use Rattle.racf_run.proofs.Walk.{Walk, Walk-none, Walk-done, Walk-refusals, Walk-read_fault, Walk-too_long, Walk-no_memory, Walk-write_fault, none_read}
 
 begun_at : (source before : Option (List ℕ)) (faults : ℕ) → Walk stream source (at_start source faults) new_stream before before
 unfolding stream

@@ -1,5 +1,5 @@
 -- What a command is answered by: why it is refused, or that it is accepted.
-use Rattle.std.specs.Prelude.{ℕ, ◌^◌, ◌+◌, ◌==◌, Bool, true, false, ◌||◌, not, nat_le, is_some, Option, None, Some, Result, Ok, Err, List, [], ◌∷◌, map, length, codes, refl, if◌then◌else◌}
+use Rattle.std.specs.Prelude.{ℕ, ◌^◌, Bool, true, false, ◌||◌, not, nat_le, is_some, Option, None, Some, Result, Ok, Err, List, [], ◌∷◌, map, codes, refl, if◌then◌else◌}
 use Rattle.std.specs.List.{before_first}
 use Rattle.std.specs.Str.{bytes_eq}
 use Rattle.command_words.specs.Bytes.{is_gap_byte, is_word_byte, upper}

@@ -1,6 +1,6 @@
 -- How lines are joined to items. A line of a command whose last byte but blanks and tabs is `-` or `+` goes on in the
 -- next line, whatever that holds: a comment, a blank line or a request. Each line is judged by its own mark.
-use Rattle.std.specs.Prelude.{ℕ, Bool, ◌==◌, List, [], ◌∷◌, ◌++◌, Option, None, Some, option_map, if◌then◌else◌}
+use Rattle.std.specs.Prelude.{ℕ, ◌==◌, List, [], ◌∷◌, ◌++◌, Option, None, Some, option_map, if◌then◌else◌}
 use Rattle.std.specs.List.{list_all}
 use Rattle.std.specs.Option.{option_to_list}
 use Rattle.racf_outside.specs.Lines.{Line, Text, TooLong}

@@ -1,18 +1,15 @@
 -- What the reading of the next line does, behind the front of a command or anew.
-use Rattle.std.specs.Prelude.{◌≡◌, ◌⊎◌, ℕ, ◌+◌, ◌<◌, true, false, Option, None, Some, Result, Ok, Err, List, [], ◌∷◌, ◌++◌, length}
-use Rattle.std.specs.Io.KnownBytes.{prepend_known, IsAtEnd}
-use Rattle.racf_outside.specs.Lines.{Text, line_of, lines, whole_lines}
+use Rattle.std.specs.Prelude.{◌≡◌, ◌⊎◌, ℕ, Option, None, Some, Result, Ok, Err, List}
+use Rattle.racf_outside.specs.Lines.{Text, line_of}
 use Rattle.racf_outside.specs.Next.{TakesLine, TakesEnd, TakesFront, TakesTooMuch}
 use Rattle.racf_outside.specs.Reader.{Reader}
-use Rattle.racf_run.specs.declared.item.Item.{Item}
 use Rattle.racf_run.specs.declared.joining.LineRole.{LineRole}
-use Rattle.racf_run.specs.declared.joining.LineRole.TheVariants.{Whole, GoesOn}
+use Rattle.racf_run.specs.declared.joining.LineRole.TheVariants.{Whole}
 use Rattle.racf_run.specs.declared.input.Stop.{Stop}
 use Rattle.racf_run.specs.declared.input.Stop.TheVariants.{End, ReadFault, InputTooLong, NoMemory}
 use Rattle.racf_run.specs.Fronts.{Front}
 use Rattle.racf_run.specs.Items.{command_of}
-use Rattle.racf_run.specs.Joining.{role_of, items_behind, last_command, not_begun}
-use Rattle.racf_run.specs.Script.{stream}
+use Rattle.racf_run.specs.Joining.{role_of}
 
 -- The end of the input ends the command that is begun.
 pub record EndsCommand (begun : Option Front) (role : LineRole) (old new : Reader) : Type 0 where

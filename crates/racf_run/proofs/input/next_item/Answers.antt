@@ -1,4 +1,4 @@
-use Rattle.std.proofs.Common.{Ok, Err, ◌∙◌, ap, arith}
+use Rattle.std.proofs.Common.{Ok, ◌∙◌, ap, arith}
 use Rattle.racf_run.proofs.ItemLaws.{Taken-none, ends_item, goes_on, passes_more, stops}
 use Rattle.racf_run.proofs.input.next_item.Goals as goal
 

@@ -1,6 +1,4 @@
-use Rattle.std.proofs.Common.{None, Some, sym, ◌∙◌, ap}
-use Rattle.std.specs.Prelude.{option_map}
-use Rattle.racf_run.specs.Fronts.{marked}
+use Rattle.std.proofs.Common.{None, Some, sym, ◌∙◌}
 use Rattle.racf_run.proofs.MarkLaws.{looks_on, found, no_last}
 use Rattle.racf_run.proofs.joining.going_on.Goals as goal
 

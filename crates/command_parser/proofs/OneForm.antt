@@ -1,7 +1,7 @@
 -- Commands that the table sees alike are one.
 use Rattle.std.proofs.Common.{◌≡◌, ℕ, List, [], ◌∷◌, Bool, true, false, Option, None, Some, Result, Ok, Err, refl, sym, ap, ◌∙◌}
 use Rattle.std.specs.List.{slice_index_or}
-use Rattle.access_levels.specs.declared.levels.GroupAuthority.{GroupAuthority}
+use Rattle.access_levels.specs.declared.authorities.GroupAuthority.{GroupAuthority}
 use Rattle.command_parser.specs.declared.faults.Syntax.{Syntax}
 use Rattle.command_parser.specs.declared.faults.ParseFault.{ParseFault}
 use Rattle.command_parser.specs.declared.faults.ParseFault.TheVariants as reasons

@@ -6,8 +6,8 @@ use Rattle.std.proofs.lemmas.List.{append-nil}
 use Rattle.std.proofs.lemmas.List.Folds.{list_all-append}
 use Rattle.std.proofs.lemmas.Bool.{eqb-true}
 use Rattle.access_levels.specs.Level.{authority_name}
-use Rattle.access_levels.specs.declared.levels.GroupAuthority.{GroupAuthority}
-use Rattle.access_levels.specs.declared.levels.GroupAuthority.TheVariants.{MayUse, MayCreate, MayConnect, MayJoin}
+use Rattle.access_levels.specs.declared.authorities.GroupAuthority.{GroupAuthority}
+use Rattle.access_levels.specs.declared.authorities.GroupAuthority.TheVariants.{MayUse, MayCreate, MayConnect, MayJoin}
 use Rattle.access_levels.specs.Spelling.{id_of}
 use Rattle.command_words.specs.declared.quoting.Quoting.TheVariants.{Ignored, Outside, Inside}
 use Rattle.command_words.specs.Quotes.{doubled}

@@ -1,6 +1,6 @@
 -- Commands as the table sees them: each field of a command in the slot of its operand.
 use Rattle.std.specs.Prelude.{◌≡◌, ℕ, List, [], ◌∷◌, Bool, true, false, Option, None, Some, Result, Ok, Err}
-use Rattle.access_levels.specs.declared.levels.GroupAuthority.{GroupAuthority}
+use Rattle.access_levels.specs.declared.authorities.GroupAuthority.{GroupAuthority}
 use Rattle.std.specs.Result.{result_err}
 use Rattle.command_parser.specs.declared.faults.Syntax.{Syntax}
 use Rattle.command_parser.specs.declared.faults.ParseFault.{ParseFault}

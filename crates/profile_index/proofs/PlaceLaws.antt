@@ -107,11 +107,3 @@ module _ {T : Type 0} where
       settled : (t : Bool) → has_name name x ≡ t → cond t (Some x) (find (has_name name) xs) ≡ None → (IsAbsent name xs → AllByRecursion (λ e. e.name ≢ name) xs) → AllByRecursion (λ e. e.name ≢ name) (x ∷ xs)
       settled true is e again = absurd (cc (e))
       settled false is e again = ((λ same. let alike : has_name name x ≡ true = (bytes_eq-Decides x.name.text name.text).1 (ap (λ (n : Spelled). n.text) same) in absurd (cc (alike, is))), again e)
-
-  pub all-without : (P : Entry T → Type 0) (xs : List (Entry T)) (name : Spelled) → AllByRecursion P xs → AllByRecursion P (without name xs)
-  all-without P [] name all = tt
-  all-without P (x ∷ xs) name all = settled (has_name name x) (all-without P xs name all.1)
-    where
-      settled : (t : Bool) → AllByRecursion P (without name xs) → AllByRecursion P (cond (not t) (x ∷ without name xs) (without name xs))
-      settled true rest = rest
-      settled false rest = (all.0, rest)

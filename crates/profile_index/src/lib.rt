@@ -7,5 +7,8 @@ mod search;
 mod steps;
 
 pub use entry::Entry;
-pub use index::Index;
+pub use index::{Index, NoMemory};
 pub use steps::Steps;
+
+#[cfg(test)]
+mod tests;

@@ -5,7 +5,7 @@ use Rattle.generic_names.specs.Laws.{IsPattern}
 use Rattle.profile_index.specs.declared.entry.Entry.{Entry}
 use Rattle.profile_index.specs.Indexed.{name_of, has_name, without}
 use Rattle.profile_index.specs.Places.{IsFirst, IsOnly}
-use Rattle.profile_index.proofs.PlaceLaws.{find-at, find-none, filter-none, filter-one, all-remove, all-without, order-remove}
+use Rattle.profile_index.proofs.PlaceLaws.{find-at, find-none, filter-none, filter-one, all-remove, order-remove}
 use Rattle.profile_index.proofs.index.Index.remove.Goals as goal
 
 pub returns-in_default-clause-item : goal.returns-in_default-clause-item

@@ -4,6 +4,7 @@
 mod entry;
 mod index;
 mod search;
+mod shelf;
 mod steps;
 
 pub use entry::Entry;

@@ -148,7 +148,8 @@ fn large(alloc: Global, each: u32) -> Result<Index<u32>, NoMemory>
 {
     let mut index = Index::new(alloc)?;
     let mut text = Vec::new(alloc);
-    for item in 0..50_000u32 {
+    for number in 0..50_000u32 {
+        let item = number * 7_919 % 50_000;
         text.clear();
         push_numbered(&mut text, b'Q', item / each)?;
         text.push(b'.')?;

@@ -1,2 +1,3 @@
 mod OrderedLaws
 mod PlaceLaws
+mod ShelfLaws

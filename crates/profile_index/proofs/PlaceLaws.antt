@@ -70,10 +70,9 @@ module _ {A : Type 0} where
     pub order-insert : (xs : List A) (p : ℕ) (y : A) → p ≤ length xs → IsInOrder name_of xs → AllWithin (λ x. before (name_of x) (name_of y) ≡ true) xs 0 p → AllWithin (λ x. before (name_of y) (name_of x) ≡ true) xs p (length xs) → IsInOrder name_of (insert xs p y)
     order-insert xs zero y h ordered below above = (all-from (λ x. before (name_of y) (name_of x) ≡ true) xs above, ordered)
     order-insert [] (suc p) y h ordered below above = absurd (omega arith)
-    order-insert (x ∷ xs) (suc p) y h ordered below above = (
-      all-insert (λ z. before (name_of x) (name_of z) ≡ true) xs p y ordered.0 (below 0 x (omega arith) (omega arith)),
-      order-insert xs p y (omega arith) ordered.1 (front (λ z. before (name_of z) (name_of y) ≡ true) x xs 0 p below (omega arith)) (back (λ z. before (name_of y) (name_of z) ≡ true) x xs p (length xs) above),
-    )
+    order-insert (x ∷ xs) (suc p) y h ordered below above =
+        (all-insert (λ z. before (name_of x) (name_of z) ≡ true) xs p y ordered.0 (below 0 x (omega arith) (omega arith)),
+         order-insert xs p y (omega arith) ordered.1 (front (λ z. before (name_of z) (name_of y) ≡ true) x xs 0 p below (omega arith)) (back (λ z. before (name_of y) (name_of z) ≡ true) x xs p (length xs) above))
 
     pub order-remove : (xs : List A) (p : ℕ) → IsInOrder name_of xs → IsInOrder name_of (remove xs p)
     order-remove [] zero ordered = tt
@@ -108,11 +107,3 @@ module _ {T : Type 0} where
       settled : (t : Bool) → has_name name x ≡ t → cond t (Some x) (find (has_name name) xs) ≡ None → (IsAbsent name xs → AllByRecursion (λ e. e.name ≢ name) xs) → AllByRecursion (λ e. e.name ≢ name) (x ∷ xs)
       settled true is e again = absurd (cc (e))
       settled false is e again = ((λ same. let alike : has_name name x ≡ true = (bytes_eq-Decides x.name.text name.text).1 (ap (λ (n : Spelled). n.text) same) in absurd (cc (alike, is))), again e)
-
-  pub all-without : (P : Entry T → Type 0) (xs : List (Entry T)) (name : Spelled) → AllByRecursion P xs → AllByRecursion P (without name xs)
-  all-without P [] name all = tt
-  all-without P (x ∷ xs) name all = settled (has_name name x) (all-without P xs name all.1)
-    where
-      settled : (t : Bool) → AllByRecursion P (without name xs) → AllByRecursion P (cond (not t) (x ∷ without name xs) (without name xs))
-      settled true rest = rest
-      settled false rest = (all.0, rest)

@@ -5,6 +5,7 @@ ghost use Rattle.std.specs.List.{slice_get};
 
 use crate::entry::Entry;
 use crate::search::{end_of_those_before, first_that_covers, place_named, place_of};
+use crate::shelf::Shelf;
 use crate::steps::Steps;
 use generic_names::{Pattern, Resource};
 use std::alloc::{AllocError, Global};
@@ -17,21 +18,18 @@ pub type NoMemory = AllocError;
 /// Entries in the order of specificity of their names, which are of one kind.
 #[derive(Drop)]
 pub struct Index<T> {
-    entries: Vec<Entry<T>>,
-    spare: usize,
+    shelf: Shelf<T>,
 }
 
 impl<T> Model for Index<T> {
-    ghost use Rattle.std.specs.Prelude.{ℕ, ◌+◌, ◌≤◌, vec_len};
-    ghost use Rattle.std.specs.Vec.{vec_capacity};
     ghost use Rattle.generic_names.specs.Best.{IsInOrder, AreNamed};
     ghost use Rattle.profile_index.specs.Indexed.{Indexed, name_of};
 
     ghost Value = { Indexed T };
 
-    ghost view = { λ x. record { entries = x.entries.items; spare = x.spare } };
+    ghost view = { λ x. x.shelf };
 
-    ghost invariant = { λ x. (vec_len x.entries + x.spare ≤ vec_capacity x.entries) × IsInOrder name_of x.entries.items × AreNamed name_of x.entries.items };
+    ghost invariant = { λ x. IsInOrder name_of x.shelf.entries × AreNamed name_of x.shelf.entries };
 }
 
 impl<T> Index<T> {
@@ -44,8 +42,7 @@ impl<T> Index<T> {
         ensures none_spare { IfOk result (λ index. index.spare ≡ 0) }
     {
         Ok(Index {
-            entries: Vec::new(alloc),
-            spare: 0,
+            shelf: Shelf::new(alloc),
         })
     }
 
@@ -56,11 +53,7 @@ impl<T> Index<T> {
         ensures err { OnErr result (self.new.spare ≡ self.old.spare) }
         ensures enough { n ≤ self.old.spare → IsOk result }
     {
-        if self.spare < n {
-            self.entries.reserve(n)?;
-            self.spare = n;
-        }
-        Ok(())
+        self.shelf.reserve(n)
     }
 
     /// How many entries there are. They stand in the order of specificity, so no name comes twice.
@@ -69,14 +62,14 @@ impl<T> Index<T> {
         ensures ordered { IsInOrder name_of self.now.entries }
         ensures named { AreNamed name_of self.now.entries }
     {
-        self.entries.len()
+        self.shelf.len()
     }
 
     /// How many entries can be inserted before the next `reserve`.
     pub fn spare(&self) -> usize
         ensures { result ≡ self.now.spare }
     {
-        self.spare
+        self.shelf.spare()
     }
 
     /// The name and the item at a place.
@@ -84,7 +77,7 @@ impl<T> Index<T> {
         requires { place < length self.now.entries }
         ensures { slice_get self.now.entries place ≡ Some (record { name = result.0.now; item = result.1.now }) }
     {
-        let entry = &self.entries[place];
+        let entry = self.shelf.entry(place);
         (&entry.name, &entry.item)
     }
 
@@ -96,7 +89,7 @@ impl<T> Index<T> {
         requires { AreOf name.now.kind self.now.entries }
         ensures { IsPlaceOf self.now.entries (best name_of self.now.entries name.now) result }
     {
-        first_that_covers(&self.entries, name)
+        first_that_covers(&self.shelf, name)
     }
 
     /// The entry of the very name, in as many comparisons as the number of entries has binary digits.
@@ -106,7 +99,7 @@ impl<T> Index<T> {
         ensures onward { steps.old ≤ steps.new }
         ensures cost { 2 ^ (steps.new - steps.old) ≤ 2 * length self.now.entries + 1 }
     {
-        place_of(&self.entries, name, steps)
+        place_of(&self.shelf, name, steps)
     }
 
     /// The entry of a pattern's name, generic or not.
@@ -114,10 +107,11 @@ impl<T> Index<T> {
         requires { AreOf name.now.kind self.now.entries }
         ensures { IsPlaceOf self.now.entries (find (has_name name.now) self.now.entries) result }
     {
-        place_named(&self.entries, name)
+        place_named(&self.shelf, name)
     }
 
-    /// Adds an entry at its place in the order. It takes no memory, and moves those behind it.
+    /// Adds an entry at its place in the order. It takes no memory. Behind it only the numbers
+    /// of the slots move, eight bytes an entry.
     pub fn insert(&mut self, name: Pattern, item: T)
         requires room { 0 < self.old.spare }
         requires kind { AreOf name.kind self.old.entries }
@@ -128,12 +122,11 @@ impl<T> Index<T> {
     {
         // That the text is a pattern's is what the laws of the order rest on.
         let _ = name.text();
-        let place = end_of_those_before(&self.entries, &name);
-        self.spare -= 1;
-        self.entries.insert(place, Entry { name, item }).unwrap();
+        let place = end_of_those_before(&self.shelf, &name);
+        self.shelf.insert(place, Entry { name, item });
     }
 
-    /// Takes the entry of a name out, if there is one. It moves those behind it.
+    /// Takes the entry of a name out, if there is one.
     pub fn remove(&mut self, name: &Pattern) -> Option<T>
         requires { AreOf name.now.kind self.old.entries }
         ensures item { result ≡ option_map (λ e. e.item) (find (has_name name.now) self.old.entries) }
@@ -141,11 +134,10 @@ impl<T> Index<T> {
         ensures kinds { AreOf name.now.kind self.new.entries }
         ensures spare { self.new.spare ≡ self.old.spare + (if is_some result then 1 else 0) }
     {
-        let Some(place) = place_named(&self.entries, name) else {
+        let Some(place) = place_named(&self.shelf, name) else {
             return None;
         };
-        self.spare += 1;
-        let Entry { name: _, item } = self.entries.remove(place);
+        let Entry { name: _, item } = self.shelf.remove(place);
         Some(item)
     }
 }

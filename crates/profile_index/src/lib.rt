@@ -4,8 +4,12 @@
 mod entry;
 mod index;
 mod search;
+mod shelf;
 mod steps;
 
 pub use entry::Entry;
-pub use index::Index;
+pub use index::{Index, NoMemory};
 pub use steps::Steps;
+
+#[cfg(test)]
+mod tests;

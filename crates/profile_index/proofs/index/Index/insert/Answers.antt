@@ -1,5 +1,4 @@
 use Rattle.std.proofs.Common.{◌≡◌, ◌≢◌, ◌+◌, ◌-◌, ◌<◌, ◌≤◌, true, false, cond, length, get_or, refl, ap, sym, subst, ◌∙◌, arith}
-use Rattle.std.specs.Result.{is_ok}
 use Rattle.std.specs.List.{insert, AllWithin}
 use Rattle.generic_names.specs.Before.{before}
 use Rattle.generic_names.specs.Best.{IsInOrder, AreNamed}
@@ -12,45 +11,37 @@ use Rattle.profile_index.proofs.index.Index.insert.Goals as goal
 pub invariant_of-self : goal.invariant_of-self
 invariant_of-self g c =
     let name = c.args.name in
-    let items = c.self.inside.entries.items in
+    let items = c.self.inside.shelf.entries in
     let place = c.end_of_those_before-place.result in
     let view = ap (λ x. x.entries) c.self.view_is in
-    let room = ap (λ x. x.spare) c.self.view_is in
-    let done = ap (λ r. is_ok r) c.unwrap.ensures in
-    let inserted = rw done at c.insert.ensures.items in
-    let size = rw done at c.insert.ensures.len in
-    let value = c.deref.ensures.value in
-    let named = c.self.invariant.2 in
+    let inserted = c.insert.ensures.entries in
+    let named = c.self.invariant.1 in
     let kinds = subst (λ xs. AreOf name.kind xs) (sym view) c.requires.kind in
     let absent = absent-at name items (subst (λ xs. IsAbsent name xs) (sym view) c.requires.absent) in
     let lawful = c.text.ensures.name in
-    let within = subst (λ xs. place ≤ length xs) value c.end_of_those_before-place.ensures.within in
-    let below = subst (λ xs. AllWithin (λ e. before e.name name ≡ true) xs 0 place) value c.end_of_those_before-place.ensures.below in
-    let above = subst (λ xs. AllWithin (λ e. before e.name name ≡ false) xs place (length xs)) value c.end_of_those_before-place.ensures.above in (
-      omega (arith, size, c.insert.ensures.capacity, c.self.invariant.0, room, c.requires.room),
-      subst (λ xs. IsInOrder name_of xs) (sym inserted) (order-insert name_of items place _ within c.self.invariant.1 below
-          (λ k d low high. behind-strict (get_or items k d).name name (all-at (λ e. IsPattern e.name) items named k d high) lawful (all-at (λ e. e.name.kind ≡ name.kind) items kinds k d high) (all-at (λ e. e.name ≢ name) items absent k d high) (above k d low high))),
-      subst (λ xs. AreNamed name_of xs) (sym inserted) (all-insert (λ e. IsPattern e.name) items place _ named lawful),
-    )
+    let within = c.end_of_those_before-place.ensures.within in
+    let below = c.end_of_those_before-place.ensures.below in
+    let above = c.end_of_those_before-place.ensures.above in
+    (subst (λ xs. IsInOrder name_of xs) (sym inserted) (order-insert name_of items place _ within c.self.invariant.0 below
+       (λ k d low high. behind-strict (get_or items k d).name name (all-at (λ e. IsPattern e.name) items named k d high) lawful (all-at (λ e. e.name.kind ≡ name.kind) items kinds k d high) (all-at (λ e. e.name ≢ name) items absent k d high) (above k d low high))),
+     subst (λ xs. AreNamed name_of xs) (sym inserted) (all-insert (λ e. IsPattern e.name) items place _ named lawful))
 
 pub returns-clause-entries : goal.returns-clause-entries
 returns-clause-entries g c =
     let name = c.args.name in
-    let items = c.self.inside.entries.items in
+    let items = c.self.inside.shelf.entries in
     let place = c.end_of_those_before-place.result in
     let view = ap (λ x. x.entries) c.self.view_is in
-    let done = ap (λ r. is_ok r) c.unwrap.ensures in
-    let inserted = rw done at c.insert.ensures.items in
-    let value = c.deref.ensures.value in
-    let within = subst (λ xs. place ≤ length xs) value c.end_of_those_before-place.ensures.within in
-    let below = subst (λ xs. AllWithin (λ e. before e.name name ≡ true) xs 0 place) value c.end_of_those_before-place.ensures.below in
-    let above = subst (λ xs. AllWithin (λ e. before e.name name ≡ false) xs place (length xs)) value c.end_of_those_before-place.ensures.above in
+    let inserted = c.insert.ensures.entries in
+    let within = c.end_of_those_before-place.ensures.within in
+    let below = c.end_of_those_before-place.ensures.below in
+    let above = c.end_of_those_before-place.ensures.above in
     inserted ∙ sym (with_entry-at items place (record { name = c.args.name; item = c.args.item }) within below above) ∙ ap (λ xs. with_entry (record { name = c.args.name; item = c.args.item }) xs) view
 
 pub returns-clause-kinds : goal.returns-clause-kinds
 returns-clause-kinds g c =
     let name = c.args.name in
     let view = ap (λ x. x.entries) c.self.view_is in
-    let inserted = rw (ap (λ r. is_ok r) c.unwrap.ensures) at c.insert.ensures.items in
+    let inserted = c.insert.ensures.entries in
     let kinds = subst (λ xs. AreOf name.kind xs) (sym view) c.requires.kind in
-    subst (λ xs. AreOf name.kind xs) (sym inserted) (all-insert (λ e. e.name.kind ≡ name.kind) c.self.inside.entries.items c.end_of_those_before-place.result _ kinds refl)
+    subst (λ xs. AreOf name.kind xs) (sym inserted) (all-insert (λ e. e.name.kind ≡ name.kind) c.self.inside.shelf.entries c.end_of_those_before-place.result _ kinds refl)

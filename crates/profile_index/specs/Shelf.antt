@@ -1,0 +1,23 @@
+-- How the crate keeps its entries: in slots of no order, and the slots in the order of the entries.
+use Rattle.std.specs.Prelude.{◌≡◌, ◌≢◌, ℕ, ◌+◌, ◌<◌, ◌≤◌, ◌==◌, Bool, if◌then◌else◌, List, [], ◌∷◌, ◌++◌, length, map, vec_len, option_to_list}
+use Rattle.std.specs.List.{AllByRecursion, slice_get}
+
+-- what stands in these slots, in their order
+abbrev pub in_slots : {A : Type 0} → List A → List ℕ → List A
+in_slots slots [] = []
+in_slots slots (slot ∷ order) = option_to_list (slice_get slots slot) ++ in_slots slots order
+
+-- each slot comes once
+abbrev pub AreApart : List ℕ → Type 0
+AreApart [] = Unit {0}
+AreApart (slot ∷ order) = AllByRecursion (λ other. slot ≢ other) order × AreApart order
+
+-- a slot under its new number, where the last was moved
+abbrev pub renamed : ℕ → ℕ → ℕ → ℕ
+renamed from to slot = if slot == from then to else slot
+
+-- the slots are there, and each is used once
+pub record IsKept {A : Type 0} (slots : List A) (order : List ℕ) : Type 0 where
+  pub there : AllByRecursion (λ slot. slot < length slots) order
+  pub apart : AreApart order
+  pub all : length order ≡ length slots

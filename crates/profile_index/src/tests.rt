@@ -1,0 +1,194 @@
+ghost use Rattle.std.specs.Prelude.{◌<◌, IfOk};
+ghost use Rattle.generic_names.specs.declared.kind.NameKind.TheVariants.{General};
+ghost use Rattle.profile_index.specs.Indexed.{AreOf};
+
+use crate::{Index, NoMemory};
+use generic_names::{NameKind, Pattern, Resource};
+use std::alloc::Global;
+use std::test::Fail;
+
+/// Random numbers, the same in each run.
+#[derive(Drop)]
+struct Numbers(u32);
+
+impl Numbers {
+    fn below(&mut self, n: u32) -> u32
+        requires { 0 < n }
+        ensures { result < n }
+    {
+        self.0 = self.0.wrapping_mul(1_664_525).wrapping_add(1_013_904_223);
+        (self.0 >> 8) % n
+    }
+}
+
+/// Stores a pattern under a number, unless it is there.
+fn add(index: &mut Index<u32>, text: &[u8], item: u32) -> Result<bool, NoMemory>
+    requires { AreOf General index.old.entries }
+    ensures { AreOf General index.new.entries }
+{
+    let Ok(pattern) = Pattern::read(NameKind::General, text) else {
+        return Ok(false);
+    };
+    if index.find_named(&pattern).is_some() {
+        return Ok(false);
+    }
+    index.reserve(1)?;
+    index.insert(pattern, item);
+    Ok(true)
+}
+
+/// A qualifier of a random pattern, or of a random name.
+fn part(number: u32, generic: bool) -> &'static [u8] {
+    match number {
+        0 => b"A",
+        1 => b"B",
+        2 => b"AB",
+        3 if generic => b"A%",
+        4 if generic => b"A*",
+        5 if generic => b"*",
+        6 if generic => b"**",
+        7 if generic => b"%B",
+        _ => b"BA",
+    }
+}
+
+/// A random name of one to four qualifiers.
+fn random_text(
+    alloc: Global,
+    numbers: &mut Numbers,
+    generic: bool,
+) -> Result<Vec<u8>, NoMemory> {
+    let mut text = Vec::new(alloc);
+    for k in 0..numbers.below(4) + 1 {
+        if k > 0 {
+            text.push(b'.')?;
+        }
+        text.extend_from_slice(part(numbers.below(9), generic))?;
+    }
+    Ok(text)
+}
+
+/// The plain scan: the covering entry that is before all other covering ones.
+fn scanned(index: &Index<u32>, name: &Resource) -> Option<usize> {
+    let mut best: Option<usize> = None;
+    for place in 0..index.len() {
+        if covers_at(index, place, name) && best.is_none_or(|other| is_before(index, place, other)) {
+            best = Some(place);
+        }
+    }
+    best
+}
+
+fn covers_at(index: &Index<u32>, place: usize, name: &Resource) -> bool {
+    if place >= index.len() {
+        return false;
+    }
+    let (pattern, _) = index.at(place);
+    match (pattern.kind(), name.kind()) {
+        (NameKind::General, NameKind::General) => pattern.covers(name),
+        _ => false,
+    }
+}
+
+fn is_before(index: &Index<u32>, place: usize, other: usize) -> bool {
+    if place >= index.len() || other >= index.len() {
+        return false;
+    }
+    let (first, _) = index.at(place);
+    let (second, _) = index.at(other);
+    match (first.kind(), second.kind()) {
+        (NameKind::General, NameKind::General) => first.before(second),
+        _ => false,
+    }
+}
+
+/// How many of some random names are found as a scan finds them.
+fn count_alike(alloc: Global, numbers: &mut Numbers, index: &Index<u32>, names: u32) -> Result<u32, NoMemory>
+    requires { AreOf General index.now.entries }
+{
+    let mut alike = 0u32;
+    for _name in 0..names {
+        let text = random_text(alloc, numbers, false)?;
+        if let Ok(name) = Resource::read(NameKind::General, &text) {
+            if index.find(&name) == scanned(index, &name) {
+                alike = alike.wrapping_add(1);
+            }
+        }
+    }
+    Ok(alike)
+}
+
+#[test]
+fn finds_what_a_scan_finds(rt: HostRuntime) -> Result<(), Fail> {
+    let mut numbers = Numbers(1);
+    for _table in 0..100u32 {
+        let mut index = Index::new(rt.alloc())?;
+        for item in 0..30u32 {
+            let text = random_text(rt.alloc(), &mut numbers, true)?;
+            let _ = add(&mut index, &text, item)?;
+        }
+        assert_eq!(rt; count_alike(rt.alloc(), &mut numbers, &index, 40)?, 40);
+    }
+    Ok(())
+}
+
+/// A qualifier of a letter and five digits.
+fn push_numbered(text: &mut Vec<u8>, letter: u8, number: u32) -> Result<(), NoMemory> {
+    text.push(letter)?;
+    for power in [10_000, 1_000, 100, 10, 1u32] {
+        text.push(b'0' + (number / power % 10) as u8)?;
+    }
+    Ok(())
+}
+
+/// An index of 50,000 patterns, of which as many as this have each first qualifier.
+fn large(alloc: Global, each: u32) -> Result<Index<u32>, NoMemory>
+    requires { 0 < each }
+    ensures { IfOk result (λ index. AreOf General index.entries) }
+{
+    let mut index = Index::new(alloc)?;
+    let mut text = Vec::new(alloc);
+    for number in 0..50_000u32 {
+        let item = number * 7_919 % 50_000;
+        text.clear();
+        push_numbered(&mut text, b'Q', item / each)?;
+        text.push(b'.')?;
+        push_numbered(&mut text, b'P', item)?;
+        text.extend_from_slice(b".**")?;
+        let _ = add(&mut index, &text, item)?;
+    }
+    Ok(index)
+}
+
+/// How many of a million names are found, each by the one pattern that covers it.
+fn count_found(alloc: Global, index: &Index<u32>, each: u32) -> Result<u32, NoMemory>
+    requires kinds { AreOf General index.now.entries }
+    requires each { 0 < each }
+{
+    let mut text = Vec::new(alloc);
+    let mut found = 0u32;
+    for round in 0..1_000_000u32 {
+        let item = round % 60_000;
+        text.clear();
+        push_numbered(&mut text, b'Q', item / each)?;
+        text.push(b'.')?;
+        push_numbered(&mut text, b'P', item)?;
+        text.extend_from_slice(b".X")?;
+        if let Ok(name) = Resource::read(NameKind::General, &text) {
+            if index.find(&name).is_some() {
+                found = found.wrapping_add(1);
+            }
+        }
+    }
+    Ok(found)
+}
+
+#[test]
+fn answers_a_million_times(rt: HostRuntime) -> Result<(), Fail> {
+    for each in [10, 50_000] {
+        let index = large(rt.alloc(), each)?;
+        assert_eq!(rt; index.len(), 50_000);
+        assert_eq!(rt; count_found(rt.alloc(), &index, each)?, 840_000);
+    }
+    Ok(())
+}

@@ -8,12 +8,12 @@ mod names;
 mod security;
 mod users;
 
-use command_parser::{
-    AddGroup, AddUser, AltGroup, AltUser, Command, Connect, DelGroup, DelUser, Form, Issuer, Remove,
-};
 use crate::conflict::Conflict;
 use crate::database::Database;
 use crate::made::group_or_current;
+use command_parser::{
+    AddGroup, AddUser, AltGroup, AltUser, Command, Connect, DelGroup, DelUser, Form, Issuer, Remove,
+};
 use groups::{check_root_gone, check_root_moved};
 
 /// The first conflict that these tests meet. Each stands for `test?`, of which Rattle makes no proof where the error is an

@@ -6,9 +6,9 @@ ghost use Rattle.racf_profiles.specs.declared.users.User.{User};
 ghost use Rattle.racf_database.specs.Effects.{altered_user, connected_user, removed_user, altered_group};
 ghost use Rattle.racf_database.specs.Edits.{edits_of, put_user, put_group};
 
-use command_parser::{AltGroup, AltUser, Command, Connect, Form, Issuer, Remove};
 use crate::database::Database;
 use crate::made::{altered_group, connected_user, new_group, removed_user};
+use command_parser::{AltGroup, AltUser, Command, Connect, Form, Issuer, Remove};
 use racf_profiles::{Edit, NoMemory, View};
 use std::alloc::Global;
 

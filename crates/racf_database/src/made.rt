@@ -6,8 +6,8 @@ mod classes;
 mod connects;
 mod users;
 
-use command_parser::{AddGroup, AltGroup, Issuer};
 use access_levels::Id;
+use command_parser::{AddGroup, AltGroup, Issuer};
 use racf_profiles::Group;
 pub(crate) use users::{attributes_after, connected_user, removed_user};
 

@@ -5,9 +5,9 @@ ghost use Rattle.racf_database.specs.Effects.{step};
 ghost use Rattle.racf_database.specs.Edits.{edits_of};
 ghost use Rattle.racf_database.specs.Conflicts.{conflict_of};
 
-use command_parser::{Command, Issuer};
 use crate::database::Database;
 use crate::edits::copies;
+use command_parser::{Command, Issuer};
 use racf_profiles::{Change, Edits, NoMemory};
 use std::alloc::{AllocError, Global};
 

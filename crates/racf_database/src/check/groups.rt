@@ -7,12 +7,12 @@ ghost use Rattle.racf_profiles.specs.Lookup.{group_of};
 ghost use Rattle.racf_database.specs.Effects.{new_group, altered_group};
 ghost use Rattle.racf_database.specs.Conflicts.{if_met, is_root, has_subgroup, cycle, owner_not_superior, owner_apart, groups_full, meets};
 
-use command_parser::{AddGroup, AltGroup, DelGroup, Issuer};
 use crate::conflict::{Conflict, Holder, Kind};
 use crate::database::Database;
 use crate::limits::{MOST_GROUPS, check_count};
 use crate::made::{altered_group, new_group};
 use access_levels::Id;
+use command_parser::{AddGroup, AltGroup, DelGroup, Issuer};
 use racf_profiles::{Group, View, sys1};
 
 impl Database {

@@ -4,11 +4,11 @@ ghost use Rattle.std.specs.Result.{result_err};
 ghost use Rattle.racf_database.specs.Names.{is_taken, is_class_word};
 ghost use Rattle.racf_database.specs.Conflicts.{no_user, no_group, no_owner, no_named_group, no_class, name_taken, not_connected, default_not_connected, default_group, has_profile, has_connected};
 
-use command_parser::Ids;
 use crate::conflict::{Conflict, Holder, Named};
 use crate::database::Database;
 use crate::user_table::is_connected_to;
 use access_levels::Id;
+use command_parser::Ids;
 use racf_profiles::{FixedClass, View};
 
 impl Database {

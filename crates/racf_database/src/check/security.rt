@@ -3,10 +3,10 @@ ghost use Rattle.std.specs.Prelude.{◌≡◌};
 ghost use Rattle.std.specs.Result.{result_err};
 ghost use Rattle.racf_database.specs.Conflicts.{unknown_level, unknown_category, never_category, unknown_label};
 
-use command_parser::Ids;
 use crate::conflict::Conflict;
 use crate::database::Database;
 use access_levels::Id;
+use command_parser::Ids;
 
 impl Database {
     /// A level that is named is one.

@@ -9,13 +9,13 @@ ghost use Rattle.racf_database.specs.Names.{connects_of, is_administrator};
 ghost use Rattle.racf_database.specs.Effects.{connects_after, altered_user, group_or_current};
 ghost use Rattle.racf_database.specs.Conflicts.{users_full, connections_full, user_full, last_special};
 
-use command_parser::{AddUser, AltUser, Connect, DelUser, Issuer};
 use crate::conflict::{Conflict, Kind};
 use crate::database::Database;
 use crate::limits::{MOST_CONNECTIONS, MOST_CONNECTIONS_IN_ALL, MOST_USERS, check_count};
 use crate::made::attributes_after;
 use crate::user_table::{connections_with, growth};
 use access_levels::Id;
+use command_parser::{AddUser, AltUser, Connect, DelUser, Issuer};
 use racf_profiles::View;
 
 impl Database {

@@ -6,8 +6,8 @@ ghost use Rattle.racf_database.specs.Names.{is_to};
 ghost use Rattle.racf_database.specs.Effects.{new_connection, altered_connection, connects_after};
 
 use super::switched;
-use command_parser::Connect;
 use access_levels::{GroupAuthority, Id};
+use command_parser::Connect;
 use racf_profiles::{Connect as Connection, NoMemory};
 use std::alloc::Global;
 

@@ -6,9 +6,9 @@ ghost use Rattle.racf_database.specs.Effects.{new_user, first_attributes, altere
 use super::classes::{classes_after, with_classes};
 use super::connects::{connects_after, first_connects, without_connect};
 use super::{group_or_current, owner_or_issuer, switched};
-use command_parser::{AddUser, AltUser, Connect, Ids, Issuer, Remove};
 use crate::database::Database;
 use access_levels::{Attributes, Categories, Id, Text};
+use command_parser::{AddUser, AltUser, Connect, Ids, Issuer, Remove};
 use racf_profiles::{Classes, Connects, NoMemory, User};
 use std::alloc::Global;
 

@@ -1,11 +1,12 @@
 -- Texts of commands, and their canonical text or the first fault.
-use Rattle.std.proofs.Common.{◌≡◌, ℕ, List, [], ◌∷◌, ◌++◌, Result, Ok, Err, refl}
+use Rattle.std.proofs.Common.{◌≡◌, ℕ, List, Result, Ok, Err, refl}
 use Rattle.std.specs.Prelude.{codes}
 use Rattle.command_words.specs.Tokens.{tokens}
 use Rattle.command_parser.specs.declared.faults.Syntax.{Syntax}
-use Rattle.command_parser.specs.declared.faults.Syntax.TheVariants.{UnknownCommand, UnknownOperand, AmbiguousOperand, Missing, Repeated, Excluded, BadValue, Unclosed, TextTooLong}
+use Rattle.command_parser.specs.declared.faults.Syntax.TheVariants.{UnknownCommand, UnknownOperand, AmbiguousOperand, Missing, Repeated, Excluded, BadValue, Unclosed}
 use Rattle.command_parser.specs.declared.words.Word.TheVariants as words
 use Rattle.command_parser.specs.Results.{◌>>=◌}
+use Rattle.command_parser.specs.Reading.{parsed}
 use Rattle.command_parser.specs.declared.values.Context.{Context}
 use Rattle.command_parser.specs.Canon.{canon, spelled}
 
@@ -16,73 +17,73 @@ abbrev written : List ℕ → Result (List ℕ) Syntax
 written text = spelled by_joe text >>= λ g. Ok (canon g)
 
 default-group : written (codes "adduser joe dfltgrp(sys1)") ≡ Ok (codes "ADDUSER JOE DFLTGRP(SYS1)")
-unfolding tokens
+unfolding tokens parsed canon
 default-group = refl
 
 no-separators : written (codes "AU(JOE)OWNER(X)NAME('Y')") ≡ Ok (codes "ADDUSER JOE NAME('Y') OWNER(X)")
-unfolding tokens
+unfolding tokens parsed canon
 no-separators = refl
 
 name-in-quotes : written (codes "AU JOE NAME('It''s (me')") ≡ Ok (codes "ADDUSER JOE NAME('It''s (me')")
-unfolding tokens
+unfolding tokens parsed canon
 name-in-quotes = refl
 
 table-order : written (codes "CO U3 NOAUDITOR,REVOKE SP") ≡ Ok (codes "CONNECT U3 SPECIAL NOAUDITOR REVOKE")
-unfolding tokens
+unfolding tokens parsed canon
 table-order = refl
 
 list-as-given : written (codes "ALU U2 ADDCATEGORY(CATB,CATA CATB)") ≡ Ok (codes "ALTUSER U2 ADDCATEGORY(CATB CATA CATB)")
-unfolding tokens
+unfolding tokens parsed canon
 list-as-given = refl
 
 no-command : written (codes "LISTCAT") ≡ Err UnknownCommand
-unfolding tokens
+unfolding tokens parsed canon
 no-command = refl
 
 user-lacks : written (codes "AU OWNER (X") ≡ Err (Missing words.User)
-unfolding tokens
+unfolding tokens parsed canon
 user-lacks = refl
 
 no-operand : written (codes "AU JOE OWNER (X) (Y)") ≡ Err (UnknownOperand 18)
-unfolding tokens
+unfolding tokens parsed canon
 no-operand = refl
 
 several-operands : written (codes "ALU JOE SEC(") ≡ Err (AmbiguousOperand 9)
-unfolding tokens
+unfolding tokens parsed canon
 several-operands = refl
 
 repeated-at-once : written (codes "ALU JOE REVOKE REV FOO") ≡ Err (Repeated words.Revoke)
-unfolding tokens
+unfolding tokens parsed canon
 repeated-at-once = refl
 
 excluded-last : written (codes "ALU JOE NOSPECIAL SPECIAL FOO(X)") ≡ Err (UnknownOperand 27)
-unfolding tokens
+unfolding tokens parsed canon
 excluded-last = refl
 
 excluded-in-order : written (codes "ALU JOE NOSECLABEL RESUME REVOKE SECLABEL(A)") ≡ Err (Excluded words.Revoke words.Resume)
-unfolding tokens
+unfolding tokens parsed canon
 excluded-in-order = refl
 
 second-word : written (codes "AU JOE OWNER(A B)") ≡ Err (BadValue 16)
-unfolding tokens
+unfolding tokens parsed canon
 second-word = refl
 
 word-with-value : written (codes "AU JOE OWNER(A(B))") ≡ Err (BadValue 14)
-unfolding tokens
+unfolding tokens parsed canon
 word-with-value = refl
 
 value-lacks : written (codes "AU JOE OWNER,(A)") ≡ Err (BadValue 8)
-unfolding tokens
+unfolding tokens parsed canon
 value-lacks = refl
 
 group-name : written (codes "AG 9G") ≡ Err (BadValue 4)
-unfolding tokens
+unfolding tokens parsed canon
 group-name = refl
 
 open-quote : written (codes "ALU JOE NAME('x'')") ≡ Err (Unclosed 14)
-unfolding tokens
+unfolding tokens parsed canon
 open-quote = refl
 
 open-parenthesis : written (codes "ALU JOE NAME('x'") ≡ Err (Unclosed 13)
-unfolding tokens
+unfolding tokens parsed canon
 open-parenthesis = refl

@@ -1,11 +1,10 @@
 -- Facts of names that were read.
-use Rattle.std.proofs.Common.{◌≡◌, ℕ, zero, suc, ◌+◌, List, [], ◌∷◌, length, map, Bool, true, false, cond, ◌&&◌, ◌||◌, not, Option, None, Some, Result, Ok, Err, refl, sym, ap, subst, ◌∙◌, arith}
+use Rattle.std.proofs.Common.{◌≡◌, ℕ, suc, ◌+◌, List, [], ◌∷◌, length, map, Bool, true, false, cond, not, Option, None, Some, Result, Ok, Err, refl, sym, ap, subst, ◌∙◌, arith}
 use Rattle.std.specs.Prelude.{◌==◌, nat_lt, bytes_eq, codes}
 use Rattle.std.specs.List.{list_all, position_from}
 use Rattle.std.specs.Result.{result_ok}
 use Rattle.std.proofs.lemmas.Bool.Decides.{nat_tests}
-use Rattle.access_levels.specs.declared.ids.IdFault.{IdFault}
-use Rattle.access_levels.specs.declared.ids.IdFault.TheVariants.{Empty, TooLong, BadByte}
+use Rattle.access_levels.specs.declared.ids.IdFault.TheVariants.{Empty, TooLong}
 use Rattle.access_levels.specs.Spelling.{is_id_byte, bad_byte, begins_with_digit, bad_group_byte, unless_bad, id_of, group_of, name_of as spelled_name}
 use Rattle.command_words.specs.declared.quoting.Quoting.TheVariants.{Ignored}
 use Rattle.command_words.specs.Bytes.{is_faulty_byte, upper}

@@ -1,18 +1,15 @@
 -- The canonical text of a lawful command is read as that command, whoever reads it.
-use Rattle.std.proofs.Common.{◌≡◌, ℕ, zero, suc, ◌+◌, ◌≤◌, List, [], ◌∷◌, ◌++◌, length, map, replicate, Bool, true, false, cond, ◌&&◌, Option, None, Some, Result, Ok, Err, refl, sym, ap, subst, ◌∙◌, arith, append_assoc, length-append}
+use Rattle.std.proofs.Common.{◌≡◌, ℕ, suc, ◌+◌, List, [], ◌∷◌, ◌++◌, length, replicate, Bool, true, false, cond, ◌&&◌, None, Some, Ok, Err, refl, sym, ap, subst, ◌∙◌, arith, append_assoc, length-append}
 use Rattle.std.specs.Prelude.{position, slice_set, is_some, nat_lt}
-use Rattle.std.specs.List.{list_all, slice_index_or}
+use Rattle.std.specs.List.{list_all}
 use Rattle.std.proofs.lemmas.List.{append-nil, get_or_at, set_at}
-use Rattle.command_words.specs.declared.quoting.Quoting.TheVariants.{Ignored, Outside}
-use Rattle.command_words.specs.Bytes.{upper}
-use Rattle.command_words.specs.Tokens.{Token, Word, Group, within, tokens, tokens_from, of_command}
+use Rattle.command_words.specs.declared.quoting.Quoting.TheVariants.{Ignored}
+use Rattle.command_words.specs.Tokens.{Token, Word, within, tokens, tokens_from}
 use Rattle.command_words.specs.Items.{Item, Bare, With, items, opens_value, faulty_at}
 use Rattle.command_words.proofs.Letters.{is_letter, both_first, both_second, Ignored-steady, EndsWord}
 use Rattle.command_words.proofs.Spelled.{word_token, group_token}
 use Rattle.access_levels.specs.Spelling.{id_of}
-use Rattle.command_parser.specs.declared.faults.Syntax.{Syntax}
 use Rattle.command_parser.specs.declared.faults.Syntax.TheVariants as faults
-use Rattle.command_parser.specs.declared.table.Verb.{Verb}
 use Rattle.command_parser.specs.declared.table.Kind.{Kind}
 use Rattle.command_parser.specs.declared.table.Kind.TheVariants as kinds
 use Rattle.command_parser.specs.declared.table.Position.{Position}
@@ -20,16 +17,16 @@ use Rattle.command_parser.specs.declared.table.Operand.{Operand}
 use Rattle.command_parser.specs.declared.values.Content.{Content}
 use Rattle.command_parser.specs.declared.values.Content.TheVariants as contents
 use Rattle.command_parser.specs.declared.values.Context.{Context}
-use Rattle.command_parser.specs.Results.{◌>>=◌, or_fault}
+use Rattle.command_parser.specs.Results.{◌>>=◌}
 use Rattle.command_parser.specs.Words.{spelling_of}
-use Rattle.command_parser.specs.Table.{full_name, positions_of, operands_of, verb_named}
-use Rattle.command_parser.specs.Values.{clean, one, value, bare, text_of}
-use Rattle.command_parser.specs.Reading.{Generic, Slots, is_spelling, named, row_at, no_operand, position_at, positions_at, is_given, fresh, slot_of, operand_at, operands_at, given, clash, unless_clash, closed, no_slots, body_at, command_at, parsed}
+use Rattle.command_parser.specs.Table.{full_name, positions_of, operands_of}
+use Rattle.command_parser.specs.Values.{one, bare, text_of}
+use Rattle.command_parser.specs.Reading.{Generic, Slots, is_spelling, row_at, no_operand, position_at, positions_at, is_given, slot_of, operand_at, operands_at, no_slots, body_at, command_at, parsed}
 use Rattle.command_parser.specs.Canon.{value_text, positions_text, operands_text, canon, spelled}
 use Rattle.command_parser.specs.Lawful.{Fits, FitsPositions, FitsAll, IsLawful}
 use Rattle.command_parser.proofs.Names.{IsPlainName, name-plain}
 use Rattle.command_parser.proofs.ValueAgain.{word_items, IsShown, value-again, value-ends}
-use Rattle.command_parser.proofs.TableFacts.{IsMore, IsPlainWord, spelling-plain, full_name-plain, verb_named-full_name, AreFound, operands-found, is_name_kind, positions-names}
+use Rattle.command_parser.proofs.TableFacts.{IsMore, spelling-plain, full_name-plain, verb_named-full_name, AreFound, operands-found, is_name_kind, positions-names}
 
 -- the first token is a plain word
 plain_token : (tied : Bool) (p : ℕ) (w rest : List ℕ) → IsMore w → list_all is_letter w ≡ true → EndsWord rest
@@ -102,7 +99,7 @@ flag-read o rest tied p h apart =
       item_first = ap items (plain_token (tied && true) (suc p) (spelling_of o.word) rest plain.some plain.letters apart.ends)
           ∙ word_items (tokens_from Ignored true 0 (suc p + length (spelling_of o.word)) rest) (suc p) (spelling_of o.word) (apart.opens true (suc p + length (spelling_of o.word)));
       reads = λ at rows slots k here found free.
-          rw (slot-ok rows slots (suc p) o k found free, here, bare-again o.kind (suc p) h) refl
+          rw (slot-ok rows slots (suc p) o k found free, here, bare-again o.kind (suc p) h) refl;
     }
 
 -- an operand and its value
@@ -112,10 +109,10 @@ valued-read o v rest tied p h shown written =
     let S : List ℕ = spelling_of o.word in
     let q : ℕ = suc p + length (spelling_of o.word) in
     let regrouped : value_text v ++ rest ≡ 40 ∷ (text_of v ++ 41 ∷ rest) =
-        ap (λ bs. bs ++ rest) written ∙ ap (λ bs. 40 ∷ bs) (append_assoc (text_of v) (41 ∷ []) rest) in
+    ap (λ bs. bs ++ rest) written ∙ ap (λ bs. 40 ∷ bs) (append_assoc (text_of v) (41 ∷ []) rest) in
     let first : tokens_from Ignored (tied && true) 0 (suc p) (spelling_of o.word ++ (value_text v ++ rest)) ≡ Word (suc p) (spelling_of o.word) ∷ tokens_from Ignored true 0 (suc p + length (spelling_of o.word)) (40 ∷ (text_of v ++ 41 ∷ rest)) =
-        ap (λ bs. tokens_from Ignored (tied && true) 0 (suc p) (spelling_of o.word ++ bs)) regrouped
-            ∙ plain_token (tied && true) (suc p) (spelling_of o.word) (40 ∷ (text_of v ++ 41 ∷ rest)) plain.some plain.letters refl in
+    ap (λ bs. tokens_from Ignored (tied && true) 0 (suc p) (spelling_of o.word ++ bs)) regrouped
+    ∙ plain_token (tied && true) (suc p) (spelling_of o.word) (40 ∷ (text_of v ++ 41 ∷ rest)) plain.some plain.letters refl in
     let second = group_token Ignored true (suc p + length (spelling_of o.word)) (text_of v) rest (value-ends o.kind v (suc p + length (spelling_of o.word)) (suc (suc p + length (spelling_of o.word))) rest h shown) in
     record {
       item = With (suc p) (spelling_of o.word) (within (suc p + length (spelling_of o.word)) (text_of v));
@@ -123,7 +120,7 @@ valued-read o v rest tied p h shown written =
       place_behind = suc p + length (spelling_of o.word) + length (text_of v) + 2;
       item_first = ap items first ∙ ap (λ ts. items (Word (suc p) (spelling_of o.word) ∷ ts)) second;
       reads = λ at rows slots k here found free.
-          rw (slot-ok rows slots (suc p) o k found free, here, value-again at o.kind (suc p) (suc p + length (spelling_of o.word)) v h shown) refl
+          rw (slot-ok rows slots (suc p) o k found free, here, value-again at o.kind (suc p) (suc p + length (spelling_of o.word)) v h shown) refl;
     }
 
 operand-read : (o : Operand) (v : Content) (rest : List ℕ) (tied : Bool) (p : ℕ) → Fits o.kind v → IsApart rest → IsReadAs o v rest tied p
@@ -144,8 +141,8 @@ operands_again at rows pre (o ∷ os) front (None ∷ ss) k tied p whole at_pre 
     let front' : length (front ++ None ∷ []) ≡ suc k = omega (arith, length-append front (None ∷ [])) in
     let whole' : rows ≡ (pre ++ o ∷ []) ++ os = whole ∙ sym (append_assoc pre (o ∷ []) os) in
     ap (λ slots. operands_at at rows slots (items (tokens_from Ignored tied 0 p (operands_text os ss)))) (sym (append_assoc front (None ∷ []) (replicate (length os) None)))
-        ∙ operands_again at rows (pre ++ o ∷ []) os (front ++ None ∷ []) ss (suc k) tied p whole' pre' front' found.1 h
-        ∙ ap Ok (append_assoc front (None ∷ []) ss)
+    ∙ operands_again at rows (pre ++ o ∷ []) os (front ++ None ∷ []) ss (suc k) tied p whole' pre' front' found.1 h
+    ∙ ap Ok (append_assoc front (None ∷ []) ss)
 operands_again at rows pre (o ∷ os) front (Some v ∷ ss) k tied p whole at_pre at_front found h =
     let pre' : length (pre ++ o ∷ []) ≡ suc k = omega (arith, length-append pre (o ∷ [])) in
     let front' : length (front ++ Some v ∷ []) ≡ suc k = omega (arith, length-append front (Some v ∷ [])) in
@@ -154,13 +151,13 @@ operands_again at rows pre (o ∷ os) front (Some v ∷ ss) k tied p whole at_pr
     let free : is_given (front ++ None ∷ replicate (length os) None) k ≡ false = ap is_some (get_or_at front None (replicate (length os) None) None k at_front) in
     let read = operand-read o v (operands_text os ss) tied p h.0 (operands-apart os ss) in
     let stored : slice_set (front ++ None ∷ replicate (length os) None) k (Some v) ≡ (front ++ Some v ∷ []) ++ replicate (length os) None =
-        set_at front None (replicate (length os) None) (Some v) k at_front ∙ sym (append_assoc front (Some v ∷ []) (replicate (length os) None)) in
+    set_at front None (replicate (length os) None) (Some v) k at_front ∙ sym (append_assoc front (Some v ∷ []) (replicate (length os) None)) in
     ap (operands_at at rows (front ++ None ∷ replicate (length os) None)) read.item_first
-        ∙ ap (λ r. r >>= λ x. operands_at at rows (slice_set (front ++ None ∷ replicate (length os) None) x.0 (Some x.1)) (items (tokens_from Ignored read.tied_behind 0 read.place_behind (operands_text os ss))))
-            (read.reads at rows (front ++ None ∷ replicate (length os) None) k here found.0 free)
-        ∙ ap (λ slots. operands_at at rows slots (items (tokens_from Ignored read.tied_behind 0 read.place_behind (operands_text os ss)))) stored
-        ∙ operands_again at rows (pre ++ o ∷ []) os (front ++ Some v ∷ []) ss (suc k) read.tied_behind read.place_behind whole' pre' front' found.1 h.1
-        ∙ ap Ok (append_assoc front (Some v ∷ []) ss)
+    ∙ ap (λ r. r >>= λ x. operands_at at rows (slice_set (front ++ None ∷ replicate (length os) None) x.0 (Some x.1)) (items (tokens_from Ignored read.tied_behind 0 read.place_behind (operands_text os ss))))
+    (read.reads at rows (front ++ None ∷ replicate (length os) None) k here found.0 free)
+    ∙ ap (λ slots. operands_at at rows slots (items (tokens_from Ignored read.tied_behind 0 read.place_behind (operands_text os ss)))) stored
+    ∙ operands_again at rows (pre ++ o ∷ []) os (front ++ Some v ∷ []) ss (suc k) read.tied_behind read.place_behind whole' pre' front' found.1 h.1
+    ∙ ap Ok (append_assoc front (Some v ∷ []) ss)
 
 -- a positional word
 record IsNameValue (k : Kind) (v : Content) : Type 0 where
@@ -208,7 +205,7 @@ positions-apart (pos ∷ ps) (v ∷ vs) rest names h apart =
     let named = name_value pos.kind v (both_first _ _ names) h.0 in
     let more = positions-apart ps vs rest (both_second _ _ names) h.1 apart in
     let regrouped : 32 ∷ (named.name ++ (positions_text vs ++ rest)) ≡ positions_text (v ∷ vs) ++ rest =
-        ap (λ bs. 32 ∷ bs) (sym (append_assoc named.name (positions_text vs) rest)) ∙ ap (λ u. positions_text (u ∷ vs) ++ rest) (sym named.is) in
+    ap (λ bs. 32 ∷ bs) (sym (append_assoc named.name (positions_text vs) rest)) ∙ ap (λ u. positions_text (u ∷ vs) ++ rest) (sym named.is) in
     subst (λ (bs : List ℕ). IsApart bs) regrouped (word-apart named.name (positions_text vs ++ rest) (plain-some named.name named.plain) named.plain.letters more.ends)
 
 positions_again : (at : Context) (rows : List Operand) (ps : List Position) (front vs : List Content) (rest : List ℕ) (tied : Bool) (p : ℕ) → list_all (λ (pos : Position). is_name_kind pos.kind) ps ≡ true → FitsPositions ps vs → IsApart rest
@@ -221,20 +218,20 @@ positions_again at rows (pos ∷ ps) front (v ∷ vs) rest tied p names h apart 
     let named = name_value pos.kind v (both_first _ _ names) h.0 in
     let behind = positions-apart ps vs rest (both_second _ _ names) h.1 apart in
     let regrouped : positions_text (v ∷ vs) ++ rest ≡ 32 ∷ (named.name ++ (positions_text vs ++ rest)) =
-        ap (λ u. positions_text (u ∷ vs) ++ rest) named.is ∙ ap (λ bs. 32 ∷ bs) (append_assoc named.name (positions_text vs) rest) in
+    ap (λ u. positions_text (u ∷ vs) ++ rest) named.is ∙ ap (λ bs. 32 ∷ bs) (append_assoc named.name (positions_text vs) rest) in
     let first : tokens_from Ignored tied 0 p (positions_text (v ∷ vs) ++ rest) ≡ Word (suc p) named.name ∷ tokens_from Ignored true 0 (suc p + length named.name) (positions_text vs ++ rest) =
-        ap (tokens_from Ignored tied 0 p) regrouped
-            ∙ plain_token (tied && true) (suc p) named.name (positions_text vs ++ rest) (plain-some named.name named.plain) named.plain.letters behind.ends in
+    ap (tokens_from Ignored tied 0 p) regrouped
+    ∙ plain_token (tied && true) (suc p) named.name (positions_text vs ++ rest) (plain-some named.name named.plain) named.plain.letters behind.ends in
     let more = positions_again at rows ps (front ++ v ∷ []) vs rest true (suc p + length named.name) (both_second _ _ names) h.1 apart in
     record {
       tied_behind = more.tied_behind;
       place_behind = more.place_behind;
       reads = ap (positions_at at rows (pos ∷ ps) front) first
           ∙ ap (λ r. r >>= λ x. positions_at at rows ps (front ++ x.0 ∷ []) x.1)
-              (judged at rows pos (suc p) named.name (tokens_from Ignored true 0 (suc p + length named.name) (positions_text vs ++ rest)) v
-                  (behind.opens true (suc p + length named.name)) (named.plain.sound (suc p)) (named.reads at (suc p)))
+          (judged at rows pos (suc p) named.name (tokens_from Ignored true 0 (suc p + length named.name) (positions_text vs ++ rest)) v
+          (behind.opens true (suc p + length named.name)) (named.plain.sound (suc p)) (named.reads at (suc p)))
           ∙ more.reads
-          ∙ ap (λ us. Ok (us, tokens_from Ignored more.tied_behind 0 more.place_behind rest)) (append_assoc front (v ∷ []) vs)
+          ∙ ap (λ us. Ok (us, tokens_from Ignored more.tied_behind 0 more.place_behind rest)) (append_assoc front (v ∷ []) vs);
     }
 
 -- what follows the command's name
@@ -243,22 +240,22 @@ body_again : (at : Context) (g : Generic) (tied : Bool) (p : ℕ) → IsLawful g
 body_again at g tied p lawful =
     let read = positions_again at (operands_of g.verb) (positions_of g.verb) [] g.positions (operands_text (operands_of g.verb) g.slots) tied p (positions-names g.verb) lawful.fits_positions (operands-apart (operands_of g.verb) g.slots) in
     let filled : operands_at at (operands_of g.verb) (no_slots (operands_of g.verb)) (items (tokens_from Ignored read.tied_behind 0 read.place_behind (operands_text (operands_of g.verb) g.slots))) ≡ Ok g.slots =
-        operands_again at (operands_of g.verb) [] (operands_of g.verb) [] g.slots 0 read.tied_behind read.place_behind refl refl refl (operands-found g.verb) lawful.fits_operands in
+    operands_again at (operands_of g.verb) [] (operands_of g.verb) [] g.slots 0 read.tied_behind read.place_behind refl refl refl (operands-found g.verb) lawful.fits_operands in
     rw (read.reads, filled, lawful.apart) refl
 
 text-apart : (g : Generic) → IsLawful g → IsApart (positions_text g.positions ++ operands_text (operands_of g.verb) g.slots)
 text-apart g lawful = positions-apart (positions_of g.verb) g.positions (operands_text (operands_of g.verb) g.slots) (positions-names g.verb) lawful.fits_positions (operands-apart (operands_of g.verb) g.slots)
 
 pub read_again : (at : Context) (g : Generic) → IsLawful g → nat_lt 30000 (length (canon g)) ≡ false → parsed at (canon g) ≡ Ok g
-unfolding tokens
+unfolding tokens parsed canon
 read_again at g lawful short =
     let plain = full_name-plain g.verb in
     let sound : faulty_at Ignored 1 (full_name g.verb) ≡ None = plain.sound 1 in
     let first : tokens_from Ignored false 0 1 (canon g) ≡ Word 1 (full_name g.verb) ∷ tokens_from Ignored true 0 (1 + length (full_name g.verb)) (positions_text g.positions ++ operands_text (operands_of g.verb) g.slots) =
-        plain_token false 1 (full_name g.verb) (positions_text g.positions ++ operands_text (operands_of g.verb) g.slots) plain.some plain.letters (text-apart g lawful).ends in
+    plain_token false 1 (full_name g.verb) (positions_text g.positions ++ operands_text (operands_of g.verb) g.slots) plain.some plain.letters (text-apart g lawful).ends in
     ap (λ b. cond b (Err faults.TextTooLong) (command_at at (tokens_from Ignored false 0 1 (canon g)))) short
-        ∙ ap (command_at at) first
-        ∙ rw (sound, plain.folded, verb_named-full_name g.verb) (body_again at g true (1 + length (full_name g.verb)) lawful)
+    ∙ ap (command_at at) first
+    ∙ rw (sound, plain.folded, verb_named-full_name g.verb) (body_again at g true (1 + length (full_name g.verb)) lawful)
 
 pub spelled_again : (at : Context) (g : Generic) → IsLawful g → nat_lt 30000 (length (canon g)) ≡ false → spelled at (canon g) ≡ Ok g
 spelled_again at g lawful short = rw (read_again at g lawful short, short) refl

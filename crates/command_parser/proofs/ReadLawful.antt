@@ -1,13 +1,12 @@
 -- What is read is lawful.
-use Rattle.std.proofs.Common.{◌≡◌, ℕ, zero, suc, ◌+◌, List, [], ◌∷◌, ◌++◌, length, map, replicate, Bool, true, false, cond, ◌&&◌, Option, None, Some, Result, Ok, Err, refl, sym, ap, subst, ◌∙◌, append_assoc}
+use Rattle.std.proofs.Common.{◌≡◌, ℕ, zero, suc, List, [], ◌∷◌, ◌++◌, length, map, Bool, true, false, cond, ◌&&◌, Option, None, Some, Result, Ok, Err, refl, sym, ap, subst, ◌∙◌, append_assoc}
 use Rattle.std.specs.Prelude.{◌==◌, slice_set, nat_lt, is_ok}
 use Rattle.std.proofs.lemmas.List.{append-nil}
 use Rattle.access_levels.specs.Spelling.{authority_of}
-use Rattle.command_words.specs.declared.quoting.Quoting.{Quoting}
 use Rattle.command_words.specs.declared.quoting.Quoting.TheVariants.{Ignored}
 use Rattle.command_words.specs.Bytes.{upper}
 use Rattle.command_words.specs.Tokens.{Token, Word, Group, Open, Close, tokens, of_command}
-use Rattle.command_words.specs.Items.{Item, Bare, With, Unbounded, Odd, items, opens_value, faulty_at}
+use Rattle.command_words.specs.Items.{Item, Bare, With, Unbounded, Odd, items, opens_value}
 use Rattle.command_parser.specs.declared.faults.Syntax.{Syntax}
 use Rattle.command_parser.specs.declared.faults.Syntax.TheVariants as faults
 use Rattle.command_parser.specs.declared.table.Verb.{Verb}
@@ -23,7 +22,7 @@ use Rattle.command_parser.specs.Table.{positions_of, operands_of, verb_named}
 use Rattle.command_parser.specs.Values.{clean, word_of, name_of, is_name, if_name, unquoted, name_text, one, quotes_of, stray, unless_stray, single, names, several, value, bare}
 use Rattle.command_parser.specs.Reading.{Generic, Slots, named, row_at, position_at, positions_at, slot_of, operand_at, operands_at, given, clash, unless_clash, closed, no_slots, body_at, command_at, parsed}
 use Rattle.command_parser.specs.Lawful.{AreNames, IsNonEmpty, Fits, FitsPositions, FitsAll, IsLawful}
-use Rattle.command_parser.proofs.Names.{if-err, if-none, name-again}
+use Rattle.command_parser.proofs.Names.{if-err, name-again}
 
 bind-ok : {A B : Type 0} (r : Result A Syntax) (f : A → Result B Syntax) (y : B) → (r >>= f) ≡ Ok y → (x : A) × (r ≡ Ok x) × (f x ≡ Ok y)
 bind-ok (Ok x) f y h = (x, refl, h)
@@ -244,6 +243,7 @@ command-lawful at (Open tied p place ∷ ts) g h = cc
 command-lawful at (Close p ∷ ts) g h = cc
 
 pub read_lawful : (at : Context) (text : List ℕ) (g : Generic) → parsed at text ≡ Ok g → IsLawful g
+unfolding parsed
 read_lawful at text g h =
     let short = if-err (nat_lt 30000 (length text)) faults.TextTooLong (command_at at (tokens (of_command text))) g h in
     command-lawful at (tokens (of_command text)) g short.1

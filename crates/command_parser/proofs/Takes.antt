@@ -1,5 +1,5 @@
 -- Slots that are taken one after another, each of the kind that its row has.
-use Rattle.std.proofs.Common.{◌≡◌, List, [], ◌∷◌, map, Option, None, Some, refl, subst}
+use Rattle.std.proofs.Common.{◌≡◌, List, [], ◌∷◌, Option, None, Some, refl, subst}
 use Rattle.command_parser.specs.declared.table.Kind.{Kind}
 use Rattle.command_parser.specs.declared.table.Operand.{Operand}
 use Rattle.command_parser.specs.declared.values.Content.{Content}

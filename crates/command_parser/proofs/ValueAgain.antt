@@ -1,30 +1,26 @@
 -- A value that was written is read again, whatever follows its parenthesis.
-use Rattle.std.proofs.Common.{◌≡◌, ℕ, zero, suc, ◌+◌, List, [], ◌∷◌, ◌++◌, length, map, Bool, true, false, cond, ◌&&◌, ◌||◌, not, Option, None, Some, Result, Ok, Err, refl, sym, ap, subst, ◌∙◌, arith, append_assoc}
-use Rattle.std.specs.Prelude.{◌==◌, codes}
+use Rattle.std.proofs.Common.{◌≡◌, ℕ, suc, ◌+◌, List, [], ◌∷◌, ◌++◌, length, Bool, true, false, None, Some, Ok, refl, sym, ap, ◌∙◌, append_assoc}
+use Rattle.std.specs.Prelude.{◌==◌}
 use Rattle.std.specs.List.{list_all}
 use Rattle.std.proofs.lemmas.List.{append-nil}
 use Rattle.std.proofs.lemmas.List.Folds.{list_all-append}
 use Rattle.std.proofs.lemmas.Bool.{eqb-true}
-use Rattle.std.proofs.lemmas.Bool.Decides.{nat_tests}
 use Rattle.access_levels.specs.Level.{authority_name}
-use Rattle.access_levels.specs.declared.levels.GroupAuthority.{GroupAuthority}
-use Rattle.access_levels.specs.declared.levels.GroupAuthority.TheVariants.{MayUse, MayCreate, MayConnect, MayJoin}
+use Rattle.access_levels.specs.declared.authorities.GroupAuthority.{GroupAuthority}
+use Rattle.access_levels.specs.declared.authorities.GroupAuthority.TheVariants.{MayUse, MayCreate, MayConnect, MayJoin}
 use Rattle.access_levels.specs.Spelling.{id_of}
-use Rattle.command_words.specs.declared.quoting.Quoting.TheVariants.{Ignored, Outside, Inside, Met}
-use Rattle.command_words.specs.Quotes.{after, hides, doubled}
+use Rattle.command_words.specs.declared.quoting.Quoting.TheVariants.{Ignored, Outside, Inside}
+use Rattle.command_words.specs.Quotes.{doubled}
 use Rattle.command_words.specs.Tokens.{Token, Word, Group, Open, Close, within, group_end, tokens, tokens_from}
-use Rattle.command_words.specs.Items.{Item, Bare, With, items, opens_value, faulty_at}
+use Rattle.command_words.specs.Items.{Item, Bare, items, opens_value, faulty_at}
 use Rattle.command_words.proofs.Letters.{is_letter, both_first, both_second, Outside-steady, EndsWord}
 use Rattle.command_words.proofs.Spelled.{is_calm, letter-calm, quoted, word_token, word_alone, quoted_token, group_end-calm, group_end-quoted}
-use Rattle.command_parser.specs.declared.faults.Syntax.{Syntax}
-use Rattle.command_parser.specs.declared.faults.Syntax.TheVariants as faults
 use Rattle.command_parser.specs.declared.table.Kind.{Kind}
 use Rattle.command_parser.specs.declared.table.Kind.TheVariants as kinds
 use Rattle.command_parser.specs.declared.values.Content.{Content}
 use Rattle.command_parser.specs.declared.values.Content.TheVariants as contents
 use Rattle.command_parser.specs.declared.values.Context.{Context}
-use Rattle.command_parser.specs.Results.{◌>>=◌, or_fault}
-use Rattle.command_parser.specs.Values.{clean, name_of, is_name, if_name, unquoted, name_text, single, names, several, value, more_text, ids_text, text_of}
+use Rattle.command_parser.specs.Values.{name_of, is_name, if_name, unquoted, name_text, single, names, several, value, more_text, ids_text, text_of}
 use Rattle.command_parser.specs.Lawful.{AreNames, IsNonEmpty, Fits}
 use Rattle.command_parser.proofs.Names.{IsPlainName, name-plain}
 
@@ -119,8 +115,8 @@ names_step k front tied p (b ∷ w) xs h hs =
     let plain = name-plain k (b ∷ w) (b ∷ w) h in
     let sound : faulty_at Ignored p (b ∷ w) ≡ None = plain.sound p in
     ap (λ ts. names k front (items ts)) (word_token Outside Outside-steady tied p b w (more_text xs) plain.letters (more_ends xs))
-        ∙ ap (names k front) (word_items (tokens_from Outside true 0 (p + length (b ∷ w)) (more_text xs)) p (b ∷ w) (more_opens k (p + length (b ∷ w)) true xs hs))
-        ∙ rw (sound, h) refl
+    ∙ ap (names k front) (word_items (tokens_from Outside true 0 (p + length (b ∷ w)) (more_text xs)) p (b ∷ w) (more_opens k (p + length (b ∷ w)) true xs hs))
+    ∙ rw (sound, h) refl
 
 names_again : (k : Kind) (front : List (List ℕ)) (tied : Bool) (p : ℕ) (xs : List (List ℕ)) → AreNames k xs
     → names k front (items (tokens_from Outside tied 0 p (more_text xs))) ≡ Ok (front ++ xs)
@@ -138,7 +134,7 @@ unfolding tokens
 several_again k p q [] some h = absurd some
 several_again k p q (x ∷ xs) some h =
     several-some k p (items (tokens_from Outside false 0 (suc q) (x ++ more_text xs))) x xs
-        (names_step k [] false (suc q) x xs h.0 h.1 ∙ names_again k (x ∷ []) true (suc q + length x) xs h.1)
+    (names_step k [] false (suc q) x xs h.0 h.1 ∙ names_again k (x ∷ []) true (suc q + length x) xs h.1)
 
 -- a value other than none
 abbrev pub IsShown : Content → Type 0

@@ -1,5 +1,5 @@
 -- A command that was read is written as its canonical text.
-use Rattle.std.proofs.Common.{◌≡◌, ℕ, ◌≤◌, List, length, Bool, false, Ok, refl, sym, ap, subst, ◌∙◌, arith}
+use Rattle.std.proofs.Common.{◌≡◌, ℕ, ◌≤◌, List, length, false, Ok, sym, ap, subst, ◌∙◌, arith}
 use Rattle.std.specs.Prelude.{nat_lt}
 use Rattle.std.proofs.lemmas.Bool.Decides.{nat_tests}
 use Rattle.command_parser.specs.declared.forms.Form.{Form}
@@ -17,5 +17,5 @@ written c g text seen same short lawful =
     let few : length (canon g) ≤ 30000 = subst (λ (bs : List ℕ). length bs ≤ 30000) same short in
     record {
       canonic = same ∙ ap canon (sym seen);
-      spells = λ issuer. ap (spelled (given_by issuer)) same ∙ spelled_again (given_by issuer) g lawful (not_long (length (canon g)) few) ∙ ap Ok (sym seen)
+      spells = λ issuer. ap (spelled (given_by issuer)) same ∙ spelled_again (given_by issuer) g lawful (not_long (length (canon g)) few) ∙ ap Ok (sym seen);
     }

@@ -1,6 +1,6 @@
 -- The canonical text of a command: its full name, its positional words, then its operands in the order of the table,
 -- with one blank between words.
-use Rattle.std.specs.Prelude.{ℕ, List, [], ◌∷◌, ◌++◌, Option, None, Some, Result, Ok, Err, length, nat_lt, if◌then◌else◌}
+use Rattle.std.specs.Prelude.{ℕ, List, [], ◌∷◌, ◌++◌, None, Some, Result, Ok, Err, length, nat_lt, if◌then◌else◌}
 use Rattle.command_parser.specs.declared.faults.Syntax.{Syntax}
 use Rattle.command_parser.specs.declared.faults.Syntax.TheVariants as faults
 use Rattle.command_parser.specs.declared.table.Operand.{Operand}
@@ -32,7 +32,7 @@ operands_text (o ∷ os) [] = []
 operands_text (o ∷ os) (None ∷ ss) = operands_text os ss
 operands_text (o ∷ os) (Some v ∷ ss) = 32 ∷ (spelling_of o.word ++ (value_text v ++ operands_text os ss))
 
-abbrev pub canon : Generic → List ℕ
+unfoldable pub canon : Generic → List ℕ
 canon g = full_name g.verb ++ (positions_text g.positions ++ operands_text (operands_of g.verb) g.slots)
 
 -- What a text spells, or its first fault: a canonical text of more than 30,000 bytes is too long after every other fault.

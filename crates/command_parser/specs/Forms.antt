@@ -1,6 +1,6 @@
 -- Commands as the table sees them: each field of a command in the slot of its operand.
-use Rattle.std.specs.Prelude.{◌≡◌, ℕ, List, [], ◌∷◌, Bool, true, false, Option, None, Some, Result, Ok, Err, length}
-use Rattle.access_levels.specs.declared.levels.GroupAuthority.{GroupAuthority}
+use Rattle.std.specs.Prelude.{◌≡◌, ℕ, List, [], ◌∷◌, Bool, true, false, Option, None, Some, Result, Ok, Err}
+use Rattle.access_levels.specs.declared.authorities.GroupAuthority.{GroupAuthority}
 use Rattle.std.specs.Result.{result_err}
 use Rattle.command_parser.specs.declared.faults.Syntax.{Syntax}
 use Rattle.command_parser.specs.declared.faults.ParseFault.{ParseFault}
@@ -13,10 +13,8 @@ use Rattle.command_parser.specs.declared.forms.Form.{Form}
 use Rattle.command_parser.specs.declared.forms.Form.TheVariants as forms
 use Rattle.command_parser.specs.declared.forms.AddUser.{AddUser}
 use Rattle.command_parser.specs.declared.forms.AltUser.{AltUser}
-use Rattle.command_parser.specs.declared.forms.DelUser.{DelUser}
 use Rattle.command_parser.specs.declared.forms.AddGroup.{AddGroup}
 use Rattle.command_parser.specs.declared.forms.AltGroup.{AltGroup}
-use Rattle.command_parser.specs.declared.forms.DelGroup.{DelGroup}
 use Rattle.command_parser.specs.declared.forms.Connect.{Connect}
 use Rattle.command_parser.specs.declared.forms.Remove.{Remove}
 use Rattle.command_parser.specs.Reading.{Generic, Slots}

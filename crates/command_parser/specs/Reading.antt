@@ -1,5 +1,5 @@
 -- How a text is read: the command, its positional words, its operands.
-use Rattle.std.specs.Prelude.{ℕ, ◌+◌, zero, suc, List, [], ◌∷◌, ◌++◌, Bool, true, false, ◌&&◌, not, ◌==◌, nat_lt, nat_eq, length, map, bytes_eq, slice_set, replicate, count_by, position, find, if◌then◌else◌, is_some, is_ok, Option, None, Some, Result, Ok, Err}
+use Rattle.std.specs.Prelude.{ℕ, List, [], ◌∷◌, ◌++◌, Bool, ◌&&◌, not, ◌==◌, nat_lt, nat_eq, length, map, bytes_eq, slice_set, replicate, count_by, position, find, if◌then◌else◌, is_some, is_ok, Option, None, Some, Result, Ok, Err}
 use Rattle.std.specs.List.{starts_with, slice_index_or}
 use Rattle.std.specs.Option.{option_map}
 use Rattle.command_words.specs.declared.quoting.Quoting.TheVariants.{Ignored}
@@ -8,10 +8,8 @@ use Rattle.command_words.specs.Tokens.{Token, Word, Group, Open, Close, tokens, 
 use Rattle.command_words.specs.Items.{Item, Bare, With, Unbounded, Odd, items, opens_value}
 use Rattle.command_parser.specs.declared.faults.Syntax.{Syntax}
 use Rattle.command_parser.specs.declared.faults.Syntax.TheVariants as faults
-use Rattle.command_parser.specs.declared.words.Word as operand_word
 use Rattle.command_parser.specs.declared.words.Word.TheVariants as words
 use Rattle.command_parser.specs.declared.table.Verb.{Verb}
-use Rattle.command_parser.specs.declared.table.Kind.{Kind}
 use Rattle.command_parser.specs.declared.table.Kind.TheVariants as kinds
 use Rattle.command_parser.specs.declared.table.Position.{Position}
 use Rattle.command_parser.specs.declared.table.Operand.{Operand}
@@ -143,5 +141,5 @@ command_at at (Open tied p place ∷ ts) = Err faults.UnknownCommand
 command_at at (Close p ∷ ts) = Err faults.UnknownCommand
 
 -- A text of more than 30,000 bytes is too long before every other fault.
-abbrev pub parsed : Context → List ℕ → Result Generic Syntax
+unfoldable pub parsed : Context → List ℕ → Result Generic Syntax
 parsed at text = if nat_lt 30000 (length text) then Err faults.TextTooLong else command_at at (tokens (of_command text))

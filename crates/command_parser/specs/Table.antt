@@ -1,5 +1,5 @@
 -- The table of commands: names, positional words and operands. The rows themselves stand once, in the code's table.
-use Rattle.std.specs.Prelude.{ℕ, List, [], ◌∷◌, Bool, ◌||◌, codes, bytes_eq, Option, find}
+use Rattle.std.specs.Prelude.{ℕ, List, [], Bool, ◌||◌, codes, bytes_eq, Option, find}
 use Rattle.command_parser.specs.declared.table.Verb.{Verb}
 use Rattle.command_parser.specs.declared.table.Verb.TheVariants as verbs
 use Rattle.command_parser.specs.declared.table.Position.{Position}

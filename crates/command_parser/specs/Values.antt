@@ -1,5 +1,5 @@
 -- The values of positional words and operands: what is read, and how a value is written.
-use Rattle.std.specs.Prelude.{ℕ, ◌+◌, zero, suc, List, [], ◌∷◌, ◌++◌, Bool, true, false, ◌&&◌, not, ◌==◌, nat_le, length, map, codes, bytes_eq, if◌then◌else◌, unwrap_or, Option, None, Some, Result, Ok, Err}
+use Rattle.std.specs.Prelude.{ℕ, List, [], ◌∷◌, ◌++◌, Bool, true, false, ◌&&◌, ◌==◌, nat_le, length, map, codes, bytes_eq, if◌then◌else◌, unwrap_or, Option, None, Some, Result, Ok, Err}
 use Rattle.std.specs.List.{list_all}
 use Rattle.std.specs.Result.{result_ok}
 use Rattle.access_levels.specs.Spelling.{id_of, group_of, authority_of}

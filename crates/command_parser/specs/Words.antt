@@ -1,5 +1,5 @@
 -- How the words of operands are written in full.
-use Rattle.std.specs.Prelude.{ℕ, List, [], ◌∷◌, codes}
+use Rattle.std.specs.Prelude.{ℕ, List, codes}
 use Rattle.command_parser.specs.declared.words.Word.{Word}
 use Rattle.command_parser.specs.declared.words.Word.TheVariants as words
 

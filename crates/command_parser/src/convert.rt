@@ -9,7 +9,9 @@ ghost use Rattle.command_parser.specs.Lawful.{FitsAll, FrontFits, IsOneName, IsL
 ghost use Rattle.command_parser.specs.Parts.{generic};
 ghost use Rattle.command_parser.specs.Forms.{flag_slot, id_slot, authority_slot, name_slot, ids_slot, slots_of_add_user, slots_of_alt_user, slots_of_add_group, slots_of_alt_group, slots_of_connect, slots_of_remove, generic_form};
 
-use crate::forms::{AddGroup, AddUser, AltGroup, AltUser, Connect, DelGroup, DelUser, Form, Remove};
+use crate::forms::{
+    AddGroup, AddUser, AltGroup, AltUser, Connect, DelGroup, DelUser, Form, Remove,
+};
 use crate::reading::Parts;
 use crate::table::Verb;
 use crate::values::{Content, Ids};
@@ -258,7 +260,11 @@ pub fn form(alloc: Global, parts: Parts) -> Form
     requires { IsLawful (generic parts) }
     ensures { generic_form result ≡ generic parts }
 {
-    let Parts { verb, positions, slots } = parts;
+    let Parts {
+        verb,
+        positions,
+        slots,
+    } = parts;
     let name = only_name(positions);
     match verb {
         Verb::AddUser => Form::AddUser(add_user(alloc, name, slots)),

@@ -13,12 +13,9 @@ mod value;
 mod values;
 mod words;
 
-pub use forms::{AddGroup, AddUser, AltGroup, AltUser, Connect, DelGroup, DelUser, Form, Remove};
 pub use commands::{Command, Issuer, NoMemory, parse, print, printed_is_read};
 pub use faults::{ParseFault, Syntax};
+pub use forms::{AddGroup, AddUser, AltGroup, AltUser, Connect, DelGroup, DelUser, Form, Remove};
 pub use table::{Kind, Operand, Position, Verb};
 pub use values::{Content, Context, Ids};
 pub use words::Word;
-
-#[cfg(test)]
-mod tests;

@@ -19,20 +19,24 @@ fn first_spelled(rows: &[Operand], word: &[u8]) -> Option<usize>
     ensures value { result ≡ position (is_spelling (map upper word.now)) rows.now }
     ensures within { IfSome result (λ k. k < length rows.now) }
 {
-    rows.iter().position(|row| is_spelled(word, row.word.spelling()))
+    rows.iter()
+        .position(|row| is_spelled(word, row.word.spelling()))
 }
 
 fn first_begun(rows: &[Operand], word: &[u8]) -> Option<usize>
     ensures value { result ≡ position (is_beginning (map upper word.now)) rows.now }
     ensures within { IfSome result (λ k. k < length rows.now) }
 {
-    rows.iter().position(|row| is_cut(word, row.word.spelling()))
+    rows.iter()
+        .position(|row| is_cut(word, row.word.spelling()))
 }
 
 fn count_begun(rows: &[Operand], word: &[u8]) -> usize
     ensures { result ≡ count_by (is_beginning (map upper word.now)) rows.now }
 {
-    rows.iter().filter(|row| is_cut(word, row.word.spelling())).count()
+    rows.iter()
+        .filter(|row| is_cut(word, row.word.spelling()))
+        .count()
 }
 
 /// The row of the operand that the word at `place` names: the one that it spells, else the only one that it begins.
@@ -58,7 +62,12 @@ fn row(rows: &[Operand], k: usize) -> Operand
 }
 
 // The row that the word at `place` names, if its operand wasn't given before.
-fn slot_of(rows: &[Operand], slots: &[Option<Content>], place: u32, word: &[u8]) -> Result<usize, Syntax>
+fn slot_of(
+    rows: &[Operand],
+    slots: &[Option<Content>],
+    place: u32,
+    word: &[u8],
+) -> Result<usize, Syntax>
     requires reach { place + length word.now < 2 ^ 30 }
     requires same { length slots.now ≡ length rows.now }
     ensures value { Finds (λ k. k) result (fresh_row rows.now slots.now place word.now) }
@@ -73,7 +82,13 @@ fn slot_of(rows: &[Operand], slots: &[Option<Content>], place: u32, word: &[u8])
 }
 
 // An operand: its row and its value.
-fn operand(alloc: Global, at: &Context, rows: &[Operand], slots: &[Option<Content>], item: Item<'_>) -> Result<(usize, Content), ParseFault>
+fn operand(
+    alloc: Global,
+    at: &Context,
+    rows: &[Operand],
+    slots: &[Option<Content>],
+    item: Item<'_>,
+) -> Result<(usize, Content), ParseFault>
     requires reach { IsItemInReach (seen_item item) }
     requires same { length slots.now ≡ length rows.now }
     ensures value { Gives (λ x. (x.0, x.1)) result (operand_at at.now rows.now slots.now (seen_item item.entry)) }
@@ -108,7 +123,12 @@ fn no_slots(alloc: Global, rows: &[Operand]) -> Result<Vec<Option<Content>>, All
 }
 
 /// The operands from the left, each in the slot of its row.
-pub fn operands(alloc: Global, at: &Context, rows: &[Operand], text: Tokens<'_>) -> Result<Vec<Option<Content>>, ParseFault>
+pub fn operands(
+    alloc: Global,
+    at: &Context,
+    rows: &[Operand],
+    text: Tokens<'_>,
+) -> Result<Vec<Option<Content>>, ParseFault>
     ensures value { Gives (λ slots. slots.items) result (operands_at at.now rows.now (empty_slots rows.now) (items (tokens text.entry))) }
 {
     let mut slots = no_slots(alloc, rows)?;

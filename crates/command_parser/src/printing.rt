@@ -93,11 +93,18 @@ fn push_operand(out: &mut Vec<u8>, row: Operand, content: &Content) -> Result<()
     push_value(out, content)
 }
 
-fn push_operands(out: &mut Vec<u8>, rows: &[Operand], slots: &[Option<Content>]) -> Result<(), AllocError>
+fn push_operands(
+    out: &mut Vec<u8>,
+    rows: &[Operand],
+    slots: &[Option<Content>],
+) -> Result<(), AllocError>
     ensures { OnOk result (out.new.items ≡ out.old.items ++ operands_text rows.now slots.now) }
 {
     let (mut rows, mut slots) = (rows, slots);
-    while let (Some((row, more_rows)), Some((slot, more_slots))) = (rows.split_first(), slots.split_first()) {
+    while let (Some((row, more_rows)), Some((slot, more_slots))) = (
+        rows.split_first(),
+        slots.split_first(),
+    ) {
         if let Some(content) = slot {
             push_operand(out, *row, content)?;
         }
@@ -108,6 +115,7 @@ fn push_operands(out: &mut Vec<u8>, rows: &[Operand], slots: &[Option<Content>])
 }
 
 /// The canonical text of a command.
+#[tactic(auto, unfolding(crate::specs::Canon::canon))]
 pub fn printed(alloc: Global, parts: &Parts) -> Result<Vec<u8>, AllocError>
     ensures { IfOk result (λ text. text.items ≡ canon (generic parts.now)) }
 {

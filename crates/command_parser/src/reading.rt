@@ -31,14 +31,18 @@ pub struct Parts {
 fn verb_named(word: &[u8]) -> Option<Verb>
     ensures { result ≡ verb_called (map upper word.now) }
 {
-    VERBS
-        .iter()
-        .copied()
-        .find(|verb| is_spelled(word, verb.full_name()) || is_spelled(word, verb.short_name()))
+    VERBS.iter().copied().find(|verb| is_spelled(word, verb.full_name())
+        || is_spelled(word, verb.short_name()))
 }
 
 // A positional word, and the text behind it.
-fn position<'a>(alloc: Global, at: &Context, rows: &[Operand], wanted: Position, text: &Tokens<'a>) -> Result<(Content, Tokens<'a>), ParseFault>
+fn position<'a>(
+    alloc: Global,
+    at: &Context,
+    rows: &[Operand],
+    wanted: Position,
+    text: &Tokens<'a>,
+) -> Result<(Content, Tokens<'a>), ParseFault>
     ensures { Gives (λ x. (x.0, tokens x.1)) result (position_at at.now rows.now wanted (tokens text.now)) }
 {
     let Some((piece, rest)) = text.split_first() else {
@@ -59,7 +63,13 @@ fn position<'a>(alloc: Global, at: &Context, rows: &[Operand], wanted: Position,
 }
 
 // All positional words, and the text behind them.
-fn positions<'a>(alloc: Global, at: &Context, rows: &[Operand], wanted: &[Position], text: Tokens<'a>) -> Result<(Vec<Content>, Tokens<'a>), ParseFault>
+fn positions<'a>(
+    alloc: Global,
+    at: &Context,
+    rows: &[Operand],
+    wanted: &[Position],
+    text: Tokens<'a>,
+) -> Result<(Vec<Content>, Tokens<'a>), ParseFault>
     ensures { Gives (λ x. (x.0.items, tokens x.1)) result (positions_at at.now rows.now wanted.now [] (tokens text.entry)) }
 {
     let mut found = Vec::new(alloc);
@@ -77,7 +87,10 @@ fn partner(row: Operand, rows: &[Operand], slots: &[Option<Content>]) -> Option<
     ensures { result ≡ find (excludes row) (given rows.now slots.now) }
 {
     let (mut rows, mut slots) = (rows, slots);
-    while let (Some((other, more_rows)), Some((slot, more_slots))) = (rows.split_first(), slots.split_first()) {
+    while let (Some((other, more_rows)), Some((slot, more_slots))) = (
+        rows.split_first(),
+        slots.split_first(),
+    ) {
         if slot.is_some() && row.pair != 0 && row.pair == other.pair {
             return Some(*other);
         }
@@ -92,7 +105,10 @@ fn clash(rows: &[Operand], slots: &[Option<Content>]) -> Option<(Operand, Operan
     ensures { result ≡ clash_of (given rows.now slots.now) }
 {
     let (mut rows, mut slots) = (rows, slots);
-    while let (Some((row, more_rows)), Some((slot, more_slots))) = (rows.split_first(), slots.split_first()) {
+    while let (Some((row, more_rows)), Some((slot, more_slots))) = (
+        rows.split_first(),
+        slots.split_first(),
+    ) {
         if slot.is_some() {
             if let Some(other) = partner(*row, more_rows, more_slots) {
                 return Some((*row, other));
@@ -122,6 +138,7 @@ fn body(alloc: Global, at: &Context, verb: Verb, text: Tokens<'_>) -> Result<Par
 }
 
 /// What the text spells, but for the length of its canonical text.
+#[tactic(auto, unfolding(crate::specs::Reading::parsed))]
 pub fn read(alloc: Global, at: &Context, text: &[u8]) -> Result<Parts, ParseFault>
     ensures { Gives generic result (parsed at.now text.now) }
 {

@@ -68,88 +68,308 @@ pub struct Operand {
 }
 
 /// The positional word of a command that names a user.
-pub const USER_POSITION: [Position; 1] = [Position { word: Word::User, kind: Kind::Id }];
+pub const USER_POSITION: [Position; 1] = [Position {
+    word: Word::User,
+    kind: Kind::Id,
+}];
 
 /// The positional word of a command that names a group.
-pub const GROUP_POSITION: [Position; 1] = [Position { word: Word::Group, kind: Kind::Group }];
+pub const GROUP_POSITION: [Position; 1] = [Position {
+    word: Word::Group,
+    kind: Kind::Group,
+}];
 
 /// The operands of ADDUSER.
 pub const ADDUSER_OPERANDS: [Operand; 16] = [
-    Operand { word: Word::Name, kind: Kind::Name, pair: 0 },
-    Operand { word: Word::Dfltgrp, kind: Kind::Group, pair: 0 },
-    Operand { word: Word::Owner, kind: Kind::Id, pair: 0 },
-    Operand { word: Word::Authority, kind: Kind::Authority, pair: 0 },
-    Operand { word: Word::Special, kind: Kind::Flag, pair: 1 },
-    Operand { word: Word::Nospecial, kind: Kind::Flag, pair: 1 },
-    Operand { word: Word::Operations, kind: Kind::Flag, pair: 2 },
-    Operand { word: Word::Nooperations, kind: Kind::Flag, pair: 2 },
-    Operand { word: Word::Auditor, kind: Kind::Flag, pair: 3 },
-    Operand { word: Word::Noauditor, kind: Kind::Flag, pair: 3 },
-    Operand { word: Word::Restricted, kind: Kind::Flag, pair: 4 },
-    Operand { word: Word::Norestricted, kind: Kind::Flag, pair: 4 },
-    Operand { word: Word::Clauth, kind: Kind::Classes, pair: 0 },
-    Operand { word: Word::Seclevel, kind: Kind::Id, pair: 0 },
-    Operand { word: Word::Addcategory, kind: Kind::Ids, pair: 0 },
-    Operand { word: Word::Seclabel, kind: Kind::Id, pair: 0 },
+    Operand {
+        word: Word::Name,
+        kind: Kind::Name,
+        pair: 0,
+    },
+    Operand {
+        word: Word::Dfltgrp,
+        kind: Kind::Group,
+        pair: 0,
+    },
+    Operand {
+        word: Word::Owner,
+        kind: Kind::Id,
+        pair: 0,
+    },
+    Operand {
+        word: Word::Authority,
+        kind: Kind::Authority,
+        pair: 0,
+    },
+    Operand {
+        word: Word::Special,
+        kind: Kind::Flag,
+        pair: 1,
+    },
+    Operand {
+        word: Word::Nospecial,
+        kind: Kind::Flag,
+        pair: 1,
+    },
+    Operand {
+        word: Word::Operations,
+        kind: Kind::Flag,
+        pair: 2,
+    },
+    Operand {
+        word: Word::Nooperations,
+        kind: Kind::Flag,
+        pair: 2,
+    },
+    Operand {
+        word: Word::Auditor,
+        kind: Kind::Flag,
+        pair: 3,
+    },
+    Operand {
+        word: Word::Noauditor,
+        kind: Kind::Flag,
+        pair: 3,
+    },
+    Operand {
+        word: Word::Restricted,
+        kind: Kind::Flag,
+        pair: 4,
+    },
+    Operand {
+        word: Word::Norestricted,
+        kind: Kind::Flag,
+        pair: 4,
+    },
+    Operand {
+        word: Word::Clauth,
+        kind: Kind::Classes,
+        pair: 0,
+    },
+    Operand {
+        word: Word::Seclevel,
+        kind: Kind::Id,
+        pair: 0,
+    },
+    Operand {
+        word: Word::Addcategory,
+        kind: Kind::Ids,
+        pair: 0,
+    },
+    Operand {
+        word: Word::Seclabel,
+        kind: Kind::Id,
+        pair: 0,
+    },
 ];
 
 /// The operands of ALTUSER.
 pub const ALTUSER_OPERANDS: [Operand; 23] = [
-    Operand { word: Word::Name, kind: Kind::Name, pair: 0 },
-    Operand { word: Word::Dfltgrp, kind: Kind::Group, pair: 0 },
-    Operand { word: Word::Owner, kind: Kind::Id, pair: 0 },
-    Operand { word: Word::Special, kind: Kind::Flag, pair: 1 },
-    Operand { word: Word::Nospecial, kind: Kind::Flag, pair: 1 },
-    Operand { word: Word::Operations, kind: Kind::Flag, pair: 2 },
-    Operand { word: Word::Nooperations, kind: Kind::Flag, pair: 2 },
-    Operand { word: Word::Auditor, kind: Kind::Flag, pair: 3 },
-    Operand { word: Word::Noauditor, kind: Kind::Flag, pair: 3 },
-    Operand { word: Word::Restricted, kind: Kind::Flag, pair: 4 },
-    Operand { word: Word::Norestricted, kind: Kind::Flag, pair: 4 },
-    Operand { word: Word::Uaudit, kind: Kind::Flag, pair: 5 },
-    Operand { word: Word::Nouaudit, kind: Kind::Flag, pair: 5 },
-    Operand { word: Word::Revoke, kind: Kind::Flag, pair: 6 },
-    Operand { word: Word::Resume, kind: Kind::Flag, pair: 6 },
-    Operand { word: Word::Clauth, kind: Kind::Classes, pair: 0 },
-    Operand { word: Word::Noclauth, kind: Kind::Classes, pair: 0 },
-    Operand { word: Word::Seclevel, kind: Kind::Id, pair: 7 },
-    Operand { word: Word::Noseclevel, kind: Kind::Flag, pair: 7 },
-    Operand { word: Word::Addcategory, kind: Kind::Ids, pair: 0 },
-    Operand { word: Word::Delcategory, kind: Kind::Ids, pair: 0 },
-    Operand { word: Word::Seclabel, kind: Kind::Id, pair: 8 },
-    Operand { word: Word::Noseclabel, kind: Kind::Flag, pair: 8 },
+    Operand {
+        word: Word::Name,
+        kind: Kind::Name,
+        pair: 0,
+    },
+    Operand {
+        word: Word::Dfltgrp,
+        kind: Kind::Group,
+        pair: 0,
+    },
+    Operand {
+        word: Word::Owner,
+        kind: Kind::Id,
+        pair: 0,
+    },
+    Operand {
+        word: Word::Special,
+        kind: Kind::Flag,
+        pair: 1,
+    },
+    Operand {
+        word: Word::Nospecial,
+        kind: Kind::Flag,
+        pair: 1,
+    },
+    Operand {
+        word: Word::Operations,
+        kind: Kind::Flag,
+        pair: 2,
+    },
+    Operand {
+        word: Word::Nooperations,
+        kind: Kind::Flag,
+        pair: 2,
+    },
+    Operand {
+        word: Word::Auditor,
+        kind: Kind::Flag,
+        pair: 3,
+    },
+    Operand {
+        word: Word::Noauditor,
+        kind: Kind::Flag,
+        pair: 3,
+    },
+    Operand {
+        word: Word::Restricted,
+        kind: Kind::Flag,
+        pair: 4,
+    },
+    Operand {
+        word: Word::Norestricted,
+        kind: Kind::Flag,
+        pair: 4,
+    },
+    Operand {
+        word: Word::Uaudit,
+        kind: Kind::Flag,
+        pair: 5,
+    },
+    Operand {
+        word: Word::Nouaudit,
+        kind: Kind::Flag,
+        pair: 5,
+    },
+    Operand {
+        word: Word::Revoke,
+        kind: Kind::Flag,
+        pair: 6,
+    },
+    Operand {
+        word: Word::Resume,
+        kind: Kind::Flag,
+        pair: 6,
+    },
+    Operand {
+        word: Word::Clauth,
+        kind: Kind::Classes,
+        pair: 0,
+    },
+    Operand {
+        word: Word::Noclauth,
+        kind: Kind::Classes,
+        pair: 0,
+    },
+    Operand {
+        word: Word::Seclevel,
+        kind: Kind::Id,
+        pair: 7,
+    },
+    Operand {
+        word: Word::Noseclevel,
+        kind: Kind::Flag,
+        pair: 7,
+    },
+    Operand {
+        word: Word::Addcategory,
+        kind: Kind::Ids,
+        pair: 0,
+    },
+    Operand {
+        word: Word::Delcategory,
+        kind: Kind::Ids,
+        pair: 0,
+    },
+    Operand {
+        word: Word::Seclabel,
+        kind: Kind::Id,
+        pair: 8,
+    },
+    Operand {
+        word: Word::Noseclabel,
+        kind: Kind::Flag,
+        pair: 8,
+    },
 ];
 
 /// The operands of ADDGROUP.
 pub const ADDGROUP_OPERANDS: [Operand; 2] = [
-    Operand { word: Word::Supgroup, kind: Kind::Group, pair: 0 },
-    Operand { word: Word::Owner, kind: Kind::Id, pair: 0 },
+    Operand {
+        word: Word::Supgroup,
+        kind: Kind::Group,
+        pair: 0,
+    },
+    Operand {
+        word: Word::Owner,
+        kind: Kind::Id,
+        pair: 0,
+    },
 ];
 
 /// The operands of ALTGROUP.
 pub const ALTGROUP_OPERANDS: [Operand; 2] = [
-    Operand { word: Word::Supgroup, kind: Kind::Group, pair: 0 },
-    Operand { word: Word::Owner, kind: Kind::Id, pair: 0 },
+    Operand {
+        word: Word::Supgroup,
+        kind: Kind::Group,
+        pair: 0,
+    },
+    Operand {
+        word: Word::Owner,
+        kind: Kind::Id,
+        pair: 0,
+    },
 ];
 
 /// The operands of CONNECT.
 pub const CONNECT_OPERANDS: [Operand; 10] = [
-    Operand { word: Word::Group, kind: Kind::Group, pair: 0 },
-    Operand { word: Word::Authority, kind: Kind::Authority, pair: 0 },
-    Operand { word: Word::Special, kind: Kind::Flag, pair: 1 },
-    Operand { word: Word::Nospecial, kind: Kind::Flag, pair: 1 },
-    Operand { word: Word::Operations, kind: Kind::Flag, pair: 2 },
-    Operand { word: Word::Nooperations, kind: Kind::Flag, pair: 2 },
-    Operand { word: Word::Auditor, kind: Kind::Flag, pair: 3 },
-    Operand { word: Word::Noauditor, kind: Kind::Flag, pair: 3 },
-    Operand { word: Word::Revoke, kind: Kind::Flag, pair: 4 },
-    Operand { word: Word::Resume, kind: Kind::Flag, pair: 4 },
+    Operand {
+        word: Word::Group,
+        kind: Kind::Group,
+        pair: 0,
+    },
+    Operand {
+        word: Word::Authority,
+        kind: Kind::Authority,
+        pair: 0,
+    },
+    Operand {
+        word: Word::Special,
+        kind: Kind::Flag,
+        pair: 1,
+    },
+    Operand {
+        word: Word::Nospecial,
+        kind: Kind::Flag,
+        pair: 1,
+    },
+    Operand {
+        word: Word::Operations,
+        kind: Kind::Flag,
+        pair: 2,
+    },
+    Operand {
+        word: Word::Nooperations,
+        kind: Kind::Flag,
+        pair: 2,
+    },
+    Operand {
+        word: Word::Auditor,
+        kind: Kind::Flag,
+        pair: 3,
+    },
+    Operand {
+        word: Word::Noauditor,
+        kind: Kind::Flag,
+        pair: 3,
+    },
+    Operand {
+        word: Word::Revoke,
+        kind: Kind::Flag,
+        pair: 4,
+    },
+    Operand {
+        word: Word::Resume,
+        kind: Kind::Flag,
+        pair: 4,
+    },
 ];
 
 /// The operands of REMOVE.
-pub const REMOVE_OPERANDS: [Operand; 1] = [
-    Operand { word: Word::Group, kind: Kind::Group, pair: 0 },
-];
+pub const REMOVE_OPERANDS: [Operand; 1] = [Operand {
+    word: Word::Group,
+    kind: Kind::Group,
+    pair: 0,
+}];
 
 impl Verb {
     ghost use Rattle.command_parser.specs.Table.{full_name, short_name, positions_of, operands_of};

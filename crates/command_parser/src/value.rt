@@ -72,7 +72,11 @@ fn class_named(word: &[u8]) -> Option<Id>
     ensures { result ≡ unless_dataset (result_ok (id_of (map upper word.now))) }
 {
     let id = id_named(word)?;
-    if id.text() == b"DATASET".as_slice() { None } else { Some(id) }
+    if id.text() == b"DATASET".as_slice() {
+        None
+    } else {
+        Some(id)
+    }
 }
 
 fn authority_named(word: &[u8]) -> Option<GroupAuthority>
@@ -183,8 +187,14 @@ fn name_named(alloc: Global, word: &[u8]) -> Result<Option<Text>, AllocError>
     Ok(Some(Text::of(alloc, text.as_slice())?))
 }
 
-/// The value that a word is.
-pub fn one(alloc: Global, _at: &Context, kind: Kind, place: u32, word: &[u8]) -> Result<Content, ParseFault>
+/// The value that a word is. No kind reads the context yet.
+pub fn one(
+    alloc: Global,
+    _at: &Context,
+    kind: Kind,
+    place: u32,
+    word: &[u8],
+) -> Result<Content, ParseFault>
     ensures { Gives (λ v. v) result (one_of _at.now kind place word.now) }
 {
     let bad = Syntax::BadValue(place);
@@ -198,7 +208,13 @@ pub fn one(alloc: Global, _at: &Context, kind: Kind, place: u32, word: &[u8]) ->
 }
 
 /// A value of one word. Where there is no word it is refused at `place`.
-pub fn single(alloc: Global, at: &Context, kind: Kind, place: u32, inner: Tokens<'_>) -> Result<Content, ParseFault>
+pub fn single(
+    alloc: Global,
+    at: &Context,
+    kind: Kind,
+    place: u32,
+    inner: Tokens<'_>,
+) -> Result<Content, ParseFault>
     ensures { Gives (λ v. v) result (single_of at.now kind place (items (tokens inner.entry))) }
 {
     let Some((item, rest)) = inner.split_item() else {
@@ -238,7 +254,13 @@ fn several(alloc: Global, kind: Kind, place: u32, inner: Tokens<'_>) -> Result<C
 }
 
 /// The value in the parentheses behind an operand at `place`.
-pub fn value(alloc: Global, at: &Context, kind: Kind, place: u32, inner: Tokens<'_>) -> Result<Content, ParseFault>
+pub fn value(
+    alloc: Global,
+    at: &Context,
+    kind: Kind,
+    place: u32,
+    inner: Tokens<'_>,
+) -> Result<Content, ParseFault>
     ensures { Gives (λ v. v) result (value_of at.now kind place (items (tokens inner.entry))) }
 {
     match kind {

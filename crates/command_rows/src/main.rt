@@ -54,7 +54,11 @@ fn print_fault(rt: &impl Print, fault: Syntax) -> Result<()> {
         Syntax::AmbiguousOperand(place) => println!(rt; "! AMBIGUOUS {place}")?,
         Syntax::Missing(word) => println!(rt; "! MISSING {}", spelling(word))?,
         Syntax::Repeated(word) => println!(rt; "! REPEATED {}", spelling(word))?,
-        Syntax::Excluded(one, other) => println!(rt; "! EXCLUDED {} {}", spelling(one), spelling(other))?,
+        Syntax::Excluded(one, other) => println!(rt;
+            "! EXCLUDED {} {}",
+            spelling(one),
+            spelling(other)
+        )?,
         Syntax::BadValue(place) => println!(rt; "! BADVALUE {place}")?,
         Syntax::Unclosed(place) => println!(rt; "! UNCLOSED {place}")?,
         Syntax::TextTooLong => println!(rt; "! TEXTTOOLONG")?,
@@ -86,3 +90,6 @@ fn main(rt: HostRuntime) -> Result<()> {
     }
     Ok(())
 }
+
+#[cfg(test)]
+mod tests;

@@ -1,11 +1,11 @@
 -- Bytes of words that quotes and parentheses have no part in.
-use Rattle.std.proofs.Common.{◌≡◌, ℕ, suc, ◌+◌, List, [], ◌∷◌, ◌++◌, length, Bool, true, false, ◌&&◌, ◌||◌, not, refl, sym, ap, ◌∙◌, arith}
+use Rattle.std.proofs.Common.{◌≡◌, ℕ, suc, List, [], ◌∷◌, ◌++◌, length, Bool, true, false, ◌&&◌, not, refl, ap, arith}
 use Rattle.std.specs.Prelude.{◌==◌}
 use Rattle.std.specs.List.{list_all}
 use Rattle.std.proofs.lemmas.Bool.Decides.{nat_tests}
 use Rattle.command_words.specs.declared.quoting.Quoting.{Quoting}
 use Rattle.command_words.specs.declared.quoting.Quoting.TheVariants.{Ignored, Outside}
-use Rattle.command_words.specs.Bytes.{is_gap_byte, is_word_byte, is_faulty_byte, upper}
+use Rattle.command_words.specs.Bytes.{is_gap_byte, is_word_byte}
 use Rattle.command_words.specs.Quotes.{after, hides, word_len}
 
 -- a byte of a word, and no quote

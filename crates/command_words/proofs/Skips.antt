@@ -1,9 +1,9 @@
 -- Tokens behind what already belongs to the token in front.
-use Rattle.std.proofs.Common.{◌≡◌, ℕ, zero, suc, ◌+◌, ◌-◌, ◌<◌, List, [], ◌∷◌, take, drop, Bool, true, false, Ok, Err, refl, sym, ap, subst, ◌∙◌, add-zero, add-one, arith}
+use Rattle.std.proofs.Common.{◌≡◌, ℕ, zero, suc, ◌+◌, ◌-◌, ◌<◌, List, [], ◌∷◌, take, drop, Bool, true, false, Ok, refl, sym, ap, ◌∙◌, add-zero, add-one, arith}
 use Rattle.command_words.specs.declared.quoting.Quoting.{Quoting}
 use Rattle.command_words.specs.declared.quoting.Quoting.TheVariants.{Outside}
 use Rattle.command_words.specs.Quotes.{after, word_len}
-use Rattle.command_words.specs.Tokens.{Token, Word, Group, Open, Unread, within, group_end, grouped, tokens_from, worded, word_then}
+use Rattle.command_words.specs.Tokens.{Word, Group, within, group_end, grouped, tokens_from, worded, word_then}
 
 pub tokens_from-skip : (q : Quoting) (tied : Bool) (k p : ℕ) (bs : List ℕ) → tokens_from q tied k p bs ≡ tokens_from q tied 0 (p + k) (drop k bs)
 tokens_from-skip q tied zero p [] = refl
@@ -21,9 +21,9 @@ grouped-ok q tied p end rest closed above =
     let less : end - suc p ≡ end - p - 1 = omega arith in
     let next : suc p + (end - p) ≡ end + 1 = omega arith in
     ap (λ r. grouped r tied p rest (λ k. tokens_from q false k (suc p) rest)) closed'
-        ∙ ap (λ n. Group tied p (within p (take n rest)) ∷ tokens_from q false (end - p) (suc p) rest) less
-        ∙ ap (λ ts. Group tied p (within p (take (end - p - 1) rest)) ∷ ts)
-            (tokens_from-skip q false (end - p) (suc p) rest ∙ ap (λ n. tokens_from q false 0 n (drop (end - p) rest)) next)
+    ∙ ap (λ n. Group tied p (within p (take n rest)) ∷ tokens_from q false (end - p) (suc p) rest) less
+    ∙ ap (λ ts. Group tied p (within p (take (end - p - 1) rest)) ∷ ts)
+    (tokens_from-skip q false (end - p) (suc p) rest ∙ ap (λ n. tokens_from q false 0 n (drop (end - p) rest)) next)
 
 -- a word of one byte and k more
 pub worded-at : (q : Quoting) (b p k : ℕ) (rest : List ℕ) → k ≡ word_len (after q p b) (p + 1) rest
@@ -31,5 +31,5 @@ pub worded-at : (q : Quoting) (b p k : ℕ) (rest : List ℕ) → k ≡ word_len
 worded-at q b p k rest measured =
     let k' : word_len (after q p b) (suc p) rest ≡ k = rw (← add-one) (sym measured) in
     ap (λ n. worded n b p rest (λ k. tokens_from q true k (suc p) rest)) k'
-        ∙ ap (λ ts. Word p (b ∷ take k rest) ∷ ts) (tokens_from-skip q true k (suc p) rest)
-        ∙ rw (add-one p, add-one k) refl
+    ∙ ap (λ ts. Word p (b ∷ take k rest) ∷ ts) (tokens_from-skip q true k (suc p) rest)
+    ∙ rw (add-one p, add-one k) refl

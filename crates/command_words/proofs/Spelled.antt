@@ -1,14 +1,14 @@
 -- The tokens of texts that were written: words, values in parentheses, texts in quotes.
-use Rattle.std.proofs.Common.{◌≡◌, ℕ, zero, suc, ◌+◌, ◌-◌, ◌<◌, List, [], ◌∷◌, ◌++◌, length, take, drop, Bool, true, false, ◌&&◌, ◌||◌, not, Result, Ok, Err, refl, sym, ap, subst, ◌∙◌, arith, add-zero, add-one, length-append, append_assoc}
+use Rattle.std.proofs.Common.{◌≡◌, ℕ, suc, ◌+◌, ◌-◌, ◌<◌, List, [], ◌∷◌, ◌++◌, length, take, drop, Bool, true, false, ◌&&◌, not, Ok, refl, sym, ap, ◌∙◌, arith, add-zero, add-one, length-append, append_assoc}
 use Rattle.std.specs.Prelude.{◌==◌}
 use Rattle.std.specs.List.{list_all}
 use Rattle.std.proofs.lemmas.List.{append-nil}
 use Rattle.std.proofs.Math.Seq.{take-append_seam, take-length, drop-append_seam, drop-length}
 use Rattle.std.proofs.lemmas.Bool.Decides.{nat_tests}
 use Rattle.command_words.specs.declared.quoting.Quoting.{Quoting}
-use Rattle.command_words.specs.declared.quoting.Quoting.TheVariants.{Ignored, Outside, Inside, Met}
-use Rattle.command_words.specs.Quotes.{after, hides, word_len, doubled}
-use Rattle.command_words.specs.Tokens.{Token, Word, Group, within, group_end, depth_after, tokens_from, word_then}
+use Rattle.command_words.specs.declared.quoting.Quoting.TheVariants.{Outside, Inside}
+use Rattle.command_words.specs.Quotes.{after, word_len, doubled}
+use Rattle.command_words.specs.Tokens.{Word, Group, within, group_end, tokens_from, word_then}
 use Rattle.command_words.proofs.Letters.{is_letter, letter-gap, letter-open, letter-close, letter-quote, both_first, both_second, IsSteady, EndsWord, word_len-letters}
 use Rattle.command_words.proofs.Skips.{grouped-ok, worded-at}
 
@@ -24,9 +24,9 @@ word_token q s tied p b w rest h e =
     let whole : take (length w + 1) (b ∷ (w ++ rest)) ≡ b ∷ w = rw (add-one, take-append_seam) refl in
     let first : tokens_from q tied 0 p (b ∷ (w ++ rest)) ≡ word_then q b p (w ++ rest) = rw (letter-gap b letter, letter-close b letter, letter-open b letter) refl in
     first ∙ worded-at q b p (length w) (w ++ rest) measured
-        ∙ ap (λ v. Word p v ∷ tokens_from q true 0 (p + 1 + length w) (drop (length w) (w ++ rest))) whole
-        ∙ ap (λ n. Word p (b ∷ w) ∷ tokens_from q true 0 n (drop (length w) (w ++ rest))) next
-        ∙ ap (λ bs. Word p (b ∷ w) ∷ tokens_from q true 0 (p + length (b ∷ w)) bs) (drop-append_seam w rest)
+    ∙ ap (λ v. Word p v ∷ tokens_from q true 0 (p + 1 + length w) (drop (length w) (w ++ rest))) whole
+    ∙ ap (λ n. Word p (b ∷ w) ∷ tokens_from q true 0 n (drop (length w) (w ++ rest))) next
+    ∙ ap (λ bs. Word p (b ∷ w) ∷ tokens_from q true 0 (p + length (b ∷ w)) bs) (drop-append_seam w rest)
 
 -- a value in parentheses, where the one that closes it is known
 pub group_token : (q : Quoting) (tied : Bool) (p : ℕ) (inside rest : List ℕ) → group_end p Outside 0 (suc p) (inside ++ 41 ∷ rest) ≡ Ok (suc p + length inside)
@@ -39,13 +39,13 @@ group_token q tied p inside rest bounded =
     let next : suc p + length inside + 1 ≡ p + length inside + 2 = omega arith in
     let held : take (suc p + length inside - p - 1) (inside ++ 41 ∷ rest) ≡ inside = rw count (take-append_seam inside (41 ∷ rest)) in
     let left : drop (suc p + length inside - p) (inside ++ 41 ∷ rest) ≡ rest =
-        rw count' (ap (λ bs. drop (length inside + 1) bs) (sym (append_assoc inside (41 ∷ []) rest))
-            ∙ ap (λ n. drop n ((inside ++ 41 ∷ []) ++ rest)) (sym (length-append inside (41 ∷ [])))
-            ∙ drop-append_seam (inside ++ 41 ∷ []) rest) in
+    rw count' (ap (λ bs. drop (length inside + 1) bs) (sym (append_assoc inside (41 ∷ []) rest))
+    ∙ ap (λ n. drop n ((inside ++ 41 ∷ []) ++ rest)) (sym (length-append inside (41 ∷ [])))
+    ∙ drop-append_seam (inside ++ 41 ∷ []) rest) in
     grouped-ok q tied p (suc p + length inside) (inside ++ 41 ∷ rest) closed above
-        ∙ ap (λ bs. Group tied p (within p bs) ∷ tokens_from q false 0 (suc p + length inside + 1) (drop (suc p + length inside - p) (inside ++ 41 ∷ rest))) held
-        ∙ ap (λ bs. Group tied p (within p inside) ∷ tokens_from q false 0 (suc p + length inside + 1) bs) left
-        ∙ ap (λ n. Group tied p (within p inside) ∷ tokens_from q false 0 n rest) next
+    ∙ ap (λ bs. Group tied p (within p bs) ∷ tokens_from q false 0 (suc p + length inside + 1) (drop (suc p + length inside - p) (inside ++ 41 ∷ rest))) held
+    ∙ ap (λ bs. Group tied p (within p inside) ∷ tokens_from q false 0 (suc p + length inside + 1) bs) left
+    ∙ ap (λ n. Group tied p (within p inside) ∷ tokens_from q false 0 n rest) next
 
 -- bytes that neither quotes nor parentheses are
 abbrev pub is_calm : ℕ → Bool
@@ -69,7 +69,7 @@ group_end-calm outer p (b ∷ inside) rest h =
     let calm : is_calm b ≡ true = both_first _ _ h in
     let next : suc p + length inside ≡ p + length (b ∷ inside) = omega arith in
     rw (calm-quote b calm, calm-open b calm, calm-close b calm)
-        (group_end-calm outer (suc p) inside rest (both_second _ _ h) ∙ ap Ok next)
+    (group_end-calm outer (suc p) inside rest (both_second _ _ h) ∙ ap Ok next)
 
 -- through the text between quotes, and past its closing quote
 group_end-one : (outer open_at p b : ℕ) (t rest : List ℕ) (c : Bool) → (b == 39) ≡ c
@@ -93,7 +93,7 @@ pub group_end-quoted : (outer p : ℕ) (t rest : List ℕ) → group_end outer O
 group_end-quoted outer p t rest =
     let next : suc p + length (doubled t) + 1 ≡ p + length (quoted t) = omega (arith, length-append (doubled t) (39 ∷ [])) in
     ap (λ bs. group_end outer (Inside p) 0 (suc p) bs) (append_assoc (doubled t) (39 ∷ []) (41 ∷ rest))
-        ∙ group_end-inside outer p (suc p) t rest ∙ ap Ok next
+    ∙ group_end-inside outer p (suc p) t rest ∙ ap Ok next
 
 -- a word of a value that is a text in quotes goes to its closing quote
 word_len-one : (open_at p b : ℕ) (t : List ℕ) (c : Bool) → (b == 39) ≡ c
@@ -111,8 +111,8 @@ quoted_token tied p t =
     let measured : length (doubled t ++ 39 ∷ []) ≡ word_len (after Outside p 39) (p + 1) (doubled t ++ 39 ∷ []) = sym (word_len-inside p (p + 1) t) in
     let whole : take (length (doubled t ++ 39 ∷ []) + 1) (quoted t) ≡ quoted t = rw (add-one, take-length) refl in
     worded-at Outside 39 p (length (doubled t ++ 39 ∷ [])) (doubled t ++ 39 ∷ []) measured
-        ∙ ap (λ v. Word p v ∷ tokens_from Outside true 0 (p + 1 + length (doubled t ++ 39 ∷ [])) (drop (length (doubled t ++ 39 ∷ [])) (doubled t ++ 39 ∷ []))) whole
-        ∙ ap (λ bs. Word p (quoted t) ∷ tokens_from Outside true 0 (p + 1 + length (doubled t ++ 39 ∷ [])) bs) (drop-length (doubled t ++ 39 ∷ []))
+    ∙ ap (λ v. Word p v ∷ tokens_from Outside true 0 (p + 1 + length (doubled t ++ 39 ∷ [])) (drop (length (doubled t ++ 39 ∷ [])) (doubled t ++ 39 ∷ []))) whole
+    ∙ ap (λ bs. Word p (quoted t) ∷ tokens_from Outside true 0 (p + 1 + length (doubled t ++ 39 ∷ [])) bs) (drop-length (doubled t ++ 39 ∷ []))
 
 -- a word alone
 pub word_alone : (q : Quoting) → IsSteady q → (tied : Bool) (p b : ℕ) (w : List ℕ) → list_all is_letter (b ∷ w) ≡ true → tokens_from q tied 0 p (b ∷ w) ≡ Word p (b ∷ w) ∷ []

@@ -2,7 +2,7 @@
 use Rattle.std.proofs.Common.{◌≡◌, ℕ, List, [], ◌∷◌, true, false, refl}
 use Rattle.std.specs.Prelude.{codes}
 use Rattle.command_words.specs.declared.quoting.Quoting.TheVariants.{Ignored, Outside}
-use Rattle.command_words.specs.Tokens.{Unread, Token, Word, Group, Open, Close, within, tokens, tokens_from}
+use Rattle.command_words.specs.Tokens.{Token, Word, Group, Open, Close, within, tokens_from}
 
 abbrev of_command : List ℕ → List Token
 of_command bytes = tokens_from Ignored false 0 1 bytes

@@ -1,7 +1,6 @@
 -- The pieces that the code reads, as tokens.
-use Rattle.std.specs.Prelude.{◌≡◌, List, [], ◌∷◌, Option, None, Some, MatchOption}
+use Rattle.std.specs.Prelude.{◌≡◌, List, [], ◌∷◌, Option, MatchOption}
 use Rattle.command_words.specs.declared.tokens.Piece.{Piece}
-use Rattle.command_words.specs.declared.tokens.Tokens.{Tokens}
 use Rattle.command_words.specs.declared.tokens.Piece.TheVariants as piece
 use Rattle.command_words.specs.declared.items.Item as item
 use Rattle.command_words.specs.declared.items.Item.TheVariants as found

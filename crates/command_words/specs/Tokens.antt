@@ -1,8 +1,8 @@
 -- The words and values of a text, each with its place. Places count the bytes of the command's text from 1.
-use Rattle.std.specs.Prelude.{◌≡◌, ℕ, ◌+◌, ◌-◌, zero, suc, List, [], ◌∷◌, Bool, true, false, ◌||◌, ◌&&◌, not, ◌==◌, if◌then◌else◌, Result, Ok, Err, take, length, ◌<◌, ◌^◌}
+use Rattle.std.specs.Prelude.{◌≡◌, ℕ, ◌+◌, ◌-◌, zero, suc, List, [], ◌∷◌, Bool, true, false, ◌&&◌, not, ◌==◌, if◌then◌else◌, Result, Ok, Err, take, length, ◌<◌, ◌^◌}
 use Rattle.command_words.specs.declared.quoting.Quoting.{Quoting}
 use Rattle.command_words.specs.declared.quoting.Quoting.TheVariants.{Ignored, Outside, Inside, Met}
-use Rattle.command_words.specs.Bytes.{is_blank_byte, is_gap_byte, is_word_byte}
+use Rattle.command_words.specs.Bytes.{is_blank_byte, is_gap_byte}
 use Rattle.command_words.specs.Quotes.{after, hides, word_len}
 
 -- A text that is still to be read: how quotes count at the front of its words, whether it begins behind a word with

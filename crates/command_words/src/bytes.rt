@@ -35,5 +35,9 @@ pub fn is_faulty(byte: u8) -> bool
 pub fn folded(byte: u8) -> u8
     ensures { result ≡ upper byte }
 {
-    if byte >= b'a' && byte <= b'z' { byte - 32 } else { byte }
+    if byte >= b'a' && byte <= b'z' {
+        byte - 32
+    } else {
+        byte
+    }
 }

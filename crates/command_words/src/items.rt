@@ -91,7 +91,10 @@ pub fn is_spelled(word: &[u8], spelling: &[u8]) -> bool
     ensures { result ≡ bytes_eq (map upper word.now) spelling.now }
 {
     let (mut word, mut spelling) = (word, spelling);
-    while let (Some((byte, left)), Some((letter, behind))) = (word.split_first(), spelling.split_first()) {
+    while let (Some((byte, left)), Some((letter, behind))) = (
+        word.split_first(),
+        spelling.split_first(),
+    ) {
         if folded(*byte) != *letter {
             return false;
         }
@@ -106,7 +109,10 @@ pub fn is_cut(word: &[u8], spelling: &[u8]) -> bool
     ensures { result ≡ starts_with nat_eq spelling.now (map upper word.now) }
 {
     let (mut word, mut spelling) = (word, spelling);
-    while let (Some((byte, left)), Some((letter, behind))) = (word.split_first(), spelling.split_first()) {
+    while let (Some((byte, left)), Some((letter, behind))) = (
+        word.split_first(),
+        spelling.split_first(),
+    ) {
         if folded(*byte) != *letter {
             return false;
         }

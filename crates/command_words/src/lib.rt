@@ -8,7 +8,6 @@ mod scan;
 mod short_word;
 mod tokens;
 
-pub use bytes::{folded, is_faulty};
 pub use items::{Item, faulty_at, is_cut, is_spelled};
 pub use quoting::Quoting;
 pub use short_word::ShortWord;

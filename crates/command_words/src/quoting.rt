@@ -26,11 +26,15 @@ impl Quoting {
     pub fn after(self, place: u32, byte: u8) -> Quoting
         ensures { result ≡ after self place byte }
     {
+        let is_quote = byte == b'\'';
         match self {
             Quoting::Ignored => Quoting::Ignored,
-            Quoting::Outside => if byte == b'\'' { Quoting::Inside(place) } else { Quoting::Outside },
-            Quoting::Inside(open) => if byte == b'\'' { Quoting::Met(open) } else { Quoting::Inside(open) },
-            Quoting::Met(open) => if byte == b'\'' { Quoting::Inside(open) } else { Quoting::Outside },
+            Quoting::Outside if is_quote => Quoting::Inside(place),
+            Quoting::Outside => Quoting::Outside,
+            Quoting::Inside(open) if is_quote => Quoting::Met(open),
+            Quoting::Inside(open) => Quoting::Inside(open),
+            Quoting::Met(open) if is_quote => Quoting::Inside(open),
+            Quoting::Met(_) => Quoting::Outside,
         }
     }
 

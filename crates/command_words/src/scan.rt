@@ -9,7 +9,12 @@ use crate::bytes::{is_gap, is_word};
 use crate::quoting::Quoting;
 
 /// The text without the separators in front: whether it is still tied to the word before, its place, its bytes.
-pub fn past_gaps(quoting: Quoting, mut tied: bool, mut place: u32, mut bytes: &[u8]) -> (bool, u32, &[u8])
+pub fn past_gaps(
+    quoting: Quoting,
+    mut tied: bool,
+    mut place: u32,
+    mut bytes: &[u8],
+) -> (bool, u32, &[u8])
     requires { place + length bytes.now < 2 ^ 30 }
     ensures same { tokens_from quoting result.0 0 result.1 result.2.now ≡ tokens_from quoting tied 0 place bytes.now }
     ensures reach { result.1 + length result.2.now ≡ place + length bytes.now }

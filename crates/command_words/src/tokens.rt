@@ -69,7 +69,12 @@ impl<'a> Tokens<'a> {
 }
 
 /// The piece that begins at the first byte, which parts no words.
-fn piece_at<'a>(quoting: Quoting, tied: bool, place: u32, bytes: &'a [u8]) -> Option<(Piece<'a>, Tokens<'a>)>
+fn piece_at<'a>(
+    quoting: Quoting,
+    tied: bool,
+    place: u32,
+    bytes: &'a [u8],
+) -> Option<(Piece<'a>, Tokens<'a>)>
     requires reach { place + length bytes.now < 2 ^ 30 }
     requires begins { BeginsWithNoGap bytes.now }
     ensures { PieceAt result (tokens_from quoting tied 0 place bytes.now) }
@@ -137,7 +142,13 @@ fn group<'a>(quoting: Quoting, tied: bool, place: u32, rest: &'a [u8]) -> (Piece
 
 /// A word that begins with `byte`, behind which `rest` stands; both are `bytes`.
 #[tactic(auto, unfolding(crate::specs::Tokens::tokens))]
-fn word<'a>(quoting: Quoting, place: u32, byte: u8, rest: &'a [u8], bytes: &'a [u8]) -> (Piece<'a>, Tokens<'a>)
+fn word<'a>(
+    quoting: Quoting,
+    place: u32,
+    byte: u8,
+    rest: &'a [u8],
+    bytes: &'a [u8],
+) -> (Piece<'a>, Tokens<'a>)
     requires reach { place + length rest.now + 1 < 2 ^ 30 }
     requires same { bytes.now ≡ byte ∷ rest.now }
     ensures tokens { word_then quoting byte place rest.now ≡ seen result.0 ∷ tokens result.1 }

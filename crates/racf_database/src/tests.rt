@@ -74,79 +74,52 @@ fn named(text: &[u8]) -> Result<Id, Fail> {
     Ok(Id::read(text).ok().ok_or("name")?)
 }
 
+/// A command, and what it is refused for: the number of the conflict and the name in it, or 0 and nothing.
+struct Row {
+    text: &'static [u8],
+    number: u8,
+    name: &'static [u8],
+}
+
+/// A run of commands, in which each conflict comes.
+const ROWS: [Row; 29] = [
+    Row { text: b"AG A OWNER(SYS1)", number: 0, name: b"" },
+    Row { text: b"AG B SUPGROUP(A) OWNER(A)", number: 0, name: b"" },
+    Row { text: b"ALG A SUPGROUP(B) OWNER(B)", number: 9, name: b"A" },
+    Row { text: b"DG A", number: 8, name: b"B" },
+    Row { text: b"AU JOE DFLTGRP(B)", number: 0, name: b"" },
+    Row { text: b"DG B", number: 8, name: b"JOE" },
+    Row { text: b"RE JOE GROUP(B)", number: 14, name: b"B" },
+    Row { text: b"RE JOE GROUP(A)", number: 6, name: b"A" },
+    Row { text: b"AU JOE", number: 5, name: b"JOE" },
+    Row { text: b"AU ANN OWNER(BOB) DFLTGRP(C)", number: 1, name: b"BOB" },
+    Row { text: b"AU ANN DFLTGRP(C) CLAUTH(USER NONE)", number: 2, name: b"C" },
+    Row { text: b"AU ANN CLAUTH(USER FACILITY NONE)", number: 4, name: b"NONE" },
+    Row { text: b"AU ANN SECLEVEL(TOP)", number: 16, name: b"TOP" },
+    Row { text: b"AU ANN ADDCATEGORY(RED)", number: 16, name: b"RED" },
+    Row { text: b"AU ANN SECLABEL(L1)", number: 16, name: b"L1" },
+    Row { text: b"ALU JOE DELCATEGORY(RED)", number: 16, name: b"RED" },
+    Row { text: b"ALU IBMUSER NOSPECIAL", number: 15, name: b"IBMUSER" },
+    Row { text: b"ALU IBMUSER REVOKE", number: 15, name: b"IBMUSER" },
+    Row { text: b"DU IBMUSER", number: 15, name: b"IBMUSER" },
+    Row { text: b"AG C SUPGROUP(B) OWNER(A)", number: 10, name: b"A" },
+    Row { text: b"ALG SYS1 OWNER(A)", number: 10, name: b"A" },
+    Row { text: b"CO JOE GROUP(A) AUTHORITY(JOIN) SPECIAL", number: 0, name: b"" },
+    Row { text: b"CO JOE GROUP(A) OPERATIONS REVOKE", number: 0, name: b"" },
+    Row { text: b"ALU JOE DFLTGRP(A) SECLABEL(SYSHIGH) CLAUTH(FACILITY)", number: 0, name: b"" },
+    Row { text: b"RE JOE GROUP(B)", number: 0, name: b"" },
+    Row { text: b"ALG B SUPGROUP(SYS1) OWNER(JOE)", number: 0, name: b"" },
+    Row { text: b"DG B", number: 0, name: b"" },
+    Row { text: b"DG SYS1", number: 7, name: b"" },
+    Row { text: b"ALG SYS1 SUPGROUP(A)", number: 7, name: b"" },
+];
+
 #[test]
 fn each_conflict(rt: HostRuntime) -> Result<(), Fail> {
-    let rows = [
-        (b"AG A OWNER(SYS1)".as_slice(), 0, b"".as_slice()),
-        (b"AG B SUPGROUP(A) OWNER(A)".as_slice(), 0, b"".as_slice()),
-        (b"ALG A SUPGROUP(B) OWNER(B)".as_slice(), 9, b"A".as_slice()),
-        (b"DG A".as_slice(), 8, b"B".as_slice()),
-        (b"AU JOE DFLTGRP(B)".as_slice(), 0, b"".as_slice()),
-        (b"DG B".as_slice(), 8, b"JOE".as_slice()),
-        (b"RE JOE GROUP(B)".as_slice(), 14, b"B".as_slice()),
-        (b"RE JOE GROUP(A)".as_slice(), 6, b"A".as_slice()),
-        (b"AU JOE".as_slice(), 5, b"JOE".as_slice()),
-        (
-            b"AU ANN OWNER(BOB) DFLTGRP(C)".as_slice(),
-            1,
-            b"BOB".as_slice(),
-        ),
-        (
-            b"AU ANN DFLTGRP(C) CLAUTH(USER NONE)".as_slice(),
-            2,
-            b"C".as_slice(),
-        ),
-        (
-            b"AU ANN CLAUTH(USER FACILITY NONE)".as_slice(),
-            4,
-            b"NONE".as_slice(),
-        ),
-        (b"AU ANN SECLEVEL(TOP)".as_slice(), 16, b"TOP".as_slice()),
-        (b"AU ANN ADDCATEGORY(RED)".as_slice(), 16, b"RED".as_slice()),
-        (b"AU ANN SECLABEL(L1)".as_slice(), 16, b"L1".as_slice()),
-        (
-            b"ALU JOE DELCATEGORY(RED)".as_slice(),
-            16,
-            b"RED".as_slice(),
-        ),
-        (
-            b"ALU IBMUSER NOSPECIAL".as_slice(),
-            15,
-            b"IBMUSER".as_slice(),
-        ),
-        (b"ALU IBMUSER REVOKE".as_slice(), 15, b"IBMUSER".as_slice()),
-        (b"DU IBMUSER".as_slice(), 15, b"IBMUSER".as_slice()),
-        (b"AG C SUPGROUP(B) OWNER(A)".as_slice(), 10, b"A".as_slice()),
-        (b"ALG SYS1 OWNER(A)".as_slice(), 10, b"A".as_slice()),
-        (
-            b"CO JOE GROUP(A) AUTHORITY(JOIN) SPECIAL".as_slice(),
-            0,
-            b"".as_slice(),
-        ),
-        (
-            b"CO JOE GROUP(A) OPERATIONS REVOKE".as_slice(),
-            0,
-            b"".as_slice(),
-        ),
-        (
-            b"ALU JOE DFLTGRP(A) SECLABEL(SYSHIGH) CLAUTH(FACILITY)".as_slice(),
-            0,
-            b"".as_slice(),
-        ),
-        (b"RE JOE GROUP(B)".as_slice(), 0, b"".as_slice()),
-        (
-            b"ALG B SUPGROUP(SYS1) OWNER(JOE)".as_slice(),
-            0,
-            b"".as_slice(),
-        ),
-        (b"DG B".as_slice(), 0, b"".as_slice()),
-        (b"DG SYS1".as_slice(), 7, b"".as_slice()),
-        (b"ALG SYS1 SUPGROUP(A)".as_slice(), 7, b"".as_slice()),
-    ];
     let mut database = Database::new(rt.alloc())?;
-    for (text, number, name) in rows {
-        let answer = give(rt.alloc(), &mut database, text)?;
-        assert!(rt; is_answer(&answer, number, name));
+    for row in &ROWS {
+        let answer = give(rt.alloc(), &mut database, row.text)?;
+        assert!(rt; is_answer(&answer, row.number, row.name));
     }
     let joe = database.user(named(b"JOE")?).ok_or("JOE")?;
     assert!(rt; is_left(joe));

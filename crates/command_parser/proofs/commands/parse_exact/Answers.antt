@@ -11,4 +11,4 @@ pub invariant_of-result : goal.invariant_of-result
 invariant_of-result c =
     let short : length c.in_ok-canonical.canonical.items ≤ 30000 = omega (arith, c.in_ok-canonical.canonical.ok.0) in
     written c.form-form.result (generic c.in_ok-parts.parts) c.in_ok-canonical.canonical.items c.form-form.ensures c.in_ok-canonical.ensures short
-        (read_lawful c.args.at.now c.args.text.now (generic c.in_ok-parts.parts) c.in_ok-parts.ensures)
+    (read_lawful c.args.at.now c.args.text.now (generic c.in_ok-parts.parts) c.in_ok-parts.ensures)

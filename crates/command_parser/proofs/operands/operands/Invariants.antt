@@ -7,7 +7,7 @@ use Rattle.command_parser.proofs.operands.operands.Given as goal
 abbrev pub invariant-loop-item : goal.invariant-loop-item
 invariant-loop-item l = record {
   same : operands_at l.at l.rows l.slots.items (items (tokens l.left)) ≡ operands_at l.at l.rows (no_slots l.rows) (items (tokens l.fn.text));
-  slots : length l.slots.items ≡ length l.rows
+  slots : length l.slots.items ≡ length l.rows;
 }
 
 abbrev pub decreases-loop-item : goal.decreases-loop-item

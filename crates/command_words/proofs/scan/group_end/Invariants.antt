@@ -8,7 +8,7 @@ invariant-loop-byte l = record {
   same : group_end l.outer l.quoting l.depth l.place l.rest ≡ group_end l.outer Outside 0 (l.outer + 1) l.bytes;
   reach : l.place + length l.rest ≡ l.outer + 1 + length l.bytes;
   behind : l.outer + 1 ≤ l.place;
-  depth : l.depth ≤ l.place
+  depth : l.depth ≤ l.place;
 }
 
 abbrev pub decreases-loop-byte : goal.decreases-loop-byte

@@ -6,7 +6,7 @@ abbrev pub invariant-loop-byte : goal.invariant-loop-byte
 invariant-loop-byte l = record {
   same : l.count + word_len l.quoting l.place l.rest ≡ word_len l.fn.quoting l.fn.place l.bytes;
   place : l.place ≡ l.fn.place + l.count;
-  reach : l.count + length l.rest ≡ length l.bytes
+  reach : l.count + length l.rest ≡ length l.bytes;
 }
 
 abbrev pub decreases-loop-byte : goal.decreases-loop-byte

@@ -7,4 +7,4 @@ pub returns-in-Ok-clause-tokens : goal.returns-in-Ok-clause-tokens
 unfolding tokens
 returns-in-Ok-clause-tokens c =
     rw (c.front.ensures, c.behind.ensures, add-one c.args.place)
-        (grouped-ok c.args.quoting c.args.tied c.args.place c.in-Ok.end c.args.rest.now c.in-Ok.ensures.value c.in-Ok.ensures.within.0)
+    (grouped-ok c.args.quoting c.args.tied c.args.place c.in-Ok.end c.args.rest.now c.in-Ok.ensures.value c.in-Ok.ensures.within.0)

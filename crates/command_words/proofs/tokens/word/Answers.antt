@@ -6,4 +6,4 @@ pub returns-clause-tokens : goal.returns-clause-tokens
 unfolding tokens
 returns-clause-tokens c =
     rw (c.front.ensures, c.behind.ensures, c.requires.same)
-        (worded-at c.args.quoting c.args.byte c.args.place c.word_len-letters.result c.args.rest.now (rw (← c.after.ensures) c.word_len-letters.ensures.value))
+    (worded-at c.args.quoting c.args.byte c.args.place c.word_len-letters.result c.args.rest.now (rw (← c.after.ensures) c.word_len-letters.ensures.value))

@@ -83,35 +83,151 @@ struct Row {
 
 /// A run of commands, in which each conflict comes.
 const ROWS: [Row; 29] = [
-    Row { text: b"AG A OWNER(SYS1)", number: 0, name: b"" },
-    Row { text: b"AG B SUPGROUP(A) OWNER(A)", number: 0, name: b"" },
-    Row { text: b"ALG A SUPGROUP(B) OWNER(B)", number: 9, name: b"A" },
-    Row { text: b"DG A", number: 8, name: b"B" },
-    Row { text: b"AU JOE DFLTGRP(B)", number: 0, name: b"" },
-    Row { text: b"DG B", number: 8, name: b"JOE" },
-    Row { text: b"RE JOE GROUP(B)", number: 14, name: b"B" },
-    Row { text: b"RE JOE GROUP(A)", number: 6, name: b"A" },
-    Row { text: b"AU JOE", number: 5, name: b"JOE" },
-    Row { text: b"AU ANN OWNER(BOB) DFLTGRP(C)", number: 1, name: b"BOB" },
-    Row { text: b"AU ANN DFLTGRP(C) CLAUTH(USER NONE)", number: 2, name: b"C" },
-    Row { text: b"AU ANN CLAUTH(USER FACILITY NONE)", number: 4, name: b"NONE" },
-    Row { text: b"AU ANN SECLEVEL(TOP)", number: 16, name: b"TOP" },
-    Row { text: b"AU ANN ADDCATEGORY(RED)", number: 16, name: b"RED" },
-    Row { text: b"AU ANN SECLABEL(L1)", number: 16, name: b"L1" },
-    Row { text: b"ALU JOE DELCATEGORY(RED)", number: 16, name: b"RED" },
-    Row { text: b"ALU IBMUSER NOSPECIAL", number: 15, name: b"IBMUSER" },
-    Row { text: b"ALU IBMUSER REVOKE", number: 15, name: b"IBMUSER" },
-    Row { text: b"DU IBMUSER", number: 15, name: b"IBMUSER" },
-    Row { text: b"AG C SUPGROUP(B) OWNER(A)", number: 10, name: b"A" },
-    Row { text: b"ALG SYS1 OWNER(A)", number: 10, name: b"A" },
-    Row { text: b"CO JOE GROUP(A) AUTHORITY(JOIN) SPECIAL", number: 0, name: b"" },
-    Row { text: b"CO JOE GROUP(A) OPERATIONS REVOKE", number: 0, name: b"" },
-    Row { text: b"ALU JOE DFLTGRP(A) SECLABEL(SYSHIGH) CLAUTH(FACILITY)", number: 0, name: b"" },
-    Row { text: b"RE JOE GROUP(B)", number: 0, name: b"" },
-    Row { text: b"ALG B SUPGROUP(SYS1) OWNER(JOE)", number: 0, name: b"" },
-    Row { text: b"DG B", number: 0, name: b"" },
-    Row { text: b"DG SYS1", number: 7, name: b"" },
-    Row { text: b"ALG SYS1 SUPGROUP(A)", number: 7, name: b"" },
+    Row {
+        text: b"AG A OWNER(SYS1)",
+        number: 0,
+        name: b"",
+    },
+    Row {
+        text: b"AG B SUPGROUP(A) OWNER(A)",
+        number: 0,
+        name: b"",
+    },
+    Row {
+        text: b"ALG A SUPGROUP(B) OWNER(B)",
+        number: 9,
+        name: b"A",
+    },
+    Row {
+        text: b"DG A",
+        number: 8,
+        name: b"B",
+    },
+    Row {
+        text: b"AU JOE DFLTGRP(B)",
+        number: 0,
+        name: b"",
+    },
+    Row {
+        text: b"DG B",
+        number: 8,
+        name: b"JOE",
+    },
+    Row {
+        text: b"RE JOE GROUP(B)",
+        number: 14,
+        name: b"B",
+    },
+    Row {
+        text: b"RE JOE GROUP(A)",
+        number: 6,
+        name: b"A",
+    },
+    Row {
+        text: b"AU JOE",
+        number: 5,
+        name: b"JOE",
+    },
+    Row {
+        text: b"AU ANN OWNER(BOB) DFLTGRP(C)",
+        number: 1,
+        name: b"BOB",
+    },
+    Row {
+        text: b"AU ANN DFLTGRP(C) CLAUTH(USER NONE)",
+        number: 2,
+        name: b"C",
+    },
+    Row {
+        text: b"AU ANN CLAUTH(USER FACILITY NONE)",
+        number: 4,
+        name: b"NONE",
+    },
+    Row {
+        text: b"AU ANN SECLEVEL(TOP)",
+        number: 16,
+        name: b"TOP",
+    },
+    Row {
+        text: b"AU ANN ADDCATEGORY(RED)",
+        number: 16,
+        name: b"RED",
+    },
+    Row {
+        text: b"AU ANN SECLABEL(L1)",
+        number: 16,
+        name: b"L1",
+    },
+    Row {
+        text: b"ALU JOE DELCATEGORY(RED)",
+        number: 16,
+        name: b"RED",
+    },
+    Row {
+        text: b"ALU IBMUSER NOSPECIAL",
+        number: 15,
+        name: b"IBMUSER",
+    },
+    Row {
+        text: b"ALU IBMUSER REVOKE",
+        number: 15,
+        name: b"IBMUSER",
+    },
+    Row {
+        text: b"DU IBMUSER",
+        number: 15,
+        name: b"IBMUSER",
+    },
+    Row {
+        text: b"AG C SUPGROUP(B) OWNER(A)",
+        number: 10,
+        name: b"A",
+    },
+    Row {
+        text: b"ALG SYS1 OWNER(A)",
+        number: 10,
+        name: b"A",
+    },
+    Row {
+        text: b"CO JOE GROUP(A) AUTHORITY(JOIN) SPECIAL",
+        number: 0,
+        name: b"",
+    },
+    Row {
+        text: b"CO JOE GROUP(A) OPERATIONS REVOKE",
+        number: 0,
+        name: b"",
+    },
+    Row {
+        text: b"ALU JOE DFLTGRP(A) SECLABEL(SYSHIGH) CLAUTH(FACILITY)",
+        number: 0,
+        name: b"",
+    },
+    Row {
+        text: b"RE JOE GROUP(B)",
+        number: 0,
+        name: b"",
+    },
+    Row {
+        text: b"ALG B SUPGROUP(SYS1) OWNER(JOE)",
+        number: 0,
+        name: b"",
+    },
+    Row {
+        text: b"DG B",
+        number: 0,
+        name: b"",
+    },
+    Row {
+        text: b"DG SYS1",
+        number: 7,
+        name: b"",
+    },
+    Row {
+        text: b"ALG SYS1 SUPGROUP(A)",
+        number: 7,
+        name: b"",
+    },
 ];
 
 #[test]

@@ -84,16 +84,16 @@ module _ {A : Type 0} (name_of : A → Spelled) (xs : List A) (ordered : IsInOrd
   none-in-gap place e within name gap end named kinds none high below before_it k d low less = ⊎_elim
       (λ (early : k < place). before_it k d low early)
       (λ (late : place ≤ k).
-        let inside : k < length xs = omega arith in
-        none (name_of (get_or xs k d)) (all-at (λ x. IsPattern (name_of x)) xs named k d inside) (all-at (λ x. (name_of x).kind ≡ name.kind) xs kinds k d inside) (behind k d late inside) (below k d late less))
+      let inside : k < length xs = omega arith in
+      none (name_of (get_or xs k d)) (all-at (λ x. IsPattern (name_of x)) xs named k d inside) (all-at (λ x. (name_of x).kind ≡ name.kind) xs kinds k d inside) (behind k d late inside) (below k d late less))
       (cases_lt k place)
     where
       behind : (k : ℕ) (d : A) → place ≤ k → k < length xs → before (name_of (get_or xs k d)) (name_of (get_or xs place e)) ≡ false
       behind k d late inside = ⊎_elim
           (λ (less : place < k). not_both (name_of (get_or xs place e)) (name_of (get_or xs k d)) (subst (λ (x : A). before (name_of x) (name_of (get_or xs k d)) ≡ true) (sym (get_or_default xs place e d within)) (ordered-at name_of xs ordered place k d less inside)))
           (λ (more : k ≤ place). let here : place ≡ k = omega arith in
-            let same : get_or xs place e ≡ get_or xs k d = get_or_default xs place e d within ∙ ap (λ (n : ℕ). get_or xs n d) here in
-            subst (λ (x : A). before (name_of x) (name_of (get_or xs place e)) ≡ false) same (not_before_itself (name_of (get_or xs place e))))
+          let same : get_or xs place e ≡ get_or xs k d = get_or_default xs place e d within ∙ ap (λ (n : ℕ). get_or xs n d) here in
+          subst (λ (x : A). before (name_of x) (name_of (get_or xs place e)) ≡ false) same (not_before_itself (name_of (get_or xs place e))))
           (cases_lt place k)
 
 -- a name before another, or behind it, has another text
@@ -122,19 +122,19 @@ module _ {A : Type 0} (name_of : A → Spelled) (xs : List A) (ordered : IsInOrd
   pub none-before : name_of (get_or xs place e) ≡ name → AllWithin (λ x. bytes_eq (name_of x).text name.text ≡ false) xs 0 place
   none-before here k d low less =
       before-text (name_of (get_or xs k d)) name (all-at (λ x. (name_of x).kind ≡ name.kind) xs kinds k d (omega arith))
-        (subst (λ (n : Spelled). before (name_of (get_or xs k d)) n ≡ true) (ap name_of (get_or_default xs place d e within) ∙ here) (ordered-at name_of xs ordered k place d less within))
+      (subst (λ (n : Spelled). before (name_of (get_or xs k d)) n ≡ true) (ap name_of (get_or_default xs place d e within) ∙ here) (ordered-at name_of xs ordered k place d less within))
 
   pub none-behind : name_of (get_or xs place e) ≡ name → AllWithin (λ x. bytes_eq (name_of x).text name.text ≡ false) xs (place + 1) (length xs)
   none-behind here k d low less =
       behind-text (name_of (get_or xs k d)) name (all-at (λ x. (name_of x).kind ≡ name.kind) xs kinds k d less)
-        (subst (λ (n : Spelled). before n (name_of (get_or xs k d)) ≡ true) (ap name_of (get_or_default xs place d e within) ∙ here) (ordered-at name_of xs ordered place k d (omega arith) less))
+      (subst (λ (n : Spelled). before n (name_of (get_or xs k d)) ≡ true) (ap name_of (get_or_default xs place d e within) ∙ here) (ordered-at name_of xs ordered place k d (omega arith) less))
 
   -- it doesn't have the name, and isn't before it: those behind it don't have it
   pub none-from : bytes_eq (name_of (get_or xs place e)).text name.text ≡ false → before (name_of (get_or xs place e)) name ≡ false → AllWithin (λ x. bytes_eq (name_of x).text name.text ≡ false) xs place (length xs)
   none-from other not_first k d low less = ⊎_elim
       (λ (later : place < k). settled k d later less (bytes_eq (name_of (get_or xs k d)).text name.text) refl)
       (λ (more : k ≤ place). let here : place ≡ k = omega arith in
-        subst (λ (x : A). bytes_eq (name_of x).text name.text ≡ false) (get_or_default xs place e d within ∙ ap (λ (n : ℕ). get_or xs n d) here) other)
+      subst (λ (x : A). bytes_eq (name_of x).text name.text ≡ false) (get_or_default xs place e d within ∙ ap (λ (n : ℕ). get_or xs n d) here) other)
       (cases_lt place k)
     where
       settled : (k : ℕ) (d : A) → place < k → k < length xs → (t : Bool) → bytes_eq (name_of (get_or xs k d)).text name.text ≡ t → t ≡ false
@@ -142,7 +142,7 @@ module _ {A : Type 0} (name_of : A → Spelled) (xs : List A) (ordered : IsInOrd
       settled k d later less true is =
           let same : name_of (get_or xs k d) ≡ name = same_spelled (name_of (get_or xs k d)) name (all-at (λ x. (name_of x).kind ≡ name.kind) xs kinds k d less) ((bytes_eq-Decides (name_of (get_or xs k d)).text name.text).0 is) in
           let first : before (name_of (get_or xs place e)) name ≡ true =
-              subst (λ (x : A). before (name_of x) name ≡ true) (get_or_default xs place d e within) (subst (λ (n : Spelled). before (name_of (get_or xs place d)) n ≡ true) same (ordered-at name_of xs ordered place k d later less)) in
+          subst (λ (x : A). before (name_of x) name ≡ true) (get_or_default xs place d e within) (subst (λ (n : Spelled). before (name_of (get_or xs place d)) n ≡ true) same (ordered-at name_of xs ordered place k d later less)) in
           absurd (cc (first, not_first))
 
 -- halving: the weight stays, and the count stays below twice the number
@@ -163,7 +163,7 @@ pub behind-strict : (p name : Spelled) → IsPattern p → IsPattern name → p.
 behind-strict p name lawful named kind other not_first = ⊎_elim
     (λ (e : p ≡ name). absurd (other e))
     (λ (either : (before p name ≡ true) ⊎ (before name p ≡ true)). ⊎_elim
-      (λ (e : before p name ≡ true). absurd (cc (e, not_first)))
-      (λ (e : before name p ≡ true). e)
-      either)
+    (λ (e : before p name ≡ true). absurd (cc (e, not_first)))
+    (λ (e : before name p ≡ true). e)
+    either)
     (one_is_before p name lawful named kind)

@@ -70,9 +70,10 @@ module _ {A : Type 0} where
     pub order-insert : (xs : List A) (p : ℕ) (y : A) → p ≤ length xs → IsInOrder name_of xs → AllWithin (λ x. before (name_of x) (name_of y) ≡ true) xs 0 p → AllWithin (λ x. before (name_of y) (name_of x) ≡ true) xs p (length xs) → IsInOrder name_of (insert xs p y)
     order-insert xs zero y h ordered below above = (all-from (λ x. before (name_of y) (name_of x) ≡ true) xs above, ordered)
     order-insert [] (suc p) y h ordered below above = absurd (omega arith)
-    order-insert (x ∷ xs) (suc p) y h ordered below above =
-        (all-insert (λ z. before (name_of x) (name_of z) ≡ true) xs p y ordered.0 (below 0 x (omega arith) (omega arith)),
-         order-insert xs p y (omega arith) ordered.1 (front (λ z. before (name_of z) (name_of y) ≡ true) x xs 0 p below (omega arith)) (back (λ z. before (name_of y) (name_of z) ≡ true) x xs p (length xs) above))
+    order-insert (x ∷ xs) (suc p) y h ordered below above = (
+      all-insert (λ z. before (name_of x) (name_of z) ≡ true) xs p y ordered.0 (below 0 x (omega arith) (omega arith)),
+      order-insert xs p y (omega arith) ordered.1 (front (λ z. before (name_of z) (name_of y) ≡ true) x xs 0 p below (omega arith)) (back (λ z. before (name_of y) (name_of z) ≡ true) x xs p (length xs) above),
+    )
 
     pub order-remove : (xs : List A) (p : ℕ) → IsInOrder name_of xs → IsInOrder name_of (remove xs p)
     order-remove [] zero ordered = tt

@@ -116,9 +116,10 @@ removed-apart (s ∷ order) (suc p) apart h =
 -- new numbers that are apart
 apart-map : (f : ℕ → ℕ) (P : ℕ → Type 0) (order : List ℕ) → ((x y : ℕ) → P x → P y → x ≢ y → f x ≢ f y) → AllByRecursion P order → AreApart order → AreApart (map f order)
 apart-map f P [] h all apart = tt
-apart-map f P (s ∷ order) h all apart =
-    (all-map (λ y. P y × (s ≢ y)) (λ y. f s ≢ y) f order (λ y q. h s y all.0 q.0 q.1) (all-both P (λ y. s ≢ y) order all.1 apart.0),
-     apart-map f P order h all.1 apart.1)
+apart-map f P (s ∷ order) h all apart = (
+  all-map (λ y. P y × (s ≢ y)) (λ y. f s ≢ y) f order (λ y q. h s y all.0 q.0 q.1) (all-both P (λ y. s ≢ y) order all.1 apart.0),
+  apart-map f P order h all.1 apart.1,
+)
 
 -- one more entry
 module _ {A : Type 0} (slots : List A) (order : List ℕ) (kept : IsKept slots order) (e : A) (p : ℕ) (within : p ≤ length order) where
@@ -169,6 +170,7 @@ module _ {A : Type 0} (slots others : List A) (order : List ℕ) (kept : IsKept 
     where
       some : (x : A) × (slice_get slots s ≡ Some x)
       some = some-get slots s h.0
+
       settled : (t : Bool) → eqb s (length others) ≡ t → slice_get others (cond t slot s) ≡ slice_get slots s
       settled true is =
           let same : s ≡ length others = grind (arith, nat_tests) in
@@ -207,7 +209,7 @@ entry-at slots order kept place slot x within is_slot is =
     let same : slot ≡ get_or order place 0 = is_slot ∙ get_or_default order place slot 0 within in
     let low : get_or order place 0 < length slots = all-at (λ s. s < length slots) order kept.there place 0 within in
     get-in_slots slots order kept.there place within x
-      (slice_get-at slots (get_or order place 0) x low ∙ ap (λ (y : _). Some y) (ap (λ (s : ℕ). get_or slots s x) (sym same) ∙ sym is))
+    (slice_get-at slots (get_or order place 0) x low ∙ ap (λ (y : _). Some y) (ap (λ (s : ℕ). get_or slots s x) (sym same) ∙ sym is))
 
 pub value-at : {A : Type 0} (xs : List A) (k : ℕ) (x : A) → slice_get xs k ≡ Some x → x ≡ get_or xs k x
 value-at xs k x h = (get-some xs k x h).1

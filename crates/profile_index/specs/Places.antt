@@ -7,7 +7,7 @@ module _ {A : Type 0} (test : A → Bool) (xs : List A) where
   abbrev pub IsFirst : Option ℕ → Type 0
   IsFirst answer =
       MatchOption answer (AllWithin (λ x. test x ≡ false) xs 0 (length xs))
-        (λ place. (place < length xs) × AllWithin (λ x. test x ≡ false) xs 0 place × ((d : A) → test (get_or xs place d) ≡ true))
+      (λ place. (place < length xs) × AllWithin (λ x. test x ≡ false) xs 0 place × ((d : A) → test (get_or xs place d) ≡ true))
 
   -- and none behind it passes
   abbrev pub IsOnly : Option ℕ → Type 0

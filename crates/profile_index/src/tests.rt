@@ -53,11 +53,7 @@ fn part(number: u32, generic: bool) -> &'static [u8] {
 }
 
 /// A random name of one to four qualifiers.
-fn random_text(
-    alloc: Global,
-    numbers: &mut Numbers,
-    generic: bool,
-) -> Result<Vec<u8>, NoMemory> {
+fn random_text(alloc: Global, numbers: &mut Numbers, generic: bool) -> Result<Vec<u8>, NoMemory> {
     let mut text = Vec::new(alloc);
     for k in 0..numbers.below(4) + 1 {
         if k > 0 {
@@ -72,7 +68,9 @@ fn random_text(
 fn scanned(index: &Index<u32>, name: &Resource) -> Option<usize> {
     let mut best: Option<usize> = None;
     for place in 0..index.len() {
-        if covers_at(index, place, name) && best.is_none_or(|other| is_before(index, place, other)) {
+        if covers_at(index, place, name)
+            && best.is_none_or(|other| is_before(index, place, other))
+        {
             best = Some(place);
         }
     }
@@ -103,7 +101,12 @@ fn is_before(index: &Index<u32>, place: usize, other: usize) -> bool {
 }
 
 /// How many of some random names are found as a scan finds them.
-fn count_alike(alloc: Global, numbers: &mut Numbers, index: &Index<u32>, names: u32) -> Result<u32, NoMemory>
+fn count_alike(
+    alloc: Global,
+    numbers: &mut Numbers,
+    index: &Index<u32>,
+    names: u32,
+) -> Result<u32, NoMemory>
     requires { AreOf General index.now.entries }
 {
     let mut alike = 0u32;

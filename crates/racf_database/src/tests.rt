@@ -232,90 +232,11 @@ const ROWS: [Row; 29] = [
 
 #[test]
 fn each_conflict(rt: HostRuntime) -> Result<(), Fail> {
-<<<<<<< HEAD
-    let rows = [
-        (b"AG A OWNER(SYS1)".as_slice(), None),
-        (b"AG B SUPGROUP(A) OWNER(A)".as_slice(), None),
-        (
-            b"ALG A SUPGROUP(B) OWNER(B)".as_slice(),
-            Some((9, b"A".as_slice())),
-        ),
-        (b"DG A".as_slice(), Some((8, b"B".as_slice()))),
-        (b"AU JOE DFLTGRP(B)".as_slice(), None),
-        (b"DG B".as_slice(), Some((18, b"JOE".as_slice()))),
-        (b"RE JOE GROUP(B)".as_slice(), Some((14, b"B".as_slice()))),
-        (b"RE JOE GROUP(A)".as_slice(), Some((6, b"A".as_slice()))),
-        (b"AU JOE".as_slice(), Some((5, b"JOE".as_slice()))),
-        (
-            b"AU ANN OWNER(BOB) DFLTGRP(C)".as_slice(),
-            Some((1, b"BOB".as_slice())),
-        ),
-        (
-            b"AU ANN DFLTGRP(C) CLAUTH(USER NONE)".as_slice(),
-            Some((2, b"C".as_slice())),
-        ),
-        (
-            b"AU ANN CLAUTH(USER FACILITY NONE)".as_slice(),
-            Some((4, b"NONE".as_slice())),
-        ),
-        (
-            b"AU ANN SECLEVEL(TOP)".as_slice(),
-            Some((16, b"TOP".as_slice())),
-        ),
-        (
-            b"AU ANN ADDCATEGORY(RED)".as_slice(),
-            Some((16, b"RED".as_slice())),
-        ),
-        (
-            b"AU ANN SECLABEL(L1)".as_slice(),
-            Some((16, b"L1".as_slice())),
-        ),
-        (
-            b"ALU JOE DELCATEGORY(RED)".as_slice(),
-            Some((16, b"RED".as_slice())),
-        ),
-        (
-            b"ALU IBMUSER NOSPECIAL".as_slice(),
-            Some((15, b"IBMUSER".as_slice())),
-        ),
-        (
-            b"ALU IBMUSER REVOKE".as_slice(),
-            Some((15, b"IBMUSER".as_slice())),
-        ),
-        (b"DU IBMUSER".as_slice(), Some((15, b"IBMUSER".as_slice()))),
-        (
-            b"AG C SUPGROUP(B) OWNER(A)".as_slice(),
-            Some((10, b"A".as_slice())),
-        ),
-        (b"ALG SYS1 OWNER(A)".as_slice(), Some((10, b"A".as_slice()))),
-        (b"CO JOE GROUP(A) AUTHORITY(JOIN) SPECIAL".as_slice(), None),
-        (b"CO JOE GROUP(A) OPERATIONS REVOKE".as_slice(), None),
-        (
-            b"ALU JOE DFLTGRP(A) SECLABEL(SYSHIGH) CLAUTH(FACILITY)".as_slice(),
-            None,
-        ),
-        (b"RE JOE GROUP(B)".as_slice(), None),
-        (b"ALG B SUPGROUP(SYS1) OWNER(JOE)".as_slice(), None),
-        (b"DG B".as_slice(), None),
-    ];
-=======
->>>>>>> hub/database
     let mut database = Database::new(rt.alloc())?;
     for row in &ROWS {
         let answer = give(rt.alloc(), &mut database, row.text)?;
         assert!(rt; is_answer(&answer, row.number, row.name));
     }
-<<<<<<< HEAD
-    assert_eq!(rt;
-        give(rt.alloc(), &mut database, b"DG SYS1")?.map(seen),
-        Some((7, None))
-    );
-    assert_eq!(rt;
-        give(rt.alloc(), &mut database, b"ALG SYS1 SUPGROUP(A)")?.map(seen),
-        Some((7, None))
-    );
-=======
->>>>>>> hub/database
     let joe = database.user(named(b"JOE")?).ok_or("JOE")?;
     assert!(rt; is_left(joe));
     assert!(rt; database.group(named(b"B")?).is_none());
@@ -335,8 +256,6 @@ fn is_left(joe: &User) -> bool {
             && one.operations
             && !one.auditor
             && one.revoked,
-<<<<<<< HEAD
-=======
         _ => false,
     }
 }
@@ -345,7 +264,6 @@ fn is_left(joe: &User) -> bool {
 fn is_full(answer: &Option<Conflict>, kind: Kind, limit: u64) -> bool {
     match answer {
         Some(Conflict::Full(full, count)) => *full == kind && *count == limit,
->>>>>>> hub/database
         _ => false,
     }
 }
@@ -357,52 +275,34 @@ fn the_limits(rt: HostRuntime) -> Result<(), Fail> {
         let text = format!(in rt.alloc(); "ADDGROUP G{number:05}")?;
         assert!(rt; give(rt.alloc(), &mut database, text.as_bytes())?.is_none());
     }
-<<<<<<< HEAD
-    assert_eq!(rt;
-        give(rt.alloc(), &mut database, b"ADDGROUP NEW")?.map(seen),
-        Some((27, None))
-=======
     assert!(rt;
         is_full(
             &give(rt.alloc(), &mut database, b"ADDGROUP NEW")?,
             Kind::Groups,
             8_000
         )
->>>>>>> hub/database
     );
     for number in 1..MOST_USERS {
         let text = format!(in rt.alloc(); "ADDUSER U{number:05}")?;
         assert!(rt; give(rt.alloc(), &mut database, text.as_bytes())?.is_none());
     }
-<<<<<<< HEAD
-    assert_eq!(rt;
-        give(rt.alloc(), &mut database, b"ADDUSER NEW")?.map(seen),
-        Some((17, None))
-=======
     assert!(rt;
         is_full(
             &give(rt.alloc(), &mut database, b"ADDUSER NEW")?,
             Kind::Users,
             20_000
         )
->>>>>>> hub/database
     );
     for number in 1..MOST_CONNECTIONS {
         let text = format!(in rt.alloc(); "CONNECT U00001 GROUP(G{number:05})")?;
         assert!(rt; give(rt.alloc(), &mut database, text.as_bytes())?.is_none());
     }
-<<<<<<< HEAD
-    assert_eq!(rt;
-        give(rt.alloc(), &mut database, b"CONNECT U00001 GROUP(G07999)")?.map(seen),
-        Some((37, None))
-=======
     assert!(rt;
         is_full(
             &give(rt.alloc(), &mut database, b"CONNECT U00001 GROUP(G07999)")?,
             Kind::Connections,
             300
         )
->>>>>>> hub/database
     );
     assert!(rt;
         give(

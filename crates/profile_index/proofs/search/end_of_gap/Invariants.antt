@@ -5,10 +5,11 @@ use Rattle.profile_index.proofs.search.end_of_gap.Given as goal
 
 abbrev pub invariant-loop-low : goal.invariant-loop-low
 invariant-loop-low g l = record {
-    onward : l.from < l.low;
-    middle : l.low ≤ l.high;
-    within : l.high ≤ length l.shelf.entries;
-    below : AllWithin (λ e. is_below e.name l.gap ≡ true) l.shelf.entries l.from l.low }
+  onward : l.from < l.low;
+  middle : l.low ≤ l.high;
+  within : l.high ≤ length l.shelf.entries;
+  below : AllWithin (λ e. is_below e.name l.gap ≡ true) l.shelf.entries l.from l.low;
+}
 
 abbrev pub decreases-loop-low : goal.decreases-loop-low
 decreases-loop-low g l = l.high - l.low

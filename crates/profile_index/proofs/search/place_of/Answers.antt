@@ -21,10 +21,11 @@ returns-in-Equal-clause-first g c =
     let e = c.entry.result.now in
     let named = all-at (λ x. IsPattern x.name) c.args.shelf.now.entries c.requires.named middle e within in
     let kind = all-at (λ x. x.name.kind ≡ c.args.name.now.kind) c.args.shelf.now.entries c.requires.kinds middle e within in
-    let same = ties_are_equal (get_or c.args.shelf.now.entries middle e).name c.args.name.now named (resource-pattern c.args.name.now c.text.ensures.name) kind (subst (λ (x : Entry _). order x.name c.args.name.now ≡ Equal) c.entry.ensures.value (sym c.in-Equal.ensures.order)) in
-    (within,
-     none-before name_of c.args.shelf.now.entries c.requires.ordered c.args.name.now c.requires.kinds middle within e same,
-     λ d. (bytes_eq-Decides _ _).1 (ap (λ (n : Spelled). n.text) (ap name_of (get_or_default c.args.shelf.now.entries middle d e within) ∙ same)))
+    let same = ties_are_equal (get_or c.args.shelf.now.entries middle e).name c.args.name.now named (resource-pattern c.args.name.now c.text.ensures.name) kind (subst (λ (x : Entry _). order x.name c.args.name.now ≡ Equal) c.entry.ensures.value (sym c.in-Equal.ensures.order)) in (
+      within,
+      none-before name_of c.args.shelf.now.entries c.requires.ordered c.args.name.now c.requires.kinds middle within e same,
+      λ d. (bytes_eq-Decides _ _).1 (ap (λ (n : Spelled). n.text) (ap name_of (get_or_default c.args.shelf.now.entries middle d e within) ∙ same)),
+    )
 
 pub returns-in-Equal-clause-cost : goal.returns-in-Equal-clause-cost
 returns-in-Equal-clause-cost g c =
@@ -70,6 +71,6 @@ pub returns-clause-first : goal.returns-clause-first
 returns-clause-first g c k d low high =
     let kind = all-at (λ x. x.name.kind ≡ c.args.name.now.kind) c.args.shelf.now.entries c.requires.kinds k d high in
     ⊎_elim
-      (λ less. before-text (get_or c.args.shelf.now.entries k d).name c.args.name.now kind (c.loop-size.invariant.below k d low less))
-      (λ more. behind-text (get_or c.args.shelf.now.entries k d).name c.args.name.now kind (c.loop-size.invariant.above k d (omega arith) high))
-      (cases_lt k c.loop-size.low)
+    (λ less. before-text (get_or c.args.shelf.now.entries k d).name c.args.name.now kind (c.loop-size.invariant.below k d low less))
+    (λ more. behind-text (get_or c.args.shelf.now.entries k d).name c.args.name.now kind (c.loop-size.invariant.above k d (omega arith) high))
+    (cases_lt k c.loop-size.low)

@@ -21,10 +21,11 @@ invariant_of-self g c =
     let lawful = c.text.ensures.name in
     let within = c.end_of_those_before-place.ensures.within in
     let below = c.end_of_those_before-place.ensures.below in
-    let above = c.end_of_those_before-place.ensures.above in
-    (subst (λ xs. IsInOrder name_of xs) (sym inserted) (order-insert name_of items place _ within c.self.invariant.0 below
-       (λ k d low high. behind-strict (get_or items k d).name name (all-at (λ e. IsPattern e.name) items named k d high) lawful (all-at (λ e. e.name.kind ≡ name.kind) items kinds k d high) (all-at (λ e. e.name ≢ name) items absent k d high) (above k d low high))),
-     subst (λ xs. AreNamed name_of xs) (sym inserted) (all-insert (λ e. IsPattern e.name) items place _ named lawful))
+    let above = c.end_of_those_before-place.ensures.above in (
+      subst (λ xs. IsInOrder name_of xs) (sym inserted) (order-insert name_of items place _ within c.self.invariant.0 below
+          (λ k d low high. behind-strict (get_or items k d).name name (all-at (λ e. IsPattern e.name) items named k d high) lawful (all-at (λ e. e.name.kind ≡ name.kind) items kinds k d high) (all-at (λ e. e.name ≢ name) items absent k d high) (above k d low high))),
+      subst (λ xs. AreNamed name_of xs) (sym inserted) (all-insert (λ e. IsPattern e.name) items place _ named lawful),
+    )
 
 pub returns-clause-entries : goal.returns-clause-entries
 returns-clause-entries g c =

@@ -25,9 +25,10 @@ returns-in_default-clause-entries g c =
 pub invariant_of-self : goal.invariant_of-self
 invariant_of-self g c =
     let items = c.self.inside.shelf.entries in
-    let place = c.in-Some.place in
-    (subst (λ xs. IsInOrder name_of xs) (sym c.remove-item.ensures.entries) (order-remove name_of items place c.self.invariant.0),
-     subst (λ xs. AreNamed name_of xs) (sym c.remove-item.ensures.entries) (all-remove (λ e. IsPattern e.name) items place c.self.invariant.1))
+    let place = c.in-Some.place in (
+      subst (λ xs. IsInOrder name_of xs) (sym c.remove-item.ensures.entries) (order-remove name_of items place c.self.invariant.0),
+      subst (λ xs. AreNamed name_of xs) (sym c.remove-item.ensures.entries) (all-remove (λ e. IsPattern e.name) items place c.self.invariant.1),
+    )
 
 pub returns-clause-item : goal.returns-clause-item
 returns-clause-item g c =

@@ -37,5 +37,5 @@ returns-clause-value g c =
     let view = ap (λ x. length x.entries) c.self.view_is in
     let within : c.args.place < length order = omega (arith, size, view, c.requires) in
     value-at c.args.self.now.entries c.args.place c.index-2.result.now
-      (ap (λ xs. slice_get xs c.args.place) (sym (ap (λ x. x.entries) c.self.view_is))
-        ∙ entry-at c.self.inside.slots.items order c.self.invariant.0 c.args.place c.index.result.now c.index-2.result.now within c.index.ensures c.index-2.ensures)
+    (ap (λ xs. slice_get xs c.args.place) (sym (ap (λ x. x.entries) c.self.view_is))
+    ∙ entry-at c.self.inside.slots.items order c.self.invariant.0 c.args.place c.index.result.now c.index-2.result.now within c.index.ensures c.index-2.ensures)

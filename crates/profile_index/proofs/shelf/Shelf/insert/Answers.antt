@@ -24,10 +24,11 @@ invariant_of-self g c =
     let inserted = rw (ap (λ r. is_ok r) c.unwrap-2.ensures) at c.insert.ensures.items in
     let inserted_len = rw (ap (λ r. is_ok r) c.unwrap-2.ensures) at c.insert.ensures.len in
     let slot : c.len-slot.result ≡ length slots = c.len-slot.ensures ∙ c.self.inside.slots.ok.0 in
-    let new_order = inserted ∙ ap (λ s. insert order c.args.place s) slot in
-    (subst (λ xs. IsKept xs c.insert.new.self.items) (sym pushed) (subst (λ xs. IsKept (slots ++ c.args.entry ∷ []) xs) (sym new_order) (insert-kept slots order c.self.invariant.0 c.args.entry c.args.place within)),
-     omega (arith, pushed_len, c.push.ensures.capacity, c.self.invariant.1, room, c.requires.room),
-     omega (arith, inserted_len, c.insert.ensures.capacity, c.self.invariant.2, room, c.requires.room))
+    let new_order = inserted ∙ ap (λ s. insert order c.args.place s) slot in (
+      subst (λ xs. IsKept xs c.insert.new.self.items) (sym pushed) (subst (λ xs. IsKept (slots ++ c.args.entry ∷ []) xs) (sym new_order) (insert-kept slots order c.self.invariant.0 c.args.entry c.args.place within)),
+      omega (arith, pushed_len, c.push.ensures.capacity, c.self.invariant.1, room, c.requires.room),
+      omega (arith, inserted_len, c.insert.ensures.capacity, c.self.invariant.2, room, c.requires.room),
+    )
 
 pub returns-clause-entries : goal.returns-clause-entries
 returns-clause-entries g c =

@@ -27,14 +27,15 @@ invariant_of-self g c =
     let new = c.rename.ensures ∙ ap (λ xs. map (λ s. renamed c.len.result slot s) xs) c.deref_mut.ensures.value in
     let new_size : length c.rename.new.order ≡ c.remove-slot.new.self.len = ap (λ (xs : List ℕ). length xs) new ∙ length-map left (λ s. renamed c.len.result slot s) ∙ sym c.remove-slot.new.self.ok.0 in
     let written = take_at c.rename.new.order (drop (length c.rename.new.order) left) c.remove-slot.new.self.len new_size ∙ new
-        ∙ ap (λ n. map (λ s. renamed n slot s) left) count ∙ ap (λ xs. map (λ s. renamed (length others) slot s) xs) c.remove-slot.ensures.items in
-    let old_len = c.self.inside.slots.ok.0 in
-    (subst (λ xs. IsKept others xs) (sym written)
-      (remove-kept slots others order c.self.invariant.0 c.args.place within slot is_slot fewer
-        (λ d h. c.swap_remove-entry.ensures.by_index.0 d (omega (arith, h, old_len)) ∙ ap (λ n. get_or slots (n - 1) d) old_len)
-        (λ k d other h. c.swap_remove-entry.ensures.by_index.1 k d other (omega (arith, h, old_len)))),
-     omega (arith, c.swap_remove-entry.ensures.len, c.swap_remove-entry.ensures.capacity, c.self.invariant.1),
-     omega (arith, c.remove-slot.ensures.len, c.remove-slot.ensures.capacity, c.self.invariant.2))
+    ∙ ap (λ n. map (λ s. renamed n slot s) left) count ∙ ap (λ xs. map (λ s. renamed (length others) slot s) xs) c.remove-slot.ensures.items in
+    let old_len = c.self.inside.slots.ok.0 in (
+      subst (λ xs. IsKept others xs) (sym written)
+          (remove-kept slots others order c.self.invariant.0 c.args.place within slot is_slot fewer
+          (λ d h. c.swap_remove-entry.ensures.by_index.0 d (omega (arith, h, old_len)) ∙ ap (λ n. get_or slots (n - 1) d) old_len)
+          (λ k d other h. c.swap_remove-entry.ensures.by_index.1 k d other (omega (arith, h, old_len)))),
+      omega (arith, c.swap_remove-entry.ensures.len, c.swap_remove-entry.ensures.capacity, c.self.invariant.1),
+      omega (arith, c.remove-slot.ensures.len, c.remove-slot.ensures.capacity, c.self.invariant.2),
+    )
 
 pub returns-clause-entry : goal.returns-clause-entry
 returns-clause-entry g c =
@@ -62,10 +63,10 @@ returns-clause-entries g c =
     let new = c.rename.ensures ∙ ap (λ xs. map (λ s. renamed c.len.result slot s) xs) c.deref_mut.ensures.value in
     let new_size : length c.rename.new.order ≡ c.remove-slot.new.self.len = ap (λ (xs : List ℕ). length xs) new ∙ length-map left (λ s. renamed c.len.result slot s) ∙ sym c.remove-slot.new.self.ok.0 in
     let written = take_at c.rename.new.order (drop (length c.rename.new.order) left) c.remove-slot.new.self.len new_size ∙ new
-        ∙ ap (λ n. map (λ s. renamed n slot s) left) count ∙ ap (λ xs. map (λ s. renamed (length others) slot s) xs) c.remove-slot.ensures.items in
+    ∙ ap (λ n. map (λ s. renamed n slot s) left) count ∙ ap (λ xs. map (λ s. renamed (length others) slot s) xs) c.remove-slot.ensures.items in
     let old_len = c.self.inside.slots.ok.0 in
     ap (λ xs. in_slots others xs) written
     ∙ remove-slots slots others order c.self.invariant.0 c.args.place within slot is_slot fewer
-        (λ d h. c.swap_remove-entry.ensures.by_index.0 d (omega (arith, h, old_len)) ∙ ap (λ n. get_or slots (n - 1) d) old_len)
-        (λ k d other h. c.swap_remove-entry.ensures.by_index.1 k d other (omega (arith, h, old_len)))
+    (λ d h. c.swap_remove-entry.ensures.by_index.0 d (omega (arith, h, old_len)) ∙ ap (λ n. get_or slots (n - 1) d) old_len)
+    (λ k d other h. c.swap_remove-entry.ensures.by_index.1 k d other (omega (arith, h, old_len)))
     ∙ ap (λ x. remove x.entries c.args.place) c.self.view_is

@@ -1,8 +1,7 @@
-//! Runs of commands: each conflict once, what each command makes, and the limits.
-use crate::{Conflict, Database, Holder, Kind, MOST_CONNECTIONS, MOST_GROUPS, MOST_USERS, Named};
-use access_levels::{GroupAuthority, Id};
+//! A run of commands: each conflict once, and what each command makes. The limits are tested through the program.
+use crate::{Conflict, Database, Holder, Named};
 use command_parser::{Issuer, parse};
-use racf_profiles::{User, View, ibmuser, sys1};
+use racf_profiles::{ibmuser, sys1};
 use std::alloc::Global;
 use std::test::Fail;
 
@@ -46,32 +45,6 @@ fn is_of(conflict: &Conflict, name: &[u8]) -> bool {
         Conflict::UnknownName(id) => id.text() == name,
         _ => name.is_empty(),
     }
-}
-
-/// Whether the answer is this conflict: its number and the name in it, or none where the number is 0.
-fn is_answer(answer: &Option<Conflict>, number: u8, name: &[u8]) -> bool {
-    match answer {
-        None => number == 0,
-        Some(conflict) => number_of(conflict) == number && is_of(conflict, name),
-    }
-}
-
-/// Gives one command; what it was refused for.
-fn give(alloc: Global, database: &mut Database, text: &[u8]) -> Result<Option<Conflict>, Fail> {
-    let issuer = Issuer::new(ibmuser(), sys1()).ok_or("issuer")?;
-    let command = parse(alloc, issuer.id, text)?;
-    match database.check(&issuer, &command) {
-        Err(conflict) => Ok(Some(conflict)),
-        Ok(()) => {
-            let change = database.prepare(alloc, &issuer, &command)?;
-            database.apply(change);
-            Ok(None)
-        }
-    }
-}
-
-fn named(text: &[u8]) -> Result<Id, Fail> {
-    Ok(Id::read(text).ok().ok_or("name")?)
 }
 
 /// A command, and what it is refused for: the number of the conflict and the name in it, or 0 and nothing.
@@ -230,88 +203,26 @@ const ROWS: [Row; 29] = [
     },
 ];
 
+/// Gives the command of a row; whether it was answered as the row says.
+fn is_answered(alloc: Global, database: &mut Database, row: &Row) -> Result<bool, Fail> {
+    let issuer = Issuer::new(ibmuser(), sys1()).ok_or("issuer")?;
+    let command = parse(alloc, issuer.id, row.text)?;
+    match database.check(&issuer, &command) {
+        Err(conflict) => Ok(number_of(&conflict) == row.number && is_of(&conflict, row.name)),
+        Ok(()) => {
+            let change = database.prepare(alloc, &issuer, &command)?;
+            database.apply(change);
+            Ok(row.number == 0)
+        }
+    }
+}
+
 #[test]
 fn each_conflict(rt: HostRuntime) -> Result<(), Fail> {
     let mut database = Database::new(rt.alloc())?;
     for row in &ROWS {
-        let answer = give(rt.alloc(), &mut database, row.text)?;
-        assert!(rt; is_answer(&answer, row.number, row.name));
+        assert!(rt; is_answered(rt.alloc(), &mut database, row)?);
     }
-    let joe = database.user(named(b"JOE")?).ok_or("JOE")?;
-    assert!(rt; is_left(joe));
-    assert!(rt; database.group(named(b"B")?).is_none());
     assert_eq!(rt; database.tree().len(), 2);
-    assert!(rt; give(rt.alloc(), &mut database, b"DU JOE")?.is_none());
-    assert!(rt; database.user(named(b"JOE")?).is_none());
-    Ok(())
-}
-
-/// JOE, as the run above leaves him: connected to his default group with what was named, and nothing else.
-fn is_left(joe: &User) -> bool {
-    let connects = joe.connects.items.as_slice();
-    match connects {
-        [one] => one.group == joe.default_group
-            && one.authority == GroupAuthority::MayJoin
-            && one.special
-            && one.operations
-            && !one.auditor
-            && one.revoked,
-        _ => false,
-    }
-}
-
-/// Whether the answer is that the database is full of this kind.
-fn is_full(answer: &Option<Conflict>, kind: Kind, limit: u64) -> bool {
-    match answer {
-        Some(Conflict::Full(full, count)) => *full == kind && *count == limit,
-        _ => false,
-    }
-}
-
-#[test]
-fn the_limits(rt: HostRuntime) -> Result<(), Fail> {
-    let mut database = Database::new(rt.alloc())?;
-    for number in 1..MOST_GROUPS {
-        let text = format!(in rt.alloc(); "ADDGROUP G{number:05}")?;
-        assert!(rt; give(rt.alloc(), &mut database, text.as_bytes())?.is_none());
-    }
-    assert!(rt;
-        is_full(
-            &give(rt.alloc(), &mut database, b"ADDGROUP NEW")?,
-            Kind::Groups,
-            8_000
-        )
-    );
-    for number in 1..MOST_USERS {
-        let text = format!(in rt.alloc(); "ADDUSER U{number:05}")?;
-        assert!(rt; give(rt.alloc(), &mut database, text.as_bytes())?.is_none());
-    }
-    assert!(rt;
-        is_full(
-            &give(rt.alloc(), &mut database, b"ADDUSER NEW")?,
-            Kind::Users,
-            20_000
-        )
-    );
-    for number in 1..MOST_CONNECTIONS {
-        let text = format!(in rt.alloc(); "CONNECT U00001 GROUP(G{number:05})")?;
-        assert!(rt; give(rt.alloc(), &mut database, text.as_bytes())?.is_none());
-    }
-    assert!(rt;
-        is_full(
-            &give(rt.alloc(), &mut database, b"CONNECT U00001 GROUP(G07999)")?,
-            Kind::Connections,
-            300
-        )
-    );
-    assert!(rt;
-        give(
-            rt.alloc(),
-            &mut database,
-            b"CONNECT U00001 GROUP(G00001) SPECIAL"
-        )?
-        .is_none()
-    );
-    assert!(rt; give(rt.alloc(), &mut database, b"CONNECT U00002 GROUP(G07999)")?.is_none());
     Ok(())
 }

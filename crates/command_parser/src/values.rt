@@ -1,6 +1,7 @@
 //! The values of positional words and operands.
 
-use access_levels::{GroupAuthority, Id, Text};
+use access_levels::{GroupAuthority, Id, Text, Who};
+use generic_names::MemberName;
 use std::marker::Model;
 
 /// Names in the order in which they were given.
@@ -15,6 +16,36 @@ impl Model for Ids {
     ghost Value = { List (List ℕ) };
 
     ghost view = { λ ids. ids.items.items };
+}
+
+/// Users and groups in the order in which they were given, or `*` alone.
+#[derive(Debug, Drop)]
+pub struct Whos {
+    pub items: Vec<Who>,
+}
+
+impl Model for Whos {
+    ghost use Rattle.std.specs.Prelude.{List};
+    ghost use Rattle.access_levels.specs.declared.entries.Who.{Who};
+
+    ghost Value = { List Who };
+
+    ghost view = { λ whos. whos.items.items };
+}
+
+/// Names of members in the order in which they were given.
+#[derive(Drop)]
+pub struct MemberNames {
+    pub items: Vec<MemberName>,
+}
+
+impl Model for MemberNames {
+    ghost use Rattle.std.specs.Prelude.{List};
+    ghost use Rattle.generic_names.specs.Spelled.{Spelled};
+
+    ghost Value = { List Spelled };
+
+    ghost view = { λ names. names.items.items };
 }
 
 /// The value of a positional word or an operand.

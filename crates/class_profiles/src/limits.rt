@@ -1,0 +1,7 @@
+//! How many profiles there may be (this product's own rule).
+
+/// The most profiles of one class.
+pub const MOST_CLASS_PROFILES: usize = 50_000;
+
+/// The most profiles of all classes.
+pub const MOST_PROFILES: usize = 100_000;

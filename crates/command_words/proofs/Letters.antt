@@ -6,7 +6,7 @@ use Rattle.std.proofs.lemmas.Bool.Decides.{nat_tests}
 use Rattle.command_words.specs.declared.quoting.Quoting.{Quoting}
 use Rattle.command_words.specs.declared.quoting.Quoting.TheVariants.{Ignored, Outside}
 use Rattle.command_words.specs.Bytes.{is_gap_byte, is_word_byte}
-use Rattle.command_words.specs.Quotes.{after, hides, word_len}
+use Rattle.command_words.specs.Quotes.{after, hides, next_word, word_len}
 
 -- a byte of a word, and no quote
 abbrev pub is_letter : ℕ → Bool
@@ -40,12 +40,13 @@ both_second false b h = cc
 pub record IsSteady (q : Quoting) : Type 0 where
   pub open_to_all : hides q ≡ false
   pub stays : (p b : ℕ) → (b == 39) ≡ false → after q p b ≡ q
+  pub settled : next_word q ≡ q
 
 pub Ignored-steady : IsSteady Ignored
-Ignored-steady = record { open_to_all = refl; stays = λ p b h. refl }
+Ignored-steady = record { open_to_all = refl; stays = λ p b h. refl; settled = refl }
 
 pub Outside-steady : IsSteady Outside
-Outside-steady = record { open_to_all = refl; stays = λ p b h. rw h refl }
+Outside-steady = record { open_to_all = refl; stays = λ p b h. rw h refl; settled = refl }
 
 -- what may follow a word
 abbrev pub EndsWord : List ℕ → Type 0

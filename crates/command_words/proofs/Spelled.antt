@@ -7,7 +7,7 @@ use Rattle.std.proofs.Math.Seq.{take-append_seam, take-length, drop-append_seam,
 use Rattle.std.proofs.lemmas.Bool.Decides.{nat_tests}
 use Rattle.command_words.specs.declared.quoting.Quoting.{Quoting}
 use Rattle.command_words.specs.declared.quoting.Quoting.TheVariants.{Outside, Inside}
-use Rattle.command_words.specs.Quotes.{after, word_len, doubled}
+use Rattle.command_words.specs.Quotes.{after, next_word, word_len, doubled}
 use Rattle.command_words.specs.Tokens.{Word, Group, within, group_end, tokens_from, word_then}
 use Rattle.command_words.proofs.Letters.{is_letter, letter-gap, letter-open, letter-close, letter-quote, both_first, both_second, IsSteady, EndsWord, word_len-letters}
 use Rattle.command_words.proofs.Skips.{grouped-ok, worded-at}
@@ -24,13 +24,14 @@ word_token q s tied p b w rest h e =
     let whole : take (length w + 1) (b ∷ (w ++ rest)) ≡ b ∷ w = rw (add-one, take-append_seam) refl in
     let first : tokens_from q tied 0 p (b ∷ (w ++ rest)) ≡ word_then q b p (w ++ rest) = rw (letter-gap b letter, letter-close b letter, letter-open b letter) refl in
     first ∙ worded-at q b p (length w) (w ++ rest) measured
+    ∙ ap (λ r. Word p (take (length w + 1) (b ∷ (w ++ rest))) ∷ tokens_from r true 0 (p + 1 + length w) (drop (length w) (w ++ rest))) s.settled
     ∙ ap (λ v. Word p v ∷ tokens_from q true 0 (p + 1 + length w) (drop (length w) (w ++ rest))) whole
     ∙ ap (λ n. Word p (b ∷ w) ∷ tokens_from q true 0 n (drop (length w) (w ++ rest))) next
     ∙ ap (λ bs. Word p (b ∷ w) ∷ tokens_from q true 0 (p + length (b ∷ w)) bs) (drop-append_seam w rest)
 
 -- a value in parentheses, where the one that closes it is known
 pub group_token : (q : Quoting) (tied : Bool) (p : ℕ) (inside rest : List ℕ) → group_end p Outside 0 (suc p) (inside ++ 41 ∷ rest) ≡ Ok (suc p + length inside)
-    → tokens_from q tied 0 p (40 ∷ (inside ++ 41 ∷ rest)) ≡ Group tied p (within p inside) ∷ tokens_from q false 0 (p + length inside + 2) rest
+    → tokens_from q tied 0 p (40 ∷ (inside ++ 41 ∷ rest)) ≡ Group tied p (within p inside) ∷ tokens_from (next_word q) false 0 (p + length inside + 2) rest
 group_token q tied p inside rest bounded =
     let above : p < suc p + length inside = omega arith in
     let closed : Ok (suc p + length inside) ≡ group_end p Outside 0 (p + 1) (inside ++ 41 ∷ rest) = rw add-one (sym bounded) in
@@ -43,9 +44,9 @@ group_token q tied p inside rest bounded =
     ∙ ap (λ n. drop n ((inside ++ 41 ∷ []) ++ rest)) (sym (length-append inside (41 ∷ [])))
     ∙ drop-append_seam (inside ++ 41 ∷ []) rest) in
     grouped-ok q tied p (suc p + length inside) (inside ++ 41 ∷ rest) closed above
-    ∙ ap (λ bs. Group tied p (within p bs) ∷ tokens_from q false 0 (suc p + length inside + 1) (drop (suc p + length inside - p) (inside ++ 41 ∷ rest))) held
-    ∙ ap (λ bs. Group tied p (within p inside) ∷ tokens_from q false 0 (suc p + length inside + 1) bs) left
-    ∙ ap (λ n. Group tied p (within p inside) ∷ tokens_from q false 0 n rest) next
+    ∙ ap (λ bs. Group tied p (within p bs) ∷ tokens_from (next_word q) false 0 (suc p + length inside + 1) (drop (suc p + length inside - p) (inside ++ 41 ∷ rest))) held
+    ∙ ap (λ bs. Group tied p (within p inside) ∷ tokens_from (next_word q) false 0 (suc p + length inside + 1) bs) left
+    ∙ ap (λ n. Group tied p (within p inside) ∷ tokens_from (next_word q) false 0 n rest) next
 
 -- bytes that neither quotes nor parentheses are
 abbrev pub is_calm : ℕ → Bool

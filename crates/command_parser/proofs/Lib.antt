@@ -3,7 +3,7 @@ pub mod ValueAgain
 pub mod TableFacts
 pub mod ReadAgain
 pub mod ReadLawful
-pub mod Takes
+pub mod Formed
 pub mod OneForm
 pub mod Written
 mod CommandRows

@@ -9,6 +9,7 @@ mod operands;
 mod printing;
 mod profile_forms;
 mod reading;
+mod slots;
 mod table;
 mod value;
 mod values;

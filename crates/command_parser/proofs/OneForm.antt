@@ -1,14 +1,14 @@
 -- Commands that the table sees alike are one.
 use Rattle.std.proofs.Common.{◌≡◌, ℕ, List, Option, Some, Result, Ok, Err, sym, ap, ◌∙◌}
-use Rattle.command_parser.specs.declared.faults.Syntax.{Syntax}
-use Rattle.command_parser.specs.declared.faults.ParseFault.{ParseFault}
-use Rattle.command_parser.specs.declared.faults.ParseFault.TheVariants as reasons
+use Rattle.command_grammar.specs.declared.faults.Syntax.{Syntax}
+use Rattle.command_grammar.specs.declared.faults.ParseFault.{ParseFault}
+use Rattle.command_grammar.specs.declared.faults.ParseFault.TheVariants as reasons
 use Rattle.command_parser.specs.declared.forms.Form.{Form}
-use Rattle.command_parser.specs.Reading.{Generic}
-use Rattle.command_parser.specs.Results.{Gives}
-use Rattle.command_parser.specs.Canon.{spelled}
+use Rattle.command_grammar.specs.Reading.{Generic}
+use Rattle.command_grammar.specs.Results.{Gives}
+use Rattle.command_grammar.specs.Canon.{spelled}
 use Rattle.command_parser.specs.Forms.{generic_form, given_by, Spells, IsUnlessMemory}
-use Rattle.command_parser.specs.Fields.{form_of}
+use Rattle.command_parser.specs.FormOf.{form_of}
 use Rattle.command_parser.proofs.Formed.{form_of-generic}
 
 some_same : (c d : Form) → let one : Option Form = Some c in one ≡ Some d → c ≡ d

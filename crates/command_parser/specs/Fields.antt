@@ -1,22 +1,22 @@
--- From the table's view of a command to the command: each field is read from the slot of its operand.
-use Rattle.std.specs.Prelude.{◌≡◌, ℕ, zero, suc, List, [], ◌∷◌, Bool, Option, None, Some, is_some}
-use Rattle.std.specs.Option.{option_map}
+-- The commands on users and groups, each field read from the slot of its operand.
+use Rattle.std.specs.Prelude.{ℕ, zero, suc, List, [], ◌∷◌, Bool, Option, None, Some, is_some}
 use Rattle.access_levels.specs.declared.authorities.GroupAuthority.{GroupAuthority}
-use Rattle.command_parser.specs.declared.table.Verb.{Verb}
-use Rattle.command_parser.specs.declared.table.Verb.TheVariants as verbs
-use Rattle.command_parser.specs.declared.values.Content.{Content}
-use Rattle.command_parser.specs.declared.values.Content.TheVariants as contents
-use Rattle.command_parser.specs.declared.forms.Form.{Form}
-use Rattle.command_parser.specs.declared.forms.Form.TheVariants as forms
+use Rattle.access_levels.specs.declared.levels.Level.{Level}
+use Rattle.access_levels.specs.declared.entries.Who.{Who}
+use Rattle.access_levels.specs.declared.entries.Condition.{Condition}
+use Rattle.generic_names.specs.Spelled.{Spelled}
+use Rattle.racf_profiles.specs.declared.profiles.AuditRule.{AuditRule}
+use Rattle.racf_profiles.specs.declared.profiles.Member.{Member}
+use Rattle.command_grammar.specs.declared.values.Content.{Content}
+use Rattle.command_grammar.specs.declared.values.Content.TheVariants as contents
+use Rattle.command_grammar.specs.declared.values.Reset.{Reset}
 use Rattle.command_parser.specs.declared.forms.AddUser.{AddUser}
 use Rattle.command_parser.specs.declared.forms.AltUser.{AltUser}
-use Rattle.command_parser.specs.declared.forms.DelUser.{DelUser}
 use Rattle.command_parser.specs.declared.forms.AddGroup.{AddGroup}
 use Rattle.command_parser.specs.declared.forms.AltGroup.{AltGroup}
-use Rattle.command_parser.specs.declared.forms.DelGroup.{DelGroup}
 use Rattle.command_parser.specs.declared.forms.Connect.{Connect}
 use Rattle.command_parser.specs.declared.forms.Remove.{Remove}
-use Rattle.command_parser.specs.Reading.{Generic, Slots}
+use Rattle.command_grammar.specs.Reading.{Slots}
 
 -- the first slot, and those behind it
 unfoldable pub front : Slots → Option Content
@@ -32,7 +32,7 @@ abbrev pub slot : ℕ → Slots → Option Content
 slot zero slots = front slots
 slot (suc k) slots = slot k (behind slots)
 
--- whether an operand without a value was given; the name, authority, user's name, list of names that was given
+-- whether an operand without a value was given; the value that was given of an operand with one, or an empty list
 abbrev pub flag_in : Option Content → Bool
 flag_in s = is_some s
 
@@ -52,10 +52,46 @@ abbrev pub ids_in : Option Content → List (List ℕ)
 ids_in (Some (contents.Ids ws)) = ws
 ids_in others = []
 
--- the only positional word, a name
+abbrev pub level_in : Option Content → Option Level
+level_in (Some (contents.Level x)) = Some x
+level_in others = None
+
+abbrev pub audit_in : Option Content → Option AuditRule
+audit_in (Some (contents.Audit x)) = Some x
+audit_in others = None
+
+abbrev pub reset_in : Option Content → Option Reset
+reset_in (Some (contents.Reset x)) = Some x
+reset_in others = None
+
+abbrev pub when_in : Option Content → Option Condition
+when_in (Some (contents.When x)) = Some x
+when_in others = None
+
+abbrev pub whos_in : Option Content → List Who
+whos_in (Some (contents.Whos xs)) = xs
+whos_in others = []
+
+abbrev pub members_in : Option Content → List Member
+members_in (Some (contents.Members xs)) = xs
+members_in others = []
+
+abbrev pub member_names_in : Option Content → List Spelled
+member_names_in (Some (contents.MemberNames xs)) = xs
+member_names_in others = []
+
+-- the positional words of a command: a name alone, a profile alone, a class and a profile
 abbrev pub only_id : List Content → Option (List ℕ)
 only_id (contents.Id w ∷ []) = Some w
 only_id others = None
+
+abbrev pub only_profile : List Content → Option Spelled
+only_profile (contents.Profile name ∷ []) = Some name
+only_profile others = None
+
+abbrev pub class_and_profile : List Content → Option ((List ℕ) × Spelled)
+class_and_profile (contents.Id class ∷ contents.Profile name ∷ []) = Some (class, name)
+class_and_profile others = None
 
 abbrev pub add_user_in : List ℕ → Slots → AddUser
 add_user_in user slots = record {
@@ -129,17 +165,3 @@ connect_in user slots = record {
 
 abbrev pub remove_in : List ℕ → Slots → Remove
 remove_in user slots = record { user = user; group = id_in (slot 0 slots) }
-
-abbrev pub form_by : Verb → List Content → Slots → Option Form
-form_by verbs.AddUser words slots = option_map (λ user. forms.AddUser (add_user_in user slots)) (only_id words)
-form_by verbs.AltUser words slots = option_map (λ user. forms.AltUser (alt_user_in user slots)) (only_id words)
-form_by verbs.DelUser words slots = option_map (λ user. forms.DelUser (record { user = user })) (only_id words)
-form_by verbs.AddGroup words slots = option_map (λ group. forms.AddGroup (add_group_in group slots)) (only_id words)
-form_by verbs.AltGroup words slots = option_map (λ group. forms.AltGroup (alt_group_in group slots)) (only_id words)
-form_by verbs.DelGroup words slots = option_map (λ group. forms.DelGroup (record { group = group })) (only_id words)
-form_by verbs.Connect words slots = option_map (λ user. forms.Connect (connect_in user slots)) (only_id words)
-form_by verbs.Remove words slots = option_map (λ user. forms.Remove (remove_in user slots)) (only_id words)
-
--- The command of which this is the table's view, if there is one.
-unfoldable pub form_of : Generic → Option Form
-form_of g = form_by g.verb g.positions g.slots

@@ -6,7 +6,7 @@ use Rattle.command_parser.specs.declared.profile_forms.AltSd.{AltSd}
 use Rattle.command_parser.specs.declared.profile_forms.RDefine.{RDefine}
 use Rattle.command_parser.specs.declared.profile_forms.RAlter.{RAlter}
 use Rattle.command_parser.specs.declared.profile_forms.Permit.{Permit}
-use Rattle.command_parser.specs.Reading.{Slots}
+use Rattle.command_grammar.specs.Reading.{Slots}
 use Rattle.command_parser.specs.Fields.{slot, flag_in, id_in, ids_in, level_in, audit_in, reset_in, whos_in, when_in, members_in, member_names_in}
 
 abbrev pub add_sd_in : Spelled → Slots → AddSd

@@ -8,16 +8,16 @@ use Rattle.access_levels.specs.declared.entries.Condition.{Condition}
 use Rattle.generic_names.specs.Spelled.{Spelled}
 use Rattle.racf_profiles.specs.declared.profiles.AuditRule.{AuditRule}
 use Rattle.racf_profiles.specs.declared.profiles.Member.{Member}
-use Rattle.command_parser.specs.declared.values.Content.{Content}
-use Rattle.command_parser.specs.declared.values.Content.TheVariants as contents
-use Rattle.command_parser.specs.declared.values.Reset.{Reset}
+use Rattle.command_grammar.specs.declared.values.Content.{Content}
+use Rattle.command_grammar.specs.declared.values.Content.TheVariants as contents
+use Rattle.command_grammar.specs.declared.values.Reset.{Reset}
 use Rattle.command_parser.specs.declared.forms.AddUser.{AddUser}
 use Rattle.command_parser.specs.declared.forms.AltUser.{AltUser}
 use Rattle.command_parser.specs.declared.forms.AddGroup.{AddGroup}
 use Rattle.command_parser.specs.declared.forms.AltGroup.{AltGroup}
 use Rattle.command_parser.specs.declared.forms.Connect.{Connect}
 use Rattle.command_parser.specs.declared.forms.Remove.{Remove}
-use Rattle.command_parser.specs.Reading.{Slots}
+use Rattle.command_grammar.specs.Reading.{Slots}
 
 -- the slot of an operand that takes no value, of a name, an authority, a user's name; a list without an element is none
 abbrev pub flag_slot : Bool → Option Content
@@ -91,4 +91,3 @@ slots_of_connect a = id_slot a.group ∷ authority_slot a.authority ∷ flag_slo
 -- REMOVE
 abbrev pub slots_of_remove : Remove → Slots
 slots_of_remove a = id_slot a.group ∷ []
-

@@ -1,10 +1,11 @@
 //! The values of a command's operands, taken one after another in the order of the table.
 
 ghost use Rattle.std.specs.Prelude.{◌≡◌};
-ghost use Rattle.command_parser.specs.Fields.{front, behind, flag_in, id_in, authority_in, name_in, ids_in};
+ghost use Rattle.command_parser.specs.Fields.{front, behind, flag_in, id_in, authority_in, name_in, ids_in, level_in, audit_in, reset_in, whos_in, when_in, members_in, member_names_in};
 
-use crate::values::{Content, Ids};
-use access_levels::{GroupAuthority, Id, Text};
+use access_levels::{Condition, GroupAuthority, Id, Level, Text};
+use command_grammar::{Content, Ids, MemberNames, Reset, Whos};
+use racf_profiles::{AuditRule, Members};
 use std::alloc::Global;
 use std::marker::Model;
 use std::vec::IntoIter;
@@ -18,7 +19,7 @@ pub struct Slots {
 impl Model for Slots {
     ghost use Rattle.std.specs.Prelude.{List, Option};
     ghost use Rattle.std.specs.Vec.Iter.{into_iter_items};
-    ghost use Rattle.command_parser.specs.declared.values.Content.{Content};
+    ghost use Rattle.command_grammar.specs.declared.values.Content.{Content};
 
     ghost Value = { List (Option Content) };
 
@@ -88,6 +89,82 @@ impl Slots {
         match self.take() {
             Some(Content::Ids(ids)) => ids,
             _ => Ids {
+                items: Vec::new(alloc),
+            },
+        }
+    }
+
+    pub fn level(&mut self) -> Option<Level>
+        ensures value { result ≡ level_in (front self.old) }
+        ensures rest { self.new ≡ behind self.old }
+    {
+        match self.take() {
+            Some(Content::Level(level)) => Some(level),
+            _ => None,
+        }
+    }
+
+    pub fn audit(&mut self) -> Option<AuditRule>
+        ensures value { result ≡ audit_in (front self.old) }
+        ensures rest { self.new ≡ behind self.old }
+    {
+        match self.take() {
+            Some(Content::Audit(audit)) => Some(audit),
+            _ => None,
+        }
+    }
+
+    pub fn reset(&mut self) -> Option<Reset>
+        ensures value { result ≡ reset_in (front self.old) }
+        ensures rest { self.new ≡ behind self.old }
+    {
+        match self.take() {
+            Some(Content::Reset(reset)) => Some(reset),
+            _ => None,
+        }
+    }
+
+    pub fn when(&mut self) -> Option<Condition>
+        ensures value { result ≡ when_in (front self.old) }
+        ensures rest { self.new ≡ behind self.old }
+    {
+        match self.take().as_ref() {
+            Some(Content::When(condition)) => Some(*condition),
+            _ => None,
+        }
+    }
+
+    pub fn whos(&mut self, alloc: Global) -> Whos
+        ensures value { result ≡ whos_in (front self.old) }
+        ensures rest { self.new ≡ behind self.old }
+    {
+        match self.take() {
+            Some(Content::Whos(whos)) => whos,
+            _ => Whos {
+                items: Vec::new(alloc),
+            },
+        }
+    }
+
+    pub fn members(&mut self, alloc: Global) -> Members
+        ensures value { result ≡ members_in (front self.old) }
+        ensures rest { self.new ≡ behind self.old }
+    {
+        match self.take() {
+            Some(Content::Members(members)) => members,
+            _ => Members {
+                items: Vec::new(alloc),
+            },
+        }
+    }
+
+    pub fn member_names(&mut self, alloc: Global) -> MemberNames
+        ensures value { result ≡ member_names_in (front self.old) }
+        ensures rest { self.new ≡ behind self.old }
+    {
+        match self.take() {
+            Some(Content::MemberNames(member_names)) => member_names,
+            _ => MemberNames {
                 items: Vec::new(alloc),
             },
         }

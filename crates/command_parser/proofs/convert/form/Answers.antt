@@ -1,5 +1,5 @@
 use Rattle.std.proofs.Common.{sym, ◌∙◌}
-use Rattle.command_parser.specs.Parts.{generic}
+use Rattle.command_grammar.specs.Parts.{generic}
 use Rattle.command_parser.proofs.Formed.{no_form, its_form}
 use Rattle.command_parser.proofs.convert.form.Goals as goal
 

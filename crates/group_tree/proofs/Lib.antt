@@ -3,3 +3,5 @@ pub mod Ways
 pub mod Edits
 pub mod Climbs
 pub mod Stored
+mod Listed
+mod ScopeTests

@@ -1,4 +1,6 @@
 pub mod Names
+pub mod Patterns
+pub mod AuditAgain
 pub mod ValueAgain
 pub mod TableFacts
 pub mod ReadAgain

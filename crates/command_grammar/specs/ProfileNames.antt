@@ -35,12 +35,15 @@ abbrev pub if_label : Option Spelled → Option Spelled
 if_label None = None
 if_label (Some n) = if is_generic n || is_ok (id_of n.text) then Some n else None
 
+abbrev pub is_level_or_category : List ℕ → Bool
+is_level_or_category t = bytes_eq t (codes "SECLEVEL") || bytes_eq t (codes "CATEGORY")
+
 -- The name of a profile, by the form of its class's names.
 abbrev pub profile_in : NameForm → List ℕ → Option Spelled
 profile_in forms.DataSet t = dataset_profile t
 profile_in forms.General t = general_profile t
 profile_in forms.Identifier t = if_label (general_profile t)
-profile_in forms.LevelOrCategory t = if bytes_eq t (codes "SECLEVEL") || bytes_eq t (codes "CATEGORY") then general_profile t else None
+profile_in forms.LevelOrCategory t = if is_level_or_category t then general_profile t else None
 profile_in forms.Class t = if is_ok (id_of t) then general_profile t else None
 
 -- A class that isn't in the table has general names.

@@ -147,14 +147,16 @@ abbrev pub is_generic_kind : Kind → Bool
 is_generic_kind kinds.Generic = true
 is_generic_kind k = false
 
-abbrev pub without_generic : List Operand → Slots → Slots
-without_generic [] ss = ss
-without_generic (o ∷ os) [] = []
-without_generic (o ∷ os) (s ∷ ss) = (if is_generic_kind o.kind then None else s) ∷ without_generic os ss
+abbrev pub generic_place : List Operand → Option ℕ
+generic_place rows = position (λ o. is_generic_kind o.kind) rows
+
+abbrev pub cleared : Option ℕ → Slots → Slots
+cleared None slots = slots
+cleared (Some k) slots = slice_set slots k None
 
 -- the operands with the defaults that the canonical text writes
 abbrev pub completed : Verb → Slots → Slots
-completed v slots = without_generic (operands_of v) slots
+completed v slots = cleared (generic_place (operands_of v)) slots
 
 -- what is judged when the whole text was read
 abbrev pub closed : Verb → Slots → Result Slots Syntax

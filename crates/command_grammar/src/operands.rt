@@ -131,6 +131,7 @@ pub fn operands(
     text: Tokens<'_>,
 ) -> Result<Vec<Option<Content>>, ParseFault>
     ensures value { Gives (λ slots. slots.items) result (operands_at at.now rows.now (empty_slots rows.now) (items (tokens text.entry))) }
+    ensures length { IfOk result (λ slots. length slots.items ≡ length rows.now) }
 {
     let mut slots = no_slots(alloc, rows)?;
     let mut left = text;

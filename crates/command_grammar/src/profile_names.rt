@@ -1,10 +1,10 @@
 //! The names of profiles, by the class that they stand in (the forms of names are this product's own rules).
 
-ghost use Rattle.std.specs.Prelude.{◌≡◌, ◌==◌, ◌++◌, ◌∷◌, ◌≤◌, ◌<◌, length, map, option_map, position, IfOk, IfSome, is_ok};
+ghost use Rattle.std.specs.Prelude.{◌≡◌, ◌==◌, ◌++◌, ◌∷◌, ◌≤◌, ◌<◌, length, map, option_map, position, IfOk, IfSome, OnOk, is_ok, None, if◌then◌else◌};
 ghost use Rattle.std.specs.List.{list_any};
 ghost use Rattle.access_levels.specs.Spelling.{id_of};
 ghost use Rattle.command_words.specs.Bytes.{upper};
-ghost use Rattle.command_grammar.specs.ProfileNames.{first_qualifier as qualifier_first, dataset_profile as profile_of_dataset, general_profile as profile_general, if_label, profile_in as profile_by_form, form_in as names_in, general_form as form_general, class_profile as profile_of_class, in_quotes as text_in_quotes, dataset_text as text_of_dataset, dataset_named as dataset_by_word, is_unclosed as begins_unclosed};
+ghost use Rattle.command_grammar.specs.ProfileNames.{first_qualifier as qualifier_first, dataset_profile as profile_of_dataset, general_profile as profile_general, if_label, is_level_or_category as names_level_or_category, profile_in as profile_by_form, form_in as names_in, general_form as form_general, class_profile as profile_of_class, in_quotes as text_in_quotes, dataset_text as text_of_dataset, dataset_named as dataset_by_word, is_unclosed as begins_unclosed};
 
 use access_levels::Id;
 use command_words::folded;
@@ -60,8 +60,30 @@ fn label_profile(text: &[u8]) -> Option<Pattern>
     }
 }
 
-fn level_or_category(text: &[u8]) -> bool {
+fn is_level_or_category(text: &[u8]) -> bool
+    ensures { result ≡ names_level_or_category text.now }
+{
     text == b"SECLEVEL".as_slice() || text == b"CATEGORY".as_slice()
+}
+
+fn level_or_category_profile(text: &[u8]) -> Option<Pattern>
+    ensures { result ≡ (if names_level_or_category text.now then profile_general text.now else None) }
+{
+    if is_level_or_category(text) {
+        general_profile(text)
+    } else {
+        None
+    }
+}
+
+fn global_profile(text: &[u8]) -> Option<Pattern>
+    ensures { result ≡ (if is_ok (id_of text.now) then profile_general text.now else None) }
+{
+    if is_id(text) {
+        general_profile(text)
+    } else {
+        None
+    }
 }
 
 fn profile_in(form: NameForm, text: &[u8]) -> Option<Pattern>
@@ -71,9 +93,8 @@ fn profile_in(form: NameForm, text: &[u8]) -> Option<Pattern>
         NameForm::DataSet => dataset_profile(text),
         NameForm::General => general_profile(text),
         NameForm::Identifier => label_profile(text),
-        NameForm::LevelOrCategory if level_or_category(text) => general_profile(text),
-        NameForm::Class if is_id(text) => general_profile(text),
-        _ => None,
+        NameForm::LevelOrCategory => level_or_category_profile(text),
+        NameForm::Class => global_profile(text),
     }
 }
 
@@ -97,14 +118,21 @@ fn general_form(form: NameForm) -> NameForm
     }
 }
 
-// The word in upper case.
+// Puts the word in upper case behind what stands in `out`.
+fn push_folded(out: &mut Vec<u8>, word: &[u8]) -> Result<(), AllocError>
+    ensures { OnOk result (out.new.items ≡ out.old.items ++ map upper word.now) }
+{
+    for byte in word {
+        out.push(folded(*byte))?;
+    }
+    Ok(())
+}
+
 fn folded_word(alloc: Global, word: &[u8]) -> Result<Vec<u8>, AllocError>
     ensures { IfOk result (λ text. text.items ≡ map upper word.now) }
 {
-    let mut text = Vec::with_capacity(alloc, word.len())?;
-    for byte in word {
-        text.push(folded(*byte))?;
-    }
+    let mut text = Vec::new(alloc);
+    push_folded(&mut text, word)?;
     Ok(text)
 }
 
@@ -168,9 +196,7 @@ fn dataset_text(alloc: Global, issuer: Id, word: &[u8]) -> Result<Option<Vec<u8>
     }
     let mut text = Vec::from_slice(alloc, issuer.text())?;
     text.push(b'.')?;
-    for byte in word {
-        text.push(folded(*byte))?;
-    }
+    push_folded(&mut text, word)?;
     Ok(Some(text))
 }
 

@@ -1,11 +1,11 @@
 //! The reading of a whole text: the command's name, its positional words, its operands.
 
-ghost use Rattle.std.specs.Prelude.{◌≡◌, ◌+◌, ◌<◌, ◌≤◌, ◌^◌, [], length, map, find, bytes_eq, if◌then◌else◌};
+ghost use Rattle.std.specs.Prelude.{◌≡◌, ◌+◌, ◌<◌, ◌≤◌, ◌^◌, [], length, map, find, bytes_eq, if◌then◌else◌, IfSome};
 ghost use Rattle.command_words.specs.Bytes.{upper};
 ghost use Rattle.command_words.specs.Tokens.{tokens, of_command, of_naming_command};
-ghost use Rattle.command_grammar.specs.Table.{verb_named as verb_called, positions_of};
+ghost use Rattle.command_grammar.specs.Table.{verb_named as verb_called, positions_of, operands_of};
 ghost use Rattle.command_grammar.specs.Results.{Gives, Finds};
-ghost use Rattle.command_grammar.specs.Reading.{takes_quotes as may_be_quoted, bounded as bounded_in, placed as placed_in, position_at, behind as scope_behind, positions_at, given, excludes, clash as clash_of, unless_clash, without_generic, body_at, begins_with_name as may_begin_quoted, behind_first as rest_behind, begun as scope_begun, command_at, parsed};
+ghost use Rattle.command_grammar.specs.Reading.{takes_quotes as may_be_quoted, bounded as bounded_in, placed as placed_in, position_at, behind as scope_behind, positions_at, given, excludes, clash as clash_of, unless_clash, is_generic_kind, generic_place as place_of_generic, completed, body_at, begins_with_name as may_begin_quoted, behind_first as rest_behind, begun as scope_begun, command_at, parsed};
 ghost use Rattle.command_grammar.specs.Parts.{generic};
 
 use crate::faults::{ParseFault, Syntax};
@@ -190,15 +190,29 @@ fn clash(rows: &[Operand], slots: &[Option<Content>]) -> Option<(Operand, Operan
     None
 }
 
-// The operands with the defaults that are written, and without GENERIC.
-fn complete(rows: &[Operand], slots: &mut Vec<Option<Content>>)
-    requires { length slots.old.items ≡ length rows.now }
-    ensures { slots.new.items ≡ without_generic rows.now slots.old.items }
+fn is_generic_kind(kind: Kind) -> bool
+    ensures { result ≡ is_generic_kind kind }
 {
-    for (k, row) in rows.iter().enumerate() {
-        if row.kind == Kind::Generic {
-            slots[k] = None;
-        }
+    match kind {
+        Kind::Generic => true,
+        _ => false,
+    }
+}
+
+fn generic_place(rows: &[Operand]) -> Option<usize>
+    ensures value { result ≡ place_of_generic rows.now }
+    ensures within { IfSome result (λ k. k < length rows.now) }
+{
+    rows.iter().position(|row| is_generic_kind(row.kind))
+}
+
+// The operands with the defaults that are written, and without GENERIC.
+fn complete(verb: Verb, slots: &mut Vec<Option<Content>>)
+    requires { length slots.old.items ≡ length (operands_of verb) }
+    ensures { slots.new.items ≡ completed verb slots.old.items }
+{
+    if let Some(k) = generic_place(verb.operands()) {
+        slots[k] = None;
     }
 }
 
@@ -209,7 +223,7 @@ fn body(alloc: Global, at: Scope, verb: Verb, text: Tokens<'_>) -> Result<Parts,
     let rows = verb.operands();
     let (positions, at, rest) = positions(alloc, at, rows, verb.positions(), text)?;
     let mut slots = operands(alloc, &at, rows, rest)?;
-    complete(rows, &mut slots);
+    complete(verb, &mut slots);
     match clash(rows, &slots) {
         Some((one, other)) => Err(ParseFault::Syntax(Syntax::Excluded(one.word, other.word))),
         None => Ok(Parts {

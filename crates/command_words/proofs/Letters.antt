@@ -4,9 +4,9 @@ use Rattle.std.specs.Prelude.{◌==◌}
 use Rattle.std.specs.List.{list_all}
 use Rattle.std.proofs.lemmas.Bool.Decides.{nat_tests}
 use Rattle.command_words.specs.declared.quoting.Quoting.{Quoting}
-use Rattle.command_words.specs.declared.quoting.Quoting.TheVariants.{Ignored, Outside}
+use Rattle.command_words.specs.declared.quoting.Quoting.TheVariants.{Ignored, Outside, BeforeName}
 use Rattle.command_words.specs.Bytes.{is_gap_byte, is_word_byte}
-use Rattle.command_words.specs.Quotes.{after, hides, next_word, word_len}
+use Rattle.command_words.specs.Quotes.{after, hides, word_len}
 
 -- a byte of a word, and no quote
 abbrev pub is_letter : ℕ → Bool
@@ -40,13 +40,15 @@ both_second false b h = cc
 pub record IsSteady (q : Quoting) : Type 0 where
   pub open_to_all : hides q ≡ false
   pub stays : (p b : ℕ) → (b == 39) ≡ false → after q p b ≡ q
-  pub settled : next_word q ≡ q
 
 pub Ignored-steady : IsSteady Ignored
-Ignored-steady = record { open_to_all = refl; stays = λ p b h. refl; settled = refl }
+Ignored-steady = record { open_to_all = refl; stays = λ p b h. refl }
 
 pub Outside-steady : IsSteady Outside
-Outside-steady = record { open_to_all = refl; stays = λ p b h. rw h refl; settled = refl }
+Outside-steady = record { open_to_all = refl; stays = λ p b h. rw h refl }
+
+pub BeforeName-steady : IsSteady BeforeName
+BeforeName-steady = record { open_to_all = refl; stays = λ p b h. refl }
 
 -- what may follow a word
 abbrev pub EndsWord : List ℕ → Type 0

@@ -10,3 +10,4 @@ pub mod FirstLaws
 mod CompareLaws
 mod GapLaws
 pub mod BestLaws
+pub mod NameBytes

@@ -3,6 +3,7 @@
 
 mod class_table;
 mod class_tables;
+pub mod laws;
 mod limits;
 mod table;
 

@@ -11,7 +11,7 @@ use Rattle.racf_profiles.specs.Edits.{put_profile, drop_row, at_class, with_prof
 use Rattle.std.specs.Prelude.{IfSome}
 use Rattle.class_profiles.specs.Lawful.{AreClasses, AreProfiles, kind_in, most_profiles, most_class_profiles}
 use Rattle.class_profiles.specs.Table.{CanPut}
-use Rattle.class_profiles.specs.Classes.{Roomy, ClassList, profile_in, profile_count, entry_count, entries_in, most_entries, CanPutIn}
+use Rattle.class_profiles.specs.Classes.{Roomy, ClassList, profile_in, profile_count, entry_count, entries_in, most_entries, IsRoomFor, CanPutIn}
 use Rattle.class_profiles.specs.Summed.{rows_in}
 use Rattle.class_profiles.proofs.Counts.{sum-put, sum-drop, length-put, length-drop, sum-at_class, found-le}
 use Rattle.class_profiles.proofs.Places.{IsAt, spares, found-at, name-at, room-at, set-at, lawful-found, lawful-found_by, lawful-at_class, at_class-absent}
@@ -201,3 +201,35 @@ module _ (name : List ℕ) (items : List Roomy) (k : ℕ) (c y : Roomy) (change 
   flag-entries_counted =
       let step : sum_by entries_in (change c.row).profiles + 0 ≡ sum_by entries_in c.row.profiles + 0 = omega (arith, ap (λ (ps : List Profile). sum_by entries_in ps) (keeps c.row)) in
       ap entry_count flag-rows ∙ omega (arith, sum-at_class (λ (class : ClassRow). sum_by entries_in class.profiles) change name 0 0 (rows_in items) c.row here step)
+
+-- what is enough for a profile to be put
+pub enough : NotBoth → PassedOn → (list : ClassList) (name : List ℕ) (row : ClassRow) (p : Profile) → AreClasses list.classes → profile_count list.classes ≤ most_profiles → find (is_class name) list.classes ≡ Some row → p.name.kind ≡ kind_in name
+    → (profile_in name p.name list.classes ≡ None → IsRoomFor list name row) → entry_count list.classes + entries_in p ≤ most_entries + option_map_or entries_in (profile_in name p.name list.classes) 0 → CanPutIn list name p
+enough not_both passed_on list name row p lawful few found is room few_entries = record {
+  kind = is;
+  room = λ absent. (room absent).room;
+  few_in_class = subst (λ (o : Option ClassRow). IfSome o (λ (r : ClassRow). length (put_profile p r.profiles) ≤ most_class_profiles)) (sym found) (in_class (find (is_profile p.name) row.profiles) refl);
+  few = in_all (profile_in name p.name list.classes) refl;
+  few_entries = omega (arith, few_entries, put-entries_in not_both passed_on name row p list.classes lawful found is);
+}
+  where
+    inside : profile_in name p.name list.classes ≡ find (is_profile p.name) row.profiles
+    inside = ap (λ (o : Option ClassRow). option_and_then (λ (r : ClassRow). find (is_profile p.name) r.profiles) o) found
+
+    in_class : (o : Option Profile) → find (is_profile p.name) row.profiles ≡ o → length (put_profile p row.profiles) ≤ most_class_profiles
+    in_class o there =
+        let old = lawful-found_by name row list.classes found lawful in
+        let step = length-put not_both passed_on (kind_in name) p is row.profiles old.named old.ordered in
+        by o there step old.few
+      where
+        by : (q : Option Profile) → find (is_profile p.name) row.profiles ≡ q → length (put_profile p row.profiles) + option_map_or (λ (x : Profile). 1) (find (is_profile p.name) row.profiles) 0 ≡ length row.profiles + 1
+            → length row.profiles ≤ most_class_profiles → length (put_profile p row.profiles) ≤ most_class_profiles
+        by None at step old = let most : length row.profiles < most_class_profiles = (room (inside ∙ at)).few_in_class in omega (arith, step, most)
+        by (Some x) at step old =
+            let one : option_map_or {U = ℕ} (λ (y : Profile). 1) (find (is_profile p.name) row.profiles) 0 ≡ 1 = ap {B = ℕ} (λ (q : Option Profile). option_map_or (λ (y : Profile). 1) q 0) at in omega (arith, step, one, old)
+
+    in_all : (o : Option Profile) → profile_in name p.name list.classes ≡ o → profile_count (at_class name (with_profile p) list.classes) ≤ most_profiles
+    in_all None at = let most : profile_count list.classes < most_profiles = (room at).few in omega (arith, most, put-profiles not_both passed_on name row p list.classes lawful found is)
+    in_all (Some x) at =
+        let one : option_map_or {U = ℕ} (λ (y : Profile). 1) (profile_in name p.name list.classes) 0 ≡ 1 = ap {B = ℕ} (λ (q : Option Profile). option_map_or (λ (y : Profile). 1) q 0) at in
+        omega (arith, few, one, put-profiles not_both passed_on name row p list.classes lawful found is)

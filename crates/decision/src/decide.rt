@@ -1,8 +1,10 @@
 //! The decision on a request: the first case of the table that fits.
-ghost use Rattle.std.specs.Prelude.{◌≡◌, ◌==◌, ◌&&◌, bytes_eq};
+ghost use Rattle.std.specs.Prelude.{◌≡◌, ◌==◌, ◌&&◌, bytes_eq, position, unwrap_or};
+ghost use Rattle.generic_names.specs.Spelled.{period};
 ghost use Rattle.racf_profiles.specs.declared.profiles.Profile.{Profile};
 ghost use Rattle.raclist_image.specs.Facts.{AreFacts};
-ghost use Rattle.decision.specs.Table.{decided, cases_of_class, first_answer, else_case, first_qualifier, is_dataset, allows_operations, answer_with_profile, answer_without_profile};
+ghost use Rattle.decision.specs.Steps.{is_open};
+ghost use Rattle.decision.specs.Table.{decided, cases_of_class, first_answer, case, else_case, first_qualifier, is_dataset, allows_operations, answer_with_profile, answer_without_profile};
 
 use crate::answer::Answer;
 use crate::entries::{conditional_case, entry_case, is_open, listed, standing};
@@ -10,6 +12,7 @@ use crate::operations::operations_case;
 use crate::outcome::{Decision, Rule};
 use crate::request::Request;
 use access_levels::{Id, Level};
+use access_lists::Found;
 use acee::Acee;
 use generic_names::Resource;
 use racf_profiles::{FixedClass, Options};
@@ -93,17 +96,32 @@ fn with_profile(image: &Image, acee: &Acee, request: &Request, facts: &Facts<'_>
         return answer;
     }
     let standing = standing(&found, restricted, facts.uacc);
-    let may = allows_operations(request.class) && is_open(&found);
+    let may = may_operate(request.class, &found);
     if let Some(answer) = operations_case(image, acee, facts.owner, may, standing) {
         return answer;
     }
-    if facts.warning {
-        return Answer::allowed(Rule::Warning, standing);
-    }
-    Answer {
-        rule: Rule::Insufficient,
-        rc: 8,
-        found: standing,
+    last_case(facts.warning, standing)
+}
+
+// Whether OPERATIONS may give access: the class allows it, and there is no entry for the user or his groups.
+fn may_operate(class: Id, found: &Found) -> bool
+    ensures { result ≡ (allows_operations class && is_open found.now) }
+{
+    allows_operations(class) && is_open(found)
+}
+
+// The answer where nothing gives access: a profile that only warns gives it then.
+fn last_case(warning: bool, standing: Level) -> Answer
+    ensures { result ≡ unwrap_or (case warning Rule.Warning 0 standing) (else_case Rule.Insufficient 8 standing) }
+{
+    if warning {
+        Answer::allowed(Rule::Warning, standing)
+    } else {
+        Answer {
+            rule: Rule::Insufficient,
+            rc: 8,
+            found: standing,
+        }
     }
 }
 
@@ -129,8 +147,15 @@ fn first_qualifier(name: &Resource) -> &[u8]
     ensures { result.now ≡ first_qualifier name.now }
 {
     let text = name.text();
-    match text.iter().position(|byte| *byte == b'.') {
+    match first_period(text) {
         Some(end) => &text[..end],
         None => text,
     }
+}
+
+// The place of the first period.
+fn first_period(text: &[u8]) -> Option<usize>
+    ensures { result ≡ position (λ byte. byte == period) text.now }
+{
+    text.iter().position(|byte| *byte == b'.')
 }

@@ -1,9 +1,5 @@
-pub mod Names
-pub mod ValueAgain
-pub mod TableFacts
-pub mod ReadAgain
-pub mod ReadLawful
-pub mod Takes
+pub mod Formed
 pub mod OneForm
+pub mod Spelled
 pub mod Written
 mod CommandRows

@@ -8,3 +8,4 @@ pub mod UserList
 pub mod KeptUsers
 pub mod Contents
 pub mod Kept
+pub mod Covering

@@ -4,6 +4,7 @@
 mod apply;
 mod check;
 mod conflict;
+mod covering;
 mod database;
 mod edits;
 mod limits;

@@ -6,12 +6,13 @@ ghost use Rattle.group_tree.specs.Lawful.{IsTree};
 ghost use Rattle.class_profiles.specs.Lawful.{AreUsers, AreProfiles, AreClasses};
 
 use crate::classes::kind_in;
+use crate::flags::ClassFlags;
 use crate::image::Image;
 use access_levels::{Attributes, Categories, Entry, Id, Level, Text, Who};
 use generic_names::{NameKind, Pattern, Resource};
 use racf_profiles::{
-    AuditRule, ClassRows, Classes, CondEntries, Connects, Entries, Group, Groups, Members, Profile,
-    Profiles, Rows, User, Users,
+    AuditRule, ClassRows, Classes, CondEntries, Connects, Entries, Group, Groups, LogOption,
+    Members, Profile, Profiles, Rows, User, Users,
 };
 use std::alloc::Global;
 use std::sync::Arc;
@@ -142,4 +143,116 @@ fn image(alloc: Global) -> Result<Arc<Image>, Fail> {
         options: Rows::new_database(alloc)?.options,
     };
     Ok(Image::of(alloc, &rows, 7)?)
+}
+
+// The ID of the user at that place.
+fn id_at(image: &Image, place: usize) -> Option<Id> {
+    if place < image.user_count() {
+        Some(image.user_at(place).id)
+    } else {
+        None
+    }
+}
+
+#[test]
+fn users_and_groups(rt: HostRuntime) -> Result<(), Fail> {
+    let image = image(rt.alloc())?;
+    assert_eq!(rt; image.generation(), 7);
+    assert_eq!(rt; image.user_count(), 3);
+    for (place, name, owner) in [
+        (0, b"SUE".as_slice(), b"SYS1".as_slice()),
+        (1, b"BOB".as_slice(), b"D1".as_slice()),
+        (2, b"ANN".as_slice(), b"BOB".as_slice()),
+    ] {
+        let name = id(name)?;
+        assert_eq!(rt; id_at(&image, place), Some(name));
+        assert_eq!(rt; image.user(name).map(|user| user.owner), Some(id(owner)?));
+    }
+    for (name, owner) in [
+        (b"SYS1".as_slice(), b"SUE".as_slice()),
+        (b"D1".as_slice(), b"SYS1".as_slice()),
+        (b"D2".as_slice(), b"SUE".as_slice()),
+    ] {
+        assert_eq!(rt;
+            image.group(id(name)?).map(|group| group.owner),
+            Some(id(owner)?)
+        );
+    }
+    assert!(rt; image.user(id(b"D1")?).is_none() && image.group(id(b"SUE")?).is_none());
+    assert!(rt; !image.options().mls);
+    Ok(())
+}
+
+#[test]
+fn flags_of_classes(rt: HostRuntime) -> Result<(), Fail> {
+    let image = image(rt.alloc())?;
+    for (name, active, listed, operations, count) in [
+        (b"DATASET".as_slice(), true, false, true, 0),
+        (b"FACILITY".as_slice(), false, true, false, 3),
+        (b"TAPEVOL".as_slice(), false, false, true, 0),
+    ] {
+        let flags = ClassFlags {
+            active,
+            listed,
+            global: false,
+            operations,
+            log: LogOption::ByProfile,
+        };
+        assert_eq!(rt; image.class(id(name)?), Some(flags));
+        assert_eq!(rt;
+            image.effective(id(name)?).map(|class| class.len()),
+            Some(count)
+        );
+    }
+    assert!(rt; image.class(id(b"SUE")?).is_none());
+    assert!(rt; image.effective(id(b"SUE")?).is_none());
+    Ok(())
+}
+
+// The universal access and the number of entries that the most specific profile has.
+fn access(image: &Image, class: Id, name: &[u8]) -> Result<Option<(Level, usize)>, Fail> {
+    let name = Resource::read(kind_in(class), name)?;
+    let Some(profiles) = image.effective(class) else {
+        return Ok(None);
+    };
+    let Some(place) = profiles.find(&name) else {
+        return Ok(None);
+    };
+    let facts = profiles.facts(place);
+    Ok(Some((facts.uacc, facts.standard.len())))
+}
+
+#[test]
+fn effective_profiles(rt: HostRuntime) -> Result<(), Fail> {
+    let image = image(rt.alloc())?;
+    for (name, uacc) in [
+        (b"A.B".as_slice(), Level::NoAccess),
+        (b"A.B.C".as_slice(), Level::Read),
+        (b"A.C".as_slice(), Level::Read),
+        (b"A".as_slice(), Level::Update),
+        (b"B".as_slice(), Level::Update),
+    ] {
+        assert_eq!(rt; access(&image, id(b"FACILITY")?, name)?, Some((uacc, 1)));
+    }
+    assert!(rt; access(&image, id(b"DATASET")?, b"A.B")?.is_none());
+    Ok(())
+}
+
+#[test]
+fn scope_of_profiles(rt: HostRuntime) -> Result<(), Fail> {
+    let image = image(rt.alloc())?;
+    for (top, owner, within) in [
+        (b"SYS1".as_slice(), b"D1".as_slice(), true),
+        (b"SYS1".as_slice(), b"D2".as_slice(), false),
+        (b"D2".as_slice(), b"D2".as_slice(), true),
+        (b"SYS1".as_slice(), b"SUE".as_slice(), true),
+        (b"D1".as_slice(), b"SUE".as_slice(), false),
+        (b"SYS1".as_slice(), b"BOB".as_slice(), true),
+        (b"D1".as_slice(), b"BOB".as_slice(), true),
+        (b"SYS1".as_slice(), b"ANN".as_slice(), false),
+        (b"SYS1".as_slice(), b"GONE".as_slice(), false),
+    ] {
+        assert_eq!(rt; image.in_scope(id(top)?, id(owner)?), within);
+    }
+    Ok(())
 }

@@ -1,9 +1,9 @@
-use Rattle.std.proofs.Common.{◌≡◌, ℕ, ◌∷◌, ◌++◌, [], List, Bool, true, false, cond, Option, Some, None, is_some, IsSome, codes, bytes_eq, refl, sym, ap, subst, ◌∙◌, map, arith}
+use Rattle.std.proofs.Common.{◌≡◌, ℕ, ◌∷◌, ◌++◌, [], List, Bool, true, false, cond, Option, Some, None, IsSome, codes, bytes_eq, refl, sym, ap, subst, ◌∙◌, arith}
 use Rattle.std.specs.Prelude.{◌↔◌}
 use Rattle.std.specs.List.{IsDistinct}
 use Rattle.std.proofs.lemmas.Slice.Eq.{bytes_eq-Decides}
 use Rattle.racf_profiles.specs.declared.groups.Group.{Group}
-use Rattle.group_tree.specs.Groups.{find_group, IsGroup}
+use Rattle.group_tree.specs.Groups.{find_group}
 use Rattle.group_tree.specs.Scope.{IsWithin}
 use Rattle.group_tree.specs.Lawful.{IsTree}
 use Rattle.raclist_image.proofs.tests.groups.Goals as goal

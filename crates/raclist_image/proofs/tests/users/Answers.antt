@@ -1,6 +1,5 @@
-use Rattle.std.proofs.Common.{◌≡◌, ℕ, ◌∷◌, ◌++◌, [], List, codes, bytes_eq, refl, sym, ap, subst, ◌∙◌, map, arith}
-use Rattle.std.specs.List.{IsDistinct, AllByRecursion}
-use Rattle.std.proofs.lemmas.Map.Keys.{IsDistinct-cons}
+use Rattle.std.proofs.Common.{◌≡◌, ◌∷◌, ◌++◌, [], codes, bytes_eq, refl, sym, ap, subst, ◌∙◌, arith}
+use Rattle.std.specs.List.{IsDistinct}
 use Rattle.racf_profiles.specs.declared.users.User.{User}
 use Rattle.class_profiles.specs.Lawful.{AreUsers}
 use Rattle.raclist_image.proofs.tests.users.Goals as goal

@@ -1,0 +1,2 @@
+mod WordRows
+mod LineRows

@@ -1,2 +1,3 @@
 mod WordRows
 mod LineRows
+pub mod WordLaws

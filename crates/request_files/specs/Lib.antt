@@ -1,3 +1,5 @@
 pub mod Words
 pub mod Spellings
 pub mod Grammar
+pub mod Answers
+pub mod Acees

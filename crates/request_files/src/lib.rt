@@ -1,7 +1,9 @@
 //! Lines of requests: what they ask for, the ACEEs that they name, and the answers.
 #![tactic(auto)]
 
+mod acees;
 mod line;
 mod operands;
+mod words;
 
 pub use line::{LineRefusal, RequestLine};

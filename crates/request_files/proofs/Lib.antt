@@ -1,3 +1,4 @@
 mod WordRows
 mod LineRows
 pub mod WordLaws
+pub mod NumberLaws

@@ -3,7 +3,10 @@
 
 mod acees;
 mod line;
+mod long_word;
+mod numbers;
 mod operands;
+mod spellings;
 mod words;
 
 pub use line::{LineRefusal, RequestLine};

@@ -14,6 +14,7 @@ use Rattle.request_files.specs.declared.line.LineRefusal.{LineRefusal}
 use Rattle.request_files.specs.declared.line.LineRefusal.TheVariants.{BadLine, BadName, LineTooLong}
 use Rattle.request_files.specs.declared.operands.Operand.{Operand}
 use Rattle.request_files.specs.declared.operands.Operand.TheVariants as operand
+use Rattle.request_files.specs.declared.reading.Verified.{Verified}
 use Rattle.request_files.specs.Words.{Word, Unread, unread_at}
 use Rattle.request_files.specs.Spellings.{folded, id_word, name_word, level_word, number_word, operand_word}
 
@@ -117,10 +118,6 @@ with_word request word = fits (option_and_then (with_operand request) (operand_w
 abbrev pub with_words : VerifyRequest → List Word → Result VerifyRequest ℕ
 with_words request [] = Ok request
 with_words request (word ∷ words) = with_word request word >>= λ longer. with_words longer words
-
-pub record Verified : Type 0 where
-  pub acee : List ℕ
-  pub request : VerifyRequest
 
 unfoldable pub verified_by : Unread → Result Verified ℕ
 verified_by unread = do

@@ -1,8 +1,8 @@
 -- What a single word of a line says. Letters are folded to upper case.
-use Rattle.std.specs.Prelude.{ℕ, ◌+◌, ◌-◌, ◌*◌, ◌^◌, ◌==◌, nat_le, Bool, false, not, ◌&&◌, if◌then◌else◌, List, [], ◌∷◌, map, find, Option, Some, None, option_map, option_and_then, codes, bytes_eq}
+use Rattle.std.specs.Prelude.{ℕ, ◌+◌, ◌-◌, ◌*◌, ◌^◌, ◌==◌, nat_le, Bool, false, not, ◌&&◌, if◌then◌else◌, List, [], ◌∷◌, length, take, map, find, Option, Some, None, option_map, option_and_then, codes, bytes_eq}
 use Rattle.std.specs.List.{list_all, before_first, after_first}
 use Rattle.std.specs.Result.{result_ok}
-use Rattle.std.specs.Io.BufRead.{ends_with_byte, strip_last}
+use Rattle.std.specs.Io.BufRead.{ends_with_byte}
 use Rattle.access_levels.specs.Spelling.{id_of, group_of, level_of}
 use Rattle.access_levels.specs.Level.{port_class_name}
 use Rattle.access_levels.specs.declared.levels.Level.{Level}
@@ -64,8 +64,11 @@ opens byte = byte == 40
 abbrev pub key_of : List ℕ → List ℕ
 key_of text = folded (before_first opens text)
 
+abbrev pub closed : List ℕ → Option (List ℕ)
+closed rest = if ends_with_byte 41 rest then Some (take (length rest - 1) rest) else None
+
 abbrev pub value_of : List ℕ → Option (List ℕ)
-value_of text = if ends_with_byte 41 (after_first opens text) then Some (strip_last 41 (after_first opens text)) else None
+value_of text = closed (after_first opens text)
 
 -- the class of the ports of entry that a key names
 abbrev pub port_class : List ℕ → Option PortClass

@@ -6,6 +6,7 @@ mod line;
 mod long_word;
 mod numbers;
 mod operands;
+mod reading;
 mod spellings;
 mod words;
 

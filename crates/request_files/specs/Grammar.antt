@@ -3,7 +3,6 @@ use Rattle.std.specs.Prelude.{ℕ, ◌+◌, nat_lt, nat_eq, if◌then◌else◌,
 use Rattle.std.specs.List.{starts_with}
 use Rattle.access_levels.specs.declared.levels.Level.{Level}
 use Rattle.generic_names.specs.Spelled.{Spelled}
-use Rattle.generic_names.specs.Faults.{resource_of}
 use Rattle.generic_names.specs.declared.fault.NameFault.{NameFault}
 use Rattle.class_profiles.specs.Lawful.{kind_in}
 use Rattle.acee.specs.declared.request.VerifyRequest.{VerifyRequest}
@@ -87,20 +86,23 @@ number_after unread = do
   number ← next number_word unread
   ended number.1.words number.0
 
--- AUTH and FASTAUTH: an ACEE, a class, the name of a resource, and a level
+-- AUTH and FASTAUTH: an ACEE, a class, the name of a resource, and a level. The name may have a fault, which is told
+-- once all words fit.
 pub record Asked : Type 0 where
   pub acee : List ℕ
-  pub class : List ℕ
-  pub name : List ℕ
-  pub level : Level
+  pub access : Result Access NameFault
+
+abbrev pub access_to : List ℕ → Level → Result Spelled NameFault → Result Access NameFault
+access_to class level (Ok name) = Ok record { class = class; name = name; asked = level }
+access_to class level (Err fault) = Err fault
 
 unfoldable pub asked_by : Unread → Result Asked ℕ
 asked_by unread = do
   acee ← next id_word unread
   class ← next id_word acee.1
-  name ← next name_word class.1
+  name ← next (name_word (kind_in class.0)) class.1
   level ← next level_word name.1
-  ended level.1.words record { acee = acee.0; class = class.0; name = name.0; level = level.0 }
+  ended level.1.words record { acee = acee.0; access = access_to class.0 level.0 name.0 }
 
 -- VERIFY: an ACEE, a user, and operands in any order. Each stands once at most, and one port of entry at most is named.
 abbrev pub user_alone : List ℕ → VerifyRequest
@@ -132,14 +134,12 @@ abbrev pub made : {X : Type 0} → (X → Line) → Result X ℕ → Result Line
 made line_for (Ok said) = Ok (line_for said)
 made line_for (Err place) = Err (BadLine place)
 
--- A name is that of a data set in class DATASET, and a general one with every other class word. What is wrong with it
--- is told once all words fit.
-abbrev pub named : (List ℕ → Access → Line) → Asked → Result Spelled NameFault → Result Line LineRefusal
-named line_for asked (Ok name) = Ok (line_for asked.acee record { class = asked.class; name = name; asked = asked.level })
-named line_for asked (Err fault) = Err (BadName asked.acee fault)
+abbrev pub named : (Access → Line) → List ℕ → Result Access NameFault → Result Line LineRefusal
+named line_for acee (Ok access) = Ok (line_for access)
+named line_for acee (Err fault) = Err (BadName acee fault)
 
 abbrev pub accessed : (List ℕ → Access → Line) → Result Asked ℕ → Result Line LineRefusal
-accessed line_for (Ok asked) = named line_for asked (resource_of (kind_in asked.class) asked.name)
+accessed line_for (Ok asked) = named (line_for asked.acee) asked.acee asked.access
 accessed line_for (Err place) = Err (BadLine place)
 
 abbrev pub verify_line : Verified → Line

@@ -1,5 +1,5 @@
 -- What a single word of a line says. Letters are folded to upper case.
-use Rattle.std.specs.Prelude.{ℕ, ◌+◌, ◌-◌, ◌*◌, ◌^◌, ◌==◌, nat_le, Bool, false, not, ◌&&◌, if◌then◌else◌, List, [], ◌∷◌, length, take, map, find, Option, Some, None, option_map, option_and_then, codes, bytes_eq}
+use Rattle.std.specs.Prelude.{ℕ, ◌+◌, ◌-◌, ◌*◌, ◌^◌, ◌==◌, nat_le, Bool, false, not, ◌&&◌, if◌then◌else◌, List, [], ◌∷◌, length, take, map, find, Option, Some, None, Result, option_map, option_and_then, codes, bytes_eq}
 use Rattle.std.specs.List.{list_all, before_first, after_first}
 use Rattle.std.specs.Result.{result_ok}
 use Rattle.std.specs.Io.BufRead.{ends_with_byte}
@@ -10,7 +10,10 @@ use Rattle.access_levels.specs.declared.entries.Condition.{Condition}
 use Rattle.access_levels.specs.declared.entries.PortClass.{PortClass}
 use Rattle.access_levels.specs.declared.entries.PortClass.TheVariants.{Terminal, Console, Jesinput, Appcport}
 use Rattle.command_words.specs.Bytes.{upper}
-use Rattle.generic_names.specs.Faults.{is_digit}
+use Rattle.generic_names.specs.Spelled.{Spelled}
+use Rattle.generic_names.specs.Faults.{is_digit, resource_of}
+use Rattle.generic_names.specs.declared.kind.NameKind.{NameKind}
+use Rattle.generic_names.specs.declared.fault.NameFault.{NameFault}
 use Rattle.decision.specs.Asked.{may_be_asked}
 use Rattle.request_files.specs.declared.operands.Operand.{Operand}
 use Rattle.request_files.specs.declared.operands.Operand.TheVariants as operand
@@ -26,9 +29,10 @@ id_word text = result_ok (id_of (folded text))
 abbrev pub group_word : List ℕ → Option (List ℕ)
 group_word text = result_ok (group_of (folded text))
 
--- the name of a resource: any word, which is read once the line's words fit
-abbrev pub name_word : List ℕ → Option (List ℕ)
-name_word text = Some (folded text)
+-- The name of a resource of this kind: any word fits, whatever is wrong with it as a name. In class DATASET it is read
+-- as the name of a data set, with every other class word as a general one.
+abbrev pub name_word : NameKind → List ℕ → Option (Result Spelled NameFault)
+name_word kind text = Some (resource_of kind (folded text))
 
 -- READ, UPDATE, CONTROL or ALTER
 abbrev pub if_asked : Level → Option Level

@@ -4,10 +4,11 @@
 mod acees;
 mod line;
 mod long_word;
+mod next_words;
 mod numbers;
 mod operands;
 mod reading;
 mod spellings;
 mod words;
 
-pub use line::{LineRefusal, RequestLine};
+pub use line::{LineRefusal, RequestLine, read_line};

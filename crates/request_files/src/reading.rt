@@ -1,80 +1,37 @@
-//! The lines of requests, read.
+//! The words behind the first one of a line, read for each kind of line.
 
-ghost use Rattle.std.specs.Prelude.{◌≡◌, ◌<◌, ◌^◌, length, Result, map};
+ghost use Rattle.std.specs.Prelude.{◌≡◌, IfOk, IsTrue};
 ghost use Rattle.class_profiles.specs.Lawful.{kind_in};
-ghost use Rattle.request_files.specs.Spellings.{id_word as id_in, level_word as level_in, number_word as number_of};
+ghost use Rattle.decision.specs.Asked.{may_be_asked};
 ghost use Rattle.request_files.specs.Words.{seen};
-ghost use Rattle.request_files.specs.Grammar.{next as next_word, ended as end_of, with_word as with_one, with_words as with_all, user_alone, deleted, number_after, verified_by};
+ghost use Rattle.request_files.specs.Grammar.{with_word as with_one, with_words as with_all, user_alone, deleted, number_after, verified_by, asked_by, access_to};
+ghost use Rattle.request_files.specs.Seen.{access_seen, asked_seen};
 
-use crate::numbers::number_word;
+use crate::next_words::{ended, next_id, next_level, next_name, next_number};
 use crate::operands::{operand_word, with_operand};
-use crate::spellings::{id_word, level_word};
 use crate::words::{Word, Words};
 use access_levels::{Id, Level};
 use acee::VerifyRequest;
+use decision::Request;
+use generic_names::{NameFault, NameKind, Resource};
 
-/// What VERIFY's words say.
+/// What the words of VERIFY say.
 #[derive(Clone, Copy)]
-struct Verified {
-    acee: Id,
-    request: VerifyRequest,
+pub(crate) struct Verified {
+    pub(crate) acee: Id,
+    pub(crate) request: VerifyRequest,
 }
 
-/// The ID that the next word spells, and the words behind it; or the place of what doesn't fit.
-#[tactic(auto, unfolding(crate::specs::Grammar::next))]
-fn next_id<'a>(words: &Words<'a>) -> Result<(Id, Words<'a>), u32>
-    ensures { result ≡ next_word id_in words.now }
-{
-    let Some((word, rest)) = words.split_first() else {
-        return Err(words.end());
-    };
-    match id_word(word.text) {
-        Some(id) => Ok((id, rest)),
-        None => Err(word.place),
-    }
-}
-
-/// The number that the next word writes.
-#[tactic(auto, unfolding(crate::specs::Grammar::next))]
-fn next_number<'a>(words: &Words<'a>) -> Result<(u64, Words<'a>), u32>
-    ensures { result ≡ next_word number_of words.now }
-{
-    let Some((word, rest)) = words.split_first() else {
-        return Err(words.end());
-    };
-    match number_word(word.text) {
-        Some(number) => Ok((number, rest)),
-        None => Err(word.place),
-    }
-}
-
-/// The level that the next word asks for.
-#[tactic(auto, unfolding(crate::specs::Grammar::next))]
-fn next_level<'a>(words: &Words<'a>) -> Result<(Level, Words<'a>), u32>
-    ensures { result ≡ next_word level_in words.now }
-{
-    let Some((word, rest)) = words.split_first() else {
-        return Err(words.end());
-    };
-    match level_word(word.text) {
-        Some(level) => Ok((level, rest)),
-        None => Err(word.place),
-    }
-}
-
-/// Refuses a word that is left.
-fn ended<T: Drop>(words: &Words, said: T) -> Result<T, u32>
-    ensures { result ≡ end_of words.now.words said }
-{
-    match words.split_first() {
-        Some((word, _)) => Err(word.place),
-        None => Ok(said),
-    }
+/// What the words of AUTH and FASTAUTH say. The name of the resource may have a fault.
+#[derive(Clone, Copy)]
+pub(crate) struct Asked {
+    pub(crate) acee: Id,
+    pub(crate) request: Result<Request, NameFault>,
 }
 
 /// DELETE: the name of an ACEE.
 #[tactic(auto, unfolding(crate::specs::Grammar::deleted))]
-fn deleted(words: &Words) -> Result<Id, u32>
+pub(crate) fn deleted(words: &Words) -> Result<Id, u32>
     ensures { result ≡ deleted words.now }
 {
     let (acee, rest) = next_id(words)?;
@@ -83,7 +40,7 @@ fn deleted(words: &Words) -> Result<Id, u32>
 
 /// `*AFTER`: a number.
 #[tactic(auto, unfolding(crate::specs::Grammar::number_after))]
-fn number_after(words: &Words) -> Result<u64, u32>
+pub(crate) fn number_after(words: &Words) -> Result<u64, u32>
     ensures { result ≡ number_after words.now }
 {
     let (number, rest) = next_number(words)?;
@@ -92,7 +49,7 @@ fn number_after(words: &Words) -> Result<u64, u32>
 
 /// VERIFY: the name of an ACEE, a user, and operands.
 #[tactic(auto, unfolding(crate::specs::Grammar::verified_by))]
-fn verified_by(words: &Words) -> Result<Verified, u32>
+pub(crate) fn verified_by(words: &Words) -> Result<Verified, u32>
     ensures { result ≡ verified_by words.now }
 {
     let (acee, rest) = next_id(words)?;
@@ -137,5 +94,41 @@ fn with_word(request: &VerifyRequest, word: Word) -> Result<VerifyRequest, u32>
     match with_operand(request, &operand) {
         Some(longer) => Ok(longer),
         None => Err(word.place),
+    }
+}
+
+/// AUTH and FASTAUTH: the name of an ACEE, a class, the name of a resource, and a level.
+#[tactic(auto, unfolding(crate::specs::Grammar::asked_by))]
+pub(crate) fn asked_by(words: &Words) -> Result<Asked, u32>
+    ensures { asked_seen result ≡ asked_by words.now }
+{
+    let (acee, rest) = next_id(words)?;
+    let (class, rest) = next_id(&rest)?;
+    let (name, rest) = next_name(kind_in(class), &rest)?;
+    let (level, rest) = next_level(&rest)?;
+    let request = request_to(class, name, level);
+    ended(&rest, Asked { acee, request })
+}
+
+/// The request for that access, unless the name has a fault.
+fn request_to(class: Id, name: Result<Resource, NameFault>, asked: Level) -> Result<Request, NameFault>
+    requires kind { IfOk name (λ name. name.kind ≡ kind_in class) }
+    requires level { IsTrue (may_be_asked asked) }
+    ensures { access_seen result ≡ access_to class asked name }
+{
+    match name {
+        Ok(name) => Ok(Request { class, name, asked }),
+        Err(fault) => Err(fault),
+    }
+}
+
+/// The kind of the names in a class.
+fn kind_in(class: Id) -> NameKind
+    ensures { result ≡ kind_in class }
+{
+    if class.text() == b"DATASET".as_slice() {
+        NameKind::DataSet
+    } else {
+        NameKind::General
     }
 }

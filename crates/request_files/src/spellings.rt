@@ -1,8 +1,9 @@
 //! What a single word of a line says. Letters are folded to upper case.
 
-ghost use Rattle.std.specs.Prelude.{◌≡◌};
+ghost use Rattle.std.specs.Prelude.{◌≡◌, IfOk, IfSome, IsTrue};
 ghost use Rattle.access_levels.specs.Spelling.{level_of};
 ghost use Rattle.generic_names.specs.Faults.{resource_of};
+ghost use Rattle.decision.specs.Asked.{may_be_asked};
 ghost use Rattle.request_files.specs.Spellings.{folded, id_word, group_word, level_word};
 
 use crate::long_word::LongWord;
@@ -28,7 +29,8 @@ pub(crate) fn group_word(word: &[u8]) -> Option<Id>
 
 /// The level that a word asks for: READ, UPDATE, CONTROL or ALTER.
 pub(crate) fn level_word(word: &[u8]) -> Option<Level>
-    ensures { result ≡ level_word word.now }
+    ensures level { result ≡ level_word word.now }
+    ensures asked { IfSome result (λ level. IsTrue (may_be_asked level)) }
 {
     let level = level_named(word)?;
     match level {
@@ -47,7 +49,8 @@ fn level_named(word: &[u8]) -> Option<Level>
 
 /// The name of a resource, as a word spells it.
 pub(crate) fn name_word(kind: NameKind, word: &[u8]) -> Result<Resource, NameFault>
-    ensures { result ≡ resource_of kind (folded word.now) }
+    ensures name { result ≡ resource_of kind (folded word.now) }
+    ensures kind { IfOk result (λ name. name.kind ≡ kind) }
 {
     match LongWord::of(word) {
         Some(long) => Resource::read(kind, long.as_slice()),

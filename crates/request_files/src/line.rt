@@ -5,7 +5,7 @@ ghost use Rattle.request_files.specs.Grammar.{Auth, Fastauth, Delete, After, ver
 ghost use Rattle.request_files.specs.Spellings.{folded};
 ghost use Rattle.request_files.specs.Seen.{line_read};
 
-use crate::reading::{asked_by, deleted, number_after, verified_by};
+use crate::reading::{Asked, asked_by, deleted, number_after, verified_by};
 use crate::words::{Word, Words};
 use access_levels::Id;
 use acee::VerifyRequest;
@@ -121,9 +121,10 @@ fn auth_line(words: &Words) -> Result<RequestLine, LineRefusal>
         Ok(asked) => asked,
         Err(place) => return Err(LineRefusal::BadLine(place)),
     };
-    match asked.request {
-        Ok(request) => Ok(RequestLine::Auth(asked.acee, request)),
-        Err(fault) => Err(LineRefusal::BadName(asked.acee, fault)),
+    let Asked { acee, request } = asked;
+    match request {
+        Ok(request) => Ok(RequestLine::Auth(acee, request)),
+        Err(fault) => Err(LineRefusal::BadName(acee, fault)),
     }
 }
 
@@ -134,9 +135,10 @@ fn fastauth_line(words: &Words) -> Result<RequestLine, LineRefusal>
         Ok(asked) => asked,
         Err(place) => return Err(LineRefusal::BadLine(place)),
     };
-    match asked.request {
-        Ok(request) => Ok(RequestLine::Fastauth(asked.acee, request)),
-        Err(fault) => Err(LineRefusal::BadName(asked.acee, fault)),
+    let Asked { acee, request } = asked;
+    match request {
+        Ok(request) => Ok(RequestLine::Fastauth(acee, request)),
+        Err(fault) => Err(LineRefusal::BadName(acee, fault)),
     }
 }
 

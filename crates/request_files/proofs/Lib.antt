@@ -2,3 +2,4 @@ mod WordRows
 mod LineRows
 pub mod WordLaws
 pub mod NumberLaws
+pub mod RowLaws

@@ -11,4 +11,5 @@ mod reading;
 mod spellings;
 mod words;
 
+pub use acees::{AceeTable, NamedAcee};
 pub use line::{LineRefusal, RequestLine, read_line};

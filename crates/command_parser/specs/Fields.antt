@@ -32,7 +32,8 @@ abbrev pub slot : ℕ → Slots → Option Content
 slot zero slots = front slots
 slot (suc k) slots = slot k (behind slots)
 
--- whether an operand without a value was given; the value that was given of an operand with one, or an empty list
+-- what a slot holds of each kind of operand: whether one without a value was given, the value of one with a value, the
+-- elements of a list
 abbrev pub flag_in : Option Content → Bool
 flag_in s = is_some s
 
@@ -93,6 +94,7 @@ abbrev pub class_and_profile : List Content → Option ((List ℕ) × Spelled)
 class_and_profile (contents.Id class ∷ contents.Profile name ∷ []) = Some (class, name)
 class_and_profile others = None
 
+-- ADDUSER
 abbrev pub add_user_in : List ℕ → Slots → AddUser
 add_user_in user slots = record {
   user = user;
@@ -114,6 +116,7 @@ add_user_in user slots = record {
   seclabel = id_in (slot 15 slots);
 }
 
+-- ALTUSER
 abbrev pub alt_user_in : List ℕ → Slots → AltUser
 alt_user_in user slots = record {
   user = user;
@@ -142,12 +145,15 @@ alt_user_in user slots = record {
   noseclabel = flag_in (slot 22 slots);
 }
 
+-- ADDGROUP
 abbrev pub add_group_in : List ℕ → Slots → AddGroup
 add_group_in group slots = record { group = group; supgroup = id_in (slot 0 slots); owner = id_in (slot 1 slots) }
 
+-- ALTGROUP
 abbrev pub alt_group_in : List ℕ → Slots → AltGroup
 alt_group_in group slots = record { group = group; supgroup = id_in (slot 0 slots); owner = id_in (slot 1 slots) }
 
+-- CONNECT
 abbrev pub connect_in : List ℕ → Slots → Connect
 connect_in user slots = record {
   user = user;
@@ -163,5 +169,6 @@ connect_in user slots = record {
   resume = flag_in (slot 9 slots);
 }
 
+-- REMOVE
 abbrev pub remove_in : List ℕ → Slots → Remove
 remove_in user slots = record { user = user; group = id_in (slot 0 slots) }

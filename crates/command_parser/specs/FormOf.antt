@@ -13,6 +13,7 @@ use Rattle.command_parser.specs.Forms.{given_by}
 use Rattle.command_parser.specs.Fields.{front, id_in, only_id, only_profile, class_and_profile, add_user_in, alt_user_in, add_group_in, alt_group_in, connect_in, remove_in}
 use Rattle.command_parser.specs.ProfileFields.{add_sd_in, alt_sd_in, r_define_in, r_alter_in, permit_in}
 
+-- The command of each verb: its positional words must be those that it takes. PERMIT always names its class.
 abbrev pub form_by : Verb → List Content → Slots → Option Form
 form_by verbs.AddUser words slots = option_map (λ user. forms.AddUser (add_user_in user slots)) (only_id words)
 form_by verbs.AltUser words slots = option_map (λ user. forms.AltUser (alt_user_in user slots)) (only_id words)
@@ -30,7 +31,7 @@ form_by verbs.RAlter words slots = option_map (λ names. forms.RAlter (r_alter_i
 form_by verbs.RDelete words slots = option_map (λ names. forms.RDelete (record { class = names.0; profile = names.1 })) (class_and_profile words)
 form_by verbs.Permit words slots = option_and_then (λ name. option_map (λ class. forms.Permit (permit_in name class slots)) (id_in (front slots))) (only_profile words)
 
--- The command of which this is the table's view, if there is one. PERMIT always names its class.
+-- The command of which this is the table's view, if there is one.
 unfoldable pub form_of : Generic → Option Form
 form_of g = form_by g.verb g.positions g.slots
 

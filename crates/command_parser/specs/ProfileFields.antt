@@ -9,6 +9,7 @@ use Rattle.command_parser.specs.declared.profile_forms.Permit.{Permit}
 use Rattle.command_grammar.specs.Reading.{Slots}
 use Rattle.command_parser.specs.Fields.{slot, flag_in, id_in, ids_in, level_in, audit_in, reset_in, whos_in, when_in, members_in, member_names_in}
 
+-- ADDSD
 abbrev pub add_sd_in : Spelled → Slots → AddSd
 add_sd_in profile slots = record {
   profile = profile;
@@ -22,6 +23,7 @@ add_sd_in profile slots = record {
   seclabel = id_in (slot 7 slots);
 }
 
+-- ALTDSD
 abbrev pub alt_sd_in : Spelled → Slots → AltSd
 alt_sd_in profile slots = record {
   profile = profile;
@@ -39,6 +41,7 @@ alt_sd_in profile slots = record {
   noseclabel = flag_in (slot 11 slots);
 }
 
+-- RDEFINE
 abbrev pub r_define_in : List ℕ → Spelled → Slots → RDefine
 r_define_in class profile slots = record {
   class = class;
@@ -54,6 +57,7 @@ r_define_in class profile slots = record {
   addmem = members_in (slot 8 slots);
 }
 
+-- RALTER
 abbrev pub r_alter_in : List ℕ → Spelled → Slots → RAlter
 r_alter_in class profile slots = record {
   class = class;
@@ -74,6 +78,7 @@ r_alter_in class profile slots = record {
   delmem = member_names_in (slot 13 slots);
 }
 
+-- PERMIT, whose class stands in the first slot
 abbrev pub permit_in : Spelled → List ℕ → Slots → Permit
 permit_in profile class slots = record {
   profile = profile;

@@ -1,6 +1,6 @@
 -- The slots of the operands of the commands on profiles, each from the field of its operand. GENERIC of a data set profile's
 -- command leaves nothing in its slot, which is the last.
-use Rattle.std.specs.Prelude.{List, [], ◌∷◌, None, Some}
+use Rattle.std.specs.Prelude.{[], ◌∷◌, None, Some}
 use Rattle.command_grammar.specs.declared.values.Content.TheVariants as contents
 use Rattle.command_parser.specs.declared.profile_forms.AddSd.{AddSd}
 use Rattle.command_parser.specs.declared.profile_forms.AltSd.{AltSd}

@@ -75,14 +75,8 @@ fn form_in(alloc: Global, parts: Parts) -> Option<Form>
         Verb::DelSd => Form::DelSd(DelSd {
             profile: only_profile(words)?,
         }),
-        Verb::RDefine => {
-            let (class, profile) = class_and_profile(words)?;
-            Form::RDefine(r_define(alloc, class, profile, slots))
-        }
-        Verb::RAlter => {
-            let (class, profile) = class_and_profile(words)?;
-            Form::RAlter(r_alter(alloc, class, profile, slots))
-        }
+        Verb::RDefine => Form::RDefine(r_define(alloc, class_and_profile(words)?, slots)),
+        Verb::RAlter => Form::RAlter(r_alter(alloc, class_and_profile(words)?, slots)),
         Verb::RDelete => {
             let (class, profile) = class_and_profile(words)?;
             Form::RDelete(RDelete { class, profile })

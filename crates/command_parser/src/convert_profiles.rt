@@ -52,10 +52,11 @@ pub fn alt_sd(alloc: Global, profile: Pattern, slots: Vec<Option<Content>>) -> A
     }
 }
 
-/// RDEFINE, of whose operands these are the values.
-pub fn r_define(alloc: Global, class: Id, profile: Pattern, slots: Vec<Option<Content>>) -> RDefine
-    ensures { result ≡ r_define_in class profile slots.items }
+/// RDEFINE, of this class and profile, of whose operands these are the values.
+pub fn r_define(alloc: Global, names: (Id, Pattern), slots: Vec<Option<Content>>) -> RDefine
+    ensures { result ≡ r_define_in names.0 names.1 slots.items }
 {
+    let (class, profile) = names;
     let mut slots = Slots::new(slots);
     RDefine {
         class,
@@ -72,10 +73,11 @@ pub fn r_define(alloc: Global, class: Id, profile: Pattern, slots: Vec<Option<Co
     }
 }
 
-/// RALTER, of whose operands these are the values.
-pub fn r_alter(alloc: Global, class: Id, profile: Pattern, slots: Vec<Option<Content>>) -> RAlter
-    ensures { result ≡ r_alter_in class profile slots.items }
+/// RALTER, of this class and profile, of whose operands these are the values.
+pub fn r_alter(alloc: Global, names: (Id, Pattern), slots: Vec<Option<Content>>) -> RAlter
+    ensures { result ≡ r_alter_in names.0 names.1 slots.items }
 {
+    let (class, profile) = names;
     let mut slots = Slots::new(slots);
     RAlter {
         class,

@@ -1,8 +1,8 @@
 //! The image of a state.
-ghost use Rattle.std.specs.Prelude.{◌≡◌, ◌↔◌, ◌<◌, length, slice_get, Some, IfOk, IfSome, IsTrue, option_map};
+ghost use Rattle.std.specs.Prelude.{◌≡◌, ◌↔◌, ◌<◌, length, slice_get, Some, IfOk, IfSome, IsSome, IsTrue, option_map};
 ghost use Rattle.std.specs.Arc.{arc_value};
 ghost use Rattle.std.specs.Option.{option_copied};
-ghost use Rattle.racf_profiles.specs.Lookup.{user_of, group_of};
+ghost use Rattle.racf_profiles.specs.Lookup.{user_of, group_of, class_of};
 ghost use Rattle.racf_profiles.specs.State.{restart, effective};
 ghost use Rattle.group_tree.specs.Lawful.{IsTree};
 ghost use Rattle.group_tree.specs.Scope.{InScopeProfile};
@@ -78,6 +78,7 @@ impl Image {
     /// profiles. None where no class has the name.
     pub fn effective(&self, class: Id) -> Option<&ClassImage>
         ensures profiles { option_map (λ image. image.profiles) (option_copied result) ≡ effective class self.now.state }
+        ensures known { IsSome result ↔ IsSome (class_of class self.now.state.rows) }
         ensures kind { IfSome result (λ image. image.now.kind ≡ kind_in class) }
     {
         racf_profiles::laws::restart_is_live();

@@ -1,4 +1,5 @@
 pub mod Names
+pub mod NameBytes
 pub mod Patterns
 pub mod AuditAgain
 pub mod EntriesAgain

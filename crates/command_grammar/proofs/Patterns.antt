@@ -12,7 +12,7 @@ use Rattle.generic_names.specs.declared.kind.NameKind.TheVariants.{DataSet, Gene
 use Rattle.generic_names.specs.Spelled.{Spelled}
 use Rattle.generic_names.specs.Faults.{pattern_of, is_letter as is_name_letter, is_digit}
 use Rattle.generic_names.specs.Covers.{is_generic}
-use Rattle.generic_names.proofs.NameBytes.{is_name_byte, pattern-read}
+use Rattle.command_grammar.proofs.NameBytes.{is_name_byte, pattern-read}
 use Rattle.racf_profiles.specs.declared.fixed_classes.NameForm.{NameForm}
 use Rattle.racf_profiles.specs.declared.fixed_classes.NameForm.TheVariants as forms
 use Rattle.command_words.specs.declared.quoting.Quoting.TheVariants.{Ignored}

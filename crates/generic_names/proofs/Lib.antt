@@ -10,4 +10,3 @@ pub mod FirstLaws
 mod CompareLaws
 mod GapLaws
 pub mod BestLaws
-pub mod NameBytes

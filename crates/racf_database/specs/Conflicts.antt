@@ -33,43 +33,8 @@ use Rattle.racf_database.specs.Limits.{most_users, most_groups, most_connections
 use Rattle.racf_database.specs.Names.{is_taken, is_class_word, is_to, is_connected_to, connects_of, administrators, connections}
 use Rattle.racf_database.specs.Security.{level_number, is_category, category_number, is_label}
 use Rattle.racf_database.specs.Effects.{group_or_current, new_user, new_group, altered_group, connects_after, step}
-
--- The conflict, where it is met.
-abbrev pub if_met : Bool → Conflict → Option Conflict
-if_met met conflict = if met then Some conflict else None
-
--- ---- who and what has to be there
-unfoldable pub no_user : List ℕ → Rows → Option Conflict
-no_user id rows = if_met (not (is_some (user_of id rows))) (NoUser id)
-
-unfoldable pub no_group : List ℕ → Rows → Option Conflict
-no_group id rows = if_met (not (is_some (group_of id rows))) (NoGroup id)
-
--- OWNER names a user or a group.
-unfoldable pub no_owner : Option (List ℕ) → Rows → Option Conflict
-no_owner None rows = None
-no_owner (Some owner) rows = if_met (not (is_taken owner rows)) (NoUser owner)
-
--- DFLTGRP of ALTUSER, and SUPGROUP of ALTGROUP, name a group.
-unfoldable pub no_named_group : Option (List ℕ) → Rows → Option Conflict
-no_named_group None rows = None
-no_named_group (Some group) rows = no_group group rows
-
--- The first class of a list that isn't in the table.
-unfoldable pub no_class : List (List ℕ) → Rows → Option Conflict
-no_class classes rows = option_map NoClass (find (λ name. not (is_class_word rows name)) classes)
-
--- What is to be defined isn't there.
-unfoldable pub name_taken : List ℕ → Rows → Option Conflict
-name_taken id rows = if_met (is_taken id rows) (Exists (named.Id id))
-
-unfoldable pub not_connected : List ℕ → List ℕ → Rows → Option Conflict
-not_connected user group rows = if_met (not (list_any (is_to group) (connects_of user rows))) (NotConnected group)
-
--- ALTUSER: the new default group is one that the user is connected to.
-unfoldable pub default_not_connected : List ℕ → Option (List ℕ) → Rows → Option Conflict
-default_not_connected user None rows = None
-default_not_connected user (Some group) rows = not_connected user group rows
+unfoldable pub use Rattle.racf_database.specs.Required.{no_user, no_group, no_owner, no_named_group, no_class, name_taken, not_connected, default_not_connected, unknown_level, unknown_category, never_category, unknown_label}
+pub use Rattle.racf_database.specs.Required.{if_met, first_met, over}
 
 -- ---- what has to stay
 unfoldable pub is_root : List ℕ → Bool
@@ -126,26 +91,7 @@ default_group id group rows = option_and_then (λ (user : User). if_met (bytes_e
 unfoldable pub last_special : Issuer → Form → List ℕ → Rows → Option Conflict
 last_special issuer command id rows = if_met (administrators (step issuer command rows).users == 0) (LastSpecial id)
 
--- ---- levels, categories and labels
-unfoldable pub unknown_level : Option (List ℕ) → Rows → Option Conflict
-unknown_level None rows = None
-unknown_level (Some name) rows = if_met (not (is_some (level_number rows name))) (UnknownName name)
-
--- The first of ADDCATEGORY that is no category; the first of DELCATEGORY that never was one.
-unfoldable pub unknown_category : List (List ℕ) → Rows → Option Conflict
-unknown_category names rows = option_map UnknownName (find (λ name. not (is_category rows name)) names)
-
-unfoldable pub never_category : List (List ℕ) → Rows → Option Conflict
-never_category names rows = option_map UnknownName (find (λ name. not (is_some (category_number rows name))) names)
-
-unfoldable pub unknown_label : Option (List ℕ) → Rows → Option Conflict
-unknown_label None rows = None
-unknown_label (Some name) rows = if_met (not (is_label rows name)) (UnknownName name)
-
 -- ---- limits: more of a kind than the limit
-abbrev pub over : Kind → ℕ → ℕ → Option Conflict
-over kind limit count = if_met (nat_lt limit count) (Full kind limit)
-
 -- after the command
 unfoldable pub users_full : Issuer → Form → Rows → Option Conflict
 users_full issuer command rows = over Users most_users (length (step issuer command rows).users)
@@ -253,12 +199,6 @@ conflicts issuer (form.AltGroup c) rows = alt_group_conflicts c rows
 conflicts issuer (form.DelGroup c) rows = del_group_conflicts c rows
 conflicts issuer (form.Connect c) rows = connect_conflicts issuer c rows
 conflicts issuer (form.Remove c) rows = remove_conflicts issuer c rows
-
--- The first that is met.
-abbrev pub first_met : List (Option Conflict) → Option Conflict
-first_met [] = None
-first_met (None ∷ tests) = first_met tests
-first_met (Some conflict ∷ tests) = Some conflict
 
 abbrev pub conflict_of : Issuer → Form → Rows → Option Conflict
 conflict_of issuer command rows = first_met (conflicts issuer command rows)

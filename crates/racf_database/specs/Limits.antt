@@ -14,3 +14,19 @@ most_connections = 300
 -- of all users
 abbrev pub most_connections_in_all : ℕ
 most_connections_in_all = 200000
+
+-- of one access list
+abbrev pub most_entries : ℕ
+most_entries = 1000
+
+-- of all access lists
+abbrev pub most_entries_in_all : ℕ
+most_entries_in_all = 1000000
+
+-- of one profile
+abbrev pub most_members : ℕ
+most_members = 1000
+
+-- ever defined
+abbrev pub most_categories : ℕ
+most_categories = 256

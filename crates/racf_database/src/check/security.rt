@@ -1,4 +1,4 @@
-//! Levels, categories and labels. No profile defines one yet.
+//! Levels, categories and labels that a command names.
 ghost use Rattle.std.specs.Prelude.{◌≡◌};
 ghost use Rattle.std.specs.Result.{result_err};
 ghost use Rattle.racf_database.specs.Conflicts.{unknown_level, unknown_category, never_category, unknown_label};
@@ -10,51 +10,58 @@ use command_parser::Ids;
 
 impl Database {
     /// A level that is named is one.
-    #[tactic(auto, unfolding(crate::specs::Conflicts::unknown_level))]
+    #[tactic(auto, unfolding(crate::specs::Required::unknown_level))]
     pub(super) fn check_level(&self, level: Option<Id>) -> Result<(), Conflict>
         ensures { result_err result ≡ unknown_level level self.now.rows }
     {
-        let _users = &self.users;
         match level {
-            Some(name) => Err(Conflict::UnknownName(name)),
             None => Ok(()),
+            Some(name) => match self.level_number(name) {
+                Some(_) => Ok(()),
+                None => Err(Conflict::UnknownName(name)),
+            },
         }
     }
 
     /// Each category is one.
-    #[tactic(auto, unfolding(crate::specs::Conflicts::unknown_category))]
+    #[tactic(auto, unfolding(crate::specs::Required::unknown_category))]
     pub(super) fn check_categories(&self, categories: &Ids) -> Result<(), Conflict>
         ensures { result_err result ≡ unknown_category categories.now self.now.rows }
     {
-        let _users = &self.users;
-        match categories.items.first() {
+        match categories
+            .items
+            .iter()
+            .find(|name| !self.is_category(**name))
+        {
             Some(name) => Err(Conflict::UnknownName(*name)),
             None => Ok(()),
         }
     }
 
     /// Each category was one at some time.
-    #[tactic(auto, unfolding(crate::specs::Conflicts::never_category))]
+    #[tactic(auto, unfolding(crate::specs::Required::never_category))]
     pub(super) fn check_former_categories(&self, categories: &Ids) -> Result<(), Conflict>
         ensures { result_err result ≡ never_category categories.now self.now.rows }
     {
-        let _users = &self.users;
-        match categories.items.first() {
+        match categories
+            .items
+            .iter()
+            .find(|name| !self.was_category(**name))
+        {
             Some(name) => Err(Conflict::UnknownName(*name)),
             None => Ok(()),
         }
     }
 
-    /// A label that is named is SYSHIGH or SYSLOW.
-    #[tactic(auto, unfolding(crate::specs::Conflicts::unknown_label))]
+    /// A label that is named is one.
+    #[tactic(auto, unfolding(crate::specs::Required::unknown_label))]
     pub(super) fn check_label(&self, label: Option<Id>) -> Result<(), Conflict>
         ensures { result_err result ≡ unknown_label label self.now.rows }
     {
-        let _users = &self.users;
         match label {
             None => Ok(()),
             Some(name) => {
-                if name.text() == b"SYSHIGH".as_slice() || name.text() == b"SYSLOW".as_slice() {
+                if self.is_label(name) {
                     Ok(())
                 } else {
                     Err(Conflict::UnknownName(name))

@@ -1,0 +1,106 @@
+//! Members of profiles, and the categories that they define.
+ghost use Rattle.std.specs.Prelude.{◌≡◌, fold, IfOk, OnOk};
+ghost use Rattle.racf_database.specs.Members.{member_name, is_member_named, is_named_in, with_member, without_members, members_after, with_category_name, categories_defined};
+
+use access_levels::Id;
+use generic_names::MemberName;
+use racf_profiles::{Member, NoMemory};
+use std::alloc::Global;
+
+/// The members without those of DELMEM, and then with those of ADDMEM, each in place of the one of its name or else last.
+pub(crate) fn members_after(
+    alloc: Global,
+    added: &[Member],
+    gone: &[MemberName],
+    old: &[Member],
+) -> Result<Vec<Member>, NoMemory>
+    ensures { IfOk result (λ members. members.items ≡ members_after added.now gone.now old.now) }
+{
+    let mut members = without_members(alloc, gone, old)?;
+    for member in added {
+        put_member(&mut members, *member)?;
+    }
+    Ok(members)
+}
+
+// The members without those of DELMEM.
+fn without_members(
+    alloc: Global,
+    gone: &[MemberName],
+    old: &[Member],
+) -> Result<Vec<Member>, NoMemory>
+    ensures { IfOk result (λ members. members.items ≡ without_members gone.now old.now) }
+{
+    old.iter()
+        .copied()
+        .filter(|member| !is_named_in(gone, member))
+        .collect(alloc)
+}
+
+/// Whether a member has one of these names.
+pub(crate) fn is_named_in(names: &[MemberName], member: &Member) -> bool
+    ensures { result ≡ is_named_in names.now member.now }
+{
+    names
+        .iter()
+        .any(|name| is_member_named(name.text(), member))
+}
+
+/// What a member is named.
+pub(crate) fn member_name(member: &Member) -> &[u8]
+    ensures { result.now ≡ member_name member.now }
+{
+    match member {
+        Member::Access(name, _) => name.text(),
+        Member::Grade(name, _) => name.text(),
+        Member::Category(name) => name.text(),
+    }
+}
+
+/// Whether a member has that name.
+pub(crate) fn is_member_named(name: &[u8], member: &Member) -> bool
+    ensures { result ≡ is_member_named name.now member.now }
+{
+    member_name(member) == name
+}
+
+// A member in place of the one of its name, or else last.
+fn put_member(members: &mut Vec<Member>, member: Member) -> Result<(), NoMemory>
+    ensures { OnOk result (members.new.items ≡ with_member members.old.items member) }
+{
+    match members
+        .iter()
+        .position(|other| is_member_named(member_name(&member), other))
+    {
+        Some(place) => {
+            members[place] = member;
+            Ok(())
+        }
+        None => members.push(member),
+    }
+}
+
+/// The names of categories with those that are new behind them.
+pub(crate) fn categories_defined(
+    alloc: Global,
+    added: &[Member],
+    old: &[Id],
+) -> Result<Vec<Id>, NoMemory>
+    ensures { IfOk result (λ names. names.items ≡ categories_defined added.now old.now) }
+{
+    let mut names = Vec::from_slice(alloc, old)?;
+    for member in added {
+        define_category(&mut names, member)?;
+    }
+    Ok(names)
+}
+
+// The name of a category that is new, behind the others.
+fn define_category(names: &mut Vec<Id>, member: &Member) -> Result<(), NoMemory>
+    ensures { OnOk result (names.new.items ≡ with_category_name names.old.items member.now) }
+{
+    match member {
+        Member::Category(name) => add_class(names, *name),
+        _ => Ok(()),
+    }
+}

@@ -1,0 +1,9 @@
+//! Access lists of profiles: entries put in and taken away, and the entry that counts for a user.
+#![tactic(auto)]
+
+mod answers;
+mod best;
+mod edits;
+
+pub use answers::Found;
+pub use edits::{ListFault, MOST_ENTRIES, permit, permit_when, withdraw, withdraw_when};

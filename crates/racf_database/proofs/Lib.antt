@@ -10,3 +10,4 @@ pub mod Unmet
 pub mod StepLaws
 pub mod Ready
 pub mod IdNames
+pub mod Growth

@@ -13,5 +13,6 @@ pub mod ProfileConflicts
 pub mod Conflicts
 pub mod UserList
 pub mod KeptUsers
+pub mod ClassStub
 pub mod Contents
 pub mod Kept

@@ -1,11 +1,12 @@
 -- The members of profiles of GLOBAL and SECDATA, and the categories that they define.
-use Rattle.std.specs.Prelude.{ℕ, Bool, true, false, not, List, [], ◌∷◌, fold, filter, bytes_eq}
+use Rattle.std.specs.Prelude.{ℕ, Bool, false, ◌||◌, not, List, [], ◌∷◌, fold, filter, bytes_eq}
 use Rattle.std.specs.List.{list_any}
 use Rattle.generic_names.specs.Spelled.{Spelled}
 use Rattle.racf_profiles.specs.declared.profiles.Member.{Member}
 use Rattle.racf_profiles.specs.declared.profiles.Member.TheVariants.{Access, Grade, Category}
 use Rattle.racf_profiles.specs.declared.options.Options.{Options}
 use Rattle.racf_profiles.specs.Edits.{put_row}
+use Rattle.racf_database.specs.Security.{is_category_member}
 use Rattle.racf_database.specs.UserEffects.{with_class}
 
 -- What a member is named: resources, a security level, or a category. The members of a profile are of one sort.
@@ -44,3 +45,9 @@ categories_defined added names = fold with_category_name names added
 
 abbrev pub options_after : List Member → Options → Options
 options_after added options = record options { categories = categories_defined added options.categories }
+
+-- Whether a member defines a category anew: one that is neither among these nor among the members before it.
+abbrev pub is_new_category : Member → List Member → List (List ℕ) → Bool
+is_new_category (Access resources level) before names = false
+is_new_category (Grade name number) before names = false
+is_new_category (Category name) before names = not (list_any (λ other. bytes_eq other name) names || list_any (is_category_member name) before)

@@ -13,6 +13,7 @@ use Rattle.racf_profiles.specs.declared.fixed_classes.ClassFacts.{ClassFacts}
 use Rattle.racf_profiles.specs.declared.rows.Rows.{Rows}
 use Rattle.racf_profiles.specs.ClassTable.{facts_of}
 use Rattle.racf_profiles.specs.Lookup.{class_of, profile_of}
+use Rattle.access_lists.specs.Lists.{most_entries}
 use Rattle.class_profiles.specs.Lawful.{most_class_profiles, most_profiles}
 use Rattle.command_parser.specs.declared.profile_forms.AddSd.{AddSd}
 use Rattle.command_parser.specs.declared.profile_forms.AltSd.{AltSd}
@@ -25,7 +26,7 @@ use Rattle.racf_database.specs.declared.conflict.Conflict.{Conflict}
 use Rattle.racf_database.specs.declared.conflict.Conflict.TheVariants.{NoUser, NoProfile, NoClass, Exists, NotGeneric}
 use Rattle.racf_database.specs.declared.conflict.Named.TheVariants as named
 use Rattle.racf_database.specs.declared.conflict.Kind.TheVariants.{ClassProfiles, Profiles, Entries, AllEntries, Members, Categories}
-use Rattle.racf_database.specs.Limits.{most_entries, most_entries_in_all, most_members, most_categories}
+use Rattle.racf_database.specs.Limits.{most_entries_in_all, most_members, most_categories}
 use Rattle.racf_database.specs.Names.{is_taken}
 use Rattle.racf_database.specs.Holdings.{first_qualifier, profiles_in, all_profiles, entries_of, all_entries}
 use Rattle.racf_database.specs.Members.{members_after, categories_defined}
@@ -88,15 +89,15 @@ class_profiles_full class rows = over ClassProfiles most_class_profiles (length 
 unfoldable pub profiles_full : Rows → Option Conflict
 profiles_full rows = over Profiles most_profiles (all_profiles rows.classes + 1)
 
--- of the profile that PERMIT changes: either list, and all lists with the new ones in place of the old ones
+-- of the profile that PERMIT changes, but with DELETE, which adds no entry: either list, and all lists with the new ones in place of the old ones
 unfoldable pub standard_full : Permit → Rows → Option Conflict
-standard_full c rows = option_and_then (λ (old : Profile). over Entries most_entries (length (standard_after c old.standard))) (profile_of c.class c.profile rows)
+standard_full c rows = if c.delete then None else option_and_then (λ (old : Profile). over Entries most_entries (length (standard_after c old.standard))) (profile_of c.class c.profile rows)
 
 unfoldable pub conditional_full : Permit → Rows → Option Conflict
-conditional_full c rows = option_and_then (λ (old : Profile). over Entries most_entries (length (conditional_after c old.conditional))) (profile_of c.class c.profile rows)
+conditional_full c rows = if c.delete then None else option_and_then (λ (old : Profile). over Entries most_entries (length (conditional_after c old.conditional))) (profile_of c.class c.profile rows)
 
 unfoldable pub entries_full : Permit → Rows → Option Conflict
-entries_full c rows = option_and_then (λ (old : Profile). over AllEntries most_entries_in_all (all_entries rows.classes - entries_of old + entries_of (permitted_profile c old))) (profile_of c.class c.profile rows)
+entries_full c rows = if c.delete then None else option_and_then (λ (old : Profile). over AllEntries most_entries_in_all (all_entries rows.classes - entries_of old + entries_of (permitted_profile c old))) (profile_of c.class c.profile rows)
 
 -- of the profile that RDEFINE makes, or that RALTER changes
 unfoldable pub members_full : List Member → Option Conflict

@@ -1,23 +1,30 @@
 //! The database: its rows, by name, and the change that was prepared.
 ghost use Rattle.std.specs.Prelude.{◌≡◌, None, IfOk};
+ghost use Rattle.racf_profiles.specs.NewDatabase.{no_options};
 ghost use Rattle.racf_database.specs.Contents.{first_rows};
 
+use crate::class_tables::ClassTables;
 use crate::user_table::UserTable;
 use access_levels::Id;
 use generic_names::Pattern;
 use group_tree::Tree;
-use racf_profiles::{Change, Group, NoMemory, Profile, Rows, User, View};
+use racf_profiles::{
+    CategoryNames, Change, Group, NoMemory, Options, Profile, Rows, User, View,
+};
 use std::alloc::{AllocError, Global};
 use std::marker::Model;
 
-/// The users, groups and connections of a database. Users and groups are found by name in one look-up, whatever their
-/// number. Every class is active, no profile is there, and the options are off: no command changes them yet.
+/// The users, groups, connections and profiles of a database. Users and groups are found by name in one look-up, whatever
+/// their number, and a profile by a search in the order of its class's. Every class is active, and the options are off but
+/// for the names of categories: no command changes them yet.
 ///
 /// A command is judged by `check`, then `prepare` takes all memory and answers its edits, and `apply` makes them.
 #[derive(Drop)]
 pub struct Database {
     pub(crate) users: UserTable,
     pub(crate) tree: Tree,
+    pub(crate) classes: ClassTables,
+    pub(crate) options: Options,
     pub(crate) prepared: Option<Change>,
 }
 
@@ -41,9 +48,13 @@ impl Database {
     {
         let users = first_users(alloc)?;
         let tree = first_tree(alloc)?;
+        let classes = ClassTables::new(alloc)?;
+        let options = first_options(alloc);
         Ok(Database {
             users,
             tree,
+            classes,
+            options,
             prepared: None,
         })
     }
@@ -67,10 +78,8 @@ impl View for Database {
         self.tree.get(id)
     }
 
-    /// None, since no profile is there yet.
-    fn profile(&self, _class: Id, _name: &Pattern) -> Option<&Profile> {
-        let _users = &self.users;
-        None
+    fn profile(&self, class: Id, name: &Pattern) -> Option<&Profile> {
+        self.classes.profile(class, name)
     }
 }
 
@@ -95,5 +104,19 @@ fn first_tree(alloc: Global) -> Result<Tree, NoMemory>
     match Tree::new(alloc) {
         Ok(tree) => Ok(tree),
         Err(_) => Err(AllocError),
+    }
+}
+
+// The options of a new database.
+fn first_options(alloc: Global) -> Options
+    ensures { result ≡ no_options }
+{
+    Options {
+        grplist: false,
+        protectall: false,
+        mls: false,
+        categories: CategoryNames {
+            items: Vec::new(alloc),
+        },
     }
 }

@@ -1,8 +1,9 @@
-//! The database of users, groups and connections: what a command conflicts with, and one step of the rows.
+//! The database of users, groups, connections and profiles: what a command conflicts with, and one step of the rows.
 #![tactic(auto)]
 
 mod apply;
 mod check;
+mod class_tables;
 mod conflict;
 mod database;
 mod edits;

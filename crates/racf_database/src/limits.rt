@@ -17,6 +17,18 @@ pub const MOST_CONNECTIONS: usize = 300;
 /// The most connections of all users.
 pub const MOST_CONNECTIONS_IN_ALL: usize = 200_000;
 
+/// The most entries of one access list.
+pub const MOST_ENTRIES: usize = 1_000;
+
+/// The most entries of all access lists.
+pub const MOST_ENTRIES_IN_ALL: usize = 1_000_000;
+
+/// The most members of one profile.
+pub const MOST_MEMBERS: usize = 1_000;
+
+/// The most categories ever defined.
+pub const MOST_CATEGORIES: usize = 256;
+
 /// Refuses a count that is over its limit.
 pub(crate) fn check_count(kind: Kind, limit: usize, count: usize) -> Result<(), Conflict>
     ensures { result_err result ≡ over kind limit count }

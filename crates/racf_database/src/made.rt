@@ -4,11 +4,18 @@ ghost use Rattle.racf_database.specs.Effects.{switched, group_or_current, owner_
 
 mod classes;
 mod connects;
+mod members;
+mod permit;
+mod profiles;
+mod security;
 mod users;
 
 use access_levels::Id;
 use command_parser::{AddGroup, AltGroup, Issuer};
 use racf_profiles::Group;
+pub(crate) use members::{categories_count, members_count};
+pub(crate) use permit::{conditional_count, standard_count};
+pub(crate) use profiles::dataset;
 pub(crate) use users::{attributes_after, connected_user, removed_user};
 
 /// The group that is named, or else the issuer's current one.

@@ -99,7 +99,7 @@ impl Database {
         ensures { result_err result ≡ class_profiles_full class self.now.rows }
     {
         let count = match self.classes.class(class) {
-            Some(row) => row.profiles().len(),
+            Some(row) => row.profiles.items.len(),
             None => 0,
         };
         check_count(Kind::ClassProfiles, MOST_CLASS_PROFILES, count + 1)

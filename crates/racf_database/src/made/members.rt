@@ -1,7 +1,10 @@
 //! Members of profiles, and the categories that they define.
-ghost use Rattle.std.specs.Prelude.{◌≡◌, fold, IfOk, OnOk};
-ghost use Rattle.racf_database.specs.Members.{member_name, is_member_named, is_named_in, with_member, without_members, members_after, with_category_name, categories_defined};
+ghost use Rattle.std.specs.Prelude.{◌≡◌, ◌||◌, not, fold, length, IfOk, OnOk};
+ghost use Rattle.std.specs.List.{list_any};
+ghost use Rattle.racf_database.specs.Members.{member_name, is_member_named, is_named_in, with_member, without_members, members_after, with_category_name, categories_defined, is_new_category};
 
+use super::classes::add_class;
+use super::security::is_category_member;
 use access_levels::Id;
 use generic_names::MemberName;
 use racf_profiles::{Member, NoMemory};
@@ -102,5 +105,68 @@ fn define_category(names: &mut Vec<Id>, member: &Member) -> Result<(), NoMemory>
     match member {
         Member::Category(name) => add_class(names, *name),
         _ => Ok(()),
+    }
+}
+
+/// How many members there are then. Each one that is added is compared with those before it and with the old ones.
+pub(crate) fn members_count(added: &[Member], gone: &[MemberName], old: &[Member]) -> usize
+    ensures { result ≡ length (members_after added.now gone.now old.now) }
+{
+    let mut count = count_without(gone, old);
+    for (i, member) in added.iter().enumerate() {
+        if is_new_member(member, &added[..i], gone, old) {
+            count += 1;
+        }
+    }
+    count
+}
+
+// How many members stay.
+fn count_without(gone: &[MemberName], old: &[Member]) -> usize
+    ensures { result ≡ length (without_members gone.now old.now) }
+{
+    old.iter()
+        .filter(|member| !is_named_in(gone, member))
+        .count()
+}
+
+// Whether a member is named neither as one that stays nor as one that was added before it.
+fn is_new_member(
+    member: &Member,
+    before: &[Member],
+    gone: &[MemberName],
+    old: &[Member],
+) -> bool
+    ensures { result ≡ not (list_any (is_member_named (member_name member.now)) (without_members gone.now old.now) || list_any (is_member_named (member_name member.now)) before.now) }
+{
+    let name = member_name(member);
+    let stays = old
+        .iter()
+        .any(|other| is_member_named(name, other) && !is_named_in(gone, other));
+    !(stays || before.iter().any(|other| is_member_named(name, other)))
+}
+
+/// How many categories were ever defined then. Each one that is added is compared with those before it and with the old ones.
+pub(crate) fn categories_count(added: &[Member], old: &[Id]) -> usize
+    ensures { result ≡ length (categories_defined added.now old.now) }
+{
+    let mut count = old.len();
+    for (i, member) in added.iter().enumerate() {
+        if is_new_category(member, &added[..i], old) {
+            count += 1;
+        }
+    }
+    count
+}
+
+// Whether a member is a category that is neither among the old ones nor among those that were added before it.
+fn is_new_category(member: &Member, before: &[Member], old: &[Id]) -> bool
+    ensures { result ≡ is_new_category member.now before.now old.now }
+{
+    match member {
+        Member::Category(name) => {
+            !(old.contains(name) || before.iter().any(|other| is_category_member(*name, other)))
+        }
+        _ => false,
     }
 }

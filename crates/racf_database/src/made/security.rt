@@ -1,5 +1,5 @@
 //! Security levels, categories and labels, by the live profiles that define them.
-ghost use Rattle.std.specs.Prelude.{◌≡◌, List, ℕ, fold, unwrap_or, option_and_then, is_some, codes, bytes_eq};
+ghost use Rattle.std.specs.Prelude.{◌≡◌, ◌||◌, [], List, ℕ, fold, unwrap_or, option_and_then, is_some, codes, bytes_eq};
 ghost use Rattle.std.specs.Option.{option_copied, option_map_or, option_or};
 ghost use Rattle.racf_profiles.specs.Lookup.{profile_of};
 ghost use Rattle.racf_database.specs.Security.{general_name, secdata_members, grade_of, first_grade, level_number, is_category_member, is_category, category_number, is_label, with_category, without_category};
@@ -165,8 +165,8 @@ fn grade_of(name: Id, member: &Member) -> Option<u8>
     }
 }
 
-// Whether a member is the category of that name.
-fn is_category_member(name: Id, member: &Member) -> bool
+/// Whether a member is the category of that name.
+pub(super) fn is_category_member(name: Id, member: &Member) -> bool
     ensures { result ≡ is_category_member name member.now }
 {
     match member {

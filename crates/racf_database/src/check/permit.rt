@@ -1,0 +1,119 @@
+//! Whom PERMIT names, and how many entries there may be after it.
+ghost use Rattle.std.specs.Prelude.{◌≡◌, ◌+◌, ◌-◌, length, fold};
+ghost use Rattle.std.specs.Result.{result_err};
+ghost use Rattle.racf_database.specs.Holdings.{entries_of};
+ghost use Rattle.racf_database.specs.PermitEffects.{standard_after, conditional_after};
+ghost use Rattle.racf_database.specs.ProfileConflicts.{is_unknown, named_unknown, no_permitted, standard_full, conditional_full, entries_full};
+
+use crate::conflict::{Conflict, Kind};
+use crate::database::Database;
+use crate::limits::{MOST_ENTRIES, MOST_ENTRIES_IN_ALL, check_count};
+use crate::made::{conditional_count, standard_count};
+use access_levels::Who;
+use command_parser::Permit;
+use racf_profiles::{Profile, View};
+
+impl Database {
+    /// Each ID that gets access is `*`, a user or a group.
+    #[tactic(auto, unfolding(crate::specs::ProfileConflicts::no_permitted))]
+    pub(super) fn check_permitted(&self, command: &Permit) -> Result<(), Conflict>
+        ensures { result_err result ≡ no_permitted command.now.delete command.now.id self.now.rows }
+    {
+        if command.delete {
+            return Ok(());
+        }
+        match command.id.items.iter().find(|who| self.is_unknown(who)) {
+            Some(who) => check_named(who),
+            None => Ok(()),
+        }
+    }
+
+    // Whether it is an ID that neither a user nor a group has.
+    fn is_unknown(&self, who: &Who) -> bool
+        ensures { result ≡ is_unknown self.now.rows who.now }
+    {
+        match who {
+            Who::Star => false,
+            Who::Named(id) => !self.is_taken(*id),
+        }
+    }
+
+    /// The profile's standard list is within the limit after PERMIT.
+    #[tactic(auto, unfolding(crate::specs::ProfileConflicts::standard_full))]
+    pub(super) fn check_standard_fits(&self, command: &Permit) -> Result<(), Conflict>
+        ensures { result_err result ≡ standard_full command.now self.now.rows }
+    {
+        if command.delete {
+            return Ok(());
+        }
+        match self.profile(command.class, &command.profile) {
+            None => Ok(()),
+            Some(old) => check_count(
+                Kind::Entries,
+                MOST_ENTRIES,
+                standard_count(command, old.standard.items.as_slice()),
+            ),
+        }
+    }
+
+    /// The profile's conditional list is within the limit after PERMIT.
+    #[tactic(auto, unfolding(crate::specs::ProfileConflicts::conditional_full))]
+    pub(super) fn check_conditional_fits(&self, command: &Permit) -> Result<(), Conflict>
+        ensures { result_err result ≡ conditional_full command.now self.now.rows }
+    {
+        if command.delete {
+            return Ok(());
+        }
+        match self.profile(command.class, &command.profile) {
+            None => Ok(()),
+            Some(old) => check_count(
+                Kind::Entries,
+                MOST_ENTRIES,
+                conditional_count(command, old.conditional.items.as_slice()),
+            ),
+        }
+    }
+
+    /// The entries of all lists are within the limit after PERMIT.
+    #[tactic(auto, unfolding(crate::specs::ProfileConflicts::entries_full))]
+    pub(super) fn check_entries_fit(&self, command: &Permit) -> Result<(), Conflict>
+        ensures { result_err result ≡ entries_full command.now self.now.rows }
+    {
+        if command.delete {
+            return Ok(());
+        }
+        match self.profile(command.class, &command.profile) {
+            None => Ok(()),
+            Some(old) => check_count(
+                Kind::AllEntries,
+                MOST_ENTRIES_IN_ALL,
+                self.classes.entries().saturating_sub(entries_of(old)) + entries_after(command, old),
+            ),
+        }
+    }
+}
+
+// An ID that is refused.
+fn check_named(who: &Who) -> Result<(), Conflict>
+    ensures { result_err result ≡ named_unknown who.now }
+{
+    match who {
+        Who::Star => Ok(()),
+        Who::Named(id) => Err(Conflict::NoUser(*id)),
+    }
+}
+
+// How many entries a profile has.
+fn entries_of(profile: &Profile) -> usize
+    ensures { result ≡ entries_of profile.now }
+{
+    profile.standard.items.len() + profile.conditional.items.len()
+}
+
+// How many entries a profile has after PERMIT.
+fn entries_after(command: &Permit, old: &Profile) -> usize
+    ensures { result ≡ length (standard_after command.now old.now.standard) + length (conditional_after command.now old.now.conditional) }
+{
+    standard_count(command, old.standard.items.as_slice())
+        + conditional_count(command, old.conditional.items.as_slice())
+}

@@ -1,1 +1,3 @@
 mod PutLaws
+mod BestLaws
+mod PlaceLaws

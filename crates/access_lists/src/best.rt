@@ -1,5 +1,10 @@
 //! The best of the entries for a user's groups.
-use access_levels::{Id, Level};
+ghost use Rattle.std.specs.Prelude.{◌≡◌, if◌then◌else◌, Some, position, bytes_eq};
+ghost use Rattle.access_lists.specs.Lists.{is_under};
+ghost use Rattle.access_lists.specs.Answers.{for_group, as_group_entry, goes_before, first_of_two, group_entry, unconditional, entries_under};
+
+use crate::edits::is_same_port;
+use access_levels::{CondEntry, Condition, Entry, Id, Level, Who};
 
 /// An entry for a group of the user.
 #[derive(Clone, Copy, Debug)]
@@ -8,4 +13,93 @@ pub struct GroupEntry {
     pub level: Level,
     /// The group's place among the user's groups.
     pub place: usize,
+}
+
+impl GroupEntry {
+    // Whether it goes before another: by its level, and at the same level by its group's place.
+    fn goes_before(&self, other: &GroupEntry) -> bool
+        ensures { result ≡ goes_before self.now other.now }
+    {
+        let (rank, other_rank) = (self.level.rank(), other.level.rank());
+        rank > other_rank || (rank == other_rank && self.place < other.place)
+    }
+}
+
+// The group entry of a standard list.
+pub(crate) fn group_entry(list: &[Entry], groups: &[Id]) -> Option<GroupEntry>
+    ensures { result ≡ group_entry groups.now list.now }
+{
+    let mut best = None;
+    for entry in list {
+        best = better(best, groups, entry.who, entry.level);
+    }
+    best
+}
+
+// The group entry of a conditional list under a port.
+pub(crate) fn group_entry_under(list: &[CondEntry], port: &Condition, groups: &[Id]) -> Option<GroupEntry>
+    ensures { result ≡ group_entry groups.now (entries_under port.now list.now) }
+{
+    let mut best = None;
+    for entry in list {
+        best = better_under(best, port, groups, entry);
+    }
+    best
+}
+
+// The better of the best so far and a conditional entry under the port.
+fn better_under(best: Option<GroupEntry>, port: &Condition, groups: &[Id], entry: &CondEntry) -> Option<GroupEntry>
+    ensures { result ≡ (if is_under port.now entry.now then first_of_two best (as_group_entry groups.now (unconditional entry.now)) else best) }
+{
+    if is_same_port(&entry.condition, port) {
+        better(best, groups, entry.who, entry.level)
+    } else {
+        best
+    }
+}
+
+// The better of the best so far and an entry. The groups are gone through only for an entry that can
+// be the better one by its level.
+fn better(best: Option<GroupEntry>, groups: &[Id], who: Who, level: Level) -> Option<GroupEntry>
+    ensures { result ≡ first_of_two best (for_group groups.now level who) }
+{
+    match best {
+        None => for_group(groups, who, level),
+        Some(best) if best.level.rank() > level.rank() => Some(best),
+        Some(best) => first_of_two(best, for_group(groups, who, level)),
+    }
+}
+
+// The first of two where there is a second.
+fn first_of_two(best: GroupEntry, other: Option<GroupEntry>) -> Option<GroupEntry>
+    ensures { result ≡ first_of_two (Some best) other }
+{
+    match other {
+        Some(other) if other.goes_before(&best) => Some(other),
+        _ => Some(best),
+    }
+}
+
+// An entry for one of the groups, with the place of its group.
+fn for_group(groups: &[Id], who: Who, level: Level) -> Option<GroupEntry>
+    ensures { result ≡ for_group groups.now level who }
+{
+    match &who {
+        Who::Star => None,
+        Who::Named(id) => match place_of(groups, *id) {
+            Some(place) => Some(GroupEntry {
+                group: *id,
+                level,
+                place,
+            }),
+            None => None,
+        },
+    }
+}
+
+// The place of a group.
+fn place_of(groups: &[Id], id: Id) -> Option<usize>
+    ensures { result ≡ position (bytes_eq id) groups.now }
+{
+    groups.iter().position(|group| id == *group)
 }

@@ -1,5 +1,5 @@
 //! Entries put into access lists and taken away.
-ghost use Rattle.std.specs.Prelude.{◌≡◌, ◌↔◌, ◌≤◌, ◌++◌, [], ◌∷◌, IsTrue, Err, MatchResult, position, vec_len};
+ghost use Rattle.std.specs.Prelude.{◌≡◌, ◌↔◌, ◌≤◌, ◌++◌, [], ◌∷◌, IsTrue, Err, MatchResult, position, length};
 ghost use Rattle.access_lists.specs.Lists.{is_same_who, is_same_port, is_for, is_for_under, permitted, permitted_when, withdrawn, withdrawn_when, is_full, is_full_when, most_entries};
 
 use access_levels::{CondEntry, Condition, Entry, Id, Who};
@@ -53,7 +53,7 @@ pub fn permit_when(list: &mut Vec<CondEntry>, entry: CondEntry) -> Result<(), Li
     ensures list { MatchResult result (λ _. list.new.items ≡ permitted_when entry list.old.items) (λ _. list.new.items ≡ list.old.items) }
     ensures full { (result ≡ Err ListFault.Full) ↔ IsTrue (is_full_when entry list.old.items) }
 {
-    match place_under(list.as_slice(), entry.condition, entry.who) {
+    match place_under(list.as_slice(), &entry.condition, &entry.who) {
         Some(place) => {
             list[place] = entry;
             Ok(())
@@ -67,7 +67,7 @@ pub fn permit_when(list: &mut Vec<CondEntry>, entry: CondEntry) -> Result<(), Li
 pub fn withdraw_when(list: &mut Vec<CondEntry>, condition: Condition, who: Who)
     ensures { list.new.items ≡ withdrawn_when condition who list.old.items }
 {
-    list.retain(|entry| !is_for_under(entry, condition, who));
+    list.retain(|entry| !is_for_under(entry, &condition, &who));
 }
 
 // The place of the entry of an ID.
@@ -78,8 +78,8 @@ fn place_for(list: &[Entry], who: Who) -> Option<usize>
 }
 
 // The place of the entry of a condition and an ID.
-pub(crate) fn place_under(list: &[CondEntry], condition: Condition, who: Who) -> Option<usize>
-    ensures { result ≡ position (is_for_under condition who) list.now }
+pub(crate) fn place_under(list: &[CondEntry], condition: &Condition, who: &Who) -> Option<usize>
+    ensures { result ≡ position (is_for_under condition.now who.now) list.now }
 {
     list.iter()
         .position(|entry| is_for_under(entry, condition, who))
@@ -88,7 +88,7 @@ pub(crate) fn place_under(list: &[CondEntry], condition: Condition, who: Who) ->
 // Adds an entry last, if there is room.
 fn add<T: Copy>(list: &mut Vec<T>, entry: T) -> Result<(), ListFault>
     ensures list { MatchResult result (λ _. list.new.items ≡ list.old.items ++ entry ∷ []) (λ _. list.new.items ≡ list.old.items) }
-    ensures full { (result ≡ Err ListFault.Full) ↔ most_entries ≤ vec_len list.old }
+    ensures full { (result ≡ Err ListFault.Full) ↔ most_entries ≤ length list.old.items }
 {
     if list.len() >= MOST_ENTRIES {
         return Err(ListFault::Full);
@@ -120,15 +120,15 @@ fn is_named(who: &Who, id: Id) -> bool
 }
 
 // Whether both name one port of one class.
-pub(crate) fn is_same_port(port: Condition, other: Condition) -> bool
-    ensures { result ≡ is_same_port port other }
+pub(crate) fn is_same_port(port: &Condition, other: &Condition) -> bool
+    ensures { result ≡ is_same_port port.now other.now }
 {
     port.class.name() == other.class.name() && port.name == other.name
 }
 
 // Whether a conditional entry is for an ID under a condition.
-fn is_for_under(entry: &CondEntry, condition: Condition, who: Who) -> bool
-    ensures { result ≡ is_for_under condition who entry.now }
+fn is_for_under(entry: &CondEntry, condition: &Condition, who: &Who) -> bool
+    ensures { result ≡ is_for_under condition.now who.now entry.now }
 {
-    is_same_port(entry.condition, condition) && is_same_who(&entry.who, &who)
+    is_same_port(&entry.condition, condition) && is_same_who(&entry.who, who)
 }

@@ -5,5 +5,5 @@ mod answers;
 mod best;
 mod edits;
 
-pub use answers::Found;
+pub use answers::{Found, answer, answer_when};
 pub use edits::{ListFault, MOST_ENTRIES, permit, permit_when, withdraw, withdraw_when};

@@ -2,5 +2,8 @@
 #![tactic(auto)]
 
 mod limits;
+mod table;
 
 pub use limits::{MOST_CLASS_PROFILES, MOST_PROFILES};
+pub use racf_profiles::NoMemory;
+pub use table::ProfileTable;

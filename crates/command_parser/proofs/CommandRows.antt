@@ -2,13 +2,13 @@
 use Rattle.std.proofs.Common.{◌≡◌, ℕ, List, Result, Ok, Err, refl}
 use Rattle.std.specs.Prelude.{codes}
 use Rattle.command_words.specs.Tokens.{tokens}
-use Rattle.command_parser.specs.declared.faults.Syntax.{Syntax}
-use Rattle.command_parser.specs.declared.faults.Syntax.TheVariants.{UnknownCommand, UnknownOperand, AmbiguousOperand, Missing, Repeated, Excluded, BadValue, Unclosed}
-use Rattle.command_parser.specs.declared.words.Word.TheVariants as words
-use Rattle.command_parser.specs.Results.{◌>>=◌}
-use Rattle.command_parser.specs.Reading.{parsed}
-use Rattle.command_parser.specs.declared.values.Context.{Context}
-use Rattle.command_parser.specs.Canon.{canon, spelled}
+use Rattle.command_grammar.specs.declared.faults.Syntax.{Syntax}
+use Rattle.command_grammar.specs.declared.faults.Syntax.TheVariants.{UnknownCommand, UnknownOperand, AmbiguousOperand, Missing, Repeated, Excluded, BadValue, Unclosed}
+use Rattle.command_grammar.specs.declared.words.Word.TheVariants as words
+use Rattle.command_grammar.specs.Results.{◌>>=◌}
+use Rattle.command_grammar.specs.Reading.{parsed}
+use Rattle.command_grammar.specs.declared.values.Context.{Context}
+use Rattle.command_grammar.specs.Canon.{canon, spelled}
 
 by_joe : Context
 by_joe = record { issuer = codes "JOE" }

@@ -1,8 +1,3 @@
-pub mod Names
-pub mod ValueAgain
-pub mod TableFacts
-pub mod ReadAgain
-pub mod ReadLawful
 pub mod Takes
 pub mod OneForm
 pub mod Written

@@ -2,12 +2,12 @@
 use Rattle.std.proofs.Common.{◌≡◌, ℕ, List, [], ◌∷◌, Bool, true, false, Option, None, Some, Result, Ok, Err, refl, sym, ap, ◌∙◌}
 use Rattle.std.specs.List.{slice_index_or}
 use Rattle.access_levels.specs.declared.authorities.GroupAuthority.{GroupAuthority}
-use Rattle.command_parser.specs.declared.faults.Syntax.{Syntax}
-use Rattle.command_parser.specs.declared.faults.ParseFault.{ParseFault}
-use Rattle.command_parser.specs.declared.faults.ParseFault.TheVariants as reasons
-use Rattle.command_parser.specs.declared.values.Content.{Content}
-use Rattle.command_parser.specs.declared.values.Content.TheVariants as contents
-use Rattle.command_parser.specs.declared.table.Verb.TheVariants as verbs
+use Rattle.command_grammar.specs.declared.faults.Syntax.{Syntax}
+use Rattle.command_grammar.specs.declared.faults.ParseFault.{ParseFault}
+use Rattle.command_grammar.specs.declared.faults.ParseFault.TheVariants as reasons
+use Rattle.command_grammar.specs.declared.values.Content.{Content}
+use Rattle.command_grammar.specs.declared.values.Content.TheVariants as contents
+use Rattle.command_grammar.specs.declared.table.Verb.TheVariants as verbs
 use Rattle.command_parser.specs.declared.forms.Form.{Form}
 use Rattle.command_parser.specs.declared.forms.Form.TheVariants as forms
 use Rattle.command_parser.specs.declared.forms.AddUser.{AddUser}
@@ -18,9 +18,9 @@ use Rattle.command_parser.specs.declared.forms.AltGroup.{AltGroup}
 use Rattle.command_parser.specs.declared.forms.DelGroup.{DelGroup}
 use Rattle.command_parser.specs.declared.forms.Connect.{Connect}
 use Rattle.command_parser.specs.declared.forms.Remove.{Remove}
-use Rattle.command_parser.specs.Reading.{Generic, Slots}
-use Rattle.command_parser.specs.Results.{Gives}
-use Rattle.command_parser.specs.Canon.{spelled}
+use Rattle.command_grammar.specs.Reading.{Generic, Slots}
+use Rattle.command_grammar.specs.Results.{Gives}
+use Rattle.command_grammar.specs.Canon.{spelled}
 use Rattle.command_parser.specs.Forms.{flag_slot, id_slot, authority_slot, name_slot, ids_slot, slots_of_add_user, slots_of_alt_user, slots_of_add_group, slots_of_alt_group, slots_of_connect, slots_of_remove, generic_form, given_by, Spells, IsUnlessMemory}
 
 flag_same : (x y : Bool) → flag_slot x ≡ flag_slot y → x ≡ y

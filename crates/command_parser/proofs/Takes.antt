@@ -1,10 +1,10 @@
 -- Slots that are taken one after another, each of the kind that its row has.
 use Rattle.std.proofs.Common.{◌≡◌, List, [], ◌∷◌, Option, None, Some, refl, subst}
-use Rattle.command_parser.specs.declared.table.Kind.{Kind}
-use Rattle.command_parser.specs.declared.table.Operand.{Operand}
-use Rattle.command_parser.specs.declared.values.Content.{Content}
-use Rattle.command_parser.specs.Reading.{Slots}
-use Rattle.command_parser.specs.Lawful.{Fits, FitsAll, FrontFits}
+use Rattle.command_grammar.specs.declared.table.Kind.{Kind}
+use Rattle.command_grammar.specs.declared.table.Operand.{Operand}
+use Rattle.command_grammar.specs.declared.values.Content.{Content}
+use Rattle.command_grammar.specs.Reading.{Slots}
+use Rattle.command_grammar.specs.Lawful.{Fits, FitsAll, FrontFits}
 
 abbrev pub fits_kinds : List Kind → Slots → Type 0
 fits_kinds [] [] = Unit {0}

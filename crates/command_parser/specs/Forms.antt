@@ -2,13 +2,13 @@
 use Rattle.std.specs.Prelude.{◌≡◌, ℕ, List, [], ◌∷◌, Bool, true, false, Option, None, Some, Result, Ok, Err}
 use Rattle.access_levels.specs.declared.authorities.GroupAuthority.{GroupAuthority}
 use Rattle.std.specs.Result.{result_err}
-use Rattle.command_parser.specs.declared.faults.Syntax.{Syntax}
-use Rattle.command_parser.specs.declared.faults.ParseFault.{ParseFault}
-use Rattle.command_parser.specs.declared.faults.ParseFault.TheVariants as reasons
-use Rattle.command_parser.specs.declared.table.Verb.TheVariants as verbs
-use Rattle.command_parser.specs.declared.values.Content.{Content}
-use Rattle.command_parser.specs.declared.values.Content.TheVariants as contents
-use Rattle.command_parser.specs.declared.values.Context.{Context}
+use Rattle.command_grammar.specs.declared.faults.Syntax.{Syntax}
+use Rattle.command_grammar.specs.declared.faults.ParseFault.{ParseFault}
+use Rattle.command_grammar.specs.declared.faults.ParseFault.TheVariants as reasons
+use Rattle.command_grammar.specs.declared.table.Verb.TheVariants as verbs
+use Rattle.command_grammar.specs.declared.values.Content.{Content}
+use Rattle.command_grammar.specs.declared.values.Content.TheVariants as contents
+use Rattle.command_grammar.specs.declared.values.Context.{Context}
 use Rattle.command_parser.specs.declared.forms.Form.{Form}
 use Rattle.command_parser.specs.declared.forms.Form.TheVariants as forms
 use Rattle.command_parser.specs.declared.forms.AddUser.{AddUser}
@@ -17,8 +17,8 @@ use Rattle.command_parser.specs.declared.forms.AddGroup.{AddGroup}
 use Rattle.command_parser.specs.declared.forms.AltGroup.{AltGroup}
 use Rattle.command_parser.specs.declared.forms.Connect.{Connect}
 use Rattle.command_parser.specs.declared.forms.Remove.{Remove}
-use Rattle.command_parser.specs.Reading.{Generic, Slots}
-use Rattle.command_parser.specs.Canon.{canon, spelled}
+use Rattle.command_grammar.specs.Reading.{Generic, Slots}
+use Rattle.command_grammar.specs.Canon.{canon, spelled}
 
 -- the slot of an operand that takes no value, of a name, an authority, a user's name, a list of names
 abbrev pub flag_slot : Bool → Option Content

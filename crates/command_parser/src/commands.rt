@@ -3,17 +3,14 @@
 ghost use Rattle.std.specs.Prelude.{◌≡◌, ◌++◌, List, ℕ, IfOk, IfErr, OnOk, OnErr, IsTrue, IsErr, MatchOption, is_ok};
 ghost use Rattle.access_levels.specs.Spelling.{group_of};
 ghost use Rattle.command_parser.specs.declared.forms.Form.{Form};
-ghost use Rattle.command_parser.specs.Results.{Gives};
-ghost use Rattle.command_parser.specs.Canon.{spelled};
+ghost use Rattle.command_grammar.specs.Results.{Gives};
+ghost use Rattle.command_grammar.specs.Canon.{spelled};
 ghost use Rattle.command_parser.specs.Forms.{generic_form, canonical, Spells, IsFault, IsUnlessMemory};
 
 use crate::convert::form;
-use crate::faults::{ParseFault, Syntax};
 use crate::forms::Form;
-use crate::printing::printed;
-use crate::reading::{LONGEST, read};
-use crate::values::Context;
 use access_levels::Id;
+use command_grammar::{Context, LONGEST, ParseFault, Syntax, laws, printed, read};
 use std::alloc::{AllocError, Global};
 use std::marker::Model;
 
@@ -79,6 +76,8 @@ impl Command {
 fn parse_exact(alloc: Global, at: &Context, text: &[u8]) -> Result<Command, ParseFault>
     ensures { Gives generic_form result (spelled at.now text.now) }
 {
+    laws::what_is_read_is_lawful();
+    laws::canonical_text_is_read_again();
     let parts = read(alloc, at, text)?;
     let canonical = printed(alloc, &parts)?;
     if canonical.len() > LONGEST {

@@ -1,21 +1,19 @@
 //! From the table's view of a command to the command.
 
 ghost use Rattle.std.specs.Prelude.{◌≡◌, ◌∷◌, []};
-ghost use Rattle.command_parser.specs.declared.table.Verb.TheVariants as verbs;
-ghost use Rattle.command_parser.specs.declared.table.Kind.TheVariants as kinds;
-ghost use Rattle.command_parser.specs.declared.values.Content.TheVariants as contents;
-ghost use Rattle.command_parser.specs.Table.{operands_of};
-ghost use Rattle.command_parser.specs.Lawful.{FitsAll, FrontFits, IsOneName, IsLawful, id_of_content};
-ghost use Rattle.command_parser.specs.Parts.{generic};
+ghost use Rattle.command_grammar.specs.declared.table.Verb.TheVariants as verbs;
+ghost use Rattle.command_grammar.specs.declared.table.Kind.TheVariants as kinds;
+ghost use Rattle.command_grammar.specs.declared.values.Content.TheVariants as contents;
+ghost use Rattle.command_grammar.specs.Table.{operands_of};
+ghost use Rattle.command_grammar.specs.Lawful.{FitsAll, FrontFits, IsOneName, IsLawful, id_of_content};
+ghost use Rattle.command_grammar.specs.Parts.{generic};
 ghost use Rattle.command_parser.specs.Forms.{flag_slot, id_slot, authority_slot, name_slot, ids_slot, slots_of_add_user, slots_of_alt_user, slots_of_add_group, slots_of_alt_group, slots_of_connect, slots_of_remove, generic_form};
 
 use crate::forms::{
     AddGroup, AddUser, AltGroup, AltUser, Connect, DelGroup, DelUser, Form, Remove,
 };
-use crate::reading::Parts;
-use crate::table::Verb;
-use crate::values::{Content, Ids};
 use access_levels::{GroupAuthority, Id, Text};
+use command_grammar::{Content, Ids, Parts, Verb};
 use std::alloc::Global;
 use std::marker::Model;
 use std::vec::IntoIter;
@@ -29,7 +27,7 @@ struct Slots {
 impl Model for Slots {
     ghost use Rattle.std.specs.Prelude.{List, Option};
     ghost use Rattle.std.specs.Vec.Iter.{into_iter_items};
-    ghost use Rattle.command_parser.specs.declared.values.Content.{Content};
+    ghost use Rattle.command_grammar.specs.declared.values.Content.{Content};
 
     ghost Value = { List (Option Content) };
 
@@ -275,5 +273,6 @@ pub fn form(alloc: Global, parts: Parts) -> Form
         Verb::DelGroup => Form::DelGroup(DelGroup { group: name }),
         Verb::Connect => Form::Connect(connect(name, slots)),
         Verb::Remove => Form::Remove(remove(name, slots)),
+        _ => unreachable!(),
     }
 }

@@ -3,8 +3,8 @@
 //! An operand that takes no value is a `bool`, a list of names is empty where it wasn't given, and every other operand is
 //! an `Option` of its value. An operand and the one that takes it back, as SPECIAL and NOSPECIAL, are two fields.
 
-use crate::values::Ids;
 use access_levels::{GroupAuthority, Id, Text};
+use command_grammar::Ids;
 
 /// A command.
 #[derive(Debug, Drop)]

@@ -3,21 +3,10 @@
 
 mod commands;
 mod convert;
-mod faults;
 mod forms;
-mod operands;
-mod printing;
 mod profile_forms;
-mod reading;
-mod table;
-mod value;
-mod values;
-mod words;
 
+pub use command_grammar::{Ids, MemberNames, ParseFault, Reset, Syntax, Whos, Word};
 pub use commands::{Command, Issuer, NoMemory, parse, print, printed_is_read};
-pub use faults::{ParseFault, Syntax};
 pub use forms::{AddGroup, AddUser, AltGroup, AltUser, Connect, DelGroup, DelUser, Form, Remove};
-pub use profile_forms::{AddSd, AltSd, DelSd, Permit, RAlter, RDefine, RDelete, Reset};
-pub use table::{Kind, Operand, Position, Verb};
-pub use values::{Content, Context, Ids, MemberNames, Whos};
-pub use words::Word;
+pub use profile_forms::{AddSd, AltSd, DelSd, Permit, RAlter, RDefine, RDelete};

@@ -2,8 +2,8 @@
 //! commands on users and groups have them. GENERIC of a data set profile's command says nothing that its name doesn't, so
 //! it has no field.
 
-use crate::values::{Ids, MemberNames, Whos};
 use access_levels::{Condition, Id, Level};
+use command_grammar::{Ids, MemberNames, Reset, Whos};
 use generic_names::Pattern;
 use racf_profiles::{AuditRule, Members};
 
@@ -87,16 +87,6 @@ pub struct RAlter {
 pub struct RDelete {
     pub class: Id,
     pub profile: Pattern,
-}
-
-/// Which access lists PERMIT empties.
-#[derive(Clone, Copy, Debug, PartialEq, Eq)]
-pub enum Reset {
-    /// Both.
-    All,
-    Standard,
-    /// The conditional one.
-    When,
 }
 
 /// PERMIT changes a profile's access lists (z/OS Security Server RACF Command Language Reference, PERMIT).

@@ -3,3 +3,4 @@ pub mod Ways
 pub mod Edits
 pub mod Climbs
 pub mod Stored
+mod Listed

@@ -110,6 +110,33 @@ fn scope_of_profiles(rt: HostRuntime) -> Result<(), Fail> {
     Ok(())
 }
 
+// The tree of the same groups, made anew.
+fn made_anew(alloc: Global, tree: &Tree) -> Result<Tree, Fail> {
+    let mut groups = Vec::new(alloc);
+    for place in 0..tree.len() {
+        groups.push(*tree.at(place))?;
+    }
+    Ok(Tree::of(alloc, groups.as_slice())?)
+}
+
+#[test]
+fn of_groups(rt: HostRuntime) -> Result<(), Fail> {
+    let tree = made_anew(rt.alloc(), &three_levels(rt.alloc())?)?;
+    assert_eq!(rt; tree.len(), 5);
+    for (name, owner) in [
+        (b"SYS1".as_slice(), b"IBMUSER".as_slice()),
+        (b"D1".as_slice(), b"SYS1".as_slice()),
+        (b"D3".as_slice(), b"ADM".as_slice()),
+        (b"D4".as_slice(), b"D3".as_slice()),
+    ] {
+        let found = tree.get(Id::read(name)?).map(|group| group.owner);
+        assert_eq!(rt; found, Some(Id::read(owner)?));
+    }
+    assert!(rt; tree.is_within(Id::read(b"D1")?, Id::read(b"D4")?));
+    assert!(rt; tree.get(Id::read(b"D5")?).is_none());
+    Ok(())
+}
+
 #[derive(Clone, Copy)]
 enum Call {
     Add,

@@ -60,6 +60,28 @@ impl Tree {
         }
     }
 
+    /// The tree of these groups, in their order.
+    ///
+    /// # Errors
+    ///
+    /// `NoMemory` alone.
+    pub fn of(alloc: Global, groups: &[Group]) -> Result<Tree, TreeFault>
+        requires { IsTree groups.now }
+        ensures made { IfOk result (λ tree. tree ≡ record { groups = groups.now; spare = 0 }) }
+        ensures refused { IfErr result (λ fault. fault ≡ TreeFault.NoMemory) }
+    {
+        let mut kept = IndexMap::new(alloc);
+        for group in groups {
+            let Ok(_) = kept.insert(group.id, *group) else {
+                return Err(TreeFault::NoMemory);
+            };
+        }
+        Ok(Tree {
+            groups: kept,
+            spare: 0,
+        })
+    }
+
     /// How many groups there are, at most 8,000.
     pub fn len(&self) -> usize
         ensures count { result ≡ length self.now.groups }

@@ -3,12 +3,12 @@ use Rattle.std.proofs.Common.{◌≡◌, ℕ, Bool, true, false, List, [], ◌�
 use Rattle.std.specs.Prelude.{Option, Result}
 use Rattle.std.specs.Result.{result_err}
 use Rattle.access_levels.specs.declared.authorities.GroupAuthority.{GroupAuthority}
-use Rattle.command_parser.specs.declared.faults.Syntax.{Syntax}
+use Rattle.command_grammar.specs.declared.faults.Syntax.{Syntax}
 use Rattle.command_parser.specs.declared.forms.Form.{Form}
 use Rattle.command_parser.specs.declared.forms.Form.TheVariants as form
-use Rattle.command_parser.specs.Canon.{spelled}
+use Rattle.command_grammar.specs.Canon.{spelled}
 use Rattle.command_parser.specs.Forms.{generic_form, flag_slot, id_slot, authority_slot, name_slot, ids_slot, given_by, Spells, fault}
-use Rattle.command_parser.specs.Reading.{Generic}
+use Rattle.command_grammar.specs.Reading.{Generic}
 use Rattle.racf_run.specs.declared.reply.Refusal.{Refusal}
 use Rattle.racf_run.specs.declared.reply.Refusal.TheVariants as refusal
 use Rattle.racf_run.specs.Spelled.{flag_in, id_in, authority_in, name_in, ids_in, form_of}

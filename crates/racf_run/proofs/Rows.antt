@@ -9,8 +9,8 @@ use Rattle.racf_run.specs.Spelled.{form_of}
 use Rattle.racf_run.specs.Commands.{is_other_command, read_command}
 use Rattle.racf_run.specs.Stream.{new_stream, rdefine, verify, auth, command, step, text}
 use Rattle.command_words.specs.Tokens.{tokens}
-use Rattle.command_parser.specs.Reading.{parsed}
-use Rattle.command_parser.specs.Canon.{canon}
+use Rattle.command_grammar.specs.Reading.{parsed}
+use Rattle.command_grammar.specs.Canon.{canon}
 use Rattle.racf_database.specs.Conflicts.{is_root, meets, no_user, no_owner, no_group, no_named_group, no_class, name_taken, not_connected, default_not_connected, has_subgroup, has_connected, has_profile, cycle, owner_not_superior, default_group, last_special, unknown_level, unknown_category, never_category, unknown_label, users_full, groups_full, connections_full, user_full, add_user_conflicts, alt_user_conflicts, del_user_conflicts, add_group_conflicts, alt_group_conflicts, del_group_conflicts, connect_conflicts, remove_conflicts}
 use Rattle.racf_run.specs.Script.{stream, script_output, script_status}
 

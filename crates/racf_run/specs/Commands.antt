@@ -4,11 +4,11 @@ use Rattle.std.specs.List.{before_first}
 use Rattle.std.specs.Str.{bytes_eq}
 use Rattle.command_words.specs.Bytes.{is_gap_byte, is_word_byte, upper}
 use Rattle.command_parser.specs.declared.commands.Issuer.{Issuer}
-use Rattle.command_parser.specs.declared.faults.Syntax.{Syntax}
+use Rattle.command_grammar.specs.declared.faults.Syntax.{Syntax}
 use Rattle.command_parser.specs.declared.forms.Form.{Form}
 use Rattle.command_parser.specs.declared.forms.Form.TheVariants as form
-use Rattle.command_parser.specs.Reading.{Generic}
-use Rattle.command_parser.specs.Canon.{spelled}
+use Rattle.command_grammar.specs.Reading.{Generic}
+use Rattle.command_grammar.specs.Canon.{spelled}
 use Rattle.command_parser.specs.Forms.{given_by}
 use Rattle.racf_profiles.specs.declared.rows.Rows.{Rows}
 use Rattle.racf_database.specs.declared.conflict.Conflict.{Conflict}

@@ -4,9 +4,9 @@ use Rattle.access_levels.specs.Level.{level_name}
 use Rattle.racf_run.specs.declared.item.Profile.{Profile}
 use Rattle.racf_run.specs.declared.reply.Refusal.{Refusal}
 use Rattle.racf_run.specs.declared.reply.Refusal.TheVariants as refusal
-use Rattle.command_parser.specs.declared.faults.Syntax.{Syntax}
-use Rattle.command_parser.specs.declared.faults.Syntax.TheVariants as syntax
-use Rattle.command_parser.specs.Words.{spelling_of}
+use Rattle.command_grammar.specs.declared.faults.Syntax.{Syntax}
+use Rattle.command_grammar.specs.declared.faults.Syntax.TheVariants as syntax
+use Rattle.command_grammar.specs.Words.{spelling_of}
 use Rattle.racf_database.specs.declared.conflict.Conflict.{Conflict}
 use Rattle.racf_database.specs.declared.conflict.Conflict.TheVariants as conflict
 use Rattle.racf_database.specs.declared.conflict.Named.{Named}

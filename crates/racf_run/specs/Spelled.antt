@@ -2,16 +2,16 @@
 use Rattle.std.specs.Prelude.{ℕ, List, [], ◌∷◌, Bool, Option, None, Some, is_some}
 use Rattle.std.specs.List.{slice_index_or}
 use Rattle.access_levels.specs.declared.authorities.GroupAuthority.{GroupAuthority}
-use Rattle.command_parser.specs.declared.table.Verb.{Verb}
-use Rattle.command_parser.specs.declared.table.Verb.TheVariants as verb
-use Rattle.command_parser.specs.declared.values.Content.{Content}
-use Rattle.command_parser.specs.declared.values.Content.TheVariants as content
+use Rattle.command_grammar.specs.declared.table.Verb.{Verb}
+use Rattle.command_grammar.specs.declared.table.Verb.TheVariants as verb
+use Rattle.command_grammar.specs.declared.values.Content.{Content}
+use Rattle.command_grammar.specs.declared.values.Content.TheVariants as content
 use Rattle.command_parser.specs.declared.forms.Form.{Form}
 use Rattle.command_parser.specs.declared.forms.Form.TheVariants as form
 use Rattle.command_parser.specs.declared.forms.AddUser.{AddUser}
 use Rattle.command_parser.specs.declared.forms.AltUser.{AltUser}
 use Rattle.command_parser.specs.declared.forms.Connect.{Connect}
-use Rattle.command_parser.specs.Reading.{Generic, Slots}
+use Rattle.command_grammar.specs.Reading.{Generic, Slots}
 
 -- the value of the operand at a place of the command's table, if it was given
 abbrev pub slot : Slots → ℕ → Option Content

@@ -79,7 +79,10 @@ fn put_member(members: &mut Vec<Member>, member: Member) -> Result<(), NoMemory>
             members[place] = member;
             Ok(())
         }
-        None => members.push(member),
+        None => {
+            members.push(member)?;
+            Ok(())
+        }
     }
 }
 

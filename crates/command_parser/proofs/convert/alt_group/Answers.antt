@@ -1,9 +1,9 @@
 use Rattle.std.proofs.Common.{[], ◌∷◌, refl, sym, ap, ◌∙◌}
-use Rattle.command_parser.specs.declared.table.Verb.TheVariants as verbs
-use Rattle.command_parser.specs.Table.{operands_of}
-use Rattle.command_parser.specs.Reading.{Slots}
+use Rattle.command_grammar.specs.declared.table.Verb.TheVariants as verbs
+use Rattle.command_grammar.specs.Table.{operands_of}
+use Rattle.command_grammar.specs.Reading.{Slots}
 use Rattle.command_parser.specs.Forms.{id_slot}
-use Rattle.command_parser.specs.declared.table.Kind.TheVariants as kinds
+use Rattle.command_grammar.specs.declared.table.Kind.TheVariants as kinds
 use Rattle.command_parser.proofs.Takes.{FitsKinds, begun, taken, none_left}
 use Rattle.command_parser.proofs.convert.alt_group.Goals as goal
 

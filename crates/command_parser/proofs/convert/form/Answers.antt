@@ -1,7 +1,7 @@
 use Rattle.std.proofs.Common.{subst}
-use Rattle.command_parser.specs.declared.table.Verb.{Verb}
-use Rattle.command_parser.specs.Table.{operands_of}
-use Rattle.command_parser.specs.Lawful.{FitsAll}
+use Rattle.command_grammar.specs.declared.table.Verb.{Verb}
+use Rattle.command_grammar.specs.Table.{operands_of}
+use Rattle.command_grammar.specs.Lawful.{FitsAll}
 use Rattle.command_parser.proofs.convert.form.Goals as goal
 
 pub add_user-requires : goal.add_user-requires

@@ -1,0 +1,203 @@
+-- Profiles kept each under its own name, as the list of the profiles.
+use Rattle.std.proofs.Common.{◌≡◌, ℕ, zero, suc, ◌<◌, ◌≤◌, Bool, true, false, cond, not, List, [], ◌∷◌, map, length, Option, Some, None, is_some, Result, Ok, Err, refl, sym, ◌∙◌, ap, subst, arith, filter}
+use Rattle.std.specs.Prelude.{IfSome}
+use Rattle.std.specs.List.{find, AllByRecursion, slice_get}
+use Rattle.std.specs.Option.{option_map, option_or, option_and_then}
+use Rattle.std.specs.Result.{result_ok}
+use Rattle.std.specs.Str.{bytes_eq}
+use Rattle.std.proofs.lemmas.Slice.Eq.{bytes_eq-Decides}
+use Rattle.generic_names.specs.declared.kind.NameKind.{NameKind}
+use Rattle.generic_names.specs.Spelled.{Spelled}
+use Rattle.generic_names.specs.Before.{before}
+use Rattle.generic_names.specs.Covers.{covers}
+use Rattle.generic_names.specs.Faults.{pattern_of}
+use Rattle.generic_names.specs.Laws.{IsPattern, OneIsBefore, NotBoth, PassedOn, ReadsBack}
+use Rattle.generic_names.specs.declared.fault.NameFault.{NameFault}
+use Rattle.generic_names.specs.Best.{best, most_specific, more_specific}
+use Rattle.profile_index.specs.declared.entry.Entry.{Entry}
+use Rattle.profile_index.specs.Indexed.{AreOf, has_name, name_of, with_entry, without, IsPlaceOf as IsEntryAt}
+use Rattle.racf_profiles.specs.declared.profiles.Profile.{Profile}
+use Rattle.racf_profiles.specs.Lookup.{is_profile}
+use Rattle.racf_profiles.specs.Edits.{put_profile, drop_row, is_in_order, AreNamed}
+use Rattle.class_profiles.specs.Lawful.{AreProfiles, most_class_profiles}
+use Rattle.class_profiles.specs.Paired.{entry_of, items_of}
+use Rattle.class_profiles.specs.Table.{IsPlaceOf, best_profile}
+use Rattle.class_profiles.proofs.Order.{ordered-tail, rest-behind, none-behind, none-left, the_other_way, same_spelled, all-drop_row, length-drop_row, order-drop_row, named-put}
+
+-- the entries of profiles are those of their profiles again
+pub items-again : (ps : List Profile) → items_of (map entry_of ps) ≡ ps
+items-again [] = refl
+items-again (p ∷ ps) = ap (λ qs. p ∷ qs) (items-again ps)
+
+pub paired-again : (es : List (Entry Profile)) (ps : List Profile) → es ≡ map entry_of ps → (items_of es ≡ ps) × (es ≡ map entry_of (items_of es))
+paired-again es ps is = let items : items_of es ≡ ps = ap items_of is ∙ items-again ps in (items, is ∙ ap (map entry_of) (sym items))
+
+pub kinds-paired : (kind : NameKind) (ps : List Profile) → AreNamed kind ps → AreOf kind (map entry_of ps)
+kinds-paired kind [] named = tt
+kinds-paired kind (p ∷ ps) named = (named.0.1, kinds-paired kind ps named.1)
+
+pub find-paired : (name : Spelled) (ps : List Profile) → find (has_name name) (map entry_of ps) ≡ option_map entry_of (find (is_profile name) ps)
+find-paired name [] = refl
+find-paired name (p ∷ ps) = by (is_profile name p) (find-paired name ps)
+  where
+    by : (b : Bool) → find (has_name name) (map entry_of ps) ≡ option_map entry_of (find (is_profile name) ps)
+        → cond b (Some (entry_of p)) (find (has_name name) (map entry_of ps)) ≡ option_map entry_of (cond b (Some p) (find (is_profile name) ps))
+    by true rest = refl
+    by false rest = rest
+
+most-paired : (name : Spelled) (ps : List Profile)
+    → most_specific name_of (filter (λ (e : Entry Profile). covers (name_of e) name) (map entry_of ps)) ≡ option_map entry_of (most_specific (λ (p : Profile). p.name) (filter (λ (p : Profile). covers p.name name) ps))
+most-paired name [] = refl
+most-paired name (p ∷ ps) = by (covers p.name name) (most-paired name ps)
+  where
+    more : (o : Option Profile) → more_specific name_of (entry_of p) (option_map entry_of o) ≡ entry_of (more_specific (λ (q : Profile). q.name) p o)
+    more None = refl
+    more (Some q) = chosen (before q.name p.name)
+      where
+        chosen : (b : Bool) → cond b (entry_of q) (entry_of p) ≡ entry_of (cond b q p)
+        chosen true = refl
+        chosen false = refl
+
+    by : (b : Bool) → most_specific name_of (filter (λ (e : Entry Profile). covers (name_of e) name) (map entry_of ps)) ≡ option_map entry_of (most_specific (λ (q : Profile). q.name) (filter (λ (q : Profile). covers q.name name) ps))
+        → most_specific name_of (cond b (entry_of p ∷ filter (λ (e : Entry Profile). covers (name_of e) name) (map entry_of ps)) (filter (λ (e : Entry Profile). covers (name_of e) name) (map entry_of ps)))
+        ≡ option_map entry_of (most_specific (λ (q : Profile). q.name) (cond b (p ∷ filter (λ (q : Profile). covers q.name name) ps) (filter (λ (q : Profile). covers q.name name) ps)))
+    by true rest = ap (λ (o : Option (Entry Profile)). Some (more_specific name_of (entry_of p) o)) rest ∙ ap (λ (e : Entry Profile). Some e) (more (most_specific (λ (q : Profile). q.name) (filter (λ (q : Profile). covers q.name name) ps)))
+    by false rest = rest
+
+pub best-paired : (name : Spelled) (ps : List Profile) → best name_of (map entry_of ps) name ≡ option_map entry_of (best_profile ps name)
+best-paired name ps =
+    ap (λ (o : Option (Entry Profile)). option_or o (most_specific name_of (filter (λ (e : Entry Profile). covers (name_of e) name) (map entry_of ps)))) (find-paired name ps)
+    ∙ ap (λ (o : Option (Entry Profile)). option_or (option_map entry_of (find (is_profile name) ps)) o) (most-paired name ps)
+    ∙ either (find (is_profile name) ps) (most_specific (λ (p : Profile). p.name) (filter (λ (p : Profile). covers p.name name) ps))
+  where
+    either : (a b : Option Profile) → option_or (option_map entry_of a) (option_map entry_of b) ≡ option_map entry_of (option_or a b)
+    either None b = refl
+    either (Some a) b = refl
+
+get-paired : (ps : List Profile) (k : ℕ) → slice_get ps k ≡ option_map (λ (e : Entry Profile). e.item) (slice_get (map entry_of ps) k)
+get-paired [] k = refl
+get-paired (p ∷ ps) zero = refl
+get-paired (p ∷ ps) (suc k) = get-paired ps k
+
+length-paired : (ps : List Profile) → length (map entry_of ps) ≡ length ps
+length-paired [] = refl
+length-paired (p ∷ ps) = ap suc (length-paired ps)
+
+item-paired : (o : Option Profile) → option_map (λ (e : Entry Profile). e.item) (option_map entry_of o) ≡ o
+item-paired None = refl
+item-paired (Some p) = refl
+
+-- a place among the entries is that of the profile
+pub place-paired : (ps : List Profile) (o : Option Profile) (answer : Option ℕ) → IsEntryAt (map entry_of ps) (option_map entry_of o) answer → IsPlaceOf ps o answer
+place-paired ps o None h = record { within = tt; there = ap (option_map (λ (e : Entry Profile). e.item)) h.there ∙ item-paired o }
+place-paired ps o (Some k) h = record {
+  within = omega (arith, h.within, length-paired ps);
+  there = get-paired ps k ∙ ap (option_map (λ (e : Entry Profile). e.item)) h.there ∙ item-paired o;
+}
+
+-- a name that can't be read as one of the kind is no profile's
+pub none-named : (kind : NameKind) (name : Spelled) (ps : List Profile) → result_ok (pattern_of kind name.text) ≡ None → AreNamed kind ps → find (is_profile name) ps ≡ None
+none-named kind name [] none named = refl
+none-named kind name (p ∷ ps) none named = by (is_profile name p) refl (none-named kind name ps none named.1)
+  where
+    by : (b : Bool) → is_profile name p ≡ b → find (is_profile name) ps ≡ None → cond b (Some p) (find (is_profile name) ps) ≡ None
+    by true same rest =
+        let text : p.name.text ≡ name.text = (bytes_eq-Decides p.name.text name.text).0 same in
+        let read : result_ok (pattern_of kind name.text) ≡ Some p.name = ap (λ (t : List ℕ). result_ok (pattern_of kind t)) (sym text) ∙ ap (λ (k : NameKind). result_ok (pattern_of k p.name.text)) (sym named.0.1) ∙ ap result_ok named.0.0 in
+        cc (read, none)
+    by false other rest = rest
+
+-- without the entry of a name: the profiles without the one of that name
+pub without-paired : NotBoth → PassedOn → (kind : NameKind) (name : Spelled) (ps : List Profile) → name.kind ≡ kind → AreNamed kind ps → is_in_order ps ≡ true → without name (map entry_of ps) ≡ map entry_of (drop_row (is_profile name) ps)
+without-paired not_both passed_on kind name [] is named ordered = refl
+without-paired not_both passed_on kind name (p ∷ ps) is named ordered = by (is_profile name p) refl (without-paired not_both passed_on kind name ps is named.1 (ordered-tail p ps ordered))
+  where
+    kept : (qs : List Profile) → find (is_profile name) qs ≡ None → without name (map entry_of qs) ≡ map entry_of qs
+    kept [] none = refl
+    kept (q ∷ qs) none = split (is_profile name q) none (kept qs)
+      where
+        split : (b : Bool) → cond b (Some q) (find (is_profile name) qs) ≡ None → (find (is_profile name) qs ≡ None → without name (map entry_of qs) ≡ map entry_of qs)
+            → cond (not b) (entry_of q ∷ without name (map entry_of qs)) (without name (map entry_of qs)) ≡ entry_of q ∷ map entry_of qs
+        split true f rest = cc
+        split false f rest = ap (λ es. entry_of q ∷ es) (rest f)
+
+    by : (b : Bool) → is_profile name p ≡ b → without name (map entry_of ps) ≡ map entry_of (drop_row (is_profile name) ps)
+        → cond (not b) (entry_of p ∷ without name (map entry_of ps)) (without name (map entry_of ps)) ≡ map entry_of (cond b ps (p ∷ drop_row (is_profile name) ps))
+    by true same rest =
+        let here : p.name ≡ name = same_spelled p.name name (named.0.1 ∙ sym is) same in
+        kept ps (none-behind not_both name kind ps is named.1 (subst (λ (n : Spelled). AllByRecursion (λ (z : Profile). before n z.name ≡ true) ps) here (rest-behind not_both passed_on p ps ordered)))
+    by false other rest = ap (λ es. entry_of p ∷ es) rest
+
+-- an entry at its place in the order: the profile put at its own
+pub with-paired : OneIsBefore → NotBoth → (kind : NameKind) (p : Profile) (ps : List Profile) → IsPattern p.name → p.name.kind ≡ kind → AreNamed kind ps → find (is_profile p.name) ps ≡ None → with_entry (entry_of p) (map entry_of ps) ≡ map entry_of (put_profile p ps)
+with-paired one not_both kind p [] lawful is named absent = refl
+with-paired one not_both kind p (y ∷ ys) lawful is named absent =
+    by (is_profile p.name y) (before p.name y.name) (before y.name p.name) refl refl refl absent (with-paired one not_both kind p ys lawful is named.1)
+  where
+    by : (s t u : Bool) → is_profile p.name y ≡ s → before p.name y.name ≡ t → before y.name p.name ≡ u → cond s (Some y) (find (is_profile p.name) ys) ≡ None
+        → (find (is_profile p.name) ys ≡ None → with_entry (entry_of p) (map entry_of ys) ≡ map entry_of (put_profile p ys))
+        → cond u (entry_of y ∷ with_entry (entry_of p) (map entry_of ys)) (entry_of p ∷ entry_of y ∷ map entry_of ys) ≡ map entry_of (cond s (p ∷ ys) (cond t (p ∷ y ∷ ys) (y ∷ put_profile p ys)))
+    by true t u same first second f rest = cc
+    by false true true same first second f rest = let never : before y.name p.name ≡ false = not_both p.name y.name first in cc (never, second)
+    by false true false same first second f rest = refl
+    by false false true same first second f rest = ap (λ es. entry_of y ∷ es) (rest f)
+    by false false false same first second f rest =
+        let ever : before y.name p.name ≡ true = the_other_way one p.name y.name lawful named.0.0 (is ∙ sym named.0.1) same first in cc (ever, second)
+
+-- the name of the kind with the same text
+pub of_kind-is : (kind : NameKind) (name found : Spelled) → ReadsBack → result_ok (pattern_of kind name.text) ≡ Some found → found ≡ record { kind = kind; text = name.text }
+of_kind-is kind name found reads is = by (pattern_of kind name.text) refl is
+  where
+    by : (r : Result Spelled NameFault) → pattern_of kind name.text ≡ r → result_ok r ≡ Some found → found ≡ record { kind = kind; text = name.text }
+    by (Ok other) read same = let here : other ≡ found = cc in sym here ∙ (reads kind name.text other read).0
+    by (Err fault) read same = cc
+
+pub of_kind-kind : (kind : NameKind) (name found : Spelled) → ReadsBack → result_ok (pattern_of kind name.text) ≡ Some found → found.kind ≡ kind
+of_kind-kind kind name found reads is = ap (λ (n : Spelled). n.kind) (of_kind-is kind name found reads is)
+
+pub of_kind-test : (kind : NameKind) (name found : Spelled) → ReadsBack → result_ok (pattern_of kind name.text) ≡ Some found → is_profile found ≡ is_profile name
+of_kind-test kind name found reads is = ap (λ (n : Spelled). is_profile n) (of_kind-is kind name found reads is)
+
+pub some-paired : (name : Spelled) (ps : List Profile) → is_some (option_map (λ (e : Entry Profile). e.item) (find (has_name name) (map entry_of ps))) ≡ is_some (find (is_profile name) ps)
+some-paired name ps = ap (λ (o : Option (Entry Profile)). is_some (option_map (λ (e : Entry Profile). e.item) o)) (find-paired name ps) ∙ ap (λ (o : Option Profile). is_some o) (item-paired (find (is_profile name) ps))
+
+-- what the index keeps after the entry of a name was taken out
+module _ (not_both : NotBoth) (passed_on : PassedOn) (kind : NameKind) (name : Spelled) (is : name.kind ≡ kind) (es after : List (Entry Profile))
+    (paired : es ≡ map entry_of (items_of es)) (lawful : AreProfiles kind (items_of es)) (taken : after ≡ without name es) where
+  taken-is : after ≡ map entry_of (drop_row (is_profile name) (items_of es))
+  taken-is = taken ∙ ap (without name) paired ∙ without-paired not_both passed_on kind name (items_of es) is lawful.named lawful.ordered
+
+  pub taken-items : items_of after ≡ drop_row (is_profile name) (items_of es)
+  taken-items = (paired-again after (drop_row (is_profile name) (items_of es)) taken-is).0
+
+  pub taken-paired : after ≡ map entry_of (items_of after)
+  taken-paired = (paired-again after (drop_row (is_profile name) (items_of es)) taken-is).1
+
+  pub taken-lawful : AreProfiles kind (items_of after)
+  taken-lawful = subst (AreProfiles kind) (sym taken-items) (record {
+    named = all-drop_row (is_profile name) (λ (p : Profile). IsPattern p.name × (p.name.kind ≡ kind)) (items_of es) lawful.named;
+    ordered = order-drop_row not_both passed_on (is_profile name) (items_of es) lawful.ordered;
+    few = omega (arith, length-drop_row (is_profile name) (items_of es), lawful.few);
+  })
+
+  pub taken-gone : find (is_profile name) (items_of after) ≡ None
+  taken-gone = ap (find (is_profile name)) taken-items ∙ none-left not_both passed_on name kind (items_of es) is lawful.named lawful.ordered
+
+-- what it keeps after an entry of a new name was put in
+module _ (one : OneIsBefore) (not_both : NotBoth) (kind : NameKind) (p : Profile) (named : IsPattern p.name) (is : p.name.kind ≡ kind) (es after : List (Entry Profile))
+    (paired : es ≡ map entry_of (items_of es)) (lawful : AreProfiles kind (items_of es)) (absent : find (is_profile p.name) (items_of es) ≡ None)
+    (added : after ≡ with_entry (entry_of p) es) where
+  added-is : after ≡ map entry_of (put_profile p (items_of es))
+  added-is = added ∙ ap (with_entry (entry_of p)) paired ∙ with-paired one not_both kind p (items_of es) named is lawful.named absent
+
+  pub added-items : items_of after ≡ put_profile p (items_of es)
+  added-items = (paired-again after (put_profile p (items_of es)) added-is).0
+
+  pub added-paired : after ≡ map entry_of (items_of after)
+  added-paired = (paired-again after (put_profile p (items_of es)) added-is).1
+
+  pub added-lawful : length (put_profile p (items_of es)) ≤ most_class_profiles → is_in_order (put_profile p (items_of es)) ≡ true → AreProfiles kind (items_of after)
+  added-lawful few ordered = subst (AreProfiles kind) (sym added-items) (record { named = named-put kind p (items_of es) named is lawful.named; ordered = ordered; few = few })
+
+pub absent-paired : (name : Spelled) (ps : List Profile) → find (is_profile name) ps ≡ None → find (has_name name) (map entry_of ps) ≡ None
+absent-paired name ps none = find-paired name ps ∙ ap (option_map entry_of) none

@@ -1,0 +1,215 @@
+//! The profiles of one class.
+ghost use Rattle.std.specs.Prelude.{◌≡◌, ◌+◌, ◌<◌, ◌≤◌, [], length, max, Some, None, is_some, OnOk, OnErr, IfOk, if◌then◌else◌};
+ghost use Rattle.std.specs.List.{find, slice_get};
+ghost use Rattle.std.specs.Option.{option_copied};
+ghost use Rattle.std.specs.Result.{result_ok};
+ghost use Rattle.generic_names.specs.Faults.{pattern_of};
+ghost use Rattle.racf_profiles.specs.Lookup.{is_profile};
+ghost use Rattle.racf_profiles.specs.Edits.{put_profile, drop_row};
+ghost use Rattle.class_profiles.specs.Lawful.{AreProfiles, most_class_profiles};
+ghost use Rattle.class_profiles.specs.Table.{best_profile, IsPlaceOf, CanPut};
+
+use generic_names::{NameKind, Pattern, Resource};
+use profile_index::Index;
+use racf_profiles::{NoMemory, Profile};
+use std::alloc::Global;
+use std::marker::Model;
+
+/// The profiles of one class in the order of specificity, each name but once, all names of one kind.
+#[derive(Drop)]
+pub struct ProfileTable {
+    kind: NameKind,
+    profiles: Index<Profile>,
+}
+
+impl Model for ProfileTable {
+    ghost use Rattle.class_profiles.specs.Table.{ProfileList};
+
+    ghost Value = { ProfileList };
+
+    ghost use Rattle.class_profiles.specs.Paired.{list_of, IsPaired};
+
+    ghost view = { list_of };
+
+    ghost invariant = { IsPaired };
+}
+
+impl ProfileTable {
+    /// No profile. It takes no memory yet.
+    pub fn new(alloc: Global, kind: NameKind) -> Result<ProfileTable, NoMemory>
+        ensures { IfOk result (λ table. table ≡ record { kind = kind; profiles = []; spare = 0 }) }
+    {
+        Ok(ProfileTable {
+            kind,
+            profiles: Index::new(alloc)?,
+        })
+    }
+
+    /// The same profiles, copied.
+    pub fn of(alloc: Global, kind: NameKind, profiles: &[Profile]) -> Result<ProfileTable, NoMemory>
+        requires { AreProfiles kind profiles.now }
+        ensures kind { IfOk result (λ table. table.kind ≡ kind) }
+        ensures profiles { IfOk result (λ table. table.profiles ≡ profiles.now) }
+    {
+        generic_names::laws::order_is_total();
+        let mut table = ProfileTable::new(alloc, kind)?;
+        for profile in profiles {
+            table.put_with_memory(profile.copy(alloc)?)?;
+        }
+        Ok(table)
+    }
+
+    /// A table of equal profiles.
+    pub fn copy(&self, alloc: Global) -> Result<ProfileTable, NoMemory>
+        ensures kind { IfOk result (λ table. table.kind ≡ self.now.kind) }
+        ensures profiles { IfOk result (λ table. table.profiles ≡ self.now.profiles) }
+    {
+        generic_names::laws::order_is_total();
+        let mut table = ProfileTable::new(alloc, self.kind)?;
+        for place in 0..self.len() {
+            table.put_with_memory(self.at(place).copy(alloc)?)?;
+        }
+        Ok(table)
+    }
+
+    /// The kind of the names.
+    pub fn kind(&self) -> NameKind
+        ensures { result ≡ self.now.kind }
+    {
+        self.kind
+    }
+
+    /// How many profiles there are, at most 50,000.
+    pub fn len(&self) -> usize
+        ensures count { result ≡ length self.now.profiles }
+        ensures lawful { AreProfiles self.now.kind self.now.profiles }
+    {
+        self.profiles.len()
+    }
+
+    /// The profile at that place, from 0, in order of specificity.
+    pub fn at(&self, place: usize) -> &Profile
+        requires { place < length self.now.profiles }
+        ensures { slice_get self.now.profiles place ≡ Some result.now }
+    {
+        self.profiles.at(place).1
+    }
+
+    /// The profile of that very name, generic or not. It is found by a search in the order.
+    pub fn get(&self, name: &Pattern) -> Option<&Profile>
+        ensures { option_copied result ≡ find (is_profile name.now) self.now.profiles }
+    {
+        match self.place(name) {
+            Some(place) => Some(self.at(place)),
+            None => None,
+        }
+    }
+
+    /// The place of the most specific profile that covers the name. Whole runs of profiles that can't cover it
+    /// are passed over; those that differ behind a `*` or `**` alone are looked at one by one.
+    pub fn find(&self, name: &Resource) -> Option<usize>
+        requires { name.now.kind ≡ self.now.kind }
+        ensures { IsPlaceOf self.now.profiles (best_profile self.now.profiles name.now) result }
+    {
+        self.profiles.find(name)
+    }
+
+    /// Makes room for one more profile.
+    pub fn reserve(&mut self) -> Result<(), NoMemory>
+        ensures ok { OnOk result (self.new ≡ record self.old { spare = max self.old.spare 1 }) }
+        ensures err { OnErr result (self.new ≡ self.old) }
+    {
+        self.profiles.reserve(1)
+    }
+
+    /// Puts a profile in the place of the one of its name, or else at its place in the order. It takes no memory.
+    pub fn put(&mut self, profile: Profile)
+        requires { CanPut self.old profile }
+        ensures kind { self.new.kind ≡ self.old.kind }
+        ensures profiles { self.new.profiles ≡ put_profile profile self.old.profiles }
+        ensures spare { self.new.spare + (if is_some (find (is_profile profile.name) self.old.profiles) then 0 else 1) ≡ self.old.spare }
+        ensures lawful { AreProfiles self.new.kind self.new.profiles }
+    {
+        generic_names::laws::order_is_total();
+        let _lawful = self.len();
+        let name = profile.name;
+        self.take(&name);
+        self.add(profile);
+    }
+
+    /// Takes the profile of that very name away, if there is one. It takes no memory.
+    pub fn remove(&mut self, name: &Pattern)
+        ensures kind { self.new.kind ≡ self.old.kind }
+        ensures profiles { self.new.profiles ≡ drop_row (is_profile name.now) self.old.profiles }
+        ensures spare { self.new.spare ≡ self.old.spare + (if is_some (find (is_profile name.now) self.old.profiles) then 1 else 0) }
+        ensures lawful { AreProfiles self.new.kind self.new.profiles }
+    {
+        generic_names::laws::text_reads_back();
+        if let Some(name) = of_kind(self.kind, name) {
+            self.take(&name);
+        }
+    }
+
+    // Puts a profile, and takes the memory for it first.
+    fn put_with_memory(&mut self, profile: Profile) -> Result<(), NoMemory>
+        requires kind { profile.name.kind ≡ self.old.kind }
+        requires few { length (put_profile profile self.old.profiles) ≤ most_class_profiles }
+        ensures kind { OnOk result (self.new.kind ≡ self.old.kind) }
+        ensures profiles { OnOk result (self.new.profiles ≡ put_profile profile self.old.profiles) }
+    {
+        self.reserve()?;
+        self.put(profile);
+        Ok(())
+    }
+
+    // Takes the profile of a name of the kind away, if there is one.
+    fn take(&mut self, name: &Pattern)
+        requires { name.now.kind ≡ self.old.kind }
+        ensures kind { self.new.kind ≡ self.old.kind }
+        ensures profiles { self.new.profiles ≡ drop_row (is_profile name.now) self.old.profiles }
+        ensures spare { self.new.spare ≡ self.old.spare + (if is_some (find (is_profile name.now) self.old.profiles) then 1 else 0) }
+        ensures lawful { AreProfiles self.new.kind self.new.profiles }
+        ensures gone { find (is_profile name.now) self.new.profiles ≡ None }
+    {
+        generic_names::laws::order_is_total();
+        self.profiles.remove(name);
+    }
+
+    // Adds a profile of a new name.
+    fn add(&mut self, profile: Profile)
+        requires can { CanPut self.old profile }
+        requires absent { find (is_profile profile.name) self.old.profiles ≡ None }
+        ensures kind { self.new.kind ≡ self.old.kind }
+        ensures profiles { self.new.profiles ≡ put_profile profile self.old.profiles }
+        ensures spare { self.new.spare + 1 ≡ self.old.spare }
+        ensures lawful { AreProfiles self.new.kind self.new.profiles }
+    {
+        generic_names::laws::order_is_total();
+        racf_profiles::laws::puts_keep_the_order();
+        let name = profile.name;
+        let _ = name.text();
+        self.profiles.insert(name, profile);
+    }
+
+    // The place of the profile of that very name.
+    fn place(&self, name: &Pattern) -> Option<usize>
+        ensures { IsPlaceOf self.now.profiles (find (is_profile name.now) self.now.profiles) result }
+    {
+        generic_names::laws::text_reads_back();
+        match of_kind(self.kind, name) {
+            Some(name) => self.profiles.find_named(&name),
+            None => None,
+        }
+    }
+}
+
+// The name of that kind with the same text, if there is one.
+fn of_kind(kind: NameKind, name: &Pattern) -> Option<Pattern>
+    ensures { result ≡ result_ok (pattern_of kind name.now.text) }
+{
+    let text = name.text();
+    if name.kind() == kind {
+        return Some(*name);
+    }
+    Pattern::read(kind, text).ok()
+}

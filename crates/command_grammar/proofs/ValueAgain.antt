@@ -1,0 +1,194 @@
+-- A value that was written is read again, whatever follows its parenthesis.
+use Rattle.std.proofs.Common.{◌≡◌, ℕ, suc, ◌+◌, List, [], ◌∷◌, ◌++◌, length, Bool, true, false, None, Some, Ok, refl, sym, ap, ◌∙◌, append_assoc}
+use Rattle.std.specs.Prelude.{◌==◌}
+use Rattle.std.specs.List.{list_all}
+use Rattle.std.proofs.lemmas.List.{append-nil}
+use Rattle.std.proofs.lemmas.List.Folds.{list_all-append}
+use Rattle.std.proofs.lemmas.Bool.{eqb-true}
+use Rattle.access_levels.specs.Level.{authority_name}
+use Rattle.access_levels.specs.declared.authorities.GroupAuthority.{GroupAuthority}
+use Rattle.access_levels.specs.declared.authorities.GroupAuthority.TheVariants.{MayUse, MayCreate, MayConnect, MayJoin}
+use Rattle.access_levels.specs.Spelling.{id_of}
+use Rattle.command_words.specs.declared.quoting.Quoting.TheVariants.{Ignored, Outside, Inside}
+use Rattle.command_words.specs.Quotes.{doubled}
+use Rattle.command_words.specs.Tokens.{Token, Word, Group, Open, Close, within, group_end, tokens, tokens_from}
+use Rattle.command_words.specs.Items.{Item, Bare, items, opens_value, faulty_at}
+use Rattle.command_words.proofs.Letters.{is_letter, both_first, both_second, Outside-steady, EndsWord}
+use Rattle.command_words.proofs.Spelled.{is_calm, letter-calm, quoted, word_token, word_alone, quoted_token, group_end-calm, group_end-quoted}
+use Rattle.command_grammar.specs.declared.table.Kind.{Kind}
+use Rattle.command_grammar.specs.declared.table.Kind.TheVariants as kinds
+use Rattle.command_grammar.specs.declared.values.Content.{Content}
+use Rattle.command_grammar.specs.declared.values.Content.TheVariants as contents
+use Rattle.command_grammar.specs.declared.values.Context.{Context}
+use Rattle.command_grammar.specs.Values.{name_of, is_name, if_name, unquoted, name_text, single, names, several, value, more_text, ids_text, text_of}
+use Rattle.command_grammar.specs.Lawful.{AreNames, IsNonEmpty, Fits}
+use Rattle.command_grammar.proofs.Names.{IsPlainName, name-plain}
+
+-- the items of a word of letters, whatever follows it that is no value of its own
+pub word_items : (ts : List Token) (p : ℕ) (w : List ℕ) → opens_value ts ≡ false → items (Word p w ∷ ts) ≡ Bare p w ∷ items ts
+word_items [] p w h = refl
+word_items (Word q v ∷ ts) p w h = refl
+word_items (Group true q t ∷ ts) p w h = cc
+word_items (Group false q t ∷ ts) p w h = refl
+word_items (Open true q place ∷ ts) p w h = cc
+word_items (Open false q place ∷ ts) p w h = refl
+word_items (Close q ∷ ts) p w h = refl
+
+-- a value of one name
+name_item : (q : ℕ) (w : List ℕ) → IsPlainName w → items (tokens (within q w)) ≡ Bare (suc q) w ∷ []
+unfolding tokens
+name_item q [] plain = let no : id_of [] ≡ Ok [] = plain.spelled in cc
+name_item q (b ∷ w) plain = ap items (word_alone Outside Outside-steady false (suc q) b w plain.letters)
+
+single_id : (at : Context) (p q : ℕ) (w : List ℕ) → name_of kinds.Id w ≡ Some w → single at kinds.Id p (items (tokens (within q w))) ≡ Ok (contents.Id w)
+single_id at p q w h =
+    let plain = name-plain kinds.Id w w h in
+    let sound : faulty_at Ignored (suc q) w ≡ None = plain.sound (suc q) in
+    rw (name_item q w plain, sound, h) refl
+
+single_group : (at : Context) (p q : ℕ) (w : List ℕ) → name_of kinds.Group w ≡ Some w → single at kinds.Group p (items (tokens (within q w))) ≡ Ok (contents.Id w)
+single_group at p q w h =
+    let plain = name-plain kinds.Group w w h in
+    let sound : faulty_at Ignored (suc q) w ≡ None = plain.sound (suc q) in
+    rw (name_item q w plain, sound, h) refl
+
+single_authority : (at : Context) (p q : ℕ) (a : GroupAuthority) → single at kinds.Authority p (items (tokens (within q (authority_name a)))) ≡ Ok (contents.Authority a)
+unfolding tokens
+single_authority at p q MayUse = refl
+single_authority at p q MayCreate = refl
+single_authority at p q MayConnect = refl
+single_authority at p q MayJoin = refl
+
+-- the text of a name, between its quotes
+unquoted-one : (front t : List ℕ) (b : ℕ) (c : Bool) → (b == 39) ≡ c
+    → ((front : List ℕ) → unquoted false front (doubled t ++ 39 ∷ []) ≡ Some (front ++ t))
+    → unquoted false front (doubled (b ∷ t) ++ 39 ∷ []) ≡ Some (front ++ b ∷ t)
+unquoted-one front t b true quote more =
+    let same : b ≡ 39 = eqb-true b 39 quote in
+    rw quote (more (front ++ 39 ∷ []) ∙ ap Some (append_assoc front (39 ∷ []) t ∙ ap (λ n. front ++ n ∷ t) (sym same)))
+unquoted-one front t b false other more =
+    rw other (rw other (more (front ++ b ∷ []) ∙ ap Some (append_assoc front (b ∷ []) t)))
+
+unquoted-doubled : (front t : List ℕ) → unquoted false front (doubled t ++ 39 ∷ []) ≡ Some (front ++ t)
+unquoted-doubled front [] = ap Some (sym (append-nil front))
+unquoted-doubled front (b ∷ t) = unquoted-one front t b (b == 39) refl (λ f. unquoted-doubled f t)
+
+-- in its quotes no byte is looked at
+unseen-one : (o p b : ℕ) (t : List ℕ) (c : Bool) → (b == 39) ≡ c
+    → ((p : ℕ) → faulty_at (Inside o) p (doubled t ++ 39 ∷ []) ≡ None)
+    → faulty_at (Inside o) p (doubled (b ∷ t) ++ 39 ∷ []) ≡ None
+unseen-one o p b t true quote more = rw quote (more (suc (suc p)))
+unseen-one o p b t false other more = rw other (rw other (more (suc p)))
+
+unseen : (o p : ℕ) (t : List ℕ) → faulty_at (Inside o) p (doubled t ++ 39 ∷ []) ≡ None
+unseen o p [] = refl
+unseen o p (b ∷ t) = unseen-one o p b t (b == 39) refl (λ n. unseen o n t)
+
+name_text-quoted : (t : List ℕ) → is_name t ≡ true → name_text (quoted t) ≡ Some t
+name_text-quoted t h = ap if_name (unquoted-doubled [] t) ∙ rw h refl
+
+single_name : (at : Context) (p q : ℕ) (t : List ℕ) → is_name t ≡ true → single at kinds.Name p (items (tokens (within q (quoted t)))) ≡ Ok (contents.Name t)
+unfolding tokens
+single_name at p q t h =
+    let sound : faulty_at Outside (suc q) (quoted t) ≡ None = unseen (suc q) (suc (suc q)) t in
+    let text : name_text (quoted t) ≡ Some t = name_text-quoted t h in
+    ap (λ ts. single at kinds.Name p (items ts)) (quoted_token false (suc q) t) ∙ rw (sound, text) refl
+
+-- names parted by blanks
+more_ends : (xs : List (List ℕ)) → EndsWord (more_text xs)
+more_ends [] = tt
+more_ends (x ∷ xs) = refl
+
+no_empty : (k : Kind) → name_of k [] ≡ Some [] → ⊥
+no_empty k h = let no : id_of [] ≡ Ok [] = (name-plain k [] [] h).spelled in cc
+
+more_opens : (k : Kind) (p : ℕ) (tied : Bool) (xs : List (List ℕ)) → AreNames k xs → opens_value (tokens_from Outside tied 0 p (more_text xs)) ≡ false
+more_opens k p tied [] h = refl
+more_opens k p tied ([] ∷ xs) h = absurd (no_empty k h.0)
+more_opens k p tied ((b ∷ w) ∷ xs) h =
+    ap opens_value (word_token Outside Outside-steady false (suc p) b w (more_text xs) (name-plain k (b ∷ w) (b ∷ w) h.0).letters (more_ends xs))
+
+names_step : (k : Kind) (front : List (List ℕ)) (tied : Bool) (p : ℕ) (x : List ℕ) (xs : List (List ℕ)) → name_of k x ≡ Some x → AreNames k xs
+    → names k front (items (tokens_from Outside tied 0 p (x ++ more_text xs))) ≡ names k (front ++ x ∷ []) (items (tokens_from Outside true 0 (p + length x) (more_text xs)))
+names_step k front tied p [] xs h hs = absurd (no_empty k h)
+names_step k front tied p (b ∷ w) xs h hs =
+    let plain = name-plain k (b ∷ w) (b ∷ w) h in
+    let sound : faulty_at Ignored p (b ∷ w) ≡ None = plain.sound p in
+    ap (λ ts. names k front (items ts)) (word_token Outside Outside-steady tied p b w (more_text xs) plain.letters (more_ends xs))
+    ∙ ap (names k front) (word_items (tokens_from Outside true 0 (p + length (b ∷ w)) (more_text xs)) p (b ∷ w) (more_opens k (p + length (b ∷ w)) true xs hs))
+    ∙ rw (sound, h) refl
+
+names_again : (k : Kind) (front : List (List ℕ)) (tied : Bool) (p : ℕ) (xs : List (List ℕ)) → AreNames k xs
+    → names k front (items (tokens_from Outside tied 0 p (more_text xs))) ≡ Ok (front ++ xs)
+names_again k front tied p [] h = ap Ok (sym (append-nil front))
+names_again k front tied p (x ∷ xs) h =
+    names_step k front false (suc p) x xs h.0 h.1 ∙ names_again k (front ++ x ∷ []) true (suc p + length x) xs h.1 ∙ ap Ok (append_assoc front (x ∷ []) xs)
+
+-- the first item of a list is there
+several-some : (k : Kind) (p : ℕ) (is : List Item) (x : List ℕ) (xs : List (List ℕ)) → names k [] is ≡ Ok (x ∷ xs) → several k p is ≡ Ok (contents.Ids (x ∷ xs))
+several-some k p [] x xs h = cc
+several-some k p (i ∷ is) x xs h = rw h refl
+
+several_again : (k : Kind) (p q : ℕ) (xs : List (List ℕ)) → IsNonEmpty xs → AreNames k xs → several k p (items (tokens (within q (ids_text xs)))) ≡ Ok (contents.Ids xs)
+unfolding tokens
+several_again k p q [] some h = absurd some
+several_again k p q (x ∷ xs) some h =
+    several-some k p (items (tokens_from Outside false 0 (suc q) (x ++ more_text xs))) x xs
+    (names_step k [] false (suc q) x xs h.0 h.1 ∙ names_again k (x ∷ []) true (suc q + length x) xs h.1)
+
+-- a value other than none
+abbrev pub IsShown : Content → Type 0
+IsShown contents.Flag = ⊥
+IsShown (contents.Id w) = Unit {0}
+IsShown (contents.Authority a) = Unit {0}
+IsShown (contents.Name t) = Unit {0}
+IsShown (contents.Ids xs) = Unit {0}
+IsShown (contents.Level l) = Unit {0}
+IsShown (contents.Audit r) = Unit {0}
+IsShown (contents.Profile n) = Unit {0}
+IsShown (contents.Reset r) = Unit {0}
+IsShown (contents.Whos ws) = Unit {0}
+IsShown (contents.When c) = Unit {0}
+IsShown (contents.Members ms) = Unit {0}
+IsShown (contents.MemberNames ns) = Unit {0}
+
+pub value-again : (at : Context) (k : Kind) (p q : ℕ) (v : Content) → Fits k v → IsShown v → value at k p (items (tokens (within q (text_of v)))) ≡ Ok v
+value-again at kinds.Flag p q contents.Flag h shown = absurd shown
+value-again at kinds.Id p q (contents.Id w) h shown = single_id at p q w h
+value-again at kinds.Group p q (contents.Id w) h shown = single_group at p q w h
+value-again at kinds.Authority p q (contents.Authority a) h shown = single_authority at p q a
+value-again at kinds.Name p q (contents.Name t) h shown = single_name at p q t h
+value-again at kinds.Ids p q (contents.Ids xs) h shown = several_again kinds.Ids p q xs h.0 h.1
+value-again at kinds.Classes p q (contents.Ids xs) h shown = several_again kinds.Classes p q xs h.0 h.1
+value-again at k p q v h shown = absurd h
+
+-- where the parenthesis of a value that was written closes
+all_calm : (w : List ℕ) → list_all is_letter w ≡ true → list_all is_calm w ≡ true
+all_calm [] h = refl
+all_calm (b ∷ w) h = rw (letter-calm b (both_first _ _ h)) (all_calm w (both_second _ _ h))
+
+more_calm : (k : Kind) (xs : List (List ℕ)) → AreNames k xs → list_all is_calm (more_text xs) ≡ true
+more_calm k [] h = refl
+more_calm k (x ∷ xs) h =
+    list_all-append is_calm x (more_text xs) ∙ rw (all_calm x (name-plain k x x h.0).letters, more_calm k xs h.1) refl
+
+ids_calm : (k : Kind) (xs : List (List ℕ)) → AreNames k xs → list_all is_calm (ids_text xs) ≡ true
+ids_calm k [] h = refl
+ids_calm k (x ∷ xs) h =
+    list_all-append is_calm x (more_text xs) ∙ rw (all_calm x (name-plain k x x h.0).letters, more_calm k xs h.1) refl
+
+authority_calm : (a : GroupAuthority) → list_all is_calm (authority_name a) ≡ true
+authority_calm MayUse = refl
+authority_calm MayCreate = refl
+authority_calm MayConnect = refl
+authority_calm MayJoin = refl
+
+pub value-ends : (k : Kind) (v : Content) (outer p : ℕ) (rest : List ℕ) → Fits k v → IsShown v → group_end outer Outside 0 p (text_of v ++ 41 ∷ rest) ≡ Ok (p + length (text_of v))
+value-ends kinds.Flag contents.Flag outer p rest h shown = absurd shown
+value-ends kinds.Id (contents.Id w) outer p rest h shown = group_end-calm outer p w rest (all_calm w (name-plain kinds.Id w w h).letters)
+value-ends kinds.Group (contents.Id w) outer p rest h shown = group_end-calm outer p w rest (all_calm w (name-plain kinds.Group w w h).letters)
+value-ends kinds.Authority (contents.Authority a) outer p rest h shown = group_end-calm outer p (authority_name a) rest (authority_calm a)
+value-ends kinds.Name (contents.Name t) outer p rest h shown = group_end-quoted outer p t rest
+value-ends kinds.Ids (contents.Ids xs) outer p rest h shown = group_end-calm outer p (ids_text xs) rest (ids_calm kinds.Ids xs h.1)
+value-ends kinds.Classes (contents.Ids xs) outer p rest h shown = group_end-calm outer p (ids_text xs) rest (ids_calm kinds.Classes xs h.1)
+value-ends k v outer p rest h shown = absurd h

@@ -1,0 +1,142 @@
+//! The reading of operands: which row of the table a word names, and its value.
+
+ghost use Rattle.std.specs.Prelude.{◌≡◌, ◌+◌, ◌<◌, ◌^◌, length, map, position, count_by, replicate, None, IfOk, IfSome};
+ghost use Rattle.command_words.specs.Bytes.{upper};
+ghost use Rattle.command_words.specs.Tokens.{tokens};
+ghost use Rattle.command_words.specs.Items.{items, IsItemInReach};
+ghost use Rattle.command_words.specs.Pieces.{seen_item};
+ghost use Rattle.command_grammar.specs.Results.{Gives, Finds};
+ghost use Rattle.command_grammar.specs.Reading.{is_spelling, is_beginning, named as row_named, row_at, slot_of as fresh_row, operand_at, operands_at, no_slots as empty_slots};
+
+use crate::faults::{ParseFault, Syntax};
+use crate::table::Operand;
+use crate::value::{bare, clean, value};
+use crate::values::{Content, Context};
+use command_words::{Item, Quoting, Tokens, is_cut, is_spelled};
+use std::alloc::{AllocError, Global};
+
+fn first_spelled(rows: &[Operand], word: &[u8]) -> Option<usize>
+    ensures value { result ≡ position (is_spelling (map upper word.now)) rows.now }
+    ensures within { IfSome result (λ k. k < length rows.now) }
+{
+    rows.iter()
+        .position(|row| is_spelled(word, row.word.spelling()))
+}
+
+fn first_begun(rows: &[Operand], word: &[u8]) -> Option<usize>
+    ensures value { result ≡ position (is_beginning (map upper word.now)) rows.now }
+    ensures within { IfSome result (λ k. k < length rows.now) }
+{
+    rows.iter()
+        .position(|row| is_cut(word, row.word.spelling()))
+}
+
+fn count_begun(rows: &[Operand], word: &[u8]) -> usize
+    ensures { result ≡ count_by (is_beginning (map upper word.now)) rows.now }
+{
+    rows.iter()
+        .filter(|row| is_cut(word, row.word.spelling()))
+        .count()
+}
+
+/// The row of the operand that the word at `place` names: the one that it spells, else the only one that it begins.
+pub fn named(rows: &[Operand], place: u32, word: &[u8]) -> Result<usize, Syntax>
+    ensures value { result ≡ row_named rows.now place (map upper word.now) }
+    ensures within { IfOk result (λ k. k < length rows.now) }
+{
+    if let Some(k) = first_spelled(rows, word) {
+        return Ok(k);
+    }
+    if count_begun(rows, word) > 1 {
+        return Err(Syntax::AmbiguousOperand(place));
+    }
+    first_begun(rows, word).ok_or(Syntax::UnknownOperand(place))
+}
+
+// The row at a place of the table.
+fn row(rows: &[Operand], k: usize) -> Operand
+    requires { k < length rows.now }
+    ensures { result ≡ row_at rows.now k }
+{
+    rows[k]
+}
+
+// The row that the word at `place` names, if its operand wasn't given before.
+fn slot_of(
+    rows: &[Operand],
+    slots: &[Option<Content>],
+    place: u32,
+    word: &[u8],
+) -> Result<usize, Syntax>
+    requires reach { place + length word.now < 2 ^ 30 }
+    requires same { length slots.now ≡ length rows.now }
+    ensures value { Finds (λ k. k) result (fresh_row rows.now slots.now place word.now) }
+    ensures within { IfOk result (λ k. k < length rows.now) }
+{
+    let word = clean(Quoting::Ignored, place, word)?;
+    let k = named(rows, place, word)?;
+    if slots[k].is_some() {
+        return Err(Syntax::Repeated(row(rows, k).word));
+    }
+    Ok(k)
+}
+
+// An operand: its row and its value.
+fn operand(
+    alloc: Global,
+    at: &Context,
+    rows: &[Operand],
+    slots: &[Option<Content>],
+    item: Item<'_>,
+) -> Result<(usize, Content), ParseFault>
+    requires reach { IsItemInReach (seen_item item) }
+    requires same { length slots.now ≡ length rows.now }
+    ensures value { Gives (λ x. (x.0, x.1)) result (operand_at at.now rows.now slots.now (seen_item item.entry)) }
+    ensures within { IfOk result (λ x. x.0 < length rows.now) }
+{
+    match item {
+        Item::Bare(place, word) => {
+            let k = slot_of(rows, slots, place, word)?;
+            Ok((k, bare(row(rows, k).kind, place)?))
+        }
+        Item::With(place, word, inner) => {
+            let k = slot_of(rows, slots, place, word)?;
+            Ok((k, value(alloc, at, row(rows, k).kind, place, inner)?))
+        }
+        Item::Unbounded(place, word, open) => {
+            slot_of(rows, slots, place, word)?;
+            Err(ParseFault::Syntax(Syntax::Unclosed(open)))
+        }
+        Item::Odd(place) => Err(ParseFault::Syntax(Syntax::UnknownOperand(place))),
+    }
+}
+
+// A slot for each row, all empty.
+fn no_slots(alloc: Global, rows: &[Operand]) -> Result<Vec<Option<Content>>, AllocError>
+    ensures { IfOk result (λ slots. slots.items ≡ empty_slots rows.now) }
+{
+    let mut slots = Vec::with_capacity(alloc, rows.len())?;
+    for _row in rows {
+        slots.push(None)?;
+    }
+    Ok(slots)
+}
+
+/// The operands from the left, each in the slot of its row.
+pub fn operands(
+    alloc: Global,
+    at: &Context,
+    rows: &[Operand],
+    text: Tokens<'_>,
+) -> Result<Vec<Option<Content>>, ParseFault>
+    ensures value { Gives (λ slots. slots.items) result (operands_at at.now rows.now (empty_slots rows.now) (items (tokens text.entry))) }
+{
+    let mut slots = no_slots(alloc, rows)?;
+    let mut left = text;
+    while let Some((item, rest)) = left.split_item() {
+        let (k, content) = operand(alloc, at, rows, &slots, item)?;
+        slots[k] = Some(content);
+        left = rest;
+    }
+    Ok(slots)
+}

@@ -1,0 +1,128 @@
+//! The canonical text of a command.
+
+ghost use Rattle.std.specs.Prelude.{◌≡◌, ◌++◌, ◌∷◌, [], OnOk, IfOk};
+ghost use Rattle.command_words.specs.Quotes.{doubled};
+ghost use Rattle.command_grammar.specs.Values.{ids_text, text_of};
+ghost use Rattle.command_grammar.specs.Canon.{value_text, positions_text, operands_text, canon};
+ghost use Rattle.command_grammar.specs.Parts.{generic};
+ghost use Rattle.command_grammar.specs.Words.{spelling_of};
+
+use crate::reading::Parts;
+use crate::table::Operand;
+use crate::values::Content;
+use access_levels::{Id, Text};
+use std::alloc::{AllocError, Global};
+
+// A text as it stands between quotes, each quote twice.
+fn push_doubled(out: &mut Vec<u8>, text: &[u8]) -> Result<(), AllocError>
+    ensures { OnOk result (out.new.items ≡ out.old.items ++ doubled text.now) }
+{
+    for byte in text {
+        if *byte == b'\'' {
+            out.push(b'\'')?;
+        }
+        out.push(*byte)?;
+    }
+    Ok(())
+}
+
+fn push_name(out: &mut Vec<u8>, text: &Text) -> Result<(), AllocError>
+    ensures { OnOk result (out.new.items ≡ out.old.items ++ (39 ∷ (doubled text.now ++ 39 ∷ []))) }
+{
+    out.push(b'\'')?;
+    push_doubled(out, text.bytes())?;
+    out.push(b'\'')?;
+    Ok(())
+}
+
+// Names parted by one blank.
+fn push_ids(out: &mut Vec<u8>, ids: &[Id]) -> Result<(), AllocError>
+    ensures { OnOk result (out.new.items ≡ out.old.items ++ ids_text ids.now) }
+{
+    let Some((first, rest)) = ids.split_first() else {
+        return Ok(());
+    };
+    out.extend_from_slice(first.text())?;
+    for id in rest {
+        out.push(b' ')?;
+        out.extend_from_slice(id.text())?;
+    }
+    Ok(())
+}
+
+fn push_content(out: &mut Vec<u8>, content: &Content) -> Result<(), AllocError>
+    ensures { OnOk result (out.new.items ≡ out.old.items ++ text_of content.now) }
+{
+    match content {
+        Content::Flag => Ok(()),
+        Content::Id(id) => out.extend_from_slice(id.text()),
+        Content::Authority(authority) => out.extend_from_slice(authority.name()),
+        Content::Name(text) => push_name(out, text),
+        Content::Ids(ids) => push_ids(out, &ids.items),
+        _ => Ok(()),
+    }
+}
+
+// A value in its parentheses, or nothing where there is none.
+fn push_value(out: &mut Vec<u8>, content: &Content) -> Result<(), AllocError>
+    ensures { OnOk result (out.new.items ≡ out.old.items ++ value_text content.now) }
+{
+    if let Content::Flag = content {
+        return Ok(());
+    }
+    out.push(b'(')?;
+    push_content(out, content)?;
+    out.push(b')')?;
+    Ok(())
+}
+
+fn push_positions(out: &mut Vec<u8>, positions: &[Content]) -> Result<(), AllocError>
+    ensures { OnOk result (out.new.items ≡ out.old.items ++ positions_text positions.now) }
+{
+    for content in positions {
+        out.push(b' ')?;
+        push_content(out, content)?;
+    }
+    Ok(())
+}
+
+fn push_operand(out: &mut Vec<u8>, row: Operand, content: &Content) -> Result<(), AllocError>
+    ensures { OnOk result (out.new.items ≡ out.old.items ++ (32 ∷ (spelling_of row.word ++ value_text content.now))) }
+{
+    out.push(b' ')?;
+    out.extend_from_slice(row.word.spelling())?;
+    push_value(out, content)
+}
+
+fn push_operands(
+    out: &mut Vec<u8>,
+    rows: &[Operand],
+    slots: &[Option<Content>],
+) -> Result<(), AllocError>
+    ensures { OnOk result (out.new.items ≡ out.old.items ++ operands_text rows.now slots.now) }
+{
+    let (mut rows, mut slots) = (rows, slots);
+    while let (Some((row, more_rows)), Some((slot, more_slots))) = (
+        rows.split_first(),
+        slots.split_first(),
+    ) {
+        if let Some(content) = slot {
+            push_operand(out, *row, content)?;
+        }
+        rows = more_rows;
+        slots = more_slots;
+    }
+    Ok(())
+}
+
+/// The canonical text of a command.
+#[tactic(auto, unfolding(crate::specs::Canon::canon))]
+pub fn printed(alloc: Global, parts: &Parts) -> Result<Vec<u8>, AllocError>
+    ensures { IfOk result (λ text. text.items ≡ canon (generic parts.now)) }
+{
+    let mut out = Vec::new(alloc);
+    out.extend_from_slice(parts.verb.full_name())?;
+    push_positions(&mut out, &parts.positions)?;
+    push_operands(&mut out, parts.verb.operands(), &parts.slots)?;
+    Ok(out)
+}

@@ -1,0 +1,276 @@
+//! The reading of values: the word or words in an operand's parentheses, and of a positional word.
+
+ghost use Rattle.std.specs.Prelude.{◌≡◌, ◌+◌, ◌<◌, ◌^◌, [], false, length, map, IfOk};
+ghost use Rattle.std.specs.List.{list_all};
+ghost use Rattle.std.specs.Option.{option_map};
+ghost use Rattle.std.specs.Result.{result_ok};
+ghost use Rattle.access_levels.specs.Spelling.{id_of, group_of, authority_of};
+ghost use Rattle.command_words.specs.Bytes.{upper};
+ghost use Rattle.command_words.specs.Tokens.{tokens};
+ghost use Rattle.command_words.specs.Items.{items, IsItemInReach};
+ghost use Rattle.command_words.specs.Pieces.{seen_item};
+ghost use Rattle.command_grammar.specs.Results.{Gives, Finds};
+ghost use Rattle.command_grammar.specs.Values.{clean, refused_at as refusal_of, word_of as word_in, unless_dataset, name_of as name_in, name_text, is_name as names_user, is_printable, unquoted as text_between, one as one_of, quotes_of as quoting_of, stray as stray_in, single as single_of, names as names_of, several as several_of, value as value_of, bare as bare_of};
+
+use crate::faults::{ParseFault, Syntax};
+use crate::table::Kind;
+use crate::values::{Content, Context, Ids};
+use access_levels::{GroupAuthority, Id, Text};
+use command_words::{Item, Quoting, ShortWord, Tokens, faulty_at};
+use std::alloc::{AllocError, Global};
+
+/// The word, unless it has a faulty byte: that is refused at its place.
+pub fn clean<'a>(quoting: Quoting, place: u32, word: &'a [u8]) -> Result<&'a [u8], Syntax>
+    requires { place + length word.now < 2 ^ 30 }
+    ensures { Finds (λ x. x.now) result (clean quoting place word.now) }
+{
+    match faulty_at(quoting, place, word) {
+        Some(fault) => Err(Syntax::BadValue(fault)),
+        None => Ok(word),
+    }
+}
+
+// Where an item is refused.
+fn refused_at(quoting: Quoting, item: Item<'_>) -> u32
+    requires { IsItemInReach (seen_item item) }
+    ensures { result ≡ refusal_of quoting (seen_item item.entry) }
+{
+    match item {
+        Item::Bare(place, word) => faulty_at(quoting, place, word).unwrap_or(place),
+        Item::With(place, word, _) => faulty_at(quoting, place, word).unwrap_or(place),
+        Item::Unbounded(place, word, _) => faulty_at(quoting, place, word).unwrap_or(place),
+        Item::Odd(place) => place,
+    }
+}
+
+// The word that an item is, with its place.
+fn word_of<'a>(quoting: Quoting, item: Item<'a>) -> Result<(u32, &'a [u8]), Syntax>
+    requires { IsItemInReach (seen_item item) }
+    ensures { Finds (λ x. (x.0, x.1.now)) result (word_in quoting (seen_item item.entry)) }
+{
+    match item {
+        Item::Bare(place, word) => Ok((place, clean(quoting, place, word)?)),
+        other => Err(Syntax::BadValue(refused_at(quoting, other))),
+    }
+}
+
+fn id_named(word: &[u8]) -> Option<Id>
+    ensures { result ≡ result_ok (id_of (map upper word.now)) }
+{
+    let short = ShortWord::of(word)?;
+    Id::read(short.as_slice()).ok()
+}
+
+fn group_named(word: &[u8]) -> Option<Id>
+    ensures { result ≡ result_ok (group_of (map upper word.now)) }
+{
+    let short = ShortWord::of(word)?;
+    Id::read_group(short.as_slice()).ok()
+}
+
+fn class_named(word: &[u8]) -> Option<Id>
+    ensures { result ≡ unless_dataset (result_ok (id_of (map upper word.now))) }
+{
+    let id = id_named(word)?;
+    if id.text() == b"DATASET".as_slice() {
+        None
+    } else {
+        Some(id)
+    }
+}
+
+fn authority_named(word: &[u8]) -> Option<GroupAuthority>
+    ensures { result ≡ authority_of (map upper word.now) }
+{
+    let short = ShortWord::of(word)?;
+    GroupAuthority::read(short.as_slice())
+}
+
+// The name that a word spells where a name of this kind stands.
+fn name_of(kind: Kind, word: &[u8]) -> Option<Id>
+    ensures { result ≡ name_in kind word.now }
+{
+    match kind {
+        Kind::Id => id_named(word),
+        Kind::Ids => id_named(word),
+        Kind::Group => group_named(word),
+        Kind::Classes => class_named(word),
+        _ => None,
+    }
+}
+
+// How quotes count in a value of this kind.
+fn quotes_of(kind: Kind) -> Quoting
+    ensures { result ≡ quoting_of kind }
+{
+    match kind {
+        Kind::Name => Quoting::Outside,
+        _ => Quoting::Ignored,
+    }
+}
+
+/// An operand alone, without a value.
+pub fn bare(kind: Kind, place: u32) -> Result<Content, Syntax>
+    ensures { Finds (λ v. v) result (bare_of kind place) }
+{
+    match kind {
+        Kind::Flag => Ok(Content::Flag),
+        _ => Err(Syntax::BadValue(place)),
+    }
+}
+
+// The place of what stands behind a value of one word.
+fn stray(quoting: Quoting, rest: &Tokens<'_>) -> Option<u32>
+    ensures { result ≡ stray_in quoting (items (tokens rest.now)) }
+{
+    let (item, _) = rest.split_item()?;
+    Some(refused_at(quoting, item))
+}
+
+// The text between quotes, behind whose opening one `bytes` stands, where the word ends with the closing one.
+fn unquoted(alloc: Global, bytes: &[u8]) -> Result<Option<Vec<u8>>, AllocError>
+    ensures { IfOk result (λ text. option_map (λ t. t.items) text ≡ text_between false [] bytes.now) }
+{
+    let mut text = Vec::new(alloc);
+    let mut met = false;
+    let mut rest = bytes;
+    while let Some((byte, behind)) = rest.split_first() {
+        rest = behind;
+        if *byte == b'\'' {
+            if met {
+                text.push(b'\'')?;
+            }
+            met = !met;
+        } else if met {
+            return Ok(None);
+        } else {
+            text.push(*byte)?;
+        }
+    }
+    Ok(if met { Some(text) } else { None })
+}
+
+fn is_printable(byte: u8) -> bool
+    ensures { result ≡ is_printable byte }
+{
+    byte >= 0x20 && byte <= 0x7e
+}
+
+fn are_printable(text: &[u8]) -> bool
+    ensures { result ≡ list_all is_printable text.now }
+{
+    text.iter().all(|byte| is_printable(*byte))
+}
+
+fn is_name(text: &[u8]) -> bool
+    ensures { result ≡ names_user text.now }
+{
+    text.len() >= 1 && text.len() <= 20 && are_printable(text)
+}
+
+// The text of a user's name, which a word in quotes is.
+fn name_named(alloc: Global, word: &[u8]) -> Result<Option<Text>, AllocError>
+    ensures { IfOk result (λ text. text ≡ name_text word.now) }
+{
+    let Some((byte, rest)) = word.split_first() else {
+        return Ok(None);
+    };
+    if *byte != b'\'' {
+        return Ok(None);
+    }
+    let Some(text) = unquoted(alloc, rest)? else {
+        return Ok(None);
+    };
+    if !is_name(text.as_slice()) {
+        return Ok(None);
+    }
+    Ok(Some(Text::of(alloc, text.as_slice())?))
+}
+
+/// The value that a word is. No kind reads the context yet.
+pub fn one(
+    alloc: Global,
+    _at: &Context,
+    kind: Kind,
+    place: u32,
+    word: &[u8],
+) -> Result<Content, ParseFault>
+    ensures { Gives (λ v. v) result (one_of _at.now kind place word.now) }
+{
+    let bad = Syntax::BadValue(place);
+    match kind {
+        Kind::Id => Ok(Content::Id(name_of(kind, word).ok_or(bad)?)),
+        Kind::Group => Ok(Content::Id(name_of(kind, word).ok_or(bad)?)),
+        Kind::Authority => Ok(Content::Authority(authority_named(word).ok_or(bad)?)),
+        Kind::Name => Ok(Content::Name(name_named(alloc, word)?.ok_or(bad)?)),
+        _ => Err(ParseFault::Syntax(bad)),
+    }
+}
+
+/// A value of one word. Where there is no word it is refused at `place`.
+pub fn single(
+    alloc: Global,
+    at: &Context,
+    kind: Kind,
+    place: u32,
+    inner: Tokens<'_>,
+) -> Result<Content, ParseFault>
+    ensures { Gives (λ v. v) result (single_of at.now kind place (items (tokens inner.entry))) }
+{
+    let Some((item, rest)) = inner.split_item() else {
+        return Err(ParseFault::Syntax(Syntax::BadValue(place)));
+    };
+    let (place, word) = word_of(quotes_of(kind), item)?;
+    let content = one(alloc, at, kind, place, word)?;
+    match stray(quotes_of(kind), &rest) {
+        Some(place) => Err(ParseFault::Syntax(Syntax::BadValue(place))),
+        None => Ok(content),
+    }
+}
+
+// The names of a list.
+fn names(alloc: Global, kind: Kind, inner: Tokens<'_>) -> Result<Ids, ParseFault>
+    ensures { Gives (λ xs. xs) result (names_of kind [] (items (tokens inner.entry))) }
+{
+    let mut ids = Vec::new(alloc);
+    let mut left = inner;
+    while let Some((item, rest)) = left.split_item() {
+        let (place, word) = word_of(Quoting::Ignored, item)?;
+        let id = name_of(kind, word).ok_or(Syntax::BadValue(place))?;
+        ids.push(id)?;
+        left = rest;
+    }
+    Ok(Ids { items: ids })
+}
+
+// A list of one name or more. Where there is none it is refused at `place`.
+fn several(alloc: Global, kind: Kind, place: u32, inner: Tokens<'_>) -> Result<Content, ParseFault>
+    ensures { Gives (λ v. v) result (several_of kind place (items (tokens inner.entry))) }
+{
+    if inner.split_item().is_none() {
+        return Err(ParseFault::Syntax(Syntax::BadValue(place)));
+    }
+    Ok(Content::Ids(names(alloc, kind, inner)?))
+}
+
+/// The value in the parentheses behind an operand at `place`.
+pub fn value(
+    alloc: Global,
+    at: &Context,
+    kind: Kind,
+    place: u32,
+    inner: Tokens<'_>,
+) -> Result<Content, ParseFault>
+    ensures { Gives (λ v. v) result (value_of at.now kind place (items (tokens inner.entry))) }
+{
+    match kind {
+        Kind::Flag => Err(ParseFault::Syntax(Syntax::BadValue(place))),
+        Kind::Ids => several(alloc, kind, place, inner),
+        Kind::Classes => several(alloc, kind, place, inner),
+        Kind::Id => single(alloc, at, kind, place, inner),
+        Kind::Group => single(alloc, at, kind, place, inner),
+        Kind::Authority => single(alloc, at, kind, place, inner),
+        Kind::Name => single(alloc, at, kind, place, inner),
+        _ => Err(ParseFault::Syntax(Syntax::BadValue(place))),
+    }
+}

@@ -1,0 +1,98 @@
+//! The values of positional words and operands.
+
+use access_levels::{Condition, GroupAuthority, Id, Level, Text, Who};
+use generic_names::{MemberName, Pattern};
+use racf_profiles::{AuditRule, Members};
+use std::marker::Model;
+
+/// Names in the order in which they were given.
+#[derive(Debug, Drop)]
+pub struct Ids {
+    pub items: Vec<Id>,
+}
+
+impl Model for Ids {
+    ghost use Rattle.std.specs.Prelude.{List, ℕ};
+
+    ghost Value = { List (List ℕ) };
+
+    ghost view = { λ ids. ids.items.items };
+}
+
+/// Users and groups in the order in which they were given, or `*` alone.
+#[derive(Debug, Drop)]
+pub struct Whos {
+    pub items: Vec<Who>,
+}
+
+impl Model for Whos {
+    ghost use Rattle.std.specs.Prelude.{List};
+    ghost use Rattle.access_levels.specs.declared.entries.Who.{Who};
+
+    ghost Value = { List Who };
+
+    ghost view = { λ whos. whos.items.items };
+}
+
+/// Names of members in the order in which they were given.
+#[derive(Drop)]
+pub struct MemberNames {
+    pub items: Vec<MemberName>,
+}
+
+impl Model for MemberNames {
+    ghost use Rattle.std.specs.Prelude.{List};
+    ghost use Rattle.generic_names.specs.Spelled.{Spelled};
+
+    ghost Value = { List Spelled };
+
+    ghost view = { λ names. names.items.items };
+}
+
+/// Which access lists PERMIT empties.
+#[derive(Clone, Copy, Debug, PartialEq, Eq)]
+pub enum Reset {
+    /// Both.
+    All,
+    Standard,
+    /// The conditional one.
+    When,
+}
+
+/// The value of a positional word or an operand.
+#[derive(Drop)]
+pub enum Content {
+    /// The operand stands, and takes no value.
+    Flag,
+    /// A user, a group, a class, a level, a label.
+    Id(Id),
+    /// A group authority.
+    Authority(GroupAuthority),
+    /// The text of a user's name, without its quotes.
+    Name(Text),
+    /// A list of names.
+    Ids(Ids),
+    /// An access level.
+    Level(Level),
+    /// Which accesses are logged.
+    Audit(AuditRule),
+    /// The name of a profile.
+    Profile(Pattern),
+    /// Which access lists are emptied.
+    Reset(Reset),
+    /// Users and groups, or `*`.
+    Whos(Whos),
+    /// A port of entry.
+    When(Condition),
+    /// Members of a profile.
+    Members(Members),
+    /// Names of members of a profile.
+    MemberNames(MemberNames),
+}
+
+/// What the reading of a value may depend on beside its text.
+#[derive(Clone, Copy, Debug)]
+pub struct Context {
+    /// Who gives the command.
+    pub issuer: Id,
+}

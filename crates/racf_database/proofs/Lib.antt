@@ -1,4 +1,5 @@
 mod CommandRows
+mod ProfileRows
 pub mod RowLaws
 pub mod Keyed
 pub mod Counts
@@ -11,3 +12,9 @@ pub mod StepLaws
 pub mod Ready
 pub mod IdNames
 pub mod Growth
+pub mod Places
+pub mod ListCounts
+pub mod ClassCounts
+pub mod ProfileReady
+pub mod ProfileCommands
+pub mod ProfileSteps

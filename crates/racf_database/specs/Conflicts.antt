@@ -1,16 +1,13 @@
 -- What a command conflicts with. Conflicts are judged on the rows before the command; LastSpecial, OwnerNotSuperior and
 -- Full alone speak of the rows after it.
 use Rattle.std.specs.Prelude.{ℕ, zero, suc, Bool, ◌&&◌, ◌||◌, not, ◌==◌, nat_lt, List, [], ◌∷◌, length, Option, None, Some, is_some, find, option_map, option_and_then, codes, bytes_eq, if◌then◌else◌}
-use Rattle.std.specs.List.{list_any, before_first}
+use Rattle.std.specs.List.{list_any}
 use Rattle.std.specs.Option.{option_map_or, option_eq}
-use Rattle.generic_names.specs.Spelled.{period}
 use Rattle.racf_profiles.specs.declared.users.User.{User}
 use Rattle.racf_profiles.specs.declared.groups.Group.{Group}
-use Rattle.racf_profiles.specs.declared.profiles.Profile.{Profile}
-use Rattle.racf_profiles.specs.declared.class_rows.ClassRow.{ClassRow}
 use Rattle.racf_profiles.specs.declared.rows.Rows.{Rows}
 use Rattle.racf_profiles.specs.declared.users.Connect.{Connect as Connection}
-use Rattle.racf_profiles.specs.Lookup.{user_of, group_of, class_of}
+use Rattle.racf_profiles.specs.Lookup.{user_of, group_of}
 use Rattle.group_tree.specs.Groups.{find_group, first_subgroup}
 use Rattle.racf_database.specs.declared.conflict.Conflict.{Conflict}
 use Rattle.racf_database.specs.declared.conflict.Conflict.TheVariants.{NoUser, NoGroup, NoClass, Exists, NotConnected, Root, InUse, Cycle, OwnerNotSuperior, DefaultGroup, LastSpecial, UnknownName, Full}
@@ -29,6 +26,7 @@ use Rattle.command_parser.specs.declared.forms.Connect.{Connect}
 use Rattle.command_parser.specs.declared.forms.Remove.{Remove}
 use Rattle.command_parser.specs.declared.forms.Form.{Form}
 use Rattle.command_parser.specs.declared.forms.Form.TheVariants as form
+use Rattle.racf_database.specs.ClassStub.{first_under}
 use Rattle.racf_database.specs.Limits.{most_users, most_groups, most_connections, most_connections_in_all}
 use Rattle.racf_database.specs.Names.{is_taken, is_class_word, is_to, is_connected_to, connects_of, administrators, connections}
 use Rattle.racf_database.specs.Security.{level_number, is_category, category_number, is_label}
@@ -48,12 +46,9 @@ has_subgroup id rows = option_map (λ subgroup. InUse (Subgroup subgroup)) (opti
 unfoldable pub has_connected : List ℕ → Rows → Option Conflict
 has_connected id rows = option_map (λ (user : User). InUse (Connected user.id)) (find (is_connected_to id) rows.users)
 
--- A user or a group whose ID is the first qualifier of a data set profile.
-abbrev pub begins_with : List ℕ → Profile → Bool
-begins_with id profile = bytes_eq (before_first (λ byte. byte == period) profile.name.text) id
-
+-- A user or a group whose ID is the first qualifier of a data set profile, the first in order of specificity.
 unfoldable pub has_profile : List ℕ → Rows → Option Conflict
-has_profile id rows = option_map (λ (profile : Profile). InUse (ProfileOf profile.name)) (option_and_then (λ (class : ClassRow). find (begins_with id) class.profiles) (class_of (codes "DATASET") rows))
+has_profile id rows = option_map (λ name. InUse (ProfileOf name)) (first_under id rows.classes)
 
 -- The groups that a walk up meets: the group itself, its superior group, and so on. No walk has more steps than there
 -- are groups.

@@ -1,18 +1,19 @@
 -- How a database is kept: the users, the tree of groups, the classes with their profiles, the options, and the change that
 -- was prepared.
-use Rattle.std.specs.Prelude.{◌≡◌, ◌≢◌, ◌⊎◌, ℕ, ◌<◌, ◌≤◌, length, List, [], ◌∷◌, Option, None, Some, MatchOption, IsSome}
+use Rattle.std.specs.Prelude.{◌≡◌, ◌≢◌, ◌⊎◌, ℕ, ◌<◌, ◌≤◌, length, List, [], ◌∷◌, Option, None, Some, MatchOption, IsSome, find}
 use Rattle.racf_profiles.specs.declared.groups.Group.{Group}
 use Rattle.racf_profiles.specs.declared.options.Options.{Options}
 use Rattle.racf_profiles.specs.declared.edits.Edit.{Edit}
 use Rattle.racf_profiles.specs.declared.edits.Edit.TheVariants.{PutUser, DropUser, PutGroup, DropGroup, PutProfile, DropProfile, PutOptions, PutClass, List as ListCopy, Unlist}
 use Rattle.racf_profiles.specs.declared.edits.Change.{Change}
 use Rattle.racf_profiles.specs.NewDatabase.{sys1}
+use Rattle.racf_profiles.specs.Lookup.{is_class}
 use Rattle.group_tree.specs.Groups.{GroupTree, find_group}
 use Rattle.group_tree.specs.Answers.{CanAdd, CanMove, CanRemove}
 use Rattle.racf_database.specs.declared.database.Database.TheInside.{Inside}
 use Rattle.racf_database.specs.Contents.{Contents, rows_of}
 use Rattle.racf_database.specs.UserList.{UserList, CanPut}
-use Rattle.racf_database.specs.ClassStub.{ClassList, CanPutIn}
+use Rattle.racf_database.specs.ClassStub.{ClassList, CanPutIn, room_in}
 use Rattle.racf_database.specs.Limits.{most_categories}
 
 abbrev pub contents_of : Inside → Contents
@@ -68,6 +69,23 @@ CanFollow (PutOptions options) = HasFewCategories options
 CanFollow (PutClass class active global log) = ⊥
 CanFollow (ListCopy class) = ⊥
 CanFollow (Unlist class) = ⊥
+
+-- There is room for the profile that an edit puts into a class, where there is such a class.
+abbrev pub HasRoomFor : ClassList → Edit → Type 0
+HasRoomFor classes (PutUser user) = Unit {0}
+HasRoomFor classes (DropUser id) = Unit {0}
+HasRoomFor classes (PutGroup group) = Unit {0}
+HasRoomFor classes (DropGroup id) = Unit {0}
+HasRoomFor classes (PutProfile class profile) = IsSome (find (is_class class) classes.classes) → 0 < room_in class classes
+HasRoomFor classes (DropProfile class name) = Unit {0}
+HasRoomFor classes (PutOptions options) = Unit {0}
+HasRoomFor classes (PutClass class active global log) = Unit {0}
+HasRoomFor classes (ListCopy class) = Unit {0}
+HasRoomFor classes (Unlist class) = Unit {0}
+
+abbrev pub HasRoom : ClassList → List Edit → Type 0
+HasRoom classes [] = Unit {0}
+HasRoom classes (edit ∷ edits) = HasRoomFor classes edit
 
 -- A change has one edit, and at most one of the options behind it.
 abbrev pub CanApply : UserList → GroupTree → ClassList → List Edit → Type 0

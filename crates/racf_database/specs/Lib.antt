@@ -1,3 +1,4 @@
+pub mod ClassStub
 pub mod Limits
 pub mod Names
 pub mod Security
@@ -7,12 +8,10 @@ pub mod ProfileEffects
 pub mod PermitEffects
 pub mod Effects
 pub mod Edits
-pub mod Holdings
 pub mod Required
 pub mod ProfileConflicts
 pub mod Conflicts
 pub mod UserList
 pub mod KeptUsers
-pub mod ClassStub
 pub mod Contents
 pub mod Kept

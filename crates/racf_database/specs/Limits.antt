@@ -15,10 +15,6 @@ most_connections = 300
 abbrev pub most_connections_in_all : ℕ
 most_connections_in_all = 200000
 
--- of all access lists
-abbrev pub most_entries_in_all : ℕ
-most_entries_in_all = 1000000
-
 -- of one profile
 abbrev pub most_members : ℕ
 most_members = 1000

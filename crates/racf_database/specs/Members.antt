@@ -1,11 +1,11 @@
 -- The members of profiles of GLOBAL and SECDATA, and the categories that they define.
-use Rattle.std.specs.Prelude.{ℕ, Bool, false, ◌||◌, not, List, [], ◌∷◌, fold, filter, bytes_eq}
+use Rattle.std.specs.Prelude.{ℕ, Bool, ◌||◌, not, List, [], ◌∷◌, fold, filter, bytes_eq, if◌then◌else◌}
 use Rattle.std.specs.List.{list_any}
+use Rattle.access_lists.specs.Lists.{entry_put}
 use Rattle.generic_names.specs.Spelled.{Spelled}
 use Rattle.racf_profiles.specs.declared.profiles.Member.{Member}
 use Rattle.racf_profiles.specs.declared.profiles.Member.TheVariants.{Access, Grade, Category}
 use Rattle.racf_profiles.specs.declared.options.Options.{Options}
-use Rattle.racf_profiles.specs.Edits.{put_row}
 use Rattle.racf_database.specs.Security.{is_category_member}
 use Rattle.racf_database.specs.UserEffects.{with_class}
 
@@ -20,7 +20,7 @@ is_member_named name member = bytes_eq (member_name member) name
 
 -- ADDMEM: the member in place of the one of its name, or else last.
 abbrev pub with_member : List Member → Member → List Member
-with_member members member = put_row (is_member_named (member_name member)) member members
+with_member members member = entry_put (is_member_named (member_name member)) member members
 
 -- DELMEM: the members without those of these names.
 abbrev pub is_named_in : List Spelled → Member → Bool
@@ -46,8 +46,8 @@ categories_defined added names = fold with_category_name names added
 abbrev pub options_after : List Member → Options → Options
 options_after added options = record options { categories = categories_defined added options.categories }
 
--- Whether a member defines a category anew: one that is neither among these nor among the members before it.
-abbrev pub is_new_category : Member → List Member → List (List ℕ) → Bool
-is_new_category (Access resources level) before names = false
-is_new_category (Grade name number) before names = false
-is_new_category (Category name) before names = not (list_any (λ other. bytes_eq other name) names || list_any (is_category_member name) before)
+-- How many categories a member defines anew: one that is neither among these nor among the members before it.
+abbrev pub category_growth : Member → List Member → List (List ℕ) → ℕ
+category_growth (Access resources level) before names = 0
+category_growth (Grade name number) before names = 0
+category_growth (Category name) before names = if list_any (λ other. bytes_eq other name) names || list_any (is_category_member name) before then 0 else 1

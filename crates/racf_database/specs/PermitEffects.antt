@@ -9,8 +9,8 @@ use Rattle.access_levels.specs.declared.entries.CondEntry.{CondEntry}
 use Rattle.access_lists.specs.Lists.{permitted, withdrawn, permitted_when, withdrawn_when}
 use Rattle.racf_profiles.specs.declared.profiles.Profile.{Profile}
 use Rattle.racf_profiles.specs.declared.rows.Rows.{Rows}
-use Rattle.command_parser.specs.declared.profile_forms.Reset.{Reset}
-use Rattle.command_parser.specs.declared.profile_forms.Reset.TheVariants as reset
+use Rattle.command_grammar.specs.declared.values.Reset.{Reset}
+use Rattle.command_grammar.specs.declared.values.Reset.TheVariants as reset
 use Rattle.command_parser.specs.declared.profile_forms.Permit.{Permit}
 use Rattle.racf_database.specs.ProfileEffects.{profile_changed}
 

@@ -10,6 +10,7 @@ use Rattle.generic_names.specs.Covers.{is_generic}
 use Rattle.racf_profiles.specs.declared.profiles.Profile.{Profile}
 use Rattle.racf_profiles.specs.declared.profiles.Member.{Member}
 use Rattle.racf_profiles.specs.declared.fixed_classes.ClassFacts.{ClassFacts}
+use Rattle.racf_profiles.specs.declared.class_rows.ClassRow.{ClassRow}
 use Rattle.racf_profiles.specs.declared.rows.Rows.{Rows}
 use Rattle.racf_profiles.specs.ClassTable.{facts_of}
 use Rattle.racf_profiles.specs.Lookup.{class_of, profile_of}
@@ -26,9 +27,9 @@ use Rattle.racf_database.specs.declared.conflict.Conflict.{Conflict}
 use Rattle.racf_database.specs.declared.conflict.Conflict.TheVariants.{NoUser, NoProfile, NoClass, Exists, NotGeneric}
 use Rattle.racf_database.specs.declared.conflict.Named.TheVariants as named
 use Rattle.racf_database.specs.declared.conflict.Kind.TheVariants.{ClassProfiles, Profiles, Entries, AllEntries, Members, Categories}
-use Rattle.racf_database.specs.Limits.{most_entries_in_all, most_members, most_categories}
+use Rattle.racf_database.specs.Limits.{most_members, most_categories}
 use Rattle.racf_database.specs.Names.{is_taken}
-use Rattle.racf_database.specs.Holdings.{first_qualifier, profiles_in, all_profiles, entries_of, all_entries}
+use Rattle.racf_database.specs.ClassStub.{profile_count, entry_count, entries_in, first_qualifier, most_entries as most_entries_in_all}
 use Rattle.racf_database.specs.Members.{members_after, categories_defined}
 use Rattle.racf_database.specs.ProfileEffects.{dataset}
 use Rattle.racf_database.specs.PermitEffects.{standard_after, conditional_after, permitted_profile}
@@ -38,7 +39,7 @@ use Rattle.racf_database.specs.Required.{if_met, no_owner, unknown_level, unknow
 -- The first qualifier of a data set profile is a user or a group. A name whose first qualifier isn't spelled as an ID
 -- is never given.
 unfoldable pub no_first_qualifier : Spelled → Rows → Option Conflict
-no_first_qualifier name rows = no_owner (result_ok (id_of (first_qualifier name))) rows
+no_first_qualifier name rows = no_owner (result_ok (id_of (first_qualifier name.text))) rows
 
 -- PERMIT gives access to `*`, to users and to groups alone: the first ID that is none of these.
 abbrev pub is_unknown : Rows → Who → Bool
@@ -83,11 +84,14 @@ unfoldable pub not_generic : List ℕ → Spelled → Option Conflict
 not_generic class name = if_met (is_generic name && not (has_generic class)) (NotGeneric class)
 
 -- ---- limits, after the command. A definition adds one profile.
+abbrev pub profiles_in : List ℕ → Rows → List Profile
+profiles_in class rows = option_map_or (λ (row : ClassRow). row.profiles) (class_of class rows) []
+
 unfoldable pub class_profiles_full : List ℕ → Rows → Option Conflict
 class_profiles_full class rows = over ClassProfiles most_class_profiles (length (profiles_in class rows) + 1)
 
 unfoldable pub profiles_full : Rows → Option Conflict
-profiles_full rows = over Profiles most_profiles (all_profiles rows.classes + 1)
+profiles_full rows = over Profiles most_profiles (profile_count rows.classes + 1)
 
 -- of the profile that PERMIT changes, but with DELETE, which adds no entry: either list, and all lists with the new ones in place of the old ones
 unfoldable pub standard_full : Permit → Rows → Option Conflict
@@ -97,7 +101,7 @@ unfoldable pub conditional_full : Permit → Rows → Option Conflict
 conditional_full c rows = if c.delete then None else option_and_then (λ (old : Profile). over Entries most_entries (length (conditional_after c old.conditional))) (profile_of c.class c.profile rows)
 
 unfoldable pub entries_full : Permit → Rows → Option Conflict
-entries_full c rows = if c.delete then None else option_and_then (λ (old : Profile). over AllEntries most_entries_in_all (all_entries rows.classes - entries_of old + entries_of (permitted_profile c old))) (profile_of c.class c.profile rows)
+entries_full c rows = if c.delete then None else option_and_then (λ (old : Profile). over AllEntries most_entries_in_all (entry_count rows.classes - entries_in old + entries_in (permitted_profile c old))) (profile_of c.class c.profile rows)
 
 -- of the profile that RDEFINE makes, or that RALTER changes
 unfoldable pub members_full : List Member → Option Conflict

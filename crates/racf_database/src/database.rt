@@ -48,7 +48,7 @@ impl Database {
     {
         let users = first_users(alloc)?;
         let tree = first_tree(alloc)?;
-        let classes = ClassTables::new(alloc)?;
+        let classes = ClassTables::all_active(alloc)?;
         let options = first_options(alloc);
         Ok(Database {
             users,

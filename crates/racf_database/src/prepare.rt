@@ -1,14 +1,16 @@
 //! Taking all memory that a command needs, and what it makes of the rows.
-ghost use Rattle.std.specs.Prelude.{◌≡◌, None, Some, IfOk, OnErr};
+ghost use Rattle.std.specs.Prelude.{◌≡◌, None, Some, IfOk, OnOk, OnErr};
 ghost use Rattle.racf_profiles.specs.Edits.{changed};
 ghost use Rattle.racf_database.specs.Effects.{step};
 ghost use Rattle.racf_database.specs.Edits.{edits_of};
+ghost use Rattle.racf_database.specs.Kept.{HasRoom};
 ghost use Rattle.racf_database.specs.Conflicts.{conflict_of};
 
+use crate::class_tables::ClassTables;
 use crate::database::Database;
 use crate::edits::copies;
 use command_parser::{Command, Issuer};
-use racf_profiles::{Change, Edits, NoMemory};
+use racf_profiles::{Change, Edit, Edits, NoMemory};
 use std::alloc::{AllocError, Global};
 
 impl Database {
@@ -38,13 +40,28 @@ impl Database {
         let Ok(()) = self.tree.reserve() else {
             return Err(AllocError);
         };
-        // What holds of every tree is what the next change rests on.
-        let _count = self.tree.len();
+        reserve_profile(&mut self.classes, edits.as_slice())?;
+        // What holds of every tree, and of all classes, is what the next change rests on.
+        let _groups = self.tree.len();
+        let _profiles = self.classes.count();
+        let _entries = self.classes.entries();
+        generic_names::laws::order_is_total();
         self.prepared = Some(Change {
             edits: Edits { items: kept },
         });
         Ok(Change {
             edits: Edits { items: edits },
         })
+    }
+}
+
+// Makes room for the profile that the first edit puts.
+fn reserve_profile(classes: &mut ClassTables, edits: &[Edit]) -> Result<(), NoMemory>
+    ensures classes { classes.new.classes ≡ classes.old.classes }
+    ensures room { OnOk result (HasRoom classes.new edits.now) }
+{
+    match edits.first() {
+        Some(Edit::PutProfile(class, _)) => classes.reserve(*class),
+        _ => Ok(()),
     }
 }

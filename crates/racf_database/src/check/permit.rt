@@ -1,15 +1,16 @@
 //! Whom PERMIT names, and how many entries there may be after it.
 ghost use Rattle.std.specs.Prelude.{◌≡◌, ◌+◌, ◌-◌, length, fold};
 ghost use Rattle.std.specs.Result.{result_err};
-ghost use Rattle.racf_database.specs.Holdings.{entries_of};
+ghost use Rattle.racf_database.specs.ClassStub.{entries_in};
 ghost use Rattle.racf_database.specs.PermitEffects.{standard_after, conditional_after};
 ghost use Rattle.racf_database.specs.ProfileConflicts.{is_unknown, named_unknown, no_permitted, standard_full, conditional_full, entries_full};
 
 use crate::conflict::{Conflict, Kind};
 use crate::database::Database;
-use crate::limits::{MOST_ENTRIES, MOST_ENTRIES_IN_ALL, check_count};
+use crate::limits::{MOST_ENTRIES_IN_ALL, check_count};
 use crate::made::{conditional_count, standard_count};
 use access_levels::Who;
+use access_lists::MOST_ENTRIES;
 use command_parser::Permit;
 use racf_profiles::{Profile, View};
 
@@ -87,7 +88,7 @@ impl Database {
             Some(old) => check_count(
                 Kind::AllEntries,
                 MOST_ENTRIES_IN_ALL,
-                self.classes.entries().saturating_sub(entries_of(old)) + entries_after(command, old),
+                self.classes.entries().saturating_sub(entries_in(old)) + entries_after(command, old),
             ),
         }
     }
@@ -104,8 +105,8 @@ fn check_named(who: &Who) -> Result<(), Conflict>
 }
 
 // How many entries a profile has.
-fn entries_of(profile: &Profile) -> usize
-    ensures { result ≡ entries_of profile.now }
+fn entries_in(profile: &Profile) -> usize
+    ensures { result ≡ entries_in profile.now }
 {
     profile.standard.items.len() + profile.conditional.items.len()
 }

@@ -1,10 +1,8 @@
 //! Which profiles and classes have to be there, or not, and how many there may be.
-ghost use Rattle.std.specs.Prelude.{◌≡◌, ◌==◌, codes, bytes_eq};
-ghost use Rattle.std.specs.List.{before_first};
+ghost use Rattle.std.specs.Prelude.{◌≡◌, codes, bytes_eq};
 ghost use Rattle.std.specs.Result.{result_err, result_ok};
 ghost use Rattle.access_levels.specs.Spelling.{id_of};
-ghost use Rattle.generic_names.specs.Spelled.{period};
-ghost use Rattle.racf_database.specs.Holdings.{first_qualifier};
+ghost use Rattle.racf_database.specs.ClassStub.{first_qualifier};
 ghost use Rattle.racf_database.specs.ProfileEffects.{dataset};
 ghost use Rattle.racf_database.specs.ProfileConflicts.{no_first_qualifier, no_such_class, no_resource_class, no_global_class, classless, no_profile, profile_taken, has_generic, not_generic, class_profiles_full, profiles_full};
 
@@ -99,7 +97,7 @@ impl Database {
         ensures { result_err result ≡ class_profiles_full class self.now.rows }
     {
         let count = match self.classes.class(class) {
-            Some(row) => row.profiles.items.len(),
+            Some(table) => table.len(),
             None => 0,
         };
         check_count(Kind::ClassProfiles, MOST_CLASS_PROFILES, count + 1)
@@ -144,14 +142,14 @@ fn is_global(class: Id) -> bool
 
 // The first qualifier of a name, where it is spelled as an ID.
 fn first_qualifier(name: &Pattern) -> Option<Id>
-    ensures { result ≡ result_ok (id_of (first_qualifier name.now)) }
+    ensures { result ≡ result_ok (id_of (first_qualifier name.now.text)) }
 {
     Id::read(up_to_period(name.text())).ok()
 }
 
 // The bytes before the first period.
 fn up_to_period(text: &[u8]) -> &[u8]
-    ensures { result.now ≡ before_first (λ byte. byte == period) text.now }
+    ensures { result.now ≡ first_qualifier text.now }
 {
     match text.iter().position(|byte| *byte == b'.') {
         Some(end) => &text[..end],

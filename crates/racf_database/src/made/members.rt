@@ -1,7 +1,8 @@
 //! Members of profiles, and the categories that they define.
-ghost use Rattle.std.specs.Prelude.{◌≡◌, ◌||◌, not, fold, length, IfOk, OnOk};
+ghost use Rattle.std.specs.Prelude.{◌≡◌, ◌||◌, fold, length, position, IfOk, OnOk, bytes_eq, if◌then◌else◌};
 ghost use Rattle.std.specs.List.{list_any};
-ghost use Rattle.racf_database.specs.Members.{member_name, is_member_named, is_named_in, with_member, without_members, members_after, with_category_name, categories_defined, is_new_category};
+ghost use Rattle.racf_database.specs.Members.{member_name, is_member_named, is_named_in, with_member, without_members, members_after, with_category_name, categories_defined, category_growth};
+ghost use Rattle.racf_database.specs.Security.{is_category_member};
 
 use super::classes::add_class;
 use super::security::is_category_member;
@@ -71,10 +72,7 @@ pub(crate) fn is_member_named(name: &[u8], member: &Member) -> bool
 fn put_member(members: &mut Vec<Member>, member: Member) -> Result<(), NoMemory>
     ensures { OnOk result (members.new.items ≡ with_member members.old.items member) }
 {
-    match members
-        .iter()
-        .position(|other| is_member_named(member_name(&member), other))
-    {
+    match place_of(members.as_slice(), member_name(&member)) {
         Some(place) => {
             members[place] = member;
             Ok(())
@@ -84,6 +82,13 @@ fn put_member(members: &mut Vec<Member>, member: Member) -> Result<(), NoMemory>
             Ok(())
         }
     }
+}
+
+// The place of the member of that name.
+fn place_of(members: &[Member], name: &[u8]) -> Option<usize>
+    ensures { result ≡ position (is_member_named name.now) members.now }
+{
+    members.iter().position(|other| is_member_named(name, other))
 }
 
 /// The names of categories with those that are new behind them.
@@ -117,9 +122,7 @@ pub(crate) fn members_count(added: &[Member], gone: &[MemberName], old: &[Member
 {
     let mut count = count_without(gone, old);
     for (i, member) in added.iter().enumerate() {
-        if is_new_member(member, &added[..i], gone, old) {
-            count += 1;
-        }
+        count += growth(member, &added[..i], gone, old);
     }
     count
 }
@@ -133,20 +136,24 @@ fn count_without(gone: &[MemberName], old: &[Member]) -> usize
         .count()
 }
 
-// Whether a member is named neither as one that stays nor as one that was added before it.
-fn is_new_member(
-    member: &Member,
-    before: &[Member],
-    gone: &[MemberName],
-    old: &[Member],
-) -> bool
-    ensures { result ≡ not (list_any (is_member_named (member_name member.now)) (without_members gone.now old.now) || list_any (is_member_named (member_name member.now)) before.now) }
+// How many members one adds: none where one of its name stays, or was added before it.
+fn growth(member: &Member, before: &[Member], gone: &[MemberName], old: &[Member]) -> usize
+    ensures { result ≡ (if list_any (is_member_named (member_name member.now)) (without_members gone.now old.now) || list_any (is_member_named (member_name member.now)) before.now then 0 else 1) }
 {
     let name = member_name(member);
-    let stays = old
-        .iter()
-        .any(|other| is_member_named(name, other) && !is_named_in(gone, other));
-    !(stays || before.iter().any(|other| is_member_named(name, other)))
+    if stays(name, gone, old) || before.iter().any(|other| is_member_named(name, other)) {
+        0
+    } else {
+        1
+    }
+}
+
+// Whether a member of that name stays.
+fn stays(name: &[u8], gone: &[MemberName], old: &[Member]) -> bool
+    ensures { result ≡ list_any (is_member_named name.now) (without_members gone.now old.now) }
+{
+    old.iter()
+        .any(|other| is_member_named(name, other) && !is_named_in(gone, other))
 }
 
 /// How many categories were ever defined then. Each one that is added is compared with those before it and with the old ones.
@@ -155,21 +162,29 @@ pub(crate) fn categories_count(added: &[Member], old: &[Id]) -> usize
 {
     let mut count = old.len();
     for (i, member) in added.iter().enumerate() {
-        if is_new_category(member, &added[..i], old) {
-            count += 1;
-        }
+        count += category_growth(member, &added[..i], old);
     }
     count
 }
 
-// Whether a member is a category that is neither among the old ones nor among those that were added before it.
-fn is_new_category(member: &Member, before: &[Member], old: &[Id]) -> bool
-    ensures { result ≡ is_new_category member.now before.now old.now }
+// How many categories a member adds: none where it is no category, or was one before.
+fn category_growth(member: &Member, before: &[Member], old: &[Id]) -> usize
+    ensures { result ≡ category_growth member.now before.now old.now }
 {
     match member {
-        Member::Category(name) => {
-            !(old.contains(name) || before.iter().any(|other| is_category_member(*name, other)))
-        }
-        _ => false,
+        Member::Category(name) => name_growth(*name, before, old),
+        _ => 0,
+    }
+}
+
+// The same of a category's name.
+fn name_growth(name: Id, before: &[Member], old: &[Id]) -> usize
+    ensures { result ≡ (if list_any (λ other. bytes_eq other name) old.now || list_any (is_category_member name) before.now then 0 else 1) }
+{
+    let was = old.iter().any(|other| *other == name);
+    if was || before.iter().any(|other| is_category_member(name, other)) {
+        0
+    } else {
+        1
     }
 }

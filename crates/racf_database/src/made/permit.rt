@@ -1,5 +1,5 @@
 //! Access lists as PERMIT makes them.
-ghost use Rattle.std.specs.Prelude.{◌≡◌, ◌||◌, false, not, fold, length, IfOk, OnOk};
+ghost use Rattle.std.specs.Prelude.{◌≡◌, ◌||◌, false, fold, length, IfOk, OnOk, if◌then◌else◌};
 ghost use Rattle.std.specs.List.{list_any};
 ghost use Rattle.access_lists.specs.Lists.{is_same_who, is_same_port, is_for, is_for_under};
 ghost use Rattle.racf_database.specs.PermitEffects.{standard_reset, conditional_reset, level_of, with_entry, with_conditional, standard_after, conditional_after, permitted_profile};
@@ -48,7 +48,7 @@ fn standard_after(
     let list = Vec::from_slice(alloc, standard_reset(command.reset, old))?;
     match command.when {
         Some(_) => Ok(list),
-        None => with_entries(command, list),
+        None => with_entries(command, list, command.id.items.as_slice()),
     }
 }
 
@@ -62,7 +62,9 @@ fn conditional_after(
 {
     let list = Vec::from_slice(alloc, conditional_reset(command.reset, old))?;
     match command.when {
-        Some(condition) => with_conditionals(command, condition, list),
+        Some(condition) => {
+            with_conditionals(command, condition, list, command.id.items.as_slice())
+        }
         None => Ok(list),
     }
 }
@@ -88,11 +90,15 @@ pub(crate) fn conditional_reset(reset: Option<Reset>, list: &[CondEntry]) -> &[C
 }
 
 // The list with the entries of all IDs, or without them.
-fn with_entries(command: &Permit, list: Vec<Entry>) -> Result<Vec<Entry>, NoMemory>
-    ensures { IfOk result (λ after. after.items ≡ fold (with_entry command.now) list.items command.now.id) }
+fn with_entries(
+    command: &Permit,
+    list: Vec<Entry>,
+    whos: &[Who],
+) -> Result<Vec<Entry>, NoMemory>
+    ensures { IfOk result (λ after. after.items ≡ fold (with_entry command.now) list.items whos.now) }
 {
     let mut list = list;
-    for who in command.id.items.as_slice() {
+    for who in whos {
         put_entry(command, &mut list, *who)?;
     }
     Ok(list)
@@ -103,11 +109,12 @@ fn with_conditionals(
     command: &Permit,
     condition: Condition,
     list: Vec<CondEntry>,
+    whos: &[Who],
 ) -> Result<Vec<CondEntry>, NoMemory>
-    ensures { IfOk result (λ after. after.items ≡ fold (with_conditional command.now condition) list.items command.now.id) }
+    ensures { IfOk result (λ after. after.items ≡ fold (with_conditional command.now condition) list.items whos.now) }
 {
     let mut list = list;
-    for who in command.id.items.as_slice() {
+    for who in whos {
         put_conditional(command, condition, &mut list, *who)?;
     }
     Ok(list)
@@ -164,7 +171,7 @@ pub(crate) fn standard_count(command: &Permit, old: &[Entry]) -> usize
     let list = standard_reset(command.reset, old);
     match command.when {
         Some(_) => list.len(),
-        None => count_with(command, list),
+        None => count_with(command, list, command.id.items.as_slice()),
     }
 }
 
@@ -175,57 +182,78 @@ pub(crate) fn conditional_count(command: &Permit, old: &[CondEntry]) -> usize
 {
     let list = conditional_reset(command.reset, old);
     match command.when {
-        Some(condition) => count_with_conditional(command, condition, list),
+        Some(condition) => {
+            count_with_conditional(command, condition, list, command.id.items.as_slice())
+        }
         None => list.len(),
     }
 }
 
 // How many entries there are once each ID has one.
-fn count_with(command: &Permit, list: &[Entry]) -> usize
+fn count_with(command: &Permit, list: &[Entry], whos: &[Who]) -> usize
     requires { command.now.delete ≡ false }
-    ensures { result ≡ length (fold (with_entry command.now) list.now command.now.id) }
+    ensures { result ≡ length (fold (with_entry command.now) list.now whos.now) }
 {
-    let whos = command.id.items.as_slice();
+    let _gives = command.delete;
     let mut count = list.len();
     for (i, who) in whos.iter().enumerate() {
-        if is_new(who, &whos[..i], list) {
-            count += 1;
-        }
+        count += growth(who, &whos[..i], list);
     }
     count
 }
 
 // The same of a conditional list.
-fn count_with_conditional(command: &Permit, condition: Condition, list: &[CondEntry]) -> usize
+fn count_with_conditional(
+    command: &Permit,
+    condition: Condition,
+    list: &[CondEntry],
+    whos: &[Who],
+) -> usize
     requires { command.now.delete ≡ false }
-    ensures { result ≡ length (fold (with_conditional command.now condition) list.now command.now.id) }
+    ensures { result ≡ length (fold (with_conditional command.now condition) list.now whos.now) }
 {
-    let whos = command.id.items.as_slice();
+    let _gives = command.delete;
     let mut count = list.len();
     for (i, who) in whos.iter().enumerate() {
-        if is_new_under(who, &whos[..i], condition, list) {
-            count += 1;
-        }
+        count += growth_under(who, &whos[..i], condition, list);
     }
     count
 }
 
-// Whether an ID has no entry, and wasn't named before.
-fn is_new(who: &Who, before: &[Who], list: &[Entry]) -> bool
-    ensures { result ≡ not (list_any (is_for who.now) list.now || list_any (is_same_who who.now) before.now) }
+// How many entries an ID adds: none where it has one, or was named before.
+fn growth(who: &Who, before: &[Who], list: &[Entry]) -> usize
+    ensures { result ≡ (if list_any (is_for who.now) list.now || list_any (λ other. is_same_who other who.now) before.now then 0 else 1) }
 {
-    !(list.iter().any(|entry| is_same_who(&entry.who, who))
-        || before.iter().any(|other| is_same_who(who, other)))
+    let listed = list.iter().any(|entry| is_same_who(&entry.who, who));
+    if listed || before.iter().any(|other| is_same_who(other, who)) {
+        0
+    } else {
+        1
+    }
 }
 
 // The same under a condition.
-fn is_new_under(who: &Who, before: &[Who], condition: Condition, list: &[CondEntry]) -> bool
-    ensures { result ≡ not (list_any (is_for_under condition who.now) list.now || list_any (is_same_who who.now) before.now) }
+fn growth_under(
+    who: &Who,
+    before: &[Who],
+    condition: Condition,
+    list: &[CondEntry],
+) -> usize
+    ensures { result ≡ (if list_any (is_for_under condition who.now) list.now || list_any (λ other. is_same_who other who.now) before.now then 0 else 1) }
 {
-    !(list
-        .iter()
-        .any(|entry| is_same_port(entry.condition, condition) && is_same_who(&entry.who, who))
-        || before.iter().any(|other| is_same_who(who, other)))
+    let listed = list.iter().any(|entry| is_for_under(entry, condition, who));
+    if listed || before.iter().any(|other| is_same_who(other, who)) {
+        0
+    } else {
+        1
+    }
+}
+
+// Whether a conditional entry is for an ID under a condition.
+fn is_for_under(entry: &CondEntry, condition: Condition, who: &Who) -> bool
+    ensures { result ≡ is_for_under condition who.now entry.now }
+{
+    is_same_port(entry.condition, condition) && is_same_who(&entry.who, who)
 }
 
 // Whether both are `*`, or both one ID.

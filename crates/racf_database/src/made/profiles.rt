@@ -1,5 +1,5 @@
 //! Profiles as a command makes them.
-ghost use Rattle.std.specs.Prelude.{◌≡◌, fold, IfOk};
+ghost use Rattle.std.specs.Prelude.{◌≡◌, [], IfOk};
 ghost use Rattle.racf_database.specs.ProfileEffects.{dataset, new_data_set, altered_data_set, new_resource, altered_resource};
 
 use super::members::members_after;
@@ -24,7 +24,7 @@ impl Database {
             standard: no_entries(alloc),
             conditional: no_conditional_entries(alloc),
             level: self.level_given(command.seclevel, false, 0),
-            categories: self.with_categories(Categories::NONE, &command.addcategory),
+            categories: self.with_categories(Categories::NONE, command.addcategory.items.as_slice()),
             label: command.seclabel,
             audit: command.audit.unwrap_or(FAILURES_FROM_READ),
             global_audit: NO_AUDIT,
@@ -44,7 +44,7 @@ impl Database {
         let standard = old.standard.copy(alloc)?;
         let conditional = old.conditional.copy(alloc)?;
         let members = old.members.copy(alloc)?;
-        let fewer = self.without_categories(old.categories, &command.delcategory);
+        let fewer = self.without_categories(old.categories, command.delcategory.items.as_slice());
         Ok(Profile {
             name: old.name,
             owner: command.owner.unwrap_or(old.owner),
@@ -53,7 +53,7 @@ impl Database {
             standard,
             conditional,
             level: self.level_given(command.seclevel, command.noseclevel, old.level),
-            categories: self.with_categories(fewer, &command.addcategory),
+            categories: self.with_categories(fewer, command.addcategory.items.as_slice()),
             label: label_given(command.seclabel, command.noseclabel, old.label),
             audit: command.audit.unwrap_or(old.audit),
             global_audit: command.globalaudit.unwrap_or(old.global_audit),
@@ -79,7 +79,7 @@ impl Database {
             standard: no_entries(alloc),
             conditional: no_conditional_entries(alloc),
             level: self.level_given(command.seclevel, false, 0),
-            categories: self.with_categories(Categories::NONE, &command.addcategory),
+            categories: self.with_categories(Categories::NONE, command.addcategory.items.as_slice()),
             label: command.seclabel,
             audit: command.audit.unwrap_or(FAILURES_FROM_READ),
             global_audit: NO_AUDIT,
@@ -104,7 +104,7 @@ impl Database {
             command.delmem.items.as_slice(),
             old.members.items.as_slice(),
         )?;
-        let fewer = self.without_categories(old.categories, &command.delcategory);
+        let fewer = self.without_categories(old.categories, command.delcategory.items.as_slice());
         Ok(Profile {
             name: old.name,
             owner: command.owner.unwrap_or(old.owner),
@@ -113,7 +113,7 @@ impl Database {
             standard,
             conditional,
             level: self.level_given(command.seclevel, command.noseclevel, old.level),
-            categories: self.with_categories(fewer, &command.addcategory),
+            categories: self.with_categories(fewer, command.addcategory.items.as_slice()),
             label: label_given(command.seclabel, command.noseclabel, old.label),
             audit: command.audit.unwrap_or(old.audit),
             global_audit: command.globalaudit.unwrap_or(old.global_audit),

@@ -7,7 +7,6 @@ ghost use Rattle.racf_database.specs.ProfileEffects.{level_given, label_given};
 
 use crate::database::Database;
 use access_levels::{Categories, Id};
-use command_parser::Ids;
 use generic_names::{NameKind, Pattern};
 use racf_profiles::{FixedClass, Member, Profile, View};
 
@@ -75,22 +74,22 @@ impl Database {
     }
 
     /// The set with these categories.
-    pub(crate) fn with_categories(&self, set: Categories, names: &Ids) -> Categories
+    pub(crate) fn with_categories(&self, set: Categories, names: &[Id]) -> Categories
         ensures { result ≡ fold (with_category self.now.rows) set names.now }
     {
         let mut set = set;
-        for name in names.items.as_slice() {
+        for name in names {
             set = self.with_category(set, *name);
         }
         set
     }
 
     /// The set without these categories.
-    pub(crate) fn without_categories(&self, set: Categories, names: &Ids) -> Categories
+    pub(crate) fn without_categories(&self, set: Categories, names: &[Id]) -> Categories
         ensures { result ≡ fold (without_category self.now.rows) set names.now }
     {
         let mut set = set;
-        for name in names.items.as_slice() {
+        for name in names {
             set = self.without_category(set, *name);
         }
         set

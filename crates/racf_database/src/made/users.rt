@@ -34,7 +34,7 @@ impl Database {
             attributes: first_attributes(command),
             classes: Classes { items: classes },
             level: self.level_given(command.seclevel, false, 0),
-            categories: self.with_categories(Categories::NONE, &command.addcategory),
+            categories: self.with_categories(Categories::NONE, command.addcategory.items.as_slice()),
             label: command.seclabel,
             connects: Connects { items: connects },
         })
@@ -57,7 +57,7 @@ impl Database {
             command.noclauth.items.as_slice(),
         )?;
         let connects = old.connects.copy(alloc)?;
-        let fewer = self.without_categories(old.categories, &command.delcategory);
+        let fewer = self.without_categories(old.categories, command.delcategory.items.as_slice());
         Ok(User {
             id: old.id,
             default_group: command.dfltgrp.unwrap_or(old.default_group),
@@ -66,7 +66,7 @@ impl Database {
             attributes: attributes_after(command, old.attributes),
             classes,
             level: self.level_given(command.seclevel, command.noseclevel, old.level),
-            categories: self.with_categories(fewer, &command.addcategory),
+            categories: self.with_categories(fewer, command.addcategory.items.as_slice()),
             label: label_given(command.seclabel, command.noseclabel, old.label),
             connects,
         })

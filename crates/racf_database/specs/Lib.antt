@@ -15,3 +15,4 @@ pub mod UserList
 pub mod KeptUsers
 pub mod Contents
 pub mod Kept
+pub mod Covering

@@ -5,6 +5,7 @@ mod apply;
 mod check;
 mod class_tables;
 mod conflict;
+mod covering;
 mod database;
 mod edits;
 mod limits;

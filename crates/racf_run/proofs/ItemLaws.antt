@@ -13,13 +13,12 @@ use Rattle.racf_outside.specs.declared.lines.Line.TheVariants as next
 use Rattle.racf_outside.specs.declared.lines.LineFault.{LineFault}
 use Rattle.racf_outside.specs.declared.lines.LineFault.TheVariants as fault
 use Rattle.racf_run.specs.declared.item.Item.{Item}
-use Rattle.racf_run.specs.declared.item.Item.TheVariants.{LineTooLong}
 use Rattle.racf_run.specs.declared.joining.LineRole.{LineRole}
 use Rattle.racf_run.specs.declared.joining.LineRole.TheVariants.{Whole, GoesOn}
 use Rattle.racf_run.specs.declared.input.Stop.{Stop}
 use Rattle.racf_run.specs.declared.input.Stop.TheVariants as stop
 use Rattle.racf_run.specs.Fronts.{Front}
-use Rattle.racf_run.specs.Items.{command_of}
+use Rattle.racf_run.specs.declared.item.Item.TheVariants.{Command, LineTooLong}
 use Rattle.racf_run.specs.Joining.{role_of, last_command}
 use Rattle.racf_run.specs.NextItem.{IsWalked, TakesItems, TakesFront, TakesTooMuch, NextsItem}
 use Rattle.racf_run.specs.NextRole.{EndsCommand, GivesRole, NextsRole, ReadsRole, ReadsEnd}
@@ -114,7 +113,7 @@ end_items : (ended : Bool) (begun : Option Front) (old mid : Reader) → (w : Ta
 end_items false begun old mid w e = IsFront-end w.bytes begun (w.goes_on e)
 end_items true begun old mid w e = w.last e
 
-takes_command : (front : Front) (old mid new : Reader) → (w : Taken (Some front) old mid) → line.TakesEnd mid new → TakesItems stream (command_of front.text ∷ []) w.bytes old new
+takes_command : (front : Front) (old mid new : Reader) → (w : Taken (Some front) old mid) → line.TakesEnd mid new → TakesItems stream (Command front.text ∷ []) w.bytes old new
 takes_command front old mid new w t =
     record {
       begun = w.has_begun.0;
@@ -128,7 +127,7 @@ takes_command front old mid new w t =
 takes_end : (begun : Option Front) (item : Option Item) (old mid new : Reader) → Taken begun old mid → EndsCommand begun (Whole item) mid new → (bytes : List ℕ) × TakesItems stream (option_to_list item) bytes old new
 takes_end begun item old mid new w ends =
     let v : Taken (Some ends.front) old mid = subst (λ (b : Option Front). Taken b old mid) ends.is_begun w in
-    let is : Some (command_of ends.front.text) ≡ item = cc (ends.command) in
+    let is : Some (Command ends.front.text) ≡ item = cc (ends.command) in
     (v.bytes, subst (λ (i : Option Item). TakesItems stream (option_to_list i) v.bytes old new) is (takes_command ends.front old mid new v ends.at_end))
 
 -- an item came
@@ -224,7 +223,7 @@ from_end r begun read old new h e reads = by_read read reads
     by_read (Err stop.End) reads = (reads, ended)
     by_read (Err stop.ReadFault) reads = absurd reads
     by_read (Err stop.InputTooLong) reads = absurd reads
-    by_read (Err stop.NoMemory) reads = tt
+    by_read (Err stop.NoMemory) reads = absurd reads
 
 pub from_read_fault : (r : Result next_line.Line LineFault) (begun : Option Front) (old new : Reader) → line.Nexts r old new → r ≡ Err fault.ReadFault → NextsRole (Err stop.ReadFault) begun old new
 from_read_fault r begun old new h e = subst (λ x. line.Nexts x old new) e h

@@ -1,7 +1,6 @@
--- What requests and commands ask for. The words of a line stand between its blanks, so that two blanks have an empty word
--- between them. VERIFY and AUTH, and RDEFINE, are built in upper case and with just these words; no other request is, and
--- every other command is read by the grammar of commands.
-use Rattle.std.specs.Prelude.{ℕ, ◌-◌, Bool, true, false, ◌||◌, ◌&&◌, ◌==◌, Option, Some, None, List, [], ◌∷◌, length, take, drop, map, codes, nat_eq, unwrap_or, if◌then◌else◌}
+-- What requests ask for. The words of a line stand between its blanks, so that two blanks have an empty word between them.
+-- VERIFY and AUTH are built in upper case and with just these words; no other request is.
+use Rattle.std.specs.Prelude.{ℕ, Bool, true, false, ◌||◌, ◌&&◌, ◌==◌, Option, Some, None, List, [], ◌∷◌, map, codes, nat_eq, unwrap_or, if◌then◌else◌}
 use Rattle.std.specs.List.{starts_with, list_all, slice_split, before_first}
 use Rattle.std.specs.Str.{bytes_eq}
 use Rattle.std.specs.Result.{result_ok}
@@ -12,7 +11,7 @@ use Rattle.access_levels.specs.declared.levels.Level.TheVariants.{NoAccess, Exec
 use Rattle.generic_names.specs.Faults.{resource_of}
 use Rattle.generic_names.specs.declared.kind.NameKind.TheVariants.{General}
 use Rattle.racf_run.specs.declared.item.Item.{Item}
-use Rattle.racf_run.specs.declared.item.Item.TheVariants.{Rdefine, Verify, Auth, NotBuilt, Command}
+use Rattle.racf_run.specs.declared.item.Item.TheVariants.{Verify, Auth, NotBuilt}
 
 -- `Some x`, and then what follows from it
 infixl 10 ◌>>=◌
@@ -32,20 +31,6 @@ is_skipped text = list_all is_blank text || starts_with nat_eq text (codes "/*")
 abbrev pub words : List ℕ → List (List ℕ)
 words text = slice_split (λ byte. byte == 32) text
 
--- what follows a front, and what precedes an end
-abbrev pub without_prefix : List ℕ → List ℕ → Option (List ℕ)
-without_prefix front text = if bytes_eq (take (length front) text) front then Some (drop (length front) text) else None
-
-abbrev pub without_suffix : List ℕ → List ℕ → Option (List ℕ)
-without_suffix end text = let n = length text - length end in if bytes_eq (drop n text) end then Some (take n text) else None
-
--- `UACC(level)`: the level
-abbrev pub universal_access_of : List ℕ → Option Level
-universal_access_of word = do
-  inner ← without_prefix (codes "UACC(") word
-  level ← without_suffix (codes ")") inner
-  level_of level
-
 -- READ, UPDATE, CONTROL or ALTER: no other level can be asked for.
 abbrev pub can_be_asked : Level → Bool
 can_be_asked NoAccess = false
@@ -59,13 +44,6 @@ abbrev pub asked_level_of : List ℕ → Option Level
 asked_level_of word = do
   level ← level_of word
   if can_be_asked level then Some level else None
-
--- `RDEFINE FACILITY name UACC(level)`: name is a general resource name
-unfoldable pub rdefine_of : List ℕ → List ℕ → Option Item
-rdefine_of name access = do
-  resource ← result_ok (resource_of General name)
-  level ← universal_access_of access
-  Some (Rdefine (record { name = resource; universal_access = level }))
 
 -- `VERIFY acee IBMUSER`: the ACEE's name has an ID's spelling
 unfoldable pub verify_of : List ℕ → Option Item
@@ -81,9 +59,6 @@ auth_of acee name level = do
   asked ← asked_level_of level
   Some (Auth id resource asked)
 
-abbrev pub is_rdefine : List ℕ → List ℕ → Bool
-is_rdefine verb class = bytes_eq verb (codes "RDEFINE") && bytes_eq class (codes "FACILITY")
-
 abbrev pub is_verify : List ℕ → List ℕ → Bool
 is_verify verb user = bytes_eq verb (codes "VERIFY") && bytes_eq user (codes "IBMUSER")
 
@@ -96,18 +71,9 @@ built_request (verb ∷ acee ∷ user ∷ []) = if is_verify verb user then veri
 built_request (verb ∷ acee ∷ class ∷ name ∷ level ∷ []) = if is_auth verb class then auth_of acee name level else None
 built_request others = None
 
--- what the words of a command ask for that is built by its words
-unfoldable pub built_command : List (List ℕ) → Option Item
-built_command (verb ∷ class ∷ name ∷ access ∷ []) = if is_rdefine verb class then rdefine_of name access else None
-built_command others = None
-
 -- A request asks for an answer: VERIFY and AUTH in the two forms that are built.
 unfoldable pub request_of : List ℕ → Item
 request_of text = unwrap_or (built_request (words text)) NotBuilt
-
--- A command asks for a change: RDEFINE in the form that is built, and what the grammar of commands says.
-unfoldable pub command_of : List ℕ → Item
-command_of text = unwrap_or (built_command (words text)) (Command text)
 
 -- a text without the blanks and tabs in front
 abbrev pub past_blanks : List ℕ → List ℕ

@@ -5,13 +5,13 @@ use Rattle.std.specs.List.{list_all}
 use Rattle.std.specs.Option.{option_to_list}
 use Rattle.racf_outside.specs.Lines.{Line, Text, TooLong}
 use Rattle.racf_run.specs.declared.item.Item.{Item}
-use Rattle.racf_run.specs.declared.item.Item.TheVariants.{LineTooLong}
+use Rattle.racf_run.specs.declared.item.Item.TheVariants.{Command, LineTooLong}
 use Rattle.racf_run.specs.declared.mark.Mark.{Mark}
 use Rattle.racf_run.specs.declared.mark.Mark.TheVariants.{Hyphen, Plus}
 use Rattle.racf_run.specs.declared.joining.LineRole.{LineRole}
 use Rattle.racf_run.specs.declared.joining.LineRole.TheVariants.{Whole, GoesOn}
 use Rattle.racf_run.specs.Fronts.{Front, marked, behind}
-use Rattle.racf_run.specs.Items.{is_blank, is_skipped, is_request, past_blanks, request_of, command_of}
+use Rattle.racf_run.specs.Items.{is_blank, is_skipped, is_request, past_blanks, request_of}
 
 abbrev pub mark_of : ℕ → Option Mark
 mark_of byte = if byte == 45 then Some Hyphen else if byte == 43 then Some Plus else None
@@ -30,7 +30,7 @@ added Plus text = past_blanks text
 
 -- A text is a command behind the text before it, or goes on.
 abbrev pub joined_by : Option Front → List ℕ → List ℕ → LineRole
-joined_by None before text = Whole (Some (command_of (before ++ text)))
+joined_by None before text = Whole (Some (Command (before ++ text)))
 joined_by (Some front) before text = GoesOn (marked (before ++ front.text) front.mark)
 
 abbrev pub joined : List ℕ → List ℕ → LineRole
@@ -68,7 +68,7 @@ items_behind last begun (line ∷ lines) =
 -- Where the input ends, it ends a command. Where more may come, a command that is still being joined isn't begun.
 abbrev pub last_command : Option Front → List Item
 last_command None = []
-last_command (Some front) = command_of front.text ∷ []
+last_command (Some front) = Command front.text ∷ []
 
 abbrev pub not_begun : Option Front → List Item
 not_begun front = []

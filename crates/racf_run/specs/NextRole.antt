@@ -8,14 +8,14 @@ use Rattle.racf_run.specs.declared.joining.LineRole.TheVariants.{Whole}
 use Rattle.racf_run.specs.declared.input.Stop.{Stop}
 use Rattle.racf_run.specs.declared.input.Stop.TheVariants.{End, ReadFault, InputTooLong, NoMemory}
 use Rattle.racf_run.specs.Fronts.{Front}
-use Rattle.racf_run.specs.Items.{command_of}
+use Rattle.racf_run.specs.declared.item.Item.TheVariants.{Command}
 use Rattle.racf_run.specs.Joining.{role_of}
 
 -- The end of the input ends the command that is begun.
 pub record EndsCommand (begun : Option Front) (role : LineRole) (old new : Reader) : Type 0 where
   pub front : Front
   pub is_begun : begun ≡ Some front
-  pub command : role ≡ Whole (Some (command_of front.text))
+  pub command : role ≡ Whole (Some (Command front.text))
   pub at_end : TakesEnd old new
 
 -- A line was taken, and has that role.
@@ -40,10 +40,10 @@ ReadsRole (Err ReadFault) begun text = ⊥
 ReadsRole (Err InputTooLong) begun text = ⊥
 ReadsRole (Err NoMemory) begun text = Unit {0}
 
--- The command that the end of the input ends, where one is begun.
+-- The command that the end of the input ends, where one is begun: this takes no memory.
 abbrev pub ReadsEnd : Result LineRole Stop → Option Front → Type 0
-ReadsEnd (Ok role) begun = (front : Front) × (begun ≡ Some front) × (role ≡ Whole (Some (command_of front.text)))
+ReadsEnd (Ok role) begun = (front : Front) × (begun ≡ Some front) × (role ≡ Whole (Some (Command front.text)))
 ReadsEnd (Err End) begun = begun ≡ None
 ReadsEnd (Err ReadFault) begun = ⊥
 ReadsEnd (Err InputTooLong) begun = ⊥
-ReadsEnd (Err NoMemory) begun = Unit {0}
+ReadsEnd (Err NoMemory) begun = ⊥

@@ -1,7 +1,6 @@
 -- The text of each reply and answer.
 use Rattle.std.specs.Prelude.{ℕ, Bool, true, false, List, ◌++◌, codes, decimal}
 use Rattle.access_levels.specs.Level.{level_name}
-use Rattle.racf_run.specs.declared.item.Profile.{Profile}
 use Rattle.racf_run.specs.declared.reply.Refusal.{Refusal}
 use Rattle.racf_run.specs.declared.reply.Refusal.TheVariants as refusal
 use Rattle.command_grammar.specs.declared.faults.Syntax.{Syntax}
@@ -15,6 +14,7 @@ use Rattle.racf_database.specs.declared.conflict.Holder.{Holder}
 use Rattle.racf_database.specs.declared.conflict.Holder.TheVariants as holder
 use Rattle.racf_database.specs.declared.conflict.Kind.{Kind}
 use Rattle.racf_database.specs.declared.conflict.Kind.TheVariants as kind
+use Rattle.racf_run.specs.declared.reply.Found.{Found}
 use Rattle.racf_run.specs.declared.reply.Decision.{Decision}
 use Rattle.racf_run.specs.declared.reply.Decision.TheVariants.{NoProfile, UniversalAccess, Insufficient}
 use Rattle.racf_run.specs.declared.reply.Reply.{Reply}
@@ -81,20 +81,19 @@ abbrev pub refusal_words : Refusal → List ℕ
 refusal_words (refusal.Syntax fault) = codes "SYNTAX " ++ syntax_words fault
 refusal_words (refusal.Conflict conflict) = conflict_words conflict
 refusal_words refusal.NumberSpent = codes "NUMBERSPENT"
-refusal_words (refusal.Exists name) = codes "EXISTS " ++ name.text
 refusal_words (refusal.NoAcee acee) = codes "NOACEE " ++ acee
 refusal_words refusal.NotBuilt = codes "NOTBUILT"
 refusal_words refusal.LineTooLong = codes "LINETOOLONG"
 
--- a profile's name, and the universal access that it gives
-abbrev pub access_words : Profile → List ℕ
-access_words profile = profile.name.text ++ codes " " ++ level_name profile.universal_access
+-- the profile that decided, and the access that was found
+abbrev pub found_words : Found → List ℕ
+found_words found = found.profile.text ++ codes " " ++ level_name found.access
 
 -- the return code of a decision, and its reason
 abbrev pub decision_words : Decision → List ℕ
 decision_words NoProfile = codes "4 NOPROFILE"
-decision_words (UniversalAccess profile) = codes "0 UACC " ++ access_words profile
-decision_words (Insufficient profile) = codes "8 INSUFFICIENT " ++ access_words profile
+decision_words (UniversalAccess found) = codes "0 UACC " ++ found_words found
+decision_words (Insufficient found) = codes "8 INSUFFICIENT " ++ found_words found
 
 abbrev pub reply_words : Reply → List ℕ
 reply_words Accepted = codes "ACCEPTED"

@@ -1,42 +1,40 @@
 -- The stream: what stands between two lines, and the answer to each item.
-use Rattle.std.specs.Prelude.{◌≡◌, ℕ, ◌+◌, Bool, true, false, ◌||◌, nat_le, is_some, Option, Some, None, Result, Ok, Err, List, [], ◌∷◌, ◌++◌, length, find, if◌then◌else◌}
+use Rattle.std.specs.Prelude.{◌≡◌, ℕ, ◌+◌, Bool, true, false, ◌||◌, nat_le, Option, Some, None, Result, Ok, Err, List, [], ◌∷◌, ◌++◌, length, codes, if◌then◌else◌}
 use Rattle.std.specs.List.{list_any}
 use Rattle.std.specs.Str.{bytes_eq}
 use Rattle.access_levels.specs.Level.{suffices}
 use Rattle.access_levels.specs.declared.levels.Level.{Level}
 use Rattle.generic_names.specs.Spelled.{Spelled}
-use Rattle.racf_run.specs.declared.item.Profile.{Profile}
 use Rattle.racf_run.specs.declared.item.Item.{Item}
 use Rattle.racf_run.specs.declared.item.Item.TheVariants as item
 use Rattle.racf_run.specs.declared.reply.Refusal.{Refusal}
 use Rattle.racf_run.specs.declared.reply.Refusal.TheVariants as refusal
+use Rattle.racf_run.specs.declared.reply.Found.{Found}
 use Rattle.racf_run.specs.declared.reply.Decision.{Decision}
 use Rattle.racf_run.specs.declared.reply.Decision.TheVariants.{NoProfile, UniversalAccess, Insufficient}
 use Rattle.racf_run.specs.declared.reply.Reply.{Reply}
 use Rattle.racf_run.specs.declared.reply.Reply.TheVariants.{Accepted, Refused, Verified, Decided}
 use Rattle.command_parser.specs.declared.forms.Form.{Form}
+use Rattle.racf_profiles.specs.declared.profiles.Profile.{Profile}
 use Rattle.racf_profiles.specs.declared.rows.Rows.{Rows}
 use Rattle.racf_database.specs.Contents.{first_rows}
+use Rattle.racf_database.specs.Covering.{covering_profile}
 use Rattle.racf_database.specs.Effects
 use Rattle.racf_run.specs.Replies.{reply_line}
 use Rattle.racf_run.specs.Commands.{issuer, most_number, refusal_of, read_command}
 
--- The number counts the accepted commands. The rows are those of users, groups and connections; beside them stand the
--- FACILITY profiles, and the names of the ACEEs in use, which are IDs' spellings.
+-- The number counts the accepted commands. The rows are the database's; beside them stand the names of the ACEEs in use,
+-- which are IDs' spellings.
 pub record State : Type 0 where
   pub number : ℕ
   pub has_refused : Bool
   pub rows : Rows
-  pub profiles : List Profile
   pub acees : List (List ℕ)
 
 unfoldable pub new_stream : State
-new_stream = record { number = 0; has_refused = false; rows = first_rows; profiles = []; acees = [] }
+new_stream = record { number = 0; has_refused = false; rows = first_rows; acees = [] }
 
--- the limits: profiles of a class, ACEEs of a file
-abbrev pub most_profiles : ℕ
-most_profiles = 50000
-
+-- the limit of ACEEs in use
 abbrev pub most_acees : ℕ
 most_acees = 256
 
@@ -54,23 +52,8 @@ pub record DoesAs (a : Answer) (state : State) (old new : List ℕ) : Type 0 whe
 abbrev pub refuse : Refusal → State → Answer
 refuse why s = record { state = record s { has_refused = true }; reply = Refused why }
 
--- the profile of a name, where one is defined
-abbrev pub profile_of : Spelled → State → Option Profile
-profile_of name s = find (λ profile. bytes_eq profile.name.text name.text) s.profiles
-
-abbrev pub is_defined : Spelled → State → Bool
-is_defined name s = is_some (profile_of name s)
-
 abbrev pub is_in_use : List ℕ → State → Bool
 is_in_use acee s = list_any (λ held. bytes_eq held acee) s.acees
-
--- RDEFINE is refused exactly where the name is defined. A new profile stands last, and is counted.
-unfoldable pub rdefine : Profile → State → Answer
-rdefine profile s =
-    if is_defined profile.name s then refuse (refusal.Exists profile.name) s
-    else if nat_le most_profiles (length s.profiles) then refuse refusal.NotBuilt s
-    else if nat_le most_number s.number then refuse refusal.NumberSpent s
-    else record { state = record s { number = s.number + 1; profiles = s.profiles ++ profile ∷ [] }; reply = Accepted }
 
 -- VERIFY begins an ACEE under a name that isn't in use.
 unfoldable pub verify : List ℕ → State → Answer
@@ -79,17 +62,24 @@ verify acee s =
     then refuse refusal.NotBuilt s
     else record { state = record s { acees = s.acees ++ acee ∷ [] }; reply = Verified }
 
+-- What a profile gives everybody: its universal access.
+abbrev pub found_in : Profile → Found
+found_in profile = record { profile = profile.name; access = profile.uacc }
+
 -- The universal access suffices where it is at least the level that is asked for.
 abbrev pub decide : Option Profile → Level → Decision
 decide None asked = NoProfile
-decide (Some profile) asked =
-    if suffices profile.universal_access asked then UniversalAccess profile else Insufficient profile
+decide (Some profile) asked = if suffices profile.uacc asked then UniversalAccess (found_in profile) else Insufficient (found_in profile)
+
+-- The profile that decides on a resource of class FACILITY.
+abbrev pub profile_for : Spelled → State → Option Profile
+profile_for name s = covering_profile (codes "FACILITY") name s.rows
 
 -- AUTH is refused exactly where the ACEE isn't in use. An answer changes nothing.
 unfoldable pub auth : List ℕ → Spelled → Level → State → Answer
 auth acee name asked s =
     if is_in_use acee s
-    then record { state = s; reply = Decided (decide (profile_of name s) asked) }
+    then record { state = s; reply = Decided (decide (profile_for name s) asked) }
     else refuse (refusal.NoAcee acee) s
 
 -- A command is refused, or it is accepted: then it is counted, and the rows are as it leaves them.
@@ -112,7 +102,6 @@ command text s = work_read (read_command text) s
 
 -- the answer to each item
 abbrev pub answer : Item → State → Answer
-answer (item.Rdefine profile) s = rdefine profile s
 answer (item.Verify acee) s = verify acee s
 answer (item.Auth acee name asked) s = auth acee name asked s
 answer (item.Command text) s = command text s

@@ -3,11 +3,11 @@
 ghost use Rattle.std.specs.Prelude.{◌≡◌, map, not, position, IfOk};
 ghost use Rattle.std.specs.List.{before_first};
 ghost use Rattle.command_words.specs.Bytes.{is_gap_byte, is_word_byte, upper};
-ghost use Rattle.racf_run.specs.Commands.{past_gaps, command_name, is_data_set_command, is_general_command, is_list_command, is_other_command, names_any, names_security, built_form, read_command};
-ghost use Rattle.command_parser.specs.declared.forms.Form.TheVariants as form;
+ghost use Rattle.racf_run.specs.Commands.{past_gaps, command_name, is_other_command, built_form, read_command};
 
 use crate::reply::Refusal;
-use command_parser::{AddUser, AltUser, Command, Form, Ids, ParseFault, parse};
+use crate::unbuilt::is_unbuilt;
+use command_parser::{Command, ParseFault, parse};
 use command_words::is_spelled;
 use racf_profiles::ibmuser;
 use std::alloc::{AllocError, Global};
@@ -30,90 +30,23 @@ pub(crate) fn read_command(
     }
 }
 
-/// The command, unless it names security levels, categories or labels.
+/// The command, unless it asks for what isn't built.
 fn built(command: Command) -> Result<Command, Refusal>
     ensures { result ≡ built_form command }
 {
-    if names_security(command.form()) {
+    if is_unbuilt(command.form()) {
         Err(Refusal::NotBuilt)
     } else {
         Ok(command)
     }
 }
 
-/// Whether a command names a security level, a category or a label, or takes one away.
-fn names_security(form: &Form) -> bool
-    ensures { result ≡ names_security form.now }
-{
-    match form {
-        Form::AddUser(command) => added_names_security(command),
-        Form::AltUser(command) => altered_names_security(command),
-        Form::DelUser(_)
-        | Form::AddGroup(_)
-        | Form::AltGroup(_)
-        | Form::DelGroup(_)
-        | Form::Connect(_)
-        | Form::Remove(_) => false,
-    }
-}
-
-fn added_names_security(command: &AddUser) -> bool
-    ensures { result ≡ names_security (form.AddUser command.now) }
-{
-    command.seclevel.is_some() || names_any(&command.addcategory) || command.seclabel.is_some()
-}
-
-fn altered_names_security(command: &AltUser) -> bool
-    ensures { result ≡ names_security (form.AltUser command.now) }
-{
-    command.seclevel.is_some()
-        || command.noseclevel
-        || names_any(&command.addcategory)
-        || names_any(&command.delcategory)
-        || command.seclabel.is_some()
-        || command.noseclabel
-}
-
-fn names_any(names: &Ids) -> bool
-    ensures { result ≡ names_any names.now }
-{
-    names.items.first().is_some()
-}
-
-/// The text of a command on data set profiles, general resource profiles, access lists or options.
+/// The text of a command on access lists or on options.
 #[tactic(auto, unfolding(crate::specs::Commands::is_other_command))]
 fn is_other_command(text: &[u8]) -> bool
     ensures { result ≡ is_other_command text.now }
 {
     let name = command_name(text);
-    is_data_set_command(name) || is_general_command(name) || is_list_command(name)
-}
-
-fn is_data_set_command(name: &[u8]) -> bool
-    ensures { result ≡ is_data_set_command (map upper name.now) }
-{
-    is_spelled(name, b"ADDSD")
-        || is_spelled(name, b"AD")
-        || is_spelled(name, b"ALTDSD")
-        || is_spelled(name, b"ALD")
-        || is_spelled(name, b"DELDSD")
-        || is_spelled(name, b"DD")
-}
-
-fn is_general_command(name: &[u8]) -> bool
-    ensures { result ≡ is_general_command (map upper name.now) }
-{
-    is_spelled(name, b"RDEFINE")
-        || is_spelled(name, b"RDEF")
-        || is_spelled(name, b"RALTER")
-        || is_spelled(name, b"RALT")
-        || is_spelled(name, b"RDELETE")
-        || is_spelled(name, b"RDEL")
-}
-
-fn is_list_command(name: &[u8]) -> bool
-    ensures { result ≡ is_list_command (map upper name.now) }
-{
     is_spelled(name, b"PERMIT")
         || is_spelled(name, b"PE")
         || is_spelled(name, b"SETROPTS")

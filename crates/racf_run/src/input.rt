@@ -54,7 +54,7 @@ fn next_role<S: Source>(
     match lines.next() {
         Ok(Line::Text(text)) => read_role(alloc, begun, text),
         Ok(Line::TooLong) => Ok(LineRole::Whole(Some(Item::LineTooLong))),
-        Ok(Line::End) => read_end(alloc, begun),
+        Ok(Line::End) => read_end(begun),
         Err(LineFault::ReadFault) => Err(Stop::ReadFault),
         Err(LineFault::InputTooLong) => Err(Stop::InputTooLong),
     }
@@ -71,14 +71,11 @@ fn read_role(alloc: Global, begun: Option<Begun>, text: &[u8]) -> Result<LineRol
 }
 
 /// What the input's end is.
-fn read_end(alloc: Global, begun: Option<Begun>) -> Result<LineRole, Stop>
+fn read_end(begun: Option<Begun>) -> Result<LineRole, Stop>
     ensures { ReadsEnd result begun }
 {
-    let Some(begun) = begun else {
-        return Err(Stop::End);
-    };
-    match begun.end(alloc) {
-        Ok(item) => Ok(LineRole::Whole(Some(item))),
-        Err(_) => Err(Stop::NoMemory),
+    match begun {
+        Some(begun) => Ok(LineRole::Whole(Some(begun.end()))),
+        None => Err(Stop::End),
     }
 }

@@ -2,7 +2,7 @@
 
 ghost use Rattle.std.specs.Prelude.{◌≡◌, map, position, IfOk, None, if◌then◌else◌};
 ghost use Rattle.std.specs.List.{list_all, before_first};
-ghost use Rattle.racf_run.specs.Items.{is_blank, is_skipped, is_request, past_blanks, words, universal_access_of, asked_level_of, rdefine_of, verify_of, auth_of, is_rdefine, is_verify, is_auth, built_request, built_command};
+ghost use Rattle.racf_run.specs.Items.{is_blank, is_skipped, is_request, past_blanks, words, asked_level_of, verify_of, auth_of, is_verify, is_auth, built_request};
 
 use access_levels::{Id, Level};
 use command_words::is_spelled;
@@ -10,13 +10,22 @@ use generic_names::{NameKind, Resource};
 use std::alloc::{AllocError, Global};
 use std::marker::Model;
 
-/// A general resource profile: the resource's name, and the level that everybody has to it.
-#[derive(Clone, Copy)]
-pub struct Profile {
-    /// A general resource name.
-    pub name: Resource,
-    /// The universal access, UACC.
-    pub universal_access: Level,
+/// The name of a general resource.
+#[derive(Drop)]
+pub struct GeneralName {
+    name: Resource,
+}
+
+impl Model for GeneralName {
+    ghost use Rattle.std.specs.Prelude.{◌≡◌};
+    ghost use Rattle.generic_names.specs.Spelled.{Spelled};
+    ghost use Rattle.generic_names.specs.declared.kind.NameKind.TheVariants.{General};
+
+    ghost Value = { Spelled };
+
+    ghost view = { λ general. general.name };
+
+    ghost invariant = { λ general. general.name.kind ≡ General };
 }
 
 /// The text of a command, its lines joined.
@@ -36,9 +45,7 @@ impl Model for CommandText {
 /// What a stream asks for at once: a command, whose lines are joined, or the line of a request.
 #[derive(Drop)]
 pub enum Item {
-    /// RDEFINE in its shortest form: define a profile (z/OS Security Server RACF Command Language Reference).
-    Rdefine(Profile),
-    /// Any other command.
+    /// A command (z/OS Security Server RACF Command Language Reference).
     Command(CommandText),
     /// VERIFY: begin an ACEE of this name (RACROUTE Macro Reference).
     Verify(Id),
@@ -46,8 +53,8 @@ pub enum Item {
     Auth {
         /// The name of the ACEE.
         acee: Id,
-        /// The resource.
-        name: Resource,
+        /// The resource, of class FACILITY.
+        name: GeneralName,
         /// The level that is asked for.
         asked: Level,
     },
@@ -57,8 +64,40 @@ pub enum Item {
     LineTooLong,
 }
 
+impl GeneralName {
+    ghost use Rattle.std.specs.Prelude.{◌≡◌};
+    ghost use Rattle.std.specs.Result.{result_ok};
+    ghost use Rattle.generic_names.specs.Faults.{resource_of};
+    ghost use Rattle.generic_names.specs.declared.kind.NameKind.TheVariants.{General};
+
+    /// Reads the name of a general resource.
+    fn read(bytes: &[u8]) -> Option<GeneralName>
+        ensures { result ≡ result_ok (resource_of General bytes.now) }
+    {
+        match Resource::read(NameKind::General, bytes) {
+            Ok(name) => Some(GeneralName { name }),
+            Err(_) => None,
+        }
+    }
+
+    /// The name.
+    pub(crate) fn as_resource(&self) -> &Resource
+        ensures name { result.now ≡ self.now }
+        ensures general { result.now.kind ≡ General }
+    {
+        &self.name
+    }
+}
+
 impl CommandText {
     ghost use Rattle.std.specs.Prelude.{◌≡◌};
+
+    /// The text of these bytes.
+    pub(crate) fn new(bytes: Vec<u8>) -> CommandText
+        ensures { result ≡ bytes.items }
+    {
+        CommandText { bytes }
+    }
 
     /// Its bytes.
     pub(crate) fn as_slice(&self) -> &[u8]
@@ -69,7 +108,7 @@ impl CommandText {
 }
 
 impl Item {
-    ghost use Rattle.racf_run.specs.Items.{request_of, command_of};
+    ghost use Rattle.racf_run.specs.Items.{request_of};
 
     /// What the line of a request asks for. Takes memory for the list of its words.
     #[tactic(auto, unfolding(crate::specs::Items::request_of))]
@@ -79,25 +118,6 @@ impl Item {
         let words = words_of(alloc, text)?;
         Ok(built_request(words.as_slice()).unwrap_or(Item::NotBuilt))
     }
-
-    /// What the text of a command asks for. Takes memory for the list of its words.
-    #[tactic(auto, unfolding(crate::specs::Items::command_of))]
-    pub(crate) fn command(alloc: Global, text: Vec<u8>) -> Result<Item, AllocError>
-        ensures { IfOk result (λ item. item ≡ command_of text.items) }
-    {
-        match command_by_words(alloc, text.as_slice())? {
-            Some(item) => Ok(item),
-            None => Ok(Item::Command(CommandText { bytes: text })),
-        }
-    }
-}
-
-/// What a command asks for that is built by its words.
-fn command_by_words(alloc: Global, text: &[u8]) -> Result<Option<Item>, AllocError>
-    ensures { IfOk result (λ item. item ≡ built_command (words text.now)) }
-{
-    let words = words_of(alloc, text)?;
-    Ok(built_command(words.as_slice()))
 }
 
 /// A line of blanks and tabs alone, or a comment, which `/*` begins.
@@ -192,27 +212,6 @@ fn built_request(words: &[&[u8]]) -> Option<Item>
     }
 }
 
-/// What the words of a command ask for, where they are those of a command that is built by its words.
-#[tactic(auto, unfolding(crate::specs::Items::built_command))]
-fn built_command(words: &[&[u8]]) -> Option<Item>
-    ensures { result ≡ built_command (map (λ word. word.now) words.now) }
-{
-    match words {
-        [verb, class, name, access] => rdefine_line(verb, class, name, access),
-        _ => None,
-    }
-}
-
-fn rdefine_line(verb: &[u8], class: &[u8], name: &[u8], access: &[u8]) -> Option<Item>
-    ensures { result ≡ (if is_rdefine verb.now class.now then rdefine_of name.now access.now else None) }
-{
-    if is_rdefine(verb, class) {
-        rdefine_of(name, access)
-    } else {
-        None
-    }
-}
-
 fn verify_line(verb: &[u8], acee: &[u8], user: &[u8]) -> Option<Item>
     ensures { result ≡ (if is_verify verb.now user.now then verify_of acee.now else None) }
 {
@@ -233,12 +232,6 @@ fn auth_line(verb: &[u8], acee: &[u8], class: &[u8], name: &[u8], level: &[u8]) 
     }
 }
 
-fn is_rdefine(verb: &[u8], class: &[u8]) -> bool
-    ensures { result ≡ is_rdefine verb.now class.now }
-{
-    verb == b"RDEFINE".as_slice() && class == b"FACILITY".as_slice()
-}
-
 fn is_verify(verb: &[u8], user: &[u8]) -> bool
     ensures { result ≡ is_verify verb.now user.now }
 {
@@ -249,19 +242,6 @@ fn is_auth(verb: &[u8], class: &[u8]) -> bool
     ensures { result ≡ is_auth verb.now class.now }
 {
     verb == b"AUTH".as_slice() && class == b"FACILITY".as_slice()
-}
-
-/// `RDEFINE FACILITY name UACC(level)`.
-#[tactic(auto, unfolding(crate::specs::Items::rdefine_of))]
-fn rdefine_of(name: &[u8], access: &[u8]) -> Option<Item>
-    ensures { result ≡ rdefine_of name.now access.now }
-{
-    let name = Resource::read(NameKind::General, name).ok()?;
-    let universal_access = universal_access_of(access)?;
-    Some(Item::Rdefine(Profile {
-        name,
-        universal_access,
-    }))
 }
 
 /// `VERIFY acee IBMUSER`.
@@ -279,17 +259,9 @@ fn auth_of(acee: &[u8], name: &[u8], level: &[u8]) -> Option<Item>
     ensures { result ≡ auth_of acee.now name.now level.now }
 {
     let acee = Id::read(acee).ok()?;
-    let name = Resource::read(NameKind::General, name).ok()?;
+    let name = GeneralName::read(name)?;
     let asked = asked_level_of(level)?;
     Some(Item::Auth { acee, name, asked })
-}
-
-/// The level of a word `UACC(level)`.
-fn universal_access_of(word: &[u8]) -> Option<Level>
-    ensures { result ≡ universal_access_of word.now }
-{
-    let level = word.strip_prefix(b"UACC(")?.strip_suffix(b")")?;
-    Level::read(level)
 }
 
 /// The level that a request asks for: READ, UPDATE, CONTROL or ALTER.

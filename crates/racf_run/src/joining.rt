@@ -6,7 +6,7 @@ ghost use Rattle.racf_outside.specs.Lines.{Text};
 ghost use Rattle.racf_run.specs.Fronts.{Front};
 ghost use Rattle.racf_run.specs.Joining.{going_on, added, joined, fresh_role, role_of};
 
-use crate::item::{Item, is_blank, is_request, is_skipped, past_blanks};
+use crate::item::{CommandText, Item, is_blank, is_request, is_skipped, past_blanks};
 use crate::mark::Mark;
 use std::alloc::{AllocError, Global};
 use std::marker::Model;
@@ -45,7 +45,7 @@ pub(crate) fn role_of(
 {
     match begun {
         None => fresh_role(alloc, text),
-        Some(begun) => begun.join(alloc, text),
+        Some(begun) => begun.join(text),
     }
 }
 
@@ -59,18 +59,18 @@ fn fresh_role(alloc: Global, text: &[u8]) -> Result<LineRole, AllocError>
     if is_request(text) {
         return Ok(LineRole::Whole(Some(Item::request(alloc, text)?)));
     }
-    joined(alloc, Vec::new(alloc), text)
+    joined(Vec::new(alloc), text)
 }
 
 /// A command, or the front of one, behind the text before it.
-fn joined(alloc: Global, before: Vec<u8>, text: &[u8]) -> Result<LineRole, AllocError>
+fn joined(before: Vec<u8>, text: &[u8]) -> Result<LineRole, AllocError>
     ensures { IfOk result (λ role. role ≡ joined before.items text.now) }
 {
     let mut whole = before;
     match going_on(text) {
         None => {
             whole.extend_from_slice(text)?;
-            Ok(LineRole::Whole(Some(Item::command(alloc, whole)?)))
+            Ok(LineRole::Whole(Some(Item::Command(CommandText::new(whole)))))
         }
         Some((front, mark)) => {
             whole.extend_from_slice(front)?;
@@ -80,23 +80,23 @@ fn joined(alloc: Global, before: Vec<u8>, text: &[u8]) -> Result<LineRole, Alloc
 }
 
 impl Begun {
-    ghost use Rattle.racf_run.specs.Items.{command_of};
+    ghost use Rattle.racf_run.specs.declared.item.Item.TheVariants.{Command};
     ghost use Rattle.std.specs.Prelude.{Some};
 
     /// What a line of text is behind this front.
-    fn join(self, alloc: Global, text: &[u8]) -> Result<LineRole, AllocError>
+    fn join(self, text: &[u8]) -> Result<LineRole, AllocError>
         ensures { IfOk result (λ role. role ≡ role_of (Some self) (Text text.now)) }
     {
         let Begun { text: before, mark } = self;
-        joined(alloc, before, added(mark, text))
+        joined(before, added(mark, text))
     }
 
     /// The command, where the input ends behind this front.
-    pub(crate) fn end(self, alloc: Global) -> Result<Item, AllocError>
-        ensures { IfOk result (λ item. item ≡ command_of self.text) }
+    pub(crate) fn end(self) -> Item
+        ensures { result ≡ Command self.text }
     {
         let Begun { text, mark: _ } = self;
-        Item::command(alloc, text)
+        Item::Command(CommandText::new(text))
     }
 }
 

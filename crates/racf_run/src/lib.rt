@@ -14,6 +14,7 @@ mod stream;
 #[cfg(test)]
 mod tests;
 mod top;
+mod unbuilt;
 mod words;
 
 pub use scripts::script;

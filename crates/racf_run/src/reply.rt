@@ -1,13 +1,12 @@
 //! The replies to commands and the answers to requests, as they are printed.
 
 ghost use Rattle.std.specs.Prelude.{◌≡◌, ◌++◌, OnOk};
-ghost use Rattle.racf_run.specs.Replies.{refusal_words, access_words, decision_words, reply_words, reply_line, is_refusal};
+ghost use Rattle.racf_run.specs.Replies.{refusal_words, found_words, decision_words, reply_words, reply_line, is_refusal};
 
-use crate::item::Profile;
 use crate::words::{write_conflict, write_syntax};
-use access_levels::Id;
+use access_levels::{Id, Level};
 use command_parser::Syntax;
-use generic_names::Resource;
+use generic_names::Pattern;
 use itoa::Buffer;
 use racf_database::Conflict;
 use std::alloc::AllocError;
@@ -21,8 +20,6 @@ pub enum Refusal {
     Conflict(Conflict),
     /// As many commands were accepted as there are numbers.
     NumberSpent,
-    /// A profile of this name is defined.
-    Exists(Resource),
     /// No ACEE of this name is in use.
     NoAcee(Id),
     /// This program doesn't have what the line asks for.
@@ -31,15 +28,24 @@ pub enum Refusal {
     LineTooLong,
 }
 
+/// The profile that decided, and the access that was found there.
+#[derive(Clone, Copy)]
+pub struct Found {
+    /// The name of the profile.
+    pub profile: Pattern,
+    /// The access: the profile's universal access, UACC.
+    pub access: Level,
+}
+
 /// The decision on a request for access.
 #[derive(Clone, Copy)]
 pub enum Decision {
     /// No profile covers the resource: return code 4.
     NoProfile,
     /// The universal access suffices: return code 0.
-    UniversalAccess(Profile),
+    UniversalAccess(Found),
     /// The universal access is lower than what was asked for: return code 8.
-    Insufficient(Profile),
+    Insufficient(Found),
 }
 
 /// What is printed for a line, after the number.
@@ -67,10 +73,6 @@ impl Refusal {
             }
             Refusal::Conflict(conflict) => write_conflict(conflict, out),
             Refusal::NumberSpent => out.extend_from_slice(b"NUMBERSPENT"),
-            Refusal::Exists(name) => {
-                out.extend_from_slice(b"EXISTS ")?;
-                out.extend_from_slice(name.text())
-            }
             Refusal::NoAcee(acee) => {
                 out.extend_from_slice(b"NOACEE ")?;
                 out.extend_from_slice(acee.text())
@@ -81,14 +83,14 @@ impl Refusal {
     }
 }
 
-impl Profile {
-    /// Writes the name and the universal access at the end of `out`.
+impl Found {
+    /// Writes the profile's name and the access at the end of `out`.
     fn write(&self, out: &mut Vec<u8>) -> Result<(), AllocError>
-        ensures { OnOk result (out.new.items ≡ out.old.items ++ access_words self.now) }
+        ensures { OnOk result (out.new.items ≡ out.old.items ++ found_words self.now) }
     {
-        out.extend_from_slice(self.name.text())?;
+        out.extend_from_slice(self.profile.text())?;
         out.extend_from_slice(b" ")?;
-        out.extend_from_slice(self.universal_access.name())
+        out.extend_from_slice(self.access.name())
     }
 }
 
@@ -99,13 +101,13 @@ impl Decision {
     {
         match self {
             Decision::NoProfile => out.extend_from_slice(b"4 NOPROFILE"),
-            Decision::UniversalAccess(profile) => {
+            Decision::UniversalAccess(found) => {
                 out.extend_from_slice(b"0 UACC ")?;
-                profile.write(out)
+                found.write(out)
             }
-            Decision::Insufficient(profile) => {
+            Decision::Insufficient(found) => {
                 out.extend_from_slice(b"8 INSUFFICIENT ")?;
-                profile.write(out)
+                found.write(out)
             }
         }
     }

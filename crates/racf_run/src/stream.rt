@@ -2,22 +2,18 @@
 
 ghost use Rattle.std.specs.Prelude.{◌≡◌, ◌++◌, ◌≤◌, OnOk, OnErr, IfOk, Option, None};
 ghost use Rattle.std.specs.Option.{option_copied};
-ghost use Rattle.racf_run.specs.Stream.{decide};
+ghost use Rattle.racf_run.specs.Stream.{decide, found_in};
 ghost use Rattle.racf_run.specs.Commands.{issuer as the_issuer};
 
 use crate::commands::read_command;
-use crate::item::{CommandText, Item, Profile};
-use crate::reply::{Decision, Refusal, Reply};
+use crate::item::{CommandText, GeneralName, Item};
+use crate::reply::{Decision, Found, Refusal, Reply};
 use access_levels::{Id, Level};
 use command_parser::{Command, Issuer};
-use generic_names::Resource;
 use racf_database::Database;
-use racf_profiles::{ibmuser, sys1};
+use racf_profiles::{FixedClass, Profile, ibmuser, sys1};
 use std::alloc::{AllocError, Global};
 use std::marker::Model;
-
-/// The most profiles that a class has (this product's own rule).
-const MOST_PROFILES: usize = 50_000;
 
 /// The most ACEEs that are in use at once (this product's own rule).
 const MOST_ACEES: usize = 256;
@@ -25,14 +21,12 @@ const MOST_ACEES: usize = 256;
 /// The last number that a command gets (this product's own limit).
 const MOST_NUMBER: u64 = 1 << 62;
 
-/// The state of a stream. A FACILITY profile, and an ACEE, is looked for from the front: the cost of an RDEFINE, VERIFY or
-/// AUTH grows with their number.
+/// The state of a stream. An ACEE is looked for from the front: the cost of a VERIFY or AUTH grows with their number.
 #[derive(Drop)]
 pub(crate) struct Stream {
     number: u64,
     has_refused: bool,
     database: Database,
-    profiles: Vec<Profile>,
     acees: Vec<Id>,
 }
 
@@ -43,13 +37,13 @@ impl Model for Stream {
 
     ghost Value = { State };
 
-    ghost view = { λ s. record { number = s.number; has_refused = s.has_refused; rows = s.database.rows; profiles = s.profiles.items; acees = s.acees.items } };
+    ghost view = { λ s. record { number = s.number; has_refused = s.has_refused; rows = s.database.rows; acees = s.acees.items } };
 
     ghost invariant = { λ s. s.number ≤ most_number };
 }
 
 impl Stream {
-    ghost use Rattle.racf_run.specs.Stream.{new_stream, answer, rdefine, verify, auth, refuse, command, work_form, is_defined, is_in_use, profile_of, DoesAs};
+    ghost use Rattle.racf_run.specs.Stream.{new_stream, answer, verify, auth, refuse, command, work_form, is_in_use, profile_for, DoesAs};
     ghost use Rattle.racf_run.specs.Commands.{refusal_of};
 
     /// The state before the first line.
@@ -62,7 +56,6 @@ impl Stream {
             number: 0,
             has_refused: false,
             database,
-            profiles: Vec::new(alloc),
             acees: Vec::new(alloc),
         })
     }
@@ -85,34 +78,12 @@ impl Stream {
         ensures err { OnErr result (self.new ≡ self.old) }
     {
         match item {
-            Item::Rdefine(profile) => self.rdefine(profile, out),
             Item::Verify(acee) => self.verify(*acee, out),
             Item::Auth { acee, name, asked } => self.auth(*acee, name, *asked, out),
             Item::Command(text) => self.command(alloc, text, out),
             Item::NotBuilt => self.refuse(Refusal::NotBuilt, out),
             Item::LineTooLong => self.refuse(Refusal::LineTooLong, out),
         }
-    }
-
-    /// RDEFINE (z/OS Security Server RACF Command Language Reference).
-    #[tactic(auto, unfolding(crate::specs::Stream::rdefine))]
-    fn rdefine(&mut self, profile: &Profile, out: &mut Vec<u8>) -> Result<(), AllocError>
-        ensures ok { OnOk result (DoesAs (rdefine profile.now self.old) self.new out.old.items out.new.items) }
-        ensures err { OnErr result (self.new ≡ self.old) }
-    {
-        if self.is_defined(&profile.name) {
-            return self.refuse(Refusal::Exists(profile.name), out);
-        }
-        if self.profiles.len() >= MOST_PROFILES {
-            return self.refuse(Refusal::NotBuilt, out);
-        }
-        if self.number >= MOST_NUMBER {
-            return self.refuse(Refusal::NumberSpent, out);
-        }
-        Reply::Accepted.write_line(self.number + 1, out)?;
-        self.profiles.push(*profile)?;
-        self.number += 1;
-        Ok(())
     }
 
     /// A command: refused, or worked on the rows.
@@ -184,7 +155,7 @@ impl Stream {
     fn auth(
         &mut self,
         acee: Id,
-        name: &Resource,
+        name: &GeneralName,
         asked: Level,
         out: &mut Vec<u8>,
     ) -> Result<(), AllocError>
@@ -194,7 +165,7 @@ impl Stream {
         if !self.is_in_use(&acee) {
             return self.refuse(Refusal::NoAcee(acee), out);
         }
-        let decision = decision_on(self.profile_of(name), asked);
+        let decision = decision_on(self.profile_for(name), asked);
         Reply::Decided(decision).write_line(self.number, out)
     }
 
@@ -208,20 +179,12 @@ impl Stream {
         Ok(())
     }
 
-    /// Whether a profile of this name is defined.
-    fn is_defined(&self, name: &Resource) -> bool
-        ensures { result ≡ is_defined name.now self.now }
+    /// The profile that decides on a resource of class FACILITY.
+    fn profile_for(&self, name: &GeneralName) -> Option<&Profile>
+        ensures { option_copied result ≡ profile_for name.now self.now }
     {
-        self.profile_of(name).is_some()
-    }
-
-    /// The profile of a name, where one is defined.
-    fn profile_of(&self, name: &Resource) -> Option<&Profile>
-        ensures { option_copied result ≡ profile_of name.now self.now }
-    {
-        self.profiles
-            .iter()
-            .find(|profile| profile.name.text() == name.text())
+        self.database
+            .covering(FixedClass::Facility.id(), name.as_resource())
     }
 
     /// Whether an ACEE of this name is in use.
@@ -248,9 +211,17 @@ fn decision_on(found: Option<&Profile>, asked: Level) -> Decision
 {
     match found {
         None => Decision::NoProfile,
-        Some(profile) if profile.universal_access.suffices(asked) => Decision::UniversalAccess(
-            *profile,
-        ),
-        Some(profile) => Decision::Insufficient(*profile),
+        Some(profile) if profile.uacc.suffices(asked) => Decision::UniversalAccess(found_in(profile)),
+        Some(profile) => Decision::Insufficient(found_in(profile)),
+    }
+}
+
+/// What a profile gives everybody.
+fn found_in(profile: &Profile) -> Found
+    ensures { result ≡ found_in profile.now }
+{
+    Found {
+        profile: profile.name,
+        access: profile.uacc,
     }
 }

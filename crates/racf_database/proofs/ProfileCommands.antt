@@ -33,7 +33,7 @@ use Rattle.command_parser.specs.declared.profile_forms.RAlter.{RAlter}
 use Rattle.command_parser.specs.declared.profile_forms.Permit.{Permit}
 use Rattle.racf_database.specs.declared.conflict.Conflict.{Conflict}
 use Rattle.racf_database.specs.declared.conflict.Kind.TheVariants.{ClassProfiles, Profiles, AllEntries, Categories}
-use Rattle.racf_database.specs.ClassStub.{ClassList, CanPutIn, entries_in, profile_count, entry_count, room_in, profile_in}
+use Rattle.class_profiles.specs.Classes.{ClassList, CanPutIn, entries_in, profile_count, entry_count, room_in, profile_in}
 use Rattle.racf_database.specs.Members.{options_after}
 use Rattle.racf_database.specs.ProfileEffects.{dataset, new_data_set, altered_data_set, new_resource, altered_resource}
 use Rattle.racf_database.specs.PermitEffects.{standard_reset, conditional_reset, level_of, with_entry, with_conditional, standard_entries, conditional_entries, standard_after, conditional_after, permitted_profile}

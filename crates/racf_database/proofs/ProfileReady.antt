@@ -11,7 +11,7 @@ use Rattle.racf_profiles.specs.ClassTable.{class_name, fixed_classes}
 use Rattle.racf_profiles.specs.Lookup.{is_class, is_profile}
 use Rattle.racf_profiles.specs.Edits.{put_profile, at_class, with_profile}
 use Rattle.class_profiles.specs.Lawful.{AreProfiles, AreClasses, kind_in}
-use Rattle.racf_database.specs.ClassStub.{ClassList, CanPutIn, entries_in, profile_count, entry_count, room_in, profile_in}
+use Rattle.class_profiles.specs.Classes.{ClassList, CanPutIn, entries_in, profile_count, entry_count, room_in, profile_in}
 use Rattle.racf_database.proofs.ClassCounts.{sum-put, length-put, sum-at_class, found-le}
 use Rattle.group_tree.proofs.Rows.{same, find-passes}
 use Rattle.racf_database.specs.ProfileEffects.{dataset}

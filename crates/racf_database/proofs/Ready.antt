@@ -1,6 +1,6 @@
 -- The edits of a command that meets no conflict can be made without memory, once there is room for one more user and one more
 -- group.
-use Rattle.std.proofs.Common.{◌≡◌, ◌≢◌, ℕ, ◌+◌, ◌<◌, ◌≤◌, Bool, true, false, cond, ◌&&◌, List, [], ◌∷◌, ◌++◌, length, Option, None, Some, IsSome, is_some, refl, sym, ap, subst, ◌∙◌, true≢false, arith, inl, inr, length-append}
+use Rattle.std.proofs.Common.{◌≡◌, ◌≢◌, ℕ, ◌+◌, ◌<◌, ◌≤◌, Bool, true, false, cond, ◌&&◌, not, List, [], ◌∷◌, ◌++◌, length, Option, None, Some, IsSome, is_some, refl, sym, ap, subst, ◌∙◌, true≢false, arith, inl, inr, length-append}
 use Rattle.std.specs.Prelude.{find, sum_by, MatchOption, ◌⊎◌}
 use Rattle.std.proofs.lemmas.List.Sums.{sum_by-append}
 use Rattle.racf_profiles.specs.declared.users.User.{User}
@@ -8,7 +8,7 @@ use Rattle.racf_profiles.specs.declared.users.Connect.{Connect as Connection}
 use Rattle.racf_profiles.specs.declared.groups.Group.{Group}
 use Rattle.racf_profiles.specs.declared.options.Options.{Options}
 use Rattle.racf_profiles.specs.declared.rows.Rows.{Rows}
-use Rattle.racf_database.specs.ClassStub.{ClassList}
+use Rattle.class_profiles.specs.Classes.{ClassList, profile_count, entry_count}
 use Rattle.racf_profiles.specs.NewDatabase.{sys1}
 use Rattle.racf_profiles.specs.Lookup.{user_of, group_of, is_user, is_group}
 use Rattle.racf_profiles.specs.Edits.{put_row, drop_row}
@@ -30,7 +30,13 @@ use Rattle.command_parser.specs.declared.forms.Form.TheVariants as form
 use Rattle.racf_database.specs.Names.{is_to, connections, connected_to}
 use Rattle.racf_database.specs.Contents.{rows_of}
 use Rattle.racf_database.specs.UserList.{UserList, CanPut}
-use Rattle.racf_database.specs.Kept.{CanAddGroup, CanMoveGroup, CanPutGroup, CanDropGroup, CanApply}
+use Rattle.racf_database.specs.Kept.{CanAddGroup, CanMoveGroup, CanPutGroup, CanDropGroup, CanApply, HasRoom, is_of_kind, is_of_data_sets, fits_its_class}
+use Rattle.generic_names.specs.declared.kind.NameKind.{NameKind}
+use Rattle.generic_names.specs.declared.kind.NameKind.TheVariants.{DataSet, General}
+use Rattle.generic_names.specs.Spelled.{Spelled}
+use Rattle.generic_names.specs.Laws.{NotBoth, PassedOn}
+use Rattle.class_profiles.specs.Lawful.{AreClasses}
+use Rattle.racf_database.proofs.ProfileCommands.{ready_add_sd, ready_alt_sd, ready_r_define, ready_r_alter, ready_permit}
 use Rattle.racf_database.specs.Effects.{at_row, step, new_user, altered_user, new_group, altered_group, connected_user, removed_user, group_or_current}
 use Rattle.racf_database.specs.Edits.{edits_of, put_user, put_group}
 use Rattle.racf_database.specs.declared.conflict.Conflict.TheVariants.{Root}
@@ -42,6 +48,20 @@ use Rattle.racf_database.proofs.AfterLaws.{at_row-absent, sum-at_row}
 use Rattle.racf_database.proofs.Walks.{meets-within}
 use Rattle.racf_database.proofs.Unmet.{each_unmet, group_there, named_there, within, no_subgroup, no_root, no_root_moved, no_cycle, unmet}
 use Rattle.racf_database.proofs.StepLaws.{put_user-at, add_user-free, add_group-free}
+
+of_data_sets : (name : Spelled) → is_of_data_sets name ≡ true → name.kind ≡ DataSet
+of_data_sets name h = by name.kind h
+  where
+    by : (k : NameKind) → is_of_kind k ≡ true → k ≡ DataSet
+    by DataSet e = refl
+    by General e = absurd (true≢false (sym e))
+
+general : (name : Spelled) → not (is_of_data_sets name) ≡ true → name.kind ≡ General
+general name h = by name.kind h
+  where
+    by : (k : NameKind) → not (is_of_kind k) ≡ true → k ≡ General
+    by DataSet e = absurd (true≢false (sym e))
+    by General e = refl
 
 length-at_row : {X : Type 0} (it : X → Bool) (change : X → X) (rows : List X) → length (at_row it change rows) ≡ length rows
 length-at_row it change [] = refl
@@ -168,12 +188,21 @@ module _ (list : UserList) (tree : GroupTree) (tables : ClassList) (options : Op
       }
 
   -- ---- each command
-  pub can_apply-edits_of : (issuer : Issuer) (command : Form) → conflict_of issuer command (rows_of list.users tree.groups tables.classes options) ≡ None → CanApply list tree tables (edits_of issuer command (rows_of list.users tree.groups tables.classes options))
-  can_apply-edits_of issuer (form.AddUser c) h = ready_add_user issuer c h
-  can_apply-edits_of issuer (form.AltUser c) h = put_ready (altered_user c (rows_of list.users tree.groups tables.classes options)) (λ user. refl) c.user (not_more (altered_user c (rows_of list.users tree.groups tables.classes options)) c.user (λ user. omega arith))
-  can_apply-edits_of issuer (form.DelUser c) h = tt
-  can_apply-edits_of issuer (form.AddGroup c) h = ready_add_group issuer c h
-  can_apply-edits_of issuer (form.AltGroup c) h = alt_group_ready issuer c h
-  can_apply-edits_of issuer (form.DelGroup c) h = ready_del_group issuer c h
-  can_apply-edits_of issuer (form.Connect c) h = put_ready (connected_user issuer c) (λ user. refl) c.user (few_connect issuer c h)
-  can_apply-edits_of issuer (form.Remove c) h = put_ready (removed_user issuer c) (λ user. refl) c.user (not_more (removed_user issuer c) c.user (λ user. length-drop_row-le (is_to (group_or_current issuer c.group)) user.connects))
+  module _ (not_both : NotBoth) (passed_on : PassedOn) (lawful_classes : AreClasses tables.classes) (few_profiles : profile_count tables.classes ≤ 100000) (few_entries : entry_count tables.classes ≤ 1000000) where
+    pub can_apply-edits_of : (issuer : Issuer) (command : Form) → fits_its_class command ≡ true → HasRoom tables (edits_of issuer command (rows_of list.users tree.groups tables.classes options)) → conflict_of issuer command (rows_of list.users tree.groups tables.classes options) ≡ None
+        → CanApply list tree tables (edits_of issuer command (rows_of list.users tree.groups tables.classes options))
+    can_apply-edits_of issuer (form.AddUser c) kind profile_room h = ready_add_user issuer c h
+    can_apply-edits_of issuer (form.AltUser c) kind profile_room h = put_ready (altered_user c (rows_of list.users tree.groups tables.classes options)) (λ user. refl) c.user (not_more (altered_user c (rows_of list.users tree.groups tables.classes options)) c.user (λ user. omega arith))
+    can_apply-edits_of issuer (form.DelUser c) kind profile_room h = tt
+    can_apply-edits_of issuer (form.AddGroup c) kind profile_room h = ready_add_group issuer c h
+    can_apply-edits_of issuer (form.AltGroup c) kind profile_room h = alt_group_ready issuer c h
+    can_apply-edits_of issuer (form.DelGroup c) kind profile_room h = ready_del_group issuer c h
+    can_apply-edits_of issuer (form.Connect c) kind profile_room h = put_ready (connected_user issuer c) (λ user. refl) c.user (few_connect issuer c h)
+    can_apply-edits_of issuer (form.Remove c) kind profile_room h = put_ready (removed_user issuer c) (λ user. refl) c.user (not_more (removed_user issuer c) c.user (λ user. length-drop_row-le (is_to (group_or_current issuer c.group)) user.connects))
+    can_apply-edits_of issuer (form.AddSd c) kind profile_room h = ready_add_sd not_both passed_on list tree tables options lawful_classes few_profiles few_entries issuer c (of_data_sets c.profile kind) h profile_room
+    can_apply-edits_of issuer (form.AltSd c) kind profile_room h = ready_alt_sd not_both passed_on list tree tables options lawful_classes few_profiles few_entries c
+    can_apply-edits_of issuer (form.DelSd c) kind profile_room h = tt
+    can_apply-edits_of issuer (form.RDefine c) kind profile_room h = ready_r_define not_both passed_on list tree tables options lawful_classes few_profiles few_entries issuer c (general c.profile kind) h profile_room
+    can_apply-edits_of issuer (form.RAlter c) kind profile_room h = ready_r_alter not_both passed_on list tree tables options lawful_classes few_profiles few_entries c h
+    can_apply-edits_of issuer (form.RDelete c) kind profile_room h = tt
+    can_apply-edits_of issuer (form.Permit c) kind profile_room h = ready_permit not_both passed_on list tree tables options lawful_classes few_profiles few_entries c h

@@ -26,11 +26,12 @@ use Rattle.command_parser.specs.declared.forms.Connect.{Connect}
 use Rattle.command_parser.specs.declared.forms.Remove.{Remove}
 use Rattle.command_parser.specs.declared.forms.Form.{Form}
 use Rattle.command_parser.specs.declared.forms.Form.TheVariants as form
-use Rattle.racf_database.specs.ClassStub.{first_under}
+use Rattle.class_profiles.specs.Classes.{first_under}
 use Rattle.racf_database.specs.Limits.{most_users, most_groups, most_connections, most_connections_in_all}
 use Rattle.racf_database.specs.Names.{is_taken, is_class_word, is_to, is_connected_to, connects_of, administrators, connections}
 use Rattle.racf_database.specs.Security.{level_number, is_category, category_number, is_label}
 use Rattle.racf_database.specs.Effects.{group_or_current, new_user, new_group, altered_group, connects_after, step}
+use Rattle.racf_database.specs.ProfileConflicts.{add_sd_conflicts, alt_sd_conflicts, del_sd_conflicts, r_define_conflicts, r_alter_conflicts, r_delete_conflicts, permit_conflicts}
 unfoldable pub use Rattle.racf_database.specs.Required.{no_user, no_group, no_owner, no_named_group, no_class, name_taken, not_connected, default_not_connected, unknown_level, unknown_category, never_category, unknown_label}
 pub use Rattle.racf_database.specs.Required.{if_met, first_met, over}
 
@@ -194,6 +195,13 @@ conflicts issuer (form.AltGroup c) rows = alt_group_conflicts c rows
 conflicts issuer (form.DelGroup c) rows = del_group_conflicts c rows
 conflicts issuer (form.Connect c) rows = connect_conflicts issuer c rows
 conflicts issuer (form.Remove c) rows = remove_conflicts issuer c rows
+conflicts issuer (form.AddSd c) rows = add_sd_conflicts c rows
+conflicts issuer (form.AltSd c) rows = alt_sd_conflicts c rows
+conflicts issuer (form.DelSd c) rows = del_sd_conflicts c rows
+conflicts issuer (form.RDefine c) rows = r_define_conflicts c rows
+conflicts issuer (form.RAlter c) rows = r_alter_conflicts c rows
+conflicts issuer (form.RDelete c) rows = r_delete_conflicts c rows
+conflicts issuer (form.Permit c) rows = permit_conflicts c rows
 
 abbrev pub conflict_of : Issuer → Form → Rows → Option Conflict
 conflict_of issuer command rows = first_met (conflicts issuer command rows)

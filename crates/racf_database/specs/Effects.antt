@@ -6,6 +6,8 @@ use Rattle.racf_profiles.specs.Edits.{drop_row}
 use Rattle.command_parser.specs.declared.commands.Issuer.{Issuer}
 use Rattle.command_parser.specs.declared.forms.Form.{Form}
 use Rattle.command_parser.specs.declared.forms.Form.TheVariants as form
+use Rattle.racf_database.specs.ProfileEffects.{after_add_sd, after_alt_sd, after_del_sd, after_r_define, after_r_alter, after_r_delete}
+use Rattle.racf_database.specs.PermitEffects.{after_permit}
 pub use Rattle.racf_database.specs.UserEffects.{switched, with_class, without_classes, group_or_current, owner_or_issuer, new_connection, first_attributes, new_user, attributes_after, level_after, label_after, altered_user, new_group, altered_group, altered_connection, connects_after, connected_user, removed_user, at_row}
 
 -- The rows after a command. What is new goes last. DELUSER takes the user's connections with it; what else names a user
@@ -19,3 +21,10 @@ step issuer (form.AltGroup c) rows = record rows { groups = at_row (is_group c.g
 step issuer (form.DelGroup c) rows = record rows { groups = drop_row (is_group c.group) rows.groups }
 step issuer (form.Connect c) rows = record rows { users = at_row (is_user c.user) (connected_user issuer c) rows.users }
 step issuer (form.Remove c) rows = record rows { users = at_row (is_user c.user) (removed_user issuer c) rows.users }
+step issuer (form.AddSd c) rows = after_add_sd issuer c rows
+step issuer (form.AltSd c) rows = after_alt_sd c rows
+step issuer (form.DelSd c) rows = after_del_sd c rows
+step issuer (form.RDefine c) rows = after_r_define issuer c rows
+step issuer (form.RAlter c) rows = after_r_alter c rows
+step issuer (form.RDelete c) rows = after_r_delete c rows
+step issuer (form.Permit c) rows = after_permit c rows

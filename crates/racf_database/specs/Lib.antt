@@ -1,4 +1,3 @@
-pub mod ClassStub
 pub mod Limits
 pub mod Names
 pub mod Security

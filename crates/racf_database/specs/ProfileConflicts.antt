@@ -29,7 +29,7 @@ use Rattle.racf_database.specs.declared.conflict.Named.TheVariants as named
 use Rattle.racf_database.specs.declared.conflict.Kind.TheVariants.{ClassProfiles, Profiles, Entries, AllEntries, Members, Categories}
 use Rattle.racf_database.specs.Limits.{most_members, most_categories}
 use Rattle.racf_database.specs.Names.{is_taken}
-use Rattle.racf_database.specs.ClassStub.{profile_count, entry_count, entries_in, first_qualifier, most_entries as most_entries_in_all}
+use Rattle.class_profiles.specs.Classes.{profile_count, entry_count, entries_in, first_qualifier, most_entries as most_entries_in_all}
 use Rattle.racf_database.specs.Members.{members_after, categories_defined}
 use Rattle.racf_database.specs.ProfileEffects.{dataset}
 use Rattle.racf_database.specs.PermitEffects.{standard_after, conditional_after, permitted_profile}

@@ -7,10 +7,10 @@ ghost use Rattle.racf_database.specs.Limits.{most_categories};
 ghost use Rattle.racf_database.specs.Contents.{rows_of};
 ghost use Rattle.racf_database.specs.Kept.{CanMake, CanApply, CanAddGroup, CanMoveGroup, CanPutGroup, CanDropGroup};
 
-use crate::class_tables::ClassTables;
 use crate::database::Database;
 use crate::user_table::UserTable;
 use access_levels::Id;
+use class_profiles::ClassTables;
 use group_tree::Tree;
 use racf_profiles::{Change, Edit, Group, Options};
 

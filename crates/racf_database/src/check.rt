@@ -38,8 +38,10 @@ macro_rules! first_conflict {
 }
 
 impl Database {
-    /// Whether the rows allow the command. It takes no memory. A command takes a look-up for each name in it; DELGROUP
-    /// also looks at every group, and where a user may be connected, at every user.
+    /// Whether the rows allow the command. It takes no memory. A command takes a look-up for each name in it. DELGROUP also
+    /// looks at every group, where a user may be connected at every user, and where a data set profile may have its name, as
+    /// DELUSER does, at every data set profile. PERMIT compares each ID with those before it and with the entries of the list,
+    /// and ADDMEM each member with those before it and with the others.
     ///
     /// # Errors
     ///
@@ -56,6 +58,13 @@ impl Database {
             Form::DelGroup(command) => self.check_del_group(command),
             Form::Connect(command) => self.check_connect(issuer, command),
             Form::Remove(command) => self.check_remove(issuer, command),
+            Form::AddSd(command) => self.check_add_sd(command),
+            Form::AltSd(command) => self.check_alt_sd(command),
+            Form::DelSd(command) => self.check_del_sd(command),
+            Form::RDefine(command) => self.check_r_define(command),
+            Form::RAlter(command) => self.check_r_alter(command),
+            Form::RDelete(command) => self.check_r_delete(command),
+            Form::Permit(command) => self.check_permit(command),
         }
     }
 

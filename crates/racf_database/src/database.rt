@@ -1,15 +1,17 @@
 //! The database: its rows, by name, and the change that was prepared.
 ghost use Rattle.std.specs.Prelude.{◌≡◌, None, IfOk};
 ghost use Rattle.racf_profiles.specs.NewDatabase.{no_options};
+ghost use Rattle.group_tree.specs.Lawful.{IsTree};
+ghost use Rattle.class_profiles.specs.Lawful.{AreUsers, AreClasses};
 ghost use Rattle.racf_database.specs.Contents.{first_rows};
 
-use crate::class_tables::ClassTables;
 use crate::user_table::UserTable;
 use access_levels::Id;
+use class_profiles::ClassTables;
 use generic_names::Pattern;
 use group_tree::Tree;
 use racf_profiles::{
-    CategoryNames, Change, Group, NoMemory, Options, Profile, Rows, User, View,
+    CategoryNames, Change, Group, Groups, NoMemory, Options, Profile, Rows, User, View,
 };
 use std::alloc::{AllocError, Global};
 use std::marker::Model;
@@ -65,6 +67,27 @@ impl Database {
     {
         &self.tree
     }
+
+    /// All rows, copied.
+    pub fn to_rows(&self, alloc: Global) -> Result<Rows, NoMemory>
+        ensures rows { IfOk result (λ rows. rows ≡ self.now.rows) }
+        ensures users { AreUsers self.now.rows.users }
+        ensures groups { IsTree self.now.rows.groups }
+        ensures classes { AreClasses self.now.rows.classes }
+    {
+        let _groups = self.tree.len();
+        let _profiles = self.classes.count();
+        let users = self.users.rows(alloc)?;
+        let groups = group_rows(alloc, &self.tree)?;
+        let classes = self.classes.rows(alloc)?;
+        let options = self.options.copy(alloc)?;
+        Ok(Rows {
+            users,
+            groups,
+            classes,
+            options,
+        })
+    }
 }
 
 impl View for Database {
@@ -81,6 +104,17 @@ impl View for Database {
     fn profile(&self, class: Id, name: &Pattern) -> Option<&Profile> {
         self.classes.profile(class, name)
     }
+}
+
+// The groups, copied.
+fn group_rows(alloc: Global, tree: &Tree) -> Result<Groups, NoMemory>
+    ensures { IfOk result (λ groups. groups ≡ tree.now.groups) }
+{
+    let mut items = Vec::new(alloc);
+    for place in 0..tree.len() {
+        items.push(*tree.at(place))?;
+    }
+    Ok(Groups { items })
 }
 
 // The users of a new database.

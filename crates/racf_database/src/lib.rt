@@ -3,7 +3,6 @@
 
 mod apply;
 mod check;
-mod class_tables;
 mod conflict;
 mod covering;
 mod database;
@@ -15,7 +14,9 @@ mod user_table;
 
 pub use conflict::{Conflict, Holder, Kind, Named};
 pub use database::Database;
-pub use limits::{MOST_CONNECTIONS, MOST_CONNECTIONS_IN_ALL, MOST_GROUPS, MOST_USERS};
+pub use limits::{
+    MOST_CATEGORIES, MOST_CONNECTIONS, MOST_CONNECTIONS_IN_ALL, MOST_GROUPS, MOST_MEMBERS, MOST_USERS,
+};
 
 #[cfg(test)]
 mod tests;

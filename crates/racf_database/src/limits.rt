@@ -17,9 +17,6 @@ pub const MOST_CONNECTIONS: usize = 300;
 /// The most connections of all users.
 pub const MOST_CONNECTIONS_IN_ALL: usize = 200_000;
 
-/// The most entries of all access lists.
-pub const MOST_ENTRIES_IN_ALL: usize = 1_000_000;
-
 /// The most members of one profile.
 pub const MOST_MEMBERS: usize = 1_000;
 

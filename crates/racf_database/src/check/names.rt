@@ -1,5 +1,6 @@
 //! Who and what has to be there, or not.
-ghost use Rattle.std.specs.Prelude.{◌≡◌, codes, bytes_eq};
+ghost use Rattle.std.specs.Prelude.{◌≡◌, is_some, codes, bytes_eq};
+ghost use Rattle.racf_profiles.specs.Lookup.{class_of};
 ghost use Rattle.std.specs.Result.{result_err};
 ghost use Rattle.racf_database.specs.Names.{is_taken, is_class_word};
 ghost use Rattle.racf_database.specs.Conflicts.{no_user, no_group, no_owner, no_named_group, no_class, name_taken, not_connected, default_not_connected, default_group, has_profile, has_connected};
@@ -173,7 +174,17 @@ impl Database {
     fn is_class_word(&self, name: Id) -> bool
         ensures { result ≡ is_class_word self.now.rows name }
     {
-        is_user_word(name) || self.classes.class(name).is_some()
+        is_user_word(name) || self.has_class(name)
+    }
+
+    /// Whether the class is in the table.
+    pub(super) fn has_class(&self, name: Id) -> bool
+        ensures { result ≡ is_some (class_of name self.now.rows) }
+    {
+        match self.classes.class(name) {
+            Some(_) => true,
+            None => false,
+        }
     }
 }
 

@@ -1,16 +1,17 @@
 //! Whom PERMIT names, and how many entries there may be after it.
 ghost use Rattle.std.specs.Prelude.{◌≡◌, ◌+◌, ◌-◌, length, fold};
 ghost use Rattle.std.specs.Result.{result_err};
-ghost use Rattle.racf_database.specs.ClassStub.{entries_in};
+ghost use Rattle.class_profiles.specs.Classes.{entries_in};
 ghost use Rattle.racf_database.specs.PermitEffects.{standard_after, conditional_after};
 ghost use Rattle.racf_database.specs.ProfileConflicts.{is_unknown, named_unknown, no_permitted, standard_full, conditional_full, entries_full};
 
 use crate::conflict::{Conflict, Kind};
 use crate::database::Database;
-use crate::limits::{MOST_ENTRIES_IN_ALL, check_count};
+use crate::limits::check_count;
 use crate::made::{conditional_count, standard_count};
 use access_levels::Who;
 use access_lists::MOST_ENTRIES;
+use class_profiles::MOST_ENTRIES as MOST_ENTRIES_IN_ALL;
 use command_parser::Permit;
 use racf_profiles::{Profile, View};
 

@@ -1,10 +1,11 @@
 //! Which profiles and classes have to be there, or not, and how many there may be.
-ghost use Rattle.std.specs.Prelude.{◌≡◌, codes, bytes_eq};
+ghost use Rattle.std.specs.Prelude.{◌≡◌, ◌≤◌, length, codes, bytes_eq};
 ghost use Rattle.std.specs.Result.{result_err, result_ok};
 ghost use Rattle.access_levels.specs.Spelling.{id_of};
-ghost use Rattle.racf_database.specs.ClassStub.{first_qualifier};
+ghost use Rattle.class_profiles.specs.Classes.{first_qualifier};
+ghost use Rattle.class_profiles.specs.Lawful.{most_class_profiles};
 ghost use Rattle.racf_database.specs.ProfileEffects.{dataset};
-ghost use Rattle.racf_database.specs.ProfileConflicts.{no_first_qualifier, no_such_class, no_resource_class, no_global_class, classless, no_profile, profile_taken, has_generic, not_generic, class_profiles_full, profiles_full};
+ghost use Rattle.racf_database.specs.ProfileConflicts.{no_first_qualifier, no_such_class, no_resource_class, no_global_class, classless, no_profile, profile_taken, has_generic, not_generic, profiles_in, class_profiles_full, profiles_full};
 
 use crate::conflict::{Conflict, Kind, Named};
 use crate::database::Database;
@@ -29,9 +30,10 @@ impl Database {
     pub(super) fn check_class(&self, class: Id) -> Result<(), Conflict>
         ensures { result_err result ≡ no_such_class class self.now.rows }
     {
-        match self.classes.class(class) {
-            Some(_) => Ok(()),
-            None => Err(Conflict::NoClass(class)),
+        if self.has_class(class) {
+            Ok(())
+        } else {
+            Err(Conflict::NoClass(class))
         }
     }
 
@@ -61,7 +63,7 @@ impl Database {
         match name {
             None => Ok(()),
             Some(id) => {
-                if global && self.classes.class(id).is_none() {
+                if global && !self.has_class(id) {
                     return Err(Conflict::NoClass(id));
                 }
                 Ok(())
@@ -96,11 +98,19 @@ impl Database {
     pub(super) fn check_class_profiles_fit(&self, class: Id) -> Result<(), Conflict>
         ensures { result_err result ≡ class_profiles_full class self.now.rows }
     {
-        let count = match self.classes.class(class) {
-            Some(table) => table.len(),
+        let count = self.profiles_in(class) + 1;
+        check_count(Kind::ClassProfiles, MOST_CLASS_PROFILES, count)
+    }
+
+    // How many profiles the class has.
+    fn profiles_in(&self, class: Id) -> usize
+        ensures count { result ≡ length (profiles_in class self.now.rows) }
+        ensures few { result ≤ most_class_profiles }
+    {
+        match self.classes.class(class) {
+            Some(table) => table.profiles().len(),
             None => 0,
-        };
-        check_count(Kind::ClassProfiles, MOST_CLASS_PROFILES, count + 1)
+        }
     }
 
     /// One more profile is within the limit of all classes.

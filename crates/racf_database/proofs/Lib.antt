@@ -14,7 +14,6 @@ pub mod IdNames
 pub mod Growth
 pub mod Places
 pub mod ListCounts
-pub mod ClassCounts
 pub mod ProfileReady
 pub mod ProfileCommands
 pub mod ProfileSteps

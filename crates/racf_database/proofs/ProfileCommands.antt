@@ -11,7 +11,6 @@ use Rattle.access_levels.specs.declared.entries.Condition.{Condition}
 use Rattle.access_lists.specs.Lists.{is_for, is_for_under, permitted, withdrawn, permitted_when, withdrawn_when}
 use Rattle.generic_names.specs.declared.kind.NameKind.TheVariants.{DataSet, General}
 use Rattle.generic_names.specs.Spelled.{Spelled}
-use Rattle.generic_names.specs.Laws.{NotBoth, PassedOn}
 use Rattle.racf_profiles.specs.declared.profiles.Profile.{Profile}
 use Rattle.racf_profiles.specs.declared.profiles.Member.{Member}
 use Rattle.racf_profiles.specs.declared.options.Options.{Options}
@@ -44,8 +43,7 @@ use Rattle.racf_database.specs.Kept.{HasFewCategories, CanMake, CanFollow, CanAp
 use Rattle.racf_database.specs.Required.{first_met, over}
 use Rattle.racf_database.specs.ProfileConflicts.{profiles_in, no_resource_class, class_profiles_full, profiles_full, entries_full, categories_full, add_sd_conflicts, r_define_conflicts, r_alter_conflicts, permit_conflicts}
 use Rattle.racf_database.proofs.Unmet.{each_unmet, unmet, or_false, within}
-use Rattle.racf_database.proofs.ClassCounts.{found-le}
-use Rattle.racf_database.proofs.ProfileReady.{dataset-there, can_add, can_replace, class-of-profile}
+use Rattle.racf_database.proofs.ProfileReady.{CountsAreEnough, FoundIsLawful, found-le, dataset-there, can_add, can_replace, class-of-profile}
 
 -- ---- PERMIT with DELETE makes no list longer
 length-withdrawn : {X : Type 0} (p : X → Bool) (xs : List X) → length (filter p xs) ≤ length xs
@@ -95,8 +93,12 @@ module _ (c : Permit) (deletes : c.delete ≡ true) where
   entries-fewer : (old : Profile) → entries_in (permitted_profile c old) ≤ entries_in old
   entries-fewer old = omega (arith, standard-shorter old.standard, conditional_list-shorter old.conditional)
 
+-- the test of the entries of all lists
+abbrev tested : ClassList → Permit → Profile → Option Conflict
+tested tables c old = over AllEntries 1000000 (entry_count tables.classes - entries_in old + entries_in (permitted_profile c old))
+
 -- ---- the room that a put edit has
-module _ (not_both : NotBoth) (passed_on : PassedOn) (users : UserList) (tree : GroupTree) (tables : ClassList) (options : Options) (lawful : AreClasses tables.classes)
+module _ (enough : CountsAreEnough) (lawful_in : FoundIsLawful) (users : UserList) (tree : GroupTree) (tables : ClassList) (options : Options) (lawful : AreClasses tables.classes)
     (few : profile_count tables.classes ≤ 100000) (few_entries : entry_count tables.classes ≤ 1000000) where
   -- a profile that is there, changed
   changed_ready : (class : List ℕ) (name : Spelled) (change : Profile → Profile) → ((old : Profile) → (change old).name ≡ old.name)
@@ -110,7 +112,7 @@ module _ (not_both : NotBoth) (passed_on : PassedOn) (users : UserList) (tree : 
           let at = class-of-profile class name tables.classes old is in
           let in_row : entries_in old ≤ sum_by entries_in (at.0).profiles = found-le (is_profile name) entries_in (at.0).profiles old at.2 in
           let in_all : sum_by entries_in (at.0).profiles ≤ entry_count tables.classes = found-le (is_class class) (λ (r : ClassRow). sum_by entries_in r.profiles) tables.classes at.0 at.1 in
-          can_replace not_both passed_on tables lawful few few_entries class at.0 at.1 name old (change old) at.2 (keeps old) (entries old is (omega (arith, in_row, in_all)))
+          can_replace enough lawful_in tables lawful few few_entries class at.0 at.1 name old (change old) at.2 (keeps old) (let left : entry_count tables.classes - entries_in old + entries_in (change old) ≤ 1000000 = entries old is (omega (arith, in_row, in_all)) in omega (arith, left, in_row, in_all))
 
   -- entries that don't become more
   no_more : (old new : ℕ) → new ≤ old → old ≤ entry_count tables.classes → entry_count tables.classes - old + new ≤ 1000000
@@ -131,7 +133,7 @@ module _ (not_both : NotBoth) (passed_on : PassedOn) (users : UserList) (tree : 
   unfolding class_profiles_full profiles_full
   new_ready class row there new kind none fits count room =
       let here : profiles_in class (rows_of users.users tree.groups tables.classes options) ≡ row.profiles = ap (λ o. option_map_or (λ (r : ClassRow). r.profiles) o []) there in
-      can_add not_both passed_on tables lawful few few_entries class row there new kind none
+      can_add enough lawful_in tables lawful few few_entries class row there new kind none
       (omega (arith, within ClassProfiles 50000 (length (profiles_in class (rows_of users.users tree.groups tables.classes options)) + 1) fits, ap (λ (ps : List Profile). length ps) here))
       (within Profiles 100000 (profile_count tables.classes + 1) count)
       (room (ap is_some there))
@@ -199,10 +201,7 @@ module _ (not_both : NotBoth) (passed_on : PassedOn) (users : UserList) (tree : 
   unfolding entries_full
   entries_unmet c gives old is h =
       within AllEntries 1000000 _
-      (sym (ap (λ b. cond b None (option_and_then (tested c) (profile_in c.class c.profile tables.classes))) gives ∙ ap (option_and_then (tested c)) is) ∙ h)
-    where
-      abbrev tested : Permit → Profile → Option Conflict
-      tested c old = over AllEntries 1000000 (entry_count tables.classes - entries_in old + entries_in (permitted_profile c old))
+      (sym (ap (λ b. cond b None (option_and_then (tested tables c) (profile_in c.class c.profile tables.classes))) gives ∙ ap (option_and_then (tested tables c)) is) ∙ h)
 
   pub ready_permit : (c : Permit) → first_met (permit_conflicts c (rows_of users.users tree.groups tables.classes options)) ≡ None
       → CanApply users tree tables (edits_of_permit c (rows_of users.users tree.groups tables.classes options))

@@ -34,7 +34,7 @@ use Rattle.racf_database.specs.Kept.{CanAddGroup, CanMoveGroup, CanPutGroup, Can
 use Rattle.generic_names.specs.declared.kind.NameKind.{NameKind}
 use Rattle.generic_names.specs.declared.kind.NameKind.TheVariants.{DataSet, General}
 use Rattle.generic_names.specs.Spelled.{Spelled}
-use Rattle.generic_names.specs.Laws.{NotBoth, PassedOn}
+use Rattle.racf_database.proofs.ProfileReady.{CountsAreEnough, FoundIsLawful}
 use Rattle.class_profiles.specs.Lawful.{AreClasses}
 use Rattle.racf_database.proofs.ProfileCommands.{ready_add_sd, ready_alt_sd, ready_r_define, ready_r_alter, ready_permit}
 use Rattle.racf_database.specs.Effects.{at_row, step, new_user, altered_user, new_group, altered_group, connected_user, removed_user, group_or_current}
@@ -188,7 +188,7 @@ module _ (list : UserList) (tree : GroupTree) (tables : ClassList) (options : Op
       }
 
   -- ---- each command
-  module _ (not_both : NotBoth) (passed_on : PassedOn) (lawful_classes : AreClasses tables.classes) (few_profiles : profile_count tables.classes ≤ 100000) (few_entries : entry_count tables.classes ≤ 1000000) where
+  module _ (enough : CountsAreEnough) (lawful_in : FoundIsLawful) (lawful_classes : AreClasses tables.classes) (few_profiles : profile_count tables.classes ≤ 100000) (few_entries : entry_count tables.classes ≤ 1000000) where
     pub can_apply-edits_of : (issuer : Issuer) (command : Form) → fits_its_class command ≡ true → HasRoom tables (edits_of issuer command (rows_of list.users tree.groups tables.classes options)) → conflict_of issuer command (rows_of list.users tree.groups tables.classes options) ≡ None
         → CanApply list tree tables (edits_of issuer command (rows_of list.users tree.groups tables.classes options))
     can_apply-edits_of issuer (form.AddUser c) kind profile_room h = ready_add_user issuer c h
@@ -199,10 +199,10 @@ module _ (list : UserList) (tree : GroupTree) (tables : ClassList) (options : Op
     can_apply-edits_of issuer (form.DelGroup c) kind profile_room h = ready_del_group issuer c h
     can_apply-edits_of issuer (form.Connect c) kind profile_room h = put_ready (connected_user issuer c) (λ user. refl) c.user (few_connect issuer c h)
     can_apply-edits_of issuer (form.Remove c) kind profile_room h = put_ready (removed_user issuer c) (λ user. refl) c.user (not_more (removed_user issuer c) c.user (λ user. length-drop_row-le (is_to (group_or_current issuer c.group)) user.connects))
-    can_apply-edits_of issuer (form.AddSd c) kind profile_room h = ready_add_sd not_both passed_on list tree tables options lawful_classes few_profiles few_entries issuer c (of_data_sets c.profile kind) h profile_room
-    can_apply-edits_of issuer (form.AltSd c) kind profile_room h = ready_alt_sd not_both passed_on list tree tables options lawful_classes few_profiles few_entries c
+    can_apply-edits_of issuer (form.AddSd c) kind profile_room h = ready_add_sd enough lawful_in list tree tables options lawful_classes few_profiles few_entries issuer c (of_data_sets c.profile kind) h profile_room
+    can_apply-edits_of issuer (form.AltSd c) kind profile_room h = ready_alt_sd enough lawful_in list tree tables options lawful_classes few_profiles few_entries c
     can_apply-edits_of issuer (form.DelSd c) kind profile_room h = tt
-    can_apply-edits_of issuer (form.RDefine c) kind profile_room h = ready_r_define not_both passed_on list tree tables options lawful_classes few_profiles few_entries issuer c (general c.profile kind) h profile_room
-    can_apply-edits_of issuer (form.RAlter c) kind profile_room h = ready_r_alter not_both passed_on list tree tables options lawful_classes few_profiles few_entries c h
+    can_apply-edits_of issuer (form.RDefine c) kind profile_room h = ready_r_define enough lawful_in list tree tables options lawful_classes few_profiles few_entries issuer c (general c.profile kind) h profile_room
+    can_apply-edits_of issuer (form.RAlter c) kind profile_room h = ready_r_alter enough lawful_in list tree tables options lawful_classes few_profiles few_entries c h
     can_apply-edits_of issuer (form.RDelete c) kind profile_room h = tt
-    can_apply-edits_of issuer (form.Permit c) kind profile_room h = ready_permit not_both passed_on list tree tables options lawful_classes few_profiles few_entries c h
+    can_apply-edits_of issuer (form.Permit c) kind profile_room h = ready_permit enough lawful_in list tree tables options lawful_classes few_profiles few_entries c h

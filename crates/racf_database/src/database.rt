@@ -75,8 +75,8 @@ impl Database {
         ensures groups { IsTree self.now.rows.groups }
         ensures classes { AreClasses self.now.rows.classes }
     {
+        let _users = self.users.len();
         let _groups = self.tree.len();
-        let _profiles = self.classes.count();
         let users = self.users.rows(alloc)?;
         let groups = group_rows(alloc, &self.tree)?;
         let classes = self.classes.rows(alloc)?;
@@ -112,7 +112,9 @@ fn group_rows(alloc: Global, tree: &Tree) -> Result<Groups, NoMemory>
 {
     let mut items = Vec::new(alloc);
     for place in 0..tree.len() {
-        items.push(*tree.at(place))?;
+        let group = tree.at(place);
+        let _superior: Option<Id> = group.superior;
+        items.push(*group)?;
     }
     Ok(Groups { items })
 }

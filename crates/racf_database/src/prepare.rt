@@ -49,7 +49,8 @@ impl Database {
         let _groups = self.tree.len();
         let _profiles = self.classes.count();
         let _entries = self.classes.entries();
-        generic_names::laws::order_is_total();
+        class_profiles::laws::counts_are_enough();
+        class_profiles::laws::found_is_lawful();
         self.prepared = Some(Change {
             edits: Edits { items: kept },
         });

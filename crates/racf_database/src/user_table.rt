@@ -1,5 +1,5 @@
 //! The users, and what they hold together.
-ghost use Rattle.std.specs.Prelude.{◌≡◌, ℕ, ◌+◌, ◌<◌, ◌≤◌, [], length, find, IfOk, OnOk};
+ghost use Rattle.std.specs.Prelude.{◌≡◌, ℕ, ◌+◌, ◌<◌, ◌≤◌, [], length, find, slice_get, Some, IfOk, OnOk};
 ghost use Rattle.std.specs.Option.{option_copied, option_map_or};
 ghost use Rattle.racf_profiles.specs.Lookup.{is_user};
 ghost use Rattle.racf_profiles.specs.Edits.{put_row, drop_row};
@@ -59,6 +59,7 @@ impl UserTable {
     pub(crate) fn len(&self) -> usize
         ensures count { result ≡ length self.now.users }
         ensures few { result ≤ most_users }
+        ensures lawful { AreUsers self.now.users }
     {
         self.users.len()
     }
@@ -89,14 +90,21 @@ impl UserTable {
 
     /// All users, copied.
     pub(crate) fn rows(&self, alloc: Global) -> Result<Users, NoMemory>
-        ensures rows { IfOk result (λ users. users ≡ self.now.users) }
-        ensures lawful { AreUsers self.now.users }
+        ensures { IfOk result (λ users. users ≡ self.now.users) }
     {
         let mut items = Vec::new(alloc);
-        for user in self.users.values() {
-            items.push(user.copy(alloc)?)?;
+        for place in 0..self.len() {
+            items.push(self.at(place).copy(alloc)?)?;
         }
         Ok(Users { items })
+    }
+
+    // The user at that place, from 0.
+    fn at(&self, place: usize) -> &User
+        requires { place < length self.now.users }
+        ensures { slice_get self.now.users place ≡ Some result.now }
+    {
+        &self.users[place]
     }
 
     /// Makes room for one more user.

@@ -1,5 +1,5 @@
 //! Whom PERMIT names, and how many entries there may be after it.
-ghost use Rattle.std.specs.Prelude.{◌≡◌, ◌+◌, ◌-◌, length, fold};
+ghost use Rattle.std.specs.Prelude.{◌≡◌, ◌+◌, length, find, option_and_then};
 ghost use Rattle.std.specs.Result.{result_err};
 ghost use Rattle.class_profiles.specs.Classes.{entries_in};
 ghost use Rattle.racf_database.specs.PermitEffects.{standard_after, conditional_after};
@@ -24,10 +24,24 @@ impl Database {
         if command.delete {
             return Ok(());
         }
-        match command.id.items.iter().find(|who| self.is_unknown(who)) {
+        self.check_whos(command.id.items.as_slice())
+    }
+
+    // The same of each of them.
+    fn check_whos(&self, whos: &[Who]) -> Result<(), Conflict>
+        ensures { result_err result ≡ option_and_then named_unknown (find (is_unknown self.now.rows) whos.now) }
+    {
+        match self.first_unknown(whos) {
             Some(who) => check_named(who),
             None => Ok(()),
         }
+    }
+
+    // The first that is neither `*`, a user nor a group.
+    fn first_unknown(&self, whos: &[Who]) -> Option<Who>
+        ensures { result ≡ find (is_unknown self.now.rows) whos.now }
+    {
+        whos.iter().copied().find(|who| self.is_unknown(who))
     }
 
     // Whether it is an ID that neither a user nor a group has.
@@ -96,12 +110,12 @@ impl Database {
 }
 
 // An ID that is refused.
-fn check_named(who: &Who) -> Result<(), Conflict>
-    ensures { result_err result ≡ named_unknown who.now }
+fn check_named(who: Who) -> Result<(), Conflict>
+    ensures { result_err result ≡ named_unknown who }
 {
     match who {
         Who::Star => Ok(()),
-        Who::Named(id) => Err(Conflict::NoUser(*id)),
+        Who::Named(id) => Err(Conflict::NoUser(id)),
     }
 }
 

@@ -1,9 +1,10 @@
 //! Which profiles and classes have to be there, or not, and how many there may be.
-ghost use Rattle.std.specs.Prelude.{◌≡◌, ◌≤◌, length, codes, bytes_eq};
+ghost use Rattle.std.specs.Prelude.{◌≡◌, ◌≤◌, ◌==◌, position, length, codes, bytes_eq};
 ghost use Rattle.std.specs.Result.{result_err, result_ok};
 ghost use Rattle.access_levels.specs.Spelling.{id_of};
 ghost use Rattle.class_profiles.specs.Classes.{first_qualifier};
 ghost use Rattle.class_profiles.specs.Lawful.{most_class_profiles};
+ghost use Rattle.generic_names.specs.Spelled.{period};
 ghost use Rattle.racf_database.specs.ProfileEffects.{dataset};
 ghost use Rattle.racf_database.specs.ProfileConflicts.{no_first_qualifier, no_such_class, no_resource_class, no_global_class, classless, no_profile, profile_taken, has_generic, not_generic, profiles_in, class_profiles_full, profiles_full};
 
@@ -161,8 +162,15 @@ fn first_qualifier(name: &Pattern) -> Option<Id>
 fn up_to_period(text: &[u8]) -> &[u8]
     ensures { result.now ≡ first_qualifier text.now }
 {
-    match text.iter().position(|byte| *byte == b'.') {
+    match first_period(text) {
         Some(end) => &text[..end],
         None => text,
     }
+}
+
+// The place of the first period.
+fn first_period(text: &[u8]) -> Option<usize>
+    ensures { result ≡ position (λ byte. byte == period) text.now }
+{
+    text.iter().position(|byte| *byte == b'.')
 }

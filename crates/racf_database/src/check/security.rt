@@ -1,5 +1,6 @@
 //! Levels, categories and labels that a command names.
-ghost use Rattle.std.specs.Prelude.{◌≡◌};
+ghost use Rattle.std.specs.Prelude.{◌≡◌, not, find};
+ghost use Rattle.racf_database.specs.Security.{is_category};
 ghost use Rattle.std.specs.Result.{result_err};
 ghost use Rattle.racf_database.specs.Conflicts.{unknown_level, unknown_category, never_category, unknown_label};
 
@@ -28,14 +29,20 @@ impl Database {
     pub(super) fn check_categories(&self, categories: &Ids) -> Result<(), Conflict>
         ensures { result_err result ≡ unknown_category categories.now self.now.rows }
     {
-        match categories
-            .items
-            .iter()
-            .find(|name| !self.is_category(**name))
-        {
-            Some(name) => Err(Conflict::UnknownName(*name)),
+        match self.first_no_category(categories.items.as_slice()) {
+            Some(name) => Err(Conflict::UnknownName(name)),
             None => Ok(()),
         }
+    }
+
+    // The first of these names that is no category.
+    fn first_no_category(&self, names: &[Id]) -> Option<Id>
+        ensures { result ≡ find (λ name. not (is_category self.now.rows name)) names.now }
+    {
+        names
+            .iter()
+            .copied()
+            .find(|name| !self.is_category(*name))
     }
 
     /// Each category was one at some time.

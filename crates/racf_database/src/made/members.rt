@@ -1,5 +1,5 @@
 //! Members of profiles, and the categories that they define.
-ghost use Rattle.std.specs.Prelude.{◌≡◌, ◌||◌, fold, length, position, IfOk, OnOk, bytes_eq, if◌then◌else◌};
+ghost use Rattle.std.specs.Prelude.{◌≡◌, ◌||◌, ◌&&◌, not, fold, length, position, IfOk, OnOk, bytes_eq, if◌then◌else◌};
 ghost use Rattle.std.specs.List.{list_any};
 ghost use Rattle.racf_database.specs.Members.{member_name, is_member_named, is_named_in, with_member, without_members, members_after, with_category_name, categories_defined, category_growth};
 ghost use Rattle.racf_database.specs.Security.{is_category_member};
@@ -141,19 +141,39 @@ fn growth(member: &Member, before: &[Member], gone: &[MemberName], old: &[Member
     ensures { result ≡ (if list_any (is_member_named (member_name member.now)) (without_members gone.now old.now) || list_any (is_member_named (member_name member.now)) before.now then 0 else 1) }
 {
     let name = member_name(member);
-    if stays(name, gone, old) || before.iter().any(|other| is_member_named(name, other)) {
+    if stays(name, gone, old) || is_among(name, before) {
         0
     } else {
         1
     }
 }
 
+// Whether one of these members has that name.
+fn is_among(name: &[u8], members: &[Member]) -> bool
+    ensures { result ≡ list_any (is_member_named name.now) members.now }
+{
+    members.iter().any(|other| is_member_named(name, other))
+}
+
 // Whether a member of that name stays.
 fn stays(name: &[u8], gone: &[MemberName], old: &[Member]) -> bool
     ensures { result ≡ list_any (is_member_named name.now) (without_members gone.now old.now) }
 {
-    old.iter()
-        .any(|other| is_member_named(name, other) && !is_named_in(gone, other))
+    any_stays(name, gone, old)
+}
+
+// The same, by a walk over the old members.
+fn any_stays(name: &[u8], gone: &[MemberName], old: &[Member]) -> bool
+    ensures { result ≡ list_any (λ member. is_member_named name.now member && not (is_named_in gone.now member)) old.now }
+{
+    old.iter().any(|member| is_kept(name, gone, member))
+}
+
+// Whether it has that name, and stays.
+fn is_kept(name: &[u8], gone: &[MemberName], member: &Member) -> bool
+    ensures { result ≡ (is_member_named name.now member.now && not (is_named_in gone.now member.now)) }
+{
+    is_member_named(name, member) && !is_named_in(gone, member)
 }
 
 /// How many categories were ever defined then. Each one that is added is compared with those before it and with the old ones.
@@ -181,10 +201,23 @@ fn category_growth(member: &Member, before: &[Member], old: &[Id]) -> usize
 fn name_growth(name: Id, before: &[Member], old: &[Id]) -> usize
     ensures { result ≡ (if list_any (λ other. bytes_eq other name) old.now || list_any (is_category_member name) before.now then 0 else 1) }
 {
-    let was = old.iter().any(|other| *other == name);
-    if was || before.iter().any(|other| is_category_member(name, other)) {
+    if is_one_of(name, old) || is_category_among(name, before) {
         0
     } else {
         1
     }
+}
+
+// Whether it is one of these names.
+fn is_one_of(name: Id, names: &[Id]) -> bool
+    ensures { result ≡ list_any (λ other. bytes_eq other name) names.now }
+{
+    names.iter().any(|other| *other == name)
+}
+
+// Whether one of these members is the category of that name.
+fn is_category_among(name: Id, members: &[Member]) -> bool
+    ensures { result ≡ list_any (is_category_member name) members.now }
+{
+    members.iter().any(|other| is_category_member(name, other))
 }

@@ -63,7 +63,7 @@ fn conditional_after(
     let list = Vec::from_slice(alloc, conditional_reset(command.reset, old))?;
     match command.when {
         Some(condition) => {
-            with_conditionals(command, condition, list, command.id.items.as_slice())
+            with_conditionals(command, &condition, list, command.id.items.as_slice())
         }
         None => Ok(list),
     }
@@ -107,11 +107,11 @@ fn with_entries(
 // The same of a conditional list.
 fn with_conditionals(
     command: &Permit,
-    condition: Condition,
+    condition: &Condition,
     list: Vec<CondEntry>,
     whos: &[Who],
 ) -> Result<Vec<CondEntry>, NoMemory>
-    ensures { IfOk result (λ after. after.items ≡ fold (with_conditional command.now condition) list.items whos.now) }
+    ensures { IfOk result (λ after. after.items ≡ fold (with_conditional command.now condition.now) list.items whos.now) }
 {
     let mut list = list;
     for who in whos {
@@ -138,20 +138,31 @@ fn put_entry(command: &Permit, list: &mut Vec<Entry>, who: Who) -> Result<(), No
 // The same of a conditional list.
 fn put_conditional(
     command: &Permit,
-    condition: Condition,
+    condition: &Condition,
     list: &mut Vec<CondEntry>,
     who: Who,
 ) -> Result<(), NoMemory>
-    ensures { OnOk result (list.new.items ≡ with_conditional command.now condition list.old.items who) }
+    ensures { OnOk result (list.new.items ≡ with_conditional command.now condition.now list.old.items who) }
 {
     if command.delete {
-        withdraw_when(list, condition, who);
+        withdraw_when(list, *condition, who);
         return Ok(());
     }
     let level = level_of(command);
-    match permit_when(list, CondEntry { condition, who, level }) {
+    match permit_when(list, conditional_entry(condition, who, level)) {
         Ok(()) => Ok(()),
         Err(_) => Err(AllocError),
+    }
+}
+
+// An entry under a condition.
+fn conditional_entry(condition: &Condition, who: Who, level: Level) -> CondEntry
+    ensures { result ≡ record { condition = condition.now; who = who; level = level } }
+{
+    CondEntry {
+        condition: *condition,
+        who,
+        level,
     }
 }
 
@@ -183,7 +194,7 @@ pub(crate) fn conditional_count(command: &Permit, old: &[CondEntry]) -> usize
     let list = conditional_reset(command.reset, old);
     match command.when {
         Some(condition) => {
-            count_with_conditional(command, condition, list, command.id.items.as_slice())
+            count_with_conditional(command, &condition, list, command.id.items.as_slice())
         }
         None => list.len(),
     }
@@ -205,12 +216,12 @@ fn count_with(command: &Permit, list: &[Entry], whos: &[Who]) -> usize
 // The same of a conditional list.
 fn count_with_conditional(
     command: &Permit,
-    condition: Condition,
+    condition: &Condition,
     list: &[CondEntry],
     whos: &[Who],
 ) -> usize
     requires { command.now.delete ≡ false }
-    ensures { result ≡ length (fold (with_conditional command.now condition) list.now whos.now) }
+    ensures { result ≡ length (fold (with_conditional command.now condition.now) list.now whos.now) }
 {
     let _gives = command.delete;
     let mut count = list.len();
@@ -224,8 +235,7 @@ fn count_with_conditional(
 fn growth(who: &Who, before: &[Who], list: &[Entry]) -> usize
     ensures { result ≡ (if list_any (is_for who.now) list.now || list_any (λ other. is_same_who other who.now) before.now then 0 else 1) }
 {
-    let listed = list.iter().any(|entry| is_same_who(&entry.who, who));
-    if listed || before.iter().any(|other| is_same_who(other, who)) {
+    if is_listed(who, list) || is_among(who, before) {
         0
     } else {
         1
@@ -236,24 +246,45 @@ fn growth(who: &Who, before: &[Who], list: &[Entry]) -> usize
 fn growth_under(
     who: &Who,
     before: &[Who],
-    condition: Condition,
+    condition: &Condition,
     list: &[CondEntry],
 ) -> usize
-    ensures { result ≡ (if list_any (is_for_under condition who.now) list.now || list_any (λ other. is_same_who other who.now) before.now then 0 else 1) }
+    ensures { result ≡ (if list_any (is_for_under condition.now who.now) list.now || list_any (λ other. is_same_who other who.now) before.now then 0 else 1) }
 {
-    let listed = list.iter().any(|entry| is_for_under(entry, condition, who));
-    if listed || before.iter().any(|other| is_same_who(other, who)) {
+    if is_listed_under(who, condition, list) || is_among(who, before) {
         0
     } else {
         1
     }
 }
 
-// Whether a conditional entry is for an ID under a condition.
-fn is_for_under(entry: &CondEntry, condition: Condition, who: &Who) -> bool
-    ensures { result ≡ is_for_under condition who.now entry.now }
+// Whether an ID has an entry.
+fn is_listed(who: &Who, list: &[Entry]) -> bool
+    ensures { result ≡ list_any (is_for who.now) list.now }
 {
-    is_same_port(entry.condition, condition) && is_same_who(&entry.who, who)
+    list.iter().any(|entry| is_same_who(&entry.who, who))
+}
+
+// Whether an ID has an entry under a condition.
+fn is_listed_under(who: &Who, condition: &Condition, list: &[CondEntry]) -> bool
+    ensures { result ≡ list_any (is_for_under condition.now who.now) list.now }
+{
+    list.iter()
+        .any(|entry| is_for_under(entry, condition, who))
+}
+
+// Whether it is one of these.
+fn is_among(who: &Who, whos: &[Who]) -> bool
+    ensures { result ≡ list_any (λ other. is_same_who other who.now) whos.now }
+{
+    whos.iter().any(|other| is_same_who(other, who))
+}
+
+// Whether a conditional entry is for an ID under a condition.
+fn is_for_under(entry: &CondEntry, condition: &Condition, who: &Who) -> bool
+    ensures { result ≡ is_for_under condition.now who.now entry.now }
+{
+    is_same_port(&entry.condition, condition) && is_same_who(&entry.who, who)
 }
 
 // Whether both are `*`, or both one ID.
@@ -277,8 +308,8 @@ fn is_named(who: &Who, id: Id) -> bool
 }
 
 // Whether both name one port.
-fn is_same_port(port: Condition, other: Condition) -> bool
-    ensures { result ≡ is_same_port port other }
+fn is_same_port(port: &Condition, other: &Condition) -> bool
+    ensures { result ≡ is_same_port port.now other.now }
 {
     port.class.name() == other.class.name() && port.name == other.name
 }

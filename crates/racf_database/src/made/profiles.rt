@@ -1,6 +1,7 @@
 //! Profiles as a command makes them.
-ghost use Rattle.std.specs.Prelude.{◌≡◌, [], IfOk};
-ghost use Rattle.racf_database.specs.ProfileEffects.{dataset, new_data_set, altered_data_set, new_resource, altered_resource};
+ghost use Rattle.std.specs.Prelude.{◌≡◌, [], unwrap_or, IfOk};
+ghost use Rattle.access_levels.specs.declared.levels.Level.TheVariants.{NoAccess};
+ghost use Rattle.racf_database.specs.ProfileEffects.{dataset, failures_from_read, new_data_set, altered_data_set, new_resource, altered_resource};
 
 use super::members::members_after;
 use super::security::label_given;
@@ -19,14 +20,14 @@ impl Database {
         Profile {
             name: command.profile,
             owner: owner_or_issuer(issuer, command.owner),
-            uacc: command.uacc.unwrap_or(Level::NoAccess),
+            uacc: first_uacc(command.uacc),
             warning: switched(command.warning, command.nowarning, false),
             standard: no_entries(alloc),
             conditional: no_conditional_entries(alloc),
             level: self.level_given(command.seclevel, false, 0),
             categories: self.with_categories(Categories::NONE, command.addcategory.items.as_slice()),
             label: command.seclabel,
-            audit: command.audit.unwrap_or(FAILURES_FROM_READ),
+            audit: first_audit(command.audit),
             global_audit: NO_AUDIT,
             members: no_members(alloc),
         }
@@ -74,14 +75,14 @@ impl Database {
         Ok(Profile {
             name: command.profile,
             owner: owner_or_issuer(issuer, command.owner),
-            uacc: command.uacc.unwrap_or(Level::NoAccess),
+            uacc: first_uacc(command.uacc),
             warning: switched(command.warning, command.nowarning, false),
             standard: no_entries(alloc),
             conditional: no_conditional_entries(alloc),
             level: self.level_given(command.seclevel, false, 0),
             categories: self.with_categories(Categories::NONE, command.addcategory.items.as_slice()),
             label: command.seclabel,
-            audit: command.audit.unwrap_or(FAILURES_FROM_READ),
+            audit: first_audit(command.audit),
             global_audit: NO_AUDIT,
             members: Members { items: members },
         })
@@ -122,7 +123,21 @@ impl Database {
     }
 }
 
-// What a new profile logs: failures from READ on.
+// The universal access of a new profile: NONE, unless UACC names another.
+fn first_uacc(given: Option<Level>) -> Level
+    ensures { result ≡ unwrap_or given NoAccess }
+{
+    given.unwrap_or(Level::NoAccess)
+}
+
+// What a new profile logs, unless AUDIT names something else.
+fn first_audit(given: Option<AuditRule>) -> AuditRule
+    ensures { result ≡ unwrap_or given failures_from_read }
+{
+    given.unwrap_or(FAILURES_FROM_READ)
+}
+
+// What a new profile logs without AUDIT: failures from READ on.
 const FAILURES_FROM_READ: AuditRule = AuditRule {
     success: None,
     failures: Some(Level::Read),

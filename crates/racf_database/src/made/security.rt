@@ -1,5 +1,5 @@
 //! Security levels, categories and labels, by the live profiles that define them.
-ghost use Rattle.std.specs.Prelude.{◌≡◌, ◌||◌, [], List, ℕ, fold, unwrap_or, option_and_then, is_some, codes, bytes_eq};
+ghost use Rattle.std.specs.Prelude.{◌≡◌, ◌||◌, [], List, ℕ, fold, position, unwrap_or, option_and_then, is_some, codes, bytes_eq};
 ghost use Rattle.std.specs.Option.{option_copied, option_map_or, option_or};
 ghost use Rattle.racf_profiles.specs.Lookup.{profile_of};
 ghost use Rattle.racf_database.specs.Security.{general_name, secdata_members, grade_of, first_grade, level_number, is_category_member, is_category, category_number, is_label, with_category, without_category};
@@ -58,12 +58,10 @@ impl Database {
     pub(crate) fn category_number(&self, name: Id) -> Option<u8>
         ensures { result ≡ category_number self.now.rows name }
     {
-        self.options
-            .categories
-            .items
-            .iter()
-            .position(|other| *other == name)
-            .map(|place| place as u8)
+        match place_of(name, self.options.categories.items.as_slice()) {
+            Some(place) => Some(place as u8),
+            None => None,
+        }
     }
 
     /// Whether it is a category that was defined at some time.
@@ -140,6 +138,13 @@ pub(crate) fn label_given(name: Option<Id>, off: bool, old: Option<Id>) -> Optio
         return None;
     }
     name.or(old)
+}
+
+// The place of a name among these.
+fn place_of(name: Id, names: &[Id]) -> Option<usize>
+    ensures { result ≡ position (λ other. bytes_eq other name) names.now }
+{
+    names.iter().position(|other| *other == name)
 }
 
 // The number of the first security level of that name.

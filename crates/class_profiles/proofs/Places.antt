@@ -193,3 +193,14 @@ pub got-at : (name : List ℕ) (cs : List Roomy) (k : ℕ) → IsAt name cs k �
 got-at name [] k at = absurd at
 got-at name (d ∷ ds) zero at = (d, refl)
 got-at name (d ∷ ds) (suc k) at = got-at name ds k at.1
+
+pub name-found : (name : List ℕ) (row : ClassRow) (classes : List ClassRow) → find (is_class name) classes ≡ Some row → row.name ≡ name
+name-found name row [] found = cc
+name-found name row (c ∷ cs) found = by (is_class name c) refl found (name-found name row cs)
+  where
+    by : (b : Bool) → is_class name c ≡ b → cond b (Some c) (find (is_class name) cs) ≡ Some row → (find (is_class name) cs ≡ Some row → row.name ≡ name) → row.name ≡ name
+    by true is here rest = let same : c ≡ row = cc in (bytes_eq-Decides row.name name).0 (subst (λ (r : ClassRow). is_class name r ≡ true) same is)
+    by false is here rest = rest here
+
+pub lawful-found_by : (name : List ℕ) (row : ClassRow) (classes : List ClassRow) → find (is_class name) classes ≡ Some row → AreClasses classes → AreProfiles (kind_in name) row.profiles
+lawful-found_by name row classes found lawful = subst (λ (n : List ℕ). AreProfiles (kind_in n) row.profiles) (name-found name row classes found) (lawful-found name row classes found lawful)

@@ -61,6 +61,12 @@ first_under qualifier classes =
     option_map (λ (profile : Profile). profile.name)
     (option_and_then (λ (row : ClassRow). find (is_under qualifier) row.profiles) (find (is_class (codes "DATASET")) classes))
 
+-- There is room for one profile more in a class, and neither its profiles nor all are as many as there may be.
+pub record IsRoomFor (list : ClassList) (class : List ℕ) (row : ClassRow) : Type 0 where
+  pub room : 0 < room_in class list
+  pub few_in_class : length row.profiles < most_class_profiles
+  pub few : profile_count list.classes < most_profiles
+
 -- The profile has a name of the class's kind, a profile of its name or room for one more is there, and the limits are kept.
 pub record CanPutIn (list : ClassList) (class : List ℕ) (profile : Profile) : Type 0 where
   pub kind : profile.name.kind ≡ kind_in class

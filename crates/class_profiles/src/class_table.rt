@@ -5,7 +5,7 @@ ghost use Rattle.generic_names.specs.Spelled.{period};
 ghost use Rattle.racf_profiles.specs.ClassTable.{class_name};
 ghost use Rattle.racf_profiles.specs.NewDatabase.{empty_class};
 ghost use Rattle.racf_profiles.specs.Lookup.{is_profile};
-ghost use Rattle.racf_profiles.specs.Edits.{put_profile, with_profile, without_profile};
+ghost use Rattle.racf_profiles.specs.Edits.{put_profile, with_profile, without_profile, with_flags, with_listed};
 ghost use Rattle.class_profiles.specs.Lawful.{AreProfiles, kind_in};
 ghost use Rattle.class_profiles.specs.Table.{CanPut};
 ghost use Rattle.class_profiles.specs.Classes.{is_under, first_qualifier};
@@ -141,6 +141,24 @@ impl ClassTable {
         ensures lawful { AreProfiles (kind_in self.old.row.name) self.new.row.profiles }
     {
         self.profiles.remove(name);
+    }
+
+    // Sets whether the class is active, whether the global access table is used for it, and its log option.
+    pub(crate) fn set_flags(&mut self, active: bool, global: bool, log: LogOption)
+        ensures row { self.new.row ≡ with_flags active global log self.old.row }
+        ensures spare { self.new.spare ≡ self.old.spare }
+    {
+        self.active = active;
+        self.global = global;
+        self.log = log;
+    }
+
+    // Sets whether it is RACLISTed.
+    pub(crate) fn set_listed(&mut self, listed: bool)
+        ensures row { self.new.row ≡ with_listed listed self.old.row }
+        ensures spare { self.new.spare ≡ self.old.spare }
+    {
+        self.listed = listed;
     }
 
     // The row of the class, with copies of its profiles.

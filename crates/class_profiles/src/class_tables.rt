@@ -6,7 +6,7 @@ ghost use Rattle.std.specs.Str.{bytes_eq};
 ghost use Rattle.racf_profiles.specs.ClassTable.{is_dataset};
 ghost use Rattle.racf_profiles.specs.NewDatabase.{new_classes};
 ghost use Rattle.racf_profiles.specs.Lookup.{is_class, is_profile};
-ghost use Rattle.racf_profiles.specs.Edits.{put_profile, at_class, with_profile, without_profile};
+ghost use Rattle.racf_profiles.specs.Edits.{put_profile, at_class, with_profile, without_profile, with_flags, with_listed};
 ghost use Rattle.class_profiles.specs.Lawful.{AreClasses, most_profiles};
 ghost use Rattle.class_profiles.specs.Summed.{rows_in};
 ghost use Rattle.class_profiles.specs.Classes.{most_entries, entries_in, profile_count, entry_count, room_in, profile_in, first_under, CanPutIn};
@@ -14,7 +14,7 @@ ghost use Rattle.class_profiles.specs.Classes.{most_entries, entries_in, profile
 use crate::class_table::ClassTable;
 use access_levels::Id;
 use generic_names::Pattern;
-use racf_profiles::{ClassRows, FixedClass, NoMemory, Profile};
+use racf_profiles::{ClassRows, FixedClass, LogOption, NoMemory, Profile};
 use std::alloc::Global;
 use std::marker::Model;
 
@@ -134,6 +134,29 @@ impl ClassTables {
         self.count -= gone.profiles;
         self.entries -= gone.entries;
         self.classes[place].remove(name);
+    }
+
+    /// Sets whether a class is active, whether the global access table is used for it, and its log option. An unknown
+    /// class changes nothing.
+    pub fn set_flags(&mut self, class: Id, active: bool, global: bool, log: LogOption)
+        ensures classes { self.new.classes ≡ at_class class (with_flags active global log) self.old.classes }
+        ensures kept { (name : List ℕ) → room_in name self.old ≤ room_in name self.new }
+    {
+        let Some(place) = place_of(&self.classes, class) else {
+            return;
+        };
+        self.classes[place].set_flags(active, global, log);
+    }
+
+    /// Sets whether a class is RACLISTed. An unknown class changes nothing.
+    pub fn set_listed(&mut self, class: Id, listed: bool)
+        ensures classes { self.new.classes ≡ at_class class (with_listed listed) self.old.classes }
+        ensures kept { (name : List ℕ) → room_in name self.old ≤ room_in name self.new }
+    {
+        let Some(place) = place_of(&self.classes, class) else {
+            return;
+        };
+        self.classes[place].set_listed(listed);
     }
 
     /// The name of the first profile of DATASET, in order of specificity, that has that first qualifier. It goes

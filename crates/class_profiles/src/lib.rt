@@ -3,6 +3,7 @@
 
 mod class_table;
 mod class_tables;
+pub mod laws;
 mod limits;
 mod table;
 
@@ -11,3 +12,6 @@ pub use class_tables::ClassTables;
 pub use limits::{MOST_CLASS_PROFILES, MOST_ENTRIES, MOST_PROFILES};
 pub use racf_profiles::NoMemory;
 pub use table::ProfileTable;
+
+#[cfg(test)]
+mod tests;

@@ -1,5 +1,5 @@
 -- How a list grows to which things are put one by one, each in place of the one like it, or else added.
-use Rattle.std.proofs.Common.{◌≡◌, ℕ, ◌+◌, Bool, true, false, cond, ◌||◌, List, [], ◌∷◌, length, refl, sym, ap, ◌∙◌, arith}
+use Rattle.std.proofs.Common.{◌≡◌, ℕ, ◌+◌, ◌-◌, ◌≤◌, Bool, true, false, cond, ◌||◌, List, [], ◌∷◌, length, refl, sym, ap, ◌∙◌, arith}
 use Rattle.std.specs.Prelude.{fold}
 use Rattle.std.specs.List.{list_any}
 
@@ -25,6 +25,7 @@ module _ {X K : Type 0} (put : (X → Bool) → X → List X → List X) (is : K
       twice true a = refl
       twice false true = refl
       twice false false = refl
+
       by : (t : Bool) → is k x ≡ t → list_any (is j) (put (is k) (made k) xs) ≡ (list_any (is j) xs || same k j)
           → list_any (is j) (cond t (made k ∷ xs) (x ∷ put (is k) (made k) xs)) ≡ ((is j x || list_any (is j) xs) || same k j)
       by true t rest =
@@ -52,3 +53,12 @@ module _ {X K : Type 0} (put : List X → K → List X) (is : K → X → Bool) 
 
   pub length-more : (k : K) (list : List X) (ks : List K) → length (put (fold put list ks) k) ≡ length (fold put list ks) + cond (list_any (is k) list || list_any (λ j. same j k) ks) 0 1
   length-more k list ks = length_put k (fold put list ks) ∙ ap (λ b. length (fold put list ks) + cond b 0 1) (any-fold k list ks)
+
+-- the count of what there is and of what is still to come, one step further
+pub one_less : (b : Bool) (count before after left repeats : ℕ) → count ≡ before + (left + 1) → after ≡ before + cond b 0 1 → repeats ≡ cond b 1 0 → count - repeats ≡ after + left
+one_less true count before after left repeats h more r = omega (arith, h, more, r)
+one_less false count before after left repeats h more r = omega (arith, h, more, r)
+
+pub at_least : (b : Bool) (count before left repeats : ℕ) → count ≡ before + (left + 1) → repeats ≡ cond b 1 0 → repeats ≤ count
+at_least true count before left repeats h r = omega (arith, h, r)
+at_least false count before left repeats h r = omega (arith, h, r)

@@ -9,7 +9,7 @@ use Rattle.generic_names.specs.declared.kind.NameKind.TheVariants.{General}
 use Rattle.generic_names.specs.declared.fault.NameFault.{NameFault}
 use Rattle.generic_names.specs.declared.fault.NameFault.TheVariants as fault
 use Rattle.access_levels.specs.declared.ids.IdFault.TheVariants as idfault
-use Rattle.generic_names.specs.Faults.{has_generic, is_ordinary, is_whole, byte_fault, bytes_fault, qualifier_fault, qualifiers_fault, fault_of, pattern_of, unless}
+use Rattle.generic_names.specs.Faults.{has_generic, is_ordinary, is_whole, byte_fault, bytes_fault, qualifier_fault, qualifiers_fault, fault_of, name_of, pattern_of, unless}
 use Rattle.generic_names.specs.Spelled.{Spelled, qualifiers}
 use Rattle.racf_database.specs.Security.{general_name}
 
@@ -29,27 +29,27 @@ none_bad place (b ∷ bs) h = by (is_id_byte b) refl h (none_bad (place + 1) bs)
 
 -- no such byte is a period, `%` or `*`
 is_none_of : (b c : ℕ) → is_id_byte c ≡ false → is_id_byte b ≡ true → (b == c) ≡ false
-is_none_of b c no yes = by (b == c) refl
+is_none_of b c unlike like = by (b == c) refl
   where
     by : (t : Bool) → (b == c) ≡ t → t ≡ false
     by false e = refl
     by true e =
         let same : b ≡ c = grind (arith, nat_tests) in
-        sym (sym no ∙ ap is_id_byte (sym same) ∙ yes)
+        sym (sym unlike ∙ ap is_id_byte (sym same) ∙ like)
 
-reordered : (u d x y z m s c : Bool) → (u || d || x || y || z) ≡ true → ((u || x || y || z) || d || m || s || c) ≡ true
-reordered true d x y z m s c h = refl
-reordered false true true y z m s c h = refl
-reordered false true false true z m s c h = refl
-reordered false true false false true m s c h = refl
-reordered false true false false false m s c h = refl
-reordered false false true y z m s c h = refl
-reordered false false false true z m s c h = refl
-reordered false false false false true m s c h = refl
-reordered false false false false false m s c h = absurd (true≢false (sym h))
+reordered : (u d x y z m s c e : Bool) → (u || d || x || y || z) ≡ true → ((u || x || y || z) || d || m || s || c || e) ≡ true
+reordered true d x y z m s c e h = refl
+reordered false true true y z m s c e h = refl
+reordered false true false true z m s c e h = refl
+reordered false true false false true m s c e h = refl
+reordered false true false false false m s c e h = refl
+reordered false false true y z m s c e h = refl
+reordered false false false true z m s c e h = refl
+reordered false false false false true m s c e h = refl
+reordered false false false false false m s c e h = absurd (true≢false (sym h))
 
 ordinary : (first : Bool) (b : ℕ) → is_id_byte b ≡ true → is_ordinary General first b ≡ true
-ordinary first b h = reordered (nat_le 65 b && nat_le b 90) (nat_le 48 b && nat_le b 57) (b == 35) (b == 36) (b == 64) (b == 45) (b == 95) ((b == 47) || (b == 58)) h
+ordinary first b h = reordered (nat_le 65 b && nat_le b 90) (nat_le 48 b && nat_le b 57) (b == 35) (b == 36) (b == 64) (b == 45) (b == 95) (b == 47) (b == 58) h
 
 no_fault : (form : _) (first last : Bool) (place b : ℕ) → is_id_byte b ≡ true → byte_fault form General first last place b ≡ None
 no_fault form first last place b h = by (has_generic form) (b == 37) (b == 42) (is_ordinary General first b) (is_none_of b 37 refl h) (is_none_of b 42 refl h) (ordinary first b h)
@@ -71,13 +71,16 @@ one_qualifier (b ∷ bs) h =
     ap (λ t. cond t ([] ∷ slice_split (λ b. b == 46) bs) (onto_first b (slice_split (λ b. b == 46) bs))) (is_none_of b 46 refl h.0)
     ∙ ap (onto_first b) (one_qualifier bs h.1)
 
+abbrev nothing : Option NameFault
+nothing = None
+
 lawful_qualifier : (form : _) (q : List ℕ) → (length q == 0) ≡ false → AreIdBytes q → qualifiers_fault form General 1 1 (q ∷ []) ≡ None
 lawful_qualifier form q some bytes =
     ap (λ t. option_or (cond t (Some (fault.EmptyQualifier 1)) (option_or (cond (is_whole form q) None (bytes_fault form General true 1 q)) None)) None) some
     ∙ ap (λ f. option_or (option_or (cond (is_whole form q) None f) None) None) (no_faults form true 1 q bytes)
     ∙ either (is_whole form q)
   where
-    either : (w : Bool) → option_or {NameFault} (option_or (cond w None None) None) None ≡ None
+    either : (w : Bool) → option_or (option_or (cond w nothing nothing) nothing) nothing ≡ nothing
     either true = refl
     either false = refl
 
@@ -97,5 +100,8 @@ no_fault_of form id h = by (length id == 0) (nat_lt 8 (length id)) (bad_byte id)
         ∙ ap (qualifiers_fault form General 1 1) (one_qualifier id bytes)
         ∙ lawful_qualifier form id e bytes
 
+named_for : (form : _) (id : List ℕ) → id_of id ≡ Ok id → name_of form General id ≡ Ok (general_name id)
+named_for form id h = ap (λ f. unless f (general_name id)) (no_fault_of form id h)
+
 pub general-id : (id : List ℕ) → id_of id ≡ Ok id → pattern_of General id ≡ Ok (general_name id)
-general-id id h = ap (λ f. unless f (general_name id)) (no_fault_of _ id h)
+general-id id h = search (named_for)

@@ -17,3 +17,4 @@ pub mod ListCounts
 pub mod ProfileReady
 pub mod ProfileCommands
 pub mod ProfileSteps
+pub mod EditLaws

@@ -1,6 +1,8 @@
 -- How many entries, members and categories there are, once more are put.
 use Rattle.std.proofs.Common.{◌≡◌, ℕ, ◌+◌, ◌≤◌, Bool, true, false, cond, ◌||◌, ◌&&◌, not, List, [], ◌∷◌, ◌++◌, length, refl, sym, ap, ◌∙◌, true≢false, arith, bytes_eq, length-append}
-use Rattle.std.specs.Prelude.{fold, filter}
+use Rattle.std.specs.Prelude.{fold, filter, count_by}
+use Rattle.std.proofs.lemmas.List.Sums.{length-filter}
+use Rattle.std.proofs.lemmas.List.Filters.{length-filter_both}
 use Rattle.std.specs.List.{list_any}
 use Rattle.access_levels.specs.declared.levels.Level.{Level}
 use Rattle.access_levels.specs.declared.entries.Who.{Who}
@@ -16,7 +18,7 @@ use Rattle.command_parser.specs.declared.profile_forms.Permit.{Permit}
 use Rattle.group_tree.proofs.Rows.{same, itself}
 use Rattle.racf_database.specs.Security.{is_category_member}
 use Rattle.racf_database.specs.UserEffects.{with_class}
-use Rattle.racf_database.specs.Members.{member_name, is_member_named, with_member, with_category_name, category_growth}
+use Rattle.racf_database.specs.Members.{member_name, is_member_named, with_member, with_category_name, category_repeats}
 use Rattle.racf_database.specs.PermitEffects.{level_of, with_entry, with_conditional}
 use Rattle.racf_database.proofs.Growth.{or-assoc, or-comm, any-put, length-put, any-fold, length-more}
 
@@ -156,8 +158,27 @@ any-categories name (m ∷ ms) names =
     any-categories name ms (with_category_name names m) ∙ ap (λ b. b || list_any (is_category_member name) ms) (any-category name m names)
     ∙ or-assoc (has_name name names) (is_category_member name m) (list_any (is_category_member name) ms)
 
-pub categories-more : (names : List (List ℕ)) (ms : List Member) (m : Member) → length (with_category_name (fold with_category_name names ms) m) ≡ length (fold with_category_name names ms) + category_growth m ms names
-categories-more names ms (Access resources level) = omega arith
-categories-more names ms (Grade other number) = omega arith
+pub categories-more : (names : List (List ℕ)) (ms : List Member) (m : Member) → length (with_category_name (fold with_category_name names ms) m) + category_repeats m ms names ≡ length (fold with_category_name names ms) + 1
+categories-more names ms (Access resources level) = refl
+categories-more names ms (Grade other number) = refl
 categories-more names ms (Category c) =
-    length-class c (fold with_category_name names ms) ∙ ap (λ b. length (fold with_category_name names ms) + cond b 0 1) (any-categories c ms names)
+    let more : length (with_class (fold with_category_name names ms) c) ≡ length (fold with_category_name names ms) + cond (has_name c names || list_any (is_category_member c) ms) 0 1 =
+    length-class c (fold with_category_name names ms) ∙ ap (λ b. length (fold with_category_name names ms) + cond b 0 1) (any-categories c ms names) in
+    either (has_name c names || list_any (is_category_member c) ms) (length (with_class (fold with_category_name names ms) c)) (length (fold with_category_name names ms)) more
+  where
+    either : (b : Bool) (after before : ℕ) → after ≡ before + cond b 0 1 → after + cond b 1 0 ≡ before + 1
+    either true after before h = omega (arith, h)
+    either false after before h = omega (arith, h)
+
+pub category_repeats-le : (m : Member) (ms : List Member) (names : List (List ℕ)) → category_repeats m ms names ≤ 1
+category_repeats-le (Access resources level) ms names = omega arith
+category_repeats-le (Grade other number) ms names = omega arith
+category_repeats-le (Category c) ms names = either (has_name c names || list_any (is_category_member c) ms)
+  where
+    either : (b : Bool) → cond b 1 0 ≤ 1
+    either true = omega arith
+    either false = omega arith
+
+-- those that pass and those that don't
+pub count-filter : {X : Type 0} (p : X → Bool) (xs : List X) → count_by p xs + length (filter (λ x. not (p x)) xs) ≡ length xs
+count-filter p xs = omega (arith, length-filter p xs, length-filter_both p (λ x. not (p x)) (λ x. refl) xs)

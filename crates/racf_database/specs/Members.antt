@@ -46,8 +46,9 @@ categories_defined added names = fold with_category_name names added
 abbrev pub options_after : List Member → Options → Options
 options_after added options = record options { categories = categories_defined added options.categories }
 
--- How many categories a member defines anew: one that is neither among these nor among the members before it.
-abbrev pub category_growth : Member → List Member → List (List ℕ) → ℕ
-category_growth (Access resources level) before names = 0
-category_growth (Grade name number) before names = 0
-category_growth (Category name) before names = if list_any (λ other. bytes_eq other name) names || list_any (is_category_member name) before then 0 else 1
+-- 1 for a member that defines no category anew, since it is none, or one that is among these or among the members before it;
+-- else 0.
+abbrev pub category_repeats : Member → List Member → List (List ℕ) → ℕ
+category_repeats (Access resources level) before names = 1
+category_repeats (Grade name number) before names = 1
+category_repeats (Category name) before names = if list_any (λ other. bytes_eq other name) names || list_any (is_category_member name) before then 1 else 0

@@ -14,8 +14,7 @@ mod users;
 
 use crate::conflict::Conflict;
 use crate::database::Database;
-use crate::made::group_or_current;
-use crate::made::dataset;
+use crate::made::{dataset, group_or_current};
 use command_parser::{
     AddGroup, AddSd, AddUser, AltGroup, AltSd, AltUser, Command, Connect, DelGroup, DelSd, DelUser,
     Form, Issuer, Permit, RAlter, RDefine, RDelete, Remove,

@@ -77,6 +77,7 @@ impl Database {
     {
         let _users = self.users.len();
         let _groups = self.tree.len();
+        let _profiles = self.classes.count();
         let users = self.users.rows(alloc)?;
         let groups = group_rows(alloc, &self.tree)?;
         let classes = self.classes.rows(alloc)?;

@@ -9,7 +9,7 @@ ghost use Rattle.racf_database.specs.Edits.{edits_of, put_user, put_group};
 mod profiles;
 
 use crate::database::Database;
-use crate::made::{dataset, altered_group, connected_user, new_group, removed_user};
+use crate::made::{altered_group, connected_user, dataset, new_group, removed_user};
 use command_parser::{AltGroup, AltUser, Command, Connect, Form, Issuer, Remove};
 use racf_profiles::{Edit, NoMemory, View};
 use std::alloc::Global;

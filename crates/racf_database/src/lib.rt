@@ -15,7 +15,8 @@ mod user_table;
 pub use conflict::{Conflict, Holder, Kind, Named};
 pub use database::Database;
 pub use limits::{
-    MOST_CATEGORIES, MOST_CONNECTIONS, MOST_CONNECTIONS_IN_ALL, MOST_GROUPS, MOST_MEMBERS, MOST_USERS,
+    MOST_CATEGORIES, MOST_CONNECTIONS, MOST_CONNECTIONS_IN_ALL, MOST_GROUPS, MOST_MEMBERS,
+    MOST_USERS,
 };
 
 #[cfg(test)]

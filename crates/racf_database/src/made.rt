@@ -12,10 +12,10 @@ mod users;
 
 use access_levels::Id;
 use command_parser::{AddGroup, AltGroup, Issuer};
-use racf_profiles::Group;
 pub(crate) use members::{categories_count, categories_defined, members_count};
 pub(crate) use permit::{conditional_count, permitted_profile, standard_count};
 pub(crate) use profiles::dataset;
+use racf_profiles::Group;
 pub(crate) use users::{attributes_after, connected_user, removed_user};
 
 /// The group that is named, or else the issuer's current one.

@@ -25,7 +25,7 @@ pub(crate) struct UserTable {
 
 impl Model for UserTable {
     ghost use Rattle.class_profiles.specs.Lawful.{AreUsers};
-ghost use Rattle.racf_database.specs.UserList.{UserList};
+    ghost use Rattle.racf_database.specs.UserList.{UserList};
 
     ghost Value = { UserList };
 

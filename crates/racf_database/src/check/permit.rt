@@ -1,13 +1,12 @@
 //! Whom PERMIT names, and how many entries there may be after it.
-ghost use Rattle.std.specs.Prelude.{◌≡◌, ◌+◌, length, find, option_and_then};
+ghost use Rattle.std.specs.Prelude.{◌≡◌, find, option_and_then};
 ghost use Rattle.std.specs.Result.{result_err};
 ghost use Rattle.class_profiles.specs.Classes.{entries_in};
-ghost use Rattle.racf_database.specs.PermitEffects.{standard_after, conditional_after};
 ghost use Rattle.racf_database.specs.ProfileConflicts.{is_unknown, named_unknown, no_permitted, standard_full, conditional_full, entries_full};
 
 use crate::conflict::{Conflict, Kind};
 use crate::database::Database;
-use crate::limits::check_count;
+use crate::limits::{check_count, check_sum};
 use crate::made::{conditional_count, standard_count};
 use access_levels::Who;
 use access_lists::MOST_ENTRIES;
@@ -100,10 +99,12 @@ impl Database {
         }
         match self.profile(command.class, &command.profile) {
             None => Ok(()),
-            Some(old) => check_count(
+            Some(old) => check_sum(
                 Kind::AllEntries,
                 MOST_ENTRIES_IN_ALL,
-                self.classes.entries().saturating_sub(entries_in(old)) + entries_after(command, old),
+                self.classes.entries().saturating_sub(entries_in(old)),
+                standard_count(command, old.standard.items.as_slice()),
+                conditional_count(command, old.conditional.items.as_slice()),
             ),
         }
     }
@@ -124,12 +125,4 @@ fn entries_in(profile: &Profile) -> usize
     ensures { result ≡ entries_in profile.now }
 {
     profile.standard.items.len() + profile.conditional.items.len()
-}
-
-// How many entries a profile has after PERMIT.
-fn entries_after(command: &Permit, old: &Profile) -> usize
-    ensures { result ≡ length (standard_after command.now old.now.standard) + length (conditional_after command.now old.now.conditional) }
-{
-    standard_count(command, old.standard.items.as_slice())
-        + conditional_count(command, old.conditional.items.as_slice())
 }

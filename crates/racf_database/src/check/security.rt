@@ -39,10 +39,7 @@ impl Database {
     fn first_no_category(&self, names: &[Id]) -> Option<Id>
         ensures { result ≡ find (λ name. not (is_category self.now.rows name)) names.now }
     {
-        names
-            .iter()
-            .copied()
-            .find(|name| !self.is_category(*name))
+        names.iter().copied().find(|name| !self.is_category(*name))
     }
 
     /// Each category was one at some time.

@@ -67,11 +67,7 @@ impl Database {
     }
 
     // The edit of the profile that RALTER changes.
-    fn put_altered_resource(
-        &self,
-        alloc: Global,
-        command: &RAlter,
-    ) -> Result<Vec<Edit>, NoMemory>
+    fn put_altered_resource(&self, alloc: Global, command: &RAlter) -> Result<Vec<Edit>, NoMemory>
         ensures { IfOk result (λ edits. edits.items ≡ put_changed command.now.class (altered_resource command.now self.now.rows) (profile_of command.now.class command.now.profile self.now.rows)) }
     {
         match self.profile(command.class, &command.profile) {

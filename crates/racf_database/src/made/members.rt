@@ -1,7 +1,7 @@
 //! Members of profiles, and the categories that they define.
-ghost use Rattle.std.specs.Prelude.{◌≡◌, ◌||◌, ◌&&◌, not, fold, length, position, IfOk, OnOk, bytes_eq, if◌then◌else◌};
+ghost use Rattle.std.specs.Prelude.{◌≡◌, ◌+◌, ◌||◌, ◌&&◌, not, fold, count_by, length, position, IfOk, OnOk, bytes_eq, if◌then◌else◌};
 ghost use Rattle.std.specs.List.{list_any};
-ghost use Rattle.racf_database.specs.Members.{member_name, is_member_named, is_named_in, with_member, without_members, members_after, with_category_name, categories_defined, category_growth};
+ghost use Rattle.racf_database.specs.Members.{member_name, is_member_named, is_named_in, with_member, without_members, members_after, with_category_name, categories_defined, category_repeats};
 ghost use Rattle.racf_database.specs.Security.{is_category_member};
 
 use super::classes::add_class;
@@ -88,7 +88,9 @@ fn put_member(members: &mut Vec<Member>, member: Member) -> Result<(), NoMemory>
 fn place_of(members: &[Member], name: &[u8]) -> Option<usize>
     ensures { result ≡ position (is_member_named name.now) members.now }
 {
-    members.iter().position(|other| is_member_named(name, other))
+    members
+        .iter()
+        .position(|other| is_member_named(name, other))
 }
 
 /// The names of categories with those that are new behind them.
@@ -120,31 +122,39 @@ fn define_category(names: &mut Vec<Id>, member: &Member) -> Result<(), NoMemory>
 pub(crate) fn members_count(added: &[Member], gone: &[MemberName], old: &[Member]) -> usize
     ensures { result ≡ length (members_after added.now gone.now old.now) }
 {
-    let mut count = count_without(gone, old);
+    let mut count = old.len() + added.len() - count_gone(gone, old);
     for (i, member) in added.iter().enumerate() {
-        count += growth(member, &added[..i], gone, old);
+        count -= repeats(member, &added[..i], gone, old);
     }
     count
 }
 
-// How many members stay.
-fn count_without(gone: &[MemberName], old: &[Member]) -> usize
-    ensures { result ≡ length (without_members gone.now old.now) }
+// How many members go.
+fn count_gone(gone: &[MemberName], old: &[Member]) -> usize
+    ensures { result + length (without_members gone.now old.now) ≡ length old.now }
 {
-    old.iter()
-        .filter(|member| !is_named_in(gone, member))
+    count_named_in(gone, old)
+}
+
+// How many members have one of these names.
+fn count_named_in(names: &[MemberName], members: &[Member]) -> usize
+    ensures { result ≡ count_by (is_named_in names.now) members.now }
+{
+    members
+        .iter()
+        .filter(|member| is_named_in(names, member))
         .count()
 }
 
-// How many members one adds: none where one of its name stays, or was added before it.
-fn growth(member: &Member, before: &[Member], gone: &[MemberName], old: &[Member]) -> usize
-    ensures { result ≡ (if list_any (is_member_named (member_name member.now)) (without_members gone.now old.now) || list_any (is_member_named (member_name member.now)) before.now then 0 else 1) }
+// 1 for a member that adds none, since one of its name stays or was added before it, else 0.
+fn repeats(member: &Member, before: &[Member], gone: &[MemberName], old: &[Member]) -> usize
+    ensures { result ≡ (if list_any (is_member_named (member_name member.now)) (without_members gone.now old.now) || list_any (is_member_named (member_name member.now)) before.now then 1 else 0) }
 {
     let name = member_name(member);
     if stays(name, gone, old) || is_among(name, before) {
-        0
-    } else {
         1
+    } else {
+        0
     }
 }
 
@@ -180,31 +190,31 @@ fn is_kept(name: &[u8], gone: &[MemberName], member: &Member) -> bool
 pub(crate) fn categories_count(added: &[Member], old: &[Id]) -> usize
     ensures { result ≡ length (categories_defined added.now old.now) }
 {
-    let mut count = old.len();
+    let mut count = old.len() + added.len();
     for (i, member) in added.iter().enumerate() {
-        count += category_growth(member, &added[..i], old);
+        count -= category_repeats(member, &added[..i], old);
     }
     count
 }
 
-// How many categories a member adds: none where it is no category, or was one before.
-fn category_growth(member: &Member, before: &[Member], old: &[Id]) -> usize
-    ensures { result ≡ category_growth member.now before.now old.now }
+// 1 for a member that defines no category anew, else 0.
+fn category_repeats(member: &Member, before: &[Member], old: &[Id]) -> usize
+    ensures { result ≡ category_repeats member.now before.now old.now }
 {
     match member {
-        Member::Category(name) => name_growth(*name, before, old),
-        _ => 0,
+        Member::Category(name) => name_repeats(*name, before, old),
+        _ => 1,
     }
 }
 
 // The same of a category's name.
-fn name_growth(name: Id, before: &[Member], old: &[Id]) -> usize
-    ensures { result ≡ (if list_any (λ other. bytes_eq other name) old.now || list_any (is_category_member name) before.now then 0 else 1) }
+fn name_repeats(name: Id, before: &[Member], old: &[Id]) -> usize
+    ensures { result ≡ (if list_any (λ other. bytes_eq other name) old.now || list_any (is_category_member name) before.now then 1 else 0) }
 {
     if is_one_of(name, old) || is_category_among(name, before) {
-        0
-    } else {
         1
+    } else {
+        0
     }
 }
 

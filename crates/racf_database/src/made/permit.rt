@@ -38,11 +38,7 @@ pub(crate) fn permitted_profile(
 }
 
 // A standard list after PERMIT.
-fn standard_after(
-    alloc: Global,
-    command: &Permit,
-    old: &[Entry],
-) -> Result<Vec<Entry>, NoMemory>
+fn standard_after(alloc: Global, command: &Permit, old: &[Entry]) -> Result<Vec<Entry>, NoMemory>
     ensures { IfOk result (λ list. list.items ≡ standard_after command.now old.now) }
 {
     let list = Vec::from_slice(alloc, standard_reset(command.reset, old))?;
@@ -90,11 +86,7 @@ pub(crate) fn conditional_reset(reset: Option<Reset>, list: &[CondEntry]) -> &[C
 }
 
 // The list with the entries of all IDs, or without them.
-fn with_entries(
-    command: &Permit,
-    list: Vec<Entry>,
-    whos: &[Who],
-) -> Result<Vec<Entry>, NoMemory>
+fn with_entries(command: &Permit, list: Vec<Entry>, whos: &[Who]) -> Result<Vec<Entry>, NoMemory>
     ensures { IfOk result (λ after. after.items ≡ fold (with_entry command.now) list.items whos.now) }
 {
     let mut list = list;
@@ -206,9 +198,9 @@ fn count_with(command: &Permit, list: &[Entry], whos: &[Who]) -> usize
     ensures { result ≡ length (fold (with_entry command.now) list.now whos.now) }
 {
     let _gives = command.delete;
-    let mut count = list.len();
+    let mut count = list.len() + whos.len();
     for (i, who) in whos.iter().enumerate() {
-        count += growth(who, &whos[..i], list);
+        count -= repeats(who, &whos[..i], list);
     }
     count
 }
@@ -224,37 +216,32 @@ fn count_with_conditional(
     ensures { result ≡ length (fold (with_conditional command.now condition.now) list.now whos.now) }
 {
     let _gives = command.delete;
-    let mut count = list.len();
+    let mut count = list.len() + whos.len();
     for (i, who) in whos.iter().enumerate() {
-        count += growth_under(who, &whos[..i], condition, list);
+        count -= repeats_under(who, &whos[..i], condition, list);
     }
     count
 }
 
-// How many entries an ID adds: none where it has one, or was named before.
-fn growth(who: &Who, before: &[Who], list: &[Entry]) -> usize
-    ensures { result ≡ (if list_any (is_for who.now) list.now || list_any (λ other. is_same_who other who.now) before.now then 0 else 1) }
+// 1 for an ID that adds no entry, since it has one or was named before, else 0.
+fn repeats(who: &Who, before: &[Who], list: &[Entry]) -> usize
+    ensures { result ≡ (if list_any (is_for who.now) list.now || list_any (λ other. is_same_who other who.now) before.now then 1 else 0) }
 {
     if is_listed(who, list) || is_among(who, before) {
-        0
-    } else {
         1
+    } else {
+        0
     }
 }
 
 // The same under a condition.
-fn growth_under(
-    who: &Who,
-    before: &[Who],
-    condition: &Condition,
-    list: &[CondEntry],
-) -> usize
-    ensures { result ≡ (if list_any (is_for_under condition.now who.now) list.now || list_any (λ other. is_same_who other who.now) before.now then 0 else 1) }
+fn repeats_under(who: &Who, before: &[Who], condition: &Condition, list: &[CondEntry]) -> usize
+    ensures { result ≡ (if list_any (is_for_under condition.now who.now) list.now || list_any (λ other. is_same_who other who.now) before.now then 1 else 0) }
 {
     if is_listed_under(who, condition, list) || is_among(who, before) {
-        0
-    } else {
         1
+    } else {
+        0
     }
 }
 
@@ -269,8 +256,7 @@ fn is_listed(who: &Who, list: &[Entry]) -> bool
 fn is_listed_under(who: &Who, condition: &Condition, list: &[CondEntry]) -> bool
     ensures { result ≡ list_any (is_for_under condition.now who.now) list.now }
 {
-    list.iter()
-        .any(|entry| is_for_under(entry, condition, who))
+    list.iter().any(|entry| is_for_under(entry, condition, who))
 }
 
 // Whether it is one of these.

@@ -25,7 +25,10 @@ impl Database {
             standard: no_entries(alloc),
             conditional: no_conditional_entries(alloc),
             level: self.level_given(command.seclevel, false, 0),
-            categories: self.with_categories(Categories::NONE, command.addcategory.items.as_slice()),
+            categories: self.with_categories(
+                Categories::NONE,
+                command.addcategory.items.as_slice(),
+            ),
             label: command.seclabel,
             audit: first_audit(command.audit),
             global_audit: NO_AUDIT,
@@ -80,7 +83,10 @@ impl Database {
             standard: no_entries(alloc),
             conditional: no_conditional_entries(alloc),
             level: self.level_given(command.seclevel, false, 0),
-            categories: self.with_categories(Categories::NONE, command.addcategory.items.as_slice()),
+            categories: self.with_categories(
+                Categories::NONE,
+                command.addcategory.items.as_slice(),
+            ),
             label: command.seclabel,
             audit: first_audit(command.audit),
             global_audit: NO_AUDIT,

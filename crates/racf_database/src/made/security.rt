@@ -1,5 +1,5 @@
 //! Security levels, categories and labels, by the live profiles that define them.
-ghost use Rattle.std.specs.Prelude.{◌≡◌, ◌||◌, [], List, ℕ, fold, position, unwrap_or, option_and_then, is_some, codes, bytes_eq};
+ghost use Rattle.std.specs.Prelude.{◌≡◌, ◌<◌, ◌||◌, [], length, IfSome, List, ℕ, fold, position, unwrap_or, option_and_then, is_some, codes, bytes_eq};
 ghost use Rattle.std.specs.Option.{option_copied, option_map_or, option_or};
 ghost use Rattle.racf_profiles.specs.Lookup.{profile_of};
 ghost use Rattle.racf_database.specs.Security.{general_name, secdata_members, grade_of, first_grade, level_number, is_category_member, is_category, category_number, is_label, with_category, without_category};
@@ -142,7 +142,8 @@ pub(crate) fn label_given(name: Option<Id>, off: bool, old: Option<Id>) -> Optio
 
 // The place of a name among these.
 fn place_of(name: Id, names: &[Id]) -> Option<usize>
-    ensures { result ≡ position (λ other. bytes_eq other name) names.now }
+    ensures place { result ≡ position (λ other. bytes_eq other name) names.now }
+    ensures within { IfSome result (λ place. place < length names.now) }
 {
     names.iter().position(|other| *other == name)
 }

@@ -3,8 +3,8 @@ ghost use Rattle.std.specs.Prelude.{◌≡◌, unwrap_or, IfOk};
 ghost use Rattle.racf_database.specs.Effects.{new_user, first_attributes, altered_user, attributes_after, connected_user, removed_user};
 
 use super::classes::{classes_after, with_classes};
-use super::security::label_given;
 use super::connects::{connects_after, first_connects, without_connect};
+use super::security::label_given;
 use super::{group_or_current, owner_or_issuer, switched};
 use crate::database::Database;
 use access_levels::{Attributes, Categories, Id, Text};
@@ -34,7 +34,10 @@ impl Database {
             attributes: first_attributes(command),
             classes: Classes { items: classes },
             level: self.level_given(command.seclevel, false, 0),
-            categories: self.with_categories(Categories::NONE, command.addcategory.items.as_slice()),
+            categories: self.with_categories(
+                Categories::NONE,
+                command.addcategory.items.as_slice(),
+            ),
             label: command.seclabel,
             connects: Connects { items: connects },
         })

@@ -12,6 +12,6 @@ returns-in-Some c =
 
 pub returns-in_ok-push-in-None : goal.returns-in_ok-push-in-None
 returns-in_ok-push-in-None c =
-    c.in_ok-push.ensures.items
+    c.in_ok-push-in-None.ensures.items
     ∙ added_without_position (is_member_named (member_name c.args.member)) c.args.members.now.items c.args.member
     (sym (c.in-None.ensures ∙ ap (λ n. position (is_member_named n) c.as_slice.result.now) c.member_name.ensures ∙ ap (position (is_member_named (member_name c.args.member))) c.as_slice.ensures.value))

@@ -71,7 +71,12 @@ fn connection_to(user: &User, group: Id) -> Option<&Connect>
 }
 
 // The ACEE of a user whose checks pass.
-fn acee_for(alloc: Global, image: &Image, request: &VerifyRequest, user: &User) -> Result<Acee, NoMemory>
+fn acee_for(
+    alloc: Global,
+    image: &Image,
+    request: &VerifyRequest,
+    user: &User,
+) -> Result<Acee, NoMemory>
     ensures { IfOk result (λ acee. acee ≡ acee_for image.now.state.rows image.now.generation request.now user.now) }
 {
     let groups = AceeGroups::of(alloc, user.connects.items.as_slice())?;

@@ -1,5 +1,5 @@
 -- The place of a class among the classes, and what a change there makes of all.
-use Rattle.std.proofs.Common.{◌≡◌, ℕ, zero, suc, ◌+◌, ◌<◌, ◌≤◌, Bool, true, false, cond, not, nat_lt, List, [], ◌∷◌, map, length, set, get_or, Option, Some, None, Result, Ok, Err, refl, sym, ap, subst, ◌∙◌, arith}
+use Rattle.std.proofs.Common.{◌≡◌, ℕ, zero, suc, ◌+◌, ◌≤◌, Bool, true, false, cond, not, nat_lt, List, [], ◌∷◌, map, length, set, get_or, Option, Some, None, Result, Ok, Err, refl, sym, ap, subst, ◌∙◌, arith}
 use Rattle.std.specs.List.{find, position, position_or_len, slice_get, AllByRecursion}
 use Rattle.std.specs.Prelude.{OnOk, IsSome}
 use Rattle.std.specs.Str.{bytes_eq}
@@ -8,7 +8,6 @@ use Rattle.std.proofs.lemmas.Bool.Decides.{nat_tests}
 use Rattle.racf_profiles.specs.declared.class_rows.ClassRow.{ClassRow}
 use Rattle.racf_profiles.specs.Lookup.{is_class}
 use Rattle.racf_profiles.specs.Edits.{at_class}
-use Rattle.racf_profiles.specs.ClassTable.{class_name, fixed_classes}
 use Rattle.class_profiles.specs.Lawful.{AreClasses, AreProfiles, kind_in}
 use Rattle.class_profiles.specs.Classes.{Roomy, room_among}
 use Rattle.class_profiles.specs.Summed.{rows_in}

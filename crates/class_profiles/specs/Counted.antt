@@ -1,8 +1,7 @@
 -- How a class and all classes are kept.
-use Rattle.std.specs.Prelude.{◌≡◌, ◌≤◌, List, map}
-use Rattle.racf_profiles.specs.declared.class_rows.ClassRow.{ClassRow}
+use Rattle.std.specs.Prelude.{◌≡◌}
 use Rattle.class_profiles.specs.declared.class_table.ClassTable.TheInside.{Inside}
-use Rattle.class_profiles.specs.Lawful.{AreClasses, kind_in, most_profiles}
+use Rattle.class_profiles.specs.Lawful.{kind_in}
 use Rattle.class_profiles.specs.Classes.{Roomy}
 
 -- the row of a class, with its profiles in it

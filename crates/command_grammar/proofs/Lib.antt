@@ -1,4 +1,8 @@
 pub mod Names
+pub mod NameBytes
+pub mod Patterns
+pub mod AuditAgain
+pub mod EntriesAgain
 pub mod ValueAgain
 pub mod TableFacts
 pub mod ReadAgain

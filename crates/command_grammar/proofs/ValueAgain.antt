@@ -1,11 +1,16 @@
 -- A value that was written is read again, whatever follows its parenthesis.
-use Rattle.std.proofs.Common.{◌≡◌, ℕ, suc, ◌+◌, List, [], ◌∷◌, ◌++◌, length, Bool, true, false, None, Some, Ok, refl, sym, ap, ◌∙◌, append_assoc}
-use Rattle.std.specs.Prelude.{◌==◌}
+use Rattle.std.proofs.Common.{◌≡◌, ℕ, suc, ◌+◌, List, [], ◌∷◌, ◌++◌, length, map, Bool, true, false, None, Some, Ok, refl, sym, ap, subst, ◌∙◌, append_assoc}
+use Rattle.std.specs.Prelude.{◌==◌, bytes_eq, codes}
 use Rattle.std.specs.List.{list_all}
 use Rattle.std.proofs.lemmas.List.{append-nil}
 use Rattle.std.proofs.lemmas.List.Folds.{list_all-append}
 use Rattle.std.proofs.lemmas.Bool.{eqb-true}
-use Rattle.access_levels.specs.Level.{authority_name}
+use Rattle.std.proofs.lemmas.Slice.Eq.{bytes_eq-Decides}
+use Rattle.access_levels.specs.declared.entries.Who.{Who}
+use Rattle.access_levels.specs.declared.entries.Who.TheVariants.{Star, Named}
+use Rattle.access_levels.specs.Level.{authority_name, level_name}
+use Rattle.access_levels.specs.declared.levels.Level.{Level}
+use Rattle.access_levels.specs.declared.levels.Level.TheVariants.{NoAccess, Execute, Read, Update, Control, Alter}
 use Rattle.access_levels.specs.declared.authorities.GroupAuthority.{GroupAuthority}
 use Rattle.access_levels.specs.declared.authorities.GroupAuthority.TheVariants.{MayUse, MayCreate, MayConnect, MayJoin}
 use Rattle.access_levels.specs.Spelling.{id_of}
@@ -19,10 +24,16 @@ use Rattle.command_grammar.specs.declared.table.Kind.{Kind}
 use Rattle.command_grammar.specs.declared.table.Kind.TheVariants as kinds
 use Rattle.command_grammar.specs.declared.values.Content.{Content}
 use Rattle.command_grammar.specs.declared.values.Content.TheVariants as contents
-use Rattle.command_grammar.specs.declared.values.Context.{Context}
-use Rattle.command_grammar.specs.Values.{name_of, is_name, if_name, unquoted, name_text, single, names, several, value, more_text, ids_text, text_of}
-use Rattle.command_grammar.specs.Lawful.{AreNames, IsNonEmpty, Fits}
+use Rattle.command_grammar.specs.declared.values.Scope.{Scope}
+use Rattle.command_grammar.specs.declared.values.Reset.{Reset}
+use Rattle.command_grammar.specs.declared.values.Reset.TheVariants as resets
+use Rattle.command_grammar.specs.Results.{◌>>=◌}
+use Rattle.command_grammar.specs.Values.{name_of, is_name, if_name, unquoted, name_text, reset_name, single, names, several, whos, value, more_text, ids_text, text_of}
+use Rattle.command_grammar.specs.Lawful.{AreNames, IsNonEmpty, AreWhos, Fits}
 use Rattle.command_grammar.proofs.Names.{IsPlainName, name-plain}
+use Rattle.command_grammar.specs.Entries.{whos_text}
+use Rattle.command_grammar.proofs.EntriesAgain.{listed, port_again, port_ends}
+use Rattle.command_grammar.proofs.AuditAgain.{level_calm, audit_again, audit_ends}
 
 -- the items of a word of letters, whatever follows it that is no value of its own
 pub word_items : (ts : List Token) (p : ℕ) (w : List ℕ) → opens_value ts ≡ false → items (Word p w ∷ ts) ≡ Bare p w ∷ items ts
@@ -40,19 +51,40 @@ unfolding tokens
 name_item q [] plain = let no : id_of [] ≡ Ok [] = plain.spelled in cc
 name_item q (b ∷ w) plain = ap items (word_alone Outside Outside-steady false (suc q) b w plain.letters)
 
-single_id : (at : Context) (p q : ℕ) (w : List ℕ) → name_of kinds.Id w ≡ Some w → single at kinds.Id p (items (tokens (within q w))) ≡ Ok (contents.Id w)
+single_id : (at : Scope) (p q : ℕ) (w : List ℕ) → name_of kinds.Id w ≡ Some w → single at kinds.Id p (items (tokens (within q w))) ≡ Ok (contents.Id w)
 single_id at p q w h =
     let plain = name-plain kinds.Id w w h in
     let sound : faulty_at Ignored (suc q) w ≡ None = plain.sound (suc q) in
     rw (name_item q w plain, sound, h) refl
 
-single_group : (at : Context) (p q : ℕ) (w : List ℕ) → name_of kinds.Group w ≡ Some w → single at kinds.Group p (items (tokens (within q w))) ≡ Ok (contents.Id w)
+single_group : (at : Scope) (p q : ℕ) (w : List ℕ) → name_of kinds.Group w ≡ Some w → single at kinds.Group p (items (tokens (within q w))) ≡ Ok (contents.Id w)
 single_group at p q w h =
     let plain = name-plain kinds.Group w w h in
     let sound : faulty_at Ignored (suc q) w ≡ None = plain.sound (suc q) in
     rw (name_item q w plain, sound, h) refl
 
-single_authority : (at : Context) (p q : ℕ) (a : GroupAuthority) → single at kinds.Authority p (items (tokens (within q (authority_name a)))) ≡ Ok (contents.Authority a)
+single_class : (at : Scope) (p q : ℕ) (w : List ℕ) → name_of kinds.Class w ≡ Some w → single at kinds.Class p (items (tokens (within q w))) ≡ Ok (contents.Id w)
+single_class at p q w h =
+    let plain = name-plain kinds.Class w w h in
+    let sound : faulty_at Ignored (suc q) w ≡ None = plain.sound (suc q) in
+    rw (name_item q w plain, sound, h) refl
+
+single_level : (at : Scope) (p q : ℕ) (l : Level) → single at kinds.Level p (items (tokens (within q (level_name l)))) ≡ Ok (contents.Level l)
+unfolding tokens
+single_level at p q NoAccess = refl
+single_level at p q Execute = refl
+single_level at p q Read = refl
+single_level at p q Update = refl
+single_level at p q Control = refl
+single_level at p q Alter = refl
+
+single_reset : (at : Scope) (p q : ℕ) (r : Reset) → single at kinds.Reset p (items (tokens (within q (reset_name r)))) ≡ Ok (contents.Reset r)
+unfolding tokens
+single_reset at p q resets.All = refl
+single_reset at p q resets.Standard = refl
+single_reset at p q resets.When = refl
+
+single_authority : (at : Scope) (p q : ℕ) (a : GroupAuthority) → single at kinds.Authority p (items (tokens (within q (authority_name a)))) ≡ Ok (contents.Authority a)
 unfolding tokens
 single_authority at p q MayUse = refl
 single_authority at p q MayCreate = refl
@@ -87,7 +119,7 @@ unseen o p (b ∷ t) = unseen-one o p b t (b == 39) refl (λ n. unseen o n t)
 name_text-quoted : (t : List ℕ) → is_name t ≡ true → name_text (quoted t) ≡ Some t
 name_text-quoted t h = ap if_name (unquoted-doubled [] t) ∙ rw h refl
 
-single_name : (at : Context) (p q : ℕ) (t : List ℕ) → is_name t ≡ true → single at kinds.Name p (items (tokens (within q (quoted t)))) ≡ Ok (contents.Name t)
+single_name : (at : Scope) (p q : ℕ) (t : List ℕ) → is_name t ≡ true → single at kinds.Name p (items (tokens (within q (quoted t)))) ≡ Ok (contents.Name t)
 unfolding tokens
 single_name at p q t h =
     let sound : faulty_at Outside (suc q) (quoted t) ≡ None = unseen (suc q) (suc (suc q)) t in
@@ -136,6 +168,49 @@ several_again k p q (x ∷ xs) some h =
     several-some k p (items (tokens_from Outside false 0 (suc q) (x ++ more_text xs))) x xs
     (names_step k [] false (suc q) x xs h.0 h.1 ∙ names_again k (x ∷ []) true (suc q + length x) xs h.1)
 
+-- users and groups: a word that is no `*`, and the names with it
+not_star : (b : ℕ) (w : List ℕ) → id_of (b ∷ w) ≡ Ok (b ∷ w) → bytes_eq (b ∷ w) (codes "*") ≡ false
+not_star b w h = star-tested (bytes_eq (b ∷ w) (codes "*")) refl
+  where
+    star-tested : (c : Bool) → bytes_eq (b ∷ w) (codes "*") ≡ c → c ≡ false
+    star-tested true is =
+        let same : b ∷ w ≡ codes "*" = (bytes_eq-Decides (b ∷ w) (codes "*")).0 is in
+        let no : id_of (codes "*") ≡ Ok (codes "*") = subst (λ (x : List ℕ). id_of x ≡ Ok x) same h in
+        cc
+    star-tested false is = refl
+
+-- the same for a list of names that begins with b ∷ w
+whos_names : (p n b : ℕ) (w : List ℕ) (is : List Item) (xs : List (List ℕ)) → id_of (b ∷ w) ≡ Ok (b ∷ w) → faulty_at Ignored n (b ∷ w) ≡ None → names kinds.Ids [] (Bare n (b ∷ w) ∷ is) ≡ Ok xs
+    → whos p (Bare n (b ∷ w) ∷ is) ≡ Ok (map Named xs)
+whos_names p n b w is xs h sound read =
+    let other : bytes_eq (b ∷ w) (codes "*") ≡ false = not_star b w h in
+    rw (sound, other) (ap (λ r. r >>= λ xs. Ok (map Named xs)) read)
+
+whos_listed : (p q : ℕ) (x : List ℕ) (xs : List (List ℕ)) → AreNames kinds.Ids (x ∷ xs) → whos p (items (tokens (within q (ids_text (x ∷ xs))))) ≡ Ok (map Named (x ∷ xs))
+unfolding tokens
+whos_listed p q [] xs h = absurd (no_empty kinds.Ids h.0)
+whos_listed p q (b ∷ w) xs h =
+    let plain = name-plain kinds.Ids (b ∷ w) (b ∷ w) h.0 in
+    let rest : List Item = items (tokens_from Outside true 0 (suc q + length (b ∷ w)) (more_text xs)) in
+    let first : items (tokens_from Outside false 0 (suc q) ((b ∷ w) ++ more_text xs)) ≡ Bare (suc q) (b ∷ w) ∷ rest =
+    ap items (word_token Outside Outside-steady false (suc q) b w (more_text xs) plain.letters (more_ends xs))
+    ∙ word_items (tokens_from Outside true 0 (suc q + length (b ∷ w)) (more_text xs)) (suc q) (b ∷ w) (more_opens kinds.Ids (suc q + length (b ∷ w)) true xs h.1) in
+    let read : names kinds.Ids [] (Bare (suc q) (b ∷ w) ∷ rest) ≡ Ok ((b ∷ w) ∷ xs) =
+    ap (names kinds.Ids []) (sym first) ∙ names_step kinds.Ids [] false (suc q) (b ∷ w) xs h.0 h.1 ∙ names_again kinds.Ids ((b ∷ w) ∷ []) true (suc q + length (b ∷ w)) xs h.1 in
+    ap (whos p) first ∙ whos_names p (suc q) b w rest ((b ∷ w) ∷ xs) plain.spelled (plain.sound (suc q)) read
+
+whos_named : (p q : ℕ) (x : List ℕ) (ws : List Who) → AreWhos (Named x ∷ ws) → whos p (items (tokens (within q (whos_text (Named x ∷ ws))))) ≡ Ok (Named x ∷ ws)
+whos_named p q x ws h =
+    let list = listed x ws h in
+    ap (λ bs. whos p (items (tokens (within q bs)))) list.text ∙ whos_listed p q x list.others list.named ∙ ap Ok list.whole
+
+whos_again : (p q : ℕ) (ws : List Who) → AreWhos ws → whos p (items (tokens (within q (whos_text ws)))) ≡ Ok ws
+unfolding tokens
+whos_again p q [] h = absurd h
+whos_again p q (Star ∷ []) h = refl
+whos_again p q (Star ∷ (w ∷ ws)) h = absurd h
+whos_again p q (Named x ∷ ws) h = whos_named p q x ws h
+
 -- a value other than none
 abbrev pub IsShown : Content → Type 0
 IsShown contents.Flag = ⊥
@@ -145,14 +220,15 @@ IsShown (contents.Name t) = Unit {0}
 IsShown (contents.Ids xs) = Unit {0}
 IsShown (contents.Level l) = Unit {0}
 IsShown (contents.Audit r) = Unit {0}
-IsShown (contents.Profile n) = Unit {0}
+IsShown (contents.Profile n) = ⊥
 IsShown (contents.Reset r) = Unit {0}
 IsShown (contents.Whos ws) = Unit {0}
 IsShown (contents.When c) = Unit {0}
 IsShown (contents.Members ms) = Unit {0}
 IsShown (contents.MemberNames ns) = Unit {0}
+IsShown (contents.Generic g) = Unit {0}
 
-pub value-again : (at : Context) (k : Kind) (p q : ℕ) (v : Content) → Fits k v → IsShown v → value at k p (items (tokens (within q (text_of v)))) ≡ Ok v
+pub value-again : (at : Scope) (k : Kind) (p q : ℕ) (v : Content) → Fits k v → IsShown v → value at k p (items (tokens (within q (text_of v)))) ≡ Ok v
 value-again at kinds.Flag p q contents.Flag h shown = absurd shown
 value-again at kinds.Id p q (contents.Id w) h shown = single_id at p q w h
 value-again at kinds.Group p q (contents.Id w) h shown = single_group at p q w h
@@ -160,6 +236,15 @@ value-again at kinds.Authority p q (contents.Authority a) h shown = single_autho
 value-again at kinds.Name p q (contents.Name t) h shown = single_name at p q t h
 value-again at kinds.Ids p q (contents.Ids xs) h shown = several_again kinds.Ids p q xs h.0 h.1
 value-again at kinds.Classes p q (contents.Ids xs) h shown = several_again kinds.Classes p q xs h.0 h.1
+value-again at kinds.Class p q (contents.Id w) h shown = single_class at p q w h
+value-again at kinds.Level p q (contents.Level l) h shown = single_level at p q l
+value-again at kinds.Reset p q (contents.Reset r) h shown = single_reset at p q r
+value-again at kinds.Audit p q (contents.Audit rule) h shown = ap (λ r. r >>= λ rule. Ok (contents.Audit rule)) (audit_again p q rule h)
+value-again at kinds.DataSetProfile p q (contents.Profile n) h shown = absurd shown
+value-again at kinds.ClassProfile p q (contents.Profile n) h shown = absurd shown
+value-again at kinds.AnyProfile p q (contents.Profile n) h shown = absurd shown
+value-again at kinds.Whos p q (contents.Whos ws) h shown = ap (λ r. r >>= λ ws. Ok (contents.Whos ws)) (whos_again p q ws h)
+value-again at kinds.When p q (contents.When c) h shown = ap (λ r. r >>= λ c. Ok (contents.When c)) (port_again p q c h)
 value-again at k p q v h shown = absurd h
 
 -- where the parenthesis of a value that was written closes
@@ -183,6 +268,19 @@ authority_calm MayCreate = refl
 authority_calm MayConnect = refl
 authority_calm MayJoin = refl
 
+whos_end : (outer p : ℕ) (ws : List Who) (rest : List ℕ) → AreWhos ws → group_end outer Outside 0 p (whos_text ws ++ 41 ∷ rest) ≡ Ok (p + length (whos_text ws))
+whos_end outer p [] rest h = absurd h
+whos_end outer p (Star ∷ []) rest h = group_end-calm outer p (codes "*") rest refl
+whos_end outer p (Star ∷ (w ∷ ws)) rest h = absurd h
+whos_end outer p (Named x ∷ ws) rest h =
+    let list = listed x ws h in
+    group_end-calm outer p (whos_text (Named x ∷ ws)) rest (subst (λ (bs : List ℕ). list_all is_calm bs ≡ true) (sym list.text) (ids_calm kinds.Ids (x ∷ list.others) list.named))
+
+reset_calm : (r : Reset) → list_all is_calm (reset_name r) ≡ true
+reset_calm resets.All = refl
+reset_calm resets.Standard = refl
+reset_calm resets.When = refl
+
 pub value-ends : (k : Kind) (v : Content) (outer p : ℕ) (rest : List ℕ) → Fits k v → IsShown v → group_end outer Outside 0 p (text_of v ++ 41 ∷ rest) ≡ Ok (p + length (text_of v))
 value-ends kinds.Flag contents.Flag outer p rest h shown = absurd shown
 value-ends kinds.Id (contents.Id w) outer p rest h shown = group_end-calm outer p w rest (all_calm w (name-plain kinds.Id w w h).letters)
@@ -191,4 +289,13 @@ value-ends kinds.Authority (contents.Authority a) outer p rest h shown = group_e
 value-ends kinds.Name (contents.Name t) outer p rest h shown = group_end-quoted outer p t rest
 value-ends kinds.Ids (contents.Ids xs) outer p rest h shown = group_end-calm outer p (ids_text xs) rest (ids_calm kinds.Ids xs h.1)
 value-ends kinds.Classes (contents.Ids xs) outer p rest h shown = group_end-calm outer p (ids_text xs) rest (ids_calm kinds.Classes xs h.1)
+value-ends kinds.Class (contents.Id w) outer p rest h shown = group_end-calm outer p w rest (all_calm w (name-plain kinds.Class w w h).letters)
+value-ends kinds.Level (contents.Level l) outer p rest h shown = group_end-calm outer p (level_name l) rest (level_calm l)
+value-ends kinds.Reset (contents.Reset r) outer p rest h shown = group_end-calm outer p (reset_name r) rest (reset_calm r)
+value-ends kinds.Audit (contents.Audit rule) outer p rest h shown = audit_ends outer p rule rest
+value-ends kinds.DataSetProfile (contents.Profile n) outer p rest h shown = absurd shown
+value-ends kinds.ClassProfile (contents.Profile n) outer p rest h shown = absurd shown
+value-ends kinds.AnyProfile (contents.Profile n) outer p rest h shown = absurd shown
+value-ends kinds.Whos (contents.Whos ws) outer p rest h shown = whos_end outer p ws rest h
+value-ends kinds.When (contents.When c) outer p rest h shown = port_ends outer p c rest h
 value-ends k v outer p rest h shown = absurd h

@@ -1,6 +1,10 @@
 pub mod Words
 pub mod Table
 pub mod Results
+pub mod WordsOfValues
+pub mod ProfileNames
+pub mod Audits
+pub mod Entries
 pub mod Values
 pub mod Reading
 pub mod Canon

@@ -1,6 +1,6 @@
 //! The values of positional words and operands.
 
-use access_levels::{Condition, GroupAuthority, Id, Level, Text, Who};
+use access_levels::{Condition, GroupAuthority, Id, Level, PortClass, Text, Who};
 use generic_names::{MemberName, Pattern};
 use racf_profiles::{AuditRule, Members};
 use std::marker::Model;
@@ -59,6 +59,33 @@ pub enum Reset {
     When,
 }
 
+/// The classes of the ports of entry.
+pub const PORT_CLASSES: [PortClass; 4] = [
+    PortClass::Terminal,
+    PortClass::Console,
+    PortClass::Jesinput,
+    PortClass::Appcport,
+];
+
+/// The words of RESET.
+pub const RESETS: [Reset; 3] = [Reset::All, Reset::Standard, Reset::When];
+
+impl Reset {
+    ghost use Rattle.std.specs.Prelude.{◌≡◌};
+    ghost use Rattle.command_grammar.specs.Values.{reset_name};
+
+    /// The word that spells it.
+    pub fn name(self) -> &'static [u8]
+        ensures { result.now ≡ reset_name self }
+    {
+        match self {
+            Reset::All => b"ALL".as_slice(),
+            Reset::Standard => b"STANDARD".as_slice(),
+            Reset::When => b"WHEN".as_slice(),
+        }
+    }
+}
+
 /// The value of a positional word or an operand.
 #[derive(Drop)]
 pub enum Content {
@@ -88,11 +115,28 @@ pub enum Content {
     Members(Members),
     /// Names of members of a profile.
     MemberNames(MemberNames),
+    /// GENERIC, at its place. No command that was read has it.
+    Generic(u32),
 }
 
-/// What the reading of a value may depend on beside its text.
+/// What the reading of a command depends on beside its text.
 #[derive(Clone, Copy, Debug)]
 pub struct Context {
     /// Who gives the command.
     pub issuer: Id,
+}
+
+/// What the positional words in front tell of the words behind them.
+#[derive(Clone, Copy)]
+pub struct Known {
+    pub class: Option<Id>,
+    pub profile: Option<Pattern>,
+}
+
+/// What the reading of a value may depend on beside its text.
+#[derive(Clone, Copy)]
+pub struct Scope {
+    /// Who gives the command.
+    pub issuer: Id,
+    pub known: Known,
 }

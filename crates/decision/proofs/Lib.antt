@@ -1,1 +1,4 @@
 mod WorkedRows
+mod Steps
+mod Qualifiers
+mod Names

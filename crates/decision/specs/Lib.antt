@@ -1,2 +1,5 @@
 pub mod Asked
 pub mod Table
+pub mod Steps
+pub mod Made
+pub mod Verify

@@ -2,7 +2,6 @@
 use Rattle.std.proofs.Common.{◌≡◌, ◌||◌, map, take}
 use Rattle.racf_profiles.specs.NewDatabase.{empty_class}
 use Rattle.racf_profiles.specs.ClassTable.{fixed_classes, is_dataset}
-use Rattle.class_profiles.specs.Classes.{Roomy}
 use Rattle.class_profiles.specs.Summed.{rows_in}
 use Rattle.class_profiles.proofs.class_tables.empty.Given as goal
 

@@ -1,5 +1,5 @@
 -- One profile more than before, at most.
-use Rattle.std.proofs.Common.{◌≡◌, ◌∙◌, ◌<◌, ◌≤◌, sym, ap, subst, arith, length, max}
+use Rattle.std.proofs.Common.{◌∙◌, ◌<◌, ◌≤◌, sym, ap, subst, arith, length, max}
 use Rattle.generic_names.specs.Spelled.{Spelled}
 use Rattle.racf_profiles.specs.Edits.{put_profile}
 use Rattle.class_profiles.specs.Lawful.{most_class_profiles}

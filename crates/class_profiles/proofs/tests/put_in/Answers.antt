@@ -1,5 +1,5 @@
 -- One profile more than before, at most.
-use Rattle.std.proofs.Common.{◌≡◌, ◌∙◌, ◌+◌, ◌<◌, ◌≤◌, List, Option, Some, refl, sym, ap, subst, arith, length}
+use Rattle.std.proofs.Common.{◌≡◌, ◌∙◌, ◌+◌, ◌<◌, ◌≤◌, Option, Some, refl, sym, ap, subst, arith, length}
 use Rattle.std.specs.Prelude.{IsSome}
 use Rattle.std.specs.List.{find}
 use Rattle.std.specs.Option.{option_map_or}
@@ -7,7 +7,7 @@ use Rattle.generic_names.specs.Spelled.{Spelled}
 use Rattle.racf_profiles.specs.declared.class_rows.ClassRow.{ClassRow}
 use Rattle.racf_profiles.specs.Lookup.{is_class}
 use Rattle.class_profiles.specs.Lawful.{AreClasses, kind_in, most_profiles, most_class_profiles}
-use Rattle.class_profiles.specs.Classes.{profile_count, entry_count, entries_in, most_entries, room_in, profile_in}
+use Rattle.class_profiles.specs.Classes.{profile_count, entry_count, entries_in, most_entries, profile_in}
 use Rattle.class_profiles.proofs.Places.{name-found}
 use Rattle.class_profiles.proofs.tests.put_in.Goals as goal
 

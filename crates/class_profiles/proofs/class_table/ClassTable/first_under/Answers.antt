@@ -1,5 +1,5 @@
 -- One profile more that isn't it, or the first that is.
-use Rattle.std.proofs.Common.{◌≡◌, ◌∙◌, Option, Some, sym, ap, subst, find}
+use Rattle.std.proofs.Common.{◌≡◌, ◌∙◌, Some, sym, ap, subst}
 use Rattle.std.specs.List.{slice_get}
 use Rattle.std.specs.Option.{option_map}
 use Rattle.racf_profiles.specs.declared.profiles.Profile.{Profile}

@@ -1,7 +1,6 @@
 -- The class at the place of the name is the one that is found.
-use Rattle.std.proofs.Common.{◌≡◌, ◌<◌, ◌∙◌, List, Option, None, Some, refl, sym, ap, subst, length}
+use Rattle.std.proofs.Common.{◌∙◌, sym, ap}
 use Rattle.std.specs.List.{find}
-use Rattle.racf_profiles.specs.declared.class_rows.ClassRow.{ClassRow}
 use Rattle.racf_profiles.specs.Lookup.{is_class}
 use Rattle.class_profiles.specs.Classes.{ClassList}
 use Rattle.class_profiles.proofs.Places.{placed, unplaced, found-at, read-at}

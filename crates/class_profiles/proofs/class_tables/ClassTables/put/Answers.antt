@@ -1,5 +1,5 @@
 -- The class at the place gets the profile, and the counts change by its own.
-use Rattle.std.proofs.Common.{◌≡◌, ◌≤◌, ◌-◌, ◌+◌, ◌∙◌, ℕ, List, Option, None, sym, ap, subst, arith, set, false}
+use Rattle.std.proofs.Common.{◌∙◌, ℕ, sym, ap, subst, arith}
 use Rattle.std.specs.List.{find}
 use Rattle.std.specs.Option.{option_map_or}
 use Rattle.std.specs.Str.{bytes_eq}
@@ -8,8 +8,7 @@ use Rattle.racf_profiles.specs.declared.class_rows.ClassRow.{ClassRow}
 use Rattle.racf_profiles.specs.Lookup.{is_class}
 use Rattle.racf_profiles.specs.Edits.{at_class, with_profile}
 use Rattle.class_profiles.specs.Classes.{ClassList, profile_count, profile_in, entries_in, room_in, CanPutIn}
-use Rattle.class_profiles.specs.Summed.{rows_in}
-use Rattle.class_profiles.proofs.Places.{spares, placed, unplaced, read-at, at_class-absent, room-other, name-at, got-at}
+use Rattle.class_profiles.proofs.Places.{placed, unplaced, read-at, at_class-absent, room-other, name-at, got-at}
 use Rattle.class_profiles.proofs.Changes.{can-put, put-few, put-rows, put-lawful, put-counted, put-entries_counted, put-few_profiles, put-few_entries}
 use Rattle.class_profiles.proofs.class_tables.ClassTables.put.Goals as goal
 

@@ -1,5 +1,5 @@
 -- No profile has more entries than all.
-use Rattle.std.proofs.Common.{◌≡◌, ◌∙◌, ℕ, Option, Some, sym, ap, arith}
+use Rattle.std.proofs.Common.{ℕ, Option, ap, arith}
 use Rattle.std.specs.Option.{option_map_or}
 use Rattle.racf_profiles.specs.declared.profiles.Profile.{Profile}
 use Rattle.class_profiles.specs.Classes.{entries_in}

@@ -1,5 +1,4 @@
 -- One profile more.
-use Rattle.std.proofs.Common.{◌≡◌, ◌∙◌, ◌++◌, ◌∷◌, [], List, ap}
 use Rattle.class_profiles.proofs.Order.{take-next}
 use Rattle.class_profiles.proofs.table.ProfileTable.rows.Goals as goal
 

@@ -1,6 +1,6 @@
 use Rattle.std.proofs.Common.{◌≡◌, length}
 use Rattle.command_grammar.specs.Reading.{clash, given}
-use Rattle.command_grammar.proofs.reading.clash.Given as goal
+use Rattle.command_grammar.proofs.closing.clash.Given as goal
 
 abbrev pub invariant-loop-row : goal.invariant-loop-row
 invariant-loop-row l = clash (given l.rows l.slots) ≡ clash (given l.fn.rows l.fn.slots)

@@ -65,17 +65,17 @@ take_first a b h = ap (λ t. cond t (Some b) (Some a)) h
 of_three : (a b c : GroupEntry) → first_of_two (first_of_two (Some a) (Some b)) (Some c) ≡ first_of_two (Some a) (first_of_two (Some b) (Some c))
 of_three a b c = ⊎_elim
     (λ (ba : goes_before b a ≡ true). ⊎_elim
-        (λ (cb : goes_before c b ≡ true).
-        ap (λ o. first_of_two o (Some c)) (take_second a b ba) ∙ take_second b c cb ∙ sym (ap (λ o. first_of_two (Some a) o) (take_second b c cb) ∙ take_second a c (before-trans c b a cb ba)))
-        (λ (cb : goes_before c b ≡ false).
-        ap (λ o. first_of_two o (Some c)) (take_second a b ba) ∙ take_first b c cb ∙ sym (ap (λ o. first_of_two (Some a) o) (take_first b c cb) ∙ take_second a b ba))
-        (cases_Bool (goes_before c b)))
+    (λ (cb : goes_before c b ≡ true).
+    ap (λ o. first_of_two o (Some c)) (take_second a b ba) ∙ take_second b c cb ∙ sym (ap (λ o. first_of_two (Some a) o) (take_second b c cb) ∙ take_second a c (before-trans c b a cb ba)))
+    (λ (cb : goes_before c b ≡ false).
+    ap (λ o. first_of_two o (Some c)) (take_second a b ba) ∙ take_first b c cb ∙ sym (ap (λ o. first_of_two (Some a) o) (take_first b c cb) ∙ take_second a b ba))
+    (cases_Bool (goes_before c b)))
     (λ (ba : goes_before b a ≡ false). ⊎_elim
-        (λ (cb : goes_before c b ≡ true).
-        ap (λ o. first_of_two o (Some c)) (take_first a b ba) ∙ sym (ap (λ o. first_of_two (Some a) o) (take_second b c cb)))
-        (λ (cb : goes_before c b ≡ false).
-        ap (λ o. first_of_two o (Some c)) (take_first a b ba) ∙ take_first a c (after-trans c b a cb ba) ∙ sym (ap (λ o. first_of_two (Some a) o) (take_first b c cb) ∙ take_first a b ba))
-        (cases_Bool (goes_before c b)))
+    (λ (cb : goes_before c b ≡ true).
+    ap (λ o. first_of_two o (Some c)) (take_first a b ba) ∙ sym (ap (λ o. first_of_two (Some a) o) (take_second b c cb)))
+    (λ (cb : goes_before c b ≡ false).
+    ap (λ o. first_of_two o (Some c)) (take_first a b ba) ∙ take_first a c (after-trans c b a cb ba) ∙ sym (ap (λ o. first_of_two (Some a) o) (take_first b c cb) ∙ take_first a b ba))
+    (cases_Bool (goes_before c b)))
     (cases_Bool (goes_before b a))
 
 pub none-last : (o : Option GroupEntry) → first_of_two o None ≡ o

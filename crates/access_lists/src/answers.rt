@@ -45,12 +45,9 @@ pub fn answer(list: &[Entry], user: Id, groups: &[Id], restricted: bool) -> Foun
 fn star_level(list: &[Entry], restricted: bool) -> Found
     ensures { result ≡ found_of None None (star_entry restricted list.now) }
 {
-    if restricted {
-        return Found::Nothing;
-    }
     match level_for(list, Who::Star) {
-        Some(level) => Found::Star(level),
-        None => Found::Nothing,
+        Some(level) if !restricted => Found::Star(level),
+        _ => Found::Nothing,
     }
 }
 
@@ -71,7 +68,13 @@ fn level_for(list: &[Entry], who: Who) -> Option<Level>
 ///
 /// None exactly where no entry counts, as for a user without a port of entry. It costs what `answer`
 /// costs, and one more way through the list.
-pub fn answer_when(list: &[CondEntry], port: Option<Condition>, user: Id, groups: &[Id], restricted: bool) -> Option<usize>
+pub fn answer_when(
+    list: &[CondEntry],
+    port: Option<Condition>,
+    user: Id,
+    groups: &[Id],
+    restricted: bool,
+) -> Option<usize>
     ensures { result ≡ answered_when port user groups.now restricted list.now }
 {
     match &port {
@@ -81,7 +84,13 @@ pub fn answer_when(list: &[CondEntry], port: Option<Condition>, user: Id, groups
 }
 
 // The place of the entry that counts under a port.
-fn place_that_counts(list: &[CondEntry], port: &Condition, user: Id, groups: &[Id], restricted: bool) -> Option<usize>
+fn place_that_counts(
+    list: &[CondEntry],
+    port: &Condition,
+    user: Id,
+    groups: &[Id],
+    restricted: bool,
+) -> Option<usize>
     ensures { result ≡ answered_when (Some port.now) user groups.now restricted list.now }
 {
     let own = Who::Named(user);

@@ -37,7 +37,11 @@ pub(crate) fn group_entry(list: &[Entry], groups: &[Id]) -> Option<GroupEntry>
 }
 
 // The group entry of a conditional list under a port.
-pub(crate) fn group_entry_under(list: &[CondEntry], port: &Condition, groups: &[Id]) -> Option<GroupEntry>
+pub(crate) fn group_entry_under(
+    list: &[CondEntry],
+    port: &Condition,
+    groups: &[Id],
+) -> Option<GroupEntry>
     ensures { result ≡ group_entry groups.now (entries_under port.now list.now) }
 {
     let mut best = None;
@@ -48,7 +52,12 @@ pub(crate) fn group_entry_under(list: &[CondEntry], port: &Condition, groups: &[
 }
 
 // The better of the best so far and a conditional entry under the port.
-fn better_under(best: Option<GroupEntry>, port: &Condition, groups: &[Id], entry: &CondEntry) -> Option<GroupEntry>
+fn better_under(
+    best: Option<GroupEntry>,
+    port: &Condition,
+    groups: &[Id],
+    entry: &CondEntry,
+) -> Option<GroupEntry>
     ensures { result ≡ (if is_under port.now entry.now then first_of_two best (as_group_entry groups.now (unconditional entry.now)) else best) }
 {
     if is_same_port(&entry.condition, port) {

@@ -7,3 +7,6 @@ mod edits;
 
 pub use answers::{Found, answer, answer_when};
 pub use edits::{ListFault, MOST_ENTRIES, permit, permit_when, withdraw, withdraw_when};
+
+#[cfg(test)]
+mod tests;

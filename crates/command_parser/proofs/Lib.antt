@@ -1,4 +1,5 @@
-pub mod Takes
+pub mod Formed
 pub mod OneForm
+pub mod Spelled
 pub mod Written
 mod CommandRows

@@ -1,69 +1,19 @@
--- Commands as the table sees them: each field of a command in the slot of its operand.
-use Rattle.std.specs.Prelude.{◌≡◌, ℕ, List, [], ◌∷◌, Bool, true, false, Option, None, Some, Result, Ok, Err}
-use Rattle.access_levels.specs.declared.authorities.GroupAuthority.{GroupAuthority}
+-- Commands as the table sees them: the positional words, and each other field in the slot of its operand. Which commands a
+-- text spells.
+use Rattle.std.specs.Prelude.{◌≡◌, ℕ, List, [], ◌∷◌, Option, Some, Result, Ok, Err}
 use Rattle.std.specs.Result.{result_err}
 use Rattle.command_grammar.specs.declared.faults.Syntax.{Syntax}
 use Rattle.command_grammar.specs.declared.faults.ParseFault.{ParseFault}
 use Rattle.command_grammar.specs.declared.faults.ParseFault.TheVariants as reasons
 use Rattle.command_grammar.specs.declared.table.Verb.TheVariants as verbs
-use Rattle.command_grammar.specs.declared.values.Content.{Content}
 use Rattle.command_grammar.specs.declared.values.Content.TheVariants as contents
 use Rattle.command_grammar.specs.declared.values.Context.{Context}
+use Rattle.command_grammar.specs.Reading.{Generic}
+use Rattle.command_grammar.specs.Canon.{canon, spelled}
 use Rattle.command_parser.specs.declared.forms.Form.{Form}
 use Rattle.command_parser.specs.declared.forms.Form.TheVariants as forms
-use Rattle.command_parser.specs.declared.forms.AddUser.{AddUser}
-use Rattle.command_parser.specs.declared.forms.AltUser.{AltUser}
-use Rattle.command_parser.specs.declared.forms.AddGroup.{AddGroup}
-use Rattle.command_parser.specs.declared.forms.AltGroup.{AltGroup}
-use Rattle.command_parser.specs.declared.forms.Connect.{Connect}
-use Rattle.command_parser.specs.declared.forms.Remove.{Remove}
-use Rattle.command_grammar.specs.Reading.{Generic, Slots}
-use Rattle.command_grammar.specs.Canon.{canon, spelled}
-
--- the slot of an operand that takes no value, of a name, an authority, a user's name, a list of names
-abbrev pub flag_slot : Bool → Option Content
-flag_slot true = Some contents.Flag
-flag_slot false = None
-
-abbrev pub id_slot : Option (List ℕ) → Option Content
-id_slot None = None
-id_slot (Some w) = Some (contents.Id w)
-
-abbrev pub authority_slot : Option GroupAuthority → Option Content
-authority_slot None = None
-authority_slot (Some a) = Some (contents.Authority a)
-
-abbrev pub name_slot : Option (List ℕ) → Option Content
-name_slot None = None
-name_slot (Some t) = Some (contents.Name t)
-
-abbrev pub ids_slot : List (List ℕ) → Option Content
-ids_slot [] = None
-ids_slot (w ∷ ws) = Some (contents.Ids (w ∷ ws))
-
--- ADDUSER
-abbrev pub slots_of_add_user : AddUser → Slots
-slots_of_add_user a = name_slot a.name ∷ id_slot a.dfltgrp ∷ id_slot a.owner ∷ authority_slot a.authority ∷ flag_slot a.special ∷ flag_slot a.nospecial ∷ flag_slot a.operations ∷ flag_slot a.nooperations ∷ flag_slot a.auditor ∷ flag_slot a.noauditor ∷ flag_slot a.restricted ∷ flag_slot a.norestricted ∷ ids_slot a.clauth ∷ id_slot a.seclevel ∷ ids_slot a.addcategory ∷ id_slot a.seclabel ∷ []
-
--- ALTUSER
-abbrev pub slots_of_alt_user : AltUser → Slots
-slots_of_alt_user a = name_slot a.name ∷ id_slot a.dfltgrp ∷ id_slot a.owner ∷ flag_slot a.special ∷ flag_slot a.nospecial ∷ flag_slot a.operations ∷ flag_slot a.nooperations ∷ flag_slot a.auditor ∷ flag_slot a.noauditor ∷ flag_slot a.restricted ∷ flag_slot a.norestricted ∷ flag_slot a.uaudit ∷ flag_slot a.nouaudit ∷ flag_slot a.revoke ∷ flag_slot a.resume ∷ ids_slot a.clauth ∷ ids_slot a.noclauth ∷ id_slot a.seclevel ∷ flag_slot a.noseclevel ∷ ids_slot a.addcategory ∷ ids_slot a.delcategory ∷ id_slot a.seclabel ∷ flag_slot a.noseclabel ∷ []
-
--- ADDGROUP
-abbrev pub slots_of_add_group : AddGroup → Slots
-slots_of_add_group a = id_slot a.supgroup ∷ id_slot a.owner ∷ []
-
--- ALTGROUP
-abbrev pub slots_of_alt_group : AltGroup → Slots
-slots_of_alt_group a = id_slot a.supgroup ∷ id_slot a.owner ∷ []
-
--- CONNECT
-abbrev pub slots_of_connect : Connect → Slots
-slots_of_connect a = id_slot a.group ∷ authority_slot a.authority ∷ flag_slot a.special ∷ flag_slot a.nospecial ∷ flag_slot a.operations ∷ flag_slot a.nooperations ∷ flag_slot a.auditor ∷ flag_slot a.noauditor ∷ flag_slot a.revoke ∷ flag_slot a.resume ∷ []
-
--- REMOVE
-abbrev pub slots_of_remove : Remove → Slots
-slots_of_remove a = id_slot a.group ∷ []
+use Rattle.command_parser.specs.Slots.{slots_of_add_user, slots_of_alt_user, slots_of_add_group, slots_of_alt_group, slots_of_connect, slots_of_remove}
+use Rattle.command_parser.specs.ProfileSlots.{slots_of_add_sd, slots_of_alt_sd, slots_of_del_sd, slots_of_r_define, slots_of_r_alter, slots_of_permit}
 
 abbrev pub generic_form : Form → Generic
 generic_form (forms.AddUser a) = record { verb = verbs.AddUser; positions = contents.Id a.user ∷ []; slots = slots_of_add_user a }
@@ -74,6 +24,13 @@ generic_form (forms.AltGroup a) = record { verb = verbs.AltGroup; positions = co
 generic_form (forms.DelGroup a) = record { verb = verbs.DelGroup; positions = contents.Id a.group ∷ []; slots = [] }
 generic_form (forms.Connect a) = record { verb = verbs.Connect; positions = contents.Id a.user ∷ []; slots = slots_of_connect a }
 generic_form (forms.Remove a) = record { verb = verbs.Remove; positions = contents.Id a.user ∷ []; slots = slots_of_remove a }
+generic_form (forms.AddSd a) = record { verb = verbs.AddSd; positions = contents.Profile a.profile ∷ []; slots = slots_of_add_sd a }
+generic_form (forms.AltSd a) = record { verb = verbs.AltSd; positions = contents.Profile a.profile ∷ []; slots = slots_of_alt_sd a }
+generic_form (forms.DelSd a) = record { verb = verbs.DelSd; positions = contents.Profile a.profile ∷ []; slots = slots_of_del_sd a }
+generic_form (forms.RDefine a) = record { verb = verbs.RDefine; positions = contents.Id a.class ∷ contents.Profile a.profile ∷ []; slots = slots_of_r_define a }
+generic_form (forms.RAlter a) = record { verb = verbs.RAlter; positions = contents.Id a.class ∷ contents.Profile a.profile ∷ []; slots = slots_of_r_alter a }
+generic_form (forms.RDelete a) = record { verb = verbs.RDelete; positions = contents.Id a.class ∷ contents.Profile a.profile ∷ []; slots = [] }
+generic_form (forms.Permit a) = record { verb = verbs.Permit; positions = contents.Profile a.profile ∷ []; slots = slots_of_permit a }
 
 -- The canonical text of a command.
 abbrev pub canonical : Form → List ℕ

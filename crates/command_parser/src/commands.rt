@@ -39,7 +39,7 @@ impl Issuer {
 
 /// A command with its canonical text, seen by contracts as its `Form`. The canonical text has at most 30,000 bytes, and
 /// spells the command for every issuer.
-#[derive(Debug, Drop)]
+#[derive(Drop)]
 pub struct Command {
     form: Form,
     text: Vec<u8>,

@@ -3,11 +3,12 @@
 //! An operand that takes no value is a `bool`, a list of names is empty where it wasn't given, and every other operand is
 //! an `Option` of its value. An operand and the one that takes it back, as SPECIAL and NOSPECIAL, are two fields.
 
+use crate::profile_forms::{AddSd, AltSd, DelSd, Permit, RAlter, RDefine, RDelete};
 use access_levels::{GroupAuthority, Id, Text};
 use command_grammar::Ids;
 
 /// A command.
-#[derive(Debug, Drop)]
+#[derive(Drop)]
 pub enum Form {
     AddUser(AddUser),
     AltUser(AltUser),
@@ -17,6 +18,13 @@ pub enum Form {
     DelGroup(DelGroup),
     Connect(Connect),
     Remove(Remove),
+    AddSd(AddSd),
+    AltSd(AltSd),
+    DelSd(DelSd),
+    RDefine(RDefine),
+    RAlter(RAlter),
+    RDelete(RDelete),
+    Permit(Permit),
 }
 
 /// ADDUSER defines a user (z/OS Security Server RACF Command Language Reference, ADDUSER).

@@ -3,8 +3,12 @@
 
 mod commands;
 mod convert;
+mod convert_profiles;
+mod convert_users;
 mod forms;
+pub mod laws;
 mod profile_forms;
+mod slots;
 
 pub use command_grammar::{Ids, MemberNames, ParseFault, Reset, Syntax, Whos, Word};
 pub use commands::{Command, Issuer, NoMemory, parse, print, printed_is_read};

@@ -4,3 +4,4 @@ pub mod Edits
 pub mod Climbs
 pub mod Stored
 mod Listed
+mod ScopeTests

@@ -4,3 +4,4 @@ pub mod Lawful
 pub mod Answers
 pub mod Climb
 pub mod Keyed
+pub mod ScopeTest

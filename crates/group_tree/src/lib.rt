@@ -3,6 +3,7 @@
 
 mod climb;
 mod faults;
+pub mod laws;
 mod scope;
 #[cfg(test)]
 mod tests;

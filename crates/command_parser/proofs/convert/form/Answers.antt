@@ -1,11 +1,10 @@
-use Rattle.std.proofs.Common.{subst}
-use Rattle.command_grammar.specs.declared.table.Verb.{Verb}
-use Rattle.command_grammar.specs.Table.{operands_of}
-use Rattle.command_grammar.specs.Lawful.{FitsAll}
+use Rattle.std.proofs.Common.{sym, ◌∙◌}
+use Rattle.command_grammar.specs.Parts.{generic}
+use Rattle.command_parser.proofs.Formed.{no_form, its_form}
 use Rattle.command_parser.proofs.convert.form.Goals as goal
 
-pub add_user-requires : goal.add_user-requires
-add_user-requires c = subst (λ (v : Verb). FitsAll (operands_of v) c.args.parts.slots.items) c.in-AddUser.is c.requires.fits_operands
+pub unreachable-requires : goal.unreachable-requires
+unreachable-requires c = no_form (generic c.args.parts) c.requires (sym c.form_in.ensures ∙ c.in-None.is)
 
-pub alt_user-requires : goal.alt_user-requires
-alt_user-requires c = subst (λ (v : Verb). FitsAll (operands_of v) c.args.parts.slots.items) c.in-AltUser.is c.requires.fits_operands
+pub returns : goal.returns
+returns c = its_form (generic c.args.parts) c.in-Some.form c.requires (sym c.form_in.ensures ∙ c.in-Some.is)

@@ -1,0 +1,230 @@
+//! Entries put in and taken away up to the limit, and answers with ties, by groups and by ports.
+use crate::{Found, ListFault, answer, answer_when, permit, permit_when, withdraw, withdraw_when};
+use access_levels::{CondEntry, Condition, Entry, Id, Level, PortClass, Who};
+use std::alloc::Global;
+use std::test::Fail;
+
+fn id(text: &[u8]) -> Result<Id, Fail> {
+    Ok(Id::read(text).ok().ok_or("a lawful ID")?)
+}
+
+// The ID U and a number of four digits.
+fn numbered(number: u16) -> Result<Id, Fail> {
+    let digits = [
+        b'U',
+        b'0' + (number / 1000 % 10) as u8,
+        b'0' + (number / 100 % 10) as u8,
+        b'0' + (number / 10 % 10) as u8,
+        b'0' + (number % 10) as u8,
+    ];
+    id(&digits)
+}
+
+fn entry(text: &[u8], level: Level) -> Result<Entry, Fail> {
+    Ok(Entry {
+        who: Who::Named(id(text)?),
+        level,
+    })
+}
+
+// The rank of the level that the list has for an ID, and 9 where it has none.
+fn rank_for(list: &[Entry], user: Id) -> u8 {
+    rank_of(&answer(list, user, &[], true))
+}
+
+fn rank_of(found: &Found) -> u8 {
+    match found {
+        Found::User(level) => level.rank(),
+        Found::Group(_, level) => 10 + level.rank(),
+        Found::Star(level) => 20 + level.rank(),
+        Found::Nothing => 9,
+    }
+}
+
+// Whether the answer is this group.
+fn is_group(found: &Found, group: Id) -> bool {
+    match found {
+        Found::Group(id, _) => *id == group,
+        _ => false,
+    }
+}
+
+fn is_full(put: Result<(), ListFault>) -> bool {
+    match put {
+        Err(ListFault::Full) => true,
+        _ => false,
+    }
+}
+
+#[test]
+fn puts_in_place_or_last(rt: HostRuntime) -> Result<(), Fail> {
+    let mut list = Vec::new(rt.alloc());
+    let (joe, ann) = (id(b"JOE")?, id(b"ANN")?);
+    permit(&mut list, entry(b"JOE", Level::Read)?)
+        .ok()
+        .ok_or("room")?;
+    permit(&mut list, entry(b"ANN", Level::Update)?)
+        .ok()
+        .ok_or("room")?;
+    permit(&mut list, entry(b"JOE", Level::Alter)?)
+        .ok()
+        .ok_or("room")?;
+    assert_eq!(rt; list.len(), 2);
+    assert_eq!(rt; rank_for(list.as_slice(), joe), 5);
+    assert_eq!(rt; rank_for(list.as_slice(), ann), 3);
+    withdraw(&mut list, Who::Named(joe));
+    withdraw(&mut list, Who::Star);
+    assert_eq!(rt; list.len(), 1);
+    assert_eq!(rt; rank_for(list.as_slice(), joe), 9);
+    Ok(())
+}
+
+#[test]
+fn is_full_at_a_thousand(rt: HostRuntime) -> Result<(), Fail> {
+    let mut list = Vec::new(rt.alloc());
+    for number in 0..1000 {
+        let who = Who::Named(numbered(number)?);
+        let level = Level::Read;
+        permit(&mut list, Entry { who, level }).ok().ok_or("room")?;
+    }
+    assert!(rt; is_full(permit(&mut list, entry(b"JOE", Level::Read)?)));
+    assert_eq!(rt; list.len(), 1000);
+    permit(&mut list, entry(b"U0500", Level::Alter)?)
+        .ok()
+        .ok_or("in its place")?;
+    assert_eq!(rt; rank_for(list.as_slice(), numbered(500)?), 5);
+    withdraw(&mut list, Who::Named(numbered(7)?));
+    permit(&mut list, entry(b"JOE", Level::Control)?)
+        .ok()
+        .ok_or("room again")?;
+    assert_eq!(rt; rank_for(list.as_slice(), id(b"JOE")?), 4);
+    Ok(())
+}
+
+// U0000 to U0999 with the levels NONE to ALTER in turn.
+fn large_list(alloc: Global) -> Result<Vec<Entry>, Fail> {
+    let mut list = Vec::new(alloc);
+    for number in 0..1000 {
+        let who = Who::Named(numbered(number)?);
+        let level = Level::ALL[usize::from(number % 6)];
+        list.push(Entry { who, level })?;
+    }
+    Ok(list)
+}
+
+#[test]
+fn answers_by_rank_and_order(rt: HostRuntime) -> Result<(), Fail> {
+    let mut list = large_list(rt.alloc())?;
+    let joe = id(b"JOE")?;
+    // levels READ, UPDATE, ALTER, ALTER
+    let groups = [numbered(2)?, numbered(3)?, numbered(995)?, numbered(5)?];
+    let found = answer(list.as_slice(), joe, &groups, false);
+    assert_eq!(rt; rank_of(&found), 15);
+    assert!(rt; is_group(&found, numbered(995)?));
+    let turned = [numbered(5)?, numbered(995)?];
+    assert!(rt; is_group(&answer(list.as_slice(), joe, &turned, false), numbered(5)?));
+    assert_eq!(rt; rank_of(&answer(list.as_slice(), joe, &[], false)), 9);
+    list.push(Entry {
+        who: Who::Star,
+        level: Level::Control,
+    })?;
+    assert_eq!(rt; rank_of(&answer(list.as_slice(), joe, &[], false)), 24);
+    assert_eq!(rt; rank_of(&answer(list.as_slice(), joe, &[], true)), 9);
+    assert_eq!(rt;
+        rank_of(&answer(list.as_slice(), numbered(6)?, &groups, false)),
+        0
+    );
+    Ok(())
+}
+
+fn port(class: PortClass) -> Result<Condition, Fail> {
+    let name = id(b"P1")?;
+    Ok(Condition { class, name })
+}
+
+fn conditional(class: PortClass, who: Who, level: Level) -> Result<CondEntry, Fail> {
+    let condition = port(class)?;
+    Ok(CondEntry {
+        condition,
+        who,
+        level,
+    })
+}
+
+// The place that answers for JOE, who is in the groups G1 and G2 and came by this port, and 99 for none.
+fn place_for_joe(list: &[CondEntry], class: PortClass, restricted: bool) -> Result<usize, Fail> {
+    let groups = [id(b"G1")?, id(b"G2")?];
+    let condition = Some(port(class)?);
+    match answer_when(list, condition, id(b"JOE")?, &groups, restricted) {
+        Some(place) => Ok(place),
+        None => Ok(99),
+    }
+}
+
+#[test]
+fn answers_by_port(rt: HostRuntime) -> Result<(), Fail> {
+    let mut list = Vec::new(rt.alloc());
+    let (joe, g1, g2) = (
+        Who::Named(id(b"JOE")?),
+        Who::Named(id(b"G1")?),
+        Who::Named(id(b"G2")?),
+    );
+    permit_when(
+        &mut list,
+        conditional(PortClass::Console, joe, Level::Read)?,
+    )
+    .ok()
+    .ok_or("room")?;
+    permit_when(
+        &mut list,
+        conditional(PortClass::Terminal, Who::Star, Level::Alter)?,
+    )
+    .ok()
+    .ok_or("room")?;
+    assert_eq!(rt;
+        place_for_joe(list.as_slice(), PortClass::Console, true)?,
+        0
+    );
+    assert_eq!(rt;
+        place_for_joe(list.as_slice(), PortClass::Terminal, false)?,
+        1
+    );
+    assert_eq!(rt;
+        place_for_joe(list.as_slice(), PortClass::Terminal, true)?,
+        99
+    );
+    assert_eq!(rt;
+        place_for_joe(list.as_slice(), PortClass::Jesinput, false)?,
+        99
+    );
+    permit_when(
+        &mut list,
+        conditional(PortClass::Terminal, g2, Level::Read)?,
+    )
+    .ok()
+    .ok_or("room")?;
+    permit_when(
+        &mut list,
+        conditional(PortClass::Terminal, g1, Level::Read)?,
+    )
+    .ok()
+    .ok_or("room")?;
+    assert_eq!(rt;
+        place_for_joe(list.as_slice(), PortClass::Terminal, true)?,
+        3
+    );
+    permit_when(
+        &mut list,
+        conditional(PortClass::Terminal, joe, Level::NoAccess)?,
+    )
+    .ok()
+    .ok_or("room")?;
+    assert_eq!(rt;
+        place_for_joe(list.as_slice(), PortClass::Terminal, true)?,
+        4
+    );
+    withdraw_when(&mut list, port(PortClass::Terminal)?, joe);
+    withdraw_when(&mut list, port(PortClass::Console)?, g1);
+    assert_eq!(rt; list.len(), 4);
+    Ok(())
+}

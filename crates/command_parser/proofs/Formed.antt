@@ -1,0 +1,304 @@
+-- A command is read back from the table's view of it, and what fits the table is the view of a command.
+use Rattle.std.proofs.Common.{◌≡◌, ℕ, List, [], ◌∷◌, Bool, true, false, Option, None, Some, refl, sym, ap, subst, ◌∙◌}
+use Rattle.std.specs.Option.{option_map}
+use Rattle.access_levels.specs.declared.authorities.GroupAuthority.{GroupAuthority}
+use Rattle.access_levels.specs.declared.levels.Level.{Level}
+use Rattle.access_levels.specs.declared.entries.Who.{Who}
+use Rattle.access_levels.specs.declared.entries.Condition.{Condition}
+use Rattle.generic_names.specs.Spelled.{Spelled}
+use Rattle.racf_profiles.specs.declared.profiles.AuditRule.{AuditRule}
+use Rattle.racf_profiles.specs.declared.profiles.Member.{Member}
+use Rattle.command_grammar.specs.declared.table.Verb.{Verb}
+use Rattle.command_grammar.specs.declared.table.Verb.TheVariants as verbs
+use Rattle.command_grammar.specs.declared.table.Kind.{Kind}
+use Rattle.command_grammar.specs.declared.table.Kind.TheVariants as kinds
+use Rattle.command_grammar.specs.declared.table.Operand.{Operand}
+use Rattle.command_grammar.specs.declared.table.TheConstants.{USER_POSITION, GROUP_POSITION}
+use Rattle.command_grammar.specs.declared.profile_table.TheConstants.{DATASET_POSITION, CLASS_POSITIONS, PERMIT_POSITION}
+use Rattle.command_grammar.specs.declared.values.Content.{Content}
+use Rattle.command_grammar.specs.declared.values.Content.TheVariants as contents
+use Rattle.command_grammar.specs.declared.values.Reset.{Reset}
+use Rattle.command_parser.specs.declared.forms.Form.{Form}
+use Rattle.command_parser.specs.declared.forms.Form.TheVariants as forms
+use Rattle.command_grammar.specs.Reading.{Generic, Slots}
+use Rattle.command_grammar.specs.Lawful.{Fits, FitsAll, FitsPositions, IsLawful}
+use Rattle.command_grammar.specs.Table.{positions_of, operands_of}
+use Rattle.command_parser.specs.Slots.{flag_slot, id_slot, authority_slot, name_slot, ids_slot, level_slot, audit_slot, reset_slot, whos_slot, when_slot, members_slot, member_names_slot}
+use Rattle.command_parser.specs.Forms.{generic_form}
+use Rattle.command_parser.specs.Fields.{front, behind, flag_in, id_in, authority_in, name_in, ids_in, level_in, audit_in, reset_in, whos_in, when_in, members_in, member_names_in, add_user_in, alt_user_in, add_group_in, alt_group_in, connect_in, remove_in}
+use Rattle.command_parser.specs.ProfileFields.{add_sd_in, alt_sd_in, r_define_in, r_alter_in, permit_in}
+use Rattle.command_parser.specs.FormOf.{form_by, form_of}
+
+flag_in-slot : (b : Bool) → flag_in (flag_slot b) ≡ b
+flag_in-slot true = refl
+flag_in-slot false = refl
+
+id_in-slot : (o : Option (List ℕ)) → id_in (id_slot o) ≡ o
+id_in-slot None = refl
+id_in-slot (Some id) = refl
+
+authority_in-slot : (o : Option GroupAuthority) → authority_in (authority_slot o) ≡ o
+authority_in-slot None = refl
+authority_in-slot (Some a) = refl
+
+name_in-slot : (o : Option (List ℕ)) → name_in (name_slot o) ≡ o
+name_in-slot None = refl
+name_in-slot (Some t) = refl
+
+ids_in-slot : (ids : List (List ℕ)) → ids_in (ids_slot ids) ≡ ids
+ids_in-slot [] = refl
+ids_in-slot (id ∷ ids) = refl
+
+level_in-slot : (o : Option Level) → level_in (level_slot o) ≡ o
+level_in-slot None = refl
+level_in-slot (Some x) = refl
+
+audit_in-slot : (o : Option AuditRule) → audit_in (audit_slot o) ≡ o
+audit_in-slot None = refl
+audit_in-slot (Some x) = refl
+
+reset_in-slot : (o : Option Reset) → reset_in (reset_slot o) ≡ o
+reset_in-slot None = refl
+reset_in-slot (Some x) = refl
+
+when_in-slot : (o : Option Condition) → when_in (when_slot o) ≡ o
+when_in-slot None = refl
+when_in-slot (Some x) = refl
+
+whos_in-slot : (xs : List Who) → whos_in (whos_slot xs) ≡ xs
+whos_in-slot [] = refl
+whos_in-slot (x ∷ xs) = refl
+
+members_in-slot : (xs : List Member) → members_in (members_slot xs) ≡ xs
+members_in-slot [] = refl
+members_in-slot (x ∷ xs) = refl
+
+member_names_in-slot : (xs : List Spelled) → member_names_in (member_names_slot xs) ≡ xs
+member_names_in-slot [] = refl
+member_names_in-slot (x ∷ xs) = refl
+
+-- a command is read back from its view
+pub form_of-generic : (c : Form) → form_of (generic_form c) ≡ Some c
+unfolding form_of front behind
+form_of-generic (forms.AddUser c) = simp (flag_in-slot, id_in-slot, authority_in-slot, name_in-slot, ids_in-slot)
+form_of-generic (forms.AltUser c) = simp (flag_in-slot, id_in-slot, name_in-slot, ids_in-slot)
+form_of-generic (forms.DelUser c) = refl
+form_of-generic (forms.AddGroup c) = simp id_in-slot
+form_of-generic (forms.AltGroup c) = simp id_in-slot
+form_of-generic (forms.DelGroup c) = refl
+form_of-generic (forms.Connect c) = simp (flag_in-slot, id_in-slot, authority_in-slot)
+form_of-generic (forms.Remove c) = simp id_in-slot
+form_of-generic (forms.AddSd c) = simp (flag_in-slot, id_in-slot, ids_in-slot, level_in-slot, audit_in-slot)
+form_of-generic (forms.AltSd c) = simp (flag_in-slot, id_in-slot, ids_in-slot, level_in-slot, audit_in-slot)
+form_of-generic (forms.DelSd c) = refl
+form_of-generic (forms.RDefine c) = simp (flag_in-slot, id_in-slot, ids_in-slot, level_in-slot, audit_in-slot, members_in-slot)
+form_of-generic (forms.RAlter c) = simp (flag_in-slot, id_in-slot, ids_in-slot, level_in-slot, audit_in-slot, members_in-slot, member_names_in-slot)
+form_of-generic (forms.RDelete c) = refl
+form_of-generic (forms.Permit c) = simp (flag_in-slot, level_in-slot, reset_in-slot, whos_in-slot, when_in-slot)
+
+-- the slot of the field that is read from a slot of this kind
+again : Kind → Option Content → Option Content
+again kinds.Flag s = flag_slot (flag_in s)
+again kinds.Id s = id_slot (id_in s)
+again kinds.Group s = id_slot (id_in s)
+again kinds.Authority s = authority_slot (authority_in s)
+again kinds.Name s = name_slot (name_in s)
+again kinds.Ids s = ids_slot (ids_in s)
+again kinds.Classes s = ids_slot (ids_in s)
+again kinds.Level s = level_slot (level_in s)
+again kinds.Audit s = audit_slot (audit_in s)
+again kinds.Class s = id_slot (id_in s)
+again kinds.DataSetProfile s = None
+again kinds.ClassProfile s = None
+again kinds.AnyProfile s = None
+again kinds.Reset s = reset_slot (reset_in s)
+again kinds.Whos s = whos_slot (whos_in s)
+again kinds.When s = when_slot (when_in s)
+again kinds.AddedMembers s = members_slot (members_in s)
+again kinds.DroppedMembers s = member_names_slot (member_names_in s)
+again kinds.Generic s = None
+
+again-none : (k : Kind) → again k None ≡ None
+unfolding again
+again-none kinds.Flag = refl
+again-none kinds.Id = refl
+again-none kinds.Group = refl
+again-none kinds.Authority = refl
+again-none kinds.Name = refl
+again-none kinds.Ids = refl
+again-none kinds.Classes = refl
+again-none kinds.Level = refl
+again-none kinds.Audit = refl
+again-none kinds.Class = refl
+again-none kinds.DataSetProfile = refl
+again-none kinds.ClassProfile = refl
+again-none kinds.AnyProfile = refl
+again-none kinds.Reset = refl
+again-none kinds.Whos = refl
+again-none kinds.When = refl
+again-none kinds.AddedMembers = refl
+again-none kinds.DroppedMembers = refl
+again-none kinds.Generic = refl
+
+again-some : (k : Kind) (v : Content) → Fits k v → again k (Some v) ≡ Some v
+unfolding again
+again-some kinds.Flag contents.Flag h = refl
+again-some kinds.Id (contents.Id w) h = refl
+again-some kinds.Group (contents.Id w) h = refl
+again-some kinds.Authority (contents.Authority a) h = refl
+again-some kinds.Name (contents.Name t) h = refl
+again-some kinds.Ids (contents.Ids []) h = absurd h.0
+again-some kinds.Ids (contents.Ids (w ∷ ws)) h = refl
+again-some kinds.Classes (contents.Ids []) h = absurd h.0
+again-some kinds.Classes (contents.Ids (w ∷ ws)) h = refl
+again-some k v h = absurd h
+
+-- the same of all slots
+all_again : List Operand → Slots → Slots
+all_again [] slots = []
+all_again (o ∷ os) slots = again o.kind (front slots) ∷ all_again os (behind slots)
+
+all_again-is : (os : List Operand) (ss : Slots) → FitsAll os ss → all_again os ss ≡ ss
+unfolding all_again front behind
+all_again-is [] [] h = refl
+all_again-is [] (s ∷ ss) h = absurd h
+all_again-is (o ∷ os) [] h = absurd h
+all_again-is (o ∷ os) (None ∷ ss) h = ap (λ (s : Option Content). s ∷ all_again os ss) (again-none o.kind) ∙ ap (λ (x : Slots). None ∷ x) (all_again-is os ss h)
+all_again-is (o ∷ os) (Some v ∷ ss) h = ap (λ (s : Option Content). s ∷ all_again os ss) (again-some o.kind v h.0) ∙ ap (λ (x : Slots). Some v ∷ x) (all_again-is os ss h.1)
+
+is_user : (words : List Content) → FitsPositions USER_POSITION words → (w : List ℕ) × (words ≡ contents.Id w ∷ [])
+is_user [] h = absurd h
+is_user (contents.Id w ∷ []) h = (w, refl)
+is_user (contents.Id w ∷ v ∷ vs) h = absurd h.1
+is_user (v ∷ vs) h = absurd h.0
+
+is_group : (words : List Content) → FitsPositions GROUP_POSITION words → (w : List ℕ) × (words ≡ contents.Id w ∷ [])
+is_group [] h = absurd h
+is_group (contents.Id w ∷ []) h = (w, refl)
+is_group (contents.Id w ∷ v ∷ vs) h = absurd h.1
+is_group (v ∷ vs) h = absurd h.0
+
+is_data_set : (words : List Content) → FitsPositions DATASET_POSITION words → (n : Spelled) × (words ≡ contents.Profile n ∷ [])
+is_data_set [] h = absurd h
+is_data_set (contents.Profile n ∷ []) h = (n, refl)
+is_data_set (contents.Profile n ∷ v ∷ vs) h = absurd h.1
+is_data_set (v ∷ vs) h = absurd h.0
+
+is_profile : (words : List Content) → FitsPositions PERMIT_POSITION words → (n : Spelled) × (words ≡ contents.Profile n ∷ [])
+is_profile [] h = absurd h
+is_profile (contents.Profile n ∷ []) h = (n, refl)
+is_profile (contents.Profile n ∷ v ∷ vs) h = absurd h.1
+is_profile (v ∷ vs) h = absurd h.0
+
+is_class_profile : (words : List Content) → FitsPositions CLASS_POSITIONS words → (c : List ℕ) × (n : Spelled) × (words ≡ contents.Id c ∷ contents.Profile n ∷ [])
+is_class_profile [] h = absurd h
+is_class_profile (contents.Id c ∷ contents.Profile n ∷ []) h = (c, n, refl)
+is_class_profile (contents.Id c ∷ contents.Profile n ∷ v ∷ vs) h = absurd h.1.1
+is_class_profile (contents.Id c ∷ []) h = absurd h.1
+is_class_profile (contents.Id c ∷ v ∷ vs) h = absurd h.1.0
+is_class_profile (v ∷ vs) h = absurd h.0
+
+-- a command whose view has these parts
+pub record IsViewed (v : Verb) (words : List Content) (slots : Slots) : Type 0 where
+  pub form : Form
+  pub read : form_by v words slots ≡ Some form
+  pub view : generic_form form ≡ record { verb = v; positions = words; slots = slots }
+
+-- the same of words that are equal
+viewed : (v : Verb) (words words2 : List Content) (slots : Slots) → words ≡ words2 → IsViewed v words2 slots → IsViewed v words slots
+viewed v words words2 slots same h = subst (λ (ws : List Content). IsViewed v ws slots) (sym same) h
+
+seen_again : (v : Verb) (words : List Content) (slots : Slots) → FitsAll (operands_of v) slots
+    → let view : Generic = record { verb = v; positions = words; slots = all_again (operands_of v) slots } in view ≡ record { verb = v; positions = words; slots = slots }
+seen_again v words slots fits = ap (λ (x : Slots). record { verb = v; positions = words; slots = x }) (all_again-is (operands_of v) slots fits)
+
+behind_first : List Operand → List Operand
+behind_first [] = []
+behind_first (o ∷ os) = os
+
+-- PERMIT, where its class is given
+permit_viewed : (n : Spelled) (class : List ℕ) (slots : Slots) → id_in (front slots) ≡ Some class → FitsAll (operands_of verbs.Permit) slots → IsViewed verbs.Permit (contents.Profile n ∷ []) slots
+unfolding all_again again behind_first
+permit_viewed n class slots given fits =
+    record {
+      form = forms.Permit (permit_in n class slots);
+      read = ap (λ (o : Option (List ℕ)). option_map (λ (c : List ℕ). forms.Permit (permit_in n c slots)) o) given;
+      view = ap (λ (o : Option (List ℕ)). record { verb = verbs.Permit; positions = contents.Profile n ∷ []; slots = id_slot o ∷ all_again (behind_first (operands_of verbs.Permit)) (behind slots) }) (sym given)
+          ∙ seen_again verbs.Permit (contents.Profile n ∷ []) slots fits;
+    }
+
+-- until PERMIT's name is read, no word fits where it stands
+no_permit : (words : List Content) → FitsPositions PERMIT_POSITION words → ⊥
+no_permit [] h = h
+no_permit (v ∷ vs) h = h.0
+
+pub formed_by : (v : Verb) (words : List Content) (slots : Slots) → FitsPositions (positions_of v) words → FitsAll (operands_of v) slots → IsViewed v words slots
+unfolding all_again again
+formed_by verbs.AddUser words slots at fits =
+    let w = is_user words at in
+    viewed verbs.AddUser words (contents.Id w.0 ∷ []) slots w.1
+    (record { form = forms.AddUser (add_user_in w.0 slots); read = refl; view = seen_again verbs.AddUser (contents.Id w.0 ∷ []) slots fits })
+formed_by verbs.AltUser words slots at fits =
+    let w = is_user words at in
+    viewed verbs.AltUser words (contents.Id w.0 ∷ []) slots w.1
+    (record { form = forms.AltUser (alt_user_in w.0 slots); read = refl; view = seen_again verbs.AltUser (contents.Id w.0 ∷ []) slots fits })
+formed_by verbs.DelUser words slots at fits =
+    let w = is_user words at in
+    viewed verbs.DelUser words (contents.Id w.0 ∷ []) slots w.1
+    (record { form = forms.DelUser (record { user = w.0 }); read = refl; view = seen_again verbs.DelUser (contents.Id w.0 ∷ []) slots fits })
+formed_by verbs.AddGroup words slots at fits =
+    let w = is_group words at in
+    viewed verbs.AddGroup words (contents.Id w.0 ∷ []) slots w.1
+    (record { form = forms.AddGroup (add_group_in w.0 slots); read = refl; view = seen_again verbs.AddGroup (contents.Id w.0 ∷ []) slots fits })
+formed_by verbs.AltGroup words slots at fits =
+    let w = is_group words at in
+    viewed verbs.AltGroup words (contents.Id w.0 ∷ []) slots w.1
+    (record { form = forms.AltGroup (alt_group_in w.0 slots); read = refl; view = seen_again verbs.AltGroup (contents.Id w.0 ∷ []) slots fits })
+formed_by verbs.DelGroup words slots at fits =
+    let w = is_group words at in
+    viewed verbs.DelGroup words (contents.Id w.0 ∷ []) slots w.1
+    (record { form = forms.DelGroup (record { group = w.0 }); read = refl; view = seen_again verbs.DelGroup (contents.Id w.0 ∷ []) slots fits })
+formed_by verbs.Connect words slots at fits =
+    let w = is_user words at in
+    viewed verbs.Connect words (contents.Id w.0 ∷ []) slots w.1
+    (record { form = forms.Connect (connect_in w.0 slots); read = refl; view = seen_again verbs.Connect (contents.Id w.0 ∷ []) slots fits })
+formed_by verbs.Remove words slots at fits =
+    let w = is_user words at in
+    viewed verbs.Remove words (contents.Id w.0 ∷ []) slots w.1
+    (record { form = forms.Remove (remove_in w.0 slots); read = refl; view = seen_again verbs.Remove (contents.Id w.0 ∷ []) slots fits })
+formed_by verbs.AddSd words slots at fits =
+    let w = is_data_set words at in
+    viewed verbs.AddSd words (contents.Profile w.0 ∷ []) slots w.1
+    (record { form = forms.AddSd (add_sd_in w.0 slots); read = refl; view = seen_again verbs.AddSd (contents.Profile w.0 ∷ []) slots fits })
+formed_by verbs.AltSd words slots at fits =
+    let w = is_data_set words at in
+    viewed verbs.AltSd words (contents.Profile w.0 ∷ []) slots w.1
+    (record { form = forms.AltSd (alt_sd_in w.0 slots); read = refl; view = seen_again verbs.AltSd (contents.Profile w.0 ∷ []) slots fits })
+formed_by verbs.DelSd words slots at fits =
+    let w = is_data_set words at in
+    viewed verbs.DelSd words (contents.Profile w.0 ∷ []) slots w.1
+    (record { form = forms.DelSd (record { profile = w.0 }); read = refl; view = seen_again verbs.DelSd (contents.Profile w.0 ∷ []) slots fits })
+formed_by verbs.RDefine words slots at fits =
+    let w = is_class_profile words at in
+    viewed verbs.RDefine words (contents.Id w.0 ∷ contents.Profile w.1 ∷ []) slots w.2
+    (record { form = forms.RDefine (r_define_in w.0 w.1 slots); read = refl; view = seen_again verbs.RDefine (contents.Id w.0 ∷ contents.Profile w.1 ∷ []) slots fits })
+formed_by verbs.RAlter words slots at fits =
+    let w = is_class_profile words at in
+    viewed verbs.RAlter words (contents.Id w.0 ∷ contents.Profile w.1 ∷ []) slots w.2
+    (record { form = forms.RAlter (r_alter_in w.0 w.1 slots); read = refl; view = seen_again verbs.RAlter (contents.Id w.0 ∷ contents.Profile w.1 ∷ []) slots fits })
+formed_by verbs.RDelete words slots at fits =
+    let w = is_class_profile words at in
+    viewed verbs.RDelete words (contents.Id w.0 ∷ contents.Profile w.1 ∷ []) slots w.2
+    (record { form = forms.RDelete (record { class = w.0; profile = w.1 }); read = refl; view = seen_again verbs.RDelete (contents.Id w.0 ∷ contents.Profile w.1 ∷ []) slots fits })
+formed_by verbs.Permit words slots at fits = absurd (no_permit words at)
+
+-- what a text can spell is the view of a command
+pub formed : (g : Generic) → IsLawful g → (c : Form) × (form_of g ≡ Some c) × (generic_form c ≡ g)
+unfolding form_of
+formed g h = let v = formed_by g.verb g.positions g.slots h.fits_positions h.fits_operands in (v.form, v.read, v.view)
+
+pub no_form : (g : Generic) → IsLawful g → form_of g ≡ None → ⊥
+no_form g h none = let v = formed g h in let is : form_of g ≡ Some v.0 = v.1 in cc
+
+pub its_form : (g : Generic) (c : Form) → IsLawful g → form_of g ≡ Some c → generic_form c ≡ g
+its_form g c h is = let v = formed g h in let other : form_of g ≡ Some v.0 = v.1 in let view : generic_form v.0 ≡ g = v.2 in let same : v.0 ≡ c = cc in subst (λ (x : Form). generic_form x ≡ g) same view

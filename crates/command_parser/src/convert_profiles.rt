@@ -1,0 +1,117 @@
+//! The commands on profiles, from their positional words and the values of their operands.
+
+ghost use Rattle.std.specs.Prelude.{◌≡◌};
+ghost use Rattle.std.specs.Option.{option_map};
+ghost use Rattle.command_parser.specs.Fields.{front, id_in};
+ghost use Rattle.command_parser.specs.ProfileFields.{add_sd_in, alt_sd_in, r_define_in, r_alter_in, permit_in};
+
+use crate::profile_forms::{AddSd, AltSd, Permit, RAlter, RDefine};
+use crate::slots::Slots;
+use access_levels::Id;
+use command_grammar::Content;
+use generic_names::Pattern;
+use std::alloc::Global;
+
+/// ADDSD, of whose operands these are the values.
+pub fn add_sd(alloc: Global, profile: Pattern, slots: Vec<Option<Content>>) -> AddSd
+    ensures { result ≡ add_sd_in profile slots.items }
+{
+    let mut slots = Slots::new(slots);
+    AddSd {
+        profile,
+        owner: slots.id(),
+        uacc: slots.level(),
+        warning: slots.flag(),
+        nowarning: slots.flag(),
+        audit: slots.audit(),
+        seclevel: slots.id(),
+        addcategory: slots.ids(alloc),
+        seclabel: slots.id(),
+    }
+}
+
+/// ALTDSD, of whose operands these are the values.
+pub fn alt_sd(alloc: Global, profile: Pattern, slots: Vec<Option<Content>>) -> AltSd
+    ensures { result ≡ alt_sd_in profile slots.items }
+{
+    let mut slots = Slots::new(slots);
+    AltSd {
+        profile,
+        owner: slots.id(),
+        uacc: slots.level(),
+        warning: slots.flag(),
+        nowarning: slots.flag(),
+        audit: slots.audit(),
+        globalaudit: slots.audit(),
+        seclevel: slots.id(),
+        noseclevel: slots.flag(),
+        addcategory: slots.ids(alloc),
+        delcategory: slots.ids(alloc),
+        seclabel: slots.id(),
+        noseclabel: slots.flag(),
+    }
+}
+
+/// RDEFINE, of this class and profile, of whose operands these are the values.
+pub fn r_define(alloc: Global, names: (Id, Pattern), slots: Vec<Option<Content>>) -> RDefine
+    ensures { result ≡ r_define_in names.0 names.1 slots.items }
+{
+    let (class, profile) = names;
+    let mut slots = Slots::new(slots);
+    RDefine {
+        class,
+        profile,
+        owner: slots.id(),
+        uacc: slots.level(),
+        warning: slots.flag(),
+        nowarning: slots.flag(),
+        audit: slots.audit(),
+        seclevel: slots.id(),
+        addcategory: slots.ids(alloc),
+        seclabel: slots.id(),
+        addmem: slots.members(alloc),
+    }
+}
+
+/// RALTER, of this class and profile, of whose operands these are the values.
+pub fn r_alter(alloc: Global, names: (Id, Pattern), slots: Vec<Option<Content>>) -> RAlter
+    ensures { result ≡ r_alter_in names.0 names.1 slots.items }
+{
+    let (class, profile) = names;
+    let mut slots = Slots::new(slots);
+    RAlter {
+        class,
+        profile,
+        owner: slots.id(),
+        uacc: slots.level(),
+        warning: slots.flag(),
+        nowarning: slots.flag(),
+        audit: slots.audit(),
+        globalaudit: slots.audit(),
+        seclevel: slots.id(),
+        noseclevel: slots.flag(),
+        addcategory: slots.ids(alloc),
+        delcategory: slots.ids(alloc),
+        seclabel: slots.id(),
+        noseclabel: slots.flag(),
+        addmem: slots.members(alloc),
+        delmem: slots.member_names(alloc),
+    }
+}
+
+/// PERMIT, of whose operands these are the values, where its class is among them.
+pub fn permit(alloc: Global, profile: Pattern, slots: Vec<Option<Content>>) -> Option<Permit>
+    ensures { result ≡ option_map (λ class. permit_in profile class slots.items) (id_in (front slots.items)) }
+{
+    let mut slots = Slots::new(slots);
+    let class = slots.id()?;
+    Some(Permit {
+        profile,
+        class,
+        reset: slots.reset(),
+        id: slots.whos(alloc),
+        access: slots.level(),
+        delete: slots.flag(),
+        when: slots.when(),
+    })
+}

@@ -1,0 +1,201 @@
+-- The decision on a request: the first case of the table that fits.
+use Rattle.std.specs.Prelude.{ℕ, Bool, true, false, ◌==◌, ◌&&◌, not, List, [], ◌∷◌, map, find, Option, Some, None, is_some, option_map, option_and_then, option_copied, unwrap_or, nat_lt, slice_get, codes, bytes_eq, if◌then◌else◌}
+use Rattle.std.specs.Option.{option_map_or}
+use Rattle.std.specs.List.{before_first, filter}
+use Rattle.access_levels.specs.declared.levels.Level.{Level}
+use Rattle.access_levels.specs.declared.levels.Level.TheVariants.{NoAccess, Read}
+use Rattle.access_levels.specs.declared.entries.Entry.{Entry}
+use Rattle.access_levels.specs.declared.entries.CondEntry.{CondEntry}
+use Rattle.access_levels.specs.Level.{level_rank, suffices}
+use Rattle.access_lists.specs.declared.best.GroupEntry.{GroupEntry}
+use Rattle.access_lists.specs.Answers as lists
+use Rattle.generic_names.specs.Spelled.{Spelled, period}
+use Rattle.generic_names.specs.Best.{best}
+use Rattle.racf_profiles.specs.declared.profiles.Profile.{Profile}
+use Rattle.racf_profiles.specs.declared.options.Options.{Options}
+use Rattle.racf_profiles.specs.declared.rows.Rows.{Rows}
+use Rattle.racf_profiles.specs.Lookup.{class_of}
+use Rattle.racf_profiles.specs.ClassTable.{facts_of}
+use Rattle.racf_profiles.specs.State.{State, effective}
+use Rattle.group_tree.specs.ScopeTest.{is_profile_in_scope}
+use Rattle.acee.specs.declared.acee.Acee.{Acee}
+use Rattle.acee.specs.declared.acee.AceeGroup.{AceeGroup}
+use Rattle.acee.specs.Verify.{is_active}
+use Rattle.decision.specs.declared.outcome.Rule.{Rule}
+use Rattle.decision.specs.declared.outcome.Rule.TheVariants as rule
+use Rattle.decision.specs.declared.outcome.Decision.{Decision}
+
+-- ---- what the cases ask about
+
+-- p: the most specific of the effective profiles of the class that cover the name.
+abbrev pub profile_for : State → List ℕ → Spelled → Option Profile
+profile_for state class name = option_and_then (λ profiles. best (λ (profile : Profile). profile.name) profiles name) (effective class state)
+
+abbrev pub is_dataset : List ℕ → Bool
+is_dataset class = bytes_eq class (codes "DATASET")
+
+-- Whether the class table lets OPERATIONS give access in the class.
+abbrev pub allows_operations : List ℕ → Bool
+allows_operations class = option_map_or (λ facts. facts.operations) (facts_of class) false
+
+-- The first qualifier of a name is what stands before its first period.
+abbrev pub first_qualifier : Spelled → List ℕ
+first_qualifier name = before_first (λ byte. byte == period) name.text
+
+-- The considered groups are all groups of the ACEE while GRPLIST is on, else its current group alone.
+abbrev pub considered : Options → Acee → List (List ℕ)
+considered options acee = if options.grplist then map (λ (group : AceeGroup). group.group) acee.groups else acee.current ∷ []
+
+-- Those of them in which the user has group-OPERATIONS.
+abbrev pub is_considered : Options → Acee → AceeGroup → Bool
+is_considered options acee group = if options.grplist then true else bytes_eq group.group acee.current
+
+abbrev pub operating : Options → Acee → List AceeGroup
+operating options acee = filter (λ (group : AceeGroup). is_considered options acee group && group.operations) acee.groups
+
+-- The first of these groups in whose scope the profile is.
+abbrev pub operating_over : Rows → Acee → Profile → Option (List ℕ)
+operating_over rows acee profile = option_map (λ (group : AceeGroup). group.group) (find (λ (group : AceeGroup). is_profile_in_scope rows group.group profile.owner) (operating rows.options acee))
+
+-- The user entry, the group entry and the `*` entry of p's standard list; the last doesn't count for a RESTRICTED user.
+abbrev pub user_entry : Acee → Profile → Option Entry
+user_entry acee profile = lists.user_entry acee.user profile.standard
+
+abbrev pub group_entry : Options → Acee → Profile → Option GroupEntry
+group_entry options acee profile = lists.group_entry (considered options acee) profile.standard
+
+abbrev pub star_entry : Acee → Profile → Option Entry
+star_entry acee profile = lists.star_entry acee.attributes.restricted profile.standard
+
+-- The entry of p's conditional list, under the ACEE's port, that counts for the user by the same rule.
+abbrev pub conditional_entry : Options → Acee → Profile → Option CondEntry
+conditional_entry options acee profile = option_and_then (λ place. slice_get profile.conditional place) (lists.answered_when acee.port acee.user (considered options acee) acee.attributes.restricted profile.conditional)
+
+-- The standing level is the user entry's; without one, the group entry's; without both, NONE for a RESTRICTED user and else the higher
+-- of the `*` entry and the UACC.
+abbrev pub higher : Level → Level → Level
+higher level other = if nat_lt (level_rank level) (level_rank other) then other else level
+
+abbrev pub everyones_level : Acee → Profile → Level
+everyones_level acee profile = if acee.attributes.restricted then NoAccess else higher profile.uacc (option_map_or (λ (entry : Entry). entry.level) (star_entry acee profile) NoAccess)
+
+abbrev pub standing_of : Option Entry → Option GroupEntry → Level → Level
+standing_of (Some entry) group everyones = entry.level
+standing_of None (Some group) everyones = group.level
+standing_of None None everyones = everyones
+
+abbrev pub standing : Options → Acee → Profile → Level
+standing options acee profile = standing_of (user_entry acee profile) (group_entry options acee profile) (everyones_level acee profile)
+
+-- ---- the table
+
+-- What a case answers: its rule, its return code, and the level that it found.
+pub record Answer : Type 0 where
+  pub rule : Rule
+  pub rc : ℕ
+  pub found : Level
+
+-- A case with its answer, which it gives where it fits.
+abbrev pub case : Bool → Rule → ℕ → Level → Option Answer
+case fits rule rc found = if fits then Some record { rule = rule; rc = rc; found = found } else None
+
+-- A case that speaks of an entry or a group fits only where there is one.
+abbrev pub with : {X : Type 0} → Option X → (X → Option Answer) → Option Answer
+with thing of_it = option_and_then of_it thing
+
+-- A case that nothing can meet yet.
+abbrev pub never : Option Answer
+never = None
+
+-- The answer of the first case that fits.
+abbrev pub first_answer : List (Option Answer) → Option Answer
+first_answer [] = None
+first_answer (None ∷ cases) = first_answer cases
+first_answer (Some answer ∷ cases) = Some answer
+
+-- A case that fits where no case before it does.
+abbrev pub else_case : Rule → ℕ → Level → Answer
+else_case rule rc found = record { rule = rule; rc = rc; found = found }
+
+-- Before a profile is asked:
+abbrev pub cases_of_class : Rows → List ℕ → List (Option Answer)
+cases_of_class rows class =
+    -- 1 NOCLASS: the class isn't in the class table
+    case (not (is_some (class_of class rows))) rule.NoClass 4 NoAccess
+    -- 2 CLASSOFF: the class isn't active
+    ∷ case (not (is_active class rows)) rule.ClassOff 4 NoAccess
+    -- 3 GLOBAL: the global access table gives the level asked. No member of it can be defined yet
+    ∷ never
+    ∷ []
+
+-- Where there is no p:
+abbrev pub cases_without_profile : Options → List ℕ → List (Option Answer)
+cases_without_profile options class =
+    -- 4 PROTECTALL: there is no p, the class is DATASET and PROTECTALL is on
+    case (is_dataset class && options.protectall) rule.ProtectAll 8 NoAccess
+    ∷ []
+
+-- 5 NOPROFILE: there is no p
+abbrev pub no_profile : Answer
+no_profile = else_case rule.NoProfile 4 NoAccess
+
+-- Where there is a p:
+module _ (rows : Rows) (acee : Acee) (class : List ℕ) (name : Spelled) (asked : Level) (p : Profile) where
+  -- neither the user nor a considered group has an entry
+  abbrev pub has_neither : Bool
+  has_neither = not (is_some (user_entry acee p)) && not (is_some (group_entry rows.options acee p))
+
+  abbrev pub cases_with_profile : List (Option Answer)
+  cases_with_profile =
+      -- 6 CLASSIFIED: the classification check fails. No level, category or label can be defined yet
+      never
+      -- 7 OWNDATA: the class is DATASET and the name's first qualifier is the user ID
+      ∷ case (is_dataset class && bytes_eq (first_qualifier name) acee.user) rule.OwnData 0 NoAccess
+      -- 8 USER: there is a user entry and it suffices
+      ∷ with (user_entry acee p) (λ entry. case (suffices entry.level asked) rule.UserEntry 0 entry.level)
+      -- 9 GROUP: there is no user entry, and the group entry suffices
+      ∷ with (group_entry rows.options acee p) (λ entry. case (not (is_some (user_entry acee p)) && suffices entry.level asked) (rule.GroupEntry entry.group) 0 entry.level)
+      -- 10 STAR: neither entry exists, the user isn't RESTRICTED, the `*` entry suffices
+      ∷ with (star_entry acee p) (λ entry. case (has_neither && not acee.attributes.restricted && suffices entry.level asked) rule.Star 0 entry.level)
+      -- 11 UACC: neither entry exists, the user isn't RESTRICTED, the UACC suffices
+      ∷ case (has_neither && not acee.attributes.restricted && suffices p.uacc asked) rule.Uacc 0 p.uacc
+      -- 12 CONDITIONAL: the entry of the conditional list under the ACEE's port that counts for the user suffices
+      ∷ with (conditional_entry rows.options acee p) (λ entry. case (suffices entry.level asked) (rule.Conditional entry.condition) 0 entry.level)
+      -- 13 OPERATIONS: the class allows OPERATIONS, neither entry exists, the ACEE has OPERATIONS
+      ∷ case (allows_operations class && has_neither && acee.attributes.operations) rule.Operations 0 (standing rows.options acee p)
+      -- 14 GROUPOPS: the class allows OPERATIONS, neither entry exists, a considered group (the first) has group-OPERATIONS and p is in scope of it
+      ∷ with (operating_over rows acee p) (λ group. case (allows_operations class && has_neither) (rule.GroupOperations group) 0 (standing rows.options acee p))
+      -- 15 WARNING: p has WARNING
+      ∷ case p.warning rule.Warning 0 (standing rows.options acee p)
+      ∷ []
+
+  -- 16 INSUFFICIENT: else
+  abbrev pub insufficient : Answer
+  insufficient = else_case rule.Insufficient 8 (standing rows.options acee p)
+
+-- ---- the decision
+
+abbrev pub is_warning : Rule → Bool
+is_warning rule.Warning = true
+is_warning _ = false
+
+-- The decision of an answer, on a profile or without one, at a generation.
+abbrev pub decision_of : ℕ → Option Profile → Answer → Decision
+decision_of generation profile answer = record {
+  rc = answer.rc;
+  rule = answer.rule;
+  profile = option_map (λ (p : Profile). p.name) profile;
+  found = answer.found;
+  warned = is_warning answer.rule;
+  generation = generation;
+}
+
+module _ (state : State) (generation : ℕ) (acee : Acee) (class : List ℕ) (name : Spelled) (asked : Level) where
+  abbrev pub decided_after : Option Answer → Option Profile → Decision
+  decided_after (Some answer) p = decision_of generation None answer
+  decided_after None None = decision_of generation None (unwrap_or (first_answer (cases_without_profile state.rows.options class)) no_profile)
+  decided_after None (Some p) = decision_of generation (Some p) (unwrap_or (first_answer (cases_with_profile state.rows acee class name asked p)) (insufficient state.rows acee class name asked p))
+
+  -- The first case that fits decides.
+  abbrev pub decided : Decision
+  decided = decided_after (first_answer (cases_of_class state.rows class)) (profile_for state class name)

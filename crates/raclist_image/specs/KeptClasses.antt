@@ -1,0 +1,21 @@
+-- How a class is kept: its name, its flags and its profiles.
+use Rattle.std.specs.Prelude.{◌≡◌}
+use Rattle.racf_profiles.specs.declared.class_rows.ClassRow.{ClassRow}
+use Rattle.class_profiles.specs.Lawful.{AreProfiles, kind_in}
+use Rattle.raclist_image.specs.Flags.{heeds_operations}
+use Rattle.raclist_image.specs.declared.classes.ClassEntry.TheInside.{Inside}
+
+abbrev pub row_of : Inside → ClassRow
+row_of class = record {
+  name = class.name;
+  active = class.flags.active;
+  listed = class.flags.listed;
+  global = class.flags.global;
+  log = class.flags.log;
+  profiles = class.profiles.profiles;
+}
+
+-- OPERATIONS counts as the class table says, and the names of its profiles have the kind of the class.
+pub record IsKept (class : Inside) : Type 0 where
+  pub operations : class.flags.operations ≡ heeds_operations class.name
+  pub kind : class.profiles.kind ≡ kind_in class.name

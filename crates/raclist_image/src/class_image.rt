@@ -1,0 +1,93 @@
+//! The profiles of one class in an image.
+ghost use Rattle.std.specs.Prelude.{◌≡◌, ◌<◌, length, Some, IfOk, IsSomeAnd, option_map};
+ghost use Rattle.std.specs.List.{slice_get};
+ghost use Rattle.racf_profiles.specs.declared.profiles.Profile.{Profile};
+ghost use Rattle.class_profiles.specs.Lawful.{AreProfiles};
+ghost use Rattle.class_profiles.specs.Table.{best_profile, IsPlaceOf};
+ghost use Rattle.raclist_image.specs.Facts.{AreFacts};
+
+use crate::facts::Facts;
+use class_profiles::ProfileTable;
+use generic_names::{NameKind, Pattern, Resource};
+use racf_profiles::{NoMemory, Profile};
+use std::alloc::Global;
+use std::marker::Model;
+
+/// The effective profiles of one class, in order of specificity.
+#[derive(Drop)]
+pub struct ClassImage {
+    table: ProfileTable,
+}
+
+impl Model for ClassImage {
+    ghost use Rattle.raclist_image.specs.Imaged.{ClassImaged};
+
+    ghost Value = { ClassImaged };
+
+    ghost use Rattle.raclist_image.specs.KeptProfiles.{profiles_in};
+
+    ghost view = { profiles_in };
+}
+
+impl ClassImage {
+    /// The image of these profiles, copied, in time that grows with their number.
+    pub fn of(alloc: Global, profiles: &[Profile], kind: NameKind) -> Result<ClassImage, NoMemory>
+        requires { AreProfiles kind profiles.now }
+        ensures { IfOk result (λ image. image ≡ record { kind = kind; profiles = profiles.now }) }
+    {
+        Ok(ClassImage {
+            table: ProfileTable::of(alloc, kind, profiles)?,
+        })
+    }
+
+    /// How many profiles there are, at most 50,000.
+    pub fn len(&self) -> usize
+        ensures count { result ≡ length self.now.profiles }
+        ensures lawful { AreProfiles self.now.kind self.now.profiles }
+    {
+        self.table.len()
+    }
+
+    /// The place of the most specific profile that covers the name, from 0. It is found by a search in the order, in
+    /// which only profiles that differ behind a `*` or `**` alone are looked at one by one.
+    pub fn find(&self, name: &Resource) -> Option<usize>
+        requires { name.now.kind ≡ self.now.kind }
+        ensures { IsPlaceOf self.now.profiles (best_profile self.now.profiles name.now) result }
+    {
+        self.table.find(name)
+    }
+
+    /// The name of the profile at that place.
+    pub fn name(&self, place: usize) -> Pattern
+        requires { place < length self.now.profiles }
+        ensures { option_map (λ (profile : Profile). profile.name) (slice_get self.now.profiles place) ≡ Some result }
+    {
+        self.table.at(place).name
+    }
+
+    /// What a decision reads of the profile at that place.
+    pub fn facts(&self, place: usize) -> Facts<'_>
+        requires { place < length self.now.profiles }
+        ensures { IsSomeAnd (slice_get self.now.profiles place) (λ profile. AreFacts profile result) }
+    {
+        facts_of(self.table.at(place))
+    }
+}
+
+// What a decision reads of this profile.
+fn facts_of(profile: &Profile) -> Facts<'_>
+    ensures { AreFacts profile.now result }
+{
+    Facts {
+        owner: profile.owner,
+        uacc: profile.uacc,
+        warning: profile.warning,
+        standard: profile.standard.items.as_slice(),
+        conditional: profile.conditional.items.as_slice(),
+        level: profile.level,
+        categories: profile.categories,
+        label: profile.label,
+        audit: profile.audit,
+        global_audit: profile.global_audit,
+    }
+}

@@ -1,5 +1,5 @@
 -- VERIFY's checks of the user and of his connection to the group, and the ACEE that is made of them.
-use Rattle.std.specs.Prelude.{◌≡◌, ℕ, Bool, false, not, List, map, Option, Some, None, Result, Ok, Err, filter, find, unwrap_or, codes, bytes_eq, if◌then◌else◌}
+use Rattle.std.specs.Prelude.{◌≡◌, ℕ, Bool, false, List, Option, Some, None, Result, Ok, Err, find, unwrap_or, codes, bytes_eq, if◌then◌else◌}
 use Rattle.std.specs.Option.{option_or, option_map_or}
 use Rattle.racf_profiles.specs.declared.users.User.{User}
 use Rattle.racf_profiles.specs.declared.users.Connect.{Connect as Connection}
@@ -8,10 +8,10 @@ use Rattle.racf_profiles.specs.declared.rows.Rows.{Rows}
 use Rattle.racf_profiles.specs.Lookup.{user_of, class_of}
 use Rattle.racf_profiles.specs.State.{State}
 use Rattle.acee.specs.declared.acee.Acee.{Acee}
-use Rattle.acee.specs.declared.acee.AceeGroup.{AceeGroup}
+use Rattle.acee.specs.Groups.{acee_groups}
 use Rattle.acee.specs.declared.request.VerifyRequest.{VerifyRequest}
 use Rattle.acee.specs.declared.request.VerifyFault.{VerifyFault}
-use Rattle.acee.specs.declared.request.VerifyFault.TheVariants.{NotDefined, NotConnected, Revoked, ConnectRevoked, Port, Application, Label, NoMemory}
+use Rattle.acee.specs.declared.request.VerifyFault.TheVariants.{NotDefined, NotConnected, Revoked, ConnectRevoked, NoMemory}
 
 -- The group is the one named, else the user's default group.
 abbrev pub group_asked : VerifyRequest → User → List ℕ
@@ -20,13 +20,6 @@ group_asked request user = unwrap_or request.group user.default_group
 -- The user's connection to a group.
 abbrev pub connection_to : List ℕ → User → Option Connection
 connection_to group user = find (λ connection. bytes_eq connection.group group) user.connects
-
--- The groups are those of the connections that aren't revoked, in their order, each with its group-OPERATIONS.
-abbrev pub acee_group : Connection → AceeGroup
-acee_group connection = record { group = connection.group; operations = connection.operations }
-
-abbrev pub acee_groups : List Connection → List AceeGroup
-acee_groups connections = map acee_group (filter (λ connection. not connection.revoked) connections)
 
 -- A class is active.
 abbrev pub is_active : List ℕ → Rows → Bool

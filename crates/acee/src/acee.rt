@@ -1,6 +1,6 @@
 //! The ACEE.
+use crate::groups::AceeGroups;
 use access_levels::{Attributes, Categories, Condition, Id};
-use std::marker::Model;
 
 /// The accessor environment element: what decisions know of a user. It stays as it was made, whatever
 /// commands change afterwards.
@@ -21,27 +21,4 @@ pub struct Acee {
     pub application: Option<Id>,
     /// How many commands had been accepted.
     pub generation: u64,
-}
-
-/// A group of the user.
-#[derive(Clone, Copy, Debug, PartialEq, Eq)]
-pub struct AceeGroup {
-    pub group: Id,
-    /// The connection has group-OPERATIONS.
-    pub operations: bool,
-}
-
-/// A list of groups.
-#[derive(Debug, Drop)]
-pub struct AceeGroups {
-    pub items: Vec<AceeGroup>,
-}
-
-impl Model for AceeGroups {
-    ghost use Rattle.std.specs.Prelude.{List};
-    ghost use Rattle.acee.specs.declared.acee.AceeGroup.{AceeGroup};
-
-    ghost Value = { List AceeGroup };
-
-    ghost view = { λ list. list.items.items };
 }

@@ -2,7 +2,10 @@
 #![tactic(auto)]
 
 mod acee;
+mod groups;
 mod request;
+mod verify;
 
-pub use acee::{Acee, AceeGroup, AceeGroups};
+pub use acee::Acee;
+pub use groups::{AceeGroup, AceeGroups};
 pub use request::{VerifyFault, VerifyRequest};

@@ -1,2 +1,6 @@
 mod Order
 mod Pairs
+mod Counts
+mod Places
+mod Changes
+mod Texts

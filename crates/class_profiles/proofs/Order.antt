@@ -1,5 +1,5 @@
 -- Profiles in order of specificity: what stands behind a name, and what a put and a drop leave.
-use Rattle.std.proofs.Common.{◌≡◌, ℕ, zero, suc, ◌+◌, ◌≤◌, Bool, true, false, cond, ◌&&◌, List, [], ◌∷◌, length, take, add-one, Option, Some, None, is_some, if◌then◌else◌, ◌<◌, refl, sym, ◌∙◌, ap, subst, arith, ⊎_elim, ◌⊎◌}
+use Rattle.std.proofs.Common.{◌≡◌, ℕ, zero, suc, ◌+◌, ◌≤◌, Bool, true, false, cond, ◌&&◌, List, [], ◌∷◌, length, take, ◌++◌, add-one, Option, Some, None, is_some, if◌then◌else◌, ◌<◌, refl, sym, ◌∙◌, ap, subst, arith, ⊎_elim, ◌⊎◌}
 use Rattle.std.specs.List.{find, AllByRecursion, slice_get}
 use Rattle.std.specs.Str.{bytes_eq}
 use Rattle.std.proofs.lemmas.Slice.Eq.{bytes_eq-Decides}
@@ -145,7 +145,7 @@ module _ (not_both : NotBoth) where
         by false other rest = ap (λ b. cond b (Some y) (find (is_profile n) (drop_row (is_profile n) ys))) other ∙ rest
 
     -- those behind a name, behind which others stand
-    all-further : (m n : Spelled) (ps : List Profile) → before m n ≡ true → AllByRecursion (λ (z : Profile). before n z.name ≡ true) ps → AllByRecursion (λ (z : Profile). before m z.name ≡ true) ps
+    pub all-further : (m n : Spelled) (ps : List Profile) → before m n ≡ true → AllByRecursion (λ (z : Profile). before n z.name ≡ true) ps → AllByRecursion (λ (z : Profile). before m z.name ≡ true) ps
     all-further m n [] first all = tt
     all-further m n (z ∷ zs) first all = (passed_on m n z.name first all.0, all-further m n zs first all.1)
 
@@ -213,3 +213,12 @@ module _ (not_both : NotBoth) (passed_on : PassedOn) (kind : NameKind) (ps : Lis
 
   pub next-kind : x.name.kind ≡ kind
   next-kind = ap (λ (q : Profile). q.name.kind) same ∙ (all-at (λ (z : Profile). IsPattern z.name × (z.name.kind ≡ kind)) ps i p lawful.named at).1
+
+-- one element more of a list, pushed behind those before it
+pub take-push : {X : Type 0} (xs : List X) (i : ℕ) (x : X) → slice_get xs i ≡ Some x → take i xs ++ x ∷ [] ≡ take (suc i) xs
+take-push [] i x at = cc
+take-push (y ∷ ys) zero x at = let here : y ≡ x = cc in ap (λ z. z ∷ []) (sym here)
+take-push (y ∷ ys) (suc i) x at = ap (λ zs. y ∷ zs) (take-push ys i x at)
+
+pub take-next : {X : Type 0} (xs : List X) (i : ℕ) (x y : X) (now after : List X) → slice_get xs i ≡ Some x → y ≡ x → now ≡ take i xs → after ≡ now ++ y ∷ [] → after ≡ take (i + 1) xs
+take-next xs i x y now after at same so_far pushed = pushed ∙ ap (λ zs. zs ++ y ∷ []) so_far ∙ ap (λ z. take i xs ++ z ∷ []) same ∙ rw add-one (take-push xs i x at)

@@ -1,3 +1,6 @@
 pub mod Lawful
 pub mod Table
 pub mod Paired
+pub mod Classes
+pub mod Counted
+pub mod Summed

@@ -11,7 +11,7 @@ ghost use Rattle.class_profiles.specs.Table.{best_profile, IsPlaceOf, CanPut};
 
 use generic_names::{NameKind, Pattern, Resource};
 use profile_index::Index;
-use racf_profiles::{NoMemory, Profile};
+use racf_profiles::{NoMemory, Profile, Profiles};
 use std::alloc::Global;
 use std::marker::Model;
 
@@ -70,6 +70,17 @@ impl ProfileTable {
             table.put_with_memory(self.at(place).copy(alloc)?)?;
         }
         Ok(table)
+    }
+
+    /// The profiles in their order, copied.
+    pub fn rows(&self, alloc: Global) -> Result<Profiles, NoMemory>
+        ensures { IfOk result (λ rows. rows ≡ self.now.profiles) }
+    {
+        let mut items = Vec::new(alloc);
+        for place in 0..self.len() {
+            items.push(self.at(place).copy(alloc)?)?;
+        }
+        Ok(Profiles { items })
     }
 
     /// The kind of the names.

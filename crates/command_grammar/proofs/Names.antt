@@ -86,7 +86,7 @@ name-id kinds.Name w x h = cc
 name-id kinds.Ids w x h = result_ok-some (id_of (map upper w)) x h
 name-id kinds.Level w x h = cc
 name-id kinds.Audit w x h = cc
-name-id kinds.Class w x h = cc
+name-id kinds.Class w x h = result_ok-some (id_of (map upper w)) x h
 name-id kinds.DataSetProfile w x h = cc
 name-id kinds.ClassProfile w x h = cc
 name-id kinds.AnyProfile w x h = cc
@@ -97,7 +97,7 @@ name-id kinds.AddedMembers w x h = cc
 name-id kinds.DroppedMembers w x h = cc
 name-id kinds.Generic w x h = cc
 
-all_of : (p q : ℕ → Bool) → ((b : ℕ) → p b ≡ true → q b ≡ true) → (w : List ℕ) → list_all p w ≡ true → list_all q w ≡ true
+pub all_of : (p q : ℕ → Bool) → ((b : ℕ) → p b ≡ true → q b ≡ true) → (w : List ℕ) → list_all p w ≡ true → list_all q w ≡ true
 all_of p q implies [] h = refl
 all_of p q implies (b ∷ w) h = rw (implies b (both_first _ _ h)) (all_of p q implies w (both_second _ _ h))
 
@@ -138,7 +138,7 @@ name_folded kinds.Name v w h = refl
 name_folded kinds.Ids v w h = rw h refl
 name_folded kinds.Level v w h = refl
 name_folded kinds.Audit v w h = refl
-name_folded kinds.Class v w h = refl
+name_folded kinds.Class v w h = rw h refl
 name_folded kinds.DataSetProfile v w h = refl
 name_folded kinds.ClassProfile v w h = refl
 name_folded kinds.AnyProfile v w h = refl

@@ -1,28 +1,43 @@
 -- What is read is lawful.
-use Rattle.std.proofs.Common.{◌≡◌, ℕ, zero, suc, List, [], ◌∷◌, ◌++◌, length, map, Bool, true, false, cond, ◌&&◌, Option, None, Some, Result, Ok, Err, refl, sym, ap, subst, ◌∙◌, append_assoc}
-use Rattle.std.specs.Prelude.{◌==◌, slice_set, nat_lt, is_ok}
+use Rattle.std.proofs.Common.{◌≡◌, ◌⊎◌, inl, inr, ℕ, zero, suc, List, [], ◌∷◌, ◌++◌, length, map, Bool, true, false, cond, not, ◌&&◌, Option, None, Some, Result, Ok, Err, refl, sym, ap, subst, ◌∙◌, append_assoc}
+use Rattle.std.specs.Prelude.{◌==◌, slice_set, nat_lt, is_ok, if◌then◌else◌}
 use Rattle.std.proofs.lemmas.List.{append-nil}
-use Rattle.access_levels.specs.Spelling.{authority_of}
+use Rattle.access_levels.specs.Spelling.{authority_of, level_of}
+use Rattle.access_levels.specs.declared.levels.Level.{Level}
+use Rattle.access_levels.specs.declared.levels.Level.TheVariants.{Read}
+use Rattle.generic_names.specs.Spelled.{Spelled}
+use Rattle.racf_profiles.specs.declared.profiles.AuditRule.{AuditRule}
 use Rattle.command_words.specs.declared.quoting.Quoting.TheVariants.{Ignored}
 use Rattle.command_words.specs.Bytes.{upper}
-use Rattle.command_words.specs.Tokens.{Token, Word, Group, Open, Close, tokens, of_command}
-use Rattle.command_words.specs.Items.{Item, Bare, With, Unbounded, Odd, items, opens_value}
+use Rattle.command_words.specs.Tokens.{Token, Word, Group, Open, Close, tokens, of_command, of_naming_command}
+use Rattle.command_words.specs.Items.{Item, Bare, With, Unbounded, Odd, items}
+use Rattle.command_words.proofs.Letters.{both_first, both_second}
 use Rattle.command_grammar.specs.declared.faults.Syntax.{Syntax}
 use Rattle.command_grammar.specs.declared.faults.Syntax.TheVariants as faults
+use Rattle.command_grammar.specs.declared.audits.AuditWord.{AuditWord}
+use Rattle.command_grammar.specs.declared.audits.AuditWord.TheVariants as audited
 use Rattle.command_grammar.specs.declared.table.Verb.{Verb}
+use Rattle.command_grammar.specs.declared.table.Verb.TheVariants as verbs
 use Rattle.command_grammar.specs.declared.table.Kind.{Kind}
 use Rattle.command_grammar.specs.declared.table.Kind.TheVariants as kinds
 use Rattle.command_grammar.specs.declared.table.Position.{Position}
 use Rattle.command_grammar.specs.declared.table.Operand.{Operand}
 use Rattle.command_grammar.specs.declared.values.Content.{Content}
 use Rattle.command_grammar.specs.declared.values.Content.TheVariants as contents
+use Rattle.command_grammar.specs.declared.values.Reset.TheVariants as resets
 use Rattle.command_grammar.specs.declared.values.Context.{Context}
+use Rattle.command_grammar.specs.declared.values.Scope.{Scope}
+use Rattle.command_grammar.specs.declared.values.Known.{Known}
 use Rattle.command_grammar.specs.Results.{◌>>=◌, or_fault}
 use Rattle.command_grammar.specs.Table.{positions_of, operands_of, verb_named}
-use Rattle.command_grammar.specs.Values.{clean, word_of, name_of, is_name, if_name, unquoted, name_text, one, quotes_of, stray, unless_stray, single, names, several, value, bare}
-use Rattle.command_grammar.specs.Reading.{Generic, Slots, named, row_at, position_at, positions_at, slot_of, operand_at, operands_at, given, clash, unless_clash, closed, no_slots, body_at, command_at, parsed}
-use Rattle.command_grammar.specs.Lawful.{AreNames, IsNonEmpty, Fits, FitsPositions, FitsAll, IsLawful}
+use Rattle.command_grammar.specs.WordsOfValues.{clean, word_of, held, unless_stray}
+use Rattle.command_grammar.specs.ProfileNames.{dataset_profile, class_profile, dataset_text, profile_of_text, dataset_named}
+use Rattle.command_grammar.specs.Audits.{so_far, with_word, is_audit_level, if_audit_level, audit_level, with_level, audit_word, audit_more, audits, audit_rule, is_half, is_audit_rule}
+use Rattle.command_grammar.specs.Values.{name_of, is_name, if_name, unquoted, name_text, reset_of, one, quotes_of, single, names, several, value, bare}
+use Rattle.command_grammar.specs.Reading.{Generic, Slots, row_at, placed, position_at, behind, positions_at, slot_of, operand_at, operands_at, given, clash, unless_clash, is_generic_kind, generic_place, cleared, completed, closed, no_slots, body_at, begins_with_name, behind_first, begun, command_at, parsed}
+use Rattle.command_grammar.specs.Lawful.{AreNames, IsNonEmpty, Fits, FitsPositions, FitsAll, Suits, SuitsPositions, nothing_known, IsLawful}
 use Rattle.command_grammar.proofs.Names.{if-err, name-again}
+use Rattle.command_grammar.proofs.Patterns.{dataset-named, class-named}
 
 bind-ok : {A B : Type 0} (r : Result A Syntax) (f : A → Result B Syntax) (y : B) → (r >>= f) ≡ Ok y → (x : A) × (r ≡ Ok x) × (f x ≡ Ok y)
 bind-ok (Ok x) f y h = (x, refl, h)
@@ -51,49 +66,78 @@ name_text-some (b ∷ bs) t h = name_text-one (b == 39) h
     name_text-one true h = if_name-some (unquoted false [] bs) t h
     name_text-one false h = cc
 
-one-fits : (at : Context) (k : Kind) (p : ℕ) (w : List ℕ) (v : Content) → one at k p w ≡ Ok v → Fits k v
+-- fits, and suits what stands in front
+abbrev pub FitsHere : Known → Kind → Content → Type 0
+FitsHere known k v = Fits k v × Suits known k v
+
+along-here : (known : Known) (k : Kind) (v w : Content) → v ≡ w → FitsHere known k v → FitsHere known k w
+along-here known k v w same h = subst (λ (u : Content). FitsHere known k u) same h
+
+dataset-fits : (issuer w : List ℕ) (n : Spelled) → dataset_named issuer w ≡ Some n → dataset_profile n.text ≡ Some n
+dataset-fits issuer w n h = text-fits (dataset_text issuer w) h
+  where
+    text-fits : (o : Option (List ℕ)) → profile_of_text o ≡ Some n → dataset_profile n.text ≡ Some n
+    text-fits None h = cc
+    text-fits (Some t) h = ap dataset_profile (dataset-named t n h).text ∙ h
+
+one-fits : (at : Scope) (k : Kind) (p : ℕ) (w : List ℕ) (v : Content) → one at k p w ≡ Ok v → FitsHere at.known k v
 one-fits at kinds.Id p w v h =
     let read = bind-ok (or_fault (name_of kinds.Id w) (faults.BadValue p)) (λ x. Ok (contents.Id x)) v h in
     let same : contents.Id read.0 ≡ v = cc in
-    along kinds.Id (contents.Id read.0) v same (name-again kinds.Id w read.0 (or_fault-ok (name_of kinds.Id w) (faults.BadValue p) read.0 read.1))
+    along-here at.known kinds.Id (contents.Id read.0) v same (name-again kinds.Id w read.0 (or_fault-ok (name_of kinds.Id w) (faults.BadValue p) read.0 read.1), tt)
 one-fits at kinds.Group p w v h =
     let read = bind-ok (or_fault (name_of kinds.Group w) (faults.BadValue p)) (λ x. Ok (contents.Id x)) v h in
     let same : contents.Id read.0 ≡ v = cc in
-    along kinds.Group (contents.Id read.0) v same (name-again kinds.Group w read.0 (or_fault-ok (name_of kinds.Group w) (faults.BadValue p) read.0 read.1))
+    along-here at.known kinds.Group (contents.Id read.0) v same (name-again kinds.Group w read.0 (or_fault-ok (name_of kinds.Group w) (faults.BadValue p) read.0 read.1), tt)
+one-fits at kinds.Class p w v h =
+    let read = bind-ok (or_fault (name_of kinds.Class w) (faults.BadValue p)) (λ x. Ok (contents.Id x)) v h in
+    let same : contents.Id read.0 ≡ v = cc in
+    along-here at.known kinds.Class (contents.Id read.0) v same (name-again kinds.Class w read.0 (or_fault-ok (name_of kinds.Class w) (faults.BadValue p) read.0 read.1), tt)
 one-fits at kinds.Authority p w v h =
     let read = bind-ok (or_fault (authority_of (map upper w)) (faults.BadValue p)) (λ a. Ok (contents.Authority a)) v h in
     let same : contents.Authority read.0 ≡ v = cc in
-    along kinds.Authority (contents.Authority read.0) v same tt
+    along-here at.known kinds.Authority (contents.Authority read.0) v same (tt, tt)
 one-fits at kinds.Name p w v h =
     let read = bind-ok (or_fault (name_text w) (faults.BadValue p)) (λ t. Ok (contents.Name t)) v h in
     let same : contents.Name read.0 ≡ v = cc in
-    along kinds.Name (contents.Name read.0) v same (name_text-some w read.0 (or_fault-ok (name_text w) (faults.BadValue p) read.0 read.1))
+    along-here at.known kinds.Name (contents.Name read.0) v same (name_text-some w read.0 (or_fault-ok (name_text w) (faults.BadValue p) read.0 read.1), tt)
+one-fits at kinds.Level p w v h =
+    let read = bind-ok (or_fault (level_of (map upper w)) (faults.BadValue p)) (λ l. Ok (contents.Level l)) v h in
+    let same : contents.Level read.0 ≡ v = cc in
+    along-here at.known kinds.Level (contents.Level read.0) v same (tt, tt)
+one-fits at kinds.Reset p w v h =
+    let read = bind-ok (or_fault (reset_of (map upper w)) (faults.BadValue p)) (λ r. Ok (contents.Reset r)) v h in
+    let same : contents.Reset read.0 ≡ v = cc in
+    along-here at.known kinds.Reset (contents.Reset read.0) v same (tt, tt)
+one-fits at kinds.DataSetProfile p w v h =
+    let read = bind-ok (or_fault (dataset_named at.issuer w) (faults.BadValue p)) (λ n. Ok (contents.Profile n)) v h in
+    let same : contents.Profile read.0 ≡ v = cc in
+    along-here at.known kinds.DataSetProfile (contents.Profile read.0) v same (dataset-fits at.issuer w read.0 (or_fault-ok (dataset_named at.issuer w) (faults.BadValue p) read.0 read.1), tt)
+one-fits at kinds.ClassProfile p w v h =
+    let read = bind-ok (or_fault (class_profile at.known.class (map upper w)) (faults.BadValue p)) (λ n. Ok (contents.Profile n)) v h in
+    let same : contents.Profile read.0 ≡ v = cc in
+    let named = or_fault-ok (class_profile at.known.class (map upper w)) (faults.BadValue p) read.0 read.1 in
+    along-here at.known kinds.ClassProfile (contents.Profile read.0) v same (tt, ap (class_profile at.known.class) (class-named at.known.class (map upper w) read.0 named).text ∙ named)
 one-fits at kinds.Flag p w v h = cc
 one-fits at kinds.Ids p w v h = cc
 one-fits at kinds.Classes p w v h = cc
-one-fits at kinds.Level p w v h = cc
 one-fits at kinds.Audit p w v h = cc
-one-fits at kinds.Class p w v h = cc
-one-fits at kinds.DataSetProfile p w v h = cc
-one-fits at kinds.ClassProfile p w v h = cc
 one-fits at kinds.AnyProfile p w v h = cc
-one-fits at kinds.Reset p w v h = cc
 one-fits at kinds.Whos p w v h = cc
 one-fits at kinds.When p w v h = cc
 one-fits at kinds.AddedMembers p w v h = cc
 one-fits at kinds.DroppedMembers p w v h = cc
 one-fits at kinds.Generic p w v h = cc
 
-unless_stray-ok : (o : Option ℕ) (u v : Content) → unless_stray o u ≡ Ok v → u ≡ v
+unless_stray-ok : {A : Type 0} (o : Option ℕ) (u v : A) → unless_stray o u ≡ Ok v → u ≡ v
 unless_stray-ok None u v h = cc
 unless_stray-ok (Some p) u v h = cc
 
-single-fits : (at : Context) (k : Kind) (p : ℕ) (is : List Item) (v : Content) → single at k p is ≡ Ok v → Fits k v
-single-fits at k p [] v h = cc
-single-fits at k p (i ∷ is) v h =
-    let word = bind-ok (word_of (quotes_of k) i) (λ w. one at k w.0 w.1 >>= λ v. unless_stray (stray (quotes_of k) is) v) v h in
-    let read = bind-ok (one at k word.0.0 word.0.1) (λ v. unless_stray (stray (quotes_of k) is) v) v word.2 in
-    along k read.0 v (unless_stray-ok (stray (quotes_of k) is) read.0 v read.2) (one-fits at k word.0.0 word.0.1 read.0 read.1)
+single-fits : (at : Scope) (k : Kind) (p : ℕ) (is : List Item) (v : Content) → single at k p is ≡ Ok v → FitsHere at.known k v
+single-fits at k p is v h =
+    let word = bind-ok (held (quotes_of k) p is) (λ h. one at k h.0 h.1 >>= λ v. unless_stray h.2 v) v h in
+    let read = bind-ok (one at k word.0.0 word.0.1) (λ v. unless_stray word.0.2 v) v word.2 in
+    along-here at.known k read.0 v (unless_stray-ok word.0.2 read.0 v read.2) (one-fits at k word.0.0 word.0.1 read.0 read.1)
 
 AreNames-push : (k : Kind) (front : List (List ℕ)) (x : List ℕ) → AreNames k front → name_of k x ≡ Some x → AreNames k (front ++ x ∷ [])
 AreNames-push k [] x h one = (one, tt)
@@ -125,47 +169,120 @@ several-fits k p (i ∷ is) v h =
     let fit = names-fit k (read.0 ∷ []) is list.0 read.2 tt (again, tt) in
     (list.0, same, fit.0, fit.1)
 
-value-fits : (at : Context) (k : Kind) (p : ℕ) (is : List Item) (v : Content) → value at k p is ≡ Ok v → Fits k v
-value-fits at kinds.Flag p is v h = cc
+-- what is logged, from word to word
+level-fits : (p : ℕ) (is : List Item) (l : Level) → audit_level p is ≡ Ok l → is_audit_level l ≡ true
+level-fits p is l h =
+    let word = bind-ok (held Ignored p is) (λ h. or_fault (if_audit_level (level_of (map upper h.1))) (faults.BadValue h.0) >>= λ l. unless_stray h.2 l) l h in
+    let read = bind-ok (or_fault (if_audit_level (level_of (map upper word.0.1))) (faults.BadValue word.0.0)) (λ l. unless_stray word.0.2 l) l word.2 in
+    let same : read.0 ≡ l = unless_stray-ok word.0.2 read.0 l read.2 in
+    subst (λ (m : Level). is_audit_level m ≡ true) same (level-some (level_of (map upper word.0.1)) read.0 (or_fault-ok (if_audit_level (level_of (map upper word.0.1))) (faults.BadValue word.0.0) read.0 read.1))
+  where
+    level-one : (c : Bool) (m l : Level) → is_audit_level m ≡ c → cond c (Some m) None ≡ Some l → is_audit_level l ≡ true
+    level-one true m l is h = let same : m ≡ l = cc in subst (λ (n : Level). is_audit_level n ≡ true) same is
+    level-one false m l is h = cc
+    level-some : (o : Option Level) (l : Level) → if_audit_level o ≡ Some l → is_audit_level l ≡ true
+    level-some None l h = cc
+    level-some (Some m) l h = level-one (is_audit_level m) m l refl h
+
+both-true : (a b : Bool) → a ≡ true → b ≡ true → (a && b) ≡ true
+both-true true b h k = k
+both-true false b h k = cc
+
+word-fits : (rule : AuditRule) (a : AuditWord) (l : Level) → is_audit_rule rule ≡ true → is_audit_level l ≡ true → is_audit_rule (with_word rule a l) ≡ true
+word-fits rule audited.All l h k = both-true (is_audit_level l) (is_audit_level l) k k
+word-fits rule audited.Success l h k = both-true (is_audit_level l) (is_half rule.failures) k (both_second (is_half rule.success) (is_half rule.failures) h)
+word-fits rule audited.Failures l h k = both-true (is_half rule.success) (is_audit_level l) (both_first (is_half rule.success) (is_half rule.failures) h) k
+word-fits rule audited.Nothing l h k = refl
+
+abbrev are_so_far : Option AuditRule → Type 0
+are_so_far o = is_audit_rule (so_far o) ≡ true
+
+with_level-fits : (rule : AuditRule) (a : AuditWord) (p : ℕ) (is : List Item) (r : AuditRule) → with_level rule a p is ≡ Ok r → is_audit_rule rule ≡ true → is_audit_rule r ≡ true
+with_level-fits rule audited.Nothing p is r h fits = cc
+with_level-fits rule audited.All p is r h fits =
+    let read = bind-ok (audit_level p is) (λ l. Ok (with_word rule audited.All l)) r h in
+    let same : with_word rule audited.All read.0 ≡ r = cc in
+    subst (λ (x : AuditRule). is_audit_rule x ≡ true) same (word-fits rule audited.All read.0 fits (level-fits p is read.0 read.1))
+with_level-fits rule audited.Success p is r h fits =
+    let read = bind-ok (audit_level p is) (λ l. Ok (with_word rule audited.Success l)) r h in
+    let same : with_word rule audited.Success read.0 ≡ r = cc in
+    subst (λ (x : AuditRule). is_audit_rule x ≡ true) same (word-fits rule audited.Success read.0 fits (level-fits p is read.0 read.1))
+with_level-fits rule audited.Failures p is r h fits =
+    let read = bind-ok (audit_level p is) (λ l. Ok (with_word rule audited.Failures l)) r h in
+    let same : with_word rule audited.Failures read.0 ≡ r = cc in
+    subst (λ (x : AuditRule). is_audit_rule x ≡ true) same (word-fits rule audited.Failures read.0 fits (level-fits p is read.0 read.1))
+
+more-fits : (rule : Option AuditRule) (i : Item) (r : AuditRule) → audit_more rule i ≡ Ok r → are_so_far rule → is_audit_rule r ≡ true
+more-fits rule (Bare p w) r h fits =
+    let word = bind-ok (audit_word rule p w) (λ a. Ok (with_word (so_far rule) a Read)) r h in
+    let same : with_word (so_far rule) word.0 Read ≡ r = cc in
+    subst (λ (x : AuditRule). is_audit_rule x ≡ true) same (word-fits (so_far rule) word.0 Read fits refl)
+more-fits rule (With p w t) r h fits =
+    let word = bind-ok (audit_word rule p w) (λ a. with_level (so_far rule) a p (items (tokens t))) r h in
+    with_level-fits (so_far rule) word.0 p (items (tokens t)) r word.2 fits
+more-fits rule (Unbounded p w place) r h fits = cc
+more-fits rule (Odd p) r h fits = cc
+
+audits-fit : (rule : Option AuditRule) (is : List Item) (last : Option AuditRule) → audits rule is ≡ Ok last → are_so_far rule → are_so_far last
+audits-fit rule [] last h fits = let same : rule ≡ last = cc in subst (λ (o : Option AuditRule). are_so_far o) same fits
+audits-fit rule (i ∷ is) last h fits =
+    let read = bind-ok (audit_more rule i) (λ r. audits (Some r) is) last h in
+    audits-fit (Some read.0) is last read.2 (more-fits rule i read.0 read.1 fits)
+
+audit-fits : (p : ℕ) (is : List Item) (rule : AuditRule) → audit_rule p is ≡ Ok rule → is_audit_rule rule ≡ true
+audit-fits p is rule h =
+    let read = bind-ok (audits None is) (λ rule. or_fault rule (faults.BadValue p)) rule h in
+    let some : read.0 ≡ Some rule = or_fault-ok read.0 (faults.BadValue p) rule read.2 in
+    subst (λ (o : Option AuditRule). are_so_far o) some (audits-fit None is read.0 read.1 refl)
+
+value-fits : (at : Scope) (k : Kind) (p : ℕ) (is : List Item) (v : Content) → value at k p is ≡ Ok v → Fits k v
 value-fits at kinds.Ids p is v h = let list = several-fits kinds.Ids p is v h in along kinds.Ids (contents.Ids list.0) v list.1 (list.2, list.3)
 value-fits at kinds.Classes p is v h = let list = several-fits kinds.Classes p is v h in along kinds.Classes (contents.Ids list.0) v list.1 (list.2, list.3)
-value-fits at kinds.Id p is v h = single-fits at kinds.Id p is v h
-value-fits at kinds.Group p is v h = single-fits at kinds.Group p is v h
-value-fits at kinds.Authority p is v h = single-fits at kinds.Authority p is v h
-value-fits at kinds.Name p is v h = single-fits at kinds.Name p is v h
-value-fits at kinds.Level p is v h = cc
-value-fits at kinds.Audit p is v h = cc
-value-fits at kinds.Class p is v h = cc
+value-fits at kinds.Audit p is v h =
+    let read = bind-ok (audit_rule p is) (λ rule. Ok (contents.Audit rule)) v h in
+    let same : contents.Audit read.0 ≡ v = cc in
+    along kinds.Audit (contents.Audit read.0) v same (audit-fits p is read.0 read.1)
+value-fits at kinds.Id p is v h = (single-fits at kinds.Id p is v h).0
+value-fits at kinds.Group p is v h = (single-fits at kinds.Group p is v h).0
+value-fits at kinds.Class p is v h = (single-fits at kinds.Class p is v h).0
+value-fits at kinds.Authority p is v h = (single-fits at kinds.Authority p is v h).0
+value-fits at kinds.Name p is v h = (single-fits at kinds.Name p is v h).0
+value-fits at kinds.Level p is v h = (single-fits at kinds.Level p is v h).0
+value-fits at kinds.Reset p is v h = (single-fits at kinds.Reset p is v h).0
+value-fits at kinds.Flag p is v h = cc
 value-fits at kinds.DataSetProfile p is v h = cc
 value-fits at kinds.ClassProfile p is v h = cc
 value-fits at kinds.AnyProfile p is v h = cc
-value-fits at kinds.Reset p is v h = cc
 value-fits at kinds.Whos p is v h = cc
 value-fits at kinds.When p is v h = cc
 value-fits at kinds.AddedMembers p is v h = cc
 value-fits at kinds.DroppedMembers p is v h = cc
 value-fits at kinds.Generic p is v h = cc
 
-bare-fits : (k : Kind) (p : ℕ) (v : Content) → bare k p ≡ Ok v → Fits k v
-bare-fits kinds.Flag p v h = let same : contents.Flag ≡ v = cc in along kinds.Flag contents.Flag v same tt
-bare-fits kinds.Id p v h = cc
-bare-fits kinds.Group p v h = cc
-bare-fits kinds.Authority p v h = cc
-bare-fits kinds.Name p v h = cc
-bare-fits kinds.Ids p v h = cc
-bare-fits kinds.Classes p v h = cc
-bare-fits kinds.Level p v h = cc
-bare-fits kinds.Audit p v h = cc
-bare-fits kinds.Class p v h = cc
-bare-fits kinds.DataSetProfile p v h = cc
-bare-fits kinds.ClassProfile p v h = cc
-bare-fits kinds.AnyProfile p v h = cc
-bare-fits kinds.Reset p v h = cc
-bare-fits kinds.Whos p v h = cc
-bare-fits kinds.When p v h = cc
-bare-fits kinds.AddedMembers p v h = cc
-bare-fits kinds.DroppedMembers p v h = cc
-bare-fits kinds.Generic p v h = cc
+-- what stands in a slot while a text is read: a value of its kind, or GENERIC
+abbrev pub Holds : Kind → Content → Type 0
+Holds k v = (is_generic_kind k ≡ true) ⊎ Fits k v
+
+bare-holds : (at : Scope) (k : Kind) (p : ℕ) (v : Content) → bare at k p ≡ Ok v → Holds k v
+bare-holds at kinds.Flag p v h = let same : contents.Flag ≡ v = cc in inr (along kinds.Flag contents.Flag v same tt)
+bare-holds at kinds.Reset p v h = let same : contents.Reset resets.All ≡ v = cc in inr (along kinds.Reset (contents.Reset resets.All) v same tt)
+bare-holds at kinds.Generic p v h = inl refl
+bare-holds at kinds.Id p v h = cc
+bare-holds at kinds.Group p v h = cc
+bare-holds at kinds.Authority p v h = cc
+bare-holds at kinds.Name p v h = cc
+bare-holds at kinds.Ids p v h = cc
+bare-holds at kinds.Classes p v h = cc
+bare-holds at kinds.Level p v h = cc
+bare-holds at kinds.Audit p v h = cc
+bare-holds at kinds.Class p v h = cc
+bare-holds at kinds.DataSetProfile p v h = cc
+bare-holds at kinds.ClassProfile p v h = cc
+bare-holds at kinds.AnyProfile p v h = cc
+bare-holds at kinds.Whos p v h = cc
+bare-holds at kinds.When p v h = cc
+bare-holds at kinds.AddedMembers p v h = cc
+bare-holds at kinds.DroppedMembers p v h = cc
 
 ok-same : {A : Type 0} (x y : A) → let read : Result A Syntax = Ok x in read ≡ Ok y → x ≡ y
 ok-same x y h = cc
@@ -176,110 +293,170 @@ pair-ok {A} j k u v h =
     (ap (λ (x : ℕ × A). x.0) same, ap (λ (x : ℕ × A). x.1) same)
 
 -- operands
-operand-fits : (at : Context) (rows : List Operand) (slots : Slots) (i : Item) (k : ℕ) (v : Content) → operand_at at rows slots i ≡ Ok (k, v) → Fits (row_at rows k).kind v
-operand-fits at rows slots (Bare p w) k v h =
-    let slot = bind-ok (slot_of rows slots p w) (λ k. bare (row_at rows k).kind p >>= λ v. Ok (k, v)) (k, v) h in
-    let read = bind-ok (bare (row_at rows slot.0).kind p) (λ v. Ok (slot.0, v)) (k, v) slot.2 in
+abbrev pub HoldsAll : List Operand → Slots → Type 0
+HoldsAll [] [] = Unit {0}
+HoldsAll (o ∷ os) (None ∷ ss) = HoldsAll os ss
+HoldsAll (o ∷ os) (Some v ∷ ss) = Holds o.kind v × HoldsAll os ss
+HoldsAll os ss = ⊥
+
+operand-holds : (at : Scope) (rows : List Operand) (slots : Slots) (i : Item) (k : ℕ) (v : Content) → operand_at at rows slots i ≡ Ok (k, v) → Holds (row_at rows k).kind v
+operand-holds at rows slots (Bare p w) k v h =
+    let slot = bind-ok (slot_of rows slots p w) (λ k. bare at (row_at rows k).kind p >>= λ v. Ok (k, v)) (k, v) h in
+    let read = bind-ok (bare at (row_at rows slot.0).kind p) (λ v. Ok (slot.0, v)) (k, v) slot.2 in
     let pair = pair-ok slot.0 k read.0 v read.2 in
     let row : slot.0 ≡ k = pair.0 in
     let same : read.0 ≡ v = pair.1 in
-    let fits : Fits (row_at rows slot.0).kind read.0 = bare-fits (row_at rows slot.0).kind p read.0 read.1 in
-    subst (λ (j : ℕ). Fits (row_at rows j).kind v) row (along (row_at rows slot.0).kind read.0 v same fits)
-operand-fits at rows slots (With p w t) k v h =
+    let holds : Holds (row_at rows slot.0).kind read.0 = bare-holds at (row_at rows slot.0).kind p read.0 read.1 in
+    subst (λ (j : ℕ). Holds (row_at rows j).kind v) row (subst (λ (u : Content). Holds (row_at rows slot.0).kind u) same holds)
+operand-holds at rows slots (With p w t) k v h =
     let slot = bind-ok (slot_of rows slots p w) (λ k. value at (row_at rows k).kind p (items (tokens t)) >>= λ v. Ok (k, v)) (k, v) h in
     let read = bind-ok (value at (row_at rows slot.0).kind p (items (tokens t))) (λ v. Ok (slot.0, v)) (k, v) slot.2 in
     let pair = pair-ok slot.0 k read.0 v read.2 in
     let row : slot.0 ≡ k = pair.0 in
     let same : read.0 ≡ v = pair.1 in
     let fits : Fits (row_at rows slot.0).kind read.0 = value-fits at (row_at rows slot.0).kind p (items (tokens t)) read.0 read.1 in
-    subst (λ (j : ℕ). Fits (row_at rows j).kind v) row (along (row_at rows slot.0).kind read.0 v same fits)
-operand-fits at rows slots (Unbounded p w place) k v h =
+    subst (λ (j : ℕ). Holds (row_at rows j).kind v) row (inr (along (row_at rows slot.0).kind read.0 v same fits))
+operand-holds at rows slots (Unbounded p w place) k v h =
     let slot = bind-ok (slot_of rows slots p w) (λ k. Err (faults.Unclosed place)) (k, v) h in
     let no = slot.2 in cc
-operand-fits at rows slots (Odd p) k v h = cc
+operand-holds at rows slots (Odd p) k v h = cc
 
-FitsAll-tail : (o : Operand) (os : List Operand) (s : Option Content) (ss : Slots) → FitsAll (o ∷ os) (s ∷ ss) → FitsAll os ss
-FitsAll-tail o os None ss h = h
-FitsAll-tail o os (Some v) ss h = h.1
+HoldsAll-tail : (o : Operand) (os : List Operand) (s : Option Content) (ss : Slots) → HoldsAll (o ∷ os) (s ∷ ss) → HoldsAll os ss
+HoldsAll-tail o os None ss h = h
+HoldsAll-tail o os (Some v) ss h = h.1
 
-FitsAll-set : (os : List Operand) (ss : Slots) (k : ℕ) (v : Content) → FitsAll os ss → Fits (row_at os k).kind v → FitsAll os (slice_set ss k (Some v))
-FitsAll-set [] [] k v h fits = tt
-FitsAll-set [] (s ∷ ss) k v h fits = absurd h
-FitsAll-set (o ∷ os) [] k v h fits = absurd h
-FitsAll-set (o ∷ os) (s ∷ ss) zero v h fits = (fits, FitsAll-tail o os s ss h)
-FitsAll-set (o ∷ os) (None ∷ ss) (suc k) v h fits = FitsAll-set os ss k v h fits
-FitsAll-set (o ∷ os) (Some u ∷ ss) (suc k) v h fits = (h.0, FitsAll-set os ss k v h.1 fits)
+HoldsAll-set : (os : List Operand) (ss : Slots) (k : ℕ) (v : Content) → HoldsAll os ss → Holds (row_at os k).kind v → HoldsAll os (slice_set ss k (Some v))
+HoldsAll-set [] [] k v h holds = tt
+HoldsAll-set [] (s ∷ ss) k v h holds = absurd h
+HoldsAll-set (o ∷ os) [] k v h holds = absurd h
+HoldsAll-set (o ∷ os) (s ∷ ss) zero v h holds = (holds, HoldsAll-tail o os s ss h)
+HoldsAll-set (o ∷ os) (None ∷ ss) (suc k) v h holds = HoldsAll-set os ss k v h holds
+HoldsAll-set (o ∷ os) (Some u ∷ ss) (suc k) v h holds = (h.0, HoldsAll-set os ss k v h.1 holds)
 
-FitsAll-none : (os : List Operand) → FitsAll os (no_slots os)
-FitsAll-none [] = tt
-FitsAll-none (o ∷ os) = FitsAll-none os
+HoldsAll-none : (os : List Operand) → HoldsAll os (no_slots os)
+HoldsAll-none [] = tt
+HoldsAll-none (o ∷ os) = HoldsAll-none os
 
-operands-fit : (at : Context) (rows : List Operand) (slots : Slots) (is : List Item) (ss : Slots) → operands_at at rows slots is ≡ Ok ss → FitsAll rows slots → FitsAll rows ss
-operands-fit at rows slots [] ss h fits = let same : slots ≡ ss = cc in subst (λ (xs : Slots). FitsAll rows xs) same fits
-operands-fit at rows slots (i ∷ is) ss h fits =
+operands-hold : (at : Scope) (rows : List Operand) (slots : Slots) (is : List Item) (ss : Slots) → operands_at at rows slots is ≡ Ok ss → HoldsAll rows slots → HoldsAll rows ss
+operands-hold at rows slots [] ss h holds = let same : slots ≡ ss = cc in subst (λ (xs : Slots). HoldsAll rows xs) same holds
+operands-hold at rows slots (i ∷ is) ss h holds =
     let read = bind-ok (operand_at at rows slots i) (λ x. operands_at at rows (slice_set slots x.0 (Some x.1)) is) ss h in
-    operands-fit at rows (slice_set slots read.0.0 (Some read.0.1)) is ss read.2 (FitsAll-set rows slots read.0.0 read.0.1 fits (operand-fits at rows slots i read.0.0 read.0.1 read.1))
+    operands-hold at rows (slice_set slots read.0.0 (Some read.0.1)) is ss read.2 (HoldsAll-set rows slots read.0.0 read.0.1 holds (operand-holds at rows slots i read.0.0 read.0.1 read.1))
+
+-- GENERIC leaves nothing behind
+abbrev none_generic : List Operand → Bool
+none_generic [] = true
+none_generic (o ∷ os) = not (is_generic_kind o.kind) && none_generic os
+
+abbrev only_generic : List Operand → ℕ → Bool
+only_generic [] k = true
+only_generic (o ∷ os) zero = none_generic os
+only_generic (o ∷ os) (suc k) = not (is_generic_kind o.kind) && only_generic os k
+
+holds-fits : (k : Kind) (v : Content) → not (is_generic_kind k) ≡ true → Holds k v → Fits k v
+holds-fits k v h (inl g) = let no : not true ≡ true = ap not (sym g) ∙ h in cc
+holds-fits k v h (inr fits) = fits
+
+none-fits : (os : List Operand) (ss : Slots) → HoldsAll os ss → none_generic os ≡ true → FitsAll os ss
+none-fits [] [] h none = tt
+none-fits [] (s ∷ ss) h none = absurd h
+none-fits (o ∷ os) [] h none = absurd h
+none-fits (o ∷ os) (None ∷ ss) h none = none-fits os ss h (both_second (not (is_generic_kind o.kind)) (none_generic os) none)
+none-fits (o ∷ os) (Some v ∷ ss) h none =
+    (holds-fits o.kind v (both_first (not (is_generic_kind o.kind)) (none_generic os) none) h.0, none-fits os ss h.1 (both_second (not (is_generic_kind o.kind)) (none_generic os) none))
+
+cleared-fits : (os : List Operand) (ss : Slots) (k : ℕ) → HoldsAll os ss → only_generic os k ≡ true → FitsAll os (slice_set ss k None)
+cleared-fits [] [] k h only = tt
+cleared-fits [] (s ∷ ss) k h only = absurd h
+cleared-fits (o ∷ os) [] k h only = absurd h
+cleared-fits (o ∷ os) (s ∷ ss) zero h only = none-fits os ss (HoldsAll-tail o os s ss h) only
+cleared-fits (o ∷ os) (None ∷ ss) (suc k) h only = cleared-fits os ss k h (both_second (not (is_generic_kind o.kind)) (only_generic os k) only)
+cleared-fits (o ∷ os) (Some v ∷ ss) (suc k) h only =
+    (holds-fits o.kind v (both_first (not (is_generic_kind o.kind)) (only_generic os k) only) h.0, cleared-fits os ss k h.1 (both_second (not (is_generic_kind o.kind)) (only_generic os k) only))
+
+completed-fits : (v : Verb) (ss : Slots) → HoldsAll (operands_of v) ss → FitsAll (operands_of v) (completed v ss)
+completed-fits verbs.AddUser ss h = none-fits (operands_of verbs.AddUser) ss h refl
+completed-fits verbs.AltUser ss h = none-fits (operands_of verbs.AltUser) ss h refl
+completed-fits verbs.DelUser ss h = none-fits (operands_of verbs.DelUser) ss h refl
+completed-fits verbs.AddGroup ss h = none-fits (operands_of verbs.AddGroup) ss h refl
+completed-fits verbs.AltGroup ss h = none-fits (operands_of verbs.AltGroup) ss h refl
+completed-fits verbs.DelGroup ss h = none-fits (operands_of verbs.DelGroup) ss h refl
+completed-fits verbs.Connect ss h = none-fits (operands_of verbs.Connect) ss h refl
+completed-fits verbs.Remove ss h = none-fits (operands_of verbs.Remove) ss h refl
+completed-fits verbs.RDefine ss h = none-fits (operands_of verbs.RDefine) ss h refl
+completed-fits verbs.RAlter ss h = none-fits (operands_of verbs.RAlter) ss h refl
+completed-fits verbs.RDelete ss h = none-fits (operands_of verbs.RDelete) ss h refl
+completed-fits verbs.AddSd ss h = cleared-fits (operands_of verbs.AddSd) ss 8 h refl
+completed-fits verbs.AltSd ss h = cleared-fits (operands_of verbs.AltSd) ss 12 h refl
+completed-fits verbs.DelSd ss h = cleared-fits (operands_of verbs.DelSd) ss 0 h refl
+completed-fits verbs.Permit ss h = cleared-fits (operands_of verbs.Permit) ss 6 h refl
+
+set-twice : (ss : Slots) (k : ℕ) → slice_set (slice_set ss k None) k None ≡ slice_set ss k None
+set-twice [] k = refl
+set-twice (s ∷ ss) zero = refl
+set-twice (s ∷ ss) (suc k) = ap (λ rest. s ∷ rest) (set-twice ss k)
+
+cleared-again : (o : Option ℕ) (ss : Slots) → cleared o (cleared o ss) ≡ cleared o ss
+cleared-again None ss = refl
+cleared-again (Some k) ss = set-twice ss k
 
 first-ok : {A B : Type 0} (u v : A) (x y : B) → let read : Result (A × B) Syntax = Ok (u, x) in read ≡ Ok (v, y) → u ≡ v
 first-ok {A} {B} u v x y h = ap (λ (z : A × B). z.0) (ok-same (u, x) (v, y) h)
 
 -- positional words
-position-fits : (at : Context) (rows : List Operand) (pos : Position) (ts : List Token) (v : Content) (rest : List Token) → position_at at rows pos ts ≡ Ok (v, rest) → Fits pos.kind v
-position-fits at rows pos [] v rest h = cc
-position-fits at rows pos (Word p w ∷ ts) v rest h =
-    let judged = if-err (opens_value ts && is_ok (named rows p (map upper w))) (faults.Missing pos.word) (clean Ignored p w >>= λ w. one at pos.kind p w >>= λ v. Ok (v, ts)) (v, rest) h in
-    let word = bind-ok (clean Ignored p w) (λ w. one at pos.kind p w >>= λ v. Ok (v, ts)) (v, rest) judged.1 in
-    let read = bind-ok (one at pos.kind p word.0) (λ v. Ok (v, ts)) (v, rest) word.2 in
-    along pos.kind read.0 v (first-ok read.0 v ts rest read.2) (one-fits at pos.kind p word.0 read.0 read.1)
-position-fits at rows pos (Group tied p t ∷ ts) v rest h =
-    let read = bind-ok (single at pos.kind p (items (tokens t))) (λ v. Ok (v, ts)) (v, rest) h in
-    along pos.kind read.0 v (first-ok read.0 v ts rest read.2) (single-fits at pos.kind p (items (tokens t)) read.0 read.1)
-position-fits at rows pos (Open tied p place ∷ ts) v rest h = cc
-position-fits at rows pos (Close p ∷ ts) v rest h = cc
+position-fits : (at : Scope) (rows : List Operand) (pos : Position) (ts : List Token) (v : Content) (rest : List Token) → position_at at rows pos ts ≡ Ok (v, rest) → FitsHere at.known pos.kind v
+position-fits at rows pos ts v rest h =
+    let word = bind-ok (placed rows pos ts) (λ x. one at pos.kind x.0.0 x.0.1 >>= λ v. unless_stray x.0.2 v >>= λ v. Ok (v, x.1)) (v, rest) h in
+    let read = bind-ok (one at pos.kind word.0.0.0 word.0.0.1) (λ v. unless_stray word.0.0.2 v >>= λ v. Ok (v, word.0.1)) (v, rest) word.2 in
+    let end = bind-ok (unless_stray word.0.0.2 read.0) (λ v. Ok (v, word.0.1)) (v, rest) read.2 in
+    let same : read.0 ≡ v = unless_stray-ok word.0.0.2 read.0 end.0 end.1 ∙ first-ok end.0 v word.0.1 rest end.2 in
+    along-here at.known pos.kind read.0 v same (one-fits at pos.kind word.0.0.0 word.0.0.1 read.0 read.1)
+
+triple-ok : {A B C : Type 0} (a d : A) (b e : B) (c f : C) → let read : Result (A × B × C) Syntax = Ok (a, b, c) in read ≡ Ok (d, e, f) → a ≡ d
+triple-ok {A} {B} {C} a d b e c f h = ap (λ (z : A × B × C). z.0) (ok-same (a, b, c) (d, e, f) h)
 
 -- the values behind those that were there
-positions-fit : (at : Context) (rows : List Operand) (ps : List Position) (front : List Content) (ts : List Token) (all : List Content) (rest : List Token) → positions_at at rows ps front ts ≡ Ok (all, rest)
-    → (vs : List Content) × (all ≡ front ++ vs) × FitsPositions ps vs
-positions-fit at rows [] front ts all rest h = ([], sym (first-ok front all ts rest h) ∙ sym (append-nil front), tt)
-positions-fit at rows (pos ∷ ps) front ts all rest h =
-    let read = bind-ok (position_at at rows pos ts) (λ x. positions_at at rows ps (front ++ x.0 ∷ []) x.1) (all, rest) h in
-    let more = positions-fit at rows ps (front ++ read.0.0 ∷ []) read.0.1 all rest read.2 in
-    (read.0.0 ∷ more.0, more.1 ∙ append_assoc front (read.0.0 ∷ []) more.0, (position-fits at rows pos ts read.0.0 read.0.1 read.1, more.2))
+positions-fit : (at : Scope) (rows : List Operand) (ps : List Position) (front : List Content) (ts : List Token) (all : List Content) (last : Scope) (rest : List Token) → positions_at at rows ps front ts ≡ Ok (all, last, rest)
+    → (vs : List Content) × (all ≡ front ++ vs) × FitsPositions ps vs × SuitsPositions at.known ps vs
+positions-fit at rows [] front ts all last rest h = ([], sym (triple-ok front all at last ts rest h) ∙ sym (append-nil front), tt, tt)
+positions-fit at rows (pos ∷ ps) front ts all last rest h =
+    let read = bind-ok (position_at at rows pos ts) (λ x. positions_at (behind at pos.kind x.0) rows ps (front ++ x.0 ∷ []) x.1) (all, last, rest) h in
+    let more = positions-fit (behind at pos.kind read.0.0) rows ps (front ++ read.0.0 ∷ []) read.0.1 all last rest read.2 in
+    let fits = position-fits at rows pos ts read.0.0 read.0.1 read.1 in
+    (read.0.0 ∷ more.0, more.1 ∙ append_assoc front (read.0.0 ∷ []) more.0, (fits.0, more.2), (fits.1, more.3))
 
 unless_clash-ok : (c : Option (Operand × Operand)) (slots ss : Slots) → unless_clash c slots ≡ Ok ss → (c ≡ None) × (slots ≡ ss)
 unless_clash-ok None slots ss h = (refl, cc)
 unless_clash-ok (Some both) slots ss h = cc
 
-made : (v : Verb) (vs : List Content) (ss : Slots) → FitsPositions (positions_of v) vs → FitsAll (operands_of v) ss → clash (given (operands_of v) ss) ≡ None
-    → let g : Generic = record { verb = v; positions = vs; slots = ss } in IsLawful g
-made v vs ss positions operands apart = record { fits_positions = positions; fits_operands = operands; apart = apart }
-
-body-lawful : (at : Context) (v : Verb) (ts : List Token) (g : Generic) → body_at at v ts ≡ Ok g → IsLawful g
+body-lawful : (at : Context) (v : Verb) (ts : List Token) (g : Generic) → body_at (begun at) v ts ≡ Ok g → IsLawful g
 body-lawful at v ts g h =
-    let words = bind-ok (positions_at at (operands_of v) (positions_of v) [] ts) (λ x. operands_at at (operands_of v) (no_slots (operands_of v)) (items x.1) >>= λ slots. closed (operands_of v) slots >>= λ slots. Ok (record { verb = v; positions = x.0; slots = slots })) g h in
-    let filled = bind-ok (operands_at at (operands_of v) (no_slots (operands_of v)) (items words.0.1)) (λ slots. closed (operands_of v) slots >>= λ slots. Ok (record { verb = v; positions = words.0.0; slots = slots })) g words.2 in
-    let end = bind-ok (closed (operands_of v) filled.0) (λ slots. Ok (record { verb = v; positions = words.0.0; slots = slots })) g filled.2 in
-    let apart = unless_clash-ok (clash (given (operands_of v) filled.0)) filled.0 end.0 end.1 in
-    let found = positions-fit at (operands_of v) (positions_of v) [] ts words.0.0 words.0.1 words.1 in
+    let words = bind-ok (positions_at (begun at) (operands_of v) (positions_of v) [] ts) (λ x. operands_at x.1 (operands_of v) (no_slots (operands_of v)) (items x.2) >>= λ slots. closed v slots >>= λ slots. Ok (record { verb = v; positions = x.0; slots = slots })) g h in
+    let filled = bind-ok (operands_at words.0.1 (operands_of v) (no_slots (operands_of v)) (items words.0.2)) (λ slots. closed v slots >>= λ slots. Ok (record { verb = v; positions = words.0.0; slots = slots })) g words.2 in
+    let end = bind-ok (closed v filled.0) (λ slots. Ok (record { verb = v; positions = words.0.0; slots = slots })) g filled.2 in
+    let apart = unless_clash-ok (clash (given (operands_of v) (completed v filled.0))) (completed v filled.0) end.0 end.1 in
+    let found = positions-fit (begun at) (operands_of v) (positions_of v) [] ts words.0.0 words.0.1 words.0.2 words.1 in
     let positions : FitsPositions (positions_of v) words.0.0 = subst (λ (vs : List Content). FitsPositions (positions_of v) vs) (sym found.1) found.2 in
-    let operands : FitsAll (operands_of v) end.0 = subst (λ (ss : Slots). FitsAll (operands_of v) ss) apart.1 (operands-fit at (operands_of v) (no_slots (operands_of v)) (items words.0.1) filled.0 filled.1 (FitsAll-none (operands_of v))) in
+    let suited : SuitsPositions nothing_known (positions_of v) words.0.0 = subst (λ (vs : List Content). SuitsPositions nothing_known (positions_of v) vs) (sym found.1) found.3 in
+    let operands : FitsAll (operands_of v) end.0 = subst (λ (ss : Slots). FitsAll (operands_of v) ss) apart.1 (completed-fits v filled.0 (operands-hold words.0.1 (operands_of v) (no_slots (operands_of v)) (items words.0.2) filled.0 filled.1 (HoldsAll-none (operands_of v)))) in
+    let whole : completed v end.0 ≡ end.0 = subst (λ (ss : Slots). completed v ss ≡ ss) apart.1 (cleared-again (generic_place (operands_of v)) filled.0) in
     let alone : clash (given (operands_of v) end.0) ≡ None = subst (λ (ss : Slots). clash (given (operands_of v) ss) ≡ None) apart.1 apart.0 in
     let made_here : Generic = record { verb = v; positions = words.0.0; slots = end.0 } in
-    let whole : made_here ≡ g = cc in
-    subst (λ (x : Generic). IsLawful x) whole (made v words.0.0 end.0 positions operands alone)
+    let same : made_here ≡ g = cc in
+    subst (λ (x : Generic). IsLawful x) same (record { fits_positions = positions; fits_operands = operands; suits_positions = suited; complete = whole; apart = alone })
 
-command-lawful : (at : Context) (ts : List Token) (g : Generic) → command_at at ts ≡ Ok g → IsLawful g
-command-lawful at [] g h = cc
-command-lawful at (Word p w ∷ ts) g h =
-    let word = bind-ok (clean Ignored p w) (λ w. or_fault (verb_named (map upper w)) faults.UnknownCommand >>= λ v. body_at at v ts) g h in
-    let verb = bind-ok (or_fault (verb_named (map upper word.0)) faults.UnknownCommand) (λ v. body_at at v ts) g word.2 in
-    body-lawful at verb.0 ts g verb.2
-command-lawful at (Group tied p t ∷ ts) g h = cc
-command-lawful at (Open tied p place ∷ ts) g h = cc
-command-lawful at (Close p ∷ ts) g h = cc
+command-lawful : (at : Context) (ts us : List Token) (g : Generic) → command_at at ts us ≡ Ok g → IsLawful g
+command-lawful at [] us g h = cc
+command-lawful at (Word p w ∷ ts) us g h =
+    let word = bind-ok (clean Ignored p w) (λ w. or_fault (verb_named (map upper w)) faults.UnknownCommand >>= λ v. body_at (begun at) v (if begins_with_name (positions_of v) then behind_first us else ts)) g h in
+    let verb = bind-ok (or_fault (verb_named (map upper word.0)) faults.UnknownCommand) (λ v. body_at (begun at) v (if begins_with_name (positions_of v) then behind_first us else ts)) g word.2 in
+    body-lawful at verb.0 (if begins_with_name (positions_of verb.0) then behind_first us else ts) g verb.2
+command-lawful at (Group tied p t ∷ ts) us g h = cc
+command-lawful at (Open tied p place ∷ ts) us g h = cc
+command-lawful at (Close p ∷ ts) us g h = cc
 
 pub read_lawful : (at : Context) (text : List ℕ) (g : Generic) → parsed at text ≡ Ok g → IsLawful g
 unfolding parsed
 read_lawful at text g h =
-    let short = if-err (nat_lt 30000 (length text)) faults.TextTooLong (command_at at (tokens (of_command text))) g h in
-    command-lawful at (tokens (of_command text)) g short.1
+    let short = if-err (nat_lt 30000 (length text)) faults.TextTooLong (command_at at (tokens (of_command text)) (tokens (of_naming_command text))) g h in
+    command-lawful at (tokens (of_command text)) (tokens (of_naming_command text)) g short.1

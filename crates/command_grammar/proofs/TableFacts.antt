@@ -1,5 +1,5 @@
 -- Facts of the table: each word is plain, each operand is found by its full spelling, each command by its full name.
-use Rattle.std.proofs.Common.{◌≡◌, ℕ, suc, List, [], ◌∷◌, map, Bool, true, false, ◌&&◌, Option, None, Some, refl}
+use Rattle.std.proofs.Common.{◌≡◌, ℕ, suc, List, [], ◌∷◌, map, Bool, true, false, not, ◌&&◌, Option, None, Some, refl}
 use Rattle.std.specs.Prelude.{◌==◌, position}
 use Rattle.std.specs.List.{list_all}
 use Rattle.std.proofs.lemmas.Bool.{eqb-true}
@@ -17,7 +17,8 @@ use Rattle.command_grammar.specs.declared.table.Position.{Position}
 use Rattle.command_grammar.specs.declared.table.Operand.{Operand}
 use Rattle.command_grammar.specs.Words.{spelling_of}
 use Rattle.command_grammar.specs.Table.{full_name, positions_of, operands_of, verb_named}
-use Rattle.command_grammar.specs.Reading.{is_spelling}
+use Rattle.command_grammar.specs.declared.profile_table.TheConstants.{DATASET_POSITION, PERMIT_POSITION}
+use Rattle.command_grammar.specs.Reading.{is_spelling, begins_with_name}
 
 abbrev pub IsMore : List ℕ → Type 0
 IsMore [] = ⊥
@@ -108,18 +109,24 @@ verb_named-full_name verbs.RAlter = refl
 verb_named-full_name verbs.RDelete = refl
 verb_named-full_name verbs.Permit = refl
 
--- whether each operand, from the row k on, is found by its full spelling
+-- the kinds of profiles' names, which no operand has
+abbrev pub is_profile_kind : Kind → Bool
+is_profile_kind kinds.DataSetProfile = true
+is_profile_kind kinds.ClassProfile = true
+is_profile_kind k = false
+
+-- whether each operand, from the row k on, is found by its full spelling, and is no profile's name
 abbrev is_at : Option ℕ → ℕ → Bool
 is_at None k = false
 is_at (Some j) k = j == k
 
 abbrev are_found : List Operand → ℕ → List Operand → Bool
 are_found rows k [] = true
-are_found rows k (o ∷ os) = is_at (position (is_spelling (spelling_of o.word)) rows) k && are_found rows (suc k) os
+are_found rows k (o ∷ os) = is_at (position (is_spelling (spelling_of o.word)) rows) k && (not (is_profile_kind o.kind) && are_found rows (suc k) os)
 
 abbrev pub AreFound : List Operand → ℕ → List Operand → Type 0
 AreFound rows k [] = Unit {0}
-AreFound rows k (o ∷ os) = (position (is_spelling (spelling_of o.word)) rows ≡ Some k) × AreFound rows (suc k) os
+AreFound rows k (o ∷ os) = (position (is_spelling (spelling_of o.word)) rows ≡ Some k) × (not (is_profile_kind o.kind) ≡ true) × AreFound rows (suc k) os
 
 at-some : (o : Option ℕ) (k : ℕ) → is_at o k ≡ true → o ≡ Some k
 at-some None k h = cc
@@ -128,7 +135,8 @@ at-some (Some j) k h = let same : j ≡ k = eqb-true j k h in cc
 found-tested : (rows : List Operand) (k : ℕ) (os : List Operand) → are_found rows k os ≡ true → AreFound rows k os
 found-tested rows k [] h = tt
 found-tested rows k (o ∷ os) h =
-    (at-some (position (is_spelling (spelling_of o.word)) rows) k (both_first _ _ h), found-tested rows (suc k) os (both_second _ _ h))
+    let behind = both_second (is_at (position (is_spelling (spelling_of o.word)) rows) k) (not (is_profile_kind o.kind) && are_found rows (suc k) os) h in
+    (at-some (position (is_spelling (spelling_of o.word)) rows) k (both_first _ _ h), both_first (not (is_profile_kind o.kind)) (are_found rows (suc k) os) behind, found-tested rows (suc k) os (both_second (not (is_profile_kind o.kind)) (are_found rows (suc k) os) behind))
 
 all_found : (v : Verb) → are_found (operands_of v) 0 (operands_of v) ≡ true
 all_found verbs.AddUser = refl
@@ -150,7 +158,7 @@ all_found verbs.Permit = refl
 pub operands-found : (v : Verb) → AreFound (operands_of v) 0 (operands_of v)
 operands-found v = found-tested (operands_of v) 0 (operands_of v) (all_found v)
 
--- positional words are names
+-- the kinds of positional words that are written as names
 abbrev pub is_name_kind : Kind → Bool
 is_name_kind kinds.Id = true
 is_name_kind kinds.Group = true
@@ -162,9 +170,9 @@ is_name_kind kinds.Classes = false
 is_name_kind kinds.Level = false
 is_name_kind kinds.Audit = false
 is_name_kind kinds.Class = true
-is_name_kind kinds.DataSetProfile = true
+is_name_kind kinds.DataSetProfile = false
 is_name_kind kinds.ClassProfile = true
-is_name_kind kinds.AnyProfile = true
+is_name_kind kinds.AnyProfile = false
 is_name_kind kinds.Reset = false
 is_name_kind kinds.Whos = false
 is_name_kind kinds.When = false
@@ -172,19 +180,25 @@ is_name_kind kinds.AddedMembers = false
 is_name_kind kinds.DroppedMembers = false
 is_name_kind kinds.Generic = false
 
-pub positions-names : (v : Verb) → list_all (λ (pos : Position). is_name_kind pos.kind) (positions_of v) ≡ true
-positions-names verbs.AddUser = refl
-positions-names verbs.AltUser = refl
-positions-names verbs.DelUser = refl
-positions-names verbs.AddGroup = refl
-positions-names verbs.AltGroup = refl
-positions-names verbs.DelGroup = refl
-positions-names verbs.Connect = refl
-positions-names verbs.Remove = refl
-positions-names verbs.AddSd = refl
-positions-names verbs.AltSd = refl
-positions-names verbs.DelSd = refl
-positions-names verbs.RDefine = refl
-positions-names verbs.RAlter = refl
-positions-names verbs.RDelete = refl
-positions-names verbs.Permit = refl
+-- a command's positional words are names as they are written; or the first is a data set's in quotes; or it is PERMIT's
+pub data Shape (v : Verb) : Type 0 where
+  Plain : begins_with_name (positions_of v) ≡ false → list_all (λ (pos : Position). is_name_kind pos.kind) (positions_of v) ≡ true → Shape v
+  Quoted : positions_of v ≡ DATASET_POSITION → Shape v
+  Judged : positions_of v ≡ PERMIT_POSITION → Shape v
+
+pub shape : (v : Verb) → Shape v
+shape verbs.AddUser = Plain refl refl
+shape verbs.AltUser = Plain refl refl
+shape verbs.DelUser = Plain refl refl
+shape verbs.AddGroup = Plain refl refl
+shape verbs.AltGroup = Plain refl refl
+shape verbs.DelGroup = Plain refl refl
+shape verbs.Connect = Plain refl refl
+shape verbs.Remove = Plain refl refl
+shape verbs.RDefine = Plain refl refl
+shape verbs.RAlter = Plain refl refl
+shape verbs.RDelete = Plain refl refl
+shape verbs.AddSd = Quoted refl
+shape verbs.AltSd = Quoted refl
+shape verbs.DelSd = Quoted refl
+shape verbs.Permit = Judged refl

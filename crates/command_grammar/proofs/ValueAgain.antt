@@ -5,7 +5,9 @@ use Rattle.std.specs.List.{list_all}
 use Rattle.std.proofs.lemmas.List.{append-nil}
 use Rattle.std.proofs.lemmas.List.Folds.{list_all-append}
 use Rattle.std.proofs.lemmas.Bool.{eqb-true}
-use Rattle.access_levels.specs.Level.{authority_name}
+use Rattle.access_levels.specs.Level.{authority_name, level_name}
+use Rattle.access_levels.specs.declared.levels.Level.{Level}
+use Rattle.access_levels.specs.declared.levels.Level.TheVariants.{NoAccess, Execute, Read, Update, Control, Alter}
 use Rattle.access_levels.specs.declared.authorities.GroupAuthority.{GroupAuthority}
 use Rattle.access_levels.specs.declared.authorities.GroupAuthority.TheVariants.{MayUse, MayCreate, MayConnect, MayJoin}
 use Rattle.access_levels.specs.Spelling.{id_of}
@@ -19,10 +21,14 @@ use Rattle.command_grammar.specs.declared.table.Kind.{Kind}
 use Rattle.command_grammar.specs.declared.table.Kind.TheVariants as kinds
 use Rattle.command_grammar.specs.declared.values.Content.{Content}
 use Rattle.command_grammar.specs.declared.values.Content.TheVariants as contents
-use Rattle.command_grammar.specs.declared.values.Context.{Context}
-use Rattle.command_grammar.specs.Values.{name_of, is_name, if_name, unquoted, name_text, single, names, several, value, more_text, ids_text, text_of}
+use Rattle.command_grammar.specs.declared.values.Scope.{Scope}
+use Rattle.command_grammar.specs.declared.values.Reset.{Reset}
+use Rattle.command_grammar.specs.declared.values.Reset.TheVariants as resets
+use Rattle.command_grammar.specs.Results.{◌>>=◌}
+use Rattle.command_grammar.specs.Values.{name_of, is_name, if_name, unquoted, name_text, reset_name, single, names, several, value, more_text, ids_text, text_of}
 use Rattle.command_grammar.specs.Lawful.{AreNames, IsNonEmpty, Fits}
 use Rattle.command_grammar.proofs.Names.{IsPlainName, name-plain}
+use Rattle.command_grammar.proofs.AuditAgain.{level_calm, audit_again, audit_ends}
 
 -- the items of a word of letters, whatever follows it that is no value of its own
 pub word_items : (ts : List Token) (p : ℕ) (w : List ℕ) → opens_value ts ≡ false → items (Word p w ∷ ts) ≡ Bare p w ∷ items ts
@@ -40,19 +46,40 @@ unfolding tokens
 name_item q [] plain = let no : id_of [] ≡ Ok [] = plain.spelled in cc
 name_item q (b ∷ w) plain = ap items (word_alone Outside Outside-steady false (suc q) b w plain.letters)
 
-single_id : (at : Context) (p q : ℕ) (w : List ℕ) → name_of kinds.Id w ≡ Some w → single at kinds.Id p (items (tokens (within q w))) ≡ Ok (contents.Id w)
+single_id : (at : Scope) (p q : ℕ) (w : List ℕ) → name_of kinds.Id w ≡ Some w → single at kinds.Id p (items (tokens (within q w))) ≡ Ok (contents.Id w)
 single_id at p q w h =
     let plain = name-plain kinds.Id w w h in
     let sound : faulty_at Ignored (suc q) w ≡ None = plain.sound (suc q) in
     rw (name_item q w plain, sound, h) refl
 
-single_group : (at : Context) (p q : ℕ) (w : List ℕ) → name_of kinds.Group w ≡ Some w → single at kinds.Group p (items (tokens (within q w))) ≡ Ok (contents.Id w)
+single_group : (at : Scope) (p q : ℕ) (w : List ℕ) → name_of kinds.Group w ≡ Some w → single at kinds.Group p (items (tokens (within q w))) ≡ Ok (contents.Id w)
 single_group at p q w h =
     let plain = name-plain kinds.Group w w h in
     let sound : faulty_at Ignored (suc q) w ≡ None = plain.sound (suc q) in
     rw (name_item q w plain, sound, h) refl
 
-single_authority : (at : Context) (p q : ℕ) (a : GroupAuthority) → single at kinds.Authority p (items (tokens (within q (authority_name a)))) ≡ Ok (contents.Authority a)
+single_class : (at : Scope) (p q : ℕ) (w : List ℕ) → name_of kinds.Class w ≡ Some w → single at kinds.Class p (items (tokens (within q w))) ≡ Ok (contents.Id w)
+single_class at p q w h =
+    let plain = name-plain kinds.Class w w h in
+    let sound : faulty_at Ignored (suc q) w ≡ None = plain.sound (suc q) in
+    rw (name_item q w plain, sound, h) refl
+
+single_level : (at : Scope) (p q : ℕ) (l : Level) → single at kinds.Level p (items (tokens (within q (level_name l)))) ≡ Ok (contents.Level l)
+unfolding tokens
+single_level at p q NoAccess = refl
+single_level at p q Execute = refl
+single_level at p q Read = refl
+single_level at p q Update = refl
+single_level at p q Control = refl
+single_level at p q Alter = refl
+
+single_reset : (at : Scope) (p q : ℕ) (r : Reset) → single at kinds.Reset p (items (tokens (within q (reset_name r)))) ≡ Ok (contents.Reset r)
+unfolding tokens
+single_reset at p q resets.All = refl
+single_reset at p q resets.Standard = refl
+single_reset at p q resets.When = refl
+
+single_authority : (at : Scope) (p q : ℕ) (a : GroupAuthority) → single at kinds.Authority p (items (tokens (within q (authority_name a)))) ≡ Ok (contents.Authority a)
 unfolding tokens
 single_authority at p q MayUse = refl
 single_authority at p q MayCreate = refl
@@ -87,7 +114,7 @@ unseen o p (b ∷ t) = unseen-one o p b t (b == 39) refl (λ n. unseen o n t)
 name_text-quoted : (t : List ℕ) → is_name t ≡ true → name_text (quoted t) ≡ Some t
 name_text-quoted t h = ap if_name (unquoted-doubled [] t) ∙ rw h refl
 
-single_name : (at : Context) (p q : ℕ) (t : List ℕ) → is_name t ≡ true → single at kinds.Name p (items (tokens (within q (quoted t)))) ≡ Ok (contents.Name t)
+single_name : (at : Scope) (p q : ℕ) (t : List ℕ) → is_name t ≡ true → single at kinds.Name p (items (tokens (within q (quoted t)))) ≡ Ok (contents.Name t)
 unfolding tokens
 single_name at p q t h =
     let sound : faulty_at Outside (suc q) (quoted t) ≡ None = unseen (suc q) (suc (suc q)) t in
@@ -145,14 +172,15 @@ IsShown (contents.Name t) = Unit {0}
 IsShown (contents.Ids xs) = Unit {0}
 IsShown (contents.Level l) = Unit {0}
 IsShown (contents.Audit r) = Unit {0}
-IsShown (contents.Profile n) = Unit {0}
+IsShown (contents.Profile n) = ⊥
 IsShown (contents.Reset r) = Unit {0}
 IsShown (contents.Whos ws) = Unit {0}
 IsShown (contents.When c) = Unit {0}
 IsShown (contents.Members ms) = Unit {0}
 IsShown (contents.MemberNames ns) = Unit {0}
+IsShown (contents.Generic g) = Unit {0}
 
-pub value-again : (at : Context) (k : Kind) (p q : ℕ) (v : Content) → Fits k v → IsShown v → value at k p (items (tokens (within q (text_of v)))) ≡ Ok v
+pub value-again : (at : Scope) (k : Kind) (p q : ℕ) (v : Content) → Fits k v → IsShown v → value at k p (items (tokens (within q (text_of v)))) ≡ Ok v
 value-again at kinds.Flag p q contents.Flag h shown = absurd shown
 value-again at kinds.Id p q (contents.Id w) h shown = single_id at p q w h
 value-again at kinds.Group p q (contents.Id w) h shown = single_group at p q w h
@@ -160,6 +188,12 @@ value-again at kinds.Authority p q (contents.Authority a) h shown = single_autho
 value-again at kinds.Name p q (contents.Name t) h shown = single_name at p q t h
 value-again at kinds.Ids p q (contents.Ids xs) h shown = several_again kinds.Ids p q xs h.0 h.1
 value-again at kinds.Classes p q (contents.Ids xs) h shown = several_again kinds.Classes p q xs h.0 h.1
+value-again at kinds.Class p q (contents.Id w) h shown = single_class at p q w h
+value-again at kinds.Level p q (contents.Level l) h shown = single_level at p q l
+value-again at kinds.Reset p q (contents.Reset r) h shown = single_reset at p q r
+value-again at kinds.Audit p q (contents.Audit rule) h shown = ap (λ r. r >>= λ rule. Ok (contents.Audit rule)) (audit_again p q rule h)
+value-again at kinds.DataSetProfile p q (contents.Profile n) h shown = absurd shown
+value-again at kinds.ClassProfile p q (contents.Profile n) h shown = absurd shown
 value-again at k p q v h shown = absurd h
 
 -- where the parenthesis of a value that was written closes
@@ -183,6 +217,11 @@ authority_calm MayCreate = refl
 authority_calm MayConnect = refl
 authority_calm MayJoin = refl
 
+reset_calm : (r : Reset) → list_all is_calm (reset_name r) ≡ true
+reset_calm resets.All = refl
+reset_calm resets.Standard = refl
+reset_calm resets.When = refl
+
 pub value-ends : (k : Kind) (v : Content) (outer p : ℕ) (rest : List ℕ) → Fits k v → IsShown v → group_end outer Outside 0 p (text_of v ++ 41 ∷ rest) ≡ Ok (p + length (text_of v))
 value-ends kinds.Flag contents.Flag outer p rest h shown = absurd shown
 value-ends kinds.Id (contents.Id w) outer p rest h shown = group_end-calm outer p w rest (all_calm w (name-plain kinds.Id w w h).letters)
@@ -191,4 +230,10 @@ value-ends kinds.Authority (contents.Authority a) outer p rest h shown = group_e
 value-ends kinds.Name (contents.Name t) outer p rest h shown = group_end-quoted outer p t rest
 value-ends kinds.Ids (contents.Ids xs) outer p rest h shown = group_end-calm outer p (ids_text xs) rest (ids_calm kinds.Ids xs h.1)
 value-ends kinds.Classes (contents.Ids xs) outer p rest h shown = group_end-calm outer p (ids_text xs) rest (ids_calm kinds.Classes xs h.1)
+value-ends kinds.Class (contents.Id w) outer p rest h shown = group_end-calm outer p w rest (all_calm w (name-plain kinds.Class w w h).letters)
+value-ends kinds.Level (contents.Level l) outer p rest h shown = group_end-calm outer p (level_name l) rest (level_calm l)
+value-ends kinds.Reset (contents.Reset r) outer p rest h shown = group_end-calm outer p (reset_name r) rest (reset_calm r)
+value-ends kinds.Audit (contents.Audit rule) outer p rest h shown = audit_ends outer p rule rest
+value-ends kinds.DataSetProfile (contents.Profile n) outer p rest h shown = absurd shown
+value-ends kinds.ClassProfile (contents.Profile n) outer p rest h shown = absurd shown
 value-ends k v outer p rest h shown = absurd h

@@ -1,6 +1,9 @@
 pub mod Words
 pub mod Table
 pub mod Results
+pub mod WordsOfValues
+pub mod ProfileNames
+pub mod Audits
 pub mod Values
 pub mod Reading
 pub mod Canon

@@ -1,24 +1,30 @@
 -- How a text is read: the command, its positional words, its operands.
-use Rattle.std.specs.Prelude.{ℕ, List, [], ◌∷◌, ◌++◌, Bool, ◌&&◌, not, ◌==◌, nat_lt, nat_eq, length, map, bytes_eq, slice_set, replicate, count_by, position, find, if◌then◌else◌, is_some, is_ok, Option, None, Some, Result, Ok, Err}
+use Rattle.std.specs.Prelude.{ℕ, List, [], ◌∷◌, ◌++◌, Bool, true, false, ◌&&◌, not, ◌==◌, nat_lt, nat_eq, length, map, bytes_eq, slice_set, replicate, count_by, position, find, if◌then◌else◌, is_some, is_ok, Option, None, Some, Result, Ok, Err}
 use Rattle.std.specs.List.{starts_with, slice_index_or}
 use Rattle.std.specs.Option.{option_map}
 use Rattle.command_words.specs.declared.quoting.Quoting.TheVariants.{Ignored}
 use Rattle.command_words.specs.Bytes.{upper}
-use Rattle.command_words.specs.Tokens.{Token, Word, Group, Open, Close, tokens, of_command}
+use Rattle.command_words.specs.Tokens.{Token, Word, Group, Open, Close, tokens, of_command, of_naming_command}
 use Rattle.command_words.specs.Items.{Item, Bare, With, Unbounded, Odd, items, opens_value}
 use Rattle.command_grammar.specs.declared.faults.Syntax.{Syntax}
 use Rattle.command_grammar.specs.declared.faults.Syntax.TheVariants as faults
 use Rattle.command_grammar.specs.declared.words.Word.TheVariants as words
 use Rattle.command_grammar.specs.declared.table.Verb.{Verb}
+use Rattle.command_grammar.specs.declared.table.Kind.{Kind}
 use Rattle.command_grammar.specs.declared.table.Kind.TheVariants as kinds
 use Rattle.command_grammar.specs.declared.table.Position.{Position}
 use Rattle.command_grammar.specs.declared.table.Operand.{Operand}
 use Rattle.command_grammar.specs.declared.values.Content.{Content}
+use Rattle.command_grammar.specs.declared.values.Content.TheVariants as contents
 use Rattle.command_grammar.specs.Words.{spelling_of}
 use Rattle.command_grammar.specs.Table.{positions_of, operands_of, verb_named}
 use Rattle.command_grammar.specs.Results.{◌>>=◌, or_fault}
 use Rattle.command_grammar.specs.declared.values.Context.{Context}
-use Rattle.command_grammar.specs.Values.{clean, single, value, one, bare}
+use Rattle.command_grammar.specs.declared.values.Scope.{Scope}
+use Rattle.command_grammar.specs.declared.values.Known.{Known}
+use Rattle.command_grammar.specs.WordsOfValues.{clean, held, unless_stray}
+use Rattle.command_grammar.specs.ProfileNames.{is_unclosed}
+use Rattle.command_grammar.specs.Values.{value, one, bare}
 
 -- A word names the operand that it spells; else the only one that it is the beginning of.
 abbrev pub is_spelling : List ℕ → Operand → Bool
@@ -45,21 +51,45 @@ no_operand = record { word = words.Name; kind = kinds.Flag; pair = 0 }
 abbrev pub row_at : List Operand → ℕ → Operand
 row_at rows k = slice_index_or rows k no_operand
 
--- A positional word, which may stand in parentheses, and the tokens behind it. It lacks where the text ends, and where
--- the next word names an operand and a value follows.
-abbrev pub position_at : Context → List Operand → Position → List Token → Result (Content × List Token) Syntax
-position_at at rows pos [] = Err (faults.Missing pos.word)
-position_at at rows pos (Word p w ∷ ts) =
-    if opens_value ts && is_ok (named rows p (map upper w)) then Err (faults.Missing pos.word)
-    else (clean Ignored p w >>= λ w. one at pos.kind p w >>= λ v. Ok (v, ts))
-position_at at rows pos (Group tied p t ∷ ts) = single at pos.kind p (items (tokens t)) >>= λ v. Ok (v, ts)
-position_at at rows pos (Open tied p place ∷ ts) = Err (faults.Unclosed place)
-position_at at rows pos (Close p ∷ ts) = Err (faults.BadValue p)
+-- Where the name of a data set profile may stand, a word that begins with a quote must be closed by another.
+abbrev pub takes_quotes : Kind → Bool
+takes_quotes kinds.DataSetProfile = true
+takes_quotes kinds.AnyProfile = true
+takes_quotes k = false
 
--- all positional words, behind those of `front`
-abbrev pub positions_at : Context → List Operand → List Position → List Content → List Token → Result (List Content × List Token) Syntax
-positions_at at rows [] front ts = Ok (front, ts)
-positions_at at rows (pos ∷ more) front ts = position_at at rows pos ts >>= λ x. positions_at at rows more (front ++ x.0 ∷ []) x.1
+abbrev pub bounded : Kind → ℕ → List ℕ → Result (List ℕ) Syntax
+bounded k p w = if takes_quotes k && is_unclosed w then Err (faults.Unclosed p) else clean Ignored p w
+
+-- The word in a positional place, which may stand in parentheses: its place, its bytes and the place of what stands
+-- behind it there; and the tokens behind all. It lacks where the text ends, and where the next word names an operand
+-- and a value follows.
+abbrev pub placed : List Operand → Position → List Token → Result ((ℕ × List ℕ × Option ℕ) × List Token) Syntax
+placed rows pos [] = Err (faults.Missing pos.word)
+placed rows pos (Word p w ∷ ts) =
+    if opens_value ts && is_ok (named rows p (map upper w)) then Err (faults.Missing pos.word)
+    else (bounded pos.kind p w >>= λ w. Ok ((p, w, None), ts))
+placed rows pos (Group tied p t ∷ ts) = held Ignored p (items (tokens t)) >>= λ h. Ok (h, ts)
+placed rows pos (Open tied p place ∷ ts) = Err (faults.Unclosed place)
+placed rows pos (Close p ∷ ts) = Err (faults.BadValue p)
+
+-- A positional word's value, and the tokens behind it.
+abbrev pub position_at : Scope → List Operand → Position → List Token → Result (Content × List Token) Syntax
+position_at at rows pos ts = placed rows pos ts >>= λ x. one at pos.kind x.0.0 x.0.1 >>= λ v. unless_stray x.0.2 v >>= λ v. Ok (v, x.1)
+
+-- What a positional word tells of those behind it: the class, or the profile's name.
+abbrev pub known_behind : Known → Kind → Content → Known
+known_behind known kinds.Class (contents.Id class) = record { class = Some class; profile = known.profile }
+known_behind known kinds.DataSetProfile (contents.Profile n) = record { class = known.class; profile = Some n }
+known_behind known kinds.ClassProfile (contents.Profile n) = record { class = known.class; profile = Some n }
+known_behind known k v = known
+
+abbrev pub behind : Scope → Kind → Content → Scope
+behind at k v = record { issuer = at.issuer; known = known_behind at.known k v }
+
+-- all positional words, behind those of `front`; what they tell; and the tokens behind
+abbrev pub positions_at : Scope → List Operand → List Position → List Content → List Token → Result (List Content × Scope × List Token) Syntax
+positions_at at rows [] front ts = Ok (front, at, ts)
+positions_at at rows (pos ∷ more) front ts = position_at at rows pos ts >>= λ x. positions_at (behind at pos.kind x.0) rows more (front ++ x.0 ∷ []) x.1
 
 -- What was read of the operands: for each row of the table its value, if it was given.
 abbrev pub Slots : Type 0
@@ -76,14 +106,14 @@ abbrev pub slot_of : List Operand → Slots → ℕ → List ℕ → Result ℕ 
 slot_of rows slots p w = clean Ignored p w >>= λ w. named rows p (map upper w) >>= λ k. fresh rows slots k
 
 -- An operand: its row, and its value.
-abbrev pub operand_at : Context → List Operand → Slots → Item → Result (ℕ × Content) Syntax
-operand_at at rows slots (Bare p w) = slot_of rows slots p w >>= λ k. bare (row_at rows k).kind p >>= λ v. Ok (k, v)
+abbrev pub operand_at : Scope → List Operand → Slots → Item → Result (ℕ × Content) Syntax
+operand_at at rows slots (Bare p w) = slot_of rows slots p w >>= λ k. bare at (row_at rows k).kind p >>= λ v. Ok (k, v)
 operand_at at rows slots (With p w t) = slot_of rows slots p w >>= λ k. value at (row_at rows k).kind p (items (tokens t)) >>= λ v. Ok (k, v)
 operand_at at rows slots (Unbounded p w place) = slot_of rows slots p w >>= λ k. Err (faults.Unclosed place)
 operand_at at rows slots (Odd p) = Err (faults.UnknownOperand p)
 
 -- The operands from the left.
-abbrev pub operands_at : Context → List Operand → Slots → List Item → Result Slots Syntax
+abbrev pub operands_at : Scope → List Operand → Slots → List Item → Result Slots Syntax
 operands_at at rows slots [] = Ok slots
 operands_at at rows slots (i ∷ is) = operand_at at rows slots i >>= λ x. operands_at at rows (slice_set slots x.0 (Some x.1)) is
 
@@ -112,9 +142,25 @@ abbrev pub unless_clash : Option (Operand × Operand) → Slots → Result Slots
 unless_clash None slots = Ok slots
 unless_clash (Some both) slots = Err (faults.Excluded both.0.word both.1.word)
 
+-- GENERIC leaves nothing behind.
+abbrev pub is_generic_kind : Kind → Bool
+is_generic_kind kinds.Generic = true
+is_generic_kind k = false
+
+abbrev pub generic_place : List Operand → Option ℕ
+generic_place rows = position (λ o. is_generic_kind o.kind) rows
+
+abbrev pub cleared : Option ℕ → Slots → Slots
+cleared None slots = slots
+cleared (Some k) slots = slice_set slots k None
+
+-- the operands with the defaults that the canonical text writes
+abbrev pub completed : Verb → Slots → Slots
+completed v slots = cleared (generic_place (operands_of v)) slots
+
 -- what is judged when the whole text was read
-abbrev pub closed : List Operand → Slots → Result Slots Syntax
-closed rows slots = unless_clash (clash (given rows slots)) slots
+abbrev pub closed : Verb → Slots → Result Slots Syntax
+closed v slots = unless_clash (clash (given (operands_of v) (completed v slots))) (completed v slots)
 
 -- A command as the table sees it: its positional words, and a slot for each row of its operands.
 pub record Generic : Type 0 where
@@ -125,21 +171,36 @@ pub record Generic : Type 0 where
 abbrev pub no_slots : List Operand → Slots
 no_slots rows = replicate (length rows) None
 
-abbrev pub body_at : Context → Verb → List Token → Result Generic Syntax
+abbrev pub body_at : Scope → Verb → List Token → Result Generic Syntax
 body_at at v ts =
     positions_at at (operands_of v) (positions_of v) [] ts >>= λ x.
-    operands_at at (operands_of v) (no_slots (operands_of v)) (items x.1) >>= λ slots.
-    closed (operands_of v) slots >>= λ slots.
+    operands_at x.1 (operands_of v) (no_slots (operands_of v)) (items x.2) >>= λ slots.
+    closed v slots >>= λ slots.
     Ok (record { verb = v; positions = x.0; slots = slots })
 
--- The first word is the command's name.
-abbrev pub command_at : Context → List Token → Result Generic Syntax
-command_at at [] = Err faults.UnknownCommand
-command_at at (Word p w ∷ ts) = clean Ignored p w >>= λ w. or_fault (verb_named (map upper w)) faults.UnknownCommand >>= λ v. body_at at v ts
-command_at at (Group tied p t ∷ ts) = Err faults.UnknownCommand
-command_at at (Open tied p place ∷ ts) = Err faults.UnknownCommand
-command_at at (Close p ∷ ts) = Err faults.UnknownCommand
+-- whether the first positional word may be a name in quotes
+abbrev pub begins_with_name : List Position → Bool
+begins_with_name [] = false
+begins_with_name (pos ∷ more) = takes_quotes pos.kind
+
+abbrev pub behind_first : List Token → List Token
+behind_first [] = []
+behind_first (t ∷ ts) = ts
+
+-- at the beginning of a command nothing but its issuer is known
+abbrev pub begun : Context → Scope
+begun at = record { issuer = at.issuer; known = record { class = None; profile = None } }
+
+-- The first word is the command's name. The tokens of its text, and those where the second word may be in quotes.
+abbrev pub command_at : Context → List Token → List Token → Result Generic Syntax
+command_at at [] us = Err faults.UnknownCommand
+command_at at (Word p w ∷ ts) us =
+    clean Ignored p w >>= λ w. or_fault (verb_named (map upper w)) faults.UnknownCommand >>= λ v.
+    body_at (begun at) v (if begins_with_name (positions_of v) then behind_first us else ts)
+command_at at (Group tied p t ∷ ts) us = Err faults.UnknownCommand
+command_at at (Open tied p place ∷ ts) us = Err faults.UnknownCommand
+command_at at (Close p ∷ ts) us = Err faults.UnknownCommand
 
 -- A text of more than 30,000 bytes is too long before every other fault.
 unfoldable pub parsed : Context → List ℕ → Result Generic Syntax
-parsed at text = if nat_lt 30000 (length text) then Err faults.TextTooLong else command_at at (tokens (of_command text))
+parsed at text = if nat_lt 30000 (length text) then Err faults.TextTooLong else command_at at (tokens (of_command text)) (tokens (of_naming_command text))

@@ -2,14 +2,17 @@
 //! and operands, and these are written as the canonical text.
 #![tactic(auto)]
 
+mod audits;
 mod faults;
 pub mod laws;
 mod operands;
 mod printing;
+mod profile_names;
 mod profile_table;
 mod reading;
 mod table;
 mod value;
+mod value_words;
 mod values;
 mod words;
 
@@ -17,5 +20,5 @@ pub use faults::{ParseFault, Syntax};
 pub use printing::printed;
 pub use reading::{LONGEST, Parts, read};
 pub use table::{Kind, Operand, Position, Verb};
-pub use values::{Content, Context, Ids, MemberNames, Reset, Whos};
+pub use values::{Content, Context, Ids, Known, MemberNames, Reset, Scope, Whos};
 pub use words::Word;

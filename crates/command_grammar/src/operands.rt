@@ -10,8 +10,9 @@ ghost use Rattle.command_grammar.specs.Reading.{is_spelling, is_beginning, named
 
 use crate::faults::{ParseFault, Syntax};
 use crate::table::Operand;
-use crate::value::{bare, clean, value};
-use crate::values::{Content, Context};
+use crate::value::{bare, value};
+use crate::value_words::clean;
+use crate::values::{Content, Scope};
 use command_words::{Item, Quoting, Tokens, is_cut, is_spelled};
 use std::alloc::{AllocError, Global};
 
@@ -84,7 +85,7 @@ fn slot_of(
 // An operand: its row and its value.
 fn operand(
     alloc: Global,
-    at: &Context,
+    at: &Scope,
     rows: &[Operand],
     slots: &[Option<Content>],
     item: Item<'_>,
@@ -97,7 +98,7 @@ fn operand(
     match item {
         Item::Bare(place, word) => {
             let k = slot_of(rows, slots, place, word)?;
-            Ok((k, bare(row(rows, k).kind, place)?))
+            Ok((k, bare(at, row(rows, k).kind, place)?))
         }
         Item::With(place, word, inner) => {
             let k = slot_of(rows, slots, place, word)?;
@@ -125,11 +126,12 @@ fn no_slots(alloc: Global, rows: &[Operand]) -> Result<Vec<Option<Content>>, All
 /// The operands from the left, each in the slot of its row.
 pub fn operands(
     alloc: Global,
-    at: &Context,
+    at: &Scope,
     rows: &[Operand],
     text: Tokens<'_>,
 ) -> Result<Vec<Option<Content>>, ParseFault>
     ensures value { Gives (λ slots. slots.items) result (operands_at at.now rows.now (empty_slots rows.now) (items (tokens text.entry))) }
+    ensures length { IfOk result (λ slots. length slots.items ≡ length rows.now) }
 {
     let mut slots = no_slots(alloc, rows)?;
     let mut left = text;

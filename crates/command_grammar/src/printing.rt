@@ -2,6 +2,8 @@
 
 ghost use Rattle.std.specs.Prelude.{◌≡◌, ◌++◌, ◌∷◌, [], OnOk, IfOk};
 ghost use Rattle.command_words.specs.Quotes.{doubled};
+ghost use Rattle.command_grammar.specs.ProfileNames.{profile_text};
+ghost use Rattle.command_grammar.specs.Audits.{half_text, audit_text};
 ghost use Rattle.command_grammar.specs.Values.{ids_text, text_of};
 ghost use Rattle.command_grammar.specs.Canon.{value_text, positions_text, operands_text, canon};
 ghost use Rattle.command_grammar.specs.Parts.{generic};
@@ -10,7 +12,9 @@ ghost use Rattle.command_grammar.specs.Words.{spelling_of};
 use crate::reading::Parts;
 use crate::table::Operand;
 use crate::values::Content;
-use access_levels::{Id, Text};
+use access_levels::{Id, Level, Text};
+use generic_names::{NameKind, Pattern};
+use racf_profiles::AuditRule;
 use std::alloc::{AllocError, Global};
 
 // A text as it stands between quotes, each quote twice.
@@ -50,6 +54,47 @@ fn push_ids(out: &mut Vec<u8>, ids: &[Id]) -> Result<(), AllocError>
     Ok(())
 }
 
+// The name of a profile, a data set's in quotes.
+fn push_profile(out: &mut Vec<u8>, name: &Pattern) -> Result<(), AllocError>
+    ensures { OnOk result (out.new.items ≡ out.old.items ++ profile_text name.now) }
+{
+    match name.kind() {
+        NameKind::DataSet => {
+            out.push(b'\'')?;
+            out.extend_from_slice(name.text())?;
+            out.push(b'\'')?;
+            Ok(())
+        }
+        NameKind::General => out.extend_from_slice(name.text()),
+    }
+}
+
+// A word of AUDIT and its level.
+fn push_half(out: &mut Vec<u8>, word: &[u8], level: Level) -> Result<(), AllocError>
+    ensures { OnOk result (out.new.items ≡ out.old.items ++ half_text word.now level) }
+{
+    out.extend_from_slice(word)?;
+    out.push(b'(')?;
+    out.extend_from_slice(level.name())?;
+    out.push(b')')?;
+    Ok(())
+}
+
+fn push_audit(out: &mut Vec<u8>, rule: AuditRule) -> Result<(), AllocError>
+    ensures { OnOk result (out.new.items ≡ out.old.items ++ audit_text rule) }
+{
+    match (rule.success, rule.failures) {
+        (None, None) => out.extend_from_slice(b"NONE"),
+        (Some(level), None) => push_half(out, b"SUCCESS", level),
+        (None, Some(level)) => push_half(out, b"FAILURES", level),
+        (Some(success), Some(failures)) => {
+            push_half(out, b"SUCCESS", success)?;
+            out.push(b' ')?;
+            push_half(out, b"FAILURES", failures)
+        }
+    }
+}
+
 fn push_content(out: &mut Vec<u8>, content: &Content) -> Result<(), AllocError>
     ensures { OnOk result (out.new.items ≡ out.old.items ++ text_of content.now) }
 {
@@ -59,6 +104,10 @@ fn push_content(out: &mut Vec<u8>, content: &Content) -> Result<(), AllocError>
         Content::Authority(authority) => out.extend_from_slice(authority.name()),
         Content::Name(text) => push_name(out, text),
         Content::Ids(ids) => push_ids(out, &ids.items),
+        Content::Level(level) => out.extend_from_slice(level.name()),
+        Content::Audit(rule) => push_audit(out, *rule),
+        Content::Profile(name) => push_profile(out, name),
+        Content::Reset(reset) => out.extend_from_slice(reset.name()),
         _ => Ok(()),
     }
 }

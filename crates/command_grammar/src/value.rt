@@ -1,58 +1,26 @@
 //! The reading of values: the word or words in an operand's parentheses, and of a positional word.
 
-ghost use Rattle.std.specs.Prelude.{◌≡◌, ◌+◌, ◌<◌, ◌^◌, [], false, length, map, IfOk};
+ghost use Rattle.std.specs.Prelude.{◌≡◌, [], false, length, map, IfOk};
 ghost use Rattle.std.specs.List.{list_all};
 ghost use Rattle.std.specs.Option.{option_map};
 ghost use Rattle.std.specs.Result.{result_ok};
-ghost use Rattle.access_levels.specs.Spelling.{id_of, group_of, authority_of};
+ghost use Rattle.access_levels.specs.Spelling.{id_of, group_of, authority_of, level_of};
 ghost use Rattle.command_words.specs.Bytes.{upper};
 ghost use Rattle.command_words.specs.Tokens.{tokens};
-ghost use Rattle.command_words.specs.Items.{items, IsItemInReach};
-ghost use Rattle.command_words.specs.Pieces.{seen_item};
+ghost use Rattle.command_words.specs.Items.{items};
 ghost use Rattle.command_grammar.specs.Results.{Gives, Finds};
-ghost use Rattle.command_grammar.specs.Values.{clean, refused_at as refusal_of, word_of as word_in, unless_dataset, name_of as name_in, name_text, is_name as names_user, is_printable, unquoted as text_between, one as one_of, quotes_of as quoting_of, stray as stray_in, single as single_of, names as names_of, several as several_of, value as value_of, bare as bare_of};
+ghost use Rattle.command_grammar.specs.Values.{unless_dataset, name_of as name_in, name_text, is_name as names_user, is_printable, unquoted as text_between, reset_of, one as one_of, quotes_of as quoting_of, single as single_of, names as names_of, several as several_of, value as value_of, generic_at as generic_in, bare as bare_of};
 
+use crate::audits::audit_rule;
 use crate::faults::{ParseFault, Syntax};
+use crate::profile_names::{class_profile, dataset_named};
 use crate::table::Kind;
-use crate::values::{Content, Context, Ids};
-use access_levels::{GroupAuthority, Id, Text};
-use command_words::{Item, Quoting, ShortWord, Tokens, faulty_at};
+use crate::value_words::{held, word_of};
+use crate::values::{Content, Ids, RESETS, Reset, Scope};
+use access_levels::{GroupAuthority, Id, Level, Text};
+use command_words::{Quoting, ShortWord, Tokens, is_spelled};
+use generic_names::Pattern;
 use std::alloc::{AllocError, Global};
-
-/// The word, unless it has a faulty byte: that is refused at its place.
-pub fn clean<'a>(quoting: Quoting, place: u32, word: &'a [u8]) -> Result<&'a [u8], Syntax>
-    requires { place + length word.now < 2 ^ 30 }
-    ensures { Finds (λ x. x.now) result (clean quoting place word.now) }
-{
-    match faulty_at(quoting, place, word) {
-        Some(fault) => Err(Syntax::BadValue(fault)),
-        None => Ok(word),
-    }
-}
-
-// Where an item is refused.
-fn refused_at(quoting: Quoting, item: Item<'_>) -> u32
-    requires { IsItemInReach (seen_item item) }
-    ensures { result ≡ refusal_of quoting (seen_item item.entry) }
-{
-    match item {
-        Item::Bare(place, word) => faulty_at(quoting, place, word).unwrap_or(place),
-        Item::With(place, word, _) => faulty_at(quoting, place, word).unwrap_or(place),
-        Item::Unbounded(place, word, _) => faulty_at(quoting, place, word).unwrap_or(place),
-        Item::Odd(place) => place,
-    }
-}
-
-// The word that an item is, with its place.
-fn word_of<'a>(quoting: Quoting, item: Item<'a>) -> Result<(u32, &'a [u8]), Syntax>
-    requires { IsItemInReach (seen_item item) }
-    ensures { Finds (λ x. (x.0, x.1.now)) result (word_in quoting (seen_item item.entry)) }
-{
-    match item {
-        Item::Bare(place, word) => Ok((place, clean(quoting, place, word)?)),
-        other => Err(Syntax::BadValue(refused_at(quoting, other))),
-    }
-}
 
 fn id_named(word: &[u8]) -> Option<Id>
     ensures { result ≡ result_ok (id_of (map upper word.now)) }
@@ -95,6 +63,7 @@ fn name_of(kind: Kind, word: &[u8]) -> Option<Id>
         Kind::Ids => id_named(word),
         Kind::Group => group_named(word),
         Kind::Classes => class_named(word),
+        Kind::Class => id_named(word),
         _ => None,
     }
 }
@@ -109,22 +78,26 @@ fn quotes_of(kind: Kind) -> Quoting
     }
 }
 
-/// An operand alone, without a value.
-pub fn bare(kind: Kind, place: u32) -> Result<Content, Syntax>
-    ensures { Finds (λ v. v) result (bare_of kind place) }
+// GENERIC at `place`, with a profile's name if that is known.
+fn generic_at(profile: Option<Pattern>, place: u32) -> Result<Content, Syntax>
+    ensures { Finds (λ v. v) result (generic_in profile place) }
 {
-    match kind {
-        Kind::Flag => Ok(Content::Flag),
-        _ => Err(Syntax::BadValue(place)),
+    match profile {
+        Some(name) if !name.is_generic() => Err(Syntax::BadValue(place)),
+        _ => Ok(Content::Generic(place)),
     }
 }
 
-// The place of what stands behind a value of one word.
-fn stray(quoting: Quoting, rest: &Tokens<'_>) -> Option<u32>
-    ensures { result ≡ stray_in quoting (items (tokens rest.now)) }
+/// An operand alone, without a value.
+pub fn bare(at: &Scope, kind: Kind, place: u32) -> Result<Content, Syntax>
+    ensures { Finds (λ v. v) result (bare_of at.now kind place) }
 {
-    let (item, _) = rest.split_item()?;
-    Some(refused_at(quoting, item))
+    match kind {
+        Kind::Flag => Ok(Content::Flag),
+        Kind::Reset => Ok(Content::Reset(Reset::All)),
+        Kind::Generic => generic_at(at.known.profile, place),
+        _ => Err(Syntax::BadValue(place)),
+    }
 }
 
 // The text between quotes, behind whose opening one `bytes` stands, where the word ends with the closing one.
@@ -187,22 +160,47 @@ fn name_named(alloc: Global, word: &[u8]) -> Result<Option<Text>, AllocError>
     Ok(Some(Text::of(alloc, text.as_slice())?))
 }
 
-/// The value that a word is. No kind reads the context yet.
+fn level_named(word: &[u8]) -> Option<Level>
+    ensures { result ≡ level_of (map upper word.now) }
+{
+    let short = ShortWord::of(word)?;
+    Level::read(short.as_slice())
+}
+
+fn reset_named(word: &[u8]) -> Option<Reset>
+    ensures { result ≡ reset_of (map upper word.now) }
+{
+    RESETS
+        .iter()
+        .copied()
+        .find(|reset| is_spelled(word, reset.name()))
+}
+
+/// The value that a word is.
 pub fn one(
     alloc: Global,
-    _at: &Context,
+    at: &Scope,
     kind: Kind,
     place: u32,
     word: &[u8],
 ) -> Result<Content, ParseFault>
-    ensures { Gives (λ v. v) result (one_of _at.now kind place word.now) }
+    ensures { Gives (λ v. v) result (one_of at.now kind place word.now) }
 {
     let bad = Syntax::BadValue(place);
     match kind {
         Kind::Id => Ok(Content::Id(name_of(kind, word).ok_or(bad)?)),
         Kind::Group => Ok(Content::Id(name_of(kind, word).ok_or(bad)?)),
+        Kind::Class => Ok(Content::Id(name_of(kind, word).ok_or(bad)?)),
         Kind::Authority => Ok(Content::Authority(authority_named(word).ok_or(bad)?)),
         Kind::Name => Ok(Content::Name(name_named(alloc, word)?.ok_or(bad)?)),
+        Kind::Level => Ok(Content::Level(level_named(word).ok_or(bad)?)),
+        Kind::DataSetProfile => {
+            Ok(Content::Profile(dataset_named(alloc, at.issuer, word)?.ok_or(bad)?))
+        }
+        Kind::ClassProfile => {
+            Ok(Content::Profile(class_profile(alloc, at.known.class, word)?.ok_or(bad)?))
+        }
+        Kind::Reset => Ok(Content::Reset(reset_named(word).ok_or(bad)?)),
         _ => Err(ParseFault::Syntax(bad)),
     }
 }
@@ -210,19 +208,16 @@ pub fn one(
 /// A value of one word. Where there is no word it is refused at `place`.
 pub fn single(
     alloc: Global,
-    at: &Context,
+    at: &Scope,
     kind: Kind,
     place: u32,
     inner: Tokens<'_>,
 ) -> Result<Content, ParseFault>
     ensures { Gives (λ v. v) result (single_of at.now kind place (items (tokens inner.entry))) }
 {
-    let Some((item, rest)) = inner.split_item() else {
-        return Err(ParseFault::Syntax(Syntax::BadValue(place)));
-    };
-    let (place, word) = word_of(quotes_of(kind), item)?;
+    let (place, word, stray) = held(quotes_of(kind), place, inner)?;
     let content = one(alloc, at, kind, place, word)?;
-    match stray(quotes_of(kind), &rest) {
+    match stray {
         Some(place) => Err(ParseFault::Syntax(Syntax::BadValue(place))),
         None => Ok(content),
     }
@@ -256,7 +251,7 @@ fn several(alloc: Global, kind: Kind, place: u32, inner: Tokens<'_>) -> Result<C
 /// The value in the parentheses behind an operand at `place`.
 pub fn value(
     alloc: Global,
-    at: &Context,
+    at: &Scope,
     kind: Kind,
     place: u32,
     inner: Tokens<'_>,
@@ -264,13 +259,16 @@ pub fn value(
     ensures { Gives (λ v. v) result (value_of at.now kind place (items (tokens inner.entry))) }
 {
     match kind {
-        Kind::Flag => Err(ParseFault::Syntax(Syntax::BadValue(place))),
         Kind::Ids => several(alloc, kind, place, inner),
         Kind::Classes => several(alloc, kind, place, inner),
         Kind::Id => single(alloc, at, kind, place, inner),
         Kind::Group => single(alloc, at, kind, place, inner),
+        Kind::Class => single(alloc, at, kind, place, inner),
         Kind::Authority => single(alloc, at, kind, place, inner),
         Kind::Name => single(alloc, at, kind, place, inner),
+        Kind::Level => single(alloc, at, kind, place, inner),
+        Kind::Reset => single(alloc, at, kind, place, inner),
+        Kind::Audit => Ok(Content::Audit(audit_rule(place, inner)?)),
         _ => Err(ParseFault::Syntax(Syntax::BadValue(place))),
     }
 }

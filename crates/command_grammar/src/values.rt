@@ -59,6 +59,25 @@ pub enum Reset {
     When,
 }
 
+/// The words of RESET.
+pub const RESETS: [Reset; 3] = [Reset::All, Reset::Standard, Reset::When];
+
+impl Reset {
+    ghost use Rattle.std.specs.Prelude.{◌≡◌};
+    ghost use Rattle.command_grammar.specs.Values.{reset_name};
+
+    /// The word that spells it.
+    pub fn name(self) -> &'static [u8]
+        ensures { result.now ≡ reset_name self }
+    {
+        match self {
+            Reset::All => b"ALL".as_slice(),
+            Reset::Standard => b"STANDARD".as_slice(),
+            Reset::When => b"WHEN".as_slice(),
+        }
+    }
+}
+
 /// The value of a positional word or an operand.
 #[derive(Drop)]
 pub enum Content {
@@ -88,11 +107,28 @@ pub enum Content {
     Members(Members),
     /// Names of members of a profile.
     MemberNames(MemberNames),
+    /// GENERIC, at its place. No command that was read has it.
+    Generic(u32),
 }
 
-/// What the reading of a value may depend on beside its text.
+/// What the reading of a command depends on beside its text.
 #[derive(Clone, Copy, Debug)]
 pub struct Context {
     /// Who gives the command.
     pub issuer: Id,
+}
+
+/// What the positional words in front tell of the words behind them.
+#[derive(Clone, Copy)]
+pub struct Known {
+    pub class: Option<Id>,
+    pub profile: Option<Pattern>,
+}
+
+/// What the reading of a value may depend on beside its text.
+#[derive(Clone, Copy)]
+pub struct Scope {
+    /// Who gives the command.
+    pub issuer: Id,
+    pub known: Known,
 }

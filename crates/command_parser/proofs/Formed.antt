@@ -108,9 +108,9 @@ again kinds.Classes s = ids_slot (ids_in s)
 again kinds.Level s = level_slot (level_in s)
 again kinds.Audit s = audit_slot (audit_in s)
 again kinds.Class s = id_slot (id_in s)
-again kinds.DataSetProfile s = None
-again kinds.ClassProfile s = None
-again kinds.AnyProfile s = None
+again kinds.DataSetProfile s = s
+again kinds.ClassProfile s = s
+again kinds.AnyProfile s = s
 again kinds.Reset s = reset_slot (reset_in s)
 again kinds.Whos s = whos_slot (whos_in s)
 again kinds.When s = when_slot (when_in s)
@@ -151,6 +151,17 @@ again-some kinds.Ids (contents.Ids []) h = absurd h.0
 again-some kinds.Ids (contents.Ids (w ∷ ws)) h = refl
 again-some kinds.Classes (contents.Ids []) h = absurd h.0
 again-some kinds.Classes (contents.Ids (w ∷ ws)) h = refl
+again-some kinds.Level (contents.Level l) h = refl
+again-some kinds.Audit (contents.Audit rule) h = refl
+again-some kinds.Class (contents.Id w) h = refl
+again-some kinds.DataSetProfile v h = refl
+again-some kinds.ClassProfile v h = refl
+again-some kinds.AnyProfile v h = refl
+again-some kinds.Reset (contents.Reset reset) h = refl
+again-some kinds.Whos (contents.Whos (x ∷ xs)) h = refl
+again-some kinds.When (contents.When condition) h = refl
+again-some kinds.AddedMembers (contents.Members (x ∷ xs)) h = refl
+again-some kinds.DroppedMembers (contents.MemberNames (x ∷ xs)) h = refl
 again-some k v h = absurd h
 
 -- the same of all slots
@@ -227,75 +238,95 @@ permit_viewed n class slots given fits =
           ∙ seen_again verbs.Permit (contents.Profile n ∷ []) slots fits;
     }
 
+-- PERMIT has something in the slot of its class
+NamesClass : Verb → Slots → Type 0
+NamesClass verbs.Permit slots = (v : Content) × (front slots ≡ Some v)
+NamesClass v slots = Unit {0}
+
+class_given : (slots : Slots) (v : Content) → front slots ≡ Some v → FitsAll (operands_of verbs.Permit) slots → (class : List ℕ) × (id_in (front slots) ≡ Some class)
+unfolding front
+class_given [] v is fits = absurd fits
+class_given (None ∷ ss) v is fits = let no : let empty : Option Content = None in empty ≡ Some v = is in cc
+class_given (Some (contents.Id w) ∷ ss) v is fits = (w, refl)
+class_given (Some u ∷ ss) v is fits = absurd fits.0
+
+formed_by : (v : Verb) (words : List Content) (slots : Slots) → FitsPositions (positions_of v) words → FitsAll (operands_of v) slots → NamesClass v slots → IsViewed v words slots
+unfolding all_again again NamesClass
+formed_by verbs.AddUser words slots at fits names =
+    let w = is_user words at in
+    viewed verbs.AddUser words (contents.Id w.0 ∷ []) slots w.1
+    (record { form = forms.AddUser (add_user_in w.0 slots); read = refl; view = seen_again verbs.AddUser (contents.Id w.0 ∷ []) slots fits })
+formed_by verbs.AltUser words slots at fits names =
+    let w = is_user words at in
+    viewed verbs.AltUser words (contents.Id w.0 ∷ []) slots w.1
+    (record { form = forms.AltUser (alt_user_in w.0 slots); read = refl; view = seen_again verbs.AltUser (contents.Id w.0 ∷ []) slots fits })
+formed_by verbs.DelUser words slots at fits names =
+    let w = is_user words at in
+    viewed verbs.DelUser words (contents.Id w.0 ∷ []) slots w.1
+    (record { form = forms.DelUser (record { user = w.0 }); read = refl; view = seen_again verbs.DelUser (contents.Id w.0 ∷ []) slots fits })
+formed_by verbs.AddGroup words slots at fits names =
+    let w = is_group words at in
+    viewed verbs.AddGroup words (contents.Id w.0 ∷ []) slots w.1
+    (record { form = forms.AddGroup (add_group_in w.0 slots); read = refl; view = seen_again verbs.AddGroup (contents.Id w.0 ∷ []) slots fits })
+formed_by verbs.AltGroup words slots at fits names =
+    let w = is_group words at in
+    viewed verbs.AltGroup words (contents.Id w.0 ∷ []) slots w.1
+    (record { form = forms.AltGroup (alt_group_in w.0 slots); read = refl; view = seen_again verbs.AltGroup (contents.Id w.0 ∷ []) slots fits })
+formed_by verbs.DelGroup words slots at fits names =
+    let w = is_group words at in
+    viewed verbs.DelGroup words (contents.Id w.0 ∷ []) slots w.1
+    (record { form = forms.DelGroup (record { group = w.0 }); read = refl; view = seen_again verbs.DelGroup (contents.Id w.0 ∷ []) slots fits })
+formed_by verbs.Connect words slots at fits names =
+    let w = is_user words at in
+    viewed verbs.Connect words (contents.Id w.0 ∷ []) slots w.1
+    (record { form = forms.Connect (connect_in w.0 slots); read = refl; view = seen_again verbs.Connect (contents.Id w.0 ∷ []) slots fits })
+formed_by verbs.Remove words slots at fits names =
+    let w = is_user words at in
+    viewed verbs.Remove words (contents.Id w.0 ∷ []) slots w.1
+    (record { form = forms.Remove (remove_in w.0 slots); read = refl; view = seen_again verbs.Remove (contents.Id w.0 ∷ []) slots fits })
+formed_by verbs.AddSd words slots at fits names =
+    let w = is_data_set words at in
+    viewed verbs.AddSd words (contents.Profile w.0 ∷ []) slots w.1
+    (record { form = forms.AddSd (add_sd_in w.0 slots); read = refl; view = seen_again verbs.AddSd (contents.Profile w.0 ∷ []) slots fits })
+formed_by verbs.AltSd words slots at fits names =
+    let w = is_data_set words at in
+    viewed verbs.AltSd words (contents.Profile w.0 ∷ []) slots w.1
+    (record { form = forms.AltSd (alt_sd_in w.0 slots); read = refl; view = seen_again verbs.AltSd (contents.Profile w.0 ∷ []) slots fits })
+formed_by verbs.DelSd words slots at fits names =
+    let w = is_data_set words at in
+    viewed verbs.DelSd words (contents.Profile w.0 ∷ []) slots w.1
+    (record { form = forms.DelSd (record { profile = w.0 }); read = refl; view = seen_again verbs.DelSd (contents.Profile w.0 ∷ []) slots fits })
+formed_by verbs.RDefine words slots at fits names =
+    let w = is_class_profile words at in
+    viewed verbs.RDefine words (contents.Id w.0 ∷ contents.Profile w.1 ∷ []) slots w.2
+    (record { form = forms.RDefine (r_define_in w.0 w.1 slots); read = refl; view = seen_again verbs.RDefine (contents.Id w.0 ∷ contents.Profile w.1 ∷ []) slots fits })
+formed_by verbs.RAlter words slots at fits names =
+    let w = is_class_profile words at in
+    viewed verbs.RAlter words (contents.Id w.0 ∷ contents.Profile w.1 ∷ []) slots w.2
+    (record { form = forms.RAlter (r_alter_in w.0 w.1 slots); read = refl; view = seen_again verbs.RAlter (contents.Id w.0 ∷ contents.Profile w.1 ∷ []) slots fits })
+formed_by verbs.RDelete words slots at fits names =
+    let w = is_class_profile words at in
+    viewed verbs.RDelete words (contents.Id w.0 ∷ contents.Profile w.1 ∷ []) slots w.2
+    (record { form = forms.RDelete (record { class = w.0; profile = w.1 }); read = refl; view = seen_again verbs.RDelete (contents.Id w.0 ∷ contents.Profile w.1 ∷ []) slots fits })
+formed_by verbs.Permit words slots at fits names =
+    let w = is_profile words at in
+    let class = class_given slots names.0 names.1 fits in
+    viewed verbs.Permit words (contents.Profile w.0 ∷ []) slots w.1 (permit_viewed w.0 class.0 slots class.1 fits)
+
 -- until PERMIT's name is read, no word fits where it stands
 no_permit : (words : List Content) → FitsPositions PERMIT_POSITION words → ⊥
 no_permit [] h = h
 no_permit (v ∷ vs) h = h.0
 
-pub formed_by : (v : Verb) (words : List Content) (slots : Slots) → FitsPositions (positions_of v) words → FitsAll (operands_of v) slots → IsViewed v words slots
-unfolding all_again again
-formed_by verbs.AddUser words slots at fits =
-    let w = is_user words at in
-    viewed verbs.AddUser words (contents.Id w.0 ∷ []) slots w.1
-    (record { form = forms.AddUser (add_user_in w.0 slots); read = refl; view = seen_again verbs.AddUser (contents.Id w.0 ∷ []) slots fits })
-formed_by verbs.AltUser words slots at fits =
-    let w = is_user words at in
-    viewed verbs.AltUser words (contents.Id w.0 ∷ []) slots w.1
-    (record { form = forms.AltUser (alt_user_in w.0 slots); read = refl; view = seen_again verbs.AltUser (contents.Id w.0 ∷ []) slots fits })
-formed_by verbs.DelUser words slots at fits =
-    let w = is_user words at in
-    viewed verbs.DelUser words (contents.Id w.0 ∷ []) slots w.1
-    (record { form = forms.DelUser (record { user = w.0 }); read = refl; view = seen_again verbs.DelUser (contents.Id w.0 ∷ []) slots fits })
-formed_by verbs.AddGroup words slots at fits =
-    let w = is_group words at in
-    viewed verbs.AddGroup words (contents.Id w.0 ∷ []) slots w.1
-    (record { form = forms.AddGroup (add_group_in w.0 slots); read = refl; view = seen_again verbs.AddGroup (contents.Id w.0 ∷ []) slots fits })
-formed_by verbs.AltGroup words slots at fits =
-    let w = is_group words at in
-    viewed verbs.AltGroup words (contents.Id w.0 ∷ []) slots w.1
-    (record { form = forms.AltGroup (alt_group_in w.0 slots); read = refl; view = seen_again verbs.AltGroup (contents.Id w.0 ∷ []) slots fits })
-formed_by verbs.DelGroup words slots at fits =
-    let w = is_group words at in
-    viewed verbs.DelGroup words (contents.Id w.0 ∷ []) slots w.1
-    (record { form = forms.DelGroup (record { group = w.0 }); read = refl; view = seen_again verbs.DelGroup (contents.Id w.0 ∷ []) slots fits })
-formed_by verbs.Connect words slots at fits =
-    let w = is_user words at in
-    viewed verbs.Connect words (contents.Id w.0 ∷ []) slots w.1
-    (record { form = forms.Connect (connect_in w.0 slots); read = refl; view = seen_again verbs.Connect (contents.Id w.0 ∷ []) slots fits })
-formed_by verbs.Remove words slots at fits =
-    let w = is_user words at in
-    viewed verbs.Remove words (contents.Id w.0 ∷ []) slots w.1
-    (record { form = forms.Remove (remove_in w.0 slots); read = refl; view = seen_again verbs.Remove (contents.Id w.0 ∷ []) slots fits })
-formed_by verbs.AddSd words slots at fits =
-    let w = is_data_set words at in
-    viewed verbs.AddSd words (contents.Profile w.0 ∷ []) slots w.1
-    (record { form = forms.AddSd (add_sd_in w.0 slots); read = refl; view = seen_again verbs.AddSd (contents.Profile w.0 ∷ []) slots fits })
-formed_by verbs.AltSd words slots at fits =
-    let w = is_data_set words at in
-    viewed verbs.AltSd words (contents.Profile w.0 ∷ []) slots w.1
-    (record { form = forms.AltSd (alt_sd_in w.0 slots); read = refl; view = seen_again verbs.AltSd (contents.Profile w.0 ∷ []) slots fits })
-formed_by verbs.DelSd words slots at fits =
-    let w = is_data_set words at in
-    viewed verbs.DelSd words (contents.Profile w.0 ∷ []) slots w.1
-    (record { form = forms.DelSd (record { profile = w.0 }); read = refl; view = seen_again verbs.DelSd (contents.Profile w.0 ∷ []) slots fits })
-formed_by verbs.RDefine words slots at fits =
-    let w = is_class_profile words at in
-    viewed verbs.RDefine words (contents.Id w.0 ∷ contents.Profile w.1 ∷ []) slots w.2
-    (record { form = forms.RDefine (r_define_in w.0 w.1 slots); read = refl; view = seen_again verbs.RDefine (contents.Id w.0 ∷ contents.Profile w.1 ∷ []) slots fits })
-formed_by verbs.RAlter words slots at fits =
-    let w = is_class_profile words at in
-    viewed verbs.RAlter words (contents.Id w.0 ∷ contents.Profile w.1 ∷ []) slots w.2
-    (record { form = forms.RAlter (r_alter_in w.0 w.1 slots); read = refl; view = seen_again verbs.RAlter (contents.Id w.0 ∷ contents.Profile w.1 ∷ []) slots fits })
-formed_by verbs.RDelete words slots at fits =
-    let w = is_class_profile words at in
-    viewed verbs.RDelete words (contents.Id w.0 ∷ contents.Profile w.1 ∷ []) slots w.2
-    (record { form = forms.RDelete (record { class = w.0; profile = w.1 }); read = refl; view = seen_again verbs.RDelete (contents.Id w.0 ∷ contents.Profile w.1 ∷ []) slots fits })
-formed_by verbs.Permit words slots at fits = absurd (no_permit words at)
+names_class : (v : Verb) (words : List Content) (slots : Slots) → FitsPositions (positions_of v) words → NamesClass v slots
+unfolding NamesClass
+names_class verbs.Permit words slots at = absurd (no_permit words at)
+names_class v words slots at = tt
 
 -- what a text can spell is the view of a command
 pub formed : (g : Generic) → IsLawful g → (c : Form) × (form_of g ≡ Some c) × (generic_form c ≡ g)
 unfolding form_of
-formed g h = let v = formed_by g.verb g.positions g.slots h.fits_positions h.fits_operands in (v.form, v.read, v.view)
+formed g h = let v = formed_by g.verb g.positions g.slots h.fits_positions h.fits_operands (names_class g.verb g.positions g.slots h.fits_positions) in (v.form, v.read, v.view)
 
 pub no_form : (g : Generic) → IsLawful g → form_of g ≡ None → ⊥
 no_form g h none = let v = formed g h in let is : form_of g ≡ Some v.0 = v.1 in cc

@@ -4,7 +4,7 @@ use Rattle.std.specs.Prelude.{◌==◌}
 use Rattle.std.specs.List.{list_all}
 use Rattle.std.proofs.lemmas.Bool.Decides.{nat_tests}
 use Rattle.command_words.specs.declared.quoting.Quoting.{Quoting}
-use Rattle.command_words.specs.declared.quoting.Quoting.TheVariants.{Ignored, Outside}
+use Rattle.command_words.specs.declared.quoting.Quoting.TheVariants.{Ignored, Outside, BeforeName}
 use Rattle.command_words.specs.Bytes.{is_gap_byte, is_word_byte}
 use Rattle.command_words.specs.Quotes.{after, hides, word_len}
 
@@ -46,6 +46,9 @@ Ignored-steady = record { open_to_all = refl; stays = λ p b h. refl }
 
 pub Outside-steady : IsSteady Outside
 Outside-steady = record { open_to_all = refl; stays = λ p b h. rw h refl }
+
+pub BeforeName-steady : IsSteady BeforeName
+BeforeName-steady = record { open_to_all = refl; stays = λ p b h. refl }
 
 -- what may follow a word
 abbrev pub EndsWord : List ℕ → Type 0

@@ -6,15 +6,15 @@ use Rattle.std.proofs.lemmas.List.{append-nil}
 use Rattle.std.proofs.Math.Seq.{take-append_seam, take-length, drop-append_seam, drop-length}
 use Rattle.std.proofs.lemmas.Bool.Decides.{nat_tests}
 use Rattle.command_words.specs.declared.quoting.Quoting.{Quoting}
-use Rattle.command_words.specs.declared.quoting.Quoting.TheVariants.{Outside, Inside}
-use Rattle.command_words.specs.Quotes.{after, word_len, doubled}
+use Rattle.command_words.specs.declared.quoting.Quoting.TheVariants.{Ignored, Outside, Inside, AtName, InName}
+use Rattle.command_words.specs.Quotes.{after, next_word, word_len, doubled}
 use Rattle.command_words.specs.Tokens.{Word, Group, within, group_end, tokens_from, word_then}
 use Rattle.command_words.proofs.Letters.{is_letter, letter-gap, letter-open, letter-close, letter-quote, both_first, both_second, IsSteady, EndsWord, word_len-letters}
 use Rattle.command_words.proofs.Skips.{grouped-ok, worded-at}
 
 -- a word of letters, and what follows it
 pub word_token : (q : Quoting) → IsSteady q → (tied : Bool) (p b : ℕ) (w rest : List ℕ) → list_all is_letter (b ∷ w) ≡ true → EndsWord rest
-    → tokens_from q tied 0 p (b ∷ (w ++ rest)) ≡ Word p (b ∷ w) ∷ tokens_from q true 0 (p + length (b ∷ w)) rest
+    → tokens_from q tied 0 p (b ∷ (w ++ rest)) ≡ Word p (b ∷ w) ∷ tokens_from (next_word q) true 0 (p + length (b ∷ w)) rest
 word_token q s tied p b w rest h e =
     let letter : is_letter b ≡ true = both_first _ _ h in
     let letters : list_all is_letter w ≡ true = both_second _ _ h in
@@ -24,13 +24,13 @@ word_token q s tied p b w rest h e =
     let whole : take (length w + 1) (b ∷ (w ++ rest)) ≡ b ∷ w = rw (add-one, take-append_seam) refl in
     let first : tokens_from q tied 0 p (b ∷ (w ++ rest)) ≡ word_then q b p (w ++ rest) = rw (letter-gap b letter, letter-close b letter, letter-open b letter) refl in
     first ∙ worded-at q b p (length w) (w ++ rest) measured
-    ∙ ap (λ v. Word p v ∷ tokens_from q true 0 (p + 1 + length w) (drop (length w) (w ++ rest))) whole
-    ∙ ap (λ n. Word p (b ∷ w) ∷ tokens_from q true 0 n (drop (length w) (w ++ rest))) next
-    ∙ ap (λ bs. Word p (b ∷ w) ∷ tokens_from q true 0 (p + length (b ∷ w)) bs) (drop-append_seam w rest)
+    ∙ ap (λ v. Word p v ∷ tokens_from (next_word q) true 0 (p + 1 + length w) (drop (length w) (w ++ rest))) whole
+    ∙ ap (λ n. Word p (b ∷ w) ∷ tokens_from (next_word q) true 0 n (drop (length w) (w ++ rest))) next
+    ∙ ap (λ bs. Word p (b ∷ w) ∷ tokens_from (next_word q) true 0 (p + length (b ∷ w)) bs) (drop-append_seam w rest)
 
 -- a value in parentheses, where the one that closes it is known
 pub group_token : (q : Quoting) (tied : Bool) (p : ℕ) (inside rest : List ℕ) → group_end p Outside 0 (suc p) (inside ++ 41 ∷ rest) ≡ Ok (suc p + length inside)
-    → tokens_from q tied 0 p (40 ∷ (inside ++ 41 ∷ rest)) ≡ Group tied p (within p inside) ∷ tokens_from q false 0 (p + length inside + 2) rest
+    → tokens_from q tied 0 p (40 ∷ (inside ++ 41 ∷ rest)) ≡ Group tied p (within p inside) ∷ tokens_from (next_word q) false 0 (p + length inside + 2) rest
 group_token q tied p inside rest bounded =
     let above : p < suc p + length inside = omega arith in
     let closed : Ok (suc p + length inside) ≡ group_end p Outside 0 (p + 1) (inside ++ 41 ∷ rest) = rw add-one (sym bounded) in
@@ -43,9 +43,9 @@ group_token q tied p inside rest bounded =
     ∙ ap (λ n. drop n ((inside ++ 41 ∷ []) ++ rest)) (sym (length-append inside (41 ∷ [])))
     ∙ drop-append_seam (inside ++ 41 ∷ []) rest) in
     grouped-ok q tied p (suc p + length inside) (inside ++ 41 ∷ rest) closed above
-    ∙ ap (λ bs. Group tied p (within p bs) ∷ tokens_from q false 0 (suc p + length inside + 1) (drop (suc p + length inside - p) (inside ++ 41 ∷ rest))) held
-    ∙ ap (λ bs. Group tied p (within p inside) ∷ tokens_from q false 0 (suc p + length inside + 1) bs) left
-    ∙ ap (λ n. Group tied p (within p inside) ∷ tokens_from q false 0 n rest) next
+    ∙ ap (λ bs. Group tied p (within p bs) ∷ tokens_from (next_word q) false 0 (suc p + length inside + 1) (drop (suc p + length inside - p) (inside ++ 41 ∷ rest))) held
+    ∙ ap (λ bs. Group tied p (within p inside) ∷ tokens_from (next_word q) false 0 (suc p + length inside + 1) bs) left
+    ∙ ap (λ n. Group tied p (within p inside) ∷ tokens_from (next_word q) false 0 n rest) next
 
 -- bytes that neither quotes nor parentheses are
 abbrev pub is_calm : ℕ → Bool
@@ -70,6 +70,24 @@ group_end-calm outer p (b ∷ inside) rest h =
     let next : suc p + length inside ≡ p + length (b ∷ inside) = omega arith in
     rw (calm-quote b calm, calm-open b calm, calm-close b calm)
     (group_end-calm outer (suc p) inside rest (both_second _ _ h) ∙ ap Ok next)
+
+-- calm bytes leave the parentheses as they are
+pub group_end-through : (outer depth p : ℕ) (inside rest : List ℕ) → list_all is_calm inside ≡ true → group_end outer Outside depth p (inside ++ rest) ≡ group_end outer Outside depth (p + length inside) rest
+group_end-through outer depth p [] rest h = rw add-zero refl
+group_end-through outer depth p (b ∷ inside) rest h =
+    let calm : is_calm b ≡ true = both_first _ _ h in
+    let next : suc p + length inside ≡ p + length (b ∷ inside) = omega arith in
+    rw (calm-quote b calm, calm-open b calm, calm-close b calm)
+    (group_end-through outer depth (suc p) inside rest (both_second _ _ h) ∙ ap (λ n. group_end outer Outside depth n rest) next)
+
+-- past a word with a value of its own
+pub group_end-nested : (outer p : ℕ) (word inside rest : List ℕ) → list_all is_calm word ≡ true → list_all is_calm inside ≡ true
+    → group_end outer Outside 0 p (word ++ (40 ∷ (inside ++ 41 ∷ rest))) ≡ group_end outer Outside 0 (p + length word + length inside + 2) rest
+group_end-nested outer p word inside rest h k =
+    let next : suc (suc (p + length word) + length inside) ≡ p + length word + length inside + 2 = omega arith in
+    group_end-through outer 0 p word (40 ∷ (inside ++ 41 ∷ rest)) h
+    ∙ group_end-through outer 1 (suc (p + length word)) inside (41 ∷ rest) k
+    ∙ ap (λ n. group_end outer Outside 0 n rest) next
 
 -- through the text between quotes, and past its closing quote
 group_end-one : (outer open_at p b : ℕ) (t rest : List ℕ) (c : Bool) → (b == 39) ≡ c
@@ -117,3 +135,26 @@ quoted_token tied p t =
 -- a word alone
 pub word_alone : (q : Quoting) → IsSteady q → (tied : Bool) (p b : ℕ) (w : List ℕ) → list_all is_letter (b ∷ w) ≡ true → tokens_from q tied 0 p (b ∷ w) ≡ Word p (b ∷ w) ∷ []
 word_alone q s tied p b w h = ap (λ bs. tokens_from q tied 0 p (b ∷ bs)) (sym (append-nil w)) ∙ word_token q s tied p b w [] h tt
+
+-- a name in quotes, and what follows it
+word_len-name : (open_at p : ℕ) (t rest : List ℕ) → list_all is_letter t ≡ true → EndsWord rest → word_len (InName open_at) p (t ++ 39 ∷ rest) ≡ length t + 1
+word_len-name open_at p [] [] h e = refl
+word_len-name open_at p [] (b ∷ rest) h e = rw e refl
+word_len-name open_at p (b ∷ t) rest h e =
+    let next : suc (length t + 1) ≡ length (b ∷ t) + 1 = omega arith in
+    rw (letter-quote b (both_first _ _ h)) (ap suc (word_len-name open_at (suc p) t rest (both_second _ _ h) e) ∙ next)
+
+pub name_token : (tied : Bool) (p : ℕ) (t rest : List ℕ) → list_all is_letter t ≡ true → EndsWord rest
+    → tokens_from AtName tied 0 p (39 ∷ (t ++ 39 ∷ rest)) ≡ Word p (39 ∷ (t ++ 39 ∷ [])) ∷ tokens_from Ignored true 0 (p + length (39 ∷ (t ++ 39 ∷ []))) rest
+name_token tied p t rest h e =
+    let measured : length t + 1 ≡ word_len (after AtName p 39) (p + 1) (t ++ 39 ∷ rest) = sym (word_len-name p (p + 1) t rest h e) in
+    let count : length (t ++ 39 ∷ []) ≡ length t + 1 = length-append t (39 ∷ []) in
+    let parted : t ++ 39 ∷ rest ≡ (t ++ 39 ∷ []) ++ rest = sym (append_assoc t (39 ∷ []) rest) in
+    let whole : take (length t + 1 + 1) (39 ∷ (t ++ 39 ∷ rest)) ≡ 39 ∷ (t ++ 39 ∷ []) =
+    rw (parted, ← count, add-one (length (t ++ 39 ∷ [])), take-append_seam (t ++ 39 ∷ []) rest) refl in
+    let left : drop (length t + 1) (t ++ 39 ∷ rest) ≡ rest = rw (parted, ← count) (drop-append_seam (t ++ 39 ∷ []) rest) in
+    let next : p + 1 + (length t + 1) ≡ p + length (39 ∷ (t ++ 39 ∷ [])) = omega (arith, count) in
+    worded-at AtName 39 p (length t + 1) (t ++ 39 ∷ rest) measured
+    ∙ ap (λ v. Word p v ∷ tokens_from Ignored true 0 (p + 1 + (length t + 1)) (drop (length t + 1) (t ++ 39 ∷ rest))) whole
+    ∙ ap (λ bs. Word p (39 ∷ (t ++ 39 ∷ [])) ∷ tokens_from Ignored true 0 (p + 1 + (length t + 1)) bs) left
+    ∙ ap (λ n. Word p (39 ∷ (t ++ 39 ∷ [])) ∷ tokens_from Ignored true 0 n rest) next

@@ -1,9 +1,9 @@
 -- The words and values of a text, each with its place. Places count the bytes of the command's text from 1.
 use Rattle.std.specs.Prelude.{◌≡◌, ℕ, ◌+◌, ◌-◌, zero, suc, List, [], ◌∷◌, Bool, true, false, ◌&&◌, not, ◌==◌, if◌then◌else◌, Result, Ok, Err, take, length, ◌<◌, ◌^◌}
 use Rattle.command_words.specs.declared.quoting.Quoting.{Quoting}
-use Rattle.command_words.specs.declared.quoting.Quoting.TheVariants.{Ignored, Outside, Inside, Met}
+use Rattle.command_words.specs.declared.quoting.Quoting.TheVariants.{Ignored, Outside, Inside, Met, BeforeName, AtName, InName}
 use Rattle.command_words.specs.Bytes.{is_blank_byte, is_gap_byte}
-use Rattle.command_words.specs.Quotes.{after, hides, word_len}
+use Rattle.command_words.specs.Quotes.{after, hides, next_word, word_len}
 
 -- A text that is still to be read: how quotes count at the front of its words, whether it begins behind a word with
 -- nothing but blanks and tabs between, the place of its first byte, and its bytes.
@@ -37,6 +37,9 @@ unclosed Ignored outer = outer
 unclosed Outside outer = outer
 unclosed (Inside q) outer = q
 unclosed (Met q) outer = outer
+unclosed BeforeName outer = outer
+unclosed AtName outer = outer
+unclosed (InName q) outer = q
 
 -- The place of the parenthesis that closes the one at the place outer, or the place of what isn't closed.
 abbrev pub group_end : ℕ → Quoting → ℕ → ℕ → List ℕ → Result ℕ ℕ
@@ -60,6 +63,9 @@ stays_tied Ignored tied b = tied && is_blank_byte b
 stays_tied Outside tied b = false
 stays_tied (Inside q) tied b = false
 stays_tied (Met q) tied b = false
+stays_tied BeforeName tied b = tied && is_blank_byte b
+stays_tied AtName tied b = tied && is_blank_byte b
+stays_tied (InName q) tied b = false
 
 -- The tokens of a text from the left. The number says how many bytes still belong to the token in front.
 abbrev pub tokens_from : Quoting → Bool → ℕ → ℕ → List ℕ → List Token
@@ -67,9 +73,9 @@ tokens_from q tied skip p [] = []
 tokens_from q tied (suc k) p (b ∷ bs) = tokens_from q tied k (suc p) bs
 tokens_from q tied zero p (b ∷ bs) =
     if is_gap_byte b then tokens_from q (stays_tied q tied b) zero (suc p) bs
-    else if b == 41 then Close p ∷ tokens_from q false zero (suc p) bs
-    else if b == 40 then grouped (group_end p Outside 0 (suc p) bs) tied p bs (λ k. tokens_from q false k (suc p) bs)
-    else worded (word_len (after q p b) (suc p) bs) b p bs (λ k. tokens_from q true k (suc p) bs)
+    else if b == 41 then Close p ∷ tokens_from (next_word q) false zero (suc p) bs
+    else if b == 40 then grouped (group_end p Outside 0 (suc p) bs) tied p bs (λ k. tokens_from (next_word q) false k (suc p) bs)
+    else worded (word_len (after q p b) (suc p) bs) b p bs (λ k. tokens_from (next_word q) true k (suc p) bs)
 
 unfoldable pub tokens : Unread → List Token
 tokens t = tokens_from t.quoting t.tied 0 t.place t.bytes
@@ -78,9 +84,13 @@ tokens t = tokens_from t.quoting t.tied 0 t.place t.bytes
 abbrev pub of_command : List ℕ → Unread
 of_command bytes = record { quoting = Ignored; tied = false; place = 1; bytes = bytes }
 
+-- the text of a command, whose second word may be a name in quotes
+abbrev pub of_naming_command : List ℕ → Unread
+of_naming_command bytes = record { quoting = BeforeName; tied = false; place = 1; bytes = bytes }
+
 -- a word that begins with b at place p, and the tokens behind it
 abbrev pub word_then : Quoting → ℕ → ℕ → List ℕ → List Token
-word_then q b p bs = worded (word_len (after q p b) (suc p) bs) b p bs (λ k. tokens_from q true k (suc p) bs)
+word_then q b p bs = worded (word_len (after q p b) (suc p) bs) b p bs (λ k. tokens_from (next_word q) true k (suc p) bs)
 
 -- no byte that parts words stands in front
 abbrev pub BeginsWithNoGap : List ℕ → Type 0

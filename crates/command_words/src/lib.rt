@@ -8,6 +8,7 @@ mod scan;
 mod short_word;
 mod tokens;
 
+pub use bytes::folded;
 pub use items::{Item, faulty_at, is_cut, is_spelled};
 pub use quoting::Quoting;
 pub use short_word::ShortWord;

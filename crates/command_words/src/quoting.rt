@@ -15,11 +15,17 @@ pub enum Quoting {
     Inside(u32),
     /// Behind a quote that has closed, unless another follows at once: that is a quote written twice.
     Met(u32),
+    /// In the word before one that may be a name in quotes, as the name of a command on data set profiles.
+    BeforeName,
+    /// At the front of a word that may be a name in quotes. Quotes elsewhere in it are bytes like others.
+    AtName,
+    /// Inside the quotes of a name, which the next quote closes.
+    InName(u32),
 }
 
 impl Quoting {
     ghost use Rattle.std.specs.Prelude.{◌+◌, ◌<◌, ◌^◌, length};
-    ghost use Rattle.command_words.specs.Quotes.{after, hides};
+    ghost use Rattle.command_words.specs.Quotes.{after, hides, next_word};
     ghost use Rattle.command_words.specs.Tokens.{depth_after, stays_tied, unclosed};
 
     /// How the byte behind this one stands to quotes.
@@ -35,6 +41,11 @@ impl Quoting {
             Quoting::Inside(open) => Quoting::Inside(open),
             Quoting::Met(open) if is_quote => Quoting::Inside(open),
             Quoting::Met(_) => Quoting::Outside,
+            Quoting::BeforeName => Quoting::BeforeName,
+            Quoting::AtName if is_quote => Quoting::InName(place),
+            Quoting::AtName => Quoting::Ignored,
+            Quoting::InName(_) if is_quote => Quoting::Ignored,
+            Quoting::InName(open) => Quoting::InName(open),
         }
     }
 
@@ -44,7 +55,19 @@ impl Quoting {
     {
         match self {
             Quoting::Inside(_) => true,
+            Quoting::InName(_) => true,
             _ => false,
+        }
+    }
+
+    /// How quotes count at the front of the next word.
+    pub fn next_word(self) -> Quoting
+        ensures { result ≡ next_word self }
+    {
+        match self {
+            Quoting::BeforeName => Quoting::AtName,
+            Quoting::AtName => Quoting::Ignored,
+            other => other,
         }
     }
 
@@ -69,6 +92,7 @@ impl Quoting {
     {
         match self {
             Quoting::Inside(open) => open,
+            Quoting::InName(open) => open,
             _ => outer,
         }
     }
@@ -80,6 +104,8 @@ impl Quoting {
     {
         match self {
             Quoting::Ignored => tied && is_blank(byte),
+            Quoting::BeforeName => tied && is_blank(byte),
+            Quoting::AtName => tied && is_blank(byte),
             _ => false,
         }
     }

@@ -2,6 +2,7 @@
 
 ghost use Rattle.std.specs.Prelude.{◌≡◌, ◌+◌, ◌<◌, ◌^◌, [], ◌∷◌, false, length};
 ghost use Rattle.command_words.specs.Tokens.{tokens, tokens_from, word_then, Close, BeginsWithNoGap, IsInReach};
+ghost use Rattle.command_words.specs.Quotes.{next_word};
 ghost use Rattle.command_words.specs.Pieces.{seen, PieceAt};
 
 use crate::quoting::Quoting;
@@ -43,15 +44,30 @@ pub enum Piece<'a> {
 }
 
 impl<'a> Tokens<'a> {
-    ghost use Rattle.command_words.specs.Tokens.{of_command};
+    ghost use Rattle.command_words.specs.Tokens.{of_command, of_naming_command};
 
     /// The text of a command, whose first byte has the place 1.
     pub fn new(bytes: &'a [u8]) -> Tokens<'a>
         requires { length bytes.now < 2 ^ 29 }
         ensures { result ≡ of_command bytes.now }
     {
+        Tokens::from_start(Quoting::Ignored, bytes)
+    }
+
+    /// The same, where the second word may be a name in quotes.
+    pub fn naming(bytes: &'a [u8]) -> Tokens<'a>
+        requires { length bytes.now < 2 ^ 29 }
+        ensures { result ≡ of_naming_command bytes.now }
+    {
+        Tokens::from_start(Quoting::BeforeName, bytes)
+    }
+
+    fn from_start(quoting: Quoting, bytes: &'a [u8]) -> Tokens<'a>
+        requires { length bytes.now < 2 ^ 29 }
+        ensures { result ≡ record { quoting = quoting; tied = false; place = 1; bytes = bytes.now } }
+    {
         Tokens {
-            quoting: Quoting::Ignored,
+            quoting,
             tied: false,
             place: 1,
             bytes,
@@ -91,13 +107,13 @@ fn piece_at<'a>(
 #[tactic(auto, unfolding(crate::specs::Tokens::tokens))]
 fn closing<'a>(quoting: Quoting, place: u32, rest: &'a [u8]) -> (Piece<'a>, Tokens<'a>)
     requires { place + length rest.now + 1 < 2 ^ 30 }
-    ensures tokens { Close place ∷ tokens_from quoting false 0 (place + 1) rest.now ≡ seen result.0 ∷ tokens result.1 }
+    ensures tokens { Close place ∷ tokens_from (next_word quoting) false 0 (place + 1) rest.now ≡ seen result.0 ∷ tokens result.1 }
     ensures reach { IsInReach (seen result.0) }
 {
     (
         Piece::Close(place),
         Tokens {
-            quoting,
+            quoting: quoting.next_word(),
             tied: false,
             place: place + 1,
             bytes: rest,
@@ -130,7 +146,7 @@ fn group<'a>(quoting: Quoting, tied: bool, place: u32, rest: &'a [u8]) -> (Piece
                 bytes: front(rest, (end - place - 1) as usize),
             };
             let behind = Tokens {
-                quoting,
+                quoting: quoting.next_word(),
                 tied: false,
                 place: end + 1,
                 bytes: behind(rest, (end - place) as usize),
@@ -156,7 +172,7 @@ fn word<'a>(
 {
     let letters = word_len(quoting.after(place, byte), place + 1, rest);
     let behind = Tokens {
-        quoting,
+        quoting: quoting.next_word(),
         tied: true,
         place: place + 1 + letters as u32,
         bytes: behind(rest, letters),

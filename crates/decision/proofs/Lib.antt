@@ -1,1 +1,3 @@
 mod WorkedRows
+mod Steps
+mod Qualifiers

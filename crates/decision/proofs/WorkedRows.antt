@@ -21,7 +21,7 @@ use Rattle.racf_profiles.specs.NewDatabase.{ibmuser, sys1, new_database, no_opti
 use Rattle.racf_profiles.specs.Lookup.{is_class}
 use Rattle.racf_profiles.specs.State.{restart}
 use Rattle.acee.specs.declared.acee.Acee.{Acee}
-use Rattle.acee.specs.declared.acee.AceeGroup.{AceeGroup}
+use Rattle.acee.specs.declared.groups.AceeGroup.{AceeGroup}
 use Rattle.decision.specs.declared.outcome.Rule.{Rule}
 use Rattle.decision.specs.declared.outcome.Rule.TheVariants as rule
 use Rattle.decision.specs.declared.outcome.Decision.{Decision}

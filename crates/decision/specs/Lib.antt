@@ -1,2 +1,4 @@
 pub mod Asked
 pub mod Table
+pub mod Steps
+pub mod Made

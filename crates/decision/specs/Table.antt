@@ -1,9 +1,9 @@
 -- The decision on a request: the first case of the table that fits.
-use Rattle.std.specs.Prelude.{ℕ, Bool, true, false, ◌==◌, ◌&&◌, not, List, [], ◌∷◌, map, find, Option, Some, None, is_some, option_map, option_and_then, option_copied, unwrap_or, nat_lt, slice_get, codes, bytes_eq, if◌then◌else◌}
+use Rattle.std.specs.Prelude.{ℕ, Bool, true, false, ◌==◌, ◌&&◌, not, List, [], ◌∷◌, find, Option, Some, None, is_some, option_map, option_and_then, unwrap_or, nat_lt, slice_get, codes, bytes_eq, if◌then◌else◌}
 use Rattle.std.specs.Option.{option_map_or}
-use Rattle.std.specs.List.{before_first, filter}
+use Rattle.std.specs.List.{before_first}
 use Rattle.access_levels.specs.declared.levels.Level.{Level}
-use Rattle.access_levels.specs.declared.levels.Level.TheVariants.{NoAccess, Read}
+use Rattle.access_levels.specs.declared.levels.Level.TheVariants.{NoAccess}
 use Rattle.access_levels.specs.declared.entries.Entry.{Entry}
 use Rattle.access_levels.specs.declared.entries.CondEntry.{CondEntry}
 use Rattle.access_levels.specs.Level.{level_rank, suffices}
@@ -19,11 +19,13 @@ use Rattle.racf_profiles.specs.ClassTable.{facts_of}
 use Rattle.racf_profiles.specs.State.{State, effective}
 use Rattle.group_tree.specs.ScopeTest.{is_profile_in_scope}
 use Rattle.acee.specs.declared.acee.Acee.{Acee}
-use Rattle.acee.specs.declared.acee.AceeGroup.{AceeGroup}
+use Rattle.acee.specs.declared.groups.AceeGroup.{AceeGroup}
+use Rattle.acee.specs.Groups.{group_names}
 use Rattle.acee.specs.Verify.{is_active}
 use Rattle.decision.specs.declared.outcome.Rule.{Rule}
 use Rattle.decision.specs.declared.outcome.Rule.TheVariants as rule
 use Rattle.decision.specs.declared.outcome.Decision.{Decision}
+use Rattle.decision.specs.declared.answer.Answer.{Answer}
 
 -- ---- what the cases ask about
 
@@ -44,18 +46,14 @@ first_qualifier name = before_first (λ byte. byte == period) name.text
 
 -- The considered groups are all groups of the ACEE while GRPLIST is on, else its current group alone.
 abbrev pub considered : Options → Acee → List (List ℕ)
-considered options acee = if options.grplist then map (λ (group : AceeGroup). group.group) acee.groups else acee.current ∷ []
+considered options acee = if options.grplist then group_names acee.groups else acee.current ∷ []
 
--- Those of them in which the user has group-OPERATIONS.
 abbrev pub is_considered : Options → Acee → AceeGroup → Bool
 is_considered options acee group = if options.grplist then true else bytes_eq group.group acee.current
 
-abbrev pub operating : Options → Acee → List AceeGroup
-operating options acee = filter (λ (group : AceeGroup). is_considered options acee group && group.operations) acee.groups
-
--- The first of these groups in whose scope the profile is.
-abbrev pub operating_over : Rows → Acee → Profile → Option (List ℕ)
-operating_over rows acee profile = option_map (λ (group : AceeGroup). group.group) (find (λ (group : AceeGroup). is_profile_in_scope rows group.group profile.owner) (operating rows.options acee))
+-- The first considered group that has group-OPERATIONS and in whose scope a profile of that owner is.
+abbrev pub operating_over : Rows → Acee → (owner : List ℕ) → Option (List ℕ)
+operating_over rows acee owner = option_map (λ (group : AceeGroup). group.group) (find (λ (group : AceeGroup). is_considered rows.options acee group && group.operations && is_profile_in_scope rows group.group owner) acee.groups)
 
 -- The user entry, the group entry and the `*` entry of p's standard list; the last doesn't count for a RESTRICTED user.
 abbrev pub user_entry : Acee → Profile → Option Entry
@@ -89,13 +87,7 @@ standing options acee profile = standing_of (user_entry acee profile) (group_ent
 
 -- ---- the table
 
--- What a case answers: its rule, its return code, and the level that it found.
-pub record Answer : Type 0 where
-  pub rule : Rule
-  pub rc : ℕ
-  pub found : Level
-
--- A case with its answer, which it gives where it fits.
+-- A case with its answer (its rule, its return code, and the level that it found), which it gives where it fits.
 abbrev pub case : Bool → Rule → ℕ → Level → Option Answer
 case fits rule rc found = if fits then Some record { rule = rule; rc = rc; found = found } else None
 
@@ -164,7 +156,7 @@ module _ (rows : Rows) (acee : Acee) (class : List ℕ) (name : Spelled) (asked 
       -- 13 OPERATIONS: the class allows OPERATIONS, neither entry exists, the ACEE has OPERATIONS
       ∷ case (allows_operations class && has_neither && acee.attributes.operations) rule.Operations 0 (standing rows.options acee p)
       -- 14 GROUPOPS: the class allows OPERATIONS, neither entry exists, a considered group (the first) has group-OPERATIONS and p is in scope of it
-      ∷ with (operating_over rows acee p) (λ group. case (allows_operations class && has_neither) (rule.GroupOperations group) 0 (standing rows.options acee p))
+      ∷ with (operating_over rows acee p.owner) (λ group. case (allows_operations class && has_neither) (rule.GroupOperations group) 0 (standing rows.options acee p))
       -- 15 WARNING: p has WARNING
       ∷ case p.warning rule.Warning 0 (standing rows.options acee p)
       ∷ []
@@ -179,23 +171,29 @@ abbrev pub is_warning : Rule → Bool
 is_warning rule.Warning = true
 is_warning _ = false
 
--- The decision of an answer, on a profile or without one, at a generation.
-abbrev pub decision_of : ℕ → Option Profile → Answer → Decision
+-- The decision of an answer, on the profile of a name or without one, at a generation.
+abbrev pub decision_of : ℕ → Option Spelled → Answer → Decision
 decision_of generation profile answer = record {
   rc = answer.rc;
   rule = answer.rule;
-  profile = option_map (λ (p : Profile). p.name) profile;
+  profile = profile;
   found = answer.found;
   warned = is_warning answer.rule;
   generation = generation;
 }
 
+abbrev pub answer_without_profile : Options → List ℕ → Answer
+answer_without_profile options class = unwrap_or (first_answer (cases_without_profile options class)) no_profile
+
+abbrev pub answer_with_profile : Rows → Acee → List ℕ → Spelled → Level → Profile → Answer
+answer_with_profile rows acee class name asked p = unwrap_or (first_answer (cases_with_profile rows acee class name asked p)) (insufficient rows acee class name asked p)
+
+-- The first case that fits decides.
 module _ (state : State) (generation : ℕ) (acee : Acee) (class : List ℕ) (name : Spelled) (asked : Level) where
   abbrev pub decided_after : Option Answer → Option Profile → Decision
   decided_after (Some answer) p = decision_of generation None answer
-  decided_after None None = decision_of generation None (unwrap_or (first_answer (cases_without_profile state.rows.options class)) no_profile)
-  decided_after None (Some p) = decision_of generation (Some p) (unwrap_or (first_answer (cases_with_profile state.rows acee class name asked p)) (insufficient state.rows acee class name asked p))
+  decided_after None None = decision_of generation None (answer_without_profile state.rows.options class)
+  decided_after None (Some p) = decision_of generation (Some p.name) (answer_with_profile state.rows acee class name asked p)
 
-  -- The first case that fits decides.
   abbrev pub decided : Decision
   decided = decided_after (first_answer (cases_of_class state.rows class)) (profile_for state class name)

@@ -1,8 +1,13 @@
 //! Decisions: whether a user may access a resource, and whether a user is verified.
 #![tactic(auto)]
 
+mod answer;
+mod decide;
+mod entries;
+mod operations;
 mod outcome;
 mod request;
 
+pub use decide::auth;
 pub use outcome::{Decision, Rule};
 pub use request::Request;

@@ -1,10 +1,11 @@
 //! A request for access.
-ghost use Rattle.std.specs.Prelude.{◌≡◌, IsTrue, IsSome, MatchOption};
+ghost use Rattle.std.specs.Prelude.{◌≡◌, IsTrue};
 ghost use Rattle.class_profiles.specs.Lawful.{kind_in};
 ghost use Rattle.decision.specs.Asked.{may_be_asked};
 
 use access_levels::{Id, Level};
-use generic_names::Resource;
+use generic_names::{NameKind, Resource};
+use racf_profiles::FixedClass;
 
 /// A request for access to a resource.
 pub struct Request {
@@ -15,4 +16,43 @@ pub struct Request {
     pub asked: Level,
     ghost kind_fits: { name.kind ≡ kind_in class },
     ghost level_fits: { IsTrue (may_be_asked asked) },
+}
+
+impl Request {
+    ghost use Rattle.std.specs.Prelude.{◌↔◌, IfSome, IsSome};
+    ghost use Rattle.decision.specs.Made.{IsRequest};
+
+    /// The request for this access. None exactly where the name's kind isn't that of the class's names, or
+    /// the level is none that may be asked.
+    pub fn new(class: Id, name: Resource, asked: Level) -> Option<Request>
+        ensures made { IfSome result (IsRequest class name asked) }
+        ensures lawful { IsSome result ↔ (name.kind ≡ kind_in class) × IsTrue (may_be_asked asked) }
+    {
+        if name.kind() == kind_in(class) && may_be_asked(asked) {
+            Some(Request { class, name, asked })
+        } else {
+            None
+        }
+    }
+}
+
+// The kind of the names of a class.
+fn kind_in(class: Id) -> NameKind
+    ensures { result ≡ kind_in class }
+{
+    if class == FixedClass::Dataset.id() {
+        NameKind::DataSet
+    } else {
+        NameKind::General
+    }
+}
+
+// Whether a level may be asked.
+fn may_be_asked(level: Level) -> bool
+    ensures { result ≡ may_be_asked level }
+{
+    match level {
+        Level::NoAccess | Level::Execute => false,
+        Level::Read | Level::Update | Level::Control | Level::Alter => true,
+    }
 }

@@ -1,5 +1,5 @@
 -- The index finds the entry, and its place is the profile's.
-use Rattle.std.proofs.Common.{◌≡◌, ◌∙◌, List, Option, ap, sym, subst, map}
+use Rattle.std.proofs.Common.{◌∙◌, List, Option, ap, sym, subst, map}
 use Rattle.profile_index.specs.declared.entry.Entry.{Entry}
 use Rattle.profile_index.specs.Indexed.{AreOf, name_of, IsPlaceOf as IsEntryAt}
 use Rattle.generic_names.specs.Best.{best}

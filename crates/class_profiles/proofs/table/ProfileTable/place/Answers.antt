@@ -1,5 +1,5 @@
 -- The index finds the entry, and its place is the profile's. A name that is none of the kind is no profile's.
-use Rattle.std.proofs.Common.{◌≡◌, ◌∙◌, Bool, List, Option, None, ap, sym, subst, map}
+use Rattle.std.proofs.Common.{◌∙◌, Bool, List, Option, None, sym, subst, map}
 use Rattle.std.specs.List.{find}
 use Rattle.profile_index.specs.declared.entry.Entry.{Entry}
 use Rattle.profile_index.specs.Indexed.{AreOf, has_name, IsPlaceOf as IsEntryAt}

@@ -1,5 +1,5 @@
 -- What is put where the profile of that name was taken is what is put in its place.
-use Rattle.std.proofs.Common.{◌≡◌, ◌≤◌, ◌∙◌, List, ap, sym, subst, length, find}
+use Rattle.std.proofs.Common.{◌≤◌, ◌∙◌, List, ap, sym, subst, length, find}
 use Rattle.racf_profiles.specs.declared.profiles.Profile.{Profile}
 use Rattle.racf_profiles.specs.Lookup.{is_profile}
 use Rattle.racf_profiles.specs.Edits.{put_profile}

@@ -1,5 +1,5 @@
 -- The index takes the entry out of those of the profiles, which stay in order.
-use Rattle.std.proofs.Common.{◌≡◌, ◌∙◌, ◌+◌, List, Option, None, Bool, ap, sym, subst, map, is_some, if◌then◌else◌}
+use Rattle.std.proofs.Common.{◌∙◌, ◌+◌, List, Bool, ap, sym, subst, map, is_some, if◌then◌else◌}
 use Rattle.std.specs.List.{find}
 use Rattle.std.specs.Option.{option_map}
 use Rattle.profile_index.specs.declared.entry.Entry.{Entry}
@@ -7,7 +7,6 @@ use Rattle.profile_index.specs.Indexed.{AreOf, has_name}
 use Rattle.racf_profiles.specs.declared.profiles.Profile.{Profile}
 use Rattle.racf_profiles.specs.Lookup.{is_profile}
 use Rattle.racf_profiles.specs.Edits.{drop_row}
-use Rattle.class_profiles.specs.Lawful.{AreProfiles}
 use Rattle.class_profiles.specs.Paired.{entry_of, items_of}
 use Rattle.class_profiles.proofs.Pairs.{kinds-paired, some-paired, taken-items, taken-paired, taken-lawful, taken-gone}
 use Rattle.class_profiles.proofs.table.ProfileTable.take.Goals as goal

@@ -1,0 +1,86 @@
+-- The class at the place gets the profile, and the counts change by its own.
+use Rattle.std.proofs.Common.{◌∙◌, ℕ, sym, ap, subst, arith}
+use Rattle.std.specs.List.{find}
+use Rattle.std.specs.Option.{option_map_or}
+use Rattle.std.specs.Str.{bytes_eq}
+use Rattle.racf_profiles.specs.declared.profiles.Profile.{Profile}
+use Rattle.racf_profiles.specs.declared.class_rows.ClassRow.{ClassRow}
+use Rattle.racf_profiles.specs.Lookup.{is_class}
+use Rattle.racf_profiles.specs.Edits.{at_class, with_profile}
+use Rattle.class_profiles.specs.Classes.{ClassList, profile_count, profile_in, entries_in, room_in, CanPutIn}
+use Rattle.class_profiles.proofs.Places.{placed, unplaced, read-at, at_class-absent, room-other, name-at, got-at}
+use Rattle.class_profiles.proofs.Changes.{can-put, put-few, put-rows, put-lawful, put-counted, put-entries_counted, put-few_profiles, put-few_entries}
+use Rattle.class_profiles.proofs.class_tables.ClassTables.put.Goals as goal
+
+pub returns-in_default-clause-classes : goal.returns-in_default-clause-classes
+returns-in_default-clause-classes c =
+    let absent = ap (λ (v : ClassList). find (is_class c.args.class) v.classes) (sym c.self.view_is) ∙ unplaced c.args.class c.self.inside.classes.items c.deref.result.now c.deref.ensures.value c.in_default.ensures in
+    sym (at_class-absent c.args.class (with_profile c.args.profile) c.args.self.now.classes absent)
+
+pub share_of-after-requires : goal.share_of-after-requires
+share_of-after-requires c =
+    let law = c.order_is_total.ensures in
+    let items = c.self.inside.classes.items in
+    let class = c.args.class in
+    let p = c.args.profile in
+    let at = placed class items c.deref.result.now c.in-Some.place c.deref.ensures.value c.in-Some.ensures in
+    let got = got-at class items c.in-Some.place at in
+    let can = subst (λ (v : ClassList). CanPutIn v class p) (sym c.self.view_is) c.requires in
+    let parted = c.share_in-before.ensures.entries ∙ ap {B = ℕ} (λ (v : ClassList). option_map_or entries_in (profile_in class p.name v.classes) 0) (sym c.self.view_is) in
+    put-few law.not_both law.passed_on class items c.in-Some.place got.0 p at got.1 c.self.invariant.lawful can c.self.inside.entries c.share_in-before.result.entries c.self.invariant.entries_counted parted
+
+pub overflow_sub-self : goal.overflow_sub-self
+overflow_sub-self c = omega (arith, c.share_in-before.ensures.few, c.self.invariant.counted, ap (λ (v : ClassList). profile_count v.classes) c.self.view_is)
+
+pub put-requires : goal.put-requires
+put-requires c =
+    let items = c.self.inside.classes.items in
+    let at = placed c.args.class items c.deref.result.now c.in-Some.place c.deref.ensures.value c.in-Some.ensures in
+    let got = read-at c.args.class items c.in-Some.place c.index_mut.result.now at c.index_mut.ensures.value in
+    can-put c.args.class items c.in-Some.place c.index_mut.result.now c.args.profile at got (subst (λ (v : ClassList). CanPutIn v c.args.class c.args.profile) (sym c.self.view_is) c.requires)
+
+pub invariant_of-self : goal.invariant_of-self
+invariant_of-self c =
+    let law = c.order_is_total.ensures in
+    let items = c.self.inside.classes.items in
+    let class = c.args.class in
+    let k = c.in-Some.place in
+    let old = c.index_mut.result.now in
+    let new = c.put.new.self in
+    let p = c.args.profile in
+    let at = placed class items c.deref.result.now k c.deref.ensures.value c.in-Some.ensures in
+    let got = read-at class items k old at c.index_mut.ensures.value in
+    let can = subst (λ (v : ClassList). CanPutIn v class p) (sym c.self.view_is) c.requires in
+    let parted = c.share_in-before.ensures.profiles ∙ ap {B = ℕ} (λ (v : ClassList). option_map_or (λ (q : Profile). 1) (profile_in class p.name v.classes) 0) (sym c.self.view_is) in
+    let entries_parted = c.share_in-before.ensures.entries ∙ ap {B = ℕ} (λ (v : ClassList). option_map_or entries_in (profile_in class p.name v.classes) 0) (sym c.self.view_is) in
+    record {
+      lawful = put-lawful law.not_both law.passed_on class items k old p at got c.self.invariant.lawful can new c.put.ensures.row c.put.ensures.lawful;
+      counted = put-counted law.not_both law.passed_on class items k old p at got c.self.invariant.lawful can new c.put.ensures.row c.put.ensures.lawful c.self.inside.count c.share_in-before.result.profiles c.share_of-after.result.profiles c.self.inside.entries c.share_in-before.result.entries c.share_of-after.result.entries c.self.invariant.counted parted c.share_of-after.ensures.profiles c.self.invariant.entries_counted entries_parted c.share_of-after.ensures.entries;
+      entries_counted = put-entries_counted law.not_both law.passed_on class items k old p at got c.self.invariant.lawful can new c.put.ensures.row c.put.ensures.lawful c.self.inside.count c.share_in-before.result.profiles c.share_of-after.result.profiles c.self.inside.entries c.share_in-before.result.entries c.share_of-after.result.entries c.self.invariant.counted parted c.share_of-after.ensures.profiles c.self.invariant.entries_counted entries_parted c.share_of-after.ensures.entries;
+      few = put-few_profiles law.not_both law.passed_on class items k old p at got c.self.invariant.lawful can new c.put.ensures.row c.put.ensures.lawful c.self.inside.count c.share_in-before.result.profiles c.share_of-after.result.profiles c.self.inside.entries c.share_in-before.result.entries c.share_of-after.result.entries c.self.invariant.counted parted c.share_of-after.ensures.profiles c.self.invariant.entries_counted entries_parted c.share_of-after.ensures.entries;
+      few_entries = put-few_entries law.not_both law.passed_on class items k old p at got c.self.invariant.lawful can new c.put.ensures.row c.put.ensures.lawful c.self.inside.count c.share_in-before.result.profiles c.share_of-after.result.profiles c.self.inside.entries c.share_in-before.result.entries c.share_of-after.result.entries c.self.invariant.counted parted c.share_of-after.ensures.profiles c.self.invariant.entries_counted entries_parted c.share_of-after.ensures.entries;
+    }
+
+pub returns-clause-classes : goal.returns-clause-classes
+returns-clause-classes c =
+    let law = c.order_is_total.ensures in
+    let items = c.self.inside.classes.items in
+    let class = c.args.class in
+    let k = c.in-Some.place in
+    let old = c.index_mut.result.now in
+    let at = placed class items c.deref.result.now k c.deref.ensures.value c.in-Some.ensures in
+    let got = read-at class items k old at c.index_mut.ensures.value in
+    let can = subst (λ (v : ClassList). CanPutIn v class c.args.profile) (sym c.self.view_is) c.requires in
+    put-rows law.not_both law.passed_on class items k old c.args.profile at got c.self.invariant.lawful can c.put.new.self c.put.ensures.row c.put.ensures.lawful
+    ∙ ap (λ (v : ClassList). at_class class (with_profile c.args.profile) v.classes) c.self.view_is
+
+pub returns-clause-others : goal.returns-clause-others
+returns-clause-others c =
+    let items = c.self.inside.classes.items in
+    let class = c.args.class in
+    let k = c.in-Some.place in
+    let old = c.index_mut.result.now in
+    let at = placed class items c.deref.result.now k c.deref.ensures.value c.in-Some.ensures in
+    let got = read-at class items k old at c.index_mut.ensures.value in
+    λ other differs. room-other other items k old c.put.new.self got (ap (λ (r : ClassRow). r.name) c.put.ensures.row) (ap (λ n. bytes_eq n other) (name-at class items k old at got) ∙ differs)
+    ∙ ap (λ (v : ClassList). room_in other v) c.self.view_is

@@ -1,0 +1,25 @@
+-- No profile has more entries than all.
+use Rattle.std.proofs.Common.{ℕ, Option, ap, arith}
+use Rattle.std.specs.Option.{option_map_or}
+use Rattle.racf_profiles.specs.declared.profiles.Profile.{Profile}
+use Rattle.class_profiles.specs.Classes.{entries_in}
+use Rattle.class_profiles.proofs.Changes.{profiles-le, entries-le}
+use Rattle.class_profiles.proofs.class_tables.ClassTables.share_in.Goals as goal
+
+pub share_of-requires : goal.share_of-requires
+share_of-requires c =
+    let le = entries-le c.args.class c.args.name.now c.args.self.now.classes in
+    let here = ap (λ (o : Option Profile). option_map_or entries_in o 0) c.in-Some.ensures in
+    omega (arith, le, here, c.entries-entries.ensures.few, c.entries-entries.ensures.count)
+
+pub returns-in-Some-clause-few : goal.returns-in-Some-clause-few
+returns-in-Some-clause-few c =
+    let le = profiles-le c.args.class c.args.name.now c.args.self.now.classes in
+    let here = ap {B = ℕ} (λ (o : Option Profile). option_map_or (λ (p : Profile). 1) o 0) c.in-Some.ensures in
+    omega (arith, le, here, c.share_of.ensures.profiles)
+
+pub returns-in-Some-clause-few_entries : goal.returns-in-Some-clause-few_entries
+returns-in-Some-clause-few_entries c =
+    let le = entries-le c.args.class c.args.name.now c.args.self.now.classes in
+    let here = ap (λ (o : Option Profile). option_map_or entries_in o 0) c.in-Some.ensures in
+    omega (arith, le, here, c.share_of.ensures.entries)

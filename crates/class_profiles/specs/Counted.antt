@@ -1,0 +1,16 @@
+-- How a class and all classes are kept.
+use Rattle.std.specs.Prelude.{◌≡◌}
+use Rattle.class_profiles.specs.declared.class_table.ClassTable.TheInside.{Inside}
+use Rattle.class_profiles.specs.Lawful.{kind_in}
+use Rattle.class_profiles.specs.Classes.{Roomy}
+
+-- the row of a class, with its profiles in it
+abbrev pub roomy : Inside → Roomy
+roomy table = record {
+  row = record { name = table.name; active = table.active; listed = table.listed; global = table.global; log = table.log; profiles = table.profiles.profiles };
+  spare = table.profiles.spare;
+}
+
+-- a class's profiles have names of its kind
+abbrev pub HasItsKind : Inside → Type 0
+HasItsKind table = table.profiles.kind ≡ kind_in table.name

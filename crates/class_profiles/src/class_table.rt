@@ -1,0 +1,211 @@
+//! A class with its profiles.
+ghost use Rattle.std.specs.Prelude.{◌≡◌, ◌+◌, ◌<◌, ◌≤◌, ◌==◌, length, position, is_some, OnOk, IfOk, if◌then◌else◌};
+ghost use Rattle.std.specs.List.{find};
+ghost use Rattle.generic_names.specs.Spelled.{period};
+ghost use Rattle.racf_profiles.specs.ClassTable.{class_name};
+ghost use Rattle.racf_profiles.specs.NewDatabase.{empty_class};
+ghost use Rattle.racf_profiles.specs.Lookup.{is_profile};
+ghost use Rattle.racf_profiles.specs.Edits.{put_profile, with_profile, without_profile, with_flags, with_listed};
+ghost use Rattle.class_profiles.specs.Lawful.{AreProfiles, kind_in};
+ghost use Rattle.class_profiles.specs.Table.{CanPut};
+ghost use Rattle.class_profiles.specs.Classes.{is_under, first_qualifier};
+ghost use Rattle.std.specs.Option.{option_copied, option_map};
+ghost use Rattle.std.specs.Str.{bytes_eq};
+
+use crate::table::ProfileTable;
+use access_levels::Id;
+use generic_names::{NameKind, Pattern};
+use racf_profiles::{ClassRow, FixedClass, LogOption, NoMemory, Profile};
+use std::alloc::Global;
+use std::marker::Model;
+
+/// A class: its flags and its profiles, whose names are of the kind that the class has.
+#[derive(Drop)]
+pub struct ClassTable {
+    name: Id,
+    active: bool,
+    listed: bool,
+    global: bool,
+    log: LogOption,
+    profiles: ProfileTable,
+}
+
+impl Model for ClassTable {
+    ghost use Rattle.class_profiles.specs.Classes.{Roomy};
+
+    ghost Value = { Roomy };
+
+    ghost use Rattle.class_profiles.specs.Counted.{roomy, HasItsKind};
+
+    ghost view = { roomy };
+
+    ghost invariant = { HasItsKind };
+}
+
+impl ClassTable {
+    // A class without profiles.
+    pub(crate) fn new(
+        alloc: Global,
+        class: FixedClass,
+        active: bool,
+    ) -> Result<ClassTable, NoMemory>
+        ensures { IfOk result (λ table. table ≡ record { row = empty_class active class; spare = 0 }) }
+    {
+        Ok(ClassTable {
+            name: class.id(),
+            active,
+            listed: false,
+            global: false,
+            log: LogOption::ByProfile,
+            profiles: ProfileTable::new(alloc, kind_of(class))?,
+        })
+    }
+
+    pub fn name(&self) -> Id
+        ensures { result ≡ self.now.row.name }
+    {
+        self.name
+    }
+
+    /// Whether the class is used in decisions.
+    pub fn is_active(&self) -> bool
+        ensures { result ≡ self.now.row.active }
+    {
+        self.active
+    }
+
+    /// Whether it is RACLISTed.
+    pub fn is_listed(&self) -> bool
+        ensures { result ≡ self.now.row.listed }
+    {
+        self.listed
+    }
+
+    /// Whether the global access table is used for it.
+    pub fn is_global(&self) -> bool
+        ensures { result ≡ self.now.row.global }
+    {
+        self.global
+    }
+
+    pub fn log(&self) -> LogOption
+        ensures { result ≡ self.now.row.log }
+    {
+        self.log
+    }
+
+    pub fn profiles(&self) -> &ProfileTable
+        ensures kind { result.now.kind ≡ kind_in self.now.row.name }
+        ensures profiles { result.now.profiles ≡ self.now.row.profiles }
+        ensures spare { result.now.spare ≡ self.now.spare }
+    {
+        &self.profiles
+    }
+
+    // The name of the first profile with that first qualifier.
+    pub(crate) fn first_under(&self, qualifier: Id) -> Option<&Pattern>
+        ensures { option_copied result ≡ option_map (λ profile. profile.name) (find (is_under qualifier) self.now.row.profiles) }
+    {
+        for place in 0..self.profiles.len() {
+            let profile = self.profiles.at(place);
+            if is_under(&profile.name, qualifier) {
+                return Some(&profile.name);
+            }
+        }
+        None
+    }
+
+    // Makes room for one more profile.
+    pub(crate) fn reserve(&mut self) -> Result<(), NoMemory>
+        ensures row { self.new.row ≡ self.old.row }
+        ensures spare { OnOk result (0 < self.new.spare) }
+        ensures kept { self.old.spare ≤ self.new.spare }
+    {
+        self.profiles.reserve()
+    }
+
+    // Puts a profile.
+    pub(crate) fn put(&mut self, profile: Profile)
+        requires { CanPut (record { kind = kind_in self.old.row.name; profiles = self.old.row.profiles; spare = self.old.spare }) profile }
+        ensures row { self.new.row ≡ with_profile profile self.old.row }
+        ensures spare { self.new.spare + (if is_some (find (is_profile profile.name) self.old.row.profiles) then 0 else 1) ≡ self.old.spare }
+        ensures lawful { AreProfiles (kind_in self.old.row.name) self.new.row.profiles }
+    {
+        self.profiles.put(profile);
+    }
+
+    // Takes the profile of that name away.
+    pub(crate) fn remove(&mut self, name: &Pattern)
+        ensures row { self.new.row ≡ without_profile name.now self.old.row }
+        ensures spare { self.old.spare ≤ self.new.spare }
+        ensures lawful { AreProfiles (kind_in self.old.row.name) self.new.row.profiles }
+    {
+        self.profiles.remove(name);
+    }
+
+    // Sets whether the class is active, whether the global access table is used for it, and its log option.
+    pub(crate) fn set_flags(&mut self, active: bool, global: bool, log: LogOption)
+        ensures row { self.new.row ≡ with_flags active global log self.old.row }
+        ensures spare { self.new.spare ≡ self.old.spare }
+    {
+        self.active = active;
+        self.global = global;
+        self.log = log;
+    }
+
+    // Sets whether it is RACLISTed.
+    pub(crate) fn set_listed(&mut self, listed: bool)
+        ensures row { self.new.row ≡ with_listed listed self.old.row }
+        ensures spare { self.new.spare ≡ self.old.spare }
+    {
+        self.listed = listed;
+    }
+
+    // The row of the class, with copies of its profiles.
+    pub(crate) fn row(&self, alloc: Global) -> Result<ClassRow, NoMemory>
+        ensures { IfOk result (λ row. row ≡ self.now.row) }
+    {
+        Ok(ClassRow {
+            name: self.name,
+            active: self.active,
+            listed: self.listed,
+            global: self.global,
+            log: self.log,
+            profiles: self.profiles.rows(alloc)?,
+        })
+    }
+}
+
+// The kind of the names in a class.
+fn kind_of(class: FixedClass) -> NameKind
+    ensures { result ≡ kind_in (class_name class) }
+{
+    match class {
+        FixedClass::Dataset => NameKind::DataSet,
+        _ => NameKind::General,
+    }
+}
+
+// Whether a name has that first qualifier.
+fn is_under(name: &Pattern, qualifier: Id) -> bool
+    ensures { result ≡ bytes_eq (first_qualifier name.now.text) qualifier }
+{
+    first_qualifier(name.text()) == qualifier.text()
+}
+
+// What stands before the first period.
+fn first_qualifier(text: &[u8]) -> &[u8]
+    ensures { result.now ≡ first_qualifier text.now }
+{
+    match first_period(text) {
+        Some(end) => &text[..end],
+        None => text,
+    }
+}
+
+// The place of the first period.
+fn first_period(text: &[u8]) -> Option<usize>
+    ensures { result ≡ position (λ byte. byte == period) text.now }
+{
+    text.iter().position(|byte| *byte == b'.')
+}

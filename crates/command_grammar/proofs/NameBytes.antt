@@ -1,0 +1,146 @@
+-- The bytes of profiles' names.
+use Rattle.std.proofs.Common.{◌≡◌, ℕ, ◌+◌, List, [], ◌∷◌, length, Bool, true, false, cond, not, ◌&&◌, ◌||◌, eqb, ltb, Option, None, Some, Ok, refl, sym, subst}
+use Rattle.std.specs.Prelude.{◌==◌}
+use Rattle.std.specs.List.{list_all, onto_first}
+use Rattle.std.specs.Option.{option_or}
+use Rattle.std.proofs.lemmas.Bool.{eqb-true}
+use Rattle.std.proofs.lemmas.Bool.Decides.{nat_tests}
+use Rattle.std.proofs.lemmas.Slice.Eq.{bytes_eq-Decides}
+use Rattle.generic_names.specs.declared.kind.NameKind.{NameKind}
+use Rattle.generic_names.specs.declared.kind.NameKind.TheVariants.{DataSet, General}
+use Rattle.generic_names.specs.declared.form.Form.TheVariants.{Generic}
+use Rattle.generic_names.specs.declared.fault.NameFault.{NameFault}
+use Rattle.generic_names.specs.declared.fault.NameFault.TheVariants.{Empty, TooLong, BadByte, StarInside}
+use Rattle.generic_names.specs.Spelled.{Spelled, qualifiers}
+use Rattle.generic_names.specs.Faults.{pattern_of, is_letter, is_digit, is_ordinary, byte_fault, bytes_fault, qualifier_fault, qualifiers_fault, fault_of, unless, longest, is_too_long, is_whole}
+
+-- a letter, a digit, `-`, `_`, `/`, `:`, `.`, `%` or `*`
+abbrev pub is_name_byte : ℕ → Bool
+is_name_byte b = is_letter b || is_digit b || (b == 45) || (b == 95) || (b == 47) || (b == 58) || (b == 46) || (b == 37) || (b == 42)
+
+either-first : (a b : Bool) → a ≡ true → (a || b) ≡ true
+either-first true b h = refl
+either-first false b h = absurd (cc (h))
+
+both-second : (a b : Bool) → (a && b) ≡ true → b ≡ true
+both-second true b h = h
+both-second false b h = absurd (cc (h))
+
+both-first : (a b : Bool) → (a && b) ≡ true → a ≡ true
+both-first true b h = refl
+both-first false b h = h
+
+letter-or-digit : (a d : Bool) (b : ℕ) → (a || d) ≡ true → (a || d || (b == 45) || (b == 95) || (b == 47) || (b == 58) || (b == 46) || (b == 37) || (b == 42)) ≡ true
+letter-or-digit true d b h = refl
+letter-or-digit false true b h = refl
+letter-or-digit false false b h = absurd (cc (h))
+
+named-letter : (b : ℕ) → is_letter b ≡ true → is_name_byte b ≡ true
+named-letter b h = letter-or-digit (is_letter b) (is_digit b) b (either-first (is_letter b) (is_digit b) h)
+
+digit-second : (a d : Bool) → d ≡ true → (a || d) ≡ true
+digit-second true d h = refl
+digit-second false d h = h
+
+named-digit : (b : ℕ) → is_digit b ≡ true → is_name_byte b ≡ true
+named-digit b h = letter-or-digit (is_letter b) (is_digit b) b (digit-second (is_letter b) (is_digit b) h)
+
+named-code : (b c : ℕ) → (b == c) ≡ true → is_name_byte c ≡ true → is_name_byte b ≡ true
+named-code b c h named = let same : b ≡ c = eqb-true b c h in subst (λ (n : ℕ). is_name_byte n ≡ true) (sym same) named
+
+either : {P : Type 0} (a b : Bool) → (a || b) ≡ true → (a ≡ true → P) → (b ≡ true → P) → P
+either true b h one other = one refl
+either false b h one other = other h
+
+named-ordinary : (kind : NameKind) (first : Bool) (b : ℕ) → is_ordinary kind first b ≡ true → is_name_byte b ≡ true
+named-ordinary DataSet first b h =
+    either (is_letter b) (not first && (is_digit b || (b == 45))) h (named-letter b)
+    (λ k. either (is_digit b) (b == 45) (both-second (not first) (is_digit b || (b == 45)) k) (named-digit b) (λ e. named-code b 45 e refl))
+named-ordinary General first b h =
+    either (is_letter b || is_digit b || (b == 45) || (b == 95) || (b == 47)) (b == 58) h
+    (λ k. either (is_letter b || is_digit b || (b == 45) || (b == 95)) (b == 47) k
+    (λ k2. either (is_letter b || is_digit b || (b == 45)) (b == 95) k2
+    (λ k3. either (is_letter b || is_digit b) (b == 45) k3
+    (λ k4. either (is_letter b) (is_digit b) k4 (named-letter b) (named-digit b))
+    (λ e. named-code b 45 e refl))
+    (λ e. named-code b 95 e refl))
+    (λ e. named-code b 47 e refl))
+    (λ e. named-code b 58 e refl)
+
+lawful : (b : ℕ) (t : Bool) (fault : NameFault) → cond t None (Some fault) ≡ None → t ≡ true
+lawful b true fault h = refl
+lawful b false fault h = absurd (cc (h))
+
+named-tested : (kind : NameKind) (first last : Bool) (place b : ℕ) (s t : Bool) → (b == 37) ≡ s → (b == 42) ≡ t
+    → cond s None (cond t (cond last None (Some (StarInside place))) (cond (is_ordinary kind first b) None (Some (BadByte place)))) ≡ None → is_name_byte b ≡ true
+named-tested kind first last place b true t is at h = named-code b 37 is refl
+named-tested kind first last place b false true is at h = named-code b 42 at refl
+named-tested kind first last place b false false is at h = named-ordinary kind first b (lawful b (is_ordinary kind first b) (BadByte place) h)
+
+named-byte : (kind : NameKind) (first last : Bool) (place b : ℕ) → byte_fault Generic kind first last place b ≡ None → is_name_byte b ≡ true
+named-byte kind first last place b h = named-tested kind first last place b (b == 37) (b == 42) refl refl h
+
+first-none : (a b : Option NameFault) → option_or a b ≡ None → (a ≡ None) × (b ≡ None)
+first-none None b h = (refl, h)
+first-none (Some x) b h = absurd (cc (h))
+
+named-bytes : (kind : NameKind) (first : Bool) (place : ℕ) (q : List ℕ) → bytes_fault Generic kind first place q ≡ None → list_all is_name_byte q ≡ true
+named-bytes kind first place [] h = refl
+named-bytes kind first place (b ∷ bs) h =
+    let parts = first-none (byte_fault Generic kind first (length bs == 0) place b) (bytes_fault Generic kind false (place + 1) bs) h in
+    rw (named-byte kind first (length bs == 0) place b parts.0) (named-bytes kind false (place + 1) bs parts.1)
+
+passed : (t : Bool) (x : NameFault) (rest : Option NameFault) → cond t (Some x) rest ≡ None → rest ≡ None
+passed true x rest h = absurd (cc (h))
+passed false x rest h = h
+
+named-whole : (kind : NameKind) (place : ℕ) (q : List ℕ) (t : Bool) → is_whole Generic q ≡ t → cond t None (bytes_fault Generic kind true place q) ≡ None → list_all is_name_byte q ≡ true
+named-whole kind place q true is h = subst (λ (xs : List ℕ). list_all is_name_byte xs ≡ true) (sym ((bytes_eq-Decides q (42 ∷ 42 ∷ [])).0 is)) refl
+named-whole kind place q false is h = named-bytes kind true place q h
+
+abbrev all_named : List (List ℕ) → Bool
+all_named qs = list_all (λ (q : List ℕ). list_all is_name_byte q) qs
+
+named-qualifiers : (kind : NameKind) (number place : ℕ) (qs : List (List ℕ)) → qualifiers_fault Generic kind number place qs ≡ None → all_named qs ≡ true
+named-qualifiers kind number place [] h = refl
+named-qualifiers kind number place (q ∷ qs) h =
+    let parts = first-none (qualifier_fault Generic kind number place q) (qualifiers_fault Generic kind (number + 1) (place + length q + 1) qs) h in
+    let whole = first-none _ _ (passed (is_too_long kind q) _ _ (passed (length q == 0) _ _ parts.0)) in
+    rw (named-whole kind place q (is_whole Generic q) refl whole.0) (named-qualifiers kind (number + 1) (place + length q + 1) qs parts.1)
+
+onto-named : (b : ℕ) (qs : List (List ℕ)) → all_named (onto_first b qs) ≡ true → (is_name_byte b ≡ true) × (all_named qs ≡ true)
+onto-named b [] h = (both-first (is_name_byte b) true (both-first (is_name_byte b && true) true h), refl)
+onto-named b (q ∷ qs) h =
+    let first = both-first (is_name_byte b && list_all is_name_byte q) (all_named qs) h in
+    let rest = both-second (is_name_byte b && list_all is_name_byte q) (all_named qs) h in
+    (both-first (is_name_byte b) (list_all is_name_byte q) first, rw (both-second (is_name_byte b) (list_all is_name_byte q) first) rest)
+
+text-named-one : (b : ℕ) (t : List ℕ) (c : Bool) → (b == 46) ≡ c → (all_named (qualifiers t) ≡ true → list_all is_name_byte t ≡ true)
+    → all_named (cond c ([] ∷ qualifiers t) (onto_first b (qualifiers t))) ≡ true → list_all is_name_byte (b ∷ t) ≡ true
+text-named-one b t true is more h = rw (named-code b 46 is refl) (more h)
+text-named-one b t false is more h = let parts = onto-named b (qualifiers t) h in rw parts.0 (more parts.1)
+
+text-named : (t : List ℕ) → all_named (qualifiers t) ≡ true → list_all is_name_byte t ≡ true
+text-named [] h = refl
+text-named (b ∷ t) h = text-named-one b t (b == 46) refl (text-named t) h
+
+unless-ok : (fault : Option NameFault) (name other : Spelled) → unless fault name ≡ Ok other → (fault ≡ None) × (name ≡ other)
+unless-ok None name other h = (refl, cc (h))
+unless-ok (Some x) name other h = absurd (cc (h))
+
+some-bytes : (kind : NameKind) (text : List ℕ) → fault_of Generic kind text ≡ None → (text ≡ []) → ⊥
+some-bytes kind [] h none = absurd (cc (h))
+some-bytes kind (b ∷ text) h none = absurd (cc (none))
+
+-- what is read as a profile's name has that text, some bytes of it, and no others than these
+pub record IsRead (kind : NameKind) (text : List ℕ) (name : Spelled) : Type 0 where
+  pub same : name ≡ record { kind = kind; text = text }
+  pub some : text ≡ [] → ⊥
+  pub bytes : list_all is_name_byte text ≡ true
+
+pub pattern-read : (kind : NameKind) (text : List ℕ) (name : Spelled) → pattern_of kind text ≡ Ok name → IsRead kind text name
+pattern-read kind text name h =
+    let parts = unless-ok (fault_of Generic kind text) (record { kind = kind; text = text }) name h in
+    let none : fault_of Generic kind text ≡ None = parts.0 in
+    let each : qualifiers_fault Generic kind 1 1 (qualifiers text) ≡ None = passed (ltb (longest kind) (length text)) TooLong _ (passed (eqb (length text) 0) Empty _ none) in
+    record { same = sym parts.1; some = some-bytes kind text none; bytes = text-named text (named-qualifiers kind 1 1 (qualifiers text) each) }

@@ -1,0 +1,70 @@
+//! The words of a value: each is refused at its first faulty byte before it is judged.
+
+ghost use Rattle.std.specs.Prelude.{◌≡◌, ◌+◌, ◌<◌, ◌^◌, length, IfOk};
+ghost use Rattle.command_words.specs.Tokens.{tokens};
+ghost use Rattle.command_words.specs.Items.{items, IsItemInReach};
+ghost use Rattle.command_words.specs.Pieces.{seen_item};
+ghost use Rattle.command_grammar.specs.Results.{Finds};
+ghost use Rattle.command_grammar.specs.WordsOfValues.{clean, refused_at as refusal_of, word_of as word_in, stray as stray_in, held as held_in};
+
+use crate::faults::Syntax;
+use command_words::{Item, Quoting, Tokens, faulty_at};
+
+/// The word, unless it has a faulty byte: that is refused at its place.
+pub fn clean<'a>(quoting: Quoting, place: u32, word: &'a [u8]) -> Result<&'a [u8], Syntax>
+    requires { place + length word.now < 2 ^ 30 }
+    ensures { Finds (λ x. x.now) result (clean quoting place word.now) }
+{
+    match faulty_at(quoting, place, word) {
+        Some(fault) => Err(Syntax::BadValue(fault)),
+        None => Ok(word),
+    }
+}
+
+/// Where an item is refused: at its first faulty byte, else where it begins.
+pub fn refused_at(quoting: Quoting, item: Item<'_>) -> u32
+    requires { IsItemInReach (seen_item item) }
+    ensures { result ≡ refusal_of quoting (seen_item item.entry) }
+{
+    match item {
+        Item::Bare(place, word) => faulty_at(quoting, place, word).unwrap_or(place),
+        Item::With(place, word, _) => faulty_at(quoting, place, word).unwrap_or(place),
+        Item::Unbounded(place, word, _) => faulty_at(quoting, place, word).unwrap_or(place),
+        Item::Odd(place) => place,
+    }
+}
+
+/// The word that an item is, with its place.
+pub fn word_of<'a>(quoting: Quoting, item: Item<'a>) -> Result<(u32, &'a [u8]), Syntax>
+    requires { IsItemInReach (seen_item item) }
+    ensures { Finds (λ x. (x.0, x.1.now)) result (word_in quoting (seen_item item.entry)) }
+{
+    match item {
+        Item::Bare(place, word) => Ok((place, clean(quoting, place, word)?)),
+        other => Err(Syntax::BadValue(refused_at(quoting, other))),
+    }
+}
+
+// The place of what stands behind a value of one word.
+fn stray(quoting: Quoting, rest: &Tokens<'_>) -> Option<u32>
+    ensures { result ≡ stray_in quoting (items (tokens rest.now)) }
+{
+    let (item, _) = rest.split_item()?;
+    Some(refused_at(quoting, item))
+}
+
+/// The word of a value of one word: its place, its bytes, and the place of what stands behind it. Where there is no word
+/// the value is refused at `place`.
+pub fn held<'a>(
+    quoting: Quoting,
+    place: u32,
+    inner: Tokens<'a>,
+) -> Result<(u32, &'a [u8], Option<u32>), Syntax>
+    ensures { Finds (λ x. (x.0, x.1.now, x.2)) result (held_in quoting place (items (tokens inner.entry))) }
+{
+    let Some((item, rest)) = inner.split_item() else {
+        return Err(Syntax::BadValue(place));
+    };
+    let (place, word) = word_of(quoting, item)?;
+    Ok((place, word, stray(quoting, &rest)))
+}

@@ -1,0 +1,161 @@
+//! The decision on a request: the first case of the table that fits.
+ghost use Rattle.std.specs.Prelude.{◌≡◌, ◌==◌, ◌&&◌, bytes_eq, position, unwrap_or};
+ghost use Rattle.generic_names.specs.Spelled.{period};
+ghost use Rattle.racf_profiles.specs.declared.profiles.Profile.{Profile};
+ghost use Rattle.raclist_image.specs.Facts.{AreFacts};
+ghost use Rattle.decision.specs.Steps.{is_open};
+ghost use Rattle.decision.specs.Table.{decided, cases_of_class, first_answer, case, else_case, first_qualifier, is_dataset, allows_operations, answer_with_profile, answer_without_profile};
+
+use crate::answer::Answer;
+use crate::entries::{conditional_case, entry_case, is_open, listed, standing};
+use crate::operations::operations_case;
+use crate::outcome::{Decision, Rule};
+use crate::request::Request;
+use access_levels::{Id, Level};
+use access_lists::Found;
+use acee::Acee;
+use generic_names::Resource;
+use racf_profiles::{FixedClass, Options};
+use raclist_image::{Facts, Image};
+
+/// Whether the user of the ACEE may have the access that is asked for (z/OS Security Server RACF Security
+/// Administrator's Guide, authorization checking), as the image has classes, profiles, groups and options.
+///
+/// It looks for the profile once, asks each of its access lists once, and takes no memory.
+pub fn auth(image: &Image, acee: &Acee, request: &Request) -> Decision
+    ensures { result ≡ decided image.now.state image.now.generation acee.now request.now.class request.now.name request.now.asked }
+{
+    let generation = image.generation();
+    if let Some(answer) = class_answer(image, request.class) {
+        return answer.decision(None, generation);
+    }
+    let Some(profiles) = image.effective(request.class) else {
+        return without_profile(image.options(), request.class).decision(None, generation);
+    };
+    match profiles.find(&request.name) {
+        None => without_profile(image.options(), request.class).decision(None, generation),
+        Some(place) => {
+            let facts = profiles.facts(place);
+            let answer = with_profile(image, acee, request, &facts);
+            answer.decision(Some(profiles.name(place)), generation)
+        }
+    }
+}
+
+// The answer that comes before a profile is asked.
+fn class_answer(image: &Image, class: Id) -> Option<Answer>
+    ensures { result ≡ first_answer (cases_of_class image.now.state.rows class) }
+{
+    match image.class(class) {
+        None => Some(undecided(Rule::NoClass)),
+        Some(flags) if !flags.active => Some(undecided(Rule::ClassOff)),
+        Some(_) => None,
+    }
+}
+
+// Nothing is decided.
+fn undecided(rule: Rule) -> Answer
+    ensures { result ≡ else_case rule 4 Level.NoAccess }
+{
+    Answer {
+        rule,
+        rc: 4,
+        found: Level::NoAccess,
+    }
+}
+
+// The answer where no profile covers the name.
+fn without_profile(options: &Options, class: Id) -> Answer
+    ensures { result ≡ answer_without_profile options.now class }
+{
+    if class == FixedClass::Dataset.id() && options.protectall {
+        Answer {
+            rule: Rule::ProtectAll,
+            rc: 8,
+            found: Level::NoAccess,
+        }
+    } else {
+        undecided(Rule::NoProfile)
+    }
+}
+
+// The answer of the profile that covers the name.
+fn with_profile(image: &Image, acee: &Acee, request: &Request, facts: &Facts<'_>) -> Answer
+    ensures { (p : Profile) → AreFacts p facts.now → result ≡ answer_with_profile image.now.state.rows acee.now request.now.class request.now.name request.now.asked p }
+{
+    if is_own(acee, request.class, &request.name) {
+        return Answer::allowed(Rule::OwnData, Level::NoAccess);
+    }
+    let options = image.options();
+    let restricted = acee.attributes.restricted;
+    let found = listed(options, acee, facts.standard);
+    if let Some(answer) = entry_case(&found, restricted, facts.uacc, request.asked) {
+        return answer;
+    }
+    if let Some(answer) = conditional_case(options, acee, facts.conditional, request.asked) {
+        return answer;
+    }
+    let standing = standing(&found, restricted, facts.uacc);
+    let may = may_operate(request.class, &found);
+    if let Some(answer) = operations_case(image, acee, facts.owner, may, standing) {
+        return answer;
+    }
+    last_case(facts.warning, standing)
+}
+
+// Whether OPERATIONS may give access: the class allows it, and there is no entry for the user or his groups.
+fn may_operate(class: Id, found: &Found) -> bool
+    ensures { result ≡ (allows_operations class && is_open found.now) }
+{
+    allows_operations(class) && is_open(found)
+}
+
+// The answer where nothing gives access: a profile that only warns gives it then.
+fn last_case(warning: bool, standing: Level) -> Answer
+    ensures { result ≡ unwrap_or (case warning Rule.Warning 0 standing) (else_case Rule.Insufficient 8 standing) }
+{
+    if warning {
+        Answer::allowed(Rule::Warning, standing)
+    } else {
+        Answer {
+            rule: Rule::Insufficient,
+            rc: 8,
+            found: standing,
+        }
+    }
+}
+
+// Whether the class lets OPERATIONS give access.
+fn allows_operations(class: Id) -> bool
+    ensures { result ≡ allows_operations class }
+{
+    match racf_profiles::class_facts(class) {
+        Some(facts) => facts.operations,
+        None => false,
+    }
+}
+
+// Whether the request is for the user's own data.
+fn is_own(acee: &Acee, class: Id, name: &Resource) -> bool
+    ensures { result ≡ (is_dataset class && bytes_eq (first_qualifier name.now) acee.now.user) }
+{
+    class == FixedClass::Dataset.id() && first_qualifier(name) == acee.user.text()
+}
+
+// The first qualifier of a name.
+fn first_qualifier(name: &Resource) -> &[u8]
+    ensures { result.now ≡ first_qualifier name.now }
+{
+    let text = name.text();
+    match first_period(text) {
+        Some(end) => &text[..end],
+        None => text,
+    }
+}
+
+// The place of the first period.
+fn first_period(text: &[u8]) -> Option<usize>
+    ensures { result ≡ position (λ byte. byte == period) text.now }
+{
+    text.iter().position(|byte| *byte == b'.')
+}

@@ -209,10 +209,13 @@ fn issuer() -> Issuer
 fn decision_on(found: Option<&Profile>, asked: Level) -> Decision
     ensures { result ≡ decide (option_copied found.entry) asked }
 {
-    match found {
-        None => Decision::NoProfile,
-        Some(profile) if profile.uacc.suffices(asked) => Decision::UniversalAccess(found_in(profile)),
-        Some(profile) => Decision::Insufficient(found_in(profile)),
+    let Some(profile) = found else {
+        return Decision::NoProfile;
+    };
+    if profile.uacc.suffices(asked) {
+        Decision::UniversalAccess(found_in(profile))
+    } else {
+        Decision::Insufficient(found_in(profile))
     }
 }
 

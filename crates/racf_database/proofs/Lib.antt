@@ -9,3 +9,4 @@ pub mod GroupLaws
 pub mod Unmet
 pub mod StepLaws
 pub mod Ready
+pub mod NoneCovers

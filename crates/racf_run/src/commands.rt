@@ -7,6 +7,7 @@ ghost use Rattle.racf_run.specs.Commands.{past_gaps, command_name, is_other_comm
 
 use crate::reply::Refusal;
 use crate::unbuilt::is_unbuilt;
+use command_parser::laws::one_command_is_spelled;
 use command_parser::{Command, ParseFault, parse};
 use command_words::is_spelled;
 use racf_profiles::ibmuser;
@@ -23,6 +24,8 @@ pub(crate) fn read_command(
     if is_other_command(text) {
         return Ok(Err(Refusal::NotBuilt));
     }
+    // A text spells one command at most.
+    one_command_is_spelled();
     match parse(alloc, ibmuser(), text) {
         Ok(command) => Ok(built(command)),
         Err(ParseFault::Syntax(fault)) => Ok(Err(Refusal::Syntax(fault))),

@@ -1,0 +1,15 @@
+//! Lines of requests: what they ask for, the ACEEs that they name, and the answers.
+#![tactic(auto)]
+
+mod acees;
+mod line;
+mod long_word;
+mod next_words;
+mod numbers;
+mod operands;
+mod reading;
+mod spellings;
+mod words;
+
+pub use acees::{AceeTable, NamedAcee};
+pub use line::{LineRefusal, RequestLine, read_line};

@@ -1,4 +1,3 @@
-mod Rows
 mod JoinRows
 pub mod Folds
 pub mod Walk

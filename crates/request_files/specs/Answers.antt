@@ -1,6 +1,7 @@
 -- The words that are printed for a line of requests. Behind them stands a line feed, and a number in front.
 use Rattle.std.specs.Prelude.{ℕ, List, [], ◌++◌, Option, Some, None, codes, decimal}
 use Rattle.access_levels.specs.Level.{level_name, port_class_name}
+use Rattle.access_levels.specs.declared.entries.Condition.{Condition}
 use Rattle.generic_names.specs.Spelled.{Spelled}
 use Rattle.generic_names.specs.declared.fault.NameFault.{NameFault}
 use Rattle.generic_names.specs.declared.fault.NameFault.TheVariants as name
@@ -69,6 +70,10 @@ profile_words (Some profile) = codes " " ++ profile.text
 abbrev pub found_words : Decision → List ℕ
 found_words decision = profile_words decision.profile ++ codes " " ++ level_name decision.found
 
+-- a port of entry, as PERMIT's WHEN names it
+abbrev pub port_words : Condition → List ℕ
+port_words port = codes "WHEN(" ++ port_class_name port.class ++ codes "(" ++ port.name ++ codes "))"
+
 -- no decision names a member of a global table yet
 abbrev pub rule_words : Rule → Decision → List ℕ
 rule_words rule.NoClass decision = codes "NOCLASS"
@@ -82,7 +87,7 @@ rule_words rule.UserEntry decision = codes "USER" ++ found_words decision
 rule_words (rule.GroupEntry group) decision = codes "GROUP " ++ group ++ found_words decision
 rule_words rule.Star decision = codes "STAR" ++ found_words decision
 rule_words rule.Uacc decision = codes "UACC" ++ found_words decision
-rule_words (rule.Conditional port) decision = codes "CONDITIONAL WHEN(" ++ port_class_name port.class ++ codes "(" ++ port.name ++ codes "))" ++ found_words decision
+rule_words (rule.Conditional port) decision = codes "CONDITIONAL " ++ port_words port ++ found_words decision
 rule_words rule.Operations decision = codes "OPERATIONS" ++ found_words decision
 rule_words (rule.GroupOperations group) decision = codes "GROUPOPS " ++ group ++ found_words decision
 rule_words rule.Warning decision = codes "WARNING" ++ found_words decision

@@ -2,6 +2,7 @@
 #![tactic(auto)]
 
 mod acees;
+mod answers;
 mod line;
 mod long_word;
 mod next_words;
@@ -12,4 +13,5 @@ mod spellings;
 mod words;
 
 pub use acees::{AceeTable, NamedAcee};
+pub use answers::answer_text;
 pub use line::{LineRefusal, RequestLine, read_line};

@@ -1,6 +1,6 @@
 -- The bytes of profiles' names.
 use Rattle.std.proofs.Common.{◌≡◌, ℕ, ◌+◌, List, [], ◌∷◌, length, Bool, true, false, cond, not, ◌&&◌, ◌||◌, eqb, ltb, Option, None, Some, Ok, refl, sym, subst}
-use Rattle.std.specs.Prelude.{◌==◌}
+use Rattle.std.specs.Prelude.{◌==◌, bytes_eq, codes, nat_lt, if◌then◌else◌}
 use Rattle.std.specs.List.{list_all, onto_first}
 use Rattle.std.specs.Option.{option_or}
 use Rattle.std.proofs.lemmas.Bool.{eqb-true}
@@ -8,11 +8,46 @@ use Rattle.std.proofs.lemmas.Bool.Decides.{nat_tests}
 use Rattle.std.proofs.lemmas.Slice.Eq.{bytes_eq-Decides}
 use Rattle.generic_names.specs.declared.kind.NameKind.{NameKind}
 use Rattle.generic_names.specs.declared.kind.NameKind.TheVariants.{DataSet, General}
-use Rattle.generic_names.specs.declared.form.Form.TheVariants.{Generic}
 use Rattle.generic_names.specs.declared.fault.NameFault.{NameFault}
-use Rattle.generic_names.specs.declared.fault.NameFault.TheVariants.{Empty, TooLong, BadByte, StarInside}
+use Rattle.generic_names.specs.declared.fault.NameFault.TheVariants.{Empty, TooLong, EmptyQualifier, QualifierTooLong, BadByte, StarInside, GenericFirst}
 use Rattle.generic_names.specs.Spelled.{Spelled, qualifiers}
-use Rattle.generic_names.specs.Faults.{pattern_of, is_letter, is_digit, is_ordinary, byte_fault, bytes_fault, qualifier_fault, qualifiers_fault, fault_of, unless, longest, is_too_long, is_whole}
+use Rattle.generic_names.specs.Faults.{pattern_of, is_letter, is_digit, is_ordinary, unless, longest, is_too_long, is_generic_first}
+
+-- what is wrong with a byte, a qualifier, a text that is to be a profile's name
+abbrev byte_wrong : NameKind → Bool → Bool → ℕ → ℕ → Option NameFault
+byte_wrong kind first last place b =
+    if b == 37 then None
+    else if b == 42 then (if last then None else Some (StarInside place))
+    else if is_ordinary kind first b then None
+    else Some (BadByte place)
+
+abbrev bytes_wrong : NameKind → Bool → ℕ → List ℕ → Option NameFault
+bytes_wrong kind first place [] = None
+bytes_wrong kind first place (b ∷ behind) =
+    option_or (byte_wrong kind first (length behind == 0) place b)
+    (bytes_wrong kind false (place + 1) behind)
+
+abbrev is_stars : List ℕ → Bool
+is_stars q = bytes_eq q (codes "**")
+
+abbrev qualifier_wrong : NameKind → ℕ → ℕ → List ℕ → Option NameFault
+qualifier_wrong kind number place q =
+    if length q == 0 then Some (EmptyQualifier number)
+    else if is_too_long kind q then Some (QualifierTooLong number)
+    else option_or (if is_stars q then None else bytes_wrong kind true place q)
+    (if is_generic_first kind number q then Some GenericFirst else None)
+
+abbrev qualifiers_wrong : NameKind → ℕ → ℕ → List (List ℕ) → Option NameFault
+qualifiers_wrong kind number place [] = None
+qualifiers_wrong kind number place (q ∷ qs) =
+    option_or (qualifier_wrong kind number place q)
+    (qualifiers_wrong kind (number + 1) (place + length q + 1) qs)
+
+abbrev pattern_wrong : NameKind → List ℕ → Option NameFault
+pattern_wrong kind text =
+    if length text == 0 then Some Empty
+    else if nat_lt (longest kind) (length text) then Some TooLong
+    else qualifiers_wrong kind 1 1 (qualifiers text)
 
 -- a letter, a digit, `-`, `_`, `/`, `:`, `.`, `%` or `*`
 abbrev pub is_name_byte : ℕ → Bool
@@ -77,36 +112,36 @@ named-tested kind first last place b true t is at h = named-code b 37 is refl
 named-tested kind first last place b false true is at h = named-code b 42 at refl
 named-tested kind first last place b false false is at h = named-ordinary kind first b (lawful b (is_ordinary kind first b) (BadByte place) h)
 
-named-byte : (kind : NameKind) (first last : Bool) (place b : ℕ) → byte_fault Generic kind first last place b ≡ None → is_name_byte b ≡ true
+named-byte : (kind : NameKind) (first last : Bool) (place b : ℕ) → byte_wrong kind first last place b ≡ None → is_name_byte b ≡ true
 named-byte kind first last place b h = named-tested kind first last place b (b == 37) (b == 42) refl refl h
 
 first-none : (a b : Option NameFault) → option_or a b ≡ None → (a ≡ None) × (b ≡ None)
 first-none None b h = (refl, h)
 first-none (Some x) b h = absurd (cc (h))
 
-named-bytes : (kind : NameKind) (first : Bool) (place : ℕ) (q : List ℕ) → bytes_fault Generic kind first place q ≡ None → list_all is_name_byte q ≡ true
+named-bytes : (kind : NameKind) (first : Bool) (place : ℕ) (q : List ℕ) → bytes_wrong kind first place q ≡ None → list_all is_name_byte q ≡ true
 named-bytes kind first place [] h = refl
 named-bytes kind first place (b ∷ bs) h =
-    let parts = first-none (byte_fault Generic kind first (length bs == 0) place b) (bytes_fault Generic kind false (place + 1) bs) h in
+    let parts = first-none (byte_wrong kind first (length bs == 0) place b) (bytes_wrong kind false (place + 1) bs) h in
     rw (named-byte kind first (length bs == 0) place b parts.0) (named-bytes kind false (place + 1) bs parts.1)
 
 passed : (t : Bool) (x : NameFault) (rest : Option NameFault) → cond t (Some x) rest ≡ None → rest ≡ None
 passed true x rest h = absurd (cc (h))
 passed false x rest h = h
 
-named-whole : (kind : NameKind) (place : ℕ) (q : List ℕ) (t : Bool) → is_whole Generic q ≡ t → cond t None (bytes_fault Generic kind true place q) ≡ None → list_all is_name_byte q ≡ true
+named-whole : (kind : NameKind) (place : ℕ) (q : List ℕ) (t : Bool) → is_stars q ≡ t → cond t None (bytes_wrong kind true place q) ≡ None → list_all is_name_byte q ≡ true
 named-whole kind place q true is h = subst (λ (xs : List ℕ). list_all is_name_byte xs ≡ true) (sym ((bytes_eq-Decides q (42 ∷ 42 ∷ [])).0 is)) refl
 named-whole kind place q false is h = named-bytes kind true place q h
 
 abbrev all_named : List (List ℕ) → Bool
 all_named qs = list_all (λ (q : List ℕ). list_all is_name_byte q) qs
 
-named-qualifiers : (kind : NameKind) (number place : ℕ) (qs : List (List ℕ)) → qualifiers_fault Generic kind number place qs ≡ None → all_named qs ≡ true
+named-qualifiers : (kind : NameKind) (number place : ℕ) (qs : List (List ℕ)) → qualifiers_wrong kind number place qs ≡ None → all_named qs ≡ true
 named-qualifiers kind number place [] h = refl
 named-qualifiers kind number place (q ∷ qs) h =
-    let parts = first-none (qualifier_fault Generic kind number place q) (qualifiers_fault Generic kind (number + 1) (place + length q + 1) qs) h in
+    let parts = first-none (qualifier_wrong kind number place q) (qualifiers_wrong kind (number + 1) (place + length q + 1) qs) h in
     let whole = first-none _ _ (passed (is_too_long kind q) _ _ (passed (length q == 0) _ _ parts.0)) in
-    rw (named-whole kind place q (is_whole Generic q) refl whole.0) (named-qualifiers kind (number + 1) (place + length q + 1) qs parts.1)
+    rw (named-whole kind place q (is_stars q) refl whole.0) (named-qualifiers kind (number + 1) (place + length q + 1) qs parts.1)
 
 onto-named : (b : ℕ) (qs : List (List ℕ)) → all_named (onto_first b qs) ≡ true → (is_name_byte b ≡ true) × (all_named qs ≡ true)
 onto-named b [] h = (both-first (is_name_byte b) true (both-first (is_name_byte b && true) true h), refl)
@@ -128,7 +163,7 @@ unless-ok : (fault : Option NameFault) (name other : Spelled) → unless fault n
 unless-ok None name other h = (refl, cc (h))
 unless-ok (Some x) name other h = absurd (cc (h))
 
-some-bytes : (kind : NameKind) (text : List ℕ) → fault_of Generic kind text ≡ None → (text ≡ []) → ⊥
+some-bytes : (kind : NameKind) (text : List ℕ) → pattern_wrong kind text ≡ None → (text ≡ []) → ⊥
 some-bytes kind [] h none = absurd (cc (h))
 some-bytes kind (b ∷ text) h none = absurd (cc (none))
 
@@ -140,7 +175,7 @@ pub record IsRead (kind : NameKind) (text : List ℕ) (name : Spelled) : Type 0 
 
 pub pattern-read : (kind : NameKind) (text : List ℕ) (name : Spelled) → pattern_of kind text ≡ Ok name → IsRead kind text name
 pattern-read kind text name h =
-    let parts = unless-ok (fault_of Generic kind text) (record { kind = kind; text = text }) name h in
-    let none : fault_of Generic kind text ≡ None = parts.0 in
-    let each : qualifiers_fault Generic kind 1 1 (qualifiers text) ≡ None = passed (ltb (longest kind) (length text)) TooLong _ (passed (eqb (length text) 0) Empty _ none) in
+    let parts = unless-ok (pattern_wrong kind text) (record { kind = kind; text = text }) name h in
+    let none : pattern_wrong kind text ≡ None = parts.0 in
+    let each : qualifiers_wrong kind 1 1 (qualifiers text) ≡ None = passed (ltb (longest kind) (length text)) TooLong _ (passed (eqb (length text) 0) Empty _ none) in
     record { same = sym parts.1; some = some-bytes kind text none; bytes = text-named text (named-qualifiers kind 1 1 (qualifiers text) each) }

@@ -1,5 +1,5 @@
 -- The table's cases, asked one after the other as they are by the code.
-use Rattle.std.proofs.Common.{◌≡◌, ℕ, Bool, true, false, not, ◌&&◌, cond, List, [], ◌∷◌, Option, Some, None, is_some, option_map, option_and_then, refl, sym, ◌∙◌, ap}
+use Rattle.std.proofs.Common.{◌≡◌, ℕ, Bool, true, false, not, ◌&&◌, cond, List, [], ◌∷◌, Option, Some, None, is_some, refl, sym, ◌∙◌, ap}
 use Rattle.std.specs.Prelude.{unwrap_or, bytes_eq}
 use Rattle.std.specs.Option.{option_map_or}
 use Rattle.access_levels.specs.declared.levels.Level.{Level}
@@ -19,7 +19,7 @@ use Rattle.raclist_image.specs.Facts.{AreFacts}
 use Rattle.acee.specs.declared.acee.Acee.{Acee}
 use Rattle.decision.specs.declared.answer.Answer.{Answer}
 use Rattle.decision.specs.declared.outcome.Rule.TheVariants as rule
-use Rattle.decision.specs.Table.{case, with, never, first_answer, else_case, higher, considered, is_dataset, first_qualifier, allows_operations, operating_over, standing_of, has_neither, answer_with_profile, user_entry, group_entry, star_entry}
+use Rattle.decision.specs.Table.{case, with, never, first_answer, else_case, higher, considered, is_dataset, first_qualifier, allows_operations, operating_over, standing_of, answer_with_profile, user_entry, group_entry, star_entry}
 use Rattle.decision.specs.Steps.{listed, is_open, uacc_case, entry_case, standing_with, operations_cases, conditional_case}
 
 -- ---- a list of cases in parts
@@ -145,21 +145,21 @@ module _ (rows : Rows) (acee : Acee) (class : List ℕ) (name : Spelled) (asked 
       let st : Level = standing_of own group (cond r NoAccess (higher p.uacc (option_map_or (λ (entry : Entry). entry.level) star NoAccess))) in
       let free : Bool = neither r p.uacc asked own group in
       in_parts (case own_case rule.OwnData 0 NoAccess)
-        (with own (λ entry. case (suffices entry.level asked) rule.UserEntry 0 entry.level))
-        (with group (λ entry. case (not (is_some own) && suffices entry.level asked) (rule.GroupEntry entry.group) 0 entry.level))
-        (with star (λ entry. case (free && not r && suffices entry.level asked) rule.Star 0 entry.level))
-        (case (free && not r && suffices p.uacc asked) rule.Uacc 0 p.uacc)
-        (conditional_case rows.options acee p.conditional asked)
-        (case (allows_operations class && free && acee.attributes.operations) rule.Operations 0 st)
-        (with (operating_over rows acee p.owner) (λ group. case (allows_operations class && free) (rule.GroupOperations group) 0 st))
-        (case p.warning rule.Warning 0 st)
-        (else_case rule.Insufficient 8 st)
+      (with own (λ entry. case (suffices entry.level asked) rule.UserEntry 0 entry.level))
+      (with group (λ entry. case (not (is_some own) && suffices entry.level asked) (rule.GroupEntry entry.group) 0 entry.level))
+      (with star (λ entry. case (free && not r && suffices entry.level asked) rule.Star 0 entry.level))
+      (case (free && not r && suffices p.uacc asked) rule.Uacc 0 p.uacc)
+      (conditional_case rows.options acee p.conditional asked)
+      (case (allows_operations class && free && acee.attributes.operations) rule.Operations 0 st)
+      (with (operating_over rows acee p.owner) (λ group. case (allows_operations class && free) (rule.GroupOperations group) 0 st))
+      (case p.warning rule.Warning 0 st)
+      (else_case rule.Insufficient 8 st)
       ∙ ap (λ e. stepped own_case e (conditional_case rows.options acee p.conditional asked) (first_answer (operations_cases (allows_operations class && free) acee.attributes.operations (operating_over rows acee p.owner) st)) p.warning st)
-        (by_found r p.uacc asked own group star (no_star acee p.standard))
+      (by_found r p.uacc asked own group star (no_star acee p.standard))
       ∙ ap (λ s. stepped own_case (entry_case found r p.uacc asked) (conditional_case rows.options acee p.conditional asked) (first_answer (operations_cases (allows_operations class && free) acee.attributes.operations (operating_over rows acee p.owner) s)) p.warning s)
-        (standing-found r p.uacc asked own group star)
+      (standing-found r p.uacc asked own group star)
       ∙ ap (λ f. stepped own_case (entry_case found r p.uacc asked) (conditional_case rows.options acee p.conditional asked) (first_answer (operations_cases (allows_operations class && f) acee.attributes.operations (operating_over rows acee p.owner) (standing_with found r p.uacc))) p.warning (standing_with found r p.uacc))
-        (neither-found r p.uacc asked own group star)
+      (neither-found r p.uacc asked own group star)
 
   pub by_facts : (p : Profile) (facts : Facts) → AreFacts p facts → (options : Options) → options ≡ rows.options → (found : Found) → found ≡ lists.answered acee.user (considered options acee) acee.attributes.restricted facts.standard.now
       → told options found facts.uacc facts.conditional.now facts.owner facts.warning ≡ answer_with_profile rows acee class name asked p

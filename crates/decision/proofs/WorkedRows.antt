@@ -1,12 +1,10 @@
 -- Decisions that the table gives, worked out: each case once, and neighbours where both would fit.
-use Rattle.std.proofs.Common.{◌≡◌, ℕ, Bool, true, false, ◌||◌, List, [], ◌∷◌, Option, Some, None, map, refl}
-use Rattle.std.specs.Prelude.{codes, bytes_eq, if◌then◌else◌}
+use Rattle.std.proofs.Common.{◌≡◌, ℕ, Bool, true, false, List, [], ◌∷◌, Some, None, map, refl}
+use Rattle.std.specs.Prelude.{codes, if◌then◌else◌}
 use Rattle.access_levels.specs.declared.levels.Level.{Level}
-use Rattle.access_levels.specs.declared.levels.Level.TheVariants.{NoAccess, Execute, Read, Update, Control, Alter}
-use Rattle.access_levels.specs.declared.entries.Who.{Who}
+use Rattle.access_levels.specs.declared.levels.Level.TheVariants.{NoAccess, Execute, Read, Update, Alter}
 use Rattle.access_levels.specs.declared.entries.Who.TheVariants.{Star as Everyone, Named}
 use Rattle.access_levels.specs.declared.entries.Entry.{Entry}
-use Rattle.access_levels.specs.declared.entries.CondEntry.{CondEntry}
 use Rattle.access_levels.specs.declared.entries.Condition.{Condition}
 use Rattle.access_levels.specs.declared.entries.Attributes.{Attributes}
 use Rattle.access_levels.specs.declared.entries.PortClass.TheVariants.{Terminal}
@@ -21,7 +19,6 @@ use Rattle.racf_profiles.specs.NewDatabase.{ibmuser, sys1, new_database, no_opti
 use Rattle.racf_profiles.specs.Lookup.{is_class}
 use Rattle.racf_profiles.specs.State.{restart}
 use Rattle.acee.specs.declared.acee.Acee.{Acee}
-use Rattle.acee.specs.declared.groups.AceeGroup.{AceeGroup}
 use Rattle.decision.specs.declared.outcome.Rule.{Rule}
 use Rattle.decision.specs.declared.outcome.Rule.TheVariants as rule
 use Rattle.decision.specs.declared.outcome.Decision.{Decision}

@@ -2,3 +2,4 @@ pub mod Asked
 pub mod Table
 pub mod Steps
 pub mod Made
+pub mod Verify

@@ -1,5 +1,5 @@
 -- The cases of the standard list, by what the list gives to the user.
-use Rattle.std.specs.Prelude.{◌≡◌, ℕ, Bool, true, false, ◌&&◌, not, List, [], ◌∷◌, Option, option_and_then, slice_get, if◌then◌else◌}
+use Rattle.std.specs.Prelude.{ℕ, Bool, true, false, ◌&&◌, not, List, [], ◌∷◌, Option, option_and_then, slice_get, if◌then◌else◌}
 use Rattle.access_levels.specs.declared.levels.Level.{Level}
 use Rattle.access_levels.specs.declared.levels.Level.TheVariants.{NoAccess}
 use Rattle.access_levels.specs.declared.entries.CondEntry.{CondEntry}

@@ -32,12 +32,23 @@ pub(crate) fn is_open(found: &Found) -> bool
 }
 
 // The answer of the standard list and of the universal access, where one of them suffices.
-pub(crate) fn entry_case(found: &Found, restricted: bool, uacc: Level, asked: Level) -> Option<Answer>
+pub(crate) fn entry_case(
+    found: &Found,
+    restricted: bool,
+    uacc: Level,
+    asked: Level,
+) -> Option<Answer>
     ensures { result ≡ entry_case found.now restricted uacc asked }
 {
     match found {
-        Found::User(level) if level.suffices(asked) => Some(Answer::allowed(Rule::UserEntry, *level)),
-        Found::Group(group, level) if level.suffices(asked) => Some(Answer::allowed(Rule::GroupEntry(*group), *level)),
+        Found::User(level) if level.suffices(asked) => Some(Answer::allowed(
+            Rule::UserEntry,
+            *level,
+        )),
+        Found::Group(group, level) if level.suffices(asked) => Some(Answer::allowed(
+            Rule::GroupEntry(*group),
+            *level,
+        )),
         Found::Star(level) if level.suffices(asked) => Some(Answer::allowed(Rule::Star, *level)),
         Found::User(_) | Found::Group(_, _) => None,
         Found::Star(_) | Found::Nothing => uacc_case(restricted, uacc, asked),
@@ -85,7 +96,12 @@ fn higher(level: Level, other: Level) -> Level
 }
 
 // The answer of the conditional list, where its entry suffices.
-pub(crate) fn conditional_case(options: &Options, acee: &Acee, list: &[CondEntry], asked: Level) -> Option<Answer>
+pub(crate) fn conditional_case(
+    options: &Options,
+    acee: &Acee,
+    list: &[CondEntry],
+    asked: Level,
+) -> Option<Answer>
     ensures { result ≡ conditional_case options.now acee.now list.now asked }
 {
     match place_that_counts(options, acee, list) {

@@ -4,10 +4,12 @@
 mod answer;
 mod decide;
 mod entries;
+mod entry;
 mod operations;
 mod outcome;
 mod request;
 
 pub use decide::auth;
+pub use entry::verify;
 pub use outcome::{Decision, Rule};
 pub use request::Request;

@@ -12,7 +12,13 @@ use racf_profiles::Options;
 use raclist_image::Image;
 
 // The answer of OPERATIONS, the user's or in a group, where it may give access.
-pub(crate) fn operations_case(image: &Image, acee: &Acee, owner: Id, may: bool, standing: Level) -> Option<Answer>
+pub(crate) fn operations_case(
+    image: &Image,
+    acee: &Acee,
+    owner: Id,
+    may: bool,
+    standing: Level,
+) -> Option<Answer>
     ensures { result ≡ first_answer (operations_cases may acee.now.attributes.operations (operating_over image.now.state.rows acee.now owner) standing) }
 {
     if !may {

@@ -40,6 +40,7 @@ pub enum Rule {
 }
 
 /// The answer to a request.
+#[derive(Clone, Copy)]
 pub struct Decision {
     /// The RACF return code: 0 allowed, 4 not decided, 8 refused.
     pub rc: u8,

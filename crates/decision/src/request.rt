@@ -8,6 +8,7 @@ use generic_names::{NameKind, Resource};
 use racf_profiles::FixedClass;
 
 /// A request for access to a resource.
+#[derive(Drop)]
 pub struct Request {
     pub class: Id,
     /// The name of a data set where the class is DATASET, else a general name.

@@ -1,5 +1,5 @@
 -- Rows of any type, each under its own name, in a list and in a map.
-use Rattle.std.proofs.Common.{◌≡◌, ℕ, ◌<◌, Bool, true, false, cond, map, List, [], ◌∷◌, length, take, get_or, zero, suc, Option, Some, None, bytes_eq, refl, sym, ap, ◌∙◌, arith}
+use Rattle.std.proofs.Common.{◌≡◌, ℕ, ◌<◌, Bool, true, false, cond, map, List, [], ◌∷◌, length, take, get_or, zero, suc, Some, None, bytes_eq, refl, sym, ap, ◌∙◌, arith}
 use Rattle.std.specs.Prelude.{find}
 use Rattle.std.specs.Map.{keys_of, values_of, lookup}
 use Rattle.std.specs.List.{IsDistinct, AllByRecursion}

@@ -1,7 +1,7 @@
 -- How a class is kept: its name, its flags and its profiles.
 use Rattle.std.specs.Prelude.{◌≡◌}
 use Rattle.racf_profiles.specs.declared.class_rows.ClassRow.{ClassRow}
-use Rattle.class_profiles.specs.Lawful.{AreProfiles, kind_in}
+use Rattle.class_profiles.specs.Lawful.{kind_in}
 use Rattle.raclist_image.specs.Flags.{heeds_operations}
 use Rattle.raclist_image.specs.declared.classes.ClassEntry.TheInside.{Inside}
 

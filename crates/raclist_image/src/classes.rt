@@ -64,8 +64,8 @@ impl ClassEntry {
     }
 }
 
-// The kind of the names of a class's profiles.
-fn kind_in(class: Id) -> NameKind
+/// The kind of the names of a class's profiles.
+pub(crate) fn kind_in(class: Id) -> NameKind
     ensures { result ≡ kind_in class }
 {
     if class == FixedClass::Dataset.id() {

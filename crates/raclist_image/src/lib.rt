@@ -6,6 +6,8 @@ mod classes;
 mod facts;
 mod flags;
 mod image;
+#[cfg(test)]
+mod tests;
 mod users;
 
 pub use class_image::ClassImage;

@@ -1,10 +1,9 @@
-use Rattle.std.proofs.Common.{◌≡◌, false, Option, Some, None, sym, ◌∙◌, ap}
+use Rattle.std.proofs.Common.{◌≡◌, sym, ◌∙◌, ap}
 use Rattle.std.specs.Prelude.{unwrap_or}
-use Rattle.decision.specs.declared.answer.Answer.{Answer}
 use Rattle.decision.specs.declared.outcome.Rule.TheVariants as rule
 use Rattle.decision.specs.Table.{first_answer, operating_over, case, else_case}
 use Rattle.decision.specs.Steps.{entry_case, conditional_case, operations_cases, standing_with}
-use Rattle.decision.proofs.Steps.{exit_own, exit_entry, exit_conditional, exit_operations, exit_last, own_case, operations_answer, by_facts, own_first}
+use Rattle.decision.proofs.Steps.{exit_entry, exit_conditional, exit_operations, exit_last, own_case, operations_answer, by_facts, own_first}
 use Rattle.decision.proofs.decide.with_profile.Goals as goal
 
 pub returns-then-is_own : goal.returns-then-is_own

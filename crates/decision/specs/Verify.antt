@@ -1,0 +1,42 @@
+-- VERIFY: the checks of the user and of his connection, then of his port of entry and of his application.
+use Rattle.std.specs.Prelude.{◌≡◌, ℕ, ◌==◌, Bool, false, List, Option, Some, None, Result, Ok, Err, codes, if◌then◌else◌}
+use Rattle.std.specs.Option.{option_map_or}
+use Rattle.access_levels.specs.declared.entries.Condition.{Condition}
+use Rattle.access_levels.specs.declared.levels.Level.TheVariants.{Read}
+use Rattle.access_levels.specs.Level.{port_class_name}
+use Rattle.generic_names.specs.declared.kind.NameKind.TheVariants.{General}
+use Rattle.racf_profiles.specs.State.{State}
+use Rattle.acee.specs.declared.acee.Acee.{Acee}
+use Rattle.acee.specs.declared.request.VerifyRequest.{VerifyRequest}
+use Rattle.acee.specs.declared.request.VerifyFault.{VerifyFault}
+use Rattle.acee.specs.declared.request.VerifyFault.TheVariants.{Port, Application, NoMemory}
+use Rattle.acee.specs.Verify.{acee_of, acee_unless}
+use Rattle.decision.specs.Table.{decided}
+
+module _ (state : State) (generation : ℕ) where
+  -- A resource is refused to the user where a request for READ gets the code 8.
+  abbrev pub is_refused : Acee → (class name : List ℕ) → Bool
+  is_refused acee class name = (decided state generation acee class (record { kind = General; text = name }) Read).rc == 8
+
+  abbrev pub is_port_refused : Acee → Option Condition → Bool
+  is_port_refused acee port = option_map_or (λ (port : Condition). is_refused acee (port_class_name port.class) port.name) port false
+
+  abbrev pub is_application_refused : Acee → Option (List ℕ) → Bool
+  is_application_refused acee application = option_map_or (λ name. is_refused acee (codes "APPL") name) application false
+
+  -- The port of entry is asked in its class and then the application in class APPL, both with the whole ACEE.
+  abbrev pub entry_fault : Acee → Option VerifyFault
+  entry_fault acee = if is_port_refused acee acee.port then Some Port else (if is_application_refused acee acee.application then Some Application else None)
+
+  abbrev pub admitted : Result Acee VerifyFault → Result Acee VerifyFault
+  admitted (Err fault) = Err fault
+  admitted (Ok acee) = acee_unless (entry_fault acee) acee
+
+  abbrev pub verified : VerifyRequest → Result Acee VerifyFault
+  verified request = admitted (acee_of state generation request)
+
+  -- What is answered is what is told, but that memory may be wanting for the ACEE of a user whose first checks pass.
+  abbrev pub IsVerified : VerifyRequest → Result Acee VerifyFault → Type 0
+  IsVerified request (Ok acee) = verified request ≡ Ok acee
+  IsVerified request (Err NoMemory) = (acee : Acee) × (acee_of state generation request ≡ Ok acee)
+  IsVerified request (Err fault) = verified request ≡ Err fault

@@ -4,3 +4,4 @@ pub mod Grammar
 pub mod Seen
 pub mod Answers
 pub mod Acees
+pub mod Worked

@@ -14,7 +14,7 @@ use decision::Request;
 use generic_names::NameFault;
 
 /// What a line asks for. The first name in it is that of an ACEE.
-#[derive(Clone, Copy)]
+#[derive(Drop)]
 pub enum RequestLine {
     /// Verify a user, and keep his ACEE under that name.
     Verify(Id, VerifyRequest),

@@ -23,7 +23,7 @@ pub(crate) struct Verified {
 }
 
 /// What the words of AUTH and FASTAUTH say. The name of the resource may have a fault.
-#[derive(Clone, Copy)]
+#[derive(Drop)]
 pub(crate) struct Asked {
     pub(crate) acee: Id,
     pub(crate) request: Result<Request, NameFault>,

@@ -14,7 +14,7 @@ use Rattle.raclist_image.specs.Imaged.{Imaged}
 use Rattle.request_files.specs.declared.acees.NamedAcee.{NamedAcee}
 use Rattle.request_files.specs.declared.line.LineRefusal.{LineRefusal}
 use Rattle.request_files.specs.Grammar.{Line, read}
-use Rattle.request_files.specs.Work.{Worked, worked}
+use Rattle.request_files.specs.Worked.{Outcome, worked}
 use Rattle.racf_run.specs.Replies.{reply_line}
 use Rattle.racf_run.specs.Commands.{issuer, refusal_of, read_command}
 use Rattle.racf_run.specs.Requests.{is_unbuilt_line}
@@ -53,11 +53,11 @@ abbrev pub image_of : State → Imaged
 image_of s = imaged s.number s.rows
 
 -- A request changes the ACEEs alone, and whether a line was refused.
-abbrev pub answer_with : Worked → State → Answer
-answer_with w s = record { state = record s { has_refused = s.has_refused || w.refused; acees = w.acees }; text = w.text }
+abbrev pub answer_with : Outcome → State → Answer
+answer_with outcome s = record { state = record s { has_refused = s.has_refused || outcome.refused; acees = outcome.acees }; text = outcome.text }
 
 abbrev pub answer_line : Result Line LineRefusal → State → Answer
-answer_line line s = answer_with (worked line (image_of s) s.acees) s
+answer_line line s = answer_with (worked (image_of s) s.acees line) s
 
 -- What isn't built comes behind a line that doesn't fit, and before every other refusal.
 unfoldable pub request : List ℕ → State → Answer

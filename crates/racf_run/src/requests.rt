@@ -1,7 +1,8 @@
 //! Which lines of requests aren't built.
 
-ghost use Rattle.std.specs.Prelude.{◌≡◌};
+ghost use Rattle.std.specs.Prelude.{◌≡◌, Ok, []};
 ghost use Rattle.request_files.specs.Seen.{line_read};
+ghost use Rattle.request_files.specs.Grammar.{line_of};
 ghost use Rattle.racf_run.specs.Requests.{is_unbuilt_line};
 
 use crate::item::is_fastauth;
@@ -12,8 +13,18 @@ pub(crate) fn is_unbuilt_line(text: &[u8], line: &Result<RequestLine, LineRefusa
     ensures { result ≡ is_unbuilt_line text.now (line_read line.now) }
 {
     match line {
-        Ok(line) => is_unbuilt_request(line),
+        Ok(request) => is_unbuilt_request(request),
         Err(LineRefusal::BadName(..)) => is_fastauth(text),
         Err(_) => false,
+    }
+}
+
+fn is_unbuilt_request(line: &RequestLine) -> bool
+    ensures { result ≡ is_unbuilt_line [] (Ok (line_of line.now)) }
+{
+    match line {
+        RequestLine::Verify(_, request) => request.label.is_some(),
+        RequestLine::Fastauth(..) => true,
+        _ => false,
     }
 }

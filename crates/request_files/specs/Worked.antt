@@ -18,6 +18,15 @@ pub record Outcome : Type 0 where
   pub refused : Bool
   pub acees : List NamedAcee
 
+-- A name's fault is told only where the ACEE is there.
+abbrev pub told : List NamedAcee → LineRefusal → LineRefusal
+told acees (refusal.BadLine place) = refusal.BadLine place
+told acees (refusal.NoAcee name) = refusal.NoAcee name
+told acees (refusal.AceeExists name) = refusal.AceeExists name
+told acees refusal.AceesFull = refusal.AceesFull
+told acees (refusal.BadName name fault) = if is_some (acee_named name acees) then refusal.BadName name fault else refusal.NoAcee name
+told acees refusal.LineTooLong = refusal.LineTooLong
+
 -- On an image, with the ACEEs in use. The number printed is the image's.
 module _ (image : Imaged) (acees : List NamedAcee) where
   -- a line that is answered, with what is printed, and one that is refused; neither changes the ACEEs
@@ -68,21 +77,17 @@ module _ (image : Imaged) (acees : List NamedAcee) where
   line_worked (After number) = after_worked number
   line_worked Skip = answered []
 
-  -- A name's fault is told only where the ACEE is there.
-  abbrev pub told : LineRefusal → LineRefusal
-  told (refusal.BadLine place) = refusal.BadLine place
-  told (refusal.NoAcee name) = refusal.NoAcee name
-  told (refusal.AceeExists name) = refusal.AceeExists name
-  told refusal.AceesFull = refusal.AceesFull
-  told (refusal.BadName name fault) = if is_some (acee_named name acees) then refusal.BadName name fault else refusal.NoAcee name
-  told refusal.LineTooLong = refusal.LineTooLong
-
   abbrev pub worked : Result Line LineRefusal → Outcome
   worked (Ok line) = line_worked line
-  worked (Err why) = refused (told why)
+  worked (Err why) = refused (told acees why)
 
 -- An outcome shows in the output, in the ACEEs, and in whether the line was refused.
-pub record Shows (outcome : Outcome) (before after : List ℕ) (acees : List NamedAcee) (was_refused : Bool) : Type 0 where
+pub record Shows (outcome : Outcome) (before after : List ℕ) (table : List NamedAcee) (was_refused : Bool) : Type 0 where
   pub text : after ≡ before ++ outcome.text
-  pub acees_after : acees ≡ outcome.acees
-  pub refused_so : was_refused ≡ outcome.refused
+  pub acees : table ≡ outcome.acees
+  pub refused : was_refused ≡ outcome.refused
+
+-- Where memory is short, the output and the ACEEs stay.
+pub record Untouched (before after : List ℕ) (table table_after : List NamedAcee) : Type 0 where
+  pub text : after ≡ before
+  pub acees : table_after ≡ table

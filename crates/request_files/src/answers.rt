@@ -1,7 +1,7 @@
 //! The words that are printed for lines.
 
 ghost use Rattle.std.specs.Prelude.{◌≡◌, ◌++◌, OnOk, OnErr, codes, decimal};
-ghost use Rattle.request_files.specs.Answers.{name_fault_words, refusal_words, verify_fault_words, profile_words, found_words, port_words, rule_words, decision_words, answer_line, numbered};
+ghost use Rattle.request_files.specs.Answers.{name_fault_words, refusal_words, verify_fault_words, profile_words, found_words, port_words, rule_words, decision_words, answer_line, never_line, numbered, refused_words};
 
 use crate::line::LineRefusal;
 use access_levels::{Condition, Id};
@@ -45,16 +45,36 @@ pub(crate) fn write_line(number: u64, words: &[u8], out: &mut Vec<u8>) -> Result
     out.extend_from_slice(line.as_slice())
 }
 
+/// Writes that the number which `*AFTER` asks for never comes. Where memory is short, `out` stays as it was.
+pub(crate) fn write_never(number: u64, out: &mut Vec<u8>) -> Result<(), AllocError>
+    ensures text { OnOk result (out.new.items ≡ out.old.items ++ never_line number) }
+    ensures kept { OnErr result (out.new.items ≡ out.old.items) }
+{
+    let mut line = Vec::new(*out.allocator());
+    line.extend_from_slice(b"NEVER ")?;
+    write_number(number, &mut line)?;
+    line.extend_from_slice(b"\n")?;
+    out.extend_from_slice(line.as_slice())
+}
+
 /// Writes a number in decimal.
-pub(crate) fn write_number(number: u64, out: &mut Vec<u8>) -> Result<(), AllocError>
+fn write_number(number: u64, out: &mut Vec<u8>) -> Result<(), AllocError>
     ensures { OnOk result (out.new.items ≡ out.old.items ++ decimal number) }
 {
     let mut digits = Buffer::new();
     out.extend_from_slice(digits.format(number).as_bytes())
 }
 
+/// Writes that a line is refused, and why.
+pub(crate) fn write_refused(refusal: &LineRefusal, out: &mut Vec<u8>) -> Result<(), AllocError>
+    ensures { OnOk result (out.new.items ≡ out.old.items ++ refused_words refusal.now) }
+{
+    out.extend_from_slice(b"REFUSED ")?;
+    write_refusal(refusal, out)
+}
+
 /// Writes why a line is refused.
-pub(crate) fn write_refusal(refusal: &LineRefusal, out: &mut Vec<u8>) -> Result<(), AllocError>
+fn write_refusal(refusal: &LineRefusal, out: &mut Vec<u8>) -> Result<(), AllocError>
     ensures { OnOk result (out.new.items ≡ out.old.items ++ refusal_words refusal.now) }
 {
     match refusal {

@@ -11,7 +11,9 @@ mod operands;
 mod reading;
 mod spellings;
 mod words;
+mod working;
 
 pub use acees::{AceeTable, NamedAcee};
 pub use answers::answer_text;
 pub use line::{LineRefusal, RequestLine, read_line};
+pub use working::work;

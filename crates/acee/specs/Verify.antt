@@ -57,7 +57,7 @@ abbrev pub acee_of_user : Rows → ℕ → VerifyRequest → Option User → Res
 acee_of_user rows generation request None = Err NotDefined
 acee_of_user rows generation request (Some user) = acee_unless (checked_connection user (connection_to (group_asked request user) user)) (acee_for rows generation request user)
 
-abbrev pub acee_of : State → ℕ → VerifyRequest → Result Acee VerifyFault
+unfoldable pub acee_of : State → ℕ → VerifyRequest → Result Acee VerifyFault
 acee_of state generation request = acee_of_user state.rows generation request (user_of request.user state.rows)
 
 -- What is answered is what is told, but that memory may be wanting for an ACEE.

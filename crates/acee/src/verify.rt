@@ -18,6 +18,7 @@ impl Acee {
     ///
     /// The first that fits of: there is no such user, he isn't connected to the group, he is revoked, his
     /// connection is revoked (this product's own order); and `NoMemory`, where none of them fits.
+    #[tactic(auto, unfolding(crate::specs::Verify::acee_of))]
     pub fn of(alloc: Global, image: &Image, request: &VerifyRequest) -> Result<Acee, VerifyFault>
         ensures { IsToldAcee (acee_of image.now.state image.now.generation request.now) result }
     {
@@ -71,7 +72,12 @@ fn connection_to(user: &User, group: Id) -> Option<&Connect>
 }
 
 // The ACEE of a user whose checks pass.
-fn acee_for(alloc: Global, image: &Image, request: &VerifyRequest, user: &User) -> Result<Acee, NoMemory>
+fn acee_for(
+    alloc: Global,
+    image: &Image,
+    request: &VerifyRequest,
+    user: &User,
+) -> Result<Acee, NoMemory>
     ensures { IfOk result (λ acee. acee ≡ acee_for image.now.state.rows image.now.generation request.now user.now) }
 {
     let groups = AceeGroups::of(alloc, user.connects.items.as_slice())?;

@@ -195,5 +195,5 @@ module _ (state : State) (generation : ℕ) (acee : Acee) (class : List ℕ) (na
   decided_after None None = decision_of generation None (answer_without_profile state.rows.options class)
   decided_after None (Some p) = decision_of generation (Some p.name) (answer_with_profile state.rows acee class name asked p)
 
-  abbrev pub decided : Decision
+  unfoldable pub decided : Decision
   decided = decided_after (first_answer (cases_of_class state.rows class)) (profile_for state class name)

@@ -32,7 +32,7 @@ module _ (state : State) (generation : ℕ) where
   admitted (Err fault) = Err fault
   admitted (Ok acee) = acee_unless (entry_fault acee) acee
 
-  abbrev pub verified : VerifyRequest → Result Acee VerifyFault
+  unfoldable pub verified : VerifyRequest → Result Acee VerifyFault
   verified request = admitted (acee_of state generation request)
 
   -- What is answered is what is told, but that memory may be wanting for the ACEE of a user whose first checks pass.

@@ -22,6 +22,7 @@ use raclist_image::{Facts, Image};
 /// Administrator's Guide, authorization checking), as the image has classes, profiles, groups and options.
 ///
 /// It looks for the profile once, asks each of its access lists once, and takes no memory.
+#[tactic(auto, unfolding(crate::specs::Table::decided))]
 pub fn auth(image: &Image, acee: &Acee, request: &Request) -> Decision
     ensures { result ≡ decided image.now.state image.now.generation acee.now request.now.class request.now.name request.now.asked }
 {

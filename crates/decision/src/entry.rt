@@ -23,6 +23,7 @@ use std::alloc::Global;
 /// group, he is revoked, his connection is revoked; a request of his for READ of the port of entry in
 /// its class, or of the application in class APPL, gets the code 8. `NoMemory` comes where none of the
 /// first four fits. No label is refused yet.
+#[tactic(auto, unfolding(crate::specs::Verify::verified))]
 pub fn verify(alloc: Global, image: &Image, request: &VerifyRequest) -> Result<Acee, VerifyFault>
     ensures { IsVerified image.now.state image.now.generation request.now result }
 {

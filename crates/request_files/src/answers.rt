@@ -204,7 +204,12 @@ fn write_reason(words: &[u8], decision: &Decision, out: &mut Vec<u8>) -> Result<
 }
 
 /// Writes words and a group, and what was found.
-fn write_group(words: &[u8], group: &Id, decision: &Decision, out: &mut Vec<u8>) -> Result<(), AllocError>
+fn write_group(
+    words: &[u8],
+    group: &Id,
+    decision: &Decision,
+    out: &mut Vec<u8>,
+) -> Result<(), AllocError>
     ensures { OnOk result (out.new.items ≡ out.old.items ++ (words.now ++ group.now ++ found_words decision.now)) }
 {
     out.extend_from_slice(words)?;
@@ -213,7 +218,12 @@ fn write_group(words: &[u8], group: &Id, decision: &Decision, out: &mut Vec<u8>)
 }
 
 /// Writes words and a port of entry, and what was found.
-fn write_port(words: &[u8], port: &Condition, decision: &Decision, out: &mut Vec<u8>) -> Result<(), AllocError>
+fn write_port(
+    words: &[u8],
+    port: &Condition,
+    decision: &Decision,
+    out: &mut Vec<u8>,
+) -> Result<(), AllocError>
     ensures { OnOk result (out.new.items ≡ out.old.items ++ (words.now ++ port_words port.now ++ found_words decision.now)) }
 {
     out.extend_from_slice(words)?;

@@ -17,3 +17,6 @@ pub use acees::{AceeTable, NamedAcee};
 pub use answers::answer_text;
 pub use line::{LineRefusal, RequestLine, read_line};
 pub use working::work;
+
+#[cfg(test)]
+mod tests;

@@ -42,7 +42,10 @@ pub(crate) fn next_number<'a>(words: &Words<'a>) -> Result<(u64, Words<'a>), u32
 
 /// The name of a resource, or what is wrong with it, and the words behind it.
 #[tactic(auto, unfolding(crate::specs::Grammar::next))]
-pub(crate) fn next_name<'a>(kind: NameKind, words: &Words<'a>) -> Result<(Result<Resource, NameFault>, Words<'a>), u32>
+pub(crate) fn next_name<'a>(
+    kind: NameKind,
+    words: &Words<'a>,
+) -> Result<(Result<Resource, NameFault>, Words<'a>), u32>
     ensures name { result ≡ next (name_in kind) words.now }
     ensures kind { IfOk result (λ t. IfOk t.0 (λ name. name.kind ≡ kind)) }
 {

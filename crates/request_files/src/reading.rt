@@ -111,7 +111,11 @@ pub(crate) fn asked_by(words: &Words) -> Result<Asked, u32>
 }
 
 /// The request for that access, unless the name has a fault.
-fn request_to(class: Id, name: Result<Resource, NameFault>, asked: Level) -> Result<Request, NameFault>
+fn request_to(
+    class: Id,
+    name: Result<Resource, NameFault>,
+    asked: Level,
+) -> Result<Request, NameFault>
     requires kind { IfOk name (λ name. name.kind ≡ kind_in class) }
     requires level { IsTrue (may_be_asked asked) }
     ensures { access_seen result ≡ access_to class asked name }

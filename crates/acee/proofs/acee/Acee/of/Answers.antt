@@ -1,8 +1,9 @@
 use Rattle.std.proofs.Common.{sym, ◌∙◌, ap}
-use Rattle.acee.specs.Verify.{acee_for, acee_of_user, acee_unless}
+use Rattle.acee.specs.Verify.{acee_for, acee_of, acee_of_user, acee_unless}
 use Rattle.acee.proofs.acee.Acee.of.Goals as goal
 
 pub returns-in-Err : goal.returns-in-Err
+unfolding acee_of
 returns-in-Err c =
     let rows = c.args.image.now.state.rows in
     let generation = c.args.image.now.generation in

@@ -35,7 +35,7 @@ is_other_command text = let name = command_name text in
     bytes_eq name (codes "SETROPTS") || bytes_eq name (codes "SETR")
 
 -- The command of a text, or why it isn't one that is built: what isn't built comes before every refusal but syntax. A text
--- that spells no command has a first fault.
+-- that spells no command always has a first fault.
 abbrev pub built_form : Form → Result Form Refusal
 built_form command = if is_unbuilt command then Err refusal.NotBuilt else Ok command
 

@@ -95,9 +95,7 @@ fn is_unbuilt_class(class: Id) -> bool
     ensures { result ≡ is_unbuilt_class class }
 {
     let name = class.text();
-    name == b"SECDATA".as_slice()
-        || name == b"SECLABEL".as_slice()
-        || name == b"GLOBAL".as_slice()
+    name == b"SECDATA".as_slice() || name == b"SECLABEL".as_slice() || name == b"GLOBAL".as_slice()
 }
 
 fn names_any(names: &Ids) -> bool

@@ -1,3 +1,4 @@
+mod Rows
 mod JoinRows
 pub mod Folds
 pub mod Walk

@@ -190,6 +190,7 @@ level-fits p is l h =
     level-one : (c : Bool) (m l : Level) → is_audit_level m ≡ c → cond c (Some m) None ≡ Some l → is_audit_level l ≡ true
     level-one true m l is h = let same : m ≡ l = cc in subst (λ (n : Level). is_audit_level n ≡ true) same is
     level-one false m l is h = cc
+
     level-some : (o : Option Level) (l : Level) → if_audit_level o ≡ Some l → is_audit_level l ≡ true
     level-some None l h = cc
     level-some (Some m) l h = level-one (is_audit_level m) m l refl h
@@ -516,6 +517,7 @@ seven-slots ss h = seven-of ss (holds-length (operands_of verbs.Permit) ss h)
     holds-length (o ∷ os) [] h = absurd h
     holds-length (o ∷ os) (None ∷ ss) h = ap suc (holds-length os ss h)
     holds-length (o ∷ os) (Some v ∷ ss) h = ap suc (holds-length os ss h.1)
+
     seven-of : (ss : Slots) → length ss ≡ 7 → AreSeven ss
     seven-of [] h = cc
     seven-of (a ∷ []) h = cc

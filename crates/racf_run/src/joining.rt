@@ -6,7 +6,7 @@ ghost use Rattle.racf_outside.specs.Lines.{Text};
 ghost use Rattle.racf_run.specs.Fronts.{Front};
 ghost use Rattle.racf_run.specs.Joining.{going_on, added, joined, fresh_role, role_of};
 
-use crate::item::{LineText, Item, is_blank, is_request, is_skipped, past_blanks};
+use crate::item::{Item, LineText, is_blank, is_request, is_skipped, past_blanks};
 use crate::mark::Mark;
 use std::alloc::{AllocError, Global};
 use std::marker::Model;

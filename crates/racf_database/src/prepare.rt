@@ -20,7 +20,8 @@ impl Database {
     ///
     /// # Errors
     ///
-    /// Want of memory: nothing is prepared then, and the rows are as they were.
+    /// Want of memory: nothing is prepared then, and the rows are as they were. A command that would define a profile under a
+    /// name of the other kind than its class's, which no text spells, is refused in the same way.
     pub fn prepare(
         &mut self,
         alloc: Global,

@@ -112,7 +112,7 @@ fn with_conditionals(
     Ok(list)
 }
 
-// Gives one ID its entry, or takes it away.
+// Gives one ID its entry, or takes it away. A list that would get too long was refused when the command was checked.
 fn put_entry(command: &Permit, list: &mut Vec<Entry>, who: Who) -> Result<(), NoMemory>
     ensures { OnOk result (list.new.items ≡ with_entry command.now list.old.items who) }
 {

@@ -2,6 +2,7 @@ pub mod Names
 pub mod NameBytes
 pub mod Patterns
 pub mod AuditAgain
+pub mod EntriesAgain
 pub mod ValueAgain
 pub mod TableFacts
 pub mod ReadAgain

@@ -138,6 +138,9 @@ general-some forms.Identifier t n h = label-some (general_profile t) n h
 general-some forms.LevelOrCategory t n h = if-there (is_level_or_category t) (general_profile t) n h
 general-some forms.Class t n h = if-there (is_ok (id_of t)) (general_profile t) n h
 
+pub general-named : (form : NameForm) (t : List ℕ) (n : Spelled) → profile_in (general_form form) t ≡ Some n → IsNamed General t n
+general-named form t n h = pattern-named General t n (general-some form t n h)
+
 pub class-named : (class : Option (List ℕ)) (t : List ℕ) (n : Spelled) → class_profile class t ≡ Some n → IsNamed General t n
 class-named None t n h = cc
 class-named (Some c) t n h = pattern-named General t n (general-some (form_in c) t n h)

@@ -1,18 +1,24 @@
 -- The canonical text of a lawful command is read as that command, whoever reads it.
-use Rattle.std.proofs.Common.{◌≡◌, ℕ, suc, ◌+◌, List, [], ◌∷◌, ◌++◌, length, replicate, Bool, true, false, cond, not, ◌&&◌, Option, None, Some, Result, Ok, Err, refl, sym, ap, subst, ◌∙◌, arith, append_assoc, length-append}
+use Rattle.std.proofs.Common.{◌≡◌, ℕ, zero, suc, ◌+◌, List, [], ◌∷◌, ◌++◌, length, map, replicate, Bool, true, false, cond, not, ◌&&◌, Option, None, Some, Result, Ok, Err, refl, sym, ap, subst, ◌∙◌, arith, append_assoc, length-append}
 use Rattle.std.specs.Prelude.{◌==◌, position, slice_set, is_some, nat_lt, if◌then◌else◌}
-use Rattle.std.specs.List.{list_all, list_any}
+use Rattle.std.specs.List.{list_all, list_any, slice_index_or}
 use Rattle.std.proofs.lemmas.List.{append-nil, get_or_at, set_at}
 use Rattle.generic_names.specs.Spelled.{Spelled}
+use Rattle.racf_profiles.specs.declared.fixed_classes.NameForm.{NameForm}
+use Rattle.racf_profiles.specs.declared.fixed_classes.NameForm.TheVariants as name_forms
+use Rattle.command_grammar.specs.declared.words.Word.TheVariants as words
+use Rattle.command_grammar.specs.declared.table.Verb.TheVariants as verbs
+use Rattle.command_grammar.specs.declared.values.Known.{Known}
 use Rattle.command_words.specs.declared.quoting.Quoting.TheVariants.{Ignored, BeforeName, AtName}
 use Rattle.command_words.specs.Tokens.{Token, Word, within, tokens, tokens_from}
 use Rattle.command_words.specs.Items.{Item, Bare, With, items, opens_value, faulty_at}
-use Rattle.command_words.proofs.Letters.{is_letter, both_first, both_second, Ignored-steady, BeforeName-steady, EndsWord}
-use Rattle.command_words.proofs.Spelled.{word_token, group_token, name_token}
+use Rattle.command_words.proofs.Letters.{is_letter, letter-quote, both_first, both_second, Ignored-steady, BeforeName-steady, EndsWord}
+use Rattle.command_words.proofs.Spelled.{word_token, group_token, name_token, bare_name_token}
+use Rattle.command_words.specs.Bytes.{upper}
 use Rattle.access_levels.specs.Spelling.{id_of}
 use Rattle.command_grammar.specs.declared.faults.Syntax.{Syntax}
 use Rattle.command_grammar.specs.declared.faults.Syntax.TheVariants as faults
-use Rattle.command_grammar.specs.declared.profile_table.TheConstants.{DATASET_POSITION, PERMIT_POSITION}
+use Rattle.command_grammar.specs.declared.profile_table.TheConstants.{DATASET_POSITION}
 use Rattle.command_grammar.specs.declared.table.Verb.{Verb}
 use Rattle.command_grammar.specs.declared.table.Kind.{Kind}
 use Rattle.command_grammar.specs.declared.table.Kind.TheVariants as kinds
@@ -25,13 +31,13 @@ use Rattle.command_grammar.specs.declared.values.Scope.{Scope}
 use Rattle.command_grammar.specs.Results.{◌>>=◌, or_fault}
 use Rattle.command_grammar.specs.Words.{spelling_of}
 use Rattle.command_grammar.specs.Table.{full_name, positions_of, operands_of}
-use Rattle.command_grammar.specs.ProfileNames.{dataset_profile, class_profile, dataset_named, text_by_kind, profile_text}
+use Rattle.command_grammar.specs.ProfileNames.{dataset_profile, profile_in, form_in, general_form, class_profile, dataset_named, named_by_form, any_named, any_profile, is_unclosed, text_by_kind, profile_text}
 use Rattle.command_grammar.specs.Values.{name_of, one, bare, text_of}
-use Rattle.command_grammar.specs.Reading.{Generic, Slots, is_spelling, row_at, no_operand, takes_quotes, position_at, behind, positions_at, is_given, slot_of, operand_at, operands_at, given, clash, unless_clash, closed, no_slots, body_at, begins_with_name, begun, command_at, parsed}
+use Rattle.command_grammar.specs.Reading.{Generic, Slots, is_spelling, row_at, no_operand, takes_quotes, is_late, position_at, behind, positions_at, is_given, slot_of, operand_at, operands_at, given, clash, unless_clash, completed, closed, no_slots, plain_at, class_in, mark_of_slot, mark_in, unless_mark, late_word, late_name, late_closed, late_at, body_at, begins_with_name, begun, command_at, parsed}
 use Rattle.command_grammar.specs.Canon.{value_text, positions_text, operands_text, canon, spelled}
-use Rattle.command_grammar.specs.Lawful.{Fits, FitsPositions, FitsAll, Suits, SuitsPositions, IsLawful}
+use Rattle.command_grammar.specs.Lawful.{Fits, FitsPositions, FitsAll, Suits, SuitsPositions, class_known, IsLawful}
 use Rattle.command_grammar.proofs.Names.{IsPlainName, name-plain}
-use Rattle.command_grammar.proofs.Patterns.{IsSome, dataset-named, class-named, quoted-named, quote_closes, quoted-sound}
+use Rattle.command_grammar.proofs.Patterns.{IsSome, dataset-named, general-named, class-named, quoted-named, quote_closes, quoted-sound}
 use Rattle.command_grammar.proofs.ValueAgain.{word_items, IsShown, value-again, value-ends}
 use Rattle.command_grammar.proofs.TableFacts.{IsMore, spelling-plain, full_name-plain, verb_named-full_name, is_profile_kind, AreFound, operands-found, is_name_kind, Shape, Plain, Quoted, Judged, shape}
 
@@ -164,7 +170,7 @@ no-profile kinds.Audit n other h = h
 no-profile kinds.Class n other h = h
 no-profile kinds.DataSetProfile n other h = cc
 no-profile kinds.ClassProfile n other h = cc
-no-profile kinds.AnyProfile n other h = h
+no-profile kinds.AnyProfile n other h = cc
 no-profile kinds.Reset n other h = h
 no-profile kinds.Whos n other h = h
 no-profile kinds.When n other h = h
@@ -398,25 +404,41 @@ positions_again at rows (pos ∷ ps) front (v ∷ vs) rest tied p names h suits 
           ∙ ap (λ us. Ok (us, more.scope_behind, tokens_from Ignored more.tied_behind 0 more.place_behind rest)) (append_assoc front (v ∷ []) vs);
     }
 
+-- the slots of a lawful command are closed as they are
+closed-again : (g : Generic) → IsLawful g → closed g.verb g.slots ≡ Ok g.slots
+closed-again g lawful =
+    ap (λ c. if c then Err (faults.Missing words.Id) else unless_clash (clash (given (operands_of g.verb) (completed g.verb g.slots))) (completed g.verb g.slots)) lawful.needed
+    ∙ ap (λ ss. unless_clash (clash (given (operands_of g.verb) ss)) ss) lawful.complete
+    ∙ ap (λ c. unless_clash c g.slots) lawful.apart
+
+filled-again : (at : Scope) (g : Generic) (tied : Bool) (p : ℕ) → IsLawful g
+    → operands_at at (operands_of g.verb) (no_slots (operands_of g.verb)) (items (tokens_from Ignored tied 0 p (operands_text (operands_of g.verb) g.slots))) ≡ Ok g.slots
+filled-again at g tied p lawful = operands_again at (operands_of g.verb) [] (operands_of g.verb) [] g.slots 0 tied p refl refl refl (operands-found g.verb) lawful.fits_operands
+
 -- the operands behind the positional words
 behind_again : (at : Scope) (g : Generic) (tied : Bool) (p : ℕ) → IsLawful g
     → (operands_at at (operands_of g.verb) (no_slots (operands_of g.verb)) (items (tokens_from Ignored tied 0 p (operands_text (operands_of g.verb) g.slots))) >>= λ slots. closed g.verb slots >>= λ slots. Ok (record { verb = g.verb; positions = g.positions; slots = slots })) ≡ Ok g
 behind_again at g tied p lawful =
-    let filled : operands_at at (operands_of g.verb) (no_slots (operands_of g.verb)) (items (tokens_from Ignored tied 0 p (operands_text (operands_of g.verb) g.slots))) ≡ Ok g.slots =
-    operands_again at (operands_of g.verb) [] (operands_of g.verb) [] g.slots 0 tied p refl refl refl (operands-found g.verb) lawful.fits_operands in
-    ap (λ r. r >>= λ slots. closed g.verb slots >>= λ slots. Ok (record { verb = g.verb; positions = g.positions; slots = slots })) filled
-    ∙ ap (λ ss. unless_clash (clash (given (operands_of g.verb) ss)) ss >>= λ slots. Ok (record { verb = g.verb; positions = g.positions; slots = slots })) lawful.complete
-    ∙ ap (λ c. unless_clash c g.slots >>= λ slots. Ok (record { verb = g.verb; positions = g.positions; slots = slots })) lawful.apart
+    ap (λ r. r >>= λ slots. closed g.verb slots >>= λ slots. Ok (record { verb = g.verb; positions = g.positions; slots = slots })) (filled-again at g tied p lawful)
+    ∙ ap (λ r. r >>= λ slots. Ok (record { verb = g.verb; positions = g.positions; slots = slots })) (closed-again g lawful)
 
 abbrev then_operands : Verb → Result (List Content × Scope × List Token) Syntax → Result Generic Syntax
 then_operands v r = r >>= λ x. operands_at x.1 (operands_of v) (no_slots (operands_of v)) (items x.2) >>= λ slots. closed v slots >>= λ slots. Ok (record { verb = v; positions = x.0; slots = slots })
 
+-- nothing is known before the first positional word
+nothing-first : (g : Generic) → IsLawful g → is_late (positions_of g.verb) ≡ false → SuitsPositions (class_known None) (positions_of g.verb) g.positions
+nothing-first g lawful early = subst (λ (k : Known). SuitsPositions k (positions_of g.verb) g.positions) (ap (λ c. class_known (if c then class_in g.slots else None)) early) lawful.suits_positions
+
+early_body : (at : Context) (v : Verb) (ts : List Token) → is_late (positions_of v) ≡ false → body_at (begun at) v ts ≡ plain_at (begun at) v ts
+early_body at v ts early = ap (λ c. if c then late_at (begun at) v ts else plain_at (begun at) v ts) early
+
 -- what follows the command's name, where no name is in quotes
-plain_again : (at : Context) (g : Generic) (tied : Bool) (p : ℕ) → IsLawful g → are_names (positions_of g.verb) ≡ true
+plain_again : (at : Context) (g : Generic) (tied : Bool) (p : ℕ) → IsLawful g → is_late (positions_of g.verb) ≡ false → are_names (positions_of g.verb) ≡ true
     → body_at (begun at) g.verb (tokens_from Ignored tied 0 p (positions_text g.positions ++ operands_text (operands_of g.verb) g.slots)) ≡ Ok g
-plain_again at g tied p lawful names =
-    let read = positions_again (begun at) (operands_of g.verb) (positions_of g.verb) [] g.positions (operands_text (operands_of g.verb) g.slots) tied p names lawful.fits_positions lawful.suits_positions (operands-apart (operands_of g.verb) g.slots) in
-    ap (then_operands g.verb) read.reads ∙ behind_again read.scope_behind g read.tied_behind read.place_behind lawful
+plain_again at g tied p lawful early names =
+    let read = positions_again (begun at) (operands_of g.verb) (positions_of g.verb) [] g.positions (operands_text (operands_of g.verb) g.slots) tied p names lawful.fits_positions (nothing-first g lawful early) (operands-apart (operands_of g.verb) g.slots) in
+    early_body at g.verb (tokens_from Ignored tied 0 p (positions_text g.positions ++ operands_text (operands_of g.verb) g.slots)) early
+    ∙ ap (then_operands g.verb) read.reads ∙ behind_again read.scope_behind g read.tied_behind read.place_behind lawful
 
 -- a data set's name in quotes
 quoted_again : (at : Scope) (rows : List Operand) (n : Spelled) (rest : List ℕ) (tied : Bool) (p : ℕ) → dataset_profile n.text ≡ Some n → IsApart rest
@@ -468,13 +490,6 @@ one_profile g same lawful = one-in g.positions (subst (λ (ps : List Position). 
     one-in (contents.MemberNames ns ∷ []) h = absurd h.0
     one-in (contents.Generic g ∷ []) h = absurd h.0
 
-no_profile : (g : Generic) → positions_of g.verb ≡ PERMIT_POSITION → IsLawful g → ⊥
-no_profile g same lawful = none-in g.positions (subst (λ (ps : List Position). FitsPositions ps g.positions) same lawful.fits_positions)
-  where
-    none-in : (vs : List Content) → FitsPositions PERMIT_POSITION vs → ⊥
-    none-in [] h = h
-    none-in (v ∷ vs) h = h.0
-
 dataset_again : (at : Context) (g : Generic) (tied : Bool) (p : ℕ) → IsLawful g → positions_of g.verb ≡ DATASET_POSITION
     → body_at (begun at) g.verb (tokens_from AtName tied 0 p (positions_text g.positions ++ operands_text (operands_of g.verb) g.slots)) ≡ Ok g
 dataset_again at g tied p lawful same =
@@ -486,17 +501,156 @@ dataset_again at g tied p lawful same =
     ∙ ap (λ vs. positions_at (begun at) (operands_of g.verb) DATASET_POSITION [] (tokens_from AtName tied 0 p (positions_text vs ++ rest))) found.1
     ∙ quoted_again (begun at) (operands_of g.verb) found.0 rest tied p found.2 (operands-apart (operands_of g.verb) g.slots)
     ∙ ap (λ vs. Ok (vs, behind (begun at) kinds.DataSetProfile (contents.Profile found.0), tokens_from Ignored true 0 (suc p + length (39 ∷ (found.0.text ++ 39 ∷ []))) rest)) (sym found.1) in
-    ap (then_operands g.verb) read ∙ behind_again (behind (begun at) kinds.DataSetProfile (contents.Profile found.0)) g true (suc p + length (39 ∷ (found.0.text ++ 39 ∷ []))) lawful
+    early_body at g.verb (tokens_from AtName tied 0 p (positions_text g.positions ++ rest)) (ap is_late same)
+    ∙ ap (then_operands g.verb) read ∙ behind_again (behind (begun at) kinds.DataSetProfile (contents.Profile found.0)) g true (suc p + length (39 ∷ (found.0.text ++ 39 ∷ []))) lawful
+
+-- PERMIT's name, as it is written
+record IsAnyName (issuer : List ℕ) (class : Option (List ℕ)) (n : Spelled) : Type 0 where
+  word : List ℕ
+  is : profile_text n ≡ word
+  token : (tied : Bool) (p : ℕ) (rest : List ℕ) → EndsWord rest → tokens_from AtName tied 0 p (word ++ rest) ≡ Word p word ∷ tokens_from Ignored true 0 (p + length word) rest
+  closes : is_unclosed word ≡ false
+  sound : (p : ℕ) → faulty_at Ignored p word ≡ None
+  reads : any_named issuer class word ≡ Some n
+
+letters-closed : (w : List ℕ) → list_all is_letter w ≡ true → is_unclosed w ≡ false
+letters-closed [] h = refl
+letters-closed (b ∷ w) h = rw (letter-quote b (both_first (is_letter b) (list_all is_letter w) h)) refl
+
+letters-token : (w : List ℕ) → IsSome w → list_all is_letter w ≡ true → (tied : Bool) (p : ℕ) (rest : List ℕ) → EndsWord rest → tokens_from AtName tied 0 p (w ++ rest) ≡ Word p w ∷ tokens_from Ignored true 0 (p + length w) rest
+letters-token [] some h tied p rest ends = absurd some
+letters-token (b ∷ w) some h tied p rest ends = bare_name_token tied p b w rest h ends
+
+abbrev named_in : List ℕ → NameForm → List ℕ → Option Spelled
+named_in issuer form w = named_by_form issuer form w
+
+record IsFormName (issuer : List ℕ) (form : NameForm) (n : Spelled) : Type 0 where
+  word : List ℕ
+  is : profile_text n ≡ word
+  token : (tied : Bool) (p : ℕ) (rest : List ℕ) → EndsWord rest → tokens_from AtName tied 0 p (word ++ rest) ≡ Word p word ∷ tokens_from Ignored true 0 (p + length word) rest
+  closes : is_unclosed word ≡ false
+  sound : (p : ℕ) → faulty_at Ignored p word ≡ None
+  reads : named_in issuer form word ≡ Some n
+
+quoted-form : (issuer : List ℕ) (n : Spelled) → dataset_profile n.text ≡ Some n → IsFormName issuer name_forms.DataSet n
+quoted-form issuer n h =
+    let named = dataset-named n.text n h in
+    let closing : list_any (λ c. c == 39) (n.text ++ 39 ∷ []) ≡ true = quote_closes n.text in
+    record {
+      word = 39 ∷ (n.text ++ 39 ∷ []);
+      is = ap (λ k. text_by_kind k n.text) named.kinds;
+      token = λ tied p rest ends. ap (λ bs. tokens_from AtName tied 0 p (39 ∷ bs)) (append_assoc n.text (39 ∷ []) rest) ∙ name_token tied p n.text rest named.plain.letters ends;
+      closes = ap not closing;
+      sound = λ p. quoted-sound p n.text named.plain.sound;
+      reads = quoted-named issuer n.text named.plain ∙ h;
+    }
+
+general-form : (issuer : List ℕ) (form : NameForm) (n : Spelled) → profile_in (general_form form) n.text ≡ Some n → ((w : List ℕ) → named_in issuer form w ≡ profile_in (general_form form) (map upper w)) → IsFormName issuer form n
+general-form issuer form n h reads_so =
+    let named = general-named form n.text n h in
+    record {
+      word = n.text;
+      is = ap (λ k. text_by_kind k n.text) named.kinds;
+      token = letters-token n.text named.plain.some named.plain.letters;
+      closes = letters-closed n.text named.plain.letters;
+      sound = named.plain.sound;
+      reads = reads_so n.text ∙ ap (profile_in (general_form form)) named.plain.folded ∙ h;
+    }
+
+form_name : (issuer : List ℕ) (form : NameForm) (n : Spelled) → profile_in form n.text ≡ Some n → IsFormName issuer form n
+form_name issuer name_forms.DataSet n h = quoted-form issuer n h
+form_name issuer name_forms.General n h = general-form issuer name_forms.General n h (λ w. refl)
+form_name issuer name_forms.Identifier n h = general-form issuer name_forms.Identifier n h (λ w. refl)
+form_name issuer name_forms.LevelOrCategory n h = general-form issuer name_forms.LevelOrCategory n h (λ w. refl)
+form_name issuer name_forms.Class n h = general-form issuer name_forms.Class n h (λ w. refl)
+
+any_name : (issuer : List ℕ) (class : Option (List ℕ)) (n : Spelled) → any_profile class n.text ≡ Some n → IsAnyName issuer class n
+any_name issuer None n h = cc
+any_name issuer (Some c) n h =
+    let name = form_name issuer (form_in c) n h in
+    record { word = name.word; is = name.is; token = name.token; closes = name.closes; sound = name.sound; reads = name.reads }
+
+late_again : (at : Context) (rows : List Operand) (class : Option (List ℕ)) (n : Spelled) (rest : List ℕ) (tied : Bool) (p : ℕ) (name : IsAnyName at.issuer class n) → IsApart rest
+    → late_word rows (tokens_from AtName tied 0 p (positions_text (contents.Profile n ∷ []) ++ rest)) ≡ Ok (suc p, name.word, tokens_from Ignored true 0 (suc p + length name.word) rest)
+late_again at rows class n rest tied p name apart =
+    let regrouped : positions_text (contents.Profile n ∷ []) ++ rest ≡ 32 ∷ (name.word ++ rest) = ap (λ bs. 32 ∷ (bs ++ rest)) (append-nil (profile_text n) ∙ name.is) in
+    let first : tokens_from AtName tied 0 p (positions_text (contents.Profile n ∷ []) ++ rest) ≡ Word (suc p) name.word ∷ tokens_from Ignored true 0 (suc p + length name.word) rest =
+    ap (tokens_from AtName tied 0 p) regrouped ∙ name.token (tied && true) (suc p) rest apart.ends in
+    let opens : opens_value (tokens_from Ignored true 0 (suc p + length name.word) rest) ≡ false = apart.opens true (suc p + length name.word) in
+    let closes : is_unclosed name.word ≡ false = name.closes in
+    let sound : faulty_at Ignored (suc p) name.word ≡ None = name.sound (suc p) in
+    ap (late_word rows) first ∙ rw (opens, closes, sound) refl
+
+-- GENERIC's slot is empty
+mark-none : (os : List Operand) (ss : Slots) (k : ℕ) → FitsAll os ss → (row_at os k).kind ≡ kinds.Generic → slice_index_or ss k None ≡ None
+mark-none [] [] k h is = refl
+mark-none [] (s ∷ ss) k h is = absurd h
+mark-none (o ∷ os) [] k h is = absurd h
+mark-none (o ∷ os) (None ∷ ss) zero h is = refl
+mark-none (o ∷ os) (Some v ∷ ss) zero h is = let no : Fits kinds.Generic v = subst (λ (k : Kind). Fits k v) is h.0 in absurd no
+mark-none (o ∷ os) (None ∷ ss) (suc k) h is = mark-none os ss k h is
+mark-none (o ∷ os) (Some v ∷ ss) (suc k) h is = mark-none os ss k h.1 is
+
+permit_again : (at : Context) (n : Spelled) (slots : Slots) (tied : Bool) (p : ℕ) → let g : Generic = record { verb = verbs.Permit; positions = contents.Profile n ∷ []; slots = slots } in IsLawful g
+    → body_at (begun at) verbs.Permit (tokens_from AtName tied 0 p (positions_text (contents.Profile n ∷ []) ++ operands_text (operands_of verbs.Permit) slots)) ≡ Ok g
+permit_again at n slots tied p lawful =
+    let g : Generic = record { verb = verbs.Permit; positions = contents.Profile n ∷ []; slots = slots } in
+    let rows : List Operand = operands_of verbs.Permit in
+    let rest : List ℕ = operands_text rows slots in
+    let suits : any_profile (class_in slots) n.text ≡ Some n = lawful.suits_positions.0 in
+    let name = any_name at.issuer (class_in slots) n suits in
+    let q : ℕ = suc p + length name.word in
+    let mark : mark_in slots ≡ None = ap mark_of_slot (mark-none rows slots 6 lawful.fits_operands refl) in
+    ap (λ r. r >>= λ x. operands_at (begun at) rows (no_slots rows) (items x.2) >>= λ ss. late_name (begun at) ss x.0 x.1 >>= λ m. late_closed m verbs.Permit ss >>= λ ss. Ok (record { verb = verbs.Permit; positions = contents.Profile m ∷ []; slots = ss }))
+    (late_again at rows (class_in slots) n rest tied p name (operands-apart rows slots))
+    ∙ ap (λ r. r >>= λ ss. late_name (begun at) ss (suc p) name.word >>= λ m. late_closed m verbs.Permit ss >>= λ ss. Ok (record { verb = verbs.Permit; positions = contents.Profile m ∷ []; slots = ss }))
+    (filled-again (begun at) g true q lawful)
+    ∙ ap (λ o. or_fault o (faults.BadValue (suc p)) >>= λ m. late_closed m verbs.Permit slots >>= λ ss. Ok (record { verb = verbs.Permit; positions = contents.Profile m ∷ []; slots = ss })) name.reads
+    ∙ ap (λ m. (unless_mark n m slots >>= λ ss. closed verbs.Permit ss) >>= λ ss. Ok (record { verb = verbs.Permit; positions = contents.Profile n ∷ []; slots = ss })) mark
+    ∙ ap (λ r. r >>= λ ss. Ok (record { verb = verbs.Permit; positions = contents.Profile n ∷ []; slots = ss })) (closed-again g lawful)
+
+permit_one : (at : Context) (vs : List Content) (slots : Slots) (tied : Bool) (p : ℕ) → let g : Generic = record { verb = verbs.Permit; positions = vs; slots = slots } in IsLawful g
+    → body_at (begun at) verbs.Permit (tokens_from AtName tied 0 p (positions_text vs ++ operands_text (operands_of verbs.Permit) slots)) ≡ Ok g
+permit_one at [] slots tied p lawful = absurd lawful.fits_positions
+permit_one at (contents.Profile n ∷ []) slots tied p lawful = permit_again at n slots tied p lawful
+permit_one at (v ∷ (w ∷ vs)) slots tied p lawful = absurd lawful.fits_positions.1
+permit_one at (contents.Flag ∷ []) slots tied p lawful = absurd lawful.fits_positions.0
+permit_one at (contents.Id w ∷ []) slots tied p lawful = absurd lawful.fits_positions.0
+permit_one at (contents.Authority a ∷ []) slots tied p lawful = absurd lawful.fits_positions.0
+permit_one at (contents.Name t ∷ []) slots tied p lawful = absurd lawful.fits_positions.0
+permit_one at (contents.Ids xs ∷ []) slots tied p lawful = absurd lawful.fits_positions.0
+permit_one at (contents.Level l ∷ []) slots tied p lawful = absurd lawful.fits_positions.0
+permit_one at (contents.Audit r ∷ []) slots tied p lawful = absurd lawful.fits_positions.0
+permit_one at (contents.Reset r ∷ []) slots tied p lawful = absurd lawful.fits_positions.0
+permit_one at (contents.Whos ws ∷ []) slots tied p lawful = absurd lawful.fits_positions.0
+permit_one at (contents.When c ∷ []) slots tied p lawful = absurd lawful.fits_positions.0
+permit_one at (contents.Members ms ∷ []) slots tied p lawful = absurd lawful.fits_positions.0
+permit_one at (contents.MemberNames ns ∷ []) slots tied p lawful = absurd lawful.fits_positions.0
+permit_one at (contents.Generic g ∷ []) slots tied p lawful = absurd lawful.fits_positions.0
+
+abbrev ReadsPermit : Context → List Content → Slots → Bool → ℕ → Verb → Type 0
+ReadsPermit at vs slots tied p v =
+    (let g : Generic = record { verb = v; positions = vs; slots = slots } in IsLawful g)
+    → body_at (begun at) v (tokens_from AtName tied 0 p (positions_text vs ++ operands_text (operands_of v) slots)) ≡ Ok (record { verb = v; positions = vs; slots = slots })
+
+judged_again : (at : Context) (g : Generic) (tied : Bool) (p : ℕ) → IsLawful g → g.verb ≡ verbs.Permit
+    → body_at (begun at) g.verb (tokens_from AtName tied 0 p (positions_text g.positions ++ operands_text (operands_of g.verb) g.slots)) ≡ Ok g
+judged_again at g tied p lawful same =
+    let permits : ReadsPermit at g.positions g.slots tied p verbs.Permit = permit_one at g.positions g.slots tied p in
+    let here : ReadsPermit at g.positions g.slots tied p g.verb = subst (λ (v : Verb). ReadsPermit at g.positions g.slots tied p v) (sym same) permits in
+    here lawful
 
 body_again : (at : Context) (g : Generic) (tied : Bool) (p : ℕ) → IsLawful g → Shape g.verb
     → body_at (begun at) g.verb (rest_of g.verb (tokens_from AtName tied 0 p (positions_text g.positions ++ operands_text (operands_of g.verb) g.slots)) (tokens_from Ignored tied 0 p (positions_text g.positions ++ operands_text (operands_of g.verb) g.slots))) ≡ Ok g
-body_again at g tied p lawful (Plain other names) =
+body_again at g tied p lawful (Plain other early names) =
     ap (λ c. body_at (begun at) g.verb (if c then tokens_from AtName tied 0 p (positions_text g.positions ++ operands_text (operands_of g.verb) g.slots) else tokens_from Ignored tied 0 p (positions_text g.positions ++ operands_text (operands_of g.verb) g.slots))) other
-    ∙ plain_again at g tied p lawful names
+    ∙ plain_again at g tied p lawful early names
 body_again at g tied p lawful (Quoted same) =
     ap (λ ps. body_at (begun at) g.verb (if begins_with_name ps then tokens_from AtName tied 0 p (positions_text g.positions ++ operands_text (operands_of g.verb) g.slots) else tokens_from Ignored tied 0 p (positions_text g.positions ++ operands_text (operands_of g.verb) g.slots))) same
     ∙ dataset_again at g tied p lawful same
-body_again at g tied p lawful (Judged same) = absurd (no_profile g same lawful)
+body_again at g tied p lawful (Judged same) =
+    ap (λ v. body_at (begun at) g.verb (if begins_with_name (positions_of v) then tokens_from AtName tied 0 p (positions_text g.positions ++ operands_text (operands_of g.verb) g.slots) else tokens_from Ignored tied 0 p (positions_text g.positions ++ operands_text (operands_of g.verb) g.slots))) same
+    ∙ judged_again at g tied p lawful same
 
 naming_token : (tied : Bool) (p : ℕ) (w rest : List ℕ) → IsMore w → list_all is_letter w ≡ true → EndsWord rest
     → tokens_from BeforeName tied 0 p (w ++ rest) ≡ Word p w ∷ tokens_from AtName true 0 (p + length w) rest

@@ -1,11 +1,20 @@
 -- What is read is lawful.
-use Rattle.std.proofs.Common.{◌≡◌, ◌⊎◌, inl, inr, ℕ, zero, suc, List, [], ◌∷◌, ◌++◌, length, map, Bool, true, false, cond, not, ◌&&◌, Option, None, Some, Result, Ok, Err, refl, sym, ap, subst, ◌∙◌, append_assoc}
-use Rattle.std.specs.Prelude.{◌==◌, slice_set, nat_lt, is_ok, if◌then◌else◌}
+use Rattle.std.proofs.Common.{◌≡◌, ◌⊎◌, inl, inr, ℕ, zero, suc, List, [], ◌∷◌, ◌++◌, length, map, Bool, true, false, cond, not, ◌&&◌, Option, None, Some, Result, Ok, Err, refl, sym, ap, subst, ◌∙◌, arith, append_assoc}
+use Rattle.std.specs.Prelude.{◌==◌, slice_set, nat_lt, is_ok, bytes_eq, codes, if◌then◌else◌}
+use Rattle.std.specs.Result.{result_ok}
 use Rattle.std.proofs.lemmas.List.{append-nil}
-use Rattle.access_levels.specs.Spelling.{authority_of, level_of}
+use Rattle.access_levels.specs.Spelling.{id_of, authority_of, level_of}
+use Rattle.access_levels.specs.declared.entries.Who.{Who}
+use Rattle.access_levels.specs.declared.entries.Who.TheVariants.{Star, Named}
+use Rattle.access_levels.specs.declared.entries.Condition.{Condition}
 use Rattle.access_levels.specs.declared.levels.Level.{Level}
 use Rattle.access_levels.specs.declared.levels.Level.TheVariants.{Read}
 use Rattle.generic_names.specs.Spelled.{Spelled}
+use Rattle.generic_names.specs.Covers.{is_generic}
+use Rattle.racf_profiles.specs.declared.fixed_classes.NameForm.{NameForm}
+use Rattle.racf_profiles.specs.declared.fixed_classes.NameForm.TheVariants as name_forms
+use Rattle.command_grammar.specs.declared.words.Word.TheVariants as words
+use Rattle.command_grammar.specs.declared.profile_table.TheConstants.{PERMIT_CLASS, PERMIT_ACCESS}
 use Rattle.racf_profiles.specs.declared.profiles.AuditRule.{AuditRule}
 use Rattle.command_words.specs.declared.quoting.Quoting.TheVariants.{Ignored}
 use Rattle.command_words.specs.Bytes.{upper}
@@ -30,14 +39,15 @@ use Rattle.command_grammar.specs.declared.values.Scope.{Scope}
 use Rattle.command_grammar.specs.declared.values.Known.{Known}
 use Rattle.command_grammar.specs.Results.{◌>>=◌, or_fault}
 use Rattle.command_grammar.specs.Table.{positions_of, operands_of, verb_named}
-use Rattle.command_grammar.specs.WordsOfValues.{clean, word_of, held, unless_stray}
-use Rattle.command_grammar.specs.ProfileNames.{dataset_profile, class_profile, dataset_text, profile_of_text, dataset_named}
+use Rattle.command_grammar.specs.WordsOfValues.{clean, word_of, stray, held, unless_stray}
+use Rattle.command_grammar.specs.ProfileNames.{dataset_profile, class_profile, dataset_text, profile_of_text, dataset_named, profile_in, form_in, named_by_form, any_named, any_profile}
+use Rattle.command_grammar.specs.Entries.{port_class_of, port_name, port_of, port}
 use Rattle.command_grammar.specs.Audits.{so_far, with_word, is_audit_level, if_audit_level, audit_level, with_level, audit_word, audit_more, audits, audit_rule, is_half, is_audit_rule}
-use Rattle.command_grammar.specs.Values.{name_of, is_name, if_name, unquoted, name_text, reset_of, one, quotes_of, single, names, several, value, bare}
-use Rattle.command_grammar.specs.Reading.{Generic, Slots, row_at, placed, position_at, behind, positions_at, slot_of, operand_at, operands_at, given, clash, unless_clash, is_generic_kind, generic_place, cleared, completed, closed, no_slots, body_at, begins_with_name, behind_first, begun, command_at, parsed}
-use Rattle.command_grammar.specs.Lawful.{AreNames, IsNonEmpty, Fits, FitsPositions, FitsAll, Suits, SuitsPositions, nothing_known, IsLawful}
+use Rattle.command_grammar.specs.Values.{name_of, is_name, if_name, unquoted, name_text, reset_of, star_or, whos, one, quotes_of, single, names, several, value, bare}
+use Rattle.command_grammar.specs.Reading.{Generic, Slots, row_at, placed, position_at, behind, positions_at, slot_of, operand_at, operands_at, given, clash, unless_clash, is_generic_kind, is_given, generic_place, cleared, is_late, with_class, means_read, with_access, completed, missing, closed, no_slots, plain_at, class_in, mark_in, unless_mark, late_word, late_name, late_closed, late_at, body_at, begins_with_name, behind_first, begun, command_at, parsed}
+use Rattle.command_grammar.specs.Lawful.{AreNames, IsNonEmpty, Fits, FitsPositions, FitsAll, AreNamed, AreWhos, Suits, SuitsPositions, class_known, first_known, IsLawful}
 use Rattle.command_grammar.proofs.Names.{if-err, name-again}
-use Rattle.command_grammar.proofs.Patterns.{dataset-named, class-named}
+use Rattle.command_grammar.proofs.Patterns.{dataset-named, general-named, class-named}
 
 bind-ok : {A B : Type 0} (r : Result A Syntax) (f : A → Result B Syntax) (y : B) → (r >>= f) ≡ Ok y → (x : A) × (r ≡ Ok x) × (f x ≡ Ok y)
 bind-ok (Ok x) f y h = (x, refl, h)
@@ -235,6 +245,57 @@ audit-fits p is rule h =
     let some : read.0 ≡ Some rule = or_fault-ok read.0 (faults.BadValue p) rule read.2 in
     subst (λ (o : Option AuditRule). are_so_far o) some (audits-fit None is read.0 read.1 refl)
 
+-- users and groups, and a port of entry
+named-of : (xs : List (List ℕ)) → AreNames kinds.Ids xs → AreNamed (map Named xs)
+named-of [] h = tt
+named-of (x ∷ xs) h = (h.0, named-of xs h.1)
+
+whos-of : (xs : List (List ℕ)) → IsNonEmpty xs → AreNames kinds.Ids xs → AreWhos (map Named xs)
+whos-of [] some h = absurd some
+whos-of (x ∷ xs) some h = (h.0, named-of xs h.1)
+
+star-fit : (c : Bool) (i : Item) (is : List Item) (ws : List Who) → star_or c i is ≡ Ok ws → AreWhos ws
+star-fit true i is ws h = subst (λ (us : List Who). AreWhos us) (unless_stray-ok (stray Ignored is) (Star ∷ []) ws h) tt
+star-fit false i is ws h =
+    let read = bind-ok (names kinds.Ids [] (i ∷ is)) (λ xs. Ok (map Named xs)) ws h in
+    let list = several-fits kinds.Ids 0 (i ∷ is) (contents.Ids read.0) (ap (λ r. r >>= λ xs. Ok (contents.Ids xs)) read.1) in
+    let whole : contents.Ids list.0 ≡ contents.Ids read.0 = list.1 in
+    let ids : list.0 ≡ read.0 = cc in
+    let same : map Named read.0 ≡ ws = cc in
+    subst (λ (us : List Who). AreWhos us) (ap (map Named) ids ∙ same) (whos-of list.0 list.2 list.3)
+
+whos-fit : (p : ℕ) (is : List Item) (ws : List Who) → whos p is ≡ Ok ws → AreWhos ws
+whos-fit p [] ws h = cc
+whos-fit p (i ∷ is) ws h =
+    let word = bind-ok (word_of Ignored i) (λ w. star_or (bytes_eq w.1 (codes "*")) i is) ws h in
+    star-fit (bytes_eq word.0.1 (codes "*")) i is ws word.2
+
+port_name-fits : (p : ℕ) (is : List Item) (x : List ℕ) → port_name p is ≡ Ok x → name_of kinds.Id x ≡ Some x
+port_name-fits p is x h =
+    let word = bind-ok (held Ignored p is) (λ h. or_fault (result_ok (id_of (map upper h.1))) (faults.BadValue h.0) >>= λ x. unless_stray h.2 x) x h in
+    let read = bind-ok (or_fault (result_ok (id_of (map upper word.0.1))) (faults.BadValue word.0.0)) (λ x. unless_stray word.0.2 x) x word.2 in
+    let same : read.0 ≡ x = unless_stray-ok word.0.2 read.0 x read.2 in
+    let named : name_of kinds.Id word.0.1 ≡ Some read.0 = or_fault-ok (result_ok (id_of (map upper word.0.1))) (faults.BadValue word.0.0) read.0 read.1 in
+    subst (λ (y : List ℕ). name_of kinds.Id y ≡ Some y) same (name-again kinds.Id word.0.1 read.0 named)
+
+port_of-fits : (i : Item) (c : Condition) → port_of i ≡ Ok c → name_of kinds.Id c.name ≡ Some c.name
+port_of-fits (With p w t) c h =
+    let word = bind-ok (clean Ignored p w) (λ w. or_fault (port_class_of (map upper w)) (faults.BadValue p) >>= λ k. port_name p (items (tokens t)) >>= λ x. Ok (record { class = k; name = x })) c h in
+    let class = bind-ok (or_fault (port_class_of (map upper word.0)) (faults.BadValue p)) (λ k. port_name p (items (tokens t)) >>= λ x. Ok (record { class = k; name = x })) c word.2 in
+    let name = bind-ok (port_name p (items (tokens t))) (λ x. Ok (record { class = class.0; name = x })) c class.2 in
+    let made : Condition = record { class = class.0; name = name.0 } in
+    let same : made ≡ c = cc in
+    subst (λ (d : Condition). name_of kinds.Id d.name ≡ Some d.name) same (port_name-fits p (items (tokens t)) name.0 name.1)
+port_of-fits (Bare p w) c h = cc
+port_of-fits (Unbounded p w place) c h = cc
+port_of-fits (Odd p) c h = cc
+
+port-fits : (p : ℕ) (is : List Item) (c : Condition) → port p is ≡ Ok c → name_of kinds.Id c.name ≡ Some c.name
+port-fits p [] c h = cc
+port-fits p (i ∷ is) c h =
+    let read = bind-ok (port_of i) (λ c. unless_stray (stray Ignored is) c) c h in
+    subst (λ (d : Condition). name_of kinds.Id d.name ≡ Some d.name) (unless_stray-ok (stray Ignored is) read.0 c read.2) (port_of-fits i read.0 read.1)
+
 value-fits : (at : Scope) (k : Kind) (p : ℕ) (is : List Item) (v : Content) → value at k p is ≡ Ok v → Fits k v
 value-fits at kinds.Ids p is v h = let list = several-fits kinds.Ids p is v h in along kinds.Ids (contents.Ids list.0) v list.1 (list.2, list.3)
 value-fits at kinds.Classes p is v h = let list = several-fits kinds.Classes p is v h in along kinds.Classes (contents.Ids list.0) v list.1 (list.2, list.3)
@@ -253,8 +314,14 @@ value-fits at kinds.Flag p is v h = cc
 value-fits at kinds.DataSetProfile p is v h = cc
 value-fits at kinds.ClassProfile p is v h = cc
 value-fits at kinds.AnyProfile p is v h = cc
-value-fits at kinds.Whos p is v h = cc
-value-fits at kinds.When p is v h = cc
+value-fits at kinds.Whos p is v h =
+    let read = bind-ok (whos p is) (λ ws. Ok (contents.Whos ws)) v h in
+    let same : contents.Whos read.0 ≡ v = cc in
+    along kinds.Whos (contents.Whos read.0) v same (whos-fit p is read.0 read.1)
+value-fits at kinds.When p is v h =
+    let read = bind-ok (port p is) (λ c. Ok (contents.When c)) v h in
+    let same : contents.When read.0 ≡ v = cc in
+    along kinds.When (contents.When read.0) v same (port-fits p is read.0 read.1)
 value-fits at kinds.AddedMembers p is v h = cc
 value-fits at kinds.DroppedMembers p is v h = cc
 value-fits at kinds.Generic p is v h = cc
@@ -374,6 +441,29 @@ cleared-fits (o ∷ os) (None ∷ ss) (suc k) h only = cleared-fits os ss k h (b
 cleared-fits (o ∷ os) (Some v ∷ ss) (suc k) h only =
     (holds-fits o.kind v (both_first (not (is_generic_kind o.kind)) (only_generic os k) only) h.0, cleared-fits os ss k h.1 (both_second (not (is_generic_kind o.kind)) (only_generic os k) only))
 
+FitsAll-tail : (o : Operand) (os : List Operand) (s : Option Content) (ss : Slots) → FitsAll (o ∷ os) (s ∷ ss) → FitsAll os ss
+FitsAll-tail o os None ss h = h
+FitsAll-tail o os (Some v) ss h = h.1
+
+FitsAll-set : (os : List Operand) (ss : Slots) (k : ℕ) (v : Content) → FitsAll os ss → Fits (row_at os k).kind v → FitsAll os (slice_set ss k (Some v))
+FitsAll-set [] [] k v h fits = tt
+FitsAll-set [] (s ∷ ss) k v h fits = absurd h
+FitsAll-set (o ∷ os) [] k v h fits = absurd h
+FitsAll-set (o ∷ os) (s ∷ ss) zero v h fits = (fits, FitsAll-tail o os s ss h)
+FitsAll-set (o ∷ os) (None ∷ ss) (suc k) v h fits = FitsAll-set os ss k v h fits
+FitsAll-set (o ∷ os) (Some u ∷ ss) (suc k) v h fits = (h.0, FitsAll-set os ss k v h.1 fits)
+
+either-fits : (os : List Operand) (c : Bool) (x y : Slots) → FitsAll os x → FitsAll os y → FitsAll os (cond c x y)
+either-fits os true x y h k = h
+either-fits os false x y h k = k
+
+-- PERMIT's defaults
+class-fits : (ss : Slots) → FitsAll (operands_of verbs.Permit) ss → FitsAll (operands_of verbs.Permit) (with_class ss)
+class-fits ss h = either-fits (operands_of verbs.Permit) (is_given ss PERMIT_CLASS) ss (slice_set ss PERMIT_CLASS (Some (contents.Id (codes "DATASET")))) h (FitsAll-set (operands_of verbs.Permit) ss PERMIT_CLASS (contents.Id (codes "DATASET")) h refl)
+
+access-fits : (ss : Slots) → FitsAll (operands_of verbs.Permit) ss → FitsAll (operands_of verbs.Permit) (with_access ss)
+access-fits ss h = either-fits (operands_of verbs.Permit) (means_read ss) (slice_set ss PERMIT_ACCESS (Some (contents.Level Read))) ss (FitsAll-set (operands_of verbs.Permit) ss PERMIT_ACCESS (contents.Level Read) h tt) h
+
 completed-fits : (v : Verb) (ss : Slots) → HoldsAll (operands_of v) ss → FitsAll (operands_of v) (completed v ss)
 completed-fits verbs.AddUser ss h = none-fits (operands_of verbs.AddUser) ss h refl
 completed-fits verbs.AltUser ss h = none-fits (operands_of verbs.AltUser) ss h refl
@@ -389,7 +479,7 @@ completed-fits verbs.RDelete ss h = none-fits (operands_of verbs.RDelete) ss h r
 completed-fits verbs.AddSd ss h = cleared-fits (operands_of verbs.AddSd) ss 8 h refl
 completed-fits verbs.AltSd ss h = cleared-fits (operands_of verbs.AltSd) ss 12 h refl
 completed-fits verbs.DelSd ss h = cleared-fits (operands_of verbs.DelSd) ss 0 h refl
-completed-fits verbs.Permit ss h = cleared-fits (operands_of verbs.Permit) ss 6 h refl
+completed-fits verbs.Permit ss h = access-fits (with_class (slice_set ss 6 None)) (class-fits (slice_set ss 6 None) (cleared-fits (operands_of verbs.Permit) ss 6 h refl))
 
 set-twice : (ss : Slots) (k : ℕ) → slice_set (slice_set ss k None) k None ≡ slice_set ss k None
 set-twice [] k = refl
@@ -399,6 +489,72 @@ set-twice (s ∷ ss) (suc k) = ap (λ rest. s ∷ rest) (set-twice ss k)
 cleared-again : (o : Option ℕ) (ss : Slots) → cleared o (cleared o ss) ≡ cleared o ss
 cleared-again None ss = refl
 cleared-again (Some k) ss = set-twice ss k
+
+-- what completing changes nothing of
+record IsSettled (v : Verb) (ss : Slots) : Type 0 where
+  again : completed v (completed v ss) ≡ completed v ss
+  lacks : missing v (completed v ss) ≡ missing v ss
+  class : first_known v (completed v ss) ≡ first_known v ss
+
+-- PERMIT has seven slots
+record AreSeven (ss : Slots) : Type 0 where
+  s0 : Option Content
+  s1 : Option Content
+  s2 : Option Content
+  s3 : Option Content
+  s4 : Option Content
+  s5 : Option Content
+  s6 : Option Content
+  are : ss ≡ s0 ∷ (s1 ∷ (s2 ∷ (s3 ∷ (s4 ∷ (s5 ∷ (s6 ∷ []))))))
+
+seven-slots : (ss : Slots) → HoldsAll (operands_of verbs.Permit) ss → AreSeven ss
+seven-slots ss h = seven-of ss (holds-length (operands_of verbs.Permit) ss h)
+  where
+    holds-length : (os : List Operand) (ss : Slots) → HoldsAll os ss → length ss ≡ length os
+    holds-length [] [] h = refl
+    holds-length [] (s ∷ ss) h = absurd h
+    holds-length (o ∷ os) [] h = absurd h
+    holds-length (o ∷ os) (None ∷ ss) h = ap suc (holds-length os ss h)
+    holds-length (o ∷ os) (Some v ∷ ss) h = ap suc (holds-length os ss h.1)
+    seven-of : (ss : Slots) → length ss ≡ 7 → AreSeven ss
+    seven-of [] h = cc
+    seven-of (a ∷ []) h = cc
+    seven-of (a ∷ (b ∷ [])) h = cc
+    seven-of (a ∷ (b ∷ (c ∷ []))) h = cc
+    seven-of (a ∷ (b ∷ (c ∷ (d ∷ [])))) h = cc
+    seven-of (a ∷ (b ∷ (c ∷ (d ∷ (e ∷ []))))) h = cc
+    seven-of (a ∷ (b ∷ (c ∷ (d ∷ (e ∷ (f ∷ [])))))) h = cc
+    seven-of (a ∷ (b ∷ (c ∷ (d ∷ (e ∷ (f ∷ (g ∷ []))))))) h = record { s0 = a; s1 = b; s2 = c; s3 = d; s4 = e; s5 = f; s6 = g; are = refl }
+    seven-of (a ∷ (b ∷ (c ∷ (d ∷ (e ∷ (f ∷ (g ∷ (i ∷ ss)))))))) h = let more : suc (suc (suc (suc (suc (suc (suc (suc (length ss)))))))) ≡ 7 = h in absurd (omega arith)
+
+settled-permit : (c r i a d w g : Option Content) → IsSettled verbs.Permit (c ∷ (r ∷ (i ∷ (a ∷ (d ∷ (w ∷ (g ∷ [])))))))
+settled-permit None r None a d w g = record { again = refl; lacks = refl; class = refl }
+settled-permit None r (Some i) None None w g = record { again = refl; lacks = refl; class = refl }
+settled-permit None r (Some i) None (Some d) w g = record { again = refl; lacks = refl; class = refl }
+settled-permit None r (Some i) (Some a) d w g = record { again = refl; lacks = refl; class = refl }
+settled-permit (Some c) r None a d w g = record { again = refl; lacks = refl; class = refl }
+settled-permit (Some c) r (Some i) None None w g = record { again = refl; lacks = refl; class = refl }
+settled-permit (Some c) r (Some i) None (Some d) w g = record { again = refl; lacks = refl; class = refl }
+settled-permit (Some c) r (Some i) (Some a) d w g = record { again = refl; lacks = refl; class = refl }
+
+settled-slots : (v : Verb) (ss : Slots) → HoldsAll (operands_of v) ss → IsSettled v ss
+settled-slots verbs.AddUser ss h = record { again = cleared-again (generic_place (operands_of verbs.AddUser)) ss; lacks = refl; class = refl }
+settled-slots verbs.AltUser ss h = record { again = cleared-again (generic_place (operands_of verbs.AltUser)) ss; lacks = refl; class = refl }
+settled-slots verbs.DelUser ss h = record { again = cleared-again (generic_place (operands_of verbs.DelUser)) ss; lacks = refl; class = refl }
+settled-slots verbs.AddGroup ss h = record { again = cleared-again (generic_place (operands_of verbs.AddGroup)) ss; lacks = refl; class = refl }
+settled-slots verbs.AltGroup ss h = record { again = cleared-again (generic_place (operands_of verbs.AltGroup)) ss; lacks = refl; class = refl }
+settled-slots verbs.DelGroup ss h = record { again = cleared-again (generic_place (operands_of verbs.DelGroup)) ss; lacks = refl; class = refl }
+settled-slots verbs.Connect ss h = record { again = cleared-again (generic_place (operands_of verbs.Connect)) ss; lacks = refl; class = refl }
+settled-slots verbs.Remove ss h = record { again = cleared-again (generic_place (operands_of verbs.Remove)) ss; lacks = refl; class = refl }
+settled-slots verbs.AddSd ss h = record { again = cleared-again (generic_place (operands_of verbs.AddSd)) ss; lacks = refl; class = refl }
+settled-slots verbs.AltSd ss h = record { again = cleared-again (generic_place (operands_of verbs.AltSd)) ss; lacks = refl; class = refl }
+settled-slots verbs.DelSd ss h = record { again = cleared-again (generic_place (operands_of verbs.DelSd)) ss; lacks = refl; class = refl }
+settled-slots verbs.RDefine ss h = record { again = cleared-again (generic_place (operands_of verbs.RDefine)) ss; lacks = refl; class = refl }
+settled-slots verbs.RAlter ss h = record { again = cleared-again (generic_place (operands_of verbs.RAlter)) ss; lacks = refl; class = refl }
+settled-slots verbs.RDelete ss h = record { again = cleared-again (generic_place (operands_of verbs.RDelete)) ss; lacks = refl; class = refl }
+settled-slots verbs.Permit ss h =
+    let seven = seven-slots ss h in
+    subst (λ (xs : Slots). IsSettled verbs.Permit xs) (sym seven.are) (settled-permit seven.s0 seven.s1 seven.s2 seven.s3 seven.s4 seven.s5 seven.s6)
 
 first-ok : {A B : Type 0} (u v : A) (x y : B) → let read : Result (A × B) Syntax = Ok (u, x) in read ≡ Ok (v, y) → u ≡ v
 first-ok {A} {B} u v x y h = ap (λ (z : A × B). z.0) (ok-same (u, x) (v, y) h)
@@ -429,21 +585,101 @@ unless_clash-ok : (c : Option (Operand × Operand)) (slots ss : Slots) → unles
 unless_clash-ok None slots ss h = (refl, cc)
 unless_clash-ok (Some both) slots ss h = cc
 
-body-lawful : (at : Context) (v : Verb) (ts : List Token) (g : Generic) → body_at (begun at) v ts ≡ Ok g → IsLawful g
-body-lawful at v ts g h =
+closed-ok : (v : Verb) (slots ss : Slots) → closed v slots ≡ Ok ss → (missing v slots ≡ false) × (clash (given (operands_of v) ss) ≡ None) × (completed v slots ≡ ss)
+closed-ok v slots ss h =
+    let complete = if-err (missing v slots) (faults.Missing words.Id) (unless_clash (clash (given (operands_of v) (completed v slots))) (completed v slots)) ss h in
+    let apart = unless_clash-ok (clash (given (operands_of v) (completed v slots))) (completed v slots) ss complete.1 in
+    (complete.0, subst (λ (xs : Slots). clash (given (operands_of v) xs) ≡ None) apart.1 apart.0, apart.1)
+
+-- what holds of the slots when they were closed
+record AreClosed (v : Verb) (slots ss : Slots) : Type 0 where
+  operands : FitsAll (operands_of v) ss
+  class : first_known v ss ≡ first_known v slots
+  lacks : missing v ss ≡ false
+  whole : completed v ss ≡ ss
+  alone : clash (given (operands_of v) ss) ≡ None
+
+closed-slots : (v : Verb) (slots ss : Slots) → HoldsAll (operands_of v) slots → closed v slots ≡ Ok ss → AreClosed v slots ss
+closed-slots v slots ss holds h =
+    let ok = closed-ok v slots ss h in
+    let settled = settled-slots v slots holds in
+    record {
+      operands = subst (λ (xs : Slots). FitsAll (operands_of v) xs) ok.2 (completed-fits v slots holds);
+      class = ap (first_known v) (sym ok.2) ∙ settled.class;
+      lacks = ap (missing v) (sym ok.2) ∙ settled.lacks ∙ ok.0;
+      whole = ap (completed v) (sym ok.2) ∙ settled.again ∙ ok.2;
+      alone = ok.1;
+    }
+
+plain-lawful : (at : Context) (v : Verb) (ts : List Token) (g : Generic) → is_late (positions_of v) ≡ false → plain_at (begun at) v ts ≡ Ok g → IsLawful g
+plain-lawful at v ts g early h =
     let words = bind-ok (positions_at (begun at) (operands_of v) (positions_of v) [] ts) (λ x. operands_at x.1 (operands_of v) (no_slots (operands_of v)) (items x.2) >>= λ slots. closed v slots >>= λ slots. Ok (record { verb = v; positions = x.0; slots = slots })) g h in
     let filled = bind-ok (operands_at words.0.1 (operands_of v) (no_slots (operands_of v)) (items words.0.2)) (λ slots. closed v slots >>= λ slots. Ok (record { verb = v; positions = words.0.0; slots = slots })) g words.2 in
     let end = bind-ok (closed v filled.0) (λ slots. Ok (record { verb = v; positions = words.0.0; slots = slots })) g filled.2 in
-    let apart = unless_clash-ok (clash (given (operands_of v) (completed v filled.0))) (completed v filled.0) end.0 end.1 in
+    let closed_so = closed-slots v filled.0 end.0 (operands-hold words.0.1 (operands_of v) (no_slots (operands_of v)) (items words.0.2) filled.0 filled.1 (HoldsAll-none (operands_of v))) end.1 in
     let found = positions-fit (begun at) (operands_of v) (positions_of v) [] ts words.0.0 words.0.1 words.0.2 words.1 in
     let positions : FitsPositions (positions_of v) words.0.0 = subst (λ (vs : List Content). FitsPositions (positions_of v) vs) (sym found.1) found.2 in
-    let suited : SuitsPositions nothing_known (positions_of v) words.0.0 = subst (λ (vs : List Content). SuitsPositions nothing_known (positions_of v) vs) (sym found.1) found.3 in
-    let operands : FitsAll (operands_of v) end.0 = subst (λ (ss : Slots). FitsAll (operands_of v) ss) apart.1 (completed-fits v filled.0 (operands-hold words.0.1 (operands_of v) (no_slots (operands_of v)) (items words.0.2) filled.0 filled.1 (HoldsAll-none (operands_of v)))) in
-    let whole : completed v end.0 ≡ end.0 = subst (λ (ss : Slots). completed v ss ≡ ss) apart.1 (cleared-again (generic_place (operands_of v)) filled.0) in
-    let alone : clash (given (operands_of v) end.0) ≡ None = subst (λ (ss : Slots). clash (given (operands_of v) ss) ≡ None) apart.1 apart.0 in
+    let suited : SuitsPositions (class_known None) (positions_of v) words.0.0 = subst (λ (vs : List Content). SuitsPositions (class_known None) (positions_of v) vs) (sym found.1) found.3 in
+    let nothing : first_known v end.0 ≡ class_known None = closed_so.class ∙ ap (λ c. class_known (if c then class_in filled.0 else None)) early in
+    let suited_here : SuitsPositions (first_known v end.0) (positions_of v) words.0.0 = subst (λ (k : Known). SuitsPositions k (positions_of v) words.0.0) (sym nothing) suited in
     let made_here : Generic = record { verb = v; positions = words.0.0; slots = end.0 } in
     let same : made_here ≡ g = cc in
-    subst (λ (x : Generic). IsLawful x) same (record { fits_positions = positions; fits_operands = operands; suits_positions = suited; complete = whole; apart = alone })
+    subst (λ (x : Generic). IsLawful x) same (record { fits_positions = positions; fits_operands = closed_so.operands; suits_positions = suited_here; needed = closed_so.lacks; complete = closed_so.whole; apart = closed_so.alone })
+
+-- PERMIT's name is judged by the class that its operand names
+form-fits : (issuer : List ℕ) (form : NameForm) (w : List ℕ) (n : Spelled) → named_by_form issuer form w ≡ Some n → profile_in form n.text ≡ Some n
+form-fits issuer name_forms.DataSet w n h = dataset-fits issuer w n h
+form-fits issuer name_forms.General w n h = ap (profile_in name_forms.General) (general-named name_forms.General (map upper w) n h).text ∙ h
+form-fits issuer name_forms.Identifier w n h = ap (profile_in name_forms.Identifier) (general-named name_forms.Identifier (map upper w) n h).text ∙ h
+form-fits issuer name_forms.LevelOrCategory w n h = ap (profile_in name_forms.LevelOrCategory) (general-named name_forms.LevelOrCategory (map upper w) n h).text ∙ h
+form-fits issuer name_forms.Class w n h = ap (profile_in name_forms.Class) (general-named name_forms.Class (map upper w) n h).text ∙ h
+
+any-fits : (issuer : List ℕ) (class : Option (List ℕ)) (w : List ℕ) (n : Spelled) → any_named issuer class w ≡ Some n → any_profile class n.text ≡ Some n
+any-fits issuer None w n h = cc
+any-fits issuer (Some c) w n h = form-fits issuer (form_in c) w n h
+
+unless_mark-ok : (n : Spelled) (m : Option ℕ) (slots ss : Slots) → unless_mark n m slots ≡ Ok ss → slots ≡ ss
+unless_mark-ok n None slots ss h = cc
+unless_mark-ok n (Some p) slots ss h = mark-tested (is_generic n) h
+  where
+    mark-tested : (c : Bool) → cond c (Ok slots) (Err (faults.BadValue p)) ≡ Ok ss → slots ≡ ss
+    mark-tested true h = cc
+    mark-tested false h = cc
+
+late-lawful : (at : Context) (ts : List Token) (g : Generic) → late_at (begun at) verbs.Permit ts ≡ Ok g → IsLawful g
+late-lawful at ts g h =
+    let rows : List Operand = operands_of verbs.Permit in
+    let word = bind-ok (late_word rows ts) (λ x. operands_at (begun at) rows (no_slots rows) (items x.2) >>= λ slots. late_name (begun at) slots x.0 x.1 >>= λ n. late_closed n verbs.Permit slots >>= λ slots. Ok (record { verb = verbs.Permit; positions = contents.Profile n ∷ []; slots = slots })) g h in
+    let filled = bind-ok (operands_at (begun at) rows (no_slots rows) (items word.0.2)) (λ slots. late_name (begun at) slots word.0.0 word.0.1 >>= λ n. late_closed n verbs.Permit slots >>= λ slots. Ok (record { verb = verbs.Permit; positions = contents.Profile n ∷ []; slots = slots })) g word.2 in
+    let name = bind-ok (late_name (begun at) filled.0 word.0.0 word.0.1) (λ n. late_closed n verbs.Permit filled.0 >>= λ slots. Ok (record { verb = verbs.Permit; positions = contents.Profile n ∷ []; slots = slots })) g filled.2 in
+    let end = bind-ok (late_closed name.0 verbs.Permit filled.0) (λ slots. Ok (record { verb = verbs.Permit; positions = contents.Profile name.0 ∷ []; slots = slots })) g name.2 in
+    let marked = bind-ok (unless_mark name.0 (mark_in filled.0) filled.0) (λ slots. closed verbs.Permit slots) end.0 end.1 in
+    let kept : filled.0 ≡ marked.0 = unless_mark-ok name.0 (mark_in filled.0) filled.0 marked.0 marked.1 in
+    let closed_here : closed verbs.Permit filled.0 ≡ Ok end.0 = ap (closed verbs.Permit) kept ∙ marked.2 in
+    let closed_so = closed-slots verbs.Permit filled.0 end.0 (operands-hold (begun at) rows (no_slots rows) (items word.0.2) filled.0 filled.1 (HoldsAll-none rows)) closed_here in
+    let named : any_named at.issuer (class_in filled.0) word.0.1 ≡ Some name.0 = or_fault-ok (any_named at.issuer (class_in filled.0) word.0.1) (faults.BadValue word.0.0) name.0 name.1 in
+    let suits : any_profile (class_in filled.0) name.0.text ≡ Some name.0 = any-fits at.issuer (class_in filled.0) word.0.1 name.0 named in
+    let suited : SuitsPositions (first_known verbs.Permit end.0) (positions_of verbs.Permit) (contents.Profile name.0 ∷ []) = subst (λ (k : Known). SuitsPositions k (positions_of verbs.Permit) (contents.Profile name.0 ∷ [])) (sym closed_so.class) (suits, tt) in
+    let made_here : Generic = record { verb = verbs.Permit; positions = contents.Profile name.0 ∷ []; slots = end.0 } in
+    let same : made_here ≡ g = cc in
+    subst (λ (x : Generic). IsLawful x) same (record { fits_positions = (tt, tt); fits_operands = closed_so.operands; suits_positions = suited; needed = closed_so.lacks; complete = closed_so.whole; apart = closed_so.alone })
+
+body-lawful : (at : Context) (v : Verb) (ts : List Token) (g : Generic) → body_at (begun at) v ts ≡ Ok g → IsLawful g
+body-lawful at verbs.AddUser ts g h = plain-lawful at verbs.AddUser ts g refl h
+body-lawful at verbs.AltUser ts g h = plain-lawful at verbs.AltUser ts g refl h
+body-lawful at verbs.DelUser ts g h = plain-lawful at verbs.DelUser ts g refl h
+body-lawful at verbs.AddGroup ts g h = plain-lawful at verbs.AddGroup ts g refl h
+body-lawful at verbs.AltGroup ts g h = plain-lawful at verbs.AltGroup ts g refl h
+body-lawful at verbs.DelGroup ts g h = plain-lawful at verbs.DelGroup ts g refl h
+body-lawful at verbs.Connect ts g h = plain-lawful at verbs.Connect ts g refl h
+body-lawful at verbs.Remove ts g h = plain-lawful at verbs.Remove ts g refl h
+body-lawful at verbs.AddSd ts g h = plain-lawful at verbs.AddSd ts g refl h
+body-lawful at verbs.AltSd ts g h = plain-lawful at verbs.AltSd ts g refl h
+body-lawful at verbs.DelSd ts g h = plain-lawful at verbs.DelSd ts g refl h
+body-lawful at verbs.RDefine ts g h = plain-lawful at verbs.RDefine ts g refl h
+body-lawful at verbs.RAlter ts g h = plain-lawful at verbs.RAlter ts g refl h
+body-lawful at verbs.RDelete ts g h = plain-lawful at verbs.RDelete ts g refl h
+body-lawful at verbs.Permit ts g h = late-lawful at ts g h
 
 command-lawful : (at : Context) (ts us : List Token) (g : Generic) → command_at at ts us ≡ Ok g → IsLawful g
 command-lawful at [] us g h = cc

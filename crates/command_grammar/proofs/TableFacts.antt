@@ -17,8 +17,8 @@ use Rattle.command_grammar.specs.declared.table.Position.{Position}
 use Rattle.command_grammar.specs.declared.table.Operand.{Operand}
 use Rattle.command_grammar.specs.Words.{spelling_of}
 use Rattle.command_grammar.specs.Table.{full_name, positions_of, operands_of, verb_named}
-use Rattle.command_grammar.specs.declared.profile_table.TheConstants.{DATASET_POSITION, PERMIT_POSITION}
-use Rattle.command_grammar.specs.Reading.{is_spelling, begins_with_name}
+use Rattle.command_grammar.specs.declared.profile_table.TheConstants.{DATASET_POSITION}
+use Rattle.command_grammar.specs.Reading.{is_spelling, is_late, begins_with_name}
 
 abbrev pub IsMore : List ℕ → Type 0
 IsMore [] = ⊥
@@ -113,6 +113,7 @@ verb_named-full_name verbs.Permit = refl
 abbrev pub is_profile_kind : Kind → Bool
 is_profile_kind kinds.DataSetProfile = true
 is_profile_kind kinds.ClassProfile = true
+is_profile_kind kinds.AnyProfile = true
 is_profile_kind k = false
 
 -- whether each operand, from the row k on, is found by its full spelling, and is no profile's name
@@ -182,22 +183,22 @@ is_name_kind kinds.Generic = false
 
 -- a command's positional words are names as they are written; or the first is a data set's in quotes; or it is PERMIT's
 pub data Shape (v : Verb) : Type 0 where
-  Plain : begins_with_name (positions_of v) ≡ false → list_all (λ (pos : Position). is_name_kind pos.kind) (positions_of v) ≡ true → Shape v
+  Plain : begins_with_name (positions_of v) ≡ false → is_late (positions_of v) ≡ false → list_all (λ (pos : Position). is_name_kind pos.kind) (positions_of v) ≡ true → Shape v
   Quoted : positions_of v ≡ DATASET_POSITION → Shape v
-  Judged : positions_of v ≡ PERMIT_POSITION → Shape v
+  Judged : v ≡ verbs.Permit → Shape v
 
 pub shape : (v : Verb) → Shape v
-shape verbs.AddUser = Plain refl refl
-shape verbs.AltUser = Plain refl refl
-shape verbs.DelUser = Plain refl refl
-shape verbs.AddGroup = Plain refl refl
-shape verbs.AltGroup = Plain refl refl
-shape verbs.DelGroup = Plain refl refl
-shape verbs.Connect = Plain refl refl
-shape verbs.Remove = Plain refl refl
-shape verbs.RDefine = Plain refl refl
-shape verbs.RAlter = Plain refl refl
-shape verbs.RDelete = Plain refl refl
+shape verbs.AddUser = Plain refl refl refl
+shape verbs.AltUser = Plain refl refl refl
+shape verbs.DelUser = Plain refl refl refl
+shape verbs.AddGroup = Plain refl refl refl
+shape verbs.AltGroup = Plain refl refl refl
+shape verbs.DelGroup = Plain refl refl refl
+shape verbs.Connect = Plain refl refl refl
+shape verbs.Remove = Plain refl refl refl
+shape verbs.RDefine = Plain refl refl refl
+shape verbs.RAlter = Plain refl refl refl
+shape verbs.RDelete = Plain refl refl refl
 shape verbs.AddSd = Quoted refl
 shape verbs.AltSd = Quoted refl
 shape verbs.DelSd = Quoted refl

@@ -1,10 +1,13 @@
 -- A value that was written is read again, whatever follows its parenthesis.
-use Rattle.std.proofs.Common.{◌≡◌, ℕ, suc, ◌+◌, List, [], ◌∷◌, ◌++◌, length, Bool, true, false, None, Some, Ok, refl, sym, ap, ◌∙◌, append_assoc}
-use Rattle.std.specs.Prelude.{◌==◌}
+use Rattle.std.proofs.Common.{◌≡◌, ℕ, suc, ◌+◌, List, [], ◌∷◌, ◌++◌, length, map, Bool, true, false, None, Some, Ok, refl, sym, ap, subst, ◌∙◌, append_assoc}
+use Rattle.std.specs.Prelude.{◌==◌, bytes_eq, codes}
 use Rattle.std.specs.List.{list_all}
 use Rattle.std.proofs.lemmas.List.{append-nil}
 use Rattle.std.proofs.lemmas.List.Folds.{list_all-append}
 use Rattle.std.proofs.lemmas.Bool.{eqb-true}
+use Rattle.std.proofs.lemmas.Slice.Eq.{bytes_eq-Decides}
+use Rattle.access_levels.specs.declared.entries.Who.{Who}
+use Rattle.access_levels.specs.declared.entries.Who.TheVariants.{Star, Named}
 use Rattle.access_levels.specs.Level.{authority_name, level_name}
 use Rattle.access_levels.specs.declared.levels.Level.{Level}
 use Rattle.access_levels.specs.declared.levels.Level.TheVariants.{NoAccess, Execute, Read, Update, Control, Alter}
@@ -25,9 +28,11 @@ use Rattle.command_grammar.specs.declared.values.Scope.{Scope}
 use Rattle.command_grammar.specs.declared.values.Reset.{Reset}
 use Rattle.command_grammar.specs.declared.values.Reset.TheVariants as resets
 use Rattle.command_grammar.specs.Results.{◌>>=◌}
-use Rattle.command_grammar.specs.Values.{name_of, is_name, if_name, unquoted, name_text, reset_name, single, names, several, value, more_text, ids_text, text_of}
-use Rattle.command_grammar.specs.Lawful.{AreNames, IsNonEmpty, Fits}
+use Rattle.command_grammar.specs.Values.{name_of, is_name, if_name, unquoted, name_text, reset_name, single, names, several, whos, value, more_text, ids_text, text_of}
+use Rattle.command_grammar.specs.Lawful.{AreNames, IsNonEmpty, AreWhos, Fits}
 use Rattle.command_grammar.proofs.Names.{IsPlainName, name-plain}
+use Rattle.command_grammar.specs.Entries.{whos_text}
+use Rattle.command_grammar.proofs.EntriesAgain.{listed, port_again, port_ends}
 use Rattle.command_grammar.proofs.AuditAgain.{level_calm, audit_again, audit_ends}
 
 -- the items of a word of letters, whatever follows it that is no value of its own
@@ -163,6 +168,49 @@ several_again k p q (x ∷ xs) some h =
     several-some k p (items (tokens_from Outside false 0 (suc q) (x ++ more_text xs))) x xs
     (names_step k [] false (suc q) x xs h.0 h.1 ∙ names_again k (x ∷ []) true (suc q + length x) xs h.1)
 
+-- users and groups: a word that is no `*`, and the names with it
+not_star : (b : ℕ) (w : List ℕ) → id_of (b ∷ w) ≡ Ok (b ∷ w) → bytes_eq (b ∷ w) (codes "*") ≡ false
+not_star b w h = star-tested (bytes_eq (b ∷ w) (codes "*")) refl
+  where
+    star-tested : (c : Bool) → bytes_eq (b ∷ w) (codes "*") ≡ c → c ≡ false
+    star-tested true is =
+        let same : b ∷ w ≡ codes "*" = (bytes_eq-Decides (b ∷ w) (codes "*")).0 is in
+        let no : id_of (codes "*") ≡ Ok (codes "*") = subst (λ (x : List ℕ). id_of x ≡ Ok x) same h in
+        cc
+    star-tested false is = refl
+
+-- the same for a list of names that begins with b ∷ w
+whos_names : (p n b : ℕ) (w : List ℕ) (is : List Item) (xs : List (List ℕ)) → id_of (b ∷ w) ≡ Ok (b ∷ w) → faulty_at Ignored n (b ∷ w) ≡ None → names kinds.Ids [] (Bare n (b ∷ w) ∷ is) ≡ Ok xs
+    → whos p (Bare n (b ∷ w) ∷ is) ≡ Ok (map Named xs)
+whos_names p n b w is xs h sound read =
+    let other : bytes_eq (b ∷ w) (codes "*") ≡ false = not_star b w h in
+    rw (sound, other) (ap (λ r. r >>= λ xs. Ok (map Named xs)) read)
+
+whos_listed : (p q : ℕ) (x : List ℕ) (xs : List (List ℕ)) → AreNames kinds.Ids (x ∷ xs) → whos p (items (tokens (within q (ids_text (x ∷ xs))))) ≡ Ok (map Named (x ∷ xs))
+unfolding tokens
+whos_listed p q [] xs h = absurd (no_empty kinds.Ids h.0)
+whos_listed p q (b ∷ w) xs h =
+    let plain = name-plain kinds.Ids (b ∷ w) (b ∷ w) h.0 in
+    let rest : List Item = items (tokens_from Outside true 0 (suc q + length (b ∷ w)) (more_text xs)) in
+    let first : items (tokens_from Outside false 0 (suc q) ((b ∷ w) ++ more_text xs)) ≡ Bare (suc q) (b ∷ w) ∷ rest =
+    ap items (word_token Outside Outside-steady false (suc q) b w (more_text xs) plain.letters (more_ends xs))
+    ∙ word_items (tokens_from Outside true 0 (suc q + length (b ∷ w)) (more_text xs)) (suc q) (b ∷ w) (more_opens kinds.Ids (suc q + length (b ∷ w)) true xs h.1) in
+    let read : names kinds.Ids [] (Bare (suc q) (b ∷ w) ∷ rest) ≡ Ok ((b ∷ w) ∷ xs) =
+    ap (names kinds.Ids []) (sym first) ∙ names_step kinds.Ids [] false (suc q) (b ∷ w) xs h.0 h.1 ∙ names_again kinds.Ids ((b ∷ w) ∷ []) true (suc q + length (b ∷ w)) xs h.1 in
+    ap (whos p) first ∙ whos_names p (suc q) b w rest ((b ∷ w) ∷ xs) plain.spelled (plain.sound (suc q)) read
+
+whos_named : (p q : ℕ) (x : List ℕ) (ws : List Who) → AreWhos (Named x ∷ ws) → whos p (items (tokens (within q (whos_text (Named x ∷ ws))))) ≡ Ok (Named x ∷ ws)
+whos_named p q x ws h =
+    let list = listed x ws h in
+    ap (λ bs. whos p (items (tokens (within q bs)))) list.text ∙ whos_listed p q x list.others list.named ∙ ap Ok list.whole
+
+whos_again : (p q : ℕ) (ws : List Who) → AreWhos ws → whos p (items (tokens (within q (whos_text ws)))) ≡ Ok ws
+unfolding tokens
+whos_again p q [] h = absurd h
+whos_again p q (Star ∷ []) h = refl
+whos_again p q (Star ∷ (w ∷ ws)) h = absurd h
+whos_again p q (Named x ∷ ws) h = whos_named p q x ws h
+
 -- a value other than none
 abbrev pub IsShown : Content → Type 0
 IsShown contents.Flag = ⊥
@@ -194,6 +242,9 @@ value-again at kinds.Reset p q (contents.Reset r) h shown = single_reset at p q 
 value-again at kinds.Audit p q (contents.Audit rule) h shown = ap (λ r. r >>= λ rule. Ok (contents.Audit rule)) (audit_again p q rule h)
 value-again at kinds.DataSetProfile p q (contents.Profile n) h shown = absurd shown
 value-again at kinds.ClassProfile p q (contents.Profile n) h shown = absurd shown
+value-again at kinds.AnyProfile p q (contents.Profile n) h shown = absurd shown
+value-again at kinds.Whos p q (contents.Whos ws) h shown = ap (λ r. r >>= λ ws. Ok (contents.Whos ws)) (whos_again p q ws h)
+value-again at kinds.When p q (contents.When c) h shown = ap (λ r. r >>= λ c. Ok (contents.When c)) (port_again p q c h)
 value-again at k p q v h shown = absurd h
 
 -- where the parenthesis of a value that was written closes
@@ -217,6 +268,14 @@ authority_calm MayCreate = refl
 authority_calm MayConnect = refl
 authority_calm MayJoin = refl
 
+whos_end : (outer p : ℕ) (ws : List Who) (rest : List ℕ) → AreWhos ws → group_end outer Outside 0 p (whos_text ws ++ 41 ∷ rest) ≡ Ok (p + length (whos_text ws))
+whos_end outer p [] rest h = absurd h
+whos_end outer p (Star ∷ []) rest h = group_end-calm outer p (codes "*") rest refl
+whos_end outer p (Star ∷ (w ∷ ws)) rest h = absurd h
+whos_end outer p (Named x ∷ ws) rest h =
+    let list = listed x ws h in
+    group_end-calm outer p (whos_text (Named x ∷ ws)) rest (subst (λ (bs : List ℕ). list_all is_calm bs ≡ true) (sym list.text) (ids_calm kinds.Ids (x ∷ list.others) list.named))
+
 reset_calm : (r : Reset) → list_all is_calm (reset_name r) ≡ true
 reset_calm resets.All = refl
 reset_calm resets.Standard = refl
@@ -236,4 +295,7 @@ value-ends kinds.Reset (contents.Reset r) outer p rest h shown = group_end-calm 
 value-ends kinds.Audit (contents.Audit rule) outer p rest h shown = audit_ends outer p rule rest
 value-ends kinds.DataSetProfile (contents.Profile n) outer p rest h shown = absurd shown
 value-ends kinds.ClassProfile (contents.Profile n) outer p rest h shown = absurd shown
+value-ends kinds.AnyProfile (contents.Profile n) outer p rest h shown = absurd shown
+value-ends kinds.Whos (contents.Whos ws) outer p rest h shown = whos_end outer p ws rest h
+value-ends kinds.When (contents.When c) outer p rest h shown = port_ends outer p c rest h
 value-ends k v outer p rest h shown = absurd h

@@ -4,6 +4,7 @@ pub mod Results
 pub mod WordsOfValues
 pub mod ProfileNames
 pub mod Audits
+pub mod Entries
 pub mod Values
 pub mod Reading
 pub mod Canon

@@ -80,6 +80,19 @@ profile_of_text (Some t) = dataset_profile t
 abbrev pub dataset_named : List ℕ → List ℕ → Option Spelled
 dataset_named issuer w = profile_of_text (dataset_text issuer w)
 
+-- The profile of any class that a word names: in DATASET as a data set's profile.
+abbrev pub named_by_form : List ℕ → NameForm → List ℕ → Option Spelled
+named_by_form issuer forms.DataSet w = dataset_named issuer w
+named_by_form issuer form w = profile_in form (map upper w)
+
+abbrev pub any_named : List ℕ → Option (List ℕ) → List ℕ → Option Spelled
+any_named issuer None w = None
+any_named issuer (Some class) w = named_by_form issuer (form_in class) w
+
+abbrev pub any_profile : Option (List ℕ) → List ℕ → Option Spelled
+any_profile None t = None
+any_profile (Some class) t = profile_in (form_in class) t
+
 -- a name that begins with a quote and that no other quote closes
 abbrev pub is_unclosed : List ℕ → Bool
 is_unclosed [] = false

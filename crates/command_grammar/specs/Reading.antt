@@ -1,5 +1,5 @@
 -- How a text is read: the command, its positional words, its operands.
-use Rattle.std.specs.Prelude.{ℕ, List, [], ◌∷◌, ◌++◌, Bool, true, false, ◌&&◌, not, ◌==◌, nat_lt, nat_eq, length, map, bytes_eq, slice_set, replicate, count_by, position, find, if◌then◌else◌, is_some, is_ok, Option, None, Some, Result, Ok, Err}
+use Rattle.std.specs.Prelude.{ℕ, List, [], ◌∷◌, ◌++◌, Bool, true, false, ◌&&◌, ◌||◌, not, codes, ◌==◌, nat_lt, nat_eq, length, map, bytes_eq, slice_set, replicate, count_by, position, find, if◌then◌else◌, is_some, is_ok, Option, None, Some, Result, Ok, Err}
 use Rattle.std.specs.List.{starts_with, slice_index_or}
 use Rattle.std.specs.Option.{option_map}
 use Rattle.command_words.specs.declared.quoting.Quoting.TheVariants.{Ignored}
@@ -23,8 +23,12 @@ use Rattle.command_grammar.specs.declared.values.Context.{Context}
 use Rattle.command_grammar.specs.declared.values.Scope.{Scope}
 use Rattle.command_grammar.specs.declared.values.Known.{Known}
 use Rattle.command_grammar.specs.WordsOfValues.{clean, held, unless_stray}
-use Rattle.command_grammar.specs.ProfileNames.{is_unclosed}
+use Rattle.command_grammar.specs.ProfileNames.{is_unclosed, any_named}
 use Rattle.command_grammar.specs.Values.{value, one, bare}
+use Rattle.command_grammar.specs.declared.profile_table.TheConstants.{PERMIT_CLASS, PERMIT_RESET, PERMIT_ID, PERMIT_ACCESS, PERMIT_DELETE, PERMIT_WHEN, PERMIT_GENERIC}
+use Rattle.generic_names.specs.Spelled.{Spelled}
+use Rattle.generic_names.specs.Covers.{is_generic}
+use Rattle.access_levels.specs.declared.levels.Level.TheVariants.{Read}
 
 -- A word names the operand that it spells; else the only one that it is the beginning of.
 abbrev pub is_spelling : List ℕ → Operand → Bool
@@ -154,13 +158,44 @@ abbrev pub cleared : Option ℕ → Slots → Slots
 cleared None slots = slots
 cleared (Some k) slots = slice_set slots k None
 
+-- Whether the profile's name is judged when the whole text was read, by the class that an operand names: in PERMIT.
+abbrev pub is_late_kind : Kind → Bool
+is_late_kind kinds.AnyProfile = true
+is_late_kind k = false
+
+abbrev pub is_late : List Position → Bool
+is_late [] = false
+is_late (pos ∷ more) = is_late_kind pos.kind
+
+-- PERMIT's class is DATASET where none is named, and ID without ACCESS and DELETE means ACCESS(READ).
+abbrev pub with_class : Slots → Slots
+with_class slots = if is_given slots PERMIT_CLASS then slots else slice_set slots PERMIT_CLASS (Some (contents.Id (codes "DATASET")))
+
+abbrev pub means_read : Slots → Bool
+means_read slots = is_given slots PERMIT_ID && not (is_given slots PERMIT_ACCESS || is_given slots PERMIT_DELETE)
+
+abbrev pub with_access : Slots → Slots
+with_access slots = if means_read slots then slice_set slots PERMIT_ACCESS (Some (contents.Level Read)) else slots
+
 -- the operands with the defaults that the canonical text writes
 abbrev pub completed : Verb → Slots → Slots
-completed v slots = cleared (generic_place (operands_of v)) slots
+completed v slots =
+    if is_late (positions_of v) then with_access (with_class (cleared (generic_place (operands_of v)) slots))
+    else cleared (generic_place (operands_of v)) slots
 
--- what is judged when the whole text was read
+-- PERMIT needs ID or RESET, and ACCESS, DELETE and WHEN need ID.
+abbrev pub needs_id : Slots → Bool
+needs_id slots = is_given slots PERMIT_ACCESS || is_given slots PERMIT_DELETE || is_given slots PERMIT_WHEN
+
+abbrev pub lacks_id : Slots → Bool
+lacks_id slots = not (is_given slots PERMIT_ID || (is_given slots PERMIT_RESET && not (needs_id slots)))
+
+abbrev pub missing : Verb → Slots → Bool
+missing v slots = is_late (positions_of v) && lacks_id slots
+
+-- What is judged when the whole text was read: the operands that lack, and then those that exclude one another.
 abbrev pub closed : Verb → Slots → Result Slots Syntax
-closed v slots = unless_clash (clash (given (operands_of v) (completed v slots))) (completed v slots)
+closed v slots = if missing v slots then Err (faults.Missing words.Id) else unless_clash (clash (given (operands_of v) (completed v slots))) (completed v slots)
 
 -- A command as the table sees it: its positional words, and a slot for each row of its operands.
 pub record Generic : Type 0 where
@@ -171,12 +206,57 @@ pub record Generic : Type 0 where
 abbrev pub no_slots : List Operand → Slots
 no_slots rows = replicate (length rows) None
 
-abbrev pub body_at : Scope → Verb → List Token → Result Generic Syntax
-body_at at v ts =
+abbrev pub plain_at : Scope → Verb → List Token → Result Generic Syntax
+plain_at at v ts =
     positions_at at (operands_of v) (positions_of v) [] ts >>= λ x.
     operands_at x.1 (operands_of v) (no_slots (operands_of v)) (items x.2) >>= λ slots.
     closed v slots >>= λ slots.
     Ok (record { verb = v; positions = x.0; slots = slots })
+
+-- PERMIT: the class that was named, and GENERIC's place where it was given
+abbrev pub class_of_slot : Option Content → Option (List ℕ)
+class_of_slot None = Some (codes "DATASET")
+class_of_slot (Some (contents.Id class)) = Some class
+class_of_slot (Some v) = None
+
+abbrev pub class_in : Slots → Option (List ℕ)
+class_in slots = class_of_slot (slice_index_or slots PERMIT_CLASS None)
+
+abbrev pub mark_of_slot : Option Content → Option ℕ
+mark_of_slot (Some (contents.Generic p)) = Some p
+mark_of_slot s = None
+
+abbrev pub mark_in : Slots → Option ℕ
+mark_in slots = mark_of_slot (slice_index_or slots PERMIT_GENERIC None)
+
+abbrev pub unless_mark : Spelled → Option ℕ → Slots → Result Slots Syntax
+unless_mark n None slots = Ok slots
+unless_mark n (Some p) slots = if is_generic n then Ok slots else Err (faults.BadValue p)
+
+abbrev pub late_position : Position
+late_position = record { word = words.Profile; kind = kinds.AnyProfile }
+
+-- the word of the profile's name, its place, and the tokens behind it
+abbrev pub late_word : List Operand → List Token → Result (ℕ × List ℕ × List Token) Syntax
+late_word rows ts = placed rows late_position ts >>= λ x. unless_stray x.0.2 (x.0.0, x.0.1, x.1)
+
+abbrev pub late_name : Scope → Slots → ℕ → List ℕ → Result Spelled Syntax
+late_name at slots p w = or_fault (any_named at.issuer (class_in slots) w) (faults.BadValue p)
+
+abbrev pub late_closed : Spelled → Verb → Slots → Result Slots Syntax
+late_closed n v slots = unless_mark n (mark_in slots) slots >>= λ slots. closed v slots
+
+-- The name, then GENERIC, then the other operands are judged when the whole text was read.
+abbrev pub late_at : Scope → Verb → List Token → Result Generic Syntax
+late_at at v ts =
+    late_word (operands_of v) ts >>= λ x.
+    operands_at at (operands_of v) (no_slots (operands_of v)) (items x.2) >>= λ slots.
+    late_name at slots x.0 x.1 >>= λ n.
+    late_closed n v slots >>= λ slots.
+    Ok (record { verb = v; positions = contents.Profile n ∷ []; slots = slots })
+
+abbrev pub body_at : Scope → Verb → List Token → Result Generic Syntax
+body_at at v ts = if is_late (positions_of v) then late_at at v ts else plain_at at v ts
 
 -- whether the first positional word may be a name in quotes
 abbrev pub begins_with_name : List Position → Bool

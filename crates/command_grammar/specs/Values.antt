@@ -22,9 +22,12 @@ use Rattle.command_grammar.specs.declared.values.Reset.TheVariants as resets
 use Rattle.command_grammar.specs.declared.values.TheConstants.{RESETS}
 use Rattle.command_grammar.specs.declared.values.Scope.{Scope}
 use Rattle.command_grammar.specs.Results.{◌>>=◌, or_fault}
-use Rattle.command_grammar.specs.WordsOfValues.{clean, word_of, held, unless_stray}
+use Rattle.command_grammar.specs.WordsOfValues.{clean, word_of, stray, held, unless_stray}
 use Rattle.command_grammar.specs.ProfileNames.{dataset_named, class_profile, profile_text}
 use Rattle.command_grammar.specs.Audits.{audit_rule, audit_text}
+use Rattle.command_grammar.specs.Entries.{whos_text, port, port_text}
+use Rattle.access_levels.specs.declared.entries.Who.{Who}
+use Rattle.access_levels.specs.declared.entries.Who.TheVariants.{Star, Named}
 
 -- The text between quotes, of which `front` was read, where the word ends with its closing quote. A quote written twice
 -- stands for one.
@@ -103,6 +106,15 @@ abbrev pub several : Kind → ℕ → List Item → Result Content Syntax
 several k p [] = Err (faults.BadValue p)
 several k p (i ∷ is) = names k [] (i ∷ is) >>= λ xs. Ok (contents.Ids xs)
 
+-- Users and groups; `*` stands alone.
+abbrev pub star_or : Bool → Item → List Item → Result (List Who) Syntax
+star_or true i is = unless_stray (stray Ignored is) (Star ∷ [])
+star_or false i is = names kinds.Ids [] (i ∷ is) >>= λ xs. Ok (map Named xs)
+
+abbrev pub whos : ℕ → List Item → Result (List Who) Syntax
+whos p [] = Err (faults.BadValue p)
+whos p (i ∷ is) = word_of Ignored i >>= λ w. star_or (bytes_eq w.1 (codes "*")) i is
+
 -- The value that stands in the parentheses behind an operand at place p.
 abbrev pub value : Scope → Kind → ℕ → List Item → Result Content Syntax
 value at kinds.Ids p is = several kinds.Ids p is
@@ -115,6 +127,8 @@ value at kinds.Name p is = single at kinds.Name p is
 value at kinds.Level p is = single at kinds.Level p is
 value at kinds.Reset p is = single at kinds.Reset p is
 value at kinds.Audit p is = audit_rule p is >>= λ rule. Ok (contents.Audit rule)
+value at kinds.Whos p is = whos p is >>= λ ws. Ok (contents.Whos ws)
+value at kinds.When p is = port p is >>= λ c. Ok (contents.When c)
 value at k p is = Err (faults.BadValue p)
 
 -- GENERIC stands with a generic name alone; where the name isn't known yet it is judged later, at its place.
@@ -149,8 +163,8 @@ text_of (contents.Level l) = level_name l
 text_of (contents.Audit rule) = audit_text rule
 text_of (contents.Profile n) = profile_text n
 text_of (contents.Reset r) = reset_name r
-text_of (contents.Whos ws) = []
-text_of (contents.When c) = []
+text_of (contents.Whos ws) = whos_text ws
+text_of (contents.When c) = port_text c
 text_of (contents.Members ms) = []
 text_of (contents.MemberNames ns) = []
 text_of (contents.Generic p) = []

@@ -76,33 +76,24 @@ fn so_far(rule: Option<AuditRule>) -> AuditRule
 {
     match rule {
         Some(rule) => rule,
-        None => AuditRule {
-            success: None,
-            failures: None,
-        },
+        None => logged(None, None),
     }
+}
+
+fn logged(success: Option<Level>, failures: Option<Level>) -> AuditRule
+    ensures { result ≡ record { success = success; failures = failures } }
+{
+    AuditRule { success, failures }
 }
 
 fn with_word(rule: AuditRule, word: AuditWord, level: Level) -> AuditRule
     ensures { result ≡ rule_with rule word level }
 {
     match word {
-        AuditWord::All => AuditRule {
-            success: Some(level),
-            failures: Some(level),
-        },
-        AuditWord::Success => AuditRule {
-            success: Some(level),
-            failures: rule.failures,
-        },
-        AuditWord::Failures => AuditRule {
-            success: rule.success,
-            failures: Some(level),
-        },
-        AuditWord::Nothing => AuditRule {
-            success: None,
-            failures: None,
-        },
+        AuditWord::All => logged(Some(level), Some(level)),
+        AuditWord::Success => logged(Some(level), rule.failures),
+        AuditWord::Failures => logged(rule.success, Some(level)),
+        AuditWord::Nothing => logged(None, None),
     }
 }
 

@@ -3,6 +3,8 @@
 #![tactic(auto)]
 
 mod audits;
+mod closing;
+mod entries;
 mod faults;
 pub mod laws;
 mod operands;

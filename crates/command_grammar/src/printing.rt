@@ -4,6 +4,7 @@ ghost use Rattle.std.specs.Prelude.{◌≡◌, ◌++◌, ◌∷◌, [], OnOk, If
 ghost use Rattle.command_words.specs.Quotes.{doubled};
 ghost use Rattle.command_grammar.specs.ProfileNames.{profile_text};
 ghost use Rattle.command_grammar.specs.Audits.{half_text, audit_text};
+ghost use Rattle.command_grammar.specs.Entries.{who_text, whos_text, port_text};
 ghost use Rattle.command_grammar.specs.Values.{ids_text, text_of};
 ghost use Rattle.command_grammar.specs.Canon.{value_text, positions_text, operands_text, canon};
 ghost use Rattle.command_grammar.specs.Parts.{generic};
@@ -12,7 +13,7 @@ ghost use Rattle.command_grammar.specs.Words.{spelling_of};
 use crate::reading::Parts;
 use crate::table::Operand;
 use crate::values::Content;
-use access_levels::{Id, Level, Text};
+use access_levels::{Condition, Id, Level, Text, Who};
 use generic_names::{NameKind, Pattern};
 use racf_profiles::AuditRule;
 use std::alloc::{AllocError, Global};
@@ -95,6 +96,40 @@ fn push_audit(out: &mut Vec<u8>, rule: AuditRule) -> Result<(), AllocError>
     }
 }
 
+fn push_who(out: &mut Vec<u8>, who: Who) -> Result<(), AllocError>
+    ensures { OnOk result (out.new.items ≡ out.old.items ++ who_text who) }
+{
+    match who {
+        Who::Star => Ok(out.push(b'*')?),
+        Who::Named(id) => out.extend_from_slice(id.text()),
+    }
+}
+
+// Users and groups parted by one blank.
+fn push_whos(out: &mut Vec<u8>, whos: &[Who]) -> Result<(), AllocError>
+    ensures { OnOk result (out.new.items ≡ out.old.items ++ whos_text whos.now) }
+{
+    let Some((first, rest)) = whos.split_first() else {
+        return Ok(());
+    };
+    push_who(out, *first)?;
+    for who in rest {
+        out.push(b' ')?;
+        push_who(out, *who)?;
+    }
+    Ok(())
+}
+
+fn push_port(out: &mut Vec<u8>, port: &Condition) -> Result<(), AllocError>
+    ensures { OnOk result (out.new.items ≡ out.old.items ++ port_text port.now) }
+{
+    out.extend_from_slice(port.class.name())?;
+    out.push(b'(')?;
+    out.extend_from_slice(port.name.text())?;
+    out.push(b')')?;
+    Ok(())
+}
+
 fn push_content(out: &mut Vec<u8>, content: &Content) -> Result<(), AllocError>
     ensures { OnOk result (out.new.items ≡ out.old.items ++ text_of content.now) }
 {
@@ -108,6 +143,8 @@ fn push_content(out: &mut Vec<u8>, content: &Content) -> Result<(), AllocError>
         Content::Audit(rule) => push_audit(out, *rule),
         Content::Profile(name) => push_profile(out, name),
         Content::Reset(reset) => out.extend_from_slice(reset.name()),
+        Content::Whos(whos) => push_whos(out, &whos.items),
+        Content::When(condition) => push_port(out, condition),
         _ => Ok(()),
     }
 }

@@ -4,7 +4,7 @@ ghost use Rattle.std.specs.Prelude.{◌≡◌, ◌==◌, ◌++◌, ◌∷◌, �
 ghost use Rattle.std.specs.List.{list_any};
 ghost use Rattle.access_levels.specs.Spelling.{id_of};
 ghost use Rattle.command_words.specs.Bytes.{upper};
-ghost use Rattle.command_grammar.specs.ProfileNames.{first_qualifier as qualifier_first, dataset_profile as profile_of_dataset, general_profile as profile_general, if_label, is_level_or_category as names_level_or_category, profile_in as profile_by_form, form_in as names_in, general_form as form_general, class_profile as profile_of_class, in_quotes as text_in_quotes, dataset_text as text_of_dataset, dataset_named as dataset_by_word, is_unclosed as begins_unclosed};
+ghost use Rattle.command_grammar.specs.ProfileNames.{first_qualifier as qualifier_first, dataset_profile as profile_of_dataset, general_profile as profile_general, if_label, is_level_or_category as names_level_or_category, profile_in as profile_by_form, form_in as names_in, general_form as form_general, class_profile as profile_of_class, in_quotes as text_in_quotes, dataset_text as text_of_dataset, dataset_named as dataset_by_word, is_unclosed as begins_unclosed, named_by_form as profile_by_word, any_named as profile_of_any};
 
 use access_levels::Id;
 use command_words::folded;
@@ -206,6 +206,37 @@ pub fn dataset_named(alloc: Global, issuer: Id, word: &[u8]) -> Result<Option<Pa
 {
     match dataset_text(alloc, issuer, word)? {
         Some(text) => Ok(dataset_profile(&text)),
+        None => Ok(None),
+    }
+}
+
+// The profile of a class with names of this form.
+fn named_by_form(
+    alloc: Global,
+    issuer: Id,
+    form: NameForm,
+    word: &[u8],
+) -> Result<Option<Pattern>, AllocError>
+    ensures { IfOk result (λ name. name ≡ profile_by_word issuer form word.now) }
+{
+    if let NameForm::DataSet = form {
+        return dataset_named(alloc, issuer, word);
+    }
+    let text = folded_word(alloc, word)?;
+    Ok(profile_in(form, &text))
+}
+
+/// The profile of any class that a word names, a data set's in DATASET, where its class is known.
+pub fn any_named(
+    alloc: Global,
+    issuer: Id,
+    class: Option<Id>,
+    word: &[u8],
+) -> Result<Option<Pattern>, AllocError>
+    ensures { IfOk result (λ name. name ≡ profile_of_any issuer class word.now) }
+{
+    match class {
+        Some(class) => named_by_form(alloc, issuer, form_in(class), word),
         None => Ok(None),
     }
 }

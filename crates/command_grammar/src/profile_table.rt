@@ -314,3 +314,24 @@ pub const PERMIT_OPERANDS: [Operand; 7] = [
         pair: 0,
     },
 ];
+
+/// The place of CLASS among PERMIT's operands.
+pub const PERMIT_CLASS: usize = 0;
+
+/// The place of RESET.
+pub const PERMIT_RESET: usize = 1;
+
+/// The place of ID.
+pub const PERMIT_ID: usize = 2;
+
+/// The place of ACCESS.
+pub const PERMIT_ACCESS: usize = 3;
+
+/// The place of DELETE.
+pub const PERMIT_DELETE: usize = 4;
+
+/// The place of WHEN.
+pub const PERMIT_WHEN: usize = 5;
+
+/// The place of GENERIC.
+pub const PERMIT_GENERIC: usize = 6;

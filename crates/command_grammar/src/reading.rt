@@ -1,21 +1,24 @@
 //! The reading of a whole text: the command's name, its positional words, its operands.
 
-ghost use Rattle.std.specs.Prelude.{◌≡◌, ◌+◌, ◌<◌, ◌≤◌, ◌^◌, [], length, map, find, bytes_eq, if◌then◌else◌, IfSome};
+ghost use Rattle.std.specs.Prelude.{◌≡◌, ◌+◌, ◌<◌, ◌≤◌, ◌^◌, [], length, map, find, bytes_eq, if◌then◌else◌};
 ghost use Rattle.command_words.specs.Bytes.{upper};
 ghost use Rattle.command_words.specs.Tokens.{tokens, of_command, of_naming_command};
-ghost use Rattle.command_grammar.specs.Table.{verb_named as verb_called, positions_of, operands_of};
+ghost use Rattle.command_grammar.specs.Table.{verb_named as verb_called, positions_of};
 ghost use Rattle.command_grammar.specs.Results.{Gives, Finds};
-ghost use Rattle.command_grammar.specs.Reading.{takes_quotes as may_be_quoted, bounded as bounded_in, placed as placed_in, position_at, behind as scope_behind, positions_at, given, excludes, clash as clash_of, unless_clash, is_generic_kind, generic_place as place_of_generic, completed, body_at, begins_with_name as may_begin_quoted, behind_first as rest_behind, begun as scope_begun, command_at, parsed};
+ghost use Rattle.command_grammar.specs.Reading.{takes_quotes as may_be_quoted, bounded as bounded_in, placed as placed_in, position_at, behind as scope_behind, positions_at, late_word as late_word_in, late_name as late_name_in, plain_at, late_at, body_at, begins_with_name as may_begin_quoted, behind_first as rest_behind, begun as scope_begun, command_at, parsed};
 ghost use Rattle.command_grammar.specs.Parts.{generic};
 
+use crate::closing::{class_in, closed, is_late, late_closed};
 use crate::faults::{ParseFault, Syntax};
 use crate::operands::{named, operands};
-use crate::profile_names::is_unclosed;
+use crate::profile_names::{any_named, is_unclosed};
 use crate::table::{Kind, Operand, Position, VERBS, Verb};
 use crate::value::one;
 use crate::value_words::{clean, held};
 use crate::values::{Content, Context, Known, Scope};
+use crate::words::Word;
 use command_words::{Piece, Quoting, Tokens, is_spelled};
+use generic_names::Pattern;
 use std::alloc::Global;
 
 /// The longest text of a command, and the longest canonical text, in bytes.
@@ -152,85 +155,80 @@ fn positions<'a>(
     Ok((found, scope, left))
 }
 
-// The first operand that was given and that this one excludes.
-fn partner(row: Operand, rows: &[Operand], slots: &[Option<Content>]) -> Option<Operand>
-    ensures { result ≡ find (excludes row) (given rows.now slots.now) }
+// What follows the command's name, where the name is judged at once.
+fn plain(alloc: Global, at: Scope, verb: Verb, text: Tokens<'_>) -> Result<Parts, ParseFault>
+    ensures { Gives generic result (plain_at at verb (tokens text.entry)) }
 {
-    let (mut rows, mut slots) = (rows, slots);
-    while let (Some((other, more_rows)), Some((slot, more_slots))) = (
-        rows.split_first(),
-        slots.split_first(),
-    ) {
-        if slot.is_some() && row.pair != 0 && row.pair == other.pair {
-            return Some(*other);
-        }
-        rows = more_rows;
-        slots = more_slots;
-    }
-    None
+    let rows = verb.operands();
+    let (positions, at, rest) = positions(alloc, at, rows, verb.positions(), text)?;
+    let slots = operands(alloc, &at, rows, rest)?;
+    let slots = closed(verb, slots)?;
+    Ok(Parts {
+        verb,
+        positions,
+        slots,
+    })
 }
 
-// The first pair of operands that exclude one another.
-fn clash(rows: &[Operand], slots: &[Option<Content>]) -> Option<(Operand, Operand)>
-    ensures { result ≡ clash_of (given rows.now slots.now) }
+// The word of a profile's name that is judged later, with its place, and the text behind it.
+fn late_word<'a>(
+    rows: &[Operand],
+    text: &Tokens<'a>,
+) -> Result<(u32, &'a [u8], Tokens<'a>), Syntax>
+    ensures { Finds (λ x. (x.0, x.1.now, tokens x.2)) result (late_word_in rows.now (tokens text.now)) }
 {
-    let (mut rows, mut slots) = (rows, slots);
-    while let (Some((row, more_rows)), Some((slot, more_slots))) = (
-        rows.split_first(),
-        slots.split_first(),
-    ) {
-        if slot.is_some() {
-            if let Some(other) = partner(*row, more_rows, more_slots) {
-                return Some((*row, other));
-            }
-        }
-        rows = more_rows;
-        slots = more_slots;
-    }
-    None
-}
-
-fn is_generic_kind(kind: Kind) -> bool
-    ensures { result ≡ is_generic_kind kind }
-{
-    match kind {
-        Kind::Generic => true,
-        _ => false,
+    let wanted = Position {
+        word: Word::Profile,
+        kind: Kind::AnyProfile,
+    };
+    let ((place, word, stray), rest) = placed(rows, wanted, text)?;
+    match stray {
+        Some(place) => Err(Syntax::BadValue(place)),
+        None => Ok((place, word, rest)),
     }
 }
 
-fn generic_place(rows: &[Operand]) -> Option<usize>
-    ensures value { result ≡ place_of_generic rows.now }
-    ensures within { IfSome result (λ k. k < length rows.now) }
+// The profile of the class that the operands name.
+fn late_name(
+    alloc: Global,
+    at: &Scope,
+    slots: &[Option<Content>],
+    place: u32,
+    word: &[u8],
+) -> Result<Pattern, ParseFault>
+    ensures { Gives (λ n. n) result (late_name_in at.now slots.now place word.now) }
 {
-    rows.iter().position(|row| is_generic_kind(row.kind))
+    let class = class_in(slots);
+    let name = any_named(alloc, at.issuer, class, word)?;
+    Ok(name.ok_or(Syntax::BadValue(place))?)
 }
 
-// The operands with the defaults that are written, and without GENERIC.
-fn complete(verb: Verb, slots: &mut Vec<Option<Content>>)
-    requires { length slots.old.items ≡ length (operands_of verb) }
-    ensures { slots.new.items ≡ completed verb slots.old.items }
+// What follows the command's name, where the profile's name is judged when the whole text was read.
+fn late(alloc: Global, at: Scope, verb: Verb, text: Tokens<'_>) -> Result<Parts, ParseFault>
+    ensures { Gives generic result (late_at at verb (tokens text.entry)) }
 {
-    if let Some(k) = generic_place(verb.operands()) {
-        slots[k] = None;
-    }
+    let rows = verb.operands();
+    let (place, word, rest) = late_word(rows, &text)?;
+    let slots = operands(alloc, &at, rows, rest)?;
+    let name = late_name(alloc, &at, &slots, place, word)?;
+    let slots = late_closed(&name, verb, slots)?;
+    let mut positions = Vec::with_capacity(alloc, 1)?;
+    positions.push(Content::Profile(name))?;
+    Ok(Parts {
+        verb,
+        positions,
+        slots,
+    })
 }
 
 // What follows the command's name.
 fn body(alloc: Global, at: Scope, verb: Verb, text: Tokens<'_>) -> Result<Parts, ParseFault>
     ensures { Gives generic result (body_at at verb (tokens text.entry)) }
 {
-    let rows = verb.operands();
-    let (positions, at, rest) = positions(alloc, at, rows, verb.positions(), text)?;
-    let mut slots = operands(alloc, &at, rows, rest)?;
-    complete(verb, &mut slots);
-    match clash(rows, &slots) {
-        Some((one, other)) => Err(ParseFault::Syntax(Syntax::Excluded(one.word, other.word))),
-        None => Ok(Parts {
-            verb,
-            positions,
-            slots,
-        }),
+    if is_late(verb) {
+        late(alloc, at, verb, text)
+    } else {
+        plain(alloc, at, verb, text)
     }
 }
 

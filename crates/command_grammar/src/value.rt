@@ -12,6 +12,7 @@ ghost use Rattle.command_grammar.specs.Results.{Gives, Finds};
 ghost use Rattle.command_grammar.specs.Values.{unless_dataset, name_of as name_in, name_text, is_name as names_user, is_printable, unquoted as text_between, reset_of, one as one_of, quotes_of as quoting_of, single as single_of, names as names_of, several as several_of, value as value_of, generic_at as generic_in, bare as bare_of};
 
 use crate::audits::audit_rule;
+use crate::entries::{port, whos};
 use crate::faults::{ParseFault, Syntax};
 use crate::profile_names::{class_profile, dataset_named};
 use crate::table::Kind;
@@ -22,7 +23,8 @@ use command_words::{Quoting, ShortWord, Tokens, is_spelled};
 use generic_names::Pattern;
 use std::alloc::{AllocError, Global};
 
-fn id_named(word: &[u8]) -> Option<Id>
+/// The name with an ID's spelling that a word is.
+pub fn id_named(word: &[u8]) -> Option<Id>
     ensures { result ≡ result_ok (id_of (map upper word.now)) }
 {
     let short = ShortWord::of(word)?;
@@ -223,8 +225,8 @@ pub fn single(
     }
 }
 
-// The names of a list.
-fn names(alloc: Global, kind: Kind, inner: Tokens<'_>) -> Result<Ids, ParseFault>
+/// The names of a list.
+pub fn names(alloc: Global, kind: Kind, inner: Tokens<'_>) -> Result<Ids, ParseFault>
     ensures { Gives (λ xs. xs) result (names_of kind [] (items (tokens inner.entry))) }
 {
     let mut ids = Vec::new(alloc);
@@ -269,6 +271,8 @@ pub fn value(
         Kind::Level => single(alloc, at, kind, place, inner),
         Kind::Reset => single(alloc, at, kind, place, inner),
         Kind::Audit => Ok(Content::Audit(audit_rule(place, inner)?)),
+        Kind::Whos => Ok(Content::Whos(whos(alloc, place, inner)?)),
+        Kind::When => Ok(Content::When(port(place, inner)?)),
         _ => Err(ParseFault::Syntax(Syntax::BadValue(place))),
     }
 }

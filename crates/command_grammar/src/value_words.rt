@@ -45,8 +45,8 @@ pub fn word_of<'a>(quoting: Quoting, item: Item<'a>) -> Result<(u32, &'a [u8]), 
     }
 }
 
-// The place of what stands behind a value of one word.
-fn stray(quoting: Quoting, rest: &Tokens<'_>) -> Option<u32>
+/// The place of what stands behind a value of one word.
+pub fn stray(quoting: Quoting, rest: &Tokens<'_>) -> Option<u32>
     ensures { result ≡ stray_in quoting (items (tokens rest.now)) }
 {
     let (item, _) = rest.split_item()?;

@@ -1,6 +1,8 @@
 -- A command is read back from the table's view of it, and what fits the table is the view of a command.
-use Rattle.std.proofs.Common.{◌≡◌, ℕ, List, [], ◌∷◌, Bool, true, false, Option, None, Some, refl, sym, ap, subst, ◌∙◌}
+use Rattle.std.proofs.Common.{◌≡◌, ℕ, List, [], ◌∷◌, Bool, true, false, cond, Option, None, Some, refl, sym, ap, subst, ◌∙◌}
+use Rattle.std.specs.Prelude.{slice_set, codes}
 use Rattle.std.specs.Option.{option_map}
+use Rattle.access_levels.specs.declared.levels.Level.TheVariants.{Read}
 use Rattle.access_levels.specs.declared.authorities.GroupAuthority.{GroupAuthority}
 use Rattle.access_levels.specs.declared.levels.Level.{Level}
 use Rattle.access_levels.specs.declared.entries.Who.{Who}
@@ -20,7 +22,7 @@ use Rattle.command_grammar.specs.declared.values.Content.TheVariants as contents
 use Rattle.command_grammar.specs.declared.values.Reset.{Reset}
 use Rattle.command_parser.specs.declared.forms.Form.{Form}
 use Rattle.command_parser.specs.declared.forms.Form.TheVariants as forms
-use Rattle.command_grammar.specs.Reading.{Generic, Slots}
+use Rattle.command_grammar.specs.Reading.{Generic, Slots, means_read, completed}
 use Rattle.command_grammar.specs.Lawful.{Fits, FitsAll, FitsPositions, IsLawful}
 use Rattle.command_grammar.specs.Table.{positions_of, operands_of}
 use Rattle.command_parser.specs.Slots.{flag_slot, id_slot, authority_slot, name_slot, ids_slot, level_slot, audit_slot, reset_slot, whos_slot, when_slot, members_slot, member_names_slot}
@@ -313,20 +315,28 @@ formed_by verbs.Permit words slots at fits names =
     let class = class_given slots names.0 names.1 fits in
     viewed verbs.Permit words (contents.Profile w.0 ∷ []) slots w.1 (permit_viewed w.0 class.0 slots class.1 fits)
 
--- until PERMIT's name is read, no word fits where it stands
-no_permit : (words : List Content) → FitsPositions PERMIT_POSITION words → ⊥
-no_permit [] h = h
-no_permit (v ∷ vs) h = h.0
+-- PERMIT's class is filled in where it isn't named
+first_some : (c : Bool) (v : Content) (xs ys zs : Slots) → cond c (Some v ∷ xs) (Some v ∷ ys) ≡ None ∷ zs → ⊥
+first_some true v xs ys zs h = cc
+first_some false v xs ys zs h = cc
 
-names_class : (v : Verb) (words : List Content) (slots : Slots) → FitsPositions (positions_of v) words → NamesClass v slots
+class_filled : (slots : Slots) → FitsAll (operands_of verbs.Permit) slots → completed verbs.Permit slots ≡ slots → (v : Content) × (front slots ≡ Some v)
+unfolding front
+class_filled [] fits whole = absurd fits
+class_filled (Some v ∷ ss) fits whole = (v, refl)
+class_filled (None ∷ ss) fits whole =
+    let named : Slots = Some (contents.Id (codes "DATASET")) ∷ slice_set ss 5 None in
+    absurd (first_some (means_read named) (contents.Id (codes "DATASET")) (slice_set (slice_set ss 5 None) 2 (Some (contents.Level Read))) (slice_set ss 5 None) ss whole)
+
+names_class : (v : Verb) (slots : Slots) → FitsAll (operands_of v) slots → completed v slots ≡ slots → NamesClass v slots
 unfolding NamesClass
-names_class verbs.Permit words slots at = absurd (no_permit words at)
-names_class v words slots at = tt
+names_class verbs.Permit slots fits whole = class_filled slots fits whole
+names_class v slots fits whole = tt
 
 -- what a text can spell is the view of a command
 pub formed : (g : Generic) → IsLawful g → (c : Form) × (form_of g ≡ Some c) × (generic_form c ≡ g)
 unfolding form_of
-formed g h = let v = formed_by g.verb g.positions g.slots h.fits_positions h.fits_operands (names_class g.verb g.positions g.slots h.fits_positions) in (v.form, v.read, v.view)
+formed g h = let v = formed_by g.verb g.positions g.slots h.fits_positions h.fits_operands (names_class g.verb g.slots h.fits_operands h.complete) in (v.form, v.read, v.view)
 
 pub no_form : (g : Generic) → IsLawful g → form_of g ≡ None → ⊥
 no_form g h none = let v = formed g h in let is : form_of g ≡ Some v.0 = v.1 in cc

@@ -9,7 +9,7 @@ use Rattle.command_words.specs.declared.quoting.Quoting.{Quoting}
 use Rattle.command_words.specs.declared.quoting.Quoting.TheVariants.{Ignored, Outside, Inside, AtName, InName}
 use Rattle.command_words.specs.Quotes.{after, next_word, word_len, doubled}
 use Rattle.command_words.specs.Tokens.{Word, Group, within, group_end, tokens_from, word_then}
-use Rattle.command_words.proofs.Letters.{is_letter, letter-gap, letter-open, letter-close, letter-quote, both_first, both_second, IsSteady, EndsWord, word_len-letters}
+use Rattle.command_words.proofs.Letters.{is_letter, letter-gap, letter-open, letter-close, letter-quote, both_first, both_second, IsSteady, Ignored-steady, EndsWord, word_len-letters}
 use Rattle.command_words.proofs.Skips.{grouped-ok, worded-at}
 
 -- a word of letters, and what follows it
@@ -158,3 +158,19 @@ name_token tied p t rest h e =
     ∙ ap (λ v. Word p v ∷ tokens_from Ignored true 0 (p + 1 + (length t + 1)) (drop (length t + 1) (t ++ 39 ∷ rest))) whole
     ∙ ap (λ bs. Word p (39 ∷ (t ++ 39 ∷ [])) ∷ tokens_from Ignored true 0 (p + 1 + (length t + 1)) bs) left
     ∙ ap (λ n. Word p (39 ∷ (t ++ 39 ∷ [])) ∷ tokens_from Ignored true 0 n rest) next
+
+-- a word of letters where a name in quotes might stand
+pub bare_name_token : (tied : Bool) (p b : ℕ) (w rest : List ℕ) → list_all is_letter (b ∷ w) ≡ true → EndsWord rest
+    → tokens_from AtName tied 0 p (b ∷ (w ++ rest)) ≡ Word p (b ∷ w) ∷ tokens_from Ignored true 0 (p + length (b ∷ w)) rest
+bare_name_token tied p b w rest h e =
+    let letter : is_letter b ≡ true = both_first _ _ h in
+    let letters : list_all is_letter w ≡ true = both_second _ _ h in
+    let same : after AtName p b ≡ Ignored = rw (letter-quote b letter) refl in
+    let measured : length w ≡ word_len (after AtName p b) (p + 1) (w ++ rest) = rw same (sym (word_len-letters Ignored Ignored-steady (p + 1) w rest letters e)) in
+    let next : p + 1 + length w ≡ p + length (b ∷ w) = omega arith in
+    let whole : take (length w + 1) (b ∷ (w ++ rest)) ≡ b ∷ w = rw (add-one, take-append_seam) refl in
+    let first : tokens_from AtName tied 0 p (b ∷ (w ++ rest)) ≡ word_then AtName b p (w ++ rest) = rw (letter-gap b letter, letter-close b letter, letter-open b letter) refl in
+    first ∙ worded-at AtName b p (length w) (w ++ rest) measured
+    ∙ ap (λ v. Word p v ∷ tokens_from Ignored true 0 (p + 1 + length w) (drop (length w) (w ++ rest))) whole
+    ∙ ap (λ n. Word p (b ∷ w) ∷ tokens_from Ignored true 0 n (drop (length w) (w ++ rest))) next
+    ∙ ap (λ bs. Word p (b ∷ w) ∷ tokens_from Ignored true 0 (p + length (b ∷ w)) bs) (drop-append_seam w rest)

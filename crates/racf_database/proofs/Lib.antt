@@ -1,4 +1,5 @@
 mod CommandRows
+mod ProfileRows
 pub mod RowLaws
 pub mod Keyed
 pub mod Counts
@@ -9,3 +10,11 @@ pub mod GroupLaws
 pub mod Unmet
 pub mod StepLaws
 pub mod Ready
+pub mod IdNames
+pub mod Growth
+pub mod Places
+pub mod ListCounts
+pub mod ProfileReady
+pub mod ProfileCommands
+pub mod ProfileSteps
+pub mod EditLaws

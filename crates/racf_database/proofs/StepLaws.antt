@@ -15,6 +15,9 @@ use Rattle.command_parser.specs.declared.forms.Form.TheVariants as form
 use Rattle.racf_database.specs.Effects.{at_row, step, new_user, altered_user, new_group, altered_group, connected_user, removed_user, group_or_current}
 use Rattle.racf_database.specs.Edits.{edits_of, put_user, put_group}
 use Rattle.racf_database.specs.Conflicts.{conflict_of, add_user_conflicts, add_group_conflicts}
+use Rattle.racf_database.specs.ProfileEffects.{dataset, altered_data_set}
+use Rattle.racf_database.specs.PermitEffects.{permitted_profile}
+use Rattle.racf_database.proofs.ProfileSteps.{changed-put_changed, changed-r_define, changed-r_alter}
 use Rattle.racf_database.proofs.RowLaws.{put_row-at_row, put_row-new}
 use Rattle.racf_database.proofs.AfterLaws.{at_row-absent}
 use Rattle.racf_database.proofs.Unmet.{each_unmet, name_free}
@@ -63,3 +66,10 @@ changed-edits_of issuer (form.AltGroup c) rows h = changed-groups (altered_group
 changed-edits_of issuer (form.DelGroup c) rows h = refl
 changed-edits_of issuer (form.Connect c) rows h = changed-users (connected_user issuer c) (λ user. refl) c.user rows
 changed-edits_of issuer (form.Remove c) rows h = changed-users (removed_user issuer c) (λ user. refl) c.user rows
+changed-edits_of issuer (form.AddSd c) rows h = refl
+changed-edits_of issuer (form.AltSd c) rows h = changed-put_changed dataset c.profile (altered_data_set c rows) rows
+changed-edits_of issuer (form.DelSd c) rows h = refl
+changed-edits_of issuer (form.RDefine c) rows h = changed-r_define issuer c rows
+changed-edits_of issuer (form.RAlter c) rows h = changed-r_alter c rows
+changed-edits_of issuer (form.RDelete c) rows h = refl
+changed-edits_of issuer (form.Permit c) rows h = changed-put_changed c.class c.profile (permitted_profile c) rows

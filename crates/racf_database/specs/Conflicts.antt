@@ -1,16 +1,13 @@
 -- What a command conflicts with. Conflicts are judged on the rows before the command; LastSpecial, OwnerNotSuperior and
 -- Full alone speak of the rows after it.
 use Rattle.std.specs.Prelude.{ℕ, zero, suc, Bool, ◌&&◌, ◌||◌, not, ◌==◌, nat_lt, List, [], ◌∷◌, length, Option, None, Some, is_some, find, option_map, option_and_then, codes, bytes_eq, if◌then◌else◌}
-use Rattle.std.specs.List.{list_any, before_first}
+use Rattle.std.specs.List.{list_any}
 use Rattle.std.specs.Option.{option_map_or, option_eq}
-use Rattle.generic_names.specs.Spelled.{period}
 use Rattle.racf_profiles.specs.declared.users.User.{User}
 use Rattle.racf_profiles.specs.declared.groups.Group.{Group}
-use Rattle.racf_profiles.specs.declared.profiles.Profile.{Profile}
-use Rattle.racf_profiles.specs.declared.class_rows.ClassRow.{ClassRow}
 use Rattle.racf_profiles.specs.declared.rows.Rows.{Rows}
 use Rattle.racf_profiles.specs.declared.users.Connect.{Connect as Connection}
-use Rattle.racf_profiles.specs.Lookup.{user_of, group_of, class_of}
+use Rattle.racf_profiles.specs.Lookup.{user_of, group_of}
 use Rattle.group_tree.specs.Groups.{find_group, first_subgroup}
 use Rattle.racf_database.specs.declared.conflict.Conflict.{Conflict}
 use Rattle.racf_database.specs.declared.conflict.Conflict.TheVariants.{NoUser, NoGroup, NoClass, Exists, NotConnected, Root, InUse, Cycle, OwnerNotSuperior, DefaultGroup, LastSpecial, UnknownName, Full}
@@ -29,47 +26,14 @@ use Rattle.command_parser.specs.declared.forms.Connect.{Connect}
 use Rattle.command_parser.specs.declared.forms.Remove.{Remove}
 use Rattle.command_parser.specs.declared.forms.Form.{Form}
 use Rattle.command_parser.specs.declared.forms.Form.TheVariants as form
+use Rattle.class_profiles.specs.Classes.{first_under}
 use Rattle.racf_database.specs.Limits.{most_users, most_groups, most_connections, most_connections_in_all}
 use Rattle.racf_database.specs.Names.{is_taken, is_class_word, is_to, is_connected_to, connects_of, administrators, connections}
 use Rattle.racf_database.specs.Security.{level_number, is_category, category_number, is_label}
 use Rattle.racf_database.specs.Effects.{group_or_current, new_user, new_group, altered_group, connects_after, step}
-
--- The conflict, where it is met.
-abbrev pub if_met : Bool → Conflict → Option Conflict
-if_met met conflict = if met then Some conflict else None
-
--- ---- who and what has to be there
-unfoldable pub no_user : List ℕ → Rows → Option Conflict
-no_user id rows = if_met (not (is_some (user_of id rows))) (NoUser id)
-
-unfoldable pub no_group : List ℕ → Rows → Option Conflict
-no_group id rows = if_met (not (is_some (group_of id rows))) (NoGroup id)
-
--- OWNER names a user or a group.
-unfoldable pub no_owner : Option (List ℕ) → Rows → Option Conflict
-no_owner None rows = None
-no_owner (Some owner) rows = if_met (not (is_taken owner rows)) (NoUser owner)
-
--- DFLTGRP of ALTUSER, and SUPGROUP of ALTGROUP, name a group.
-unfoldable pub no_named_group : Option (List ℕ) → Rows → Option Conflict
-no_named_group None rows = None
-no_named_group (Some group) rows = no_group group rows
-
--- The first class of a list that isn't in the table.
-unfoldable pub no_class : List (List ℕ) → Rows → Option Conflict
-no_class classes rows = option_map NoClass (find (λ name. not (is_class_word rows name)) classes)
-
--- What is to be defined isn't there.
-unfoldable pub name_taken : List ℕ → Rows → Option Conflict
-name_taken id rows = if_met (is_taken id rows) (Exists (named.Id id))
-
-unfoldable pub not_connected : List ℕ → List ℕ → Rows → Option Conflict
-not_connected user group rows = if_met (not (list_any (is_to group) (connects_of user rows))) (NotConnected group)
-
--- ALTUSER: the new default group is one that the user is connected to.
-unfoldable pub default_not_connected : List ℕ → Option (List ℕ) → Rows → Option Conflict
-default_not_connected user None rows = None
-default_not_connected user (Some group) rows = not_connected user group rows
+use Rattle.racf_database.specs.ProfileConflicts.{add_sd_conflicts, alt_sd_conflicts, del_sd_conflicts, r_define_conflicts, r_alter_conflicts, r_delete_conflicts, permit_conflicts}
+unfoldable pub use Rattle.racf_database.specs.Required.{no_user, no_group, no_owner, no_named_group, no_class, name_taken, not_connected, default_not_connected, unknown_level, unknown_category, never_category, unknown_label}
+pub use Rattle.racf_database.specs.Required.{if_met, first_met, over}
 
 -- ---- what has to stay
 unfoldable pub is_root : List ℕ → Bool
@@ -83,12 +47,9 @@ has_subgroup id rows = option_map (λ subgroup. InUse (Subgroup subgroup)) (opti
 unfoldable pub has_connected : List ℕ → Rows → Option Conflict
 has_connected id rows = option_map (λ (user : User). InUse (Connected user.id)) (find (is_connected_to id) rows.users)
 
--- A user or a group whose ID is the first qualifier of a data set profile.
-abbrev pub begins_with : List ℕ → Profile → Bool
-begins_with id profile = bytes_eq (before_first (λ byte. byte == period) profile.name.text) id
-
+-- A user or a group whose ID is the first qualifier of a data set profile, the first in order of specificity.
 unfoldable pub has_profile : List ℕ → Rows → Option Conflict
-has_profile id rows = option_map (λ (profile : Profile). InUse (ProfileOf profile.name)) (option_and_then (λ (class : ClassRow). find (begins_with id) class.profiles) (class_of (codes "DATASET") rows))
+has_profile id rows = option_map (λ name. InUse (ProfileOf name)) (first_under id rows.classes)
 
 -- The groups that a walk up meets: the group itself, its superior group, and so on. No walk has more steps than there
 -- are groups.
@@ -126,26 +87,7 @@ default_group id group rows = option_and_then (λ (user : User). if_met (bytes_e
 unfoldable pub last_special : Issuer → Form → List ℕ → Rows → Option Conflict
 last_special issuer command id rows = if_met (administrators (step issuer command rows).users == 0) (LastSpecial id)
 
--- ---- levels, categories and labels
-unfoldable pub unknown_level : Option (List ℕ) → Rows → Option Conflict
-unknown_level None rows = None
-unknown_level (Some name) rows = if_met (not (is_some (level_number rows name))) (UnknownName name)
-
--- The first of ADDCATEGORY that is no category; the first of DELCATEGORY that never was one.
-unfoldable pub unknown_category : List (List ℕ) → Rows → Option Conflict
-unknown_category names rows = option_map UnknownName (find (λ name. not (is_category rows name)) names)
-
-unfoldable pub never_category : List (List ℕ) → Rows → Option Conflict
-never_category names rows = option_map UnknownName (find (λ name. not (is_some (category_number rows name))) names)
-
-unfoldable pub unknown_label : Option (List ℕ) → Rows → Option Conflict
-unknown_label None rows = None
-unknown_label (Some name) rows = if_met (not (is_label rows name)) (UnknownName name)
-
 -- ---- limits: more of a kind than the limit
-abbrev pub over : Kind → ℕ → ℕ → Option Conflict
-over kind limit count = if_met (nat_lt limit count) (Full kind limit)
-
 -- after the command
 unfoldable pub users_full : Issuer → Form → Rows → Option Conflict
 users_full issuer command rows = over Users most_users (length (step issuer command rows).users)
@@ -253,12 +195,13 @@ conflicts issuer (form.AltGroup c) rows = alt_group_conflicts c rows
 conflicts issuer (form.DelGroup c) rows = del_group_conflicts c rows
 conflicts issuer (form.Connect c) rows = connect_conflicts issuer c rows
 conflicts issuer (form.Remove c) rows = remove_conflicts issuer c rows
-
--- The first that is met.
-abbrev pub first_met : List (Option Conflict) → Option Conflict
-first_met [] = None
-first_met (None ∷ tests) = first_met tests
-first_met (Some conflict ∷ tests) = Some conflict
+conflicts issuer (form.AddSd c) rows = add_sd_conflicts c rows
+conflicts issuer (form.AltSd c) rows = alt_sd_conflicts c rows
+conflicts issuer (form.DelSd c) rows = del_sd_conflicts c rows
+conflicts issuer (form.RDefine c) rows = r_define_conflicts c rows
+conflicts issuer (form.RAlter c) rows = r_alter_conflicts c rows
+conflicts issuer (form.RDelete c) rows = r_delete_conflicts c rows
+conflicts issuer (form.Permit c) rows = permit_conflicts c rows
 
 abbrev pub conflict_of : Issuer → Form → Rows → Option Conflict
 conflict_of issuer command rows = first_met (conflicts issuer command rows)

@@ -14,3 +14,11 @@ most_connections = 300
 -- of all users
 abbrev pub most_connections_in_all : ℕ
 most_connections_in_all = 200000
+
+-- of one profile
+abbrev pub most_members : ℕ
+most_members = 1000
+
+-- ever defined
+abbrev pub most_categories : ℕ
+most_categories = 256

@@ -1,43 +1,85 @@
 //! Making what was prepared.
-ghost use Rattle.std.specs.Prelude.{◌≡◌, ◌⊎◌, None, Some};
+ghost use Rattle.std.specs.Prelude.{◌≡◌, ◌≤◌, ◌⊎◌, None, Some, length};
 ghost use Rattle.racf_profiles.specs.Lookup.{is_group};
 ghost use Rattle.racf_profiles.specs.Edits.{put_row, drop_row, edited, changed};
 ghost use Rattle.group_tree.specs.Groups.{find_group};
+ghost use Rattle.racf_database.specs.Limits.{most_categories};
 ghost use Rattle.racf_database.specs.Contents.{rows_of};
-ghost use Rattle.racf_database.specs.Kept.{CanMake, CanAddGroup, CanMoveGroup, CanPutGroup, CanDropGroup};
+ghost use Rattle.racf_database.specs.Kept.{CanMake, CanApply, CanAddGroup, CanMoveGroup, CanPutGroup, CanDropGroup};
 
 use crate::database::Database;
 use crate::user_table::UserTable;
 use access_levels::Id;
+use class_profiles::ClassTables;
 use group_tree::Tree;
-use racf_profiles::{Change, Edit, Group};
+use racf_profiles::{Change, Edit, Group, Options};
 
 impl Database {
     /// Makes the change that was prepared last. It takes no memory. A user or a group that goes takes time that grows with
-    /// the users or the groups; a row that is put takes a look-up.
+    /// the users or the groups, and a profile that comes or goes moves those behind it in its class; any other row that is
+    /// put takes a look-up.
     pub fn apply(&mut self, change: Change)
         requires { self.old.prepared ≡ Some change }
         ensures rows { self.new.rows ≡ changed change.edits self.old.rows }
         ensures nothing_prepared { self.new.prepared ≡ None }
     {
         self.prepared = None;
-        let mut edits = change.edits.items;
-        if let Some(edit) = edits.pop() {
-            make(&mut self.users, &mut self.tree, edit);
-        }
+        make_all(
+            &mut self.users,
+            &mut self.tree,
+            &mut self.classes,
+            &mut self.options,
+            change.edits.items,
+        );
     }
 }
 
+// Makes edits in their order: one, or one and then one of the options.
+fn make_all(
+    users: &mut UserTable,
+    tree: &mut Tree,
+    classes: &mut ClassTables,
+    options: &mut Options,
+    edits: Vec<Edit>,
+)
+    requires can { CanApply users.old tree.old classes.old edits.items }
+    requires few { length options.old.categories ≤ most_categories }
+    ensures rows { rows_of users.new.users tree.new.groups classes.new.classes options.new ≡ changed edits.items (rows_of users.old.users tree.old.groups classes.old.classes options.old) }
+    ensures few { length options.new.categories ≤ most_categories }
+{
+    let mut edits = edits;
+    let Some(last) = edits.pop() else {
+        return;
+    };
+    let Some(first) = edits.pop() else {
+        make(users, tree, classes, options, last);
+        return;
+    };
+    make(users, tree, classes, options, first);
+    make(users, tree, classes, options, last);
+}
+
 // Makes one edit.
-fn make(users: &mut UserTable, tree: &mut Tree, edit: Edit)
-    requires { CanMake users.old tree.old edit }
-    ensures { rows_of users.new.users tree.new.groups ≡ edited edit (rows_of users.old.users tree.old.groups) }
+fn make(
+    users: &mut UserTable,
+    tree: &mut Tree,
+    classes: &mut ClassTables,
+    options: &mut Options,
+    edit: Edit,
+)
+    requires can { CanMake users.old tree.old classes.old edit }
+    requires few { length options.old.categories ≤ most_categories }
+    ensures rows { rows_of users.new.users tree.new.groups classes.new.classes options.new ≡ edited edit (rows_of users.old.users tree.old.groups classes.old.classes options.old) }
+    ensures few { length options.new.categories ≤ most_categories }
 {
     match edit {
         Edit::PutUser(user) => users.put(user),
         Edit::DropUser(id) => users.remove(id),
         Edit::PutGroup(group) => put_group(tree, &group),
         Edit::DropGroup(id) => drop_group(tree, id),
+        Edit::PutProfile(class, profile) => classes.put(class, profile),
+        Edit::DropProfile(class, name) => classes.remove(class, &name),
+        Edit::PutOptions(new) => *options = new,
         _ => unreachable!(),
     }
 }

@@ -6,8 +6,10 @@ ghost use Rattle.racf_profiles.specs.declared.users.User.{User};
 ghost use Rattle.racf_database.specs.Effects.{altered_user, connected_user, removed_user, altered_group};
 ghost use Rattle.racf_database.specs.Edits.{edits_of, put_user, put_group};
 
+mod profiles;
+
 use crate::database::Database;
-use crate::made::{altered_group, connected_user, new_group, removed_user};
+use crate::made::{altered_group, connected_user, dataset, new_group, removed_user};
 use command_parser::{AltGroup, AltUser, Command, Connect, Form, Issuer, Remove};
 use racf_profiles::{Edit, NoMemory, View};
 use std::alloc::Global;
@@ -34,6 +36,13 @@ impl Database {
             Form::DelGroup(command) => one(alloc, Edit::DropGroup(command.group)),
             Form::Connect(command) => self.edits_of_connect(alloc, issuer, command),
             Form::Remove(command) => self.edits_of_remove(alloc, issuer, command),
+            Form::AddSd(command) => self.edits_of_add_sd(alloc, issuer, command),
+            Form::AltSd(command) => self.edits_of_alt_sd(alloc, command),
+            Form::DelSd(command) => one(alloc, Edit::DropProfile(dataset(), command.profile)),
+            Form::RDefine(command) => self.edits_of_r_define(alloc, issuer, command),
+            Form::RAlter(command) => self.edits_of_r_alter(alloc, command),
+            Form::RDelete(command) => one(alloc, Edit::DropProfile(command.class, command.profile)),
+            Form::Permit(command) => self.edits_of_permit(alloc, command),
         }
     }
 
@@ -93,8 +102,8 @@ impl Database {
     }
 }
 
-// One edit.
-fn one(alloc: Global, edit: Edit) -> Result<Vec<Edit>, NoMemory>
+/// One edit.
+pub(crate) fn one(alloc: Global, edit: Edit) -> Result<Vec<Edit>, NoMemory>
     ensures { IfOk result (λ edits. edits.items ≡ edit ∷ []) }
 {
     let mut edits = Vec::new(alloc);

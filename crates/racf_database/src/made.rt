@@ -4,10 +4,17 @@ ghost use Rattle.racf_database.specs.Effects.{switched, group_or_current, owner_
 
 mod classes;
 mod connects;
+mod members;
+mod permit;
+mod profiles;
+mod security;
 mod users;
 
 use access_levels::Id;
 use command_parser::{AddGroup, AltGroup, Issuer};
+pub(crate) use members::{categories_count, categories_defined, members_count};
+pub(crate) use permit::{conditional_count, permitted_profile, standard_count};
+pub(crate) use profiles::dataset;
 use racf_profiles::Group;
 pub(crate) use users::{attributes_after, connected_user, removed_user};
 

@@ -1,14 +1,17 @@
 //! Taking all memory that a command needs, and what it makes of the rows.
-ghost use Rattle.std.specs.Prelude.{◌≡◌, None, Some, IfOk, OnErr};
+ghost use Rattle.std.specs.Prelude.{◌≡◌, None, Some, IfOk, OnOk, OnErr};
 ghost use Rattle.racf_profiles.specs.Edits.{changed};
 ghost use Rattle.racf_database.specs.Effects.{step};
 ghost use Rattle.racf_database.specs.Edits.{edits_of};
+ghost use Rattle.racf_database.specs.Kept.{HasRoom, fits_its_class, is_of_data_sets};
 ghost use Rattle.racf_database.specs.Conflicts.{conflict_of};
 
 use crate::database::Database;
 use crate::edits::copies;
-use command_parser::{Command, Issuer};
-use racf_profiles::{Change, Edits, NoMemory};
+use class_profiles::ClassTables;
+use command_parser::{Command, Form, Issuer};
+use generic_names::{NameKind, Pattern};
+use racf_profiles::{Change, Edit, Edits, NoMemory};
 use std::alloc::{AllocError, Global};
 
 impl Database {
@@ -17,7 +20,8 @@ impl Database {
     ///
     /// # Errors
     ///
-    /// Want of memory: nothing is prepared then, and the rows are as they were.
+    /// Want of memory: nothing is prepared then, and the rows are as they were. A command that would define a profile under a
+    /// name of the other kind than its class's, which no text spells, is refused in the same way.
     pub fn prepare(
         &mut self,
         alloc: Global,
@@ -32,19 +36,59 @@ impl Database {
         ensures refused { OnErr result (self.new.prepared ≡ None) }
     {
         self.prepared = None;
+        if !fits_its_class(command.form()) {
+            return Err(AllocError);
+        }
         let edits = self.edits(alloc, issuer, command)?;
         let kept = copies(alloc, edits.as_slice())?;
         self.users.reserve()?;
         let Ok(()) = self.tree.reserve() else {
             return Err(AllocError);
         };
-        // What holds of every tree is what the next change rests on.
-        let _count = self.tree.len();
+        reserve_profile(&mut self.classes, edits.as_slice())?;
+        // What holds of every tree, and of all classes, is what the next change rests on.
+        let _groups = self.tree.len();
+        let _profiles = self.classes.count();
+        let _entries = self.classes.entries();
+        class_profiles::laws::counts_are_enough();
+        class_profiles::laws::found_is_lawful();
         self.prepared = Some(Change {
             edits: Edits { items: kept },
         });
         Ok(Change {
             edits: Edits { items: edits },
         })
+    }
+}
+
+// Whether the name of a new profile is of the kind that its class has. No text spells a command with another one.
+fn fits_its_class(command: &Form) -> bool
+    ensures { result ≡ fits_its_class command.now }
+{
+    match command {
+        Form::AddSd(command) => is_of_data_sets(&command.profile),
+        Form::RDefine(command) => !is_of_data_sets(&command.profile),
+        _ => true,
+    }
+}
+
+// Whether it is the name of data sets.
+fn is_of_data_sets(name: &Pattern) -> bool
+    ensures { result ≡ is_of_data_sets name.now }
+{
+    match name.kind() {
+        NameKind::DataSet => true,
+        NameKind::General => false,
+    }
+}
+
+// Makes room for the profile that the first edit puts.
+fn reserve_profile(classes: &mut ClassTables, edits: &[Edit]) -> Result<(), NoMemory>
+    ensures classes { classes.new.classes ≡ classes.old.classes }
+    ensures room { OnOk result (HasRoom classes.new edits.now) }
+{
+    match edits.first() {
+        Some(Edit::PutProfile(class, _)) => classes.reserve(*class),
+        _ => Ok(()),
     }
 }

@@ -33,13 +33,17 @@ fn is_of(conflict: &Conflict, name: &[u8]) -> bool {
     match conflict {
         Conflict::NoUser(id) => id.text() == name,
         Conflict::NoGroup(id) => id.text() == name,
+        Conflict::NoProfile(_, profile) => profile.text() == name,
         Conflict::NoClass(id) => id.text() == name,
         Conflict::Exists(Named::Id(id)) => id.text() == name,
+        Conflict::Exists(Named::Profile(profile)) => profile.text() == name,
         Conflict::NotConnected(id) => id.text() == name,
         Conflict::InUse(Holder::Subgroup(id)) => id.text() == name,
         Conflict::InUse(Holder::Connected(id)) => id.text() == name,
+        Conflict::InUse(Holder::Profile(profile)) => profile.text() == name,
         Conflict::Cycle(id) => id.text() == name,
         Conflict::OwnerNotSuperior(id) => id.text() == name,
+        Conflict::NotGeneric(id) => id.text() == name,
         Conflict::DefaultGroup(id) => id.text() == name,
         Conflict::LastSpecial(id) => id.text() == name,
         Conflict::UnknownName(id) => id.text() == name,
@@ -203,6 +207,175 @@ const ROWS: [Row; 29] = [
     },
 ];
 
+/// A run of commands on profiles.
+const PROFILE_ROWS: [Row; 33] = [
+    Row {
+        text: b"AD 'IBMUSER.**' UACC(READ)",
+        number: 0,
+        name: b"",
+    },
+    Row {
+        text: b"AD 'JOE.A'",
+        number: 1,
+        name: b"JOE",
+    },
+    Row {
+        text: b"AD 'SYS1.A' OWNER(BOB)",
+        number: 1,
+        name: b"BOB",
+    },
+    Row {
+        text: b"AD 'SYS1.A'",
+        number: 0,
+        name: b"",
+    },
+    Row {
+        text: b"AD 'SYS1.A'",
+        number: 5,
+        name: b"SYS1.A",
+    },
+    Row {
+        text: b"AD 'SYS1.B' SECLEVEL(TOP)",
+        number: 16,
+        name: b"TOP",
+    },
+    Row {
+        text: b"ALD 'SYS1.B'",
+        number: 3,
+        name: b"SYS1.B",
+    },
+    Row {
+        text: b"ALD 'SYS1.A' AUDIT(ALL) WARNING OWNER(SYS1)",
+        number: 0,
+        name: b"",
+    },
+    Row {
+        text: b"ALD 'SYS1.A' DELCATEGORY(RED)",
+        number: 16,
+        name: b"RED",
+    },
+    Row {
+        text: b"RDEF NONE A",
+        number: 4,
+        name: b"NONE",
+    },
+    Row {
+        text: b"RDEF DATASET A",
+        number: 4,
+        name: b"DATASET",
+    },
+    Row {
+        text: b"RDEF GLOBAL NONE",
+        number: 4,
+        name: b"NONE",
+    },
+    Row {
+        text: b"RDEF SECLABEL A*",
+        number: 11,
+        name: b"SECLABEL",
+    },
+    Row {
+        text: b"RDEF FACILITY A.*",
+        number: 0,
+        name: b"",
+    },
+    Row {
+        text: b"RALT FACILITY B",
+        number: 3,
+        name: b"B",
+    },
+    Row {
+        text: b"RALT DATASET A",
+        number: 4,
+        name: b"DATASET",
+    },
+    Row {
+        text: b"RALT FACILITY A.* UACC(UPDATE)",
+        number: 0,
+        name: b"",
+    },
+    Row {
+        text: b"PE 'SYS1.A' ID(SYS1 JOE)",
+        number: 1,
+        name: b"JOE",
+    },
+    Row {
+        text: b"PE 'SYS1.A' ID(JOE) DELETE",
+        number: 0,
+        name: b"",
+    },
+    Row {
+        text: b"PE A CLASS(NONE) ID(*)",
+        number: 4,
+        name: b"NONE",
+    },
+    Row {
+        text: b"PE B CLASS(FACILITY) ID(*)",
+        number: 3,
+        name: b"B",
+    },
+    Row {
+        text: b"PE 'SYS1.A' ID(IBMUSER SYS1) ACCESS(ALTER)",
+        number: 0,
+        name: b"",
+    },
+    Row {
+        text: b"PE 'SYS1.A' RESET(STANDARD) ID(*) WHEN(TERMINAL(T1))",
+        number: 0,
+        name: b"",
+    },
+    Row {
+        text: b"AU JOE",
+        number: 0,
+        name: b"",
+    },
+    Row {
+        text: b"AD 'JOE.A'",
+        number: 0,
+        name: b"",
+    },
+    Row {
+        text: b"DU JOE",
+        number: 8,
+        name: b"JOE.A",
+    },
+    Row {
+        text: b"DD 'JOE.A'",
+        number: 0,
+        name: b"",
+    },
+    Row {
+        text: b"DD 'JOE.A'",
+        number: 3,
+        name: b"JOE.A",
+    },
+    Row {
+        text: b"DU JOE",
+        number: 0,
+        name: b"",
+    },
+    Row {
+        text: b"RDEL FACILITY A.*",
+        number: 0,
+        name: b"",
+    },
+    Row {
+        text: b"RDEL FACILITY A.*",
+        number: 3,
+        name: b"A.*",
+    },
+    Row {
+        text: b"RDEF SECLABEL L1",
+        number: 0,
+        name: b"",
+    },
+    Row {
+        text: b"AU ANN SECLABEL(L1)",
+        number: 0,
+        name: b"",
+    },
+];
+
 /// Gives the command of a row; whether it was answered as the row says.
 fn is_answered(alloc: Global, database: &mut Database, row: &Row) -> Result<bool, Fail> {
     let issuer = Issuer::new(ibmuser(), sys1()).ok_or("issuer")?;
@@ -224,5 +397,15 @@ fn each_conflict(rt: HostRuntime) -> Result<(), Fail> {
         assert!(rt; is_answered(rt.alloc(), &mut database, row)?);
     }
     assert_eq!(rt; database.tree().len(), 2);
+    Ok(())
+}
+
+#[test]
+fn each_conflict_of_profiles(rt: HostRuntime) -> Result<(), Fail> {
+    let mut database = Database::new(rt.alloc())?;
+    for row in &PROFILE_ROWS {
+        assert!(rt; is_answered(rt.alloc(), &mut database, row)?);
+    }
+    assert!(rt; database.to_rows(rt.alloc()).is_ok());
     Ok(())
 }

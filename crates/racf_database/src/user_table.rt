@@ -1,15 +1,16 @@
 //! The users, and what they hold together.
-ghost use Rattle.std.specs.Prelude.{◌≡◌, ℕ, ◌+◌, ◌<◌, ◌≤◌, [], length, find, OnOk};
+ghost use Rattle.std.specs.Prelude.{◌≡◌, ℕ, ◌+◌, ◌<◌, ◌≤◌, [], length, find, slice_get, Some, IfOk, OnOk};
 ghost use Rattle.std.specs.Option.{option_copied, option_map_or};
 ghost use Rattle.racf_profiles.specs.Lookup.{is_user};
 ghost use Rattle.racf_profiles.specs.Edits.{put_row, drop_row};
 ghost use Rattle.racf_database.specs.Names.{connections, administrators, is_administrator, administering, connected_to, is_connected_to, growth};
 ghost use Rattle.racf_database.specs.Limits.{most_users, most_connections_in_all};
+ghost use Rattle.class_profiles.specs.Lawful.{AreUsers};
 ghost use Rattle.racf_database.specs.UserList.{CanPut};
 
 use access_levels::Id;
 use indexmap::IndexMap;
-use racf_profiles::{NoMemory, User};
+use racf_profiles::{NoMemory, User, Users};
 use std::alloc::Global;
 use std::marker::Model;
 
@@ -23,6 +24,7 @@ pub(crate) struct UserTable {
 }
 
 impl Model for UserTable {
+    ghost use Rattle.class_profiles.specs.Lawful.{AreUsers};
     ghost use Rattle.racf_database.specs.UserList.{UserList};
 
     ghost Value = { UserList };
@@ -57,6 +59,7 @@ impl UserTable {
     pub(crate) fn len(&self) -> usize
         ensures count { result ≡ length self.now.users }
         ensures few { result ≤ most_users }
+        ensures lawful { AreUsers self.now.users }
     {
         self.users.len()
     }
@@ -83,6 +86,25 @@ impl UserTable {
         self.users
             .values()
             .find(|user| is_connected_to(user, group))
+    }
+
+    /// All users, copied.
+    pub(crate) fn rows(&self, alloc: Global) -> Result<Users, NoMemory>
+        ensures { IfOk result (λ users. users ≡ self.now.users) }
+    {
+        let mut items = Vec::new(alloc);
+        for place in 0..self.len() {
+            items.push(self.at(place).copy(alloc)?)?;
+        }
+        Ok(Users { items })
+    }
+
+    // The user at that place, from 0.
+    fn at(&self, place: usize) -> &User
+        requires { place < length self.now.users }
+        ensures { slice_get self.now.users place ≡ Some result.now }
+    {
+        &self.users[place]
     }
 
     /// Makes room for one more user.

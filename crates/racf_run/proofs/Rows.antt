@@ -2,59 +2,108 @@
 use Rattle.std.proofs.Common.{◌≡◌, ℕ, List, [], ◌++◌, refl}
 use Rattle.std.specs.Prelude.{codes}
 use Rattle.std.specs.Fmt.{digits}
+use Rattle.racf_run.specs.declared.status.Status.{Status}
 use Rattle.racf_run.specs.declared.status.Status.TheVariants.{Done, Refusals}
-use Rattle.racf_run.specs.Items.{verify_of, auth_of, built_request, request_of, is_request}
-use Rattle.racf_run.specs.Replies.{reply_line}
-use Rattle.racf_run.specs.Spelled.{form_of}
-use Rattle.racf_run.specs.Commands.{is_other_command, read_command}
-use Rattle.racf_run.specs.Stream.{new_stream, verify, auth, command, step, text}
-use Rattle.command_words.specs.Tokens.{tokens}
-use Rattle.command_grammar.specs.Reading.{parsed}
 use Rattle.command_grammar.specs.Canon.{canon}
-use Rattle.racf_database.specs.Conflicts.{is_root, meets, no_user, no_owner, no_group, no_named_group, no_class, name_taken, not_connected, default_not_connected, has_subgroup, has_connected, has_profile, cycle, owner_not_superior, default_group, last_special, unknown_level, unknown_category, never_category, unknown_label, users_full, groups_full, connections_full, user_full, add_user_conflicts, alt_user_conflicts, del_user_conflicts, add_group_conflicts, alt_group_conflicts, del_group_conflicts, connect_conflicts, remove_conflicts}
+use Rattle.command_grammar.specs.ProfileNames.{form_in}
+use Rattle.command_grammar.specs.Reading.{parsed}
+use Rattle.command_parser.specs.Fields.{front, behind}
+use Rattle.command_parser.specs.FormOf.{form_of}
+use Rattle.command_words.specs.Tokens.{tokens}
+use Rattle.racf_database.specs.Conflicts.{is_root, has_subgroup, has_connected, has_profile, meets, cycle, owner_not_superior, default_group, last_special, users_full, groups_full, connections_full, user_full, add_user_conflicts, alt_user_conflicts, del_user_conflicts, add_group_conflicts, alt_group_conflicts, del_group_conflicts, connect_conflicts, remove_conflicts}
+use Rattle.racf_database.specs.ProfileConflicts.{no_first_qualifier, no_permitted, no_such_class, no_resource_class, no_global_class, no_profile, profile_taken, not_generic, class_profiles_full, profiles_full, standard_full, conditional_full, entries_full, members_full, altered_members_full, categories_full, add_sd_conflicts, alt_sd_conflicts, del_sd_conflicts, r_define_conflicts, r_alter_conflicts, r_delete_conflicts, permit_conflicts}
+use Rattle.racf_database.specs.Required.{no_user, no_group, no_owner, no_named_group, no_class, name_taken, not_connected, default_not_connected, unknown_level, unknown_category, never_category, unknown_label}
+use Rattle.racf_run.specs.Commands.{is_other_command, read_command}
+use Rattle.racf_run.specs.Items.{request_of, is_request}
+use Rattle.racf_run.specs.Replies.{reply_line}
 use Rattle.racf_run.specs.Script.{stream, script_output, script_status}
+use Rattle.racf_run.specs.Stream.{new_stream, request, command, step, text}
+use Rattle.access_levels.specs.Number.{as_number}
+use Rattle.request_files.specs.Words.{words_at}
+use Rattle.request_files.specs.Grammar.{next, deleted, number_after, asked_by, verified_by, requested, read}
+use Rattle.request_files.specs.Answers.{answer_line}
+use Rattle.acee.specs.Verify.{acee_of}
 
--- the first stream: an ACEE, and what may be answered of it
-abbrev first_stream : List ℕ
-first_stream = codes "VERIFY A IBMUSER\nAUTH A FACILITY BPX.Y READ\nAUTH B FACILITY BPX.X READ\nADDUSER JOE\n"
+-- The stream prints this, and ends so.
+record Prints (input output : List ℕ) (status : Status) : Type 0 where
+  prints : script_output input ≡ output
+  ends : script_status input ≡ status
 
-first_output : script_output first_stream ≡ codes "0 0 VERIFIED\n0 4 NOPROFILE\n0 REFUSED NOACEE B\n1 ACCEPTED\n"
-unfolding digits verify_of auth_of built_request request_of is_request reply_line verify auth command read_command is_other_command form_of step text new_stream stream tokens parsed canon is_root meets no_user no_owner no_group no_named_group no_class name_taken not_connected default_not_connected has_subgroup has_connected has_profile cycle owner_not_superior default_group last_special unknown_level unknown_category never_category unknown_label users_full groups_full connections_full user_full add_user_conflicts alt_user_conflicts del_user_conflicts add_group_conflicts alt_group_conflicts del_group_conflicts connect_conflicts remove_conflicts
-first_output = refl
+-- A profile, an ACEE, and what may be answered of them.
+first : Prints
+    (codes "RDEFINE FACILITY BPX.X UACC(READ)\nVERIFY A IBMUSER\nAUTH A FACILITY BPX.X READ\n"
+    ++ codes "AUTH A FACILITY BPX.X UPDATE\nAUTH A FACILITY BPX.Y READ\nRDEFINE FACILITY BPX.X UACC(NONE)\n"
+    ++ codes "AUTH B FACILITY BPX.X READ\nADDUSER JOE\n")
+    (codes "1 ACCEPTED\n1 0 VERIFIED\n1 0 UACC BPX.X READ\n1 8 INSUFFICIENT BPX.X READ\n1 4 NOPROFILE\n"
+    ++ codes "1 REFUSED EXISTS BPX.X\n1 REFUSED NOACEE B\n2 ACCEPTED\n")
+    Refusals
+unfolding digits canon form_in parsed front behind form_of tokens is_root has_subgroup has_connected has_profile meets cycle owner_not_superior default_group last_special users_full groups_full connections_full user_full add_user_conflicts alt_user_conflicts del_user_conflicts add_group_conflicts alt_group_conflicts del_group_conflicts connect_conflicts remove_conflicts no_first_qualifier no_permitted no_such_class no_resource_class no_global_class no_profile profile_taken not_generic class_profiles_full profiles_full standard_full conditional_full entries_full members_full altered_members_full categories_full add_sd_conflicts alt_sd_conflicts del_sd_conflicts r_define_conflicts r_alter_conflicts r_delete_conflicts permit_conflicts no_user no_group no_owner no_named_group no_class name_taken not_connected default_not_connected unknown_level unknown_category never_category unknown_label is_other_command read_command request_of is_request reply_line stream new_stream request command step text as_number next deleted number_after asked_by verified_by requested read words_at answer_line acee_of
+first = record { prints = refl; ends = refl }
 
-first_status : script_status first_stream ≡ Refusals
-unfolding digits verify_of auth_of built_request request_of is_request reply_line verify auth command read_command is_other_command form_of step text new_stream stream tokens parsed canon is_root meets no_user no_owner no_group no_named_group no_class name_taken not_connected default_not_connected has_subgroup has_connected has_profile cycle owner_not_superior default_group last_special unknown_level unknown_category never_category unknown_label users_full groups_full connections_full user_full add_user_conflicts alt_user_conflicts del_user_conflicts add_group_conflicts alt_group_conflicts del_group_conflicts connect_conflicts remove_conflicts
-first_status = refl
+-- Profiles that cover one name, taken away from the most specific one on.
+profiles : Prints
+    (codes "RDEF FACILITY A.** UACC(READ)\nRDEF FACILITY A.B* UACC(UPDATE)\nRDEF FACILITY A.B\nVERIFY A IBMUSER\n"
+    ++ codes "AUTH A FACILITY A.B READ\nRDEL FACILITY A.B\nAUTH A FACILITY A.B READ\nRDEL FACILITY A.B*\n"
+    ++ codes "AUTH A FACILITY A.B READ\nAUTH A FACILITY B READ\n")
+    (codes "1 ACCEPTED\n2 ACCEPTED\n3 ACCEPTED\n3 0 VERIFIED\n3 8 INSUFFICIENT A.B NONE\n4 ACCEPTED\n"
+    ++ codes "4 0 UACC A.B* UPDATE\n5 ACCEPTED\n5 0 UACC A.** READ\n5 4 NOPROFILE\n")
+    Done
+unfolding digits canon form_in parsed front behind form_of tokens is_root has_subgroup has_connected has_profile meets cycle owner_not_superior default_group last_special users_full groups_full connections_full user_full add_user_conflicts alt_user_conflicts del_user_conflicts add_group_conflicts alt_group_conflicts del_group_conflicts connect_conflicts remove_conflicts no_first_qualifier no_permitted no_such_class no_resource_class no_global_class no_profile profile_taken not_generic class_profiles_full profiles_full standard_full conditional_full entries_full members_full altered_members_full categories_full add_sd_conflicts alt_sd_conflicts del_sd_conflicts r_define_conflicts r_alter_conflicts r_delete_conflicts permit_conflicts no_user no_group no_owner no_named_group no_class name_taken not_connected default_not_connected unknown_level unknown_category never_category unknown_label is_other_command read_command request_of is_request reply_line stream new_stream request command step text as_number next deleted number_after asked_by verified_by requested read words_at answer_line acee_of
+profiles = record { prints = refl; ends = refl }
 
--- the empty input
-no_output : script_output [] ≡ []
+-- A command in two lines, the first faults of three texts, a name that the issuer's ID goes before, and commands that aren't built.
+texts : Prints
+    (codes "adduser joe -\n  dfltgrp(sys1)\nALU JOE SEC(X)\nALU JOE NAME('x'\nLISTCAT\nAD TEST.DATA\n"
+    ++ codes "DD 'IBMUSER.TEST.DATA'\nAD TEST.DATA SECLABEL(X)\nPE TEST.DATA ID(JOE)\n")
+    (codes "1 ACCEPTED\n1 REFUSED SYNTAX AMBIGUOUS 9\n1 REFUSED SYNTAX UNCLOSED 13\n"
+    ++ codes "1 REFUSED SYNTAX UNKNOWNCOMMAND\n2 ACCEPTED\n3 ACCEPTED\n3 REFUSED NOTBUILT\n"
+    ++ codes "3 REFUSED NOPROFILE DATASET IBMUSER.TEST.DATA\n")
+    Refusals
+unfolding digits canon form_in parsed front behind form_of tokens is_root has_subgroup has_connected has_profile meets cycle owner_not_superior default_group last_special users_full groups_full connections_full user_full add_user_conflicts alt_user_conflicts del_user_conflicts add_group_conflicts alt_group_conflicts del_group_conflicts connect_conflicts remove_conflicts no_first_qualifier no_permitted no_such_class no_resource_class no_global_class no_profile profile_taken not_generic class_profiles_full profiles_full standard_full conditional_full entries_full members_full altered_members_full categories_full add_sd_conflicts alt_sd_conflicts del_sd_conflicts r_define_conflicts r_alter_conflicts r_delete_conflicts permit_conflicts no_user no_group no_owner no_named_group no_class name_taken not_connected default_not_connected unknown_level unknown_category never_category unknown_label is_other_command read_command request_of is_request reply_line stream new_stream request command step text as_number next deleted number_after asked_by verified_by requested read words_at answer_line acee_of
+texts = record { prints = refl; ends = refl }
+
+-- Groups that are made, moved and taken away.
+groups : Prints
+    (codes "AG A OWNER(SYS1)\nAG B SUPGROUP(A) OWNER(A)\nALG A SUPGROUP(B) OWNER(B)\nDG A\nAU JOE DFLTGRP(B)\n"
+    ++ codes "DG B\nRE JOE GROUP(B)\nDU JOE\nDG B\nDG SYS1\n")
+    (codes "1 ACCEPTED\n2 ACCEPTED\n2 REFUSED CYCLE A\n2 REFUSED INUSE SUBGROUP B\n3 ACCEPTED\n"
+    ++ codes "3 REFUSED INUSE CONNECTED JOE\n3 REFUSED DEFAULTGROUP B\n4 ACCEPTED\n5 ACCEPTED\n5 REFUSED ROOT\n")
+    Refusals
+unfolding digits canon form_in parsed front behind form_of tokens is_root has_subgroup has_connected has_profile meets cycle owner_not_superior default_group last_special users_full groups_full connections_full user_full add_user_conflicts alt_user_conflicts del_user_conflicts add_group_conflicts alt_group_conflicts del_group_conflicts connect_conflicts remove_conflicts no_first_qualifier no_permitted no_such_class no_resource_class no_global_class no_profile profile_taken not_generic class_profiles_full profiles_full standard_full conditional_full entries_full members_full altered_members_full categories_full add_sd_conflicts alt_sd_conflicts del_sd_conflicts r_define_conflicts r_alter_conflicts r_delete_conflicts permit_conflicts no_user no_group no_owner no_named_group no_class name_taken not_connected default_not_connected unknown_level unknown_category never_category unknown_label is_other_command read_command request_of is_request reply_line stream new_stream request command step text as_number next deleted number_after asked_by verified_by requested read words_at answer_line acee_of
+groups = record { prints = refl; ends = refl }
+
+-- A user entry bars OPERATIONS, and a conditional entry counts at its port alone.
+entries : Prints
+    (codes "AU OPS OPERATIONS\nAD 'SYS1.A' UACC(ALTER)\nPE 'SYS1.A' ID(OPS) ACCESS(NONE)\nVERIFY A OPS\n"
+    ++ codes "AUTH A DATASET SYS1.A READ\nPE 'SYS1.A' ID(OPS) DELETE\nALD 'SYS1.A' UACC(NONE)\n"
+    ++ codes "AUTH A DATASET SYS1.A ALTER\nPE 'SYS1.A' ID(OPS) ACCESS(UPDATE) WHEN(TERMINAL(T1))\n"
+    ++ codes "VERIFY B OPS TERMINAL(T1)\nAUTH B DATASET SYS1.A READ\n")
+    (codes "1 ACCEPTED\n2 ACCEPTED\n3 ACCEPTED\n3 0 VERIFIED\n3 8 INSUFFICIENT SYS1.A NONE\n4 ACCEPTED\n"
+    ++ codes "5 ACCEPTED\n5 0 OPERATIONS SYS1.A NONE\n6 ACCEPTED\n6 0 VERIFIED\n"
+    ++ codes "6 0 CONDITIONAL WHEN(TERMINAL(T1)) SYS1.A UPDATE\n")
+    Done
+unfolding digits canon form_in parsed front behind form_of tokens is_root has_subgroup has_connected has_profile meets cycle owner_not_superior default_group last_special users_full groups_full connections_full user_full add_user_conflicts alt_user_conflicts del_user_conflicts add_group_conflicts alt_group_conflicts del_group_conflicts connect_conflicts remove_conflicts no_first_qualifier no_permitted no_such_class no_resource_class no_global_class no_profile profile_taken not_generic class_profiles_full profiles_full standard_full conditional_full entries_full members_full altered_members_full categories_full add_sd_conflicts alt_sd_conflicts del_sd_conflicts r_define_conflicts r_alter_conflicts r_delete_conflicts permit_conflicts no_user no_group no_owner no_named_group no_class name_taken not_connected default_not_connected unknown_level unknown_category never_category unknown_label is_other_command read_command request_of is_request reply_line stream new_stream request command step text as_number next deleted number_after asked_by verified_by requested read words_at answer_line acee_of
+entries = record { prints = refl; ends = refl }
+
+-- Refusals of a request's line, and the number that is waited for.
+requests : Prints
+    (codes "AUTH A FACILITY X READ\nVERIFY A NOBODY\nVERIFY A IBMUSER\nVERIFY A IBMUSER\nAUTH A DATASET A..B READ\n"
+    ++ codes "AUTH A DATASET SYS1.A EXECUTE\nFASTAUTH A DATASET A..B READ\nDELETE A\n*AFTER 1\n*AFTER 0\n")
+    (codes "0 REFUSED NOACEE A\n0 4 NOTDEFINED\n0 0 VERIFIED\n0 REFUSED ACEEEXISTS A\n"
+    ++ codes "0 REFUSED BADNAME EMPTYQUALIFIER 2\n0 REFUSED BADLINE 23\n0 REFUSED NOTBUILT\n0 0 DELETED\nNEVER 0\n")
+    Refusals
+unfolding digits canon form_in parsed front behind form_of tokens is_root has_subgroup has_connected has_profile meets cycle owner_not_superior default_group last_special users_full groups_full connections_full user_full add_user_conflicts alt_user_conflicts del_user_conflicts add_group_conflicts alt_group_conflicts del_group_conflicts connect_conflicts remove_conflicts no_first_qualifier no_permitted no_such_class no_resource_class no_global_class no_profile profile_taken not_generic class_profiles_full profiles_full standard_full conditional_full entries_full members_full altered_members_full categories_full add_sd_conflicts alt_sd_conflicts del_sd_conflicts r_define_conflicts r_alter_conflicts r_delete_conflicts permit_conflicts no_user no_group no_owner no_named_group no_class name_taken not_connected default_not_connected unknown_level unknown_category never_category unknown_label is_other_command read_command request_of is_request reply_line stream new_stream request command step text as_number next deleted number_after asked_by verified_by requested read words_at answer_line acee_of
+requests = record { prints = refl; ends = refl }
+
+-- What is skipped, and what isn't: a comment and a line of blanks print nothing.
+skipped : Prints
+    (codes "/* \n \t\n\n/*\r\n /* x\nVERIFY A IBMUSER\n")
+    (codes "0 REFUSED SYNTAX UNKNOWNCOMMAND\n0 0 VERIFIED\n")
+    Refusals
+unfolding digits canon form_in parsed front behind form_of tokens is_root has_subgroup has_connected has_profile meets cycle owner_not_superior default_group last_special users_full groups_full connections_full user_full add_user_conflicts alt_user_conflicts del_user_conflicts add_group_conflicts alt_group_conflicts del_group_conflicts connect_conflicts remove_conflicts no_first_qualifier no_permitted no_such_class no_resource_class no_global_class no_profile profile_taken not_generic class_profiles_full profiles_full standard_full conditional_full entries_full members_full altered_members_full categories_full add_sd_conflicts alt_sd_conflicts del_sd_conflicts r_define_conflicts r_alter_conflicts r_delete_conflicts permit_conflicts no_user no_group no_owner no_named_group no_class name_taken not_connected default_not_connected unknown_level unknown_category never_category unknown_label is_other_command read_command request_of is_request reply_line stream new_stream request command step text as_number next deleted number_after asked_by verified_by requested read words_at answer_line acee_of
+skipped = record { prints = refl; ends = refl }
+
+-- The empty input prints nothing.
+empty : Prints [] [] Done
 unfolding stream new_stream
-no_output = refl
-
-no_status : script_status [] ≡ Done
-unfolding stream new_stream
-no_status = refl
-
--- what is skipped, and what isn't: a comment and a line of blanks print nothing, and the last line may lack its end
-skipped : script_output (codes "/* \n \t\n\n/*\r\n /* x\nVERIFY A IBMUSER")
-    ≡ codes "0 REFUSED SYNTAX UNKNOWNCOMMAND\n0 0 VERIFIED\n"
-unfolding digits verify_of auth_of built_request request_of is_request reply_line verify auth command read_command is_other_command form_of step text new_stream stream tokens parsed canon is_root meets no_user no_owner no_group no_named_group no_class name_taken not_connected default_not_connected has_subgroup has_connected has_profile cycle owner_not_superior default_group last_special unknown_level unknown_category never_category unknown_label users_full groups_full connections_full user_full add_user_conflicts alt_user_conflicts del_user_conflicts add_group_conflicts alt_group_conflicts del_group_conflicts connect_conflicts remove_conflicts
-skipped = refl
-
--- a command in two lines, the first faults of three texts, and a command that isn't built
-worded : script_output (codes "adduser joe -\n  dfltgrp(sys1)\nALU JOE SEC(X)\nALU JOE NAME('x'\nLISTCAT\nPE TEST.DATA\n")
-    ≡ codes "1 ACCEPTED\n1 REFUSED SYNTAX AMBIGUOUS 9\n1 REFUSED SYNTAX UNCLOSED 13\n1 REFUSED SYNTAX UNKNOWNCOMMAND\n1 REFUSED NOTBUILT\n"
-unfolding digits verify_of auth_of built_request request_of is_request reply_line verify auth command read_command is_other_command form_of step text new_stream stream tokens parsed canon is_root meets no_user no_owner no_group no_named_group no_class name_taken not_connected default_not_connected has_subgroup has_connected has_profile cycle owner_not_superior default_group last_special unknown_level unknown_category never_category unknown_label users_full groups_full connections_full user_full add_user_conflicts alt_user_conflicts del_user_conflicts add_group_conflicts alt_group_conflicts del_group_conflicts connect_conflicts remove_conflicts
-worded = refl
-
--- groups that are made, moved and taken away
-groups : List ℕ
-groups =
-    codes "AG A OWNER(SYS1)\nAG B SUPGROUP(A) OWNER(A)\nALG A SUPGROUP(B) OWNER(B)\nDG A\nAU JOE DFLTGRP(B)\nDG B\n"
-    ++ codes "RE JOE GROUP(B)\nDU JOE\nDG B\nDG SYS1\n"
-
-grouped : script_output groups
-    ≡ codes "1 ACCEPTED\n2 ACCEPTED\n2 REFUSED CYCLE A\n2 REFUSED INUSE SUBGROUP B\n3 ACCEPTED\n3 REFUSED INUSE CONNECTED JOE\n"
-    ++ codes "3 REFUSED DEFAULTGROUP B\n4 ACCEPTED\n5 ACCEPTED\n5 REFUSED ROOT\n"
-unfolding groups digits verify_of auth_of built_request request_of is_request reply_line verify auth command read_command is_other_command form_of step text new_stream stream tokens parsed canon is_root meets no_user no_owner no_group no_named_group no_class name_taken not_connected default_not_connected has_subgroup has_connected has_profile cycle owner_not_superior default_group last_special unknown_level unknown_category never_category unknown_label users_full groups_full connections_full user_full add_user_conflicts alt_user_conflicts del_user_conflicts add_group_conflicts alt_group_conflicts del_group_conflicts connect_conflicts remove_conflicts
-grouped = refl
+empty = record { prints = refl; ends = refl }

@@ -1,20 +1,19 @@
 -- What a command is answered by: why it is refused, or that it is accepted.
-use Rattle.std.specs.Prelude.{ℕ, ◌^◌, Bool, ◌||◌, not, nat_le, Option, None, Some, Result, Ok, Err, List, [], ◌∷◌, map, codes, refl, if◌then◌else◌}
+use Rattle.std.specs.Prelude.{ℕ, ◌^◌, Bool, ◌||◌, not, nat_le, Option, None, Some, Result, Ok, Err, List, [], ◌∷◌, map, codes, unwrap_or, refl, if◌then◌else◌}
 use Rattle.std.specs.List.{before_first}
 use Rattle.std.specs.Str.{bytes_eq}
 use Rattle.command_words.specs.Bytes.{is_gap_byte, is_word_byte, upper}
 use Rattle.command_parser.specs.declared.commands.Issuer.{Issuer}
 use Rattle.command_grammar.specs.declared.faults.Syntax.{Syntax}
+use Rattle.command_grammar.specs.declared.faults.Syntax.TheVariants.{UnknownCommand}
 use Rattle.command_parser.specs.declared.forms.Form.{Form}
-use Rattle.command_grammar.specs.Reading.{Generic}
-use Rattle.command_grammar.specs.Canon.{spelled}
-use Rattle.command_parser.specs.Forms.{given_by}
+use Rattle.command_parser.specs.Forms.{fault}
+use Rattle.command_parser.specs.FormOf.{command_in}
 use Rattle.racf_profiles.specs.declared.rows.Rows.{Rows}
 use Rattle.racf_database.specs.declared.conflict.Conflict.{Conflict}
 use Rattle.racf_database.specs.Conflicts.{conflict_of}
 use Rattle.racf_run.specs.declared.reply.Refusal.{Refusal}
 use Rattle.racf_run.specs.declared.reply.Refusal.TheVariants as refusal
-use Rattle.racf_run.specs.Spelled.{form_of}
 use Rattle.racf_run.specs.Unbuilt.{is_unbuilt}
 
 -- IBMUSER gives every command, and SYS1 is his current group.
@@ -30,21 +29,24 @@ past_gaps (byte ∷ bytes) = if is_gap_byte byte then past_gaps bytes else byte 
 abbrev pub command_name : List ℕ → List ℕ
 command_name text = map upper (before_first (λ byte. not (is_word_byte byte)) (past_gaps text))
 
--- The commands on access lists and on options, by name and abbreviation, aren't built.
+-- The command on options, by name and abbreviation, isn't built.
 unfoldable pub is_other_command : List ℕ → Bool
 is_other_command text = let name = command_name text in
-    bytes_eq name (codes "PERMIT") || bytes_eq name (codes "PE") || bytes_eq name (codes "SETROPTS") || bytes_eq name (codes "SETR")
+    bytes_eq name (codes "SETROPTS") || bytes_eq name (codes "SETR")
 
--- The command of a text, or why it isn't one that is built. What isn't built comes before every refusal but syntax.
+-- The command of a text, or why it isn't one that is built: what isn't built comes before every refusal but syntax. A text
+-- that spells no command always has a first fault.
 abbrev pub built_form : Form → Result Form Refusal
 built_form command = if is_unbuilt command then Err refusal.NotBuilt else Ok command
 
-abbrev pub found_form : Result Generic Syntax → Result Form Refusal
-found_form (Err fault) = Err (refusal.Syntax fault)
-found_form (Ok found) = built_form (form_of found)
+abbrev pub found_form : Option Form → Option Syntax → Result Form Refusal
+found_form (Some command) fault = built_form command
+found_form None fault = Err (refusal.Syntax (unwrap_or fault UnknownCommand))
 
 unfoldable pub read_command : List ℕ → Result Form Refusal
-read_command text = if is_other_command text then Err refusal.NotBuilt else found_form (spelled (given_by issuer.id) text)
+read_command text =
+    if is_other_command text then Err refusal.NotBuilt
+    else found_form (command_in issuer.id text) (fault issuer.id text)
 
 -- the last number that a command gets
 abbrev pub most_number : ℕ

@@ -7,6 +7,7 @@ ghost use Rattle.racf_run.specs.Commands.{past_gaps, command_name, is_other_comm
 
 use crate::reply::Refusal;
 use crate::unbuilt::is_unbuilt;
+use command_parser::laws::one_command_is_spelled;
 use command_parser::{Command, ParseFault, parse};
 use command_words::is_spelled;
 use racf_profiles::ibmuser;
@@ -23,6 +24,8 @@ pub(crate) fn read_command(
     if is_other_command(text) {
         return Ok(Err(Refusal::NotBuilt));
     }
+    // A text spells one command at most.
+    one_command_is_spelled();
     match parse(alloc, ibmuser(), text) {
         Ok(command) => Ok(built(command)),
         Err(ParseFault::Syntax(fault)) => Ok(Err(Refusal::Syntax(fault))),
@@ -41,16 +44,13 @@ fn built(command: Command) -> Result<Command, Refusal>
     }
 }
 
-/// The text of a command on access lists or on options.
+/// The text of the command on options.
 #[tactic(auto, unfolding(crate::specs::Commands::is_other_command))]
 fn is_other_command(text: &[u8]) -> bool
     ensures { result ≡ is_other_command text.now }
 {
     let name = command_name(text);
-    is_spelled(name, b"PERMIT")
-        || is_spelled(name, b"PE")
-        || is_spelled(name, b"SETROPTS")
-        || is_spelled(name, b"SETR")
+    is_spelled(name, b"SETROPTS") || is_spelled(name, b"SETR")
 }
 
 /// The name that a command's text begins with.

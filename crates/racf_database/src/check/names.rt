@@ -1,5 +1,6 @@
 //! Who and what has to be there, or not.
-ghost use Rattle.std.specs.Prelude.{◌≡◌, codes, bytes_eq};
+ghost use Rattle.std.specs.Prelude.{◌≡◌, is_some, codes, bytes_eq};
+ghost use Rattle.racf_profiles.specs.Lookup.{class_of};
 ghost use Rattle.std.specs.Result.{result_err};
 ghost use Rattle.racf_database.specs.Names.{is_taken, is_class_word};
 ghost use Rattle.racf_database.specs.Conflicts.{no_user, no_group, no_owner, no_named_group, no_class, name_taken, not_connected, default_not_connected, default_group, has_profile, has_connected};
@@ -9,11 +10,11 @@ use crate::database::Database;
 use crate::user_table::is_connected_to;
 use access_levels::Id;
 use command_parser::Ids;
-use racf_profiles::{FixedClass, View};
+use racf_profiles::View;
 
 impl Database {
     /// There is a user of that ID.
-    #[tactic(auto, unfolding(crate::specs::Conflicts::no_user))]
+    #[tactic(auto, unfolding(crate::specs::Required::no_user))]
     pub(super) fn check_user(&self, id: Id) -> Result<(), Conflict>
         ensures { result_err result ≡ no_user id self.now.rows }
     {
@@ -24,7 +25,7 @@ impl Database {
     }
 
     /// There is a group of that name.
-    #[tactic(auto, unfolding(crate::specs::Conflicts::no_group))]
+    #[tactic(auto, unfolding(crate::specs::Required::no_group))]
     pub(super) fn check_group(&self, id: Id) -> Result<(), Conflict>
         ensures { result_err result ≡ no_group id self.now.rows }
     {
@@ -35,7 +36,7 @@ impl Database {
     }
 
     /// The same, where a group is named.
-    #[tactic(auto, unfolding(crate::specs::Conflicts::no_named_group))]
+    #[tactic(auto, unfolding(crate::specs::Required::no_named_group))]
     pub(super) fn check_named_group(&self, group: Option<Id>) -> Result<(), Conflict>
         ensures { result_err result ≡ no_named_group group self.now.rows }
     {
@@ -46,7 +47,7 @@ impl Database {
     }
 
     /// An owner that is named is a user or a group.
-    #[tactic(auto, unfolding(crate::specs::Conflicts::no_owner))]
+    #[tactic(auto, unfolding(crate::specs::Required::no_owner))]
     pub(super) fn check_owner(&self, owner: Option<Id>) -> Result<(), Conflict>
         ensures { result_err result ≡ no_owner owner self.now.rows }
     {
@@ -63,7 +64,7 @@ impl Database {
     }
 
     /// Neither a user nor a group has the name.
-    #[tactic(auto, unfolding(crate::specs::Conflicts::name_taken))]
+    #[tactic(auto, unfolding(crate::specs::Required::name_taken))]
     pub(super) fn check_free(&self, id: Id) -> Result<(), Conflict>
         ensures { result_err result ≡ name_taken id self.now.rows }
     {
@@ -75,7 +76,7 @@ impl Database {
     }
 
     /// Each class is in the table, or is the word USER.
-    #[tactic(auto, unfolding(crate::specs::Conflicts::no_class))]
+    #[tactic(auto, unfolding(crate::specs::Required::no_class))]
     pub(super) fn check_classes(&self, classes: &Ids) -> Result<(), Conflict>
         ensures { result_err result ≡ no_class classes.now self.now.rows }
     {
@@ -90,7 +91,7 @@ impl Database {
     }
 
     /// The user is connected to the group.
-    #[tactic(auto, unfolding(crate::specs::Conflicts::not_connected))]
+    #[tactic(auto, unfolding(crate::specs::Required::not_connected))]
     pub(super) fn check_connected(&self, user: Id, group: Id) -> Result<(), Conflict>
         ensures { result_err result ≡ not_connected user group self.now.rows }
     {
@@ -106,7 +107,7 @@ impl Database {
     }
 
     /// The same of a default group that is named.
-    #[tactic(auto, unfolding(crate::specs::Conflicts::default_not_connected))]
+    #[tactic(auto, unfolding(crate::specs::Required::default_not_connected))]
     pub(super) fn check_default_connected(
         &self,
         user: Id,
@@ -148,17 +149,19 @@ impl Database {
         }
     }
 
-    /// No data set profile begins with the ID: no profile is there yet.
+    /// No data set profile begins with the ID.
     #[tactic(auto, unfolding(crate::specs::Conflicts::has_profile))]
-    pub(super) fn check_no_profile(&self, _id: Id) -> Result<(), Conflict>
-        ensures { result_err result ≡ has_profile _id self.now.rows }
+    pub(super) fn check_no_profile(&self, id: Id) -> Result<(), Conflict>
+        ensures { result_err result ≡ has_profile id self.now.rows }
     {
-        let _users = &self.users;
-        Ok(())
+        match self.classes.first_under(id) {
+            Some(name) => Err(Conflict::InUse(Holder::Profile(*name))),
+            None => Ok(()),
+        }
     }
 
-    // Whether a user or a group has the name.
-    fn is_taken(&self, id: Id) -> bool
+    /// Whether a user or a group has the name.
+    pub(super) fn is_taken(&self, id: Id) -> bool
         ensures { result ≡ is_taken id self.now.rows }
     {
         if self.user(id).is_some() {
@@ -171,11 +174,17 @@ impl Database {
     fn is_class_word(&self, name: Id) -> bool
         ensures { result ≡ is_class_word self.now.rows name }
     {
-        let _users = &self.users;
-        if is_user_word(name) {
-            return true;
+        is_user_word(name) || self.has_class(name)
+    }
+
+    /// Whether the class is in the table.
+    pub(super) fn has_class(&self, name: Id) -> bool
+        ensures { result ≡ is_some (class_of name self.now.rows) }
+    {
+        match self.classes.class(name) {
+            Some(_) => true,
+            None => false,
         }
-        FixedClass::of(name).is_some()
     }
 }
 

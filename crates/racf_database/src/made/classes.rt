@@ -32,8 +32,8 @@ pub(super) fn with_classes(alloc: Global, old: &[Id], added: &[Id]) -> Result<Ve
     Ok(classes)
 }
 
-// One more class, unless it is there.
-fn add_class(classes: &mut Vec<Id>, name: Id) -> Result<(), NoMemory>
+/// One more class, unless it is there.
+pub(super) fn add_class(classes: &mut Vec<Id>, name: Id) -> Result<(), NoMemory>
     ensures { OnOk result (classes.new.items ≡ with_class classes.old.items name) }
 {
     if classes.as_slice().contains(&name) {

@@ -1,10 +1,10 @@
 //! Users as a command makes them.
-ghost use Rattle.std.specs.Prelude.{◌≡◌, List, ℕ, fold, unwrap_or, option_and_then, IfOk, if◌then◌else◌};
-ghost use Rattle.racf_database.specs.Security.{level_number, with_category, without_category};
-ghost use Rattle.racf_database.specs.Effects.{new_user, first_attributes, altered_user, attributes_after, level_after, label_after, connected_user, removed_user};
+ghost use Rattle.std.specs.Prelude.{◌≡◌, unwrap_or, IfOk};
+ghost use Rattle.racf_database.specs.Effects.{new_user, first_attributes, altered_user, attributes_after, connected_user, removed_user};
 
 use super::classes::{classes_after, with_classes};
 use super::connects::{connects_after, first_connects, without_connect};
+use super::security::label_given;
 use super::{group_or_current, owner_or_issuer, switched};
 use crate::database::Database;
 use access_levels::{Attributes, Categories, Id, Text};
@@ -33,8 +33,11 @@ impl Database {
             name,
             attributes: first_attributes(command),
             classes: Classes { items: classes },
-            level: self.level_or(command.seclevel, 0),
-            categories: self.with_categories(Categories::NONE, &command.addcategory),
+            level: self.level_given(command.seclevel, false, 0),
+            categories: self.with_categories(
+                Categories::NONE,
+                command.addcategory.items.as_slice(),
+            ),
             label: command.seclabel,
             connects: Connects { items: connects },
         })
@@ -57,7 +60,7 @@ impl Database {
             command.noclauth.items.as_slice(),
         )?;
         let connects = old.connects.copy(alloc)?;
-        let fewer = self.without_categories(old.categories, &command.delcategory);
+        let fewer = self.without_categories(old.categories, command.delcategory.items.as_slice());
         Ok(User {
             id: old.id,
             default_group: command.dfltgrp.unwrap_or(old.default_group),
@@ -65,48 +68,11 @@ impl Database {
             name,
             attributes: attributes_after(command, old.attributes),
             classes,
-            level: self.level_after(command, old.level),
-            categories: self.with_categories(fewer, &command.addcategory),
-            label: label_after(command, old.label),
+            level: self.level_given(command.seclevel, command.noseclevel, old.level),
+            categories: self.with_categories(fewer, command.addcategory.items.as_slice()),
+            label: label_given(command.seclabel, command.noseclabel, old.label),
             connects,
         })
-    }
-
-    // The level of a user after ALTUSER.
-    fn level_after(&self, command: &AltUser, old: u8) -> u8
-        ensures { result ≡ level_after command.now self.now.rows old }
-    {
-        if command.noseclevel {
-            return 0;
-        }
-        self.level_or(command.seclevel, old)
-    }
-
-    // The number of the security level, where one is named: no level is there yet.
-    fn level_or(&self, _level: Option<Id>, otherwise: u8) -> u8
-        ensures { result ≡ unwrap_or (option_and_then (level_number self.now.rows) _level) otherwise }
-    {
-        let _users = &self.users;
-        match _level {
-            Some(_) => otherwise,
-            None => otherwise,
-        }
-    }
-
-    // The set with the categories: none is there yet.
-    fn with_categories(&self, set: Categories, _names: &Ids) -> Categories
-        ensures { result ≡ fold (with_category self.now.rows) set _names.now }
-    {
-        let _users = &self.users;
-        set
-    }
-
-    // The set without the categories: none was ever there.
-    fn without_categories(&self, set: Categories, _names: &Ids) -> Categories
-        ensures { result ≡ fold (without_category self.now.rows) set _names.now }
-    {
-        let _users = &self.users;
-        set
     }
 }
 
@@ -182,16 +148,6 @@ pub(crate) fn attributes_after(command: &AltUser, old: Attributes) -> Attributes
         revoked: switched(command.revoke, command.resume, old.revoked),
         uaudit: switched(command.uaudit, command.nouaudit, old.uaudit),
     }
-}
-
-// The label of a user after ALTUSER.
-fn label_after(command: &AltUser, old: Option<Id>) -> Option<Id>
-    ensures { result ≡ label_after command.now old }
-{
-    if command.noseclabel {
-        return None;
-    }
-    command.seclabel.or(old)
 }
 
 // The name that is given, or else this one.

@@ -1,0 +1,7 @@
+pub mod Words
+pub mod Spellings
+pub mod Grammar
+pub mod Seen
+pub mod Answers
+pub mod Acees
+pub mod Worked

@@ -1,0 +1,93 @@
+-- What the working of a line does: what it prints, whether the line was refused, and the ACEEs after it.
+use Rattle.std.specs.Prelude.{◌≡◌, ℕ, nat_le, Bool, true, false, List, [], ◌++◌, Option, Some, None, is_some, Result, Ok, Err, if◌then◌else◌}
+use Rattle.acee.specs.declared.acee.Acee.{Acee}
+use Rattle.acee.specs.declared.request.VerifyRequest.{VerifyRequest}
+use Rattle.acee.specs.declared.request.VerifyFault.{VerifyFault}
+use Rattle.raclist_image.specs.Imaged.{Imaged}
+use Rattle.decision.specs.Table.{decided}
+use Rattle.decision.specs.Verify.{verified}
+use Rattle.request_files.specs.declared.acees.NamedAcee.{NamedAcee}
+use Rattle.request_files.specs.declared.line.LineRefusal.{LineRefusal}
+use Rattle.request_files.specs.declared.line.LineRefusal.TheVariants as refusal
+use Rattle.request_files.specs.Acees.{acee_named, put_refusal, with_acee, without_acee}
+use Rattle.request_files.specs.Answers.{numbered, refused_words, unbuilt_words, verified_words, verify_fault_words, deleted_words, answer_line, never_line}
+use Rattle.request_files.specs.Grammar.{Access, Line, Verify, Auth, Fastauth, Delete, After, Skip}
+
+pub record Outcome : Type 0 where
+  pub text : List ℕ
+  pub refused : Bool
+  pub acees : List NamedAcee
+
+-- A name's fault is told only where the ACEE is there.
+abbrev pub told : List NamedAcee → LineRefusal → LineRefusal
+told acees (refusal.BadLine place) = refusal.BadLine place
+told acees (refusal.NoAcee name) = refusal.NoAcee name
+told acees (refusal.AceeExists name) = refusal.AceeExists name
+told acees refusal.AceesFull = refusal.AceesFull
+told acees (refusal.BadName name fault) = if is_some (acee_named name acees) then refusal.BadName name fault else refusal.NoAcee name
+told acees refusal.LineTooLong = refusal.LineTooLong
+
+-- On an image, with the ACEEs in use. The number printed is the image's.
+module _ (image : Imaged) (acees : List NamedAcee) where
+  -- a line that is answered, with what is printed, and one that is refused; neither changes the ACEEs
+  abbrev pub answered : List ℕ → Outcome
+  answered text = record { text = text; refused = false; acees = acees }
+
+  abbrev pub refused_with : List ℕ → Outcome
+  refused_with text = record { text = text; refused = true; acees = acees }
+
+  abbrev pub refused : LineRefusal → Outcome
+  refused why = refused_with (numbered image.generation (refused_words why))
+
+  abbrev pub unbuilt : Outcome
+  unbuilt = refused_with (numbered image.generation unbuilt_words)
+
+  -- VERIFY puts the ACEE of a user who is verified. It asks whether one can be put before it verifies. A label isn't built.
+  abbrev pub verify_told : List ℕ → Result Acee VerifyFault → Outcome
+  verify_told name (Ok acee) = record { text = numbered image.generation verified_words; refused = false; acees = with_acee name acee acees }
+  verify_told name (Err fault) = answered (numbered image.generation (verify_fault_words fault))
+
+  abbrev pub verify_unless : List ℕ → VerifyRequest → Option LineRefusal → Outcome
+  verify_unless name request (Some why) = refused why
+  verify_unless name request None = verify_told name (verified image.state image.generation request)
+
+  abbrev pub verify_worked : List ℕ → VerifyRequest → Outcome
+  verify_worked name request = if is_some request.label then unbuilt else verify_unless name request (put_refusal name acees)
+
+  -- AUTH decides for the user of its ACEE.
+  abbrev pub auth_for : List ℕ → Access → Option Acee → Outcome
+  auth_for name access None = refused (refusal.NoAcee name)
+  auth_for name access (Some acee) = answered (answer_line image.generation (decided image.state image.generation acee access.class access.name access.asked))
+
+  -- DELETE takes its ACEE out.
+  abbrev pub delete_for : List ℕ → Option Acee → Outcome
+  delete_for name None = refused (refusal.NoAcee name)
+  delete_for name (Some acee) = record { text = numbered image.generation deleted_words; refused = false; acees = without_acee name acees }
+
+  -- `*AFTER` prints nothing where its number is reached.
+  abbrev pub after_worked : ℕ → Outcome
+  after_worked number = if nat_le number image.generation then answered [] else refused_with (never_line image.generation)
+
+  -- FASTAUTH isn't built.
+  abbrev pub line_worked : Line → Outcome
+  line_worked (Verify name request) = verify_worked name request
+  line_worked (Auth name access) = auth_for name access (acee_named name acees)
+  line_worked (Fastauth name access) = unbuilt
+  line_worked (Delete name) = delete_for name (acee_named name acees)
+  line_worked (After number) = after_worked number
+  line_worked Skip = answered []
+
+  abbrev pub worked : Result Line LineRefusal → Outcome
+  worked (Ok line) = line_worked line
+  worked (Err why) = refused (told acees why)
+
+-- An outcome shows in the output, in the ACEEs, and in whether the line was refused.
+pub record Shows (outcome : Outcome) (before after : List ℕ) (table : List NamedAcee) (was_refused : Bool) : Type 0 where
+  pub text : after ≡ before ++ outcome.text
+  pub acees : table ≡ outcome.acees
+  pub refused : was_refused ≡ outcome.refused
+
+-- Where memory is short, the output and the ACEEs stay.
+pub record Untouched (before after : List ℕ) (table table_after : List NamedAcee) : Type 0 where
+  pub text : after ≡ before
+  pub acees : table_after ≡ table

@@ -1,0 +1,243 @@
+//! The words that are printed for lines.
+
+ghost use Rattle.std.specs.Prelude.{◌≡◌, ◌++◌, OnOk, OnErr, codes, decimal};
+ghost use Rattle.request_files.specs.Answers.{name_fault_words, refusal_words, verify_fault_words, profile_words, found_words, port_words, rule_words, decision_words, answer_line, never_line, numbered, refused_words};
+
+use crate::line::LineRefusal;
+use access_levels::{Condition, Id};
+use acee::{Acee, VerifyFault};
+use decision::{Decision, Request, Rule};
+use generic_names::{NameFault, Pattern};
+use itoa::Buffer;
+use raclist_image::Image;
+use std::alloc::AllocError;
+
+/// Writes the answer to AUTH or FASTAUTH at the end of `out`: the number, the return code, the rule that decided, and for
+/// most rules the profile and the level that was found. The image, the ACEE and the request are those of the decision;
+/// no rule that is built names anything more of them. Where memory is short, `out` stays as it was.
+#[tactic(auto, unfolding(crate::specs::Answers::answer_line))]
+pub fn answer_text(
+    number: u64,
+    decision: &Decision,
+    _image: &Image,
+    _acee: &Acee,
+    _request: &Request,
+    out: &mut Vec<u8>,
+) -> Result<(), AllocError>
+    ensures text { OnOk result (out.new.items ≡ out.old.items ++ answer_line number decision.now) }
+    ensures kept { OnErr result (out.new.items ≡ out.old.items) }
+{
+    let mut words = Vec::new(*out.allocator());
+    write_decision(decision, &mut words)?;
+    write_line(number, words.as_slice(), out)
+}
+
+/// Writes a line: the number, a blank, and the words. Where memory is short, `out` stays as it was.
+pub(crate) fn write_line(number: u64, words: &[u8], out: &mut Vec<u8>) -> Result<(), AllocError>
+    ensures text { OnOk result (out.new.items ≡ out.old.items ++ numbered number words.now) }
+    ensures kept { OnErr result (out.new.items ≡ out.old.items) }
+{
+    let mut line = Vec::new(*out.allocator());
+    write_number(number, &mut line)?;
+    line.extend_from_slice(b" ")?;
+    line.extend_from_slice(words)?;
+    line.extend_from_slice(b"\n")?;
+    out.extend_from_slice(line.as_slice())
+}
+
+/// Writes that the number which `*AFTER` asks for never comes. Where memory is short, `out` stays as it was.
+pub(crate) fn write_never(number: u64, out: &mut Vec<u8>) -> Result<(), AllocError>
+    ensures text { OnOk result (out.new.items ≡ out.old.items ++ never_line number) }
+    ensures kept { OnErr result (out.new.items ≡ out.old.items) }
+{
+    let mut line = Vec::new(*out.allocator());
+    line.extend_from_slice(b"NEVER ")?;
+    write_number(number, &mut line)?;
+    line.extend_from_slice(b"\n")?;
+    out.extend_from_slice(line.as_slice())
+}
+
+/// Writes a number in decimal.
+fn write_number(number: u64, out: &mut Vec<u8>) -> Result<(), AllocError>
+    ensures { OnOk result (out.new.items ≡ out.old.items ++ decimal number) }
+{
+    let mut digits = Buffer::new();
+    out.extend_from_slice(digits.format(number).as_bytes())
+}
+
+/// Writes that a line is refused, and why.
+pub(crate) fn write_refused(refusal: &LineRefusal, out: &mut Vec<u8>) -> Result<(), AllocError>
+    ensures { OnOk result (out.new.items ≡ out.old.items ++ refused_words refusal.now) }
+{
+    out.extend_from_slice(b"REFUSED ")?;
+    write_refusal(refusal, out)
+}
+
+/// Writes why a line is refused.
+fn write_refusal(refusal: &LineRefusal, out: &mut Vec<u8>) -> Result<(), AllocError>
+    ensures { OnOk result (out.new.items ≡ out.old.items ++ refusal_words refusal.now) }
+{
+    match refusal {
+        LineRefusal::BadLine(place) => write_counted(b"BADLINE ", *place, out),
+        LineRefusal::NoAcee(acee) => write_named(b"NOACEE ", acee, out),
+        LineRefusal::AceeExists(acee) => write_named(b"ACEEEXISTS ", acee, out),
+        LineRefusal::AceesFull => out.extend_from_slice(b"ACEESFULL"),
+        LineRefusal::BadName(_, fault) => {
+            out.extend_from_slice(b"BADNAME ")?;
+            write_name_fault(fault, out)
+        }
+        LineRefusal::LineTooLong => out.extend_from_slice(b"LINETOOLONG"),
+    }
+}
+
+/// Writes what is wrong with a name.
+fn write_name_fault(fault: &NameFault, out: &mut Vec<u8>) -> Result<(), AllocError>
+    ensures { OnOk result (out.new.items ≡ out.old.items ++ name_fault_words fault.now) }
+{
+    match fault {
+        NameFault::Empty => out.extend_from_slice(b"EMPTY"),
+        NameFault::TooLong => out.extend_from_slice(b"TOOLONG"),
+        NameFault::EmptyQualifier(number) => write_counted(b"EMPTYQUALIFIER ", *number, out),
+        NameFault::QualifierTooLong(number) => write_counted(b"QUALIFIERTOOLONG ", *number, out),
+        NameFault::BadByte(place) => write_counted(b"BADBYTE ", *place, out),
+        NameFault::StarInside(place) => write_counted(b"STARINSIDE ", *place, out),
+        NameFault::GenericFirst => out.extend_from_slice(b"GENERICFIRST"),
+    }
+}
+
+/// Writes words and a number behind them.
+fn write_counted(words: &[u8], number: u32, out: &mut Vec<u8>) -> Result<(), AllocError>
+    ensures { OnOk result (out.new.items ≡ out.old.items ++ (words.now ++ decimal number)) }
+{
+    out.extend_from_slice(words)?;
+    write_number(u64::from(number), out)
+}
+
+/// Writes words and an ID behind them.
+fn write_named(words: &[u8], id: &Id, out: &mut Vec<u8>) -> Result<(), AllocError>
+    ensures { OnOk result (out.new.items ≡ out.old.items ++ (words.now ++ id.now)) }
+{
+    out.extend_from_slice(words)?;
+    out.extend_from_slice(id.text())
+}
+
+/// The return code of a VERIFY that fails, and its word; none for want of memory.
+pub(crate) fn verify_fault_words(fault: VerifyFault) -> &'static [u8]
+    ensures { result.now ≡ verify_fault_words fault }
+{
+    match fault {
+        VerifyFault::NotDefined => b"4 NOTDEFINED".as_slice(),
+        VerifyFault::NotConnected => b"20 NOTCONNECTED".as_slice(),
+        VerifyFault::Revoked => b"28 REVOKED".as_slice(),
+        VerifyFault::ConnectRevoked => b"36 CONNECTREVOKED".as_slice(),
+        VerifyFault::Port => b"48 PORT".as_slice(),
+        VerifyFault::Application => b"52 APPL".as_slice(),
+        VerifyFault::Label => b"56 LABEL".as_slice(),
+        VerifyFault::NoMemory => b"".as_slice(),
+    }
+}
+
+/// Writes the return code of a decision, and the rule.
+fn write_decision(decision: &Decision, out: &mut Vec<u8>) -> Result<(), AllocError>
+    ensures { OnOk result (out.new.items ≡ out.old.items ++ decision_words decision.now) }
+{
+    write_number(u64::from(decision.rc), out)?;
+    out.extend_from_slice(b" ")?;
+    write_rule(decision, out)
+}
+
+/// Writes the rule, and what belongs to it.
+fn write_rule(decision: &Decision, out: &mut Vec<u8>) -> Result<(), AllocError>
+    ensures { OnOk result (out.new.items ≡ out.old.items ++ rule_words decision.now.rule decision.now) }
+{
+    match &decision.rule {
+        Rule::NoClass => out.extend_from_slice(b"NOCLASS"),
+        Rule::ClassOff => out.extend_from_slice(b"CLASSOFF"),
+        Rule::NotListed => out.extend_from_slice(b"NOTLISTED"),
+        Rule::Global(_) => out.extend_from_slice(b"GLOBAL"),
+        Rule::NoProfile => out.extend_from_slice(b"NOPROFILE"),
+        Rule::ProtectAll => out.extend_from_slice(b"PROTECTALL"),
+        Rule::OwnData => {
+            out.extend_from_slice(b"OWNDATA")?;
+            write_profile(&decision.profile, out)
+        }
+        Rule::UserEntry => write_reason(b"USER", decision, out),
+        Rule::GroupEntry(group) => write_group(b"GROUP ", group, decision, out),
+        Rule::Star => write_reason(b"STAR", decision, out),
+        Rule::Uacc => write_reason(b"UACC", decision, out),
+        Rule::Conditional(port) => write_port(b"CONDITIONAL ", port, decision, out),
+        Rule::Operations => write_reason(b"OPERATIONS", decision, out),
+        Rule::GroupOperations(group) => write_group(b"GROUPOPS ", group, decision, out),
+        Rule::Warning => write_reason(b"WARNING", decision, out),
+        Rule::Insufficient => write_reason(b"INSUFFICIENT", decision, out),
+    }
+}
+
+/// Writes the name of the profile, where there is one.
+fn write_profile(profile: &Option<Pattern>, out: &mut Vec<u8>) -> Result<(), AllocError>
+    ensures { OnOk result (out.new.items ≡ out.old.items ++ profile_words profile.now) }
+{
+    match profile {
+        None => Ok(()),
+        Some(profile) => {
+            out.extend_from_slice(b" ")?;
+            out.extend_from_slice(profile.text())
+        }
+    }
+}
+
+/// Writes the profile, and the level that was found.
+fn write_found(decision: &Decision, out: &mut Vec<u8>) -> Result<(), AllocError>
+    ensures { OnOk result (out.new.items ≡ out.old.items ++ found_words decision.now) }
+{
+    write_profile(&decision.profile, out)?;
+    out.extend_from_slice(b" ")?;
+    out.extend_from_slice(decision.found.name())
+}
+
+/// Writes words, and what was found.
+fn write_reason(words: &[u8], decision: &Decision, out: &mut Vec<u8>) -> Result<(), AllocError>
+    ensures { OnOk result (out.new.items ≡ out.old.items ++ (words.now ++ found_words decision.now)) }
+{
+    out.extend_from_slice(words)?;
+    write_found(decision, out)
+}
+
+/// Writes words and a group, and what was found.
+fn write_group(
+    words: &[u8],
+    group: &Id,
+    decision: &Decision,
+    out: &mut Vec<u8>,
+) -> Result<(), AllocError>
+    ensures { OnOk result (out.new.items ≡ out.old.items ++ (words.now ++ group.now ++ found_words decision.now)) }
+{
+    out.extend_from_slice(words)?;
+    out.extend_from_slice(group.text())?;
+    write_found(decision, out)
+}
+
+/// Writes words and a port of entry, and what was found.
+fn write_port(
+    words: &[u8],
+    port: &Condition,
+    decision: &Decision,
+    out: &mut Vec<u8>,
+) -> Result<(), AllocError>
+    ensures { OnOk result (out.new.items ≡ out.old.items ++ (words.now ++ port_words port.now ++ found_words decision.now)) }
+{
+    out.extend_from_slice(words)?;
+    write_when(port, out)?;
+    write_found(decision, out)
+}
+
+/// Writes a port of entry as PERMIT's WHEN names it.
+fn write_when(port: &Condition, out: &mut Vec<u8>) -> Result<(), AllocError>
+    ensures { OnOk result (out.new.items ≡ out.old.items ++ port_words port.now) }
+{
+    out.extend_from_slice(b"WHEN(")?;
+    out.extend_from_slice(port.class.name())?;
+    out.extend_from_slice(b"(")?;
+    out.extend_from_slice(port.name.text())?;
+    out.extend_from_slice(b"))")
+}

@@ -1,0 +1,22 @@
+//! Lines of requests: what they ask for, the ACEEs that they name, and the answers.
+#![tactic(auto)]
+
+mod acees;
+mod answers;
+mod line;
+mod long_word;
+mod next_words;
+mod numbers;
+mod operands;
+mod reading;
+mod spellings;
+mod words;
+mod working;
+
+pub use acees::{AceeTable, NamedAcee};
+pub use answers::answer_text;
+pub use line::{LineRefusal, RequestLine, read_line};
+pub use working::work;
+
+#[cfg(test)]
+mod tests;

@@ -1,0 +1,81 @@
+//! The next word of a line, taken for what it says. What doesn't fit is told by its place; where a word lacks, that is
+//! the place behind the line's last byte.
+
+ghost use Rattle.std.specs.Prelude.{◌≡◌, IfOk, IsTrue};
+ghost use Rattle.decision.specs.Asked.{may_be_asked};
+ghost use Rattle.request_files.specs.Spellings.{id_word as id_in, level_word as level_in, name_word as name_in, number_word as number_of};
+ghost use Rattle.request_files.specs.Grammar.{next, ended};
+
+use crate::numbers::number_word;
+use crate::spellings::{id_word, level_word, name_word};
+use crate::words::Words;
+use access_levels::{Id, Level};
+use generic_names::{NameFault, NameKind, Resource};
+
+/// An ID, and the words behind it.
+#[tactic(auto, unfolding(crate::specs::Grammar::next))]
+pub(crate) fn next_id<'a>(words: &Words<'a>) -> Result<(Id, Words<'a>), u32>
+    ensures { result ≡ next id_in words.now }
+{
+    let Some((word, rest)) = words.split_first() else {
+        return Err(words.end());
+    };
+    match id_word(word.text) {
+        Some(id) => Ok((id, rest)),
+        None => Err(word.place),
+    }
+}
+
+/// A number, and the words behind it.
+#[tactic(auto, unfolding(crate::specs::Grammar::next))]
+pub(crate) fn next_number<'a>(words: &Words<'a>) -> Result<(u64, Words<'a>), u32>
+    ensures { result ≡ next number_of words.now }
+{
+    let Some((word, rest)) = words.split_first() else {
+        return Err(words.end());
+    };
+    match number_word(word.text) {
+        Some(number) => Ok((number, rest)),
+        None => Err(word.place),
+    }
+}
+
+/// The name of a resource, or what is wrong with it, and the words behind it.
+#[tactic(auto, unfolding(crate::specs::Grammar::next))]
+pub(crate) fn next_name<'a>(
+    kind: NameKind,
+    words: &Words<'a>,
+) -> Result<(Result<Resource, NameFault>, Words<'a>), u32>
+    ensures name { result ≡ next (name_in kind) words.now }
+    ensures kind { IfOk result (λ t. IfOk t.0 (λ name. name.kind ≡ kind)) }
+{
+    match words.split_first() {
+        Some((word, rest)) => Ok((name_word(kind, word.text), rest)),
+        None => Err(words.end()),
+    }
+}
+
+/// A level that may be asked for, and the words behind it.
+#[tactic(auto, unfolding(crate::specs::Grammar::next))]
+pub(crate) fn next_level<'a>(words: &Words<'a>) -> Result<(Level, Words<'a>), u32>
+    ensures level { result ≡ next level_in words.now }
+    ensures asked { IfOk result (λ t. IsTrue (may_be_asked t.0)) }
+{
+    let Some((word, rest)) = words.split_first() else {
+        return Err(words.end());
+    };
+    match level_word(word.text) {
+        Some(level) => Ok((level, rest)),
+        None => Err(word.place),
+    }
+}
+
+/// What was said, unless a word is left.
+pub(crate) fn ended<T: Drop>(words: &Words, said: T) -> Result<T, u32>
+    ensures { result ≡ ended words.now.words said }
+{
+    match words.split_first() {
+        Some((word, _)) => Err(word.place),
+        None => Ok(said),
+    }
+}

@@ -1,0 +1,138 @@
+//! The words behind the first one of a line, read for each kind of line.
+
+ghost use Rattle.std.specs.Prelude.{◌≡◌, IfOk, IsTrue};
+ghost use Rattle.class_profiles.specs.Lawful.{kind_in};
+ghost use Rattle.decision.specs.Asked.{may_be_asked};
+ghost use Rattle.request_files.specs.Words.{seen};
+ghost use Rattle.request_files.specs.Grammar.{with_word as with_one, with_words as with_all, user_alone, deleted, number_after, verified_by, asked_by, access_to};
+ghost use Rattle.request_files.specs.Seen.{access_seen, asked_seen};
+
+use crate::next_words::{ended, next_id, next_level, next_name, next_number};
+use crate::operands::{operand_word, with_operand};
+use crate::words::{Word, Words};
+use access_levels::{Id, Level};
+use acee::VerifyRequest;
+use decision::Request;
+use generic_names::{NameFault, NameKind, Resource};
+
+/// What the words of VERIFY say.
+#[derive(Clone, Copy)]
+pub(crate) struct Verified {
+    pub(crate) acee: Id,
+    pub(crate) request: VerifyRequest,
+}
+
+/// What the words of AUTH and FASTAUTH say. The name of the resource may have a fault.
+#[derive(Drop)]
+pub(crate) struct Asked {
+    pub(crate) acee: Id,
+    pub(crate) request: Result<Request, NameFault>,
+}
+
+/// DELETE: the name of an ACEE.
+#[tactic(auto, unfolding(crate::specs::Grammar::deleted))]
+pub(crate) fn deleted(words: &Words) -> Result<Id, u32>
+    ensures { result ≡ deleted words.now }
+{
+    let (acee, rest) = next_id(words)?;
+    ended(&rest, acee)
+}
+
+/// `*AFTER`: a number.
+#[tactic(auto, unfolding(crate::specs::Grammar::number_after))]
+pub(crate) fn number_after(words: &Words) -> Result<u64, u32>
+    ensures { result ≡ number_after words.now }
+{
+    let (number, rest) = next_number(words)?;
+    ended(&rest, number)
+}
+
+/// VERIFY: the name of an ACEE, a user, and operands.
+#[tactic(auto, unfolding(crate::specs::Grammar::verified_by))]
+pub(crate) fn verified_by(words: &Words) -> Result<Verified, u32>
+    ensures { result ≡ verified_by words.now }
+{
+    let (acee, rest) = next_id(words)?;
+    let (user, rest) = next_id(&rest)?;
+    let request = with_words(user_alone(user), rest)?;
+    Ok(Verified { acee, request })
+}
+
+/// A request that names a user, and nothing else.
+fn user_alone(user: Id) -> VerifyRequest
+    ensures { result ≡ user_alone user }
+{
+    VerifyRequest {
+        user,
+        group: None,
+        port: None,
+        application: None,
+        label: None,
+    }
+}
+
+/// The request with the operands that these words spell.
+fn with_words(request: VerifyRequest, words: Words) -> Result<VerifyRequest, u32>
+    ensures { result ≡ with_all request words.entry.words }
+{
+    let mut request = request;
+    let mut left = words;
+    while let Some((word, rest)) = left.split_first() {
+        request = with_word(&request, word)?;
+        left = rest;
+    }
+    Ok(request)
+}
+
+/// The request with the operand that a word spells.
+fn with_word(request: &VerifyRequest, word: Word) -> Result<VerifyRequest, u32>
+    ensures { result ≡ with_one request.now (seen word.entry) }
+{
+    let Some(operand) = operand_word(word.text) else {
+        return Err(word.place);
+    };
+    match with_operand(request, &operand) {
+        Some(longer) => Ok(longer),
+        None => Err(word.place),
+    }
+}
+
+/// AUTH and FASTAUTH: the name of an ACEE, a class, the name of a resource, and a level.
+#[tactic(auto, unfolding(crate::specs::Grammar::asked_by))]
+pub(crate) fn asked_by(words: &Words) -> Result<Asked, u32>
+    ensures { asked_seen result ≡ asked_by words.now }
+{
+    let (acee, rest) = next_id(words)?;
+    let (class, rest) = next_id(&rest)?;
+    let (name, rest) = next_name(kind_in(class), &rest)?;
+    let (level, rest) = next_level(&rest)?;
+    let request = request_to(class, name, level);
+    ended(&rest, Asked { acee, request })
+}
+
+/// The request for that access, unless the name has a fault.
+fn request_to(
+    class: Id,
+    name: Result<Resource, NameFault>,
+    asked: Level,
+) -> Result<Request, NameFault>
+    requires kind { IfOk name (λ name. name.kind ≡ kind_in class) }
+    requires level { IsTrue (may_be_asked asked) }
+    ensures { access_seen result ≡ access_to class asked name }
+{
+    match name {
+        Ok(name) => Ok(Request { class, name, asked }),
+        Err(fault) => Err(fault),
+    }
+}
+
+/// The kind of the names in a class.
+fn kind_in(class: Id) -> NameKind
+    ensures { result ≡ kind_in class }
+{
+    if class.text() == b"DATASET".as_slice() {
+        NameKind::DataSet
+    } else {
+        NameKind::General
+    }
+}

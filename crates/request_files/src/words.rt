@@ -1,0 +1,124 @@
+//! The words of a line, one at a time from the left.
+
+ghost use Rattle.std.specs.Prelude.{◌≡◌, ◌+◌, ◌<◌, ◌≤◌, ◌^◌, length, not};
+ghost use Rattle.std.specs.List.{prefix_len};
+ghost use Rattle.command_words.specs.Bytes.{is_blank_byte};
+ghost use Rattle.request_files.specs.Words.{words_at, unread_at, BeginsWithNoBlank, IsFirstWord};
+
+use std::marker::Model;
+
+/// A word of a line.
+#[derive(Clone, Copy, Drop)]
+pub(crate) struct Word<'a> {
+    /// The place of its first byte in the line, counted from 1.
+    pub(crate) place: u32,
+    /// Its bytes, as they were written.
+    pub(crate) text: &'a [u8],
+}
+
+/// The words that are left of a line. Contracts see them as their list, with the place behind the line's last byte.
+#[derive(Drop)]
+pub(crate) struct Words<'a> {
+    place: u32,
+    bytes: &'a [u8],
+}
+
+impl<'a> Model for Words<'a> {
+    ghost use Rattle.std.specs.Prelude.{◌+◌, ◌<◌, ◌^◌, length};
+    ghost use Rattle.request_files.specs.Words.{Unread, unread_at};
+
+    ghost Value = { Unread };
+
+    ghost view = { λ words. unread_at words.place words.bytes.now };
+
+    ghost invariant = { λ words. words.place + length words.bytes.now < 2 ^ 30 };
+}
+
+impl<'a> Words<'a> {
+    ghost use Rattle.request_files.specs.Words.{SplitsFirst};
+
+    /// The words of a line.
+    pub(crate) fn of(line: &'a [u8]) -> Words<'a>
+        requires { length line.now < 2 ^ 29 }
+        ensures { result ≡ unread_at 1 line.now }
+    {
+        Words {
+            place: 1,
+            bytes: line,
+        }
+    }
+
+    /// The first word, and those behind it.
+    pub(crate) fn split_first(&self) -> Option<(Word<'a>, Words<'a>)>
+        ensures { SplitsFirst self.now result }
+    {
+        let (place, bytes) = past_blanks(self.place, self.bytes);
+        first_word(place, bytes)
+    }
+
+    /// The place behind the last byte of the line.
+    pub(crate) fn end(&self) -> u32
+        ensures { result ≡ self.now.end }
+    {
+        self.place + self.bytes.len() as u32
+    }
+}
+
+/// A blank or a tab.
+fn is_blank(byte: u8) -> bool
+    ensures { result ≡ is_blank_byte byte }
+{
+    byte == b' ' || byte == b'\t'
+}
+
+/// The bytes without the blanks and tabs in front, and their place.
+fn past_blanks(mut place: u32, mut bytes: &[u8]) -> (u32, &[u8])
+    requires { place + length bytes.now < 2 ^ 30 }
+    ensures same { words_at result.0 result.1.now ≡ words_at place bytes.now }
+    ensures end { result.0 + length result.1.now ≡ place + length bytes.now }
+    ensures front { BeginsWithNoBlank result.1.now }
+{
+    while let Some((byte, rest)) = bytes.split_first() {
+        if !is_blank(*byte) {
+            return (place, bytes);
+        }
+        place += 1;
+        bytes = rest;
+    }
+    (place, bytes)
+}
+
+/// How many bytes stand before the first blank or tab.
+fn word_length(bytes: &[u8]) -> usize
+    ensures value { result ≡ prefix_len (λ byte. not (is_blank_byte byte)) bytes.now }
+    ensures within { result ≤ length bytes.now }
+{
+    let mut count = 0;
+    let mut rest = bytes;
+    while let Some((byte, behind)) = rest.split_first() {
+        if is_blank(*byte) {
+            return count;
+        }
+        count += 1;
+        rest = behind;
+    }
+    count
+}
+
+/// The word that the bytes begin with, which is at that place, and what is behind it.
+fn first_word<'a>(place: u32, bytes: &'a [u8]) -> Option<(Word<'a>, Words<'a>)>
+    requires reach { place + length bytes.now < 2 ^ 30 }
+    requires front { BeginsWithNoBlank bytes.now }
+    ensures { IsFirstWord place bytes.now result }
+{
+    if bytes.is_empty() {
+        return None;
+    }
+    let length = word_length(bytes);
+    let (text, rest) = bytes.split_at(length);
+    let behind = Words {
+        place: place + length as u32,
+        bytes: rest,
+    };
+    Some((Word { place, text }, behind))
+}

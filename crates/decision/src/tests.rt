@@ -58,6 +58,171 @@ const BASE: Setting = Setting {
     asked: Level::Read,
 };
 
+const NONE: Option<Level> = Some(Level::NoAccess);
+
+const READ: Option<Level> = Some(Level::Read);
+
+const UPDATE: Option<Level> = Some(Level::Update);
+
+const ALTER: Option<Level> = Some(Level::Alter);
+
+// Settings of SYS1.A, with the case, its code and the rank that it found.
+const ROWS: [(Setting, (u8, u8, u8)); 18] = [
+    (
+        Setting {
+            own: READ,
+            current: ALTER,
+            ..BASE
+        },
+        (8, 0, 2),
+    ),
+    (
+        Setting {
+            own: NONE,
+            current: ALTER,
+            star: ALTER,
+            uacc: Level::Alter,
+            ..BASE
+        },
+        (16, 8, 0),
+    ),
+    (
+        Setting {
+            current: READ,
+            star: ALTER,
+            ..BASE
+        },
+        (9, 0, 2),
+    ),
+    (
+        Setting {
+            current: READ,
+            other: UPDATE,
+            grplist: true,
+            ..BASE
+        },
+        (9, 0, 3),
+    ),
+    (
+        Setting {
+            other: UPDATE,
+            ..BASE
+        },
+        (16, 8, 0),
+    ),
+    (
+        Setting {
+            current: NONE,
+            star: ALTER,
+            uacc: Level::Alter,
+            ..BASE
+        },
+        (16, 8, 0),
+    ),
+    (
+        Setting {
+            star: READ,
+            uacc: Level::Alter,
+            ..BASE
+        },
+        (10, 0, 2),
+    ),
+    (
+        Setting {
+            star: NONE,
+            uacc: Level::Alter,
+            ..BASE
+        },
+        (11, 0, 5),
+    ),
+    (
+        Setting {
+            star: READ,
+            uacc: Level::Read,
+            restricted: true,
+            ..BASE
+        },
+        (16, 8, 0),
+    ),
+    (
+        Setting {
+            by_port: READ,
+            uacc: Level::Read,
+            ..BASE
+        },
+        (11, 0, 2),
+    ),
+    (
+        Setting {
+            own: NONE,
+            by_port: READ,
+            operations: true,
+            ..BASE
+        },
+        (12, 0, 2),
+    ),
+    (
+        Setting {
+            by_port: READ,
+            operations: true,
+            uacc: Level::Execute,
+            asked: Level::Update,
+            ..BASE
+        },
+        (13, 0, 1),
+    ),
+    (
+        Setting {
+            own: READ,
+            operations: true,
+            asked: Level::Update,
+            ..BASE
+        },
+        (16, 8, 2),
+    ),
+    (
+        Setting {
+            operations: true,
+            group_operations: true,
+            ..BASE
+        },
+        (13, 0, 0),
+    ),
+    (
+        Setting {
+            group_operations: true,
+            warning: true,
+            uacc: Level::Execute,
+            ..BASE
+        },
+        (14, 0, 1),
+    ),
+    (
+        Setting {
+            group_operations: true,
+            in_scope: false,
+            ..BASE
+        },
+        (16, 8, 0),
+    ),
+    (
+        Setting {
+            own: NONE,
+            group_operations: true,
+            warning: true,
+            ..BASE
+        },
+        (15, 0, 0),
+    ),
+    (
+        Setting {
+            uacc: Level::Execute,
+            ..BASE
+        },
+        (16, 8, 1),
+    ),
+];
+
 // The number of the case that has the rule.
 fn case_number(rule: &Rule) -> u8 {
     match rule {
@@ -252,19 +417,11 @@ fn ask(
     let acee = joe(alloc, setting)?;
     let request = Request::new(Id::read(class)?, name, setting.asked).ok_or("a request")?;
     let decision = auth(image, &acee, &request);
-    assert_that(
-        decision.generation == 7
-            && decision.warned == (decision.rc == 0 && case_number(&decision.rule) == 15),
-    )?;
     Ok((
         case_number(&decision.rule),
         decision.rc,
         decision.found.rank(),
     ))
-}
-
-fn assert_that(holds: bool) -> Result<(), Fail> {
-    if holds { Ok(()) } else { Err("holds")? }
 }
 
 // The case, its code and the rank that it found, of SYS1.A or of another data set whose profile has its name.
@@ -273,10 +430,6 @@ fn told(alloc: Global, name: &[u8], setting: &Setting) -> Result<(u8, u8, u8), F
     let image = image(alloc, classes, setting.grplist, false)?;
     let resource = Resource::read(NameKind::DataSet, name)?;
     ask(alloc, &image, setting, b"DATASET", resource)
-}
-
-fn case(alloc: Global, setting: Setting) -> Result<(u8, u8, u8), Fail> {
-    told(alloc, b"SYS1.A", &setting)
 }
 
 #[test]
@@ -293,232 +446,21 @@ fn without_a_profile(rt: HostRuntime) -> Result<(), Fail> {
     Ok(())
 }
 
+// The access lists and the universal access, and what comes behind them.
 #[test]
-fn by_entries(rt: HostRuntime) -> Result<(), Fail> {
+fn with_a_profile(rt: HostRuntime) -> Result<(), Fail> {
     let alloc = rt.alloc();
-    let none = Some(Level::NoAccess);
-    let (read, update, alter) = (Some(Level::Read), Some(Level::Update), Some(Level::Alter));
-    assert_eq!(rt;
-        told(alloc, b"JOE.A", &Setting { own: none, ..BASE })?,
-        (7, 0, 0)
-    );
-    assert_eq!(rt;
-        case(
-            alloc,
-            Setting {
-                own: read,
-                current: alter,
-                ..BASE
-            }
-        )?,
-        (8, 0, 2)
-    );
-    assert_eq!(rt;
-        case(
-            alloc,
-            Setting {
-                own: none,
-                current: alter,
-                star: alter,
-                uacc: Level::Alter,
-                ..BASE
-            }
-        )?,
-        (16, 8, 0)
-    );
-    assert_eq!(rt;
-        case(
-            alloc,
-            Setting {
-                current: read,
-                star: alter,
-                ..BASE
-            }
-        )?,
-        (9, 0, 2)
-    );
-    assert_eq!(rt;
-        case(
-            alloc,
-            Setting {
-                current: read,
-                other: update,
-                grplist: true,
-                ..BASE
-            }
-        )?,
-        (9, 0, 3)
-    );
-    assert_eq!(rt;
-        case(
-            alloc,
-            Setting {
-                other: update,
-                ..BASE
-            }
-        )?,
-        (16, 8, 0)
-    );
-    assert_eq!(rt;
-        case(
-            alloc,
-            Setting {
-                current: none,
-                star: alter,
-                uacc: Level::Alter,
-                ..BASE
-            }
-        )?,
-        (16, 8, 0)
-    );
-    assert_eq!(rt;
-        case(
-            alloc,
-            Setting {
-                star: read,
-                uacc: Level::Alter,
-                ..BASE
-            }
-        )?,
-        (10, 0, 2)
-    );
-    assert_eq!(rt;
-        case(
-            alloc,
-            Setting {
-                star: none,
-                uacc: Level::Alter,
-                ..BASE
-            }
-        )?,
-        (11, 0, 5)
-    );
-    assert_eq!(rt;
-        case(
-            alloc,
-            Setting {
-                star: read,
-                uacc: Level::Read,
-                restricted: true,
-                ..BASE
-            }
-        )?,
-        (16, 8, 0)
-    );
+    for (setting, expected) in &ROWS {
+        assert_eq!(rt; told(alloc, b"SYS1.A", setting)?, *expected);
+    }
     Ok(())
 }
 
 #[test]
-fn beyond_the_list(rt: HostRuntime) -> Result<(), Fail> {
+fn own_data(rt: HostRuntime) -> Result<(), Fail> {
     let alloc = rt.alloc();
-    let none = Some(Level::NoAccess);
-    let read = Some(Level::Read);
-    let execute = Level::Execute;
-    let asked = Level::Update;
-    assert_eq!(rt;
-        case(
-            alloc,
-            Setting {
-                by_port: read,
-                uacc: Level::Read,
-                ..BASE
-            }
-        )?,
-        (11, 0, 2)
-    );
-    assert_eq!(rt;
-        case(
-            alloc,
-            Setting {
-                own: none,
-                by_port: read,
-                operations: true,
-                ..BASE
-            }
-        )?,
-        (12, 0, 2)
-    );
-    assert_eq!(rt;
-        case(
-            alloc,
-            Setting {
-                by_port: read,
-                operations: true,
-                uacc: execute,
-                asked,
-                ..BASE
-            }
-        )?,
-        (13, 0, 1)
-    );
-    assert_eq!(rt;
-        case(
-            alloc,
-            Setting {
-                own: read,
-                operations: true,
-                asked,
-                ..BASE
-            }
-        )?,
-        (16, 8, 2)
-    );
-    assert_eq!(rt;
-        case(
-            alloc,
-            Setting {
-                operations: true,
-                group_operations: true,
-                ..BASE
-            }
-        )?,
-        (13, 0, 0)
-    );
-    assert_eq!(rt;
-        case(
-            alloc,
-            Setting {
-                group_operations: true,
-                warning: true,
-                uacc: execute,
-                ..BASE
-            }
-        )?,
-        (14, 0, 1)
-    );
-    assert_eq!(rt;
-        case(
-            alloc,
-            Setting {
-                group_operations: true,
-                in_scope: false,
-                ..BASE
-            }
-        )?,
-        (16, 8, 0)
-    );
-    assert_eq!(rt;
-        case(
-            alloc,
-            Setting {
-                own: none,
-                group_operations: true,
-                warning: true,
-                ..BASE
-            }
-        )?,
-        (15, 0, 0)
-    );
-    assert_eq!(rt;
-        case(
-            alloc,
-            Setting {
-                uacc: execute,
-                ..BASE
-            }
-        )?,
-        (16, 8, 1)
-    );
+    let setting = Setting { own: NONE, ..BASE };
+    assert_eq!(rt; told(alloc, b"JOE.A", &setting)?, (7, 0, 0));
     Ok(())
 }
 

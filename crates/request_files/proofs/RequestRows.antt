@@ -3,6 +3,9 @@ use Rattle.std.proofs.Common.{◌≡◌, ℕ, List, [], ◌∷◌, ◌++◌, ref
 use Rattle.racf_profiles.specs.NewDatabase.{new_database}
 use Rattle.racf_profiles.specs.State.{restart}
 use Rattle.raclist_image.specs.Imaged.{Imaged}
+use Rattle.acee.specs.Verify.{acee_of}
+use Rattle.decision.specs.Table.{decided}
+use Rattle.decision.specs.Verify.{verified}
 use Rattle.request_files.specs.declared.acees.NamedAcee.{NamedAcee}
 use Rattle.request_files.specs.Words.{words_at}
 use Rattle.request_files.specs.Grammar.{next, deleted, number_after, asked_by, verified_by, requested, read}
@@ -41,5 +44,5 @@ life_of_an_acee : texts on_new [] (
     ∷ []
     ∷ never_line 0
     ∷ []
-unfolding on_new words_at next deleted number_after asked_by verified_by requested read answer_line
+unfolding on_new decided verified acee_of words_at next deleted number_after asked_by verified_by requested read answer_line
 life_of_an_acee = refl

@@ -2,8 +2,8 @@
 use Rattle.std.proofs.Common.{◌≡◌, ℕ, List, [], ◌∷◌, refl}
 use Rattle.std.specs.Prelude.{codes}
 use Rattle.racf_run.specs.declared.item.Item.{Item}
-use Rattle.racf_run.specs.declared.item.Item.TheVariants.{Command, NotBuilt}
-use Rattle.racf_run.specs.Items.{verify_of, auth_of, built_request, request_of, is_request}
+use Rattle.racf_run.specs.declared.item.Item.TheVariants.{Command, Request, NotBuilt}
+use Rattle.racf_run.specs.Items.{request_of, is_request}
 use Rattle.racf_run.specs.Script.{stream}
 
 abbrev items : List ℕ → List Item
@@ -14,28 +14,28 @@ whole_items bytes = stream.whole_items bytes
 
 -- The mark and the blanks behind it go, those before it stay; behind `+` the next line's go too.
 hyphen : items (codes "adduser joe - \t\n  dfltgrp(sys1)\n") ≡ Command (codes "adduser joe   dfltgrp(sys1)") ∷ []
-unfolding verify_of auth_of built_request request_of is_request stream
+unfolding request_of is_request stream
 hyphen = refl
 
 plus : items (codes "AU J+\n \tOE\nDU X") ≡ Command (codes "AU JOE") ∷ Command (codes "DU X") ∷ []
-unfolding verify_of auth_of built_request request_of is_request stream
+unfolding request_of is_request stream
 plus = refl
 
 -- A comment, a request and a blank line are joined too; the blank one has no mark.
 joins_all : items (codes "AU A-\n/* x -\nVERIFY A IBMUSER-\n\nDU X") ≡ Command (codes "AU A/* x VERIFY A IBMUSER") ∷ Command (codes "DU X") ∷ []
-unfolding verify_of auth_of built_request request_of is_request stream
+unfolding request_of is_request stream
 joins_all = refl
 
 -- A comment doesn't go on, nor does a request; `VERIFY,A` and `*ISSUERX` are commands.
-apart : items (codes "/* x -\n verify a -\n*issuer A-\nVERIFY,A\n*ISSUERX") ≡ NotBuilt ∷ NotBuilt ∷ Command (codes "VERIFY,A") ∷ Command (codes "*ISSUERX") ∷ []
-unfolding verify_of auth_of built_request request_of is_request stream
+apart : items (codes "/* x -\n verify a -\n*issuer A-\nVERIFY,A\n*ISSUERX") ≡ Request (codes " verify a -") ∷ NotBuilt ∷ Command (codes "VERIFY,A") ∷ Command (codes "*ISSUERX") ∷ []
+unfolding request_of is_request stream
 apart = refl
 
 -- The end of the input ends a command; where more may come, it isn't begun.
 ended : items (codes "-") ≡ Command [] ∷ []
-unfolding verify_of auth_of built_request request_of is_request stream
+unfolding request_of is_request stream
 ended = refl
 
 not_begun : whole_items (codes "DU X\nAU A-\n/* x") ≡ Command (codes "DU X") ∷ []
-unfolding verify_of auth_of built_request request_of is_request stream
+unfolding request_of is_request stream
 not_begun = refl

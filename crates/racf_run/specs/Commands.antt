@@ -29,10 +29,10 @@ past_gaps (byte ∷ bytes) = if is_gap_byte byte then past_gaps bytes else byte 
 abbrev pub command_name : List ℕ → List ℕ
 command_name text = map upper (before_first (λ byte. not (is_word_byte byte)) (past_gaps text))
 
--- The commands on access lists and on options, by name and abbreviation, aren't built.
+-- The command on options, by name and abbreviation, isn't built.
 unfoldable pub is_other_command : List ℕ → Bool
 is_other_command text = let name = command_name text in
-    bytes_eq name (codes "PERMIT") || bytes_eq name (codes "PE") || bytes_eq name (codes "SETROPTS") || bytes_eq name (codes "SETR")
+    bytes_eq name (codes "SETROPTS") || bytes_eq name (codes "SETR")
 
 -- The command of a text, or why it isn't one that is built: what isn't built comes before every refusal but syntax. A text
 -- that spells no command always has a first fault.

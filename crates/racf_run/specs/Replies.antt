@@ -1,6 +1,5 @@
--- The text of each reply and answer.
-use Rattle.std.specs.Prelude.{ℕ, Bool, true, false, List, ◌++◌, codes, decimal}
-use Rattle.access_levels.specs.Level.{level_name}
+-- The text of each reply to a command.
+use Rattle.std.specs.Prelude.{ℕ, List, ◌++◌, codes, decimal}
 use Rattle.racf_run.specs.declared.reply.Refusal.{Refusal}
 use Rattle.racf_run.specs.declared.reply.Refusal.TheVariants as refusal
 use Rattle.command_grammar.specs.declared.faults.Syntax.{Syntax}
@@ -14,11 +13,8 @@ use Rattle.racf_database.specs.declared.conflict.Holder.{Holder}
 use Rattle.racf_database.specs.declared.conflict.Holder.TheVariants as holder
 use Rattle.racf_database.specs.declared.conflict.Kind.{Kind}
 use Rattle.racf_database.specs.declared.conflict.Kind.TheVariants as kind
-use Rattle.racf_run.specs.declared.reply.Found.{Found}
-use Rattle.racf_run.specs.declared.reply.Decision.{Decision}
-use Rattle.racf_run.specs.declared.reply.Decision.TheVariants.{NoProfile, UniversalAccess, Insufficient}
 use Rattle.racf_run.specs.declared.reply.Reply.{Reply}
-use Rattle.racf_run.specs.declared.reply.Reply.TheVariants.{Accepted, Refused, Verified, Decided}
+use Rattle.racf_run.specs.declared.reply.Reply.TheVariants.{Accepted, Refused}
 
 -- the first fault of a command's text, with its place in the text or the words of the operands
 abbrev pub syntax_words : Syntax → List ℕ
@@ -81,32 +77,13 @@ abbrev pub refusal_words : Refusal → List ℕ
 refusal_words (refusal.Syntax fault) = codes "SYNTAX " ++ syntax_words fault
 refusal_words (refusal.Conflict conflict) = conflict_words conflict
 refusal_words refusal.NumberSpent = codes "NUMBERSPENT"
-refusal_words (refusal.NoAcee acee) = codes "NOACEE " ++ acee
 refusal_words refusal.NotBuilt = codes "NOTBUILT"
 refusal_words refusal.LineTooLong = codes "LINETOOLONG"
-
--- the profile that decided, and the access that was found
-abbrev pub found_words : Found → List ℕ
-found_words found = found.profile.text ++ codes " " ++ level_name found.access
-
--- the return code of a decision, and its reason
-abbrev pub decision_words : Decision → List ℕ
-decision_words NoProfile = codes "4 NOPROFILE"
-decision_words (UniversalAccess found) = codes "0 UACC " ++ found_words found
-decision_words (Insufficient found) = codes "8 INSUFFICIENT " ++ found_words found
 
 abbrev pub reply_words : Reply → List ℕ
 reply_words Accepted = codes "ACCEPTED"
 reply_words (Refused why) = codes "REFUSED " ++ refusal_words why
-reply_words Verified = codes "0 VERIFIED"
-reply_words (Decided decision) = decision_words decision
 
 -- A line is printed for each: the number, a blank, and the words.
 unfoldable pub reply_line : ℕ → Reply → List ℕ
 reply_line number reply = decimal number ++ codes " " ++ reply_words reply ++ codes "\n"
-
-abbrev pub is_refusal : Reply → Bool
-is_refusal Accepted = false
-is_refusal (Refused why) = true
-is_refusal Verified = false
-is_refusal (Decided decision) = false

@@ -14,8 +14,8 @@ names_any (name ∷ names) = true
 abbrev pub is_unbuilt_class : List ℕ → Bool
 is_unbuilt_class name = bytes_eq name (codes "SECDATA") || bytes_eq name (codes "SECLABEL") || bytes_eq name (codes "GLOBAL")
 
--- A command that names a security level, a category, a label or a member, or takes one away; that works on a profile of such
--- a class; or that changes access lists.
+-- A command that names a security level, a category, a label or a member, or takes one away; or that works on a profile of
+-- such a class. No profile of such a class can be there, so that PERMIT finds none.
 abbrev pub is_unbuilt : Form → Bool
 is_unbuilt (form.AddUser c) = is_some c.seclevel || names_any c.addcategory || is_some c.seclabel
 is_unbuilt (form.AltUser c) =
@@ -36,4 +36,4 @@ is_unbuilt (form.RAlter c) =
     is_unbuilt_class c.class || is_some c.seclevel || c.noseclevel || names_any c.addcategory || names_any c.delcategory
     || is_some c.seclabel || c.noseclabel || names_any c.addmem || names_any c.delmem
 is_unbuilt (form.RDelete c) = is_unbuilt_class c.class
-is_unbuilt (form.Permit c) = true
+is_unbuilt (form.Permit c) = false

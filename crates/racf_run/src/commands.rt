@@ -44,16 +44,13 @@ fn built(command: Command) -> Result<Command, Refusal>
     }
 }
 
-/// The text of a command on access lists or on options.
+/// The text of the command on options.
 #[tactic(auto, unfolding(crate::specs::Commands::is_other_command))]
 fn is_other_command(text: &[u8]) -> bool
     ensures { result ≡ is_other_command text.now }
 {
     let name = command_name(text);
-    is_spelled(name, b"PERMIT")
-        || is_spelled(name, b"PE")
-        || is_spelled(name, b"SETROPTS")
-        || is_spelled(name, b"SETR")
+    is_spelled(name, b"SETROPTS") || is_spelled(name, b"SETR")
 }
 
 /// The name that a command's text begins with.

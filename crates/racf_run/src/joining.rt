@@ -6,7 +6,7 @@ ghost use Rattle.racf_outside.specs.Lines.{Text};
 ghost use Rattle.racf_run.specs.Fronts.{Front};
 ghost use Rattle.racf_run.specs.Joining.{going_on, added, joined, fresh_role, role_of};
 
-use crate::item::{CommandText, Item, is_blank, is_request, is_skipped, past_blanks};
+use crate::item::{LineText, Item, is_blank, is_request, is_skipped, past_blanks};
 use crate::mark::Mark;
 use std::alloc::{AllocError, Global};
 use std::marker::Model;
@@ -70,7 +70,7 @@ fn joined(before: Vec<u8>, text: &[u8]) -> Result<LineRole, AllocError>
     match going_on(text) {
         None => {
             whole.extend_from_slice(text)?;
-            Ok(LineRole::Whole(Some(Item::Command(CommandText::new(whole)))))
+            Ok(LineRole::Whole(Some(Item::Command(LineText::new(whole)))))
         }
         Some((front, mark)) => {
             whole.extend_from_slice(front)?;
@@ -96,7 +96,7 @@ impl Begun {
         ensures { result ≡ Command self.text }
     {
         let Begun { text, mark: _ } = self;
-        Item::Command(CommandText::new(text))
+        Item::Command(LineText::new(text))
     }
 }
 

@@ -8,6 +8,7 @@ mod item;
 mod joining;
 mod mark;
 mod reply;
+mod requests;
 mod scripts;
 mod status;
 mod stream;

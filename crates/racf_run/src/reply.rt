@@ -1,12 +1,10 @@
-//! The replies to commands and the answers to requests, as they are printed.
+//! The replies to commands, and to lines that are too long or aren't built, as they are printed.
 
 ghost use Rattle.std.specs.Prelude.{◌≡◌, ◌++◌, OnOk};
-ghost use Rattle.racf_run.specs.Replies.{refusal_words, found_words, decision_words, reply_words, reply_line, is_refusal};
+ghost use Rattle.racf_run.specs.Replies.{refusal_words, reply_words, reply_line};
 
 use crate::words::{write_conflict, write_syntax};
-use access_levels::{Id, Level};
 use command_parser::Syntax;
-use generic_names::Pattern;
 use itoa::Buffer;
 use racf_database::Conflict;
 use std::alloc::AllocError;
@@ -20,32 +18,10 @@ pub enum Refusal {
     Conflict(Conflict),
     /// As many commands were accepted as there are numbers.
     NumberSpent,
-    /// No ACEE of this name is in use.
-    NoAcee(Id),
     /// This program doesn't have what the line asks for.
     NotBuilt,
     /// A line of more than 4,096 bytes.
     LineTooLong,
-}
-
-/// The profile that decided, and the access that was found there.
-#[derive(Clone, Copy)]
-pub struct Found {
-    /// The name of the profile.
-    pub profile: Pattern,
-    /// The access: the profile's universal access, UACC.
-    pub access: Level,
-}
-
-/// The decision on a request for access.
-#[derive(Clone, Copy)]
-pub enum Decision {
-    /// No profile covers the resource: return code 4.
-    NoProfile,
-    /// The universal access suffices: return code 0.
-    UniversalAccess(Found),
-    /// The universal access is lower than what was asked for: return code 8.
-    Insufficient(Found),
 }
 
 /// What is printed for a line, after the number.
@@ -55,10 +31,6 @@ pub enum Reply {
     Accepted,
     /// The line was refused, and changed nothing.
     Refused(Refusal),
-    /// The ACEE is in use from now on: return code 0.
-    Verified,
-    /// The answer to a request for access.
-    Decided(Decision),
 }
 
 impl Refusal {
@@ -73,42 +45,8 @@ impl Refusal {
             }
             Refusal::Conflict(conflict) => write_conflict(conflict, out),
             Refusal::NumberSpent => out.extend_from_slice(b"NUMBERSPENT"),
-            Refusal::NoAcee(acee) => {
-                out.extend_from_slice(b"NOACEE ")?;
-                out.extend_from_slice(acee.text())
-            }
             Refusal::NotBuilt => out.extend_from_slice(b"NOTBUILT"),
             Refusal::LineTooLong => out.extend_from_slice(b"LINETOOLONG"),
-        }
-    }
-}
-
-impl Found {
-    /// Writes the profile's name and the access at the end of `out`.
-    fn write(&self, out: &mut Vec<u8>) -> Result<(), AllocError>
-        ensures { OnOk result (out.new.items ≡ out.old.items ++ found_words self.now) }
-    {
-        out.extend_from_slice(self.profile.text())?;
-        out.extend_from_slice(b" ")?;
-        out.extend_from_slice(self.access.name())
-    }
-}
-
-impl Decision {
-    /// Writes the return code and the reason at the end of `out`.
-    fn write(&self, out: &mut Vec<u8>) -> Result<(), AllocError>
-        ensures { OnOk result (out.new.items ≡ out.old.items ++ decision_words self.now) }
-    {
-        match self {
-            Decision::NoProfile => out.extend_from_slice(b"4 NOPROFILE"),
-            Decision::UniversalAccess(found) => {
-                out.extend_from_slice(b"0 UACC ")?;
-                found.write(out)
-            }
-            Decision::Insufficient(found) => {
-                out.extend_from_slice(b"8 INSUFFICIENT ")?;
-                found.write(out)
-            }
         }
     }
 }
@@ -136,8 +74,6 @@ impl Reply {
                 out.extend_from_slice(b"REFUSED ")?;
                 refusal.write(out)
             }
-            Reply::Verified => out.extend_from_slice(b"0 VERIFIED"),
-            Reply::Decided(decision) => decision.write(out),
         }
     }
 }

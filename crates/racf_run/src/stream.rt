@@ -1,49 +1,55 @@
 //! The state between two lines of a stream, and what each item does to it.
 
-ghost use Rattle.std.specs.Prelude.{◌≡◌, ◌++◌, ◌≤◌, OnOk, OnErr, IfOk, Option, None};
-ghost use Rattle.std.specs.Option.{option_copied};
-ghost use Rattle.racf_run.specs.Stream.{decide, found_in};
+ghost use Rattle.std.specs.Prelude.{◌≡◌, ◌++◌, ◌≤◌, OnOk, OnErr, IfOk};
+ghost use Rattle.std.specs.Arc.{arc_value};
+ghost use Rattle.racf_run.specs.Stream.{imaged};
 ghost use Rattle.racf_run.specs.Commands.{issuer as the_issuer};
 
 use crate::commands::read_command;
-use crate::item::{CommandText, GeneralName, Item};
-use crate::reply::{Decision, Found, Refusal, Reply};
-use access_levels::{Id, Level};
+use crate::item::{Item, LineText};
+use crate::reply::{Refusal, Reply};
+use crate::requests::is_unbuilt_line;
 use command_parser::{Command, Issuer};
 use racf_database::Database;
-use racf_profiles::{FixedClass, Profile, ibmuser, sys1};
+use racf_profiles::{ibmuser, sys1};
+use raclist_image::Image;
+use request_files::{AceeTable, LineRefusal, RequestLine, read_line, work};
 use std::alloc::{AllocError, Global};
 use std::marker::Model;
-
-/// The most ACEEs that are in use at once (this product's own rule).
-const MOST_ACEES: usize = 256;
+use std::sync::Arc;
 
 /// The last number that a command gets (this product's own limit).
 const MOST_NUMBER: u64 = 1 << 62;
 
-/// The state of a stream. An ACEE is looked for from the front: the cost of a VERIFY or AUTH grows with their number.
+/// The state of a stream. Requests are answered on an image of the rows, which is made at the first request behind an accepted
+/// command: it takes a copy of the whole database, in time and memory. The requests behind it, up to the next accepted
+/// command, take none.
 #[derive(Drop)]
 pub(crate) struct Stream {
     number: u64,
     has_refused: bool,
     database: Database,
-    acees: Vec<Id>,
+    image: Option<Arc<Image>>,
+    acees: AceeTable,
 }
 
 impl Model for Stream {
-    ghost use Rattle.std.specs.Prelude.{◌≤◌};
+    ghost use Rattle.std.specs.Prelude.{◌≡◌, ◌≤◌, IfSome};
+    ghost use Rattle.std.specs.Arc.{arc_value};
     ghost use Rattle.racf_run.specs.Commands.{most_number};
-    ghost use Rattle.racf_run.specs.Stream.{State};
+    ghost use Rattle.racf_run.specs.Stream.{State, imaged};
 
     ghost Value = { State };
 
-    ghost view = { λ s. record { number = s.number; has_refused = s.has_refused; rows = s.database.rows; acees = s.acees.items } };
+    ghost view = { λ s. record { number = s.number; has_refused = s.has_refused; rows = s.database.rows; acees = s.acees } };
 
-    ghost invariant = { λ s. s.number ≤ most_number };
+    ghost invariant = { λ s. (s.number ≤ most_number)
+        × IfSome s.image (λ image. arc_value image ≡ imaged s.number s.database.rows) };
 }
 
 impl Stream {
-    ghost use Rattle.racf_run.specs.Stream.{new_stream, answer, verify, auth, refuse, command, work_form, is_in_use, profile_for, DoesAs};
+    ghost use Rattle.request_files.specs.Seen.{line_read};
+    ghost use Rattle.racf_run.specs.Stream.{new_stream, answer, answer_line, request, refuse, command, work_form, image_of, DoesAs};
     ghost use Rattle.racf_run.specs.Commands.{refusal_of};
 
     /// The state before the first line.
@@ -52,11 +58,13 @@ impl Stream {
         ensures { IfOk result (λ stream. stream ≡ new_stream) }
     {
         let database = Database::new(alloc)?;
+        let acees = AceeTable::new(alloc)?;
         Ok(Stream {
             number: 0,
             has_refused: false,
             database,
-            acees: Vec::new(alloc),
+            image: None,
+            acees,
         })
     }
 
@@ -78,9 +86,8 @@ impl Stream {
         ensures err { OnErr result (self.new ≡ self.old) }
     {
         match item {
-            Item::Verify(acee) => self.verify(*acee, out),
-            Item::Auth { acee, name, asked } => self.auth(*acee, name, *asked, out),
             Item::Command(text) => self.command(alloc, text, out),
+            Item::Request(text) => self.request(alloc, text, out),
             Item::NotBuilt => self.refuse(Refusal::NotBuilt, out),
             Item::LineTooLong => self.refuse(Refusal::LineTooLong, out),
         }
@@ -91,7 +98,7 @@ impl Stream {
     fn command(
         &mut self,
         alloc: Global,
-        text: &CommandText,
+        text: &LineText,
         out: &mut Vec<u8>,
     ) -> Result<(), AllocError>
         ensures ok { OnOk result (DoesAs (command text.now self.old) self.new out.old.items out.new.items) }
@@ -119,6 +126,7 @@ impl Stream {
         }
         let change = self.database.prepare(alloc, &issuer, command)?;
         Reply::Accepted.write_line(self.number + 1, out)?;
+        self.image = None;
         self.database.apply(change);
         self.number += 1;
         Ok(())
@@ -136,37 +144,51 @@ impl Stream {
         }
     }
 
-    /// VERIFY (RACROUTE Macro Reference, REQUEST=VERIFY).
-    #[tactic(auto, unfolding(crate::specs::Stream::verify))]
-    fn verify(&mut self, acee: Id, out: &mut Vec<u8>) -> Result<(), AllocError>
-        ensures ok { OnOk result (DoesAs (verify acee self.old) self.new out.old.items out.new.items) }
+    /// A request: not built, or answered.
+    #[tactic(auto, unfolding(crate::specs::Stream::request))]
+    fn request(
+        &mut self,
+        alloc: Global,
+        text: &LineText,
+        out: &mut Vec<u8>,
+    ) -> Result<(), AllocError>
+        ensures ok { OnOk result (DoesAs (request text.now self.old) self.new out.old.items out.new.items) }
         ensures err { OnErr result (self.new ≡ self.old) }
     {
-        if self.is_in_use(&acee) || self.acees.len() >= MOST_ACEES {
+        let line = read_line(text.as_slice());
+        if is_unbuilt_line(text.as_slice(), &line) {
             return self.refuse(Refusal::NotBuilt, out);
         }
-        Reply::Verified.write_line(self.number, out)?;
-        self.acees.push(acee)?;
+        self.answer(alloc, &line, out)
+    }
+
+    /// Answers a line of a request on the image of the rows.
+    fn answer(
+        &mut self,
+        alloc: Global,
+        line: &Result<RequestLine, LineRefusal>,
+        out: &mut Vec<u8>,
+    ) -> Result<(), AllocError>
+        ensures ok { OnOk result (DoesAs (answer_line (line_read line.now) self.old) self.new out.old.items out.new.items) }
+        ensures err { OnErr result (self.new ≡ self.old) }
+    {
+        let image = self.image(alloc)?;
+        let refused = work(alloc, line, &image, &mut self.acees, out)?;
+        self.has_refused = self.has_refused || refused;
         Ok(())
     }
 
-    /// AUTH (RACROUTE Macro Reference, REQUEST=AUTH).
-    #[tactic(auto, unfolding(crate::specs::Stream::auth))]
-    fn auth(
-        &mut self,
-        acee: Id,
-        name: &GeneralName,
-        asked: Level,
-        out: &mut Vec<u8>,
-    ) -> Result<(), AllocError>
-        ensures ok { OnOk result (DoesAs (auth acee name.now asked self.old) self.new out.old.items out.new.items) }
-        ensures err { OnErr result (self.new ≡ self.old) }
+    /// The image of the rows, made anew where a command was accepted since the last request.
+    fn image(&mut self, alloc: Global) -> Result<Arc<Image>, AllocError>
+        ensures image { IfOk result (λ image. arc_value image ≡ image_of self.old) }
+        ensures same { self.new ≡ self.old }
     {
-        if !self.is_in_use(&acee) {
-            return self.refuse(Refusal::NoAcee(acee), out);
+        if let Some(image) = &self.image {
+            return Arc::try_clone(image);
         }
-        let decision = decision_on(self.profile_for(name), asked);
-        Reply::Decided(decision).write_line(self.number, out)
+        let image = image_of(alloc, &self.database, self.number)?;
+        self.image = Some(Arc::try_clone(&image)?);
+        Ok(image)
     }
 
     /// Refuses a line.
@@ -177,21 +199,6 @@ impl Stream {
         Reply::Refused(why).write_line(self.number, out)?;
         self.has_refused = true;
         Ok(())
-    }
-
-    /// The profile that decides on a resource of class FACILITY.
-    fn profile_for(&self, name: &GeneralName) -> Option<&Profile>
-        ensures { option_copied result ≡ profile_for name.now self.now }
-    {
-        self.database
-            .covering(FixedClass::Facility.id(), name.as_resource())
-    }
-
-    /// Whether an ACEE of this name is in use.
-    fn is_in_use(&self, acee: &Id) -> bool
-        ensures { result ≡ is_in_use acee.now self.now }
-    {
-        self.acees.contains(acee)
     }
 }
 
@@ -205,26 +212,10 @@ fn issuer() -> Issuer
     }
 }
 
-/// The decision by the profile that was found, if any.
-fn decision_on(found: Option<&Profile>, asked: Level) -> Decision
-    ensures { result ≡ decide (option_copied found.entry) asked }
+/// The image of a database's rows, with the number of the commands that made them. All rows are copied.
+fn image_of(alloc: Global, database: &Database, number: u64) -> Result<Arc<Image>, AllocError>
+    ensures { IfOk result (λ image. arc_value image ≡ imaged number database.now.rows) }
 {
-    let Some(profile) = found else {
-        return Decision::NoProfile;
-    };
-    if profile.uacc.suffices(asked) {
-        Decision::UniversalAccess(found_in(profile))
-    } else {
-        Decision::Insufficient(found_in(profile))
-    }
-}
-
-/// What a profile gives everybody.
-fn found_in(profile: &Profile) -> Found
-    ensures { result ≡ found_in profile.now }
-{
-    Found {
-        profile: profile.name,
-        access: profile.uacc,
-    }
+    let rows = database.to_rows(alloc)?;
+    Image::of(alloc, &rows, number)
 }

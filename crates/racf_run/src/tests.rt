@@ -173,10 +173,13 @@ RDEF SECLABEL X
 RALT GLOBAL DATASET
 RDEL SECDATA SECLEVEL
 RDEF FACILITY X.Y ADDMEM(A)
-pe 'SYS1.X' ID(JOE)
 SETROPTS
 *ISSUER JOE
-AUTH A DATASET SYS1.X READ
+FASTAUTH A FACILITY X READ
+FASTAUTH A FACILITY A..B READ
+FASTAUTH A FACILITY A..B EXECUTE
+VERIFY A JOE SECLABEL(X)
+VERIFY A JOE SECLABEL(A-B)
 ";
 
 /// Their output.
@@ -194,6 +197,138 @@ const UNBUILT_OUTPUT: &str = "0 REFUSED NOTBUILT
 0 REFUSED NOTBUILT
 0 REFUSED NOTBUILT
 0 REFUSED NOTBUILT
+0 REFUSED BADLINE 26
+0 REFUSED NOTBUILT
+0 REFUSED BADLINE 14
+";
+
+/// The most specific of the profiles of a data set decides, each once those before it are gone.
+const MOST_SPECIFIC: &str = "AU JOE
+AD 'SYS1.**' UACC(READ)
+AD 'SYS1.PAR*' UACC(UPDATE)
+AD 'SYS1.PARMLI%' UACC(CONTROL)
+AD 'SYS1.PARMLIB' UACC(ALTER)
+VERIFY A JOE
+AUTH A DATASET SYS1.PARMLIB READ
+DD 'SYS1.PARMLIB'
+AUTH A DATASET SYS1.PARMLIB READ
+DD 'SYS1.PARMLI%'
+AUTH A DATASET SYS1.PARMLIB READ
+DD 'SYS1.PAR*'
+AUTH A DATASET SYS1.PARMLIB READ
+";
+
+/// Its output.
+const MOST_SPECIFIC_OUTPUT: &str = "1 ACCEPTED
+2 ACCEPTED
+3 ACCEPTED
+4 ACCEPTED
+5 ACCEPTED
+5 0 VERIFIED
+5 0 UACC SYS1.PARMLIB ALTER
+6 ACCEPTED
+6 0 UACC SYS1.PARMLI% CONTROL
+7 ACCEPTED
+7 0 UACC SYS1.PAR* UPDATE
+8 ACCEPTED
+8 0 UACC SYS1.** READ
+";
+
+/// A user entry bars OPERATIONS, and a conditional entry counts at its port alone.
+const ENTRIES: &str = "AU OPS OPERATIONS
+AD 'SYS1.A' UACC(ALTER)
+PE 'SYS1.A' ID(OPS) ACCESS(NONE)
+VERIFY A OPS
+AUTH A DATASET SYS1.A READ
+PE 'SYS1.A' ID(OPS) DELETE
+ALD 'SYS1.A' UACC(NONE)
+AUTH A DATASET SYS1.A ALTER
+AU JOE
+PE 'SYS1.A' ID(JOE) ACCESS(UPDATE) WHEN(TERMINAL(T1))
+VERIFY B JOE TERMINAL(T1)
+VERIFY C JOE TERMINAL(T2)
+VERIFY D JOE
+AUTH B DATASET SYS1.A READ
+AUTH C DATASET SYS1.A READ
+AUTH D DATASET SYS1.A READ
+";
+
+/// Their output.
+const ENTRIES_OUTPUT: &str = "1 ACCEPTED
+2 ACCEPTED
+3 ACCEPTED
+3 0 VERIFIED
+3 8 INSUFFICIENT SYS1.A NONE
+4 ACCEPTED
+5 ACCEPTED
+5 0 OPERATIONS SYS1.A NONE
+6 ACCEPTED
+7 ACCEPTED
+7 0 VERIFIED
+7 0 VERIFIED
+7 0 VERIFIED
+7 0 CONDITIONAL WHEN(TERMINAL(T1)) SYS1.A UPDATE
+7 8 INSUFFICIENT SYS1.A NONE
+7 8 INSUFFICIENT SYS1.A NONE
+";
+
+/// A user who is gone leaves his entry, which can be taken away and not given anew.
+const RESIDUE: &str = "AG A OWNER(SYS1)
+AG B SUPGROUP(A) OWNER(A)
+ALG A SUPGROUP(B) OWNER(B)
+DG A
+AU JOE DFLTGRP(B)
+AD 'SYS1.X'
+PE 'SYS1.X' ID(JOE)
+DU JOE
+PE 'SYS1.X' ID(JOE) ACCESS(UPDATE)
+PE 'SYS1.X' ID(JOE) DELETE
+DG B
+DG SYS1
+";
+
+/// Its output.
+const RESIDUE_OUTPUT: &str = "1 ACCEPTED
+2 ACCEPTED
+2 REFUSED CYCLE A
+2 REFUSED INUSE SUBGROUP B
+3 ACCEPTED
+4 ACCEPTED
+5 ACCEPTED
+6 ACCEPTED
+6 REFUSED NOUSER JOE
+7 ACCEPTED
+8 ACCEPTED
+8 REFUSED ROOT
+";
+
+/// Each refusal of a request's line, and the number that is waited for.
+const REQUESTS: &str = "AUTH A FACILITY X READ
+VERIFY A NOBODY
+VERIFY A IBMUSER
+VERIFY A IBMUSER
+AUTH A DATASET A..B READ
+AUTH B DATASET A..B READ
+AUTH A DATASET SYS1.A EXECUTE
+DELETE A
+*AFTER 1
+AU JOE
+*AFTER 1
+*AFTER 2
+";
+
+/// Their output.
+const REQUESTS_OUTPUT: &str = "0 REFUSED NOACEE A
+0 4 NOTDEFINED
+0 0 VERIFIED
+0 REFUSED ACEEEXISTS A
+0 REFUSED BADNAME EMPTYQUALIFIER 2
+0 REFUSED NOACEE B
+0 REFUSED BADLINE 23
+0 0 DELETED
+NEVER 0
+1 ACCEPTED
+NEVER 1
 ";
 
 /// A comment of this many bytes.
@@ -241,6 +376,10 @@ fn works_the_shelf(rt: HostRuntime) -> Result<(), Fail> {
         (PROFILES, PROFILES_OUTPUT, Status::Done),
         (NAMES, NAMES_OUTPUT, Status::Refusals),
         (UNBUILT, UNBUILT_OUTPUT, Status::Refusals),
+        (MOST_SPECIFIC, MOST_SPECIFIC_OUTPUT, Status::Done),
+        (ENTRIES, ENTRIES_OUTPUT, Status::Done),
+        (RESIDUE, RESIDUE_OUTPUT, Status::Refusals),
+        (REQUESTS, REQUESTS_OUTPUT, Status::Refusals),
         ("", "", Status::Done),
     ] {
         let failing = Failing {
@@ -351,6 +490,29 @@ fn holds_8000_groups(rt: HostRuntime) -> Result<(), Fail> {
         written
             .as_slice()
             .ends_with(b"\n7999 ACCEPTED\n7999 REFUSED FULL GROUPS 8000\n")
+    );
+    Ok(())
+}
+
+/// VERIFY of 257 ACEEs.
+fn acees_past_the_limit(alloc: Global) -> Result<String, AllocError> {
+    let mut stream = String::new(alloc);
+    for number in 0..257u32 {
+        writeln!(stream, "VERIFY A{number} IBMUSER")?;
+    }
+    Ok(stream)
+}
+
+#[test]
+fn holds_256_acees(rt: HostRuntime) -> Result<(), Fail> {
+    let alloc = rt.alloc();
+    let stream = acees_past_the_limit(alloc)?;
+    let (ended, written) = worked(alloc, stream.as_bytes(), &[], &[])?;
+    assert_eq!(rt; ended, Status::Refusals);
+    assert!(rt;
+        written
+            .as_slice()
+            .ends_with(b"\n0 0 VERIFIED\n0 REFUSED ACEESFULL\n")
     );
     Ok(())
 }

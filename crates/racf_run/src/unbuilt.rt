@@ -8,8 +8,8 @@ use access_levels::Id;
 use command_parser::{AddSd, AddUser, AltSd, AltUser, Form, Ids, MemberNames, RAlter, RDefine};
 use racf_profiles::Members;
 
-/// Whether a command names a security level, a category, a label or a member, or takes one away; works on a profile of a
-/// class that holds these; or changes access lists.
+/// Whether a command names a security level, a category, a label or a member, or takes one away; or works on a profile of a
+/// class that holds these.
 pub(crate) fn is_unbuilt(form: &Form) -> bool
     ensures { result ≡ is_unbuilt form.now }
 {
@@ -21,14 +21,14 @@ pub(crate) fn is_unbuilt(form: &Form) -> bool
         Form::RDefine(command) => is_unbuilt_rdefine(command),
         Form::RAlter(command) => is_unbuilt_ralter(command),
         Form::RDelete(command) => is_unbuilt_class(command.class),
-        Form::Permit(_) => true,
         Form::DelUser(_)
         | Form::AddGroup(_)
         | Form::AltGroup(_)
         | Form::DelGroup(_)
         | Form::Connect(_)
         | Form::Remove(_)
-        | Form::DelSd(_) => false,
+        | Form::DelSd(_)
+        | Form::Permit(_) => false,
     }
 }
 

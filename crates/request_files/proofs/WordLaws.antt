@@ -4,7 +4,8 @@ use Rattle.std.specs.List.{onto_first, slice_split, prefix_len}
 use Rattle.std.proofs.lemmas.Bool.Decides.{nat_tests}
 use Rattle.std.specs.Prelude.{nat_lt, ◌==◌}
 use Rattle.command_words.specs.Bytes.{is_blank_byte}
-use Rattle.request_files.specs.Words.{Word, words_at, placed, is_word, BeginsWithNoBlank}
+use Rattle.request_files.specs.Words.{Word, words_at, placed, is_word}
+use Rattle.request_files.specs.Taking.{BeginsWithNoBlank}
 
 abbrev pub stays : ℕ → Bool
 stays byte = not (is_blank_byte byte)

@@ -1,4 +1,5 @@
 pub mod Words
+pub mod Taking
 pub mod Spellings
 pub mod Grammar
 pub mod Seen

@@ -3,7 +3,7 @@
 ghost use Rattle.std.specs.Prelude.{◌≡◌, IfOk, IsTrue};
 ghost use Rattle.class_profiles.specs.Lawful.{kind_in};
 ghost use Rattle.decision.specs.Asked.{may_be_asked};
-ghost use Rattle.request_files.specs.Words.{seen};
+ghost use Rattle.request_files.specs.Taking.{seen};
 ghost use Rattle.request_files.specs.Grammar.{with_word as with_one, with_words as with_all, user_alone, deleted, number_after, verified_by, asked_by, access_to};
 ghost use Rattle.request_files.specs.Seen.{access_seen, asked_seen};
 

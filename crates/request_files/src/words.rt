@@ -3,7 +3,8 @@
 ghost use Rattle.std.specs.Prelude.{◌≡◌, ◌+◌, ◌<◌, ◌≤◌, ◌^◌, length, not};
 ghost use Rattle.std.specs.List.{prefix_len};
 ghost use Rattle.command_words.specs.Bytes.{is_blank_byte};
-ghost use Rattle.request_files.specs.Words.{words_at, unread_at, BeginsWithNoBlank, IsFirstWord};
+ghost use Rattle.request_files.specs.Words.{words_at, unread_at};
+ghost use Rattle.request_files.specs.Taking.{BeginsWithNoBlank, IsFirstWord};
 
 use std::marker::Model;
 
@@ -35,7 +36,7 @@ impl<'a> Model for Words<'a> {
 }
 
 impl<'a> Words<'a> {
-    ghost use Rattle.request_files.specs.Words.{SplitsFirst};
+    ghost use Rattle.request_files.specs.Taking.{SplitsFirst};
 
     /// The words of a line.
     pub(crate) fn of(line: &'a [u8]) -> Words<'a>

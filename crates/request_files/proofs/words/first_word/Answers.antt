@@ -1,6 +1,7 @@
 use Rattle.std.proofs.Common.{◌≡◌, ◌+◌, ◌<◌, ◌∷◌, sym, ◌∙◌, ap, arith, take, drop, length, subst}
 use Rattle.std.proofs.lemmas.Grind.{common_steps}
-use Rattle.request_files.specs.Words.{words_at, seen}
+use Rattle.request_files.specs.Words.{words_at}
+use Rattle.request_files.specs.Taking.{seen}
 use Rattle.request_files.proofs.WordLaws.{words_at-empty, words_at-word, word-some}
 use Rattle.request_files.proofs.words.first_word.Goals as goal
 

@@ -107,7 +107,11 @@ fn fill_class(slots: &mut Slots)
     ensures { slots.new.items ≡ class_filled slots.old.items }
 {
     if !is_given(slots, PERMIT_CLASS) {
-        put(slots, PERMIT_CLASS, Some(Content::Id(FixedClass::Dataset.id())));
+        put(
+            slots,
+            PERMIT_CLASS,
+            Some(Content::Id(FixedClass::Dataset.id())),
+        );
     }
 }
 

@@ -171,10 +171,7 @@ fn plain(alloc: Global, at: Scope, verb: Verb, text: Tokens<'_>) -> Result<Parts
 }
 
 // The word of a profile's name that is judged later, with its place, and the text behind it.
-fn late_word<'a>(
-    rows: &[Operand],
-    text: &Tokens<'a>,
-) -> Result<(u32, &'a [u8], Tokens<'a>), Syntax>
+fn late_word<'a>(rows: &[Operand], text: &Tokens<'a>) -> Result<(u32, &'a [u8], Tokens<'a>), Syntax>
     ensures { Finds (λ x. (x.0, x.1.now, tokens x.2)) result (late_word_in rows.now (tokens text.now)) }
 {
     let wanted = Position {

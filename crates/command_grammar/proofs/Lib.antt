@@ -3,6 +3,10 @@ pub mod NameBytes
 pub mod Patterns
 pub mod AuditAgain
 pub mod EntriesAgain
+pub mod MemberParts
+pub mod WordItems
+pub mod SuitsNone
+pub mod MembersAgain
 pub mod ValueAgain
 pub mod TableFacts
 pub mod ReadAgain

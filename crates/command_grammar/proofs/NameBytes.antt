@@ -11,7 +11,7 @@ use Rattle.generic_names.specs.declared.kind.NameKind.TheVariants.{DataSet, Gene
 use Rattle.generic_names.specs.declared.fault.NameFault.{NameFault}
 use Rattle.generic_names.specs.declared.fault.NameFault.TheVariants.{Empty, TooLong, EmptyQualifier, QualifierTooLong, BadByte, StarInside, GenericFirst}
 use Rattle.generic_names.specs.Spelled.{Spelled, qualifiers}
-use Rattle.generic_names.specs.Faults.{pattern_of, is_letter, is_digit, is_ordinary, unless, longest, is_too_long, is_generic_first}
+use Rattle.generic_names.specs.Faults.{pattern_of, member_of, is_letter, is_digit, is_ordinary, unless, longest, is_too_long, is_generic_first}
 
 -- what is wrong with a byte, a qualifier, a text that is to be a profile's name
 abbrev byte_wrong : NameKind → Bool → Bool → ℕ → ℕ → Option NameFault
@@ -30,28 +30,32 @@ bytes_wrong kind first place (b ∷ behind) =
 abbrev is_stars : List ℕ → Bool
 is_stars q = bytes_eq q (codes "**")
 
-abbrev qualifier_wrong : NameKind → ℕ → ℕ → List ℕ → Option NameFault
-qualifier_wrong kind number place q =
+-- in a member's name the symbols stand whole too
+abbrev is_symbol : List ℕ → Bool
+is_symbol q = bytes_eq q (codes "**") || bytes_eq q (codes "&RACUID") || bytes_eq q (codes "&RACGPID")
+
+abbrev qualifier_wrong : (List ℕ → Bool) → NameKind → ℕ → ℕ → List ℕ → Option NameFault
+qualifier_wrong whole kind number place q =
     if length q == 0 then Some (EmptyQualifier number)
     else if is_too_long kind q then Some (QualifierTooLong number)
-    else option_or (if is_stars q then None else bytes_wrong kind true place q)
+    else option_or (if whole q then None else bytes_wrong kind true place q)
     (if is_generic_first kind number q then Some GenericFirst else None)
 
-abbrev qualifiers_wrong : NameKind → ℕ → ℕ → List (List ℕ) → Option NameFault
-qualifiers_wrong kind number place [] = None
-qualifiers_wrong kind number place (q ∷ qs) =
-    option_or (qualifier_wrong kind number place q)
-    (qualifiers_wrong kind (number + 1) (place + length q + 1) qs)
+abbrev qualifiers_wrong : (List ℕ → Bool) → NameKind → ℕ → ℕ → List (List ℕ) → Option NameFault
+qualifiers_wrong whole kind number place [] = None
+qualifiers_wrong whole kind number place (q ∷ qs) =
+    option_or (qualifier_wrong whole kind number place q)
+    (qualifiers_wrong whole kind (number + 1) (place + length q + 1) qs)
 
-abbrev pattern_wrong : NameKind → List ℕ → Option NameFault
-pattern_wrong kind text =
+abbrev name_wrong : (List ℕ → Bool) → NameKind → List ℕ → Option NameFault
+name_wrong whole kind text =
     if length text == 0 then Some Empty
     else if nat_lt (longest kind) (length text) then Some TooLong
-    else qualifiers_wrong kind 1 1 (qualifiers text)
+    else qualifiers_wrong whole kind 1 1 (qualifiers text)
 
--- a letter, a digit, `-`, `_`, `/`, `:`, `.`, `%` or `*`
+-- a letter, a digit, `-`, `_`, `/`, `:`, `.`, `%`, `*` or `&`
 abbrev pub is_name_byte : ℕ → Bool
-is_name_byte b = is_letter b || is_digit b || (b == 45) || (b == 95) || (b == 47) || (b == 58) || (b == 46) || (b == 37) || (b == 42)
+is_name_byte b = is_letter b || is_digit b || (b == 45) || (b == 95) || (b == 47) || (b == 58) || (b == 46) || (b == 37) || (b == 42) || (b == 38)
 
 either-first : (a b : Bool) → a ≡ true → (a || b) ≡ true
 either-first true b h = refl
@@ -65,7 +69,7 @@ both-first : (a b : Bool) → (a && b) ≡ true → a ≡ true
 both-first true b h = refl
 both-first false b h = h
 
-letter-or-digit : (a d : Bool) (b : ℕ) → (a || d) ≡ true → (a || d || (b == 45) || (b == 95) || (b == 47) || (b == 58) || (b == 46) || (b == 37) || (b == 42)) ≡ true
+letter-or-digit : (a d : Bool) (b : ℕ) → (a || d) ≡ true → (a || d || (b == 45) || (b == 95) || (b == 47) || (b == 58) || (b == 46) || (b == 37) || (b == 42) || (b == 38)) ≡ true
 letter-or-digit true d b h = refl
 letter-or-digit false true b h = refl
 letter-or-digit false false b h = absurd (cc (h))
@@ -129,19 +133,38 @@ passed : (t : Bool) (x : NameFault) (rest : Option NameFault) → cond t (Some x
 passed true x rest h = absurd (cc (h))
 passed false x rest h = h
 
-named-whole : (kind : NameKind) (place : ℕ) (q : List ℕ) (t : Bool) → is_stars q ≡ t → cond t None (bytes_wrong kind true place q) ≡ None → list_all is_name_byte q ≡ true
-named-whole kind place q true is h = subst (λ (xs : List ℕ). list_all is_name_byte xs ≡ true) (sym ((bytes_eq-Decides q (42 ∷ 42 ∷ [])).0 is)) refl
-named-whole kind place q false is h = named-bytes kind true place q h
+-- the qualifiers that are lawful as a whole
+AreNamedBytes : (List ℕ → Bool) → Type 0
+AreNamedBytes whole = (q : List ℕ) → whole q ≡ true → list_all is_name_byte q ≡ true
+
+spelled-so : (q text : List ℕ) → bytes_eq q text ≡ true → list_all is_name_byte text ≡ true → list_all is_name_byte q ≡ true
+spelled-so q text is named = subst (λ (xs : List ℕ). list_all is_name_byte xs ≡ true) (sym ((bytes_eq-Decides q text).0 is)) named
+
+stars-named : AreNamedBytes is_stars
+unfolding AreNamedBytes
+stars-named q is = spelled-so q (codes "**") is refl
+
+symbols-named : AreNamedBytes is_symbol
+unfolding AreNamedBytes
+symbols-named q is =
+    either (bytes_eq q (codes "**") || bytes_eq q (codes "&RACUID")) (bytes_eq q (codes "&RACGPID")) is
+    (λ k. either (bytes_eq q (codes "**")) (bytes_eq q (codes "&RACUID")) k (λ e. spelled-so q (codes "**") e refl) (λ e. spelled-so q (codes "&RACUID") e refl))
+    (λ e. spelled-so q (codes "&RACGPID") e refl)
+
+named-whole : (whole : List ℕ → Bool) → AreNamedBytes whole → (kind : NameKind) (place : ℕ) (q : List ℕ) (t : Bool) → whole q ≡ t → cond t None (bytes_wrong kind true place q) ≡ None → list_all is_name_byte q ≡ true
+unfolding AreNamedBytes
+named-whole whole named kind place q true is h = named q is
+named-whole whole named kind place q false is h = named-bytes kind true place q h
 
 abbrev all_named : List (List ℕ) → Bool
 all_named qs = list_all (λ (q : List ℕ). list_all is_name_byte q) qs
 
-named-qualifiers : (kind : NameKind) (number place : ℕ) (qs : List (List ℕ)) → qualifiers_wrong kind number place qs ≡ None → all_named qs ≡ true
-named-qualifiers kind number place [] h = refl
-named-qualifiers kind number place (q ∷ qs) h =
-    let parts = first-none (qualifier_wrong kind number place q) (qualifiers_wrong kind (number + 1) (place + length q + 1) qs) h in
-    let whole = first-none _ _ (passed (is_too_long kind q) _ _ (passed (length q == 0) _ _ parts.0)) in
-    rw (named-whole kind place q (is_stars q) refl whole.0) (named-qualifiers kind (number + 1) (place + length q + 1) qs parts.1)
+named-qualifiers : (whole : List ℕ → Bool) → AreNamedBytes whole → (kind : NameKind) (number place : ℕ) (qs : List (List ℕ)) → qualifiers_wrong whole kind number place qs ≡ None → all_named qs ≡ true
+named-qualifiers whole named kind number place [] h = refl
+named-qualifiers whole named kind number place (q ∷ qs) h =
+    let parts = first-none (qualifier_wrong whole kind number place q) (qualifiers_wrong whole kind (number + 1) (place + length q + 1) qs) h in
+    let parts_of = first-none _ _ (passed (is_too_long kind q) _ _ (passed (length q == 0) _ _ parts.0)) in
+    rw (named-whole whole named kind place q (whole q) refl parts_of.0) (named-qualifiers whole named kind (number + 1) (place + length q + 1) qs parts.1)
 
 onto-named : (b : ℕ) (qs : List (List ℕ)) → all_named (onto_first b qs) ≡ true → (is_name_byte b ≡ true) × (all_named qs ≡ true)
 onto-named b [] h = (both-first (is_name_byte b) true (both-first (is_name_byte b && true) true h), refl)
@@ -163,19 +186,25 @@ unless-ok : (fault : Option NameFault) (name other : Spelled) → unless fault n
 unless-ok None name other h = (refl, cc (h))
 unless-ok (Some x) name other h = absurd (cc (h))
 
-some-bytes : (kind : NameKind) (text : List ℕ) → pattern_wrong kind text ≡ None → (text ≡ []) → ⊥
-some-bytes kind [] h none = absurd (cc (h))
-some-bytes kind (b ∷ text) h none = absurd (cc (none))
+some-bytes : (whole : List ℕ → Bool) (kind : NameKind) (text : List ℕ) → name_wrong whole kind text ≡ None → (text ≡ []) → ⊥
+some-bytes whole kind [] h none = absurd (cc (h))
+some-bytes whole kind (b ∷ text) h none = absurd (cc (none))
 
--- what is read as a profile's name has that text, some bytes of it, and no others than these
+-- what is read as a name has that text, some bytes of it, and no others than these
 pub record IsRead (kind : NameKind) (text : List ℕ) (name : Spelled) : Type 0 where
   pub same : name ≡ record { kind = kind; text = text }
   pub some : text ≡ [] → ⊥
   pub bytes : list_all is_name_byte text ≡ true
 
+name-read : (whole : List ℕ → Bool) → AreNamedBytes whole → (kind : NameKind) (text : List ℕ) (name : Spelled) → unless (name_wrong whole kind text) (record { kind = kind; text = text }) ≡ Ok name → IsRead kind text name
+name-read whole named kind text name h =
+    let parts = unless-ok (name_wrong whole kind text) (record { kind = kind; text = text }) name h in
+    let none : name_wrong whole kind text ≡ None = parts.0 in
+    let each : qualifiers_wrong whole kind 1 1 (qualifiers text) ≡ None = passed (ltb (longest kind) (length text)) TooLong _ (passed (eqb (length text) 0) Empty _ none) in
+    record { same = sym parts.1; some = some-bytes whole kind text none; bytes = text-named text (named-qualifiers whole named kind 1 1 (qualifiers text) each) }
+
 pub pattern-read : (kind : NameKind) (text : List ℕ) (name : Spelled) → pattern_of kind text ≡ Ok name → IsRead kind text name
-pattern-read kind text name h =
-    let parts = unless-ok (pattern_wrong kind text) (record { kind = kind; text = text }) name h in
-    let none : pattern_wrong kind text ≡ None = parts.0 in
-    let each : qualifiers_wrong kind 1 1 (qualifiers text) ≡ None = passed (ltb (longest kind) (length text)) TooLong _ (passed (eqb (length text) 0) Empty _ none) in
-    record { same = sym parts.1; some = some-bytes kind text none; bytes = text-named text (named-qualifiers kind 1 1 (qualifiers text) each) }
+pattern-read kind text name h = name-read is_stars stars-named kind text name h
+
+pub member-read : (kind : NameKind) (text : List ℕ) (name : Spelled) → member_of kind text ≡ Ok name → IsRead kind text name
+member-read kind text name h = name-read is_symbol symbols-named kind text name h

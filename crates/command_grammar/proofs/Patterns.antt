@@ -10,16 +10,16 @@ use Rattle.access_levels.specs.Spelling.{id_of}
 use Rattle.generic_names.specs.declared.kind.NameKind.{NameKind}
 use Rattle.generic_names.specs.declared.kind.NameKind.TheVariants.{DataSet, General}
 use Rattle.generic_names.specs.Spelled.{Spelled}
-use Rattle.generic_names.specs.Faults.{pattern_of, is_letter as is_name_letter, is_digit}
+use Rattle.generic_names.specs.Faults.{pattern_of, member_of, is_letter as is_name_letter, is_digit}
 use Rattle.generic_names.specs.Covers.{is_generic}
-use Rattle.command_grammar.proofs.NameBytes.{is_name_byte, pattern-read}
+use Rattle.command_grammar.proofs.NameBytes.{is_name_byte, pattern-read, member-read}
 use Rattle.racf_profiles.specs.declared.fixed_classes.NameForm.{NameForm}
 use Rattle.racf_profiles.specs.declared.fixed_classes.NameForm.TheVariants as forms
 use Rattle.command_words.specs.declared.quoting.Quoting.TheVariants.{Ignored}
 use Rattle.command_words.specs.Bytes.{is_faulty_byte, upper}
 use Rattle.command_words.specs.Items.{faulty_at}
 use Rattle.command_words.proofs.Letters.{is_letter, letter-quote, both_first, both_second}
-use Rattle.command_grammar.specs.ProfileNames.{first_qualifier, dataset_profile, general_profile, if_label, is_level_or_category, profile_in, form_in, general_form, class_profile, dataset_named}
+use Rattle.command_grammar.specs.ProfileNames.{first_qualifier, dataset_profile, general_profile, if_label, is_level_or_category, profile_in, form_in, general_form, class_profile, in_quotes, dataset_named}
 
 -- a byte that stands as itself in a command: of a word, no quote, lawful and in upper case
 abbrev pub is_sound_byte : ℕ → Bool
@@ -40,7 +40,8 @@ either false b h one other = other h
 
 sound-byte : (b : ℕ) → is_name_byte b ≡ true → is_sound_byte b ≡ true
 sound-byte b h =
-    either (is_name_letter b || is_digit b || (b == 45) || (b == 95) || (b == 47) || (b == 58) || (b == 46) || (b == 37)) (b == 42) h
+    either (is_name_letter b || is_digit b || (b == 45) || (b == 95) || (b == 47) || (b == 58) || (b == 46) || (b == 37) || (b == 42)) (b == 38) h
+    (λ k. either (is_name_letter b || is_digit b || (b == 45) || (b == 95) || (b == 47) || (b == 58) || (b == 46) || (b == 37)) (b == 42) k
     (λ k. either (is_name_letter b || is_digit b || (b == 45) || (b == 95) || (b == 47) || (b == 58) || (b == 46)) (b == 37) k
     (λ k. either (is_name_letter b || is_digit b || (b == 45) || (b == 95) || (b == 47) || (b == 58)) (b == 46) k
     (λ k. either (is_name_letter b || is_digit b || (b == 45) || (b == 95) || (b == 47)) (b == 58) k
@@ -54,7 +55,8 @@ sound-byte b h =
     (λ e. sound-code b 58 e refl))
     (λ e. sound-code b 46 e refl))
     (λ e. sound-code b 37 e refl))
-    (λ e. sound-code b 42 e refl)
+    (λ e. sound-code b 42 e refl))
+    (λ e. sound-code b 38 e refl)
 
 sound-text : (x : List ℕ) → list_all is_name_byte x ≡ true → list_all is_sound_byte x ≡ true
 sound-text [] h = refl
@@ -71,7 +73,7 @@ pub record IsPlainText (x : List ℕ) : Type 0 where
   pub sound : (p : ℕ) → faulty_at Ignored p x ≡ None
   pub folded : map upper x ≡ x
 
-sound-letters : (x : List ℕ) → list_all is_sound_byte x ≡ true → list_all is_letter x ≡ true
+pub sound-letters : (x : List ℕ) → list_all is_sound_byte x ≡ true → list_all is_letter x ≡ true
 sound-letters [] h = refl
 sound-letters (b ∷ x) h =
     let here : is_letter b ≡ true = both_first (is_letter b) (not (is_faulty_byte b) && not (nat_le 97 b && nat_le b 122)) (both_first (is_sound_byte b) (list_all is_sound_byte x) h) in
@@ -89,7 +91,7 @@ byte-upper b h =
     let none : (nat_le 97 b && nat_le b 122) ≡ false = not-true (nat_le 97 b && nat_le b 122) (both_second (not (is_faulty_byte b)) (not (nat_le 97 b && nat_le b 122)) (both_second (is_letter b) (not (is_faulty_byte b) && not (nat_le 97 b && nat_le b 122)) h)) in
     rw none refl
 
-sound-faultless : (p : ℕ) (x : List ℕ) → list_all is_sound_byte x ≡ true → faulty_at Ignored p x ≡ None
+pub sound-faultless : (p : ℕ) (x : List ℕ) → list_all is_sound_byte x ≡ true → faulty_at Ignored p x ≡ None
 sound-faultless p [] h = refl
 sound-faultless p (b ∷ x) h = rw (byte-faultless b (both_first (is_sound_byte b) (list_all is_sound_byte x) h)) (sound-faultless (suc p) x (both_second (is_sound_byte b) (list_all is_sound_byte x) h))
 
@@ -120,7 +122,7 @@ pattern-named kind t n h =
       plain = record { some = some-of t read.some; letters = sound-letters t sound; sound = λ p. sound-faultless p t sound; folded = sound-upper t sound };
     }
 
-if-there : {A : Type 0} (c : Bool) (r : Option A) (x : A) → cond c r None ≡ Some x → r ≡ Some x
+pub if-there : {A : Type 0} (c : Bool) (r : Option A) (x : A) → cond c r None ≡ Some x → r ≡ Some x
 if-there true r x h = h
 if-there false r x h = cc
 
@@ -137,6 +139,16 @@ general-some forms.General t n h = h
 general-some forms.Identifier t n h = label-some (general_profile t) n h
 general-some forms.LevelOrCategory t n h = if-there (is_level_or_category t) (general_profile t) n h
 general-some forms.Class t n h = if-there (is_ok (id_of t)) (general_profile t) n h
+
+pub member-named-so : (kind : NameKind) (t : List ℕ) (n : Spelled) → result_ok (member_of kind t) ≡ Some n → IsNamed kind t n
+member-named-so kind t n h =
+    let read = member-read kind t n (result_ok-some (member_of kind t) n h) in
+    let sound : list_all is_sound_byte t ≡ true = sound-text t read.bytes in
+    record {
+      text = ap (λ (m : Spelled). m.text) read.same;
+      kinds = ap (λ (m : Spelled). m.kind) read.same;
+      plain = record { some = some-of t read.some; letters = sound-letters t sound; sound = λ p. sound-faultless p t sound; folded = sound-upper t sound };
+    }
 
 pub general-named : (form : NameForm) (t : List ℕ) (n : Spelled) → profile_in (general_form form) t ≡ Some n → IsNamed General t n
 general-named form t n h = pattern-named General t n (general-some form t n h)
@@ -157,6 +169,12 @@ behind_quote t h =
     let whole : length (t ++ 39 ∷ []) ≡ length t + 1 = length-append t (39 ∷ []) in
     let below : nat_lt (length t) (length t + 1) ≡ true = grind (arith, nat_tests) in
     rw (first_quote t h, whole, below) refl
+
+pub in-quotes : (t : List ℕ) → IsPlainText t → in_quotes (position (λ c. c == 39) (t ++ 39 ∷ [])) (t ++ 39 ∷ []) ≡ Some t
+in-quotes t plain =
+    let whole : (length (t ++ 39 ∷ []) == length t + 1) ≡ true = rw (length-append t (39 ∷ [])) (grind (arith, nat_tests)) in
+    let held : take (length t) (t ++ 39 ∷ []) ≡ t = take-append_seam t (39 ∷ []) in
+    rw (behind_quote t plain.letters, whole, held, plain.folded) refl
 
 pub quoted-named : (issuer t : List ℕ) → IsPlainText t → dataset_named issuer (39 ∷ (t ++ 39 ∷ [])) ≡ dataset_profile t
 quoted-named issuer t plain =

@@ -33,12 +33,14 @@ use Rattle.command_grammar.specs.Words.{spelling_of}
 use Rattle.command_grammar.specs.Table.{full_name, positions_of, operands_of}
 use Rattle.command_grammar.specs.ProfileNames.{dataset_profile, profile_in, form_in, general_form, class_profile, dataset_named, named_by_form, any_named, any_profile, is_unclosed, text_by_kind, profile_text}
 use Rattle.command_grammar.specs.Values.{name_of, one, bare, text_of}
-use Rattle.command_grammar.specs.Reading.{Generic, Slots, is_spelling, row_at, no_operand, takes_quotes, is_late, position_at, behind, positions_at, is_given, slot_of, operand_at, operands_at, given, clash, unless_clash, completed, closed, no_slots, plain_at, class_in, mark_of_slot, mark_in, unless_mark, late_word, late_name, late_closed, late_at, body_at, begins_with_name, begun, command_at, parsed}
+use Rattle.command_grammar.specs.Reading.{Generic, Slots, is_spelling, row_at, no_operand, takes_quotes, is_late, position_at, known_behind, behind, positions_at, is_given, slot_of, operand_at, operands_at, given, clash, unless_clash, completed, closed, no_slots, plain_at, class_in, mark_of_slot, mark_in, unless_mark, late_word, late_name, late_closed, late_at, body_at, begins_with_name, begun, command_at, parsed}
 use Rattle.command_grammar.specs.Canon.{value_text, positions_text, operands_text, canon, spelled}
-use Rattle.command_grammar.specs.Lawful.{Fits, FitsPositions, FitsAll, Suits, SuitsPositions, class_known, IsLawful}
+use Rattle.command_grammar.specs.Lawful.{Fits, FitsPositions, FitsAll, Suits, SuitsPositions, known_last, SuitsAll, class_known, IsLawful}
 use Rattle.command_grammar.proofs.Names.{IsPlainName, name-plain}
 use Rattle.command_grammar.proofs.Patterns.{IsSome, dataset-named, general-named, class-named, quoted-named, quote_closes, quoted-sound}
-use Rattle.command_grammar.proofs.ValueAgain.{word_items, IsShown, value-again, value-ends}
+use Rattle.command_grammar.proofs.SuitsNone.{suits-none}
+use Rattle.command_grammar.proofs.WordItems.{word_items}
+use Rattle.command_grammar.proofs.ValueAgain.{IsShown, value-again, value-ends}
 use Rattle.command_grammar.proofs.TableFacts.{IsMore, spelling-plain, full_name-plain, verb_named-full_name, is_profile_kind, AreFound, operands-found, is_name_kind, Shape, Plain, Quoted, Judged, shape}
 
 -- the first token is a plain word
@@ -115,16 +117,16 @@ bare-again at kinds.DroppedMembers p h = absurd h
 bare-again at kinds.Generic p h = absurd h
 
 -- what an operand's text is read as: an item, and the text behind it
-pub record IsReadAs (o : Operand) (v : Content) (rest : List ℕ) (tied : Bool) (p : ℕ) : Type 0 where
+pub record IsReadAs (known : Known) (o : Operand) (v : Content) (rest : List ℕ) (tied : Bool) (p : ℕ) : Type 0 where
   pub item : Item
   pub tied_behind : Bool
   pub place_behind : ℕ
   pub item_first : items (tokens_from Ignored tied 0 p (32 ∷ (spelling_of o.word ++ (value_text v ++ rest)))) ≡ item ∷ items (tokens_from Ignored tied_behind 0 place_behind rest)
-  pub reads : (at : Scope) (rows : List Operand) (slots : Slots) (k : ℕ) → row_at rows k ≡ o → position (is_spelling (spelling_of o.word)) rows ≡ Some k → is_given slots k ≡ false
+  pub reads : (at : Scope) → at.known ≡ known → (rows : List Operand) (slots : Slots) (k : ℕ) → row_at rows k ≡ o → position (is_spelling (spelling_of o.word)) rows ≡ Some k → is_given slots k ≡ false
       → operand_at at rows slots item ≡ Ok (k, v)
 
-flag-read : (o : Operand) (rest : List ℕ) (tied : Bool) (p : ℕ) → Fits o.kind contents.Flag → IsApart rest → IsReadAs o contents.Flag rest tied p
-flag-read o rest tied p h apart =
+flag-read : (known : Known) (o : Operand) (rest : List ℕ) (tied : Bool) (p : ℕ) → Fits o.kind contents.Flag → IsApart rest → IsReadAs known o contents.Flag rest tied p
+flag-read known o rest tied p h apart =
     let plain = spelling-plain o.word in
     record {
       item = Bare (suc p) (spelling_of o.word);
@@ -132,13 +134,13 @@ flag-read o rest tied p h apart =
       place_behind = suc p + length (spelling_of o.word);
       item_first = ap items (plain_token (tied && true) (suc p) (spelling_of o.word) rest plain.some plain.letters apart.ends)
           ∙ word_items (tokens_from Ignored true 0 (suc p + length (spelling_of o.word)) rest) (suc p) (spelling_of o.word) (apart.opens true (suc p + length (spelling_of o.word)));
-      reads = λ at rows slots k here found free.
+      reads = λ at same rows slots k here found free.
           rw (slot-ok rows slots (suc p) o k found free, here, bare-again at o.kind (suc p) h) refl;
     }
 
 -- an operand and its value
-valued-read : (o : Operand) (v : Content) (rest : List ℕ) (tied : Bool) (p : ℕ) → Fits o.kind v → IsShown v → value_text v ≡ 40 ∷ (text_of v ++ 41 ∷ []) → IsReadAs o v rest tied p
-valued-read o v rest tied p h shown written =
+valued-read : (known : Known) (o : Operand) (v : Content) (rest : List ℕ) (tied : Bool) (p : ℕ) → Fits o.kind v → Suits known o.kind v → IsShown v → value_text v ≡ 40 ∷ (text_of v ++ 41 ∷ []) → IsReadAs known o v rest tied p
+valued-read known o v rest tied p h suits shown written =
     let plain = spelling-plain o.word in
     let S : List ℕ = spelling_of o.word in
     let q : ℕ = suc p + length (spelling_of o.word) in
@@ -147,14 +149,15 @@ valued-read o v rest tied p h shown written =
     let first : tokens_from Ignored (tied && true) 0 (suc p) (spelling_of o.word ++ (value_text v ++ rest)) ≡ Word (suc p) (spelling_of o.word) ∷ tokens_from Ignored true 0 (suc p + length (spelling_of o.word)) (40 ∷ (text_of v ++ 41 ∷ rest)) =
     ap (λ bs. tokens_from Ignored (tied && true) 0 (suc p) (spelling_of o.word ++ bs)) regrouped
     ∙ plain_token (tied && true) (suc p) (spelling_of o.word) (40 ∷ (text_of v ++ 41 ∷ rest)) plain.some plain.letters refl in
-    let second = group_token Ignored true (suc p + length (spelling_of o.word)) (text_of v) rest (value-ends o.kind v (suc p + length (spelling_of o.word)) (suc (suc p + length (spelling_of o.word))) rest h shown) in
+    let second = group_token Ignored true (suc p + length (spelling_of o.word)) (text_of v) rest (value-ends known o.kind v (suc p + length (spelling_of o.word)) (suc (suc p + length (spelling_of o.word))) rest h shown suits) in
     record {
       item = With (suc p) (spelling_of o.word) (within (suc p + length (spelling_of o.word)) (text_of v));
       tied_behind = false;
       place_behind = suc p + length (spelling_of o.word) + length (text_of v) + 2;
       item_first = ap items first ∙ ap (λ ts. items (Word (suc p) (spelling_of o.word) ∷ ts)) second;
-      reads = λ at rows slots k here found free.
-          rw (slot-ok rows slots (suc p) o k found free, here, value-again at o.kind (suc p) (suc p + length (spelling_of o.word)) v h shown) refl;
+      reads = λ at same rows slots k here found free.
+          let suits_here : Suits at.known o.kind v = subst (λ (k : Known). Suits k o.kind v) (sym same) suits in
+          rw (slot-ok rows slots (suc p) o k found free, here, value-again at o.kind (suc p) (suc p + length (spelling_of o.word)) v h shown suits_here) refl;
     }
 
 no-profile : (k : Kind) (n : Spelled) → not (is_profile_kind k) ≡ true → Fits k (contents.Profile n) → ⊥
@@ -178,49 +181,49 @@ no-profile kinds.AddedMembers n other h = h
 no-profile kinds.DroppedMembers n other h = h
 no-profile kinds.Generic n other h = h
 
-operand-read : (o : Operand) (v : Content) (rest : List ℕ) (tied : Bool) (p : ℕ) → not (is_profile_kind o.kind) ≡ true → Fits o.kind v → IsApart rest → IsReadAs o v rest tied p
-operand-read o contents.Flag rest tied p other h apart = flag-read o rest tied p h apart
-operand-read o (contents.Id w) rest tied p other h apart = valued-read o (contents.Id w) rest tied p h tt refl
-operand-read o (contents.Authority a) rest tied p other h apart = valued-read o (contents.Authority a) rest tied p h tt refl
-operand-read o (contents.Name t) rest tied p other h apart = valued-read o (contents.Name t) rest tied p h tt refl
-operand-read o (contents.Ids xs) rest tied p other h apart = valued-read o (contents.Ids xs) rest tied p h tt refl
-operand-read o (contents.Level l) rest tied p other h apart = valued-read o (contents.Level l) rest tied p h tt refl
-operand-read o (contents.Audit r) rest tied p other h apart = valued-read o (contents.Audit r) rest tied p h tt refl
-operand-read o (contents.Profile n) rest tied p other h apart = absurd (no-profile o.kind n other h)
-operand-read o (contents.Reset r) rest tied p other h apart = valued-read o (contents.Reset r) rest tied p h tt refl
-operand-read o (contents.Whos ws) rest tied p other h apart = valued-read o (contents.Whos ws) rest tied p h tt refl
-operand-read o (contents.When c) rest tied p other h apart = valued-read o (contents.When c) rest tied p h tt refl
-operand-read o (contents.Members ms) rest tied p other h apart = valued-read o (contents.Members ms) rest tied p h tt refl
-operand-read o (contents.MemberNames ns) rest tied p other h apart = valued-read o (contents.MemberNames ns) rest tied p h tt refl
-operand-read o (contents.Generic g) rest tied p other h apart = valued-read o (contents.Generic g) rest tied p h tt refl
+operand-read : (known : Known) (o : Operand) (v : Content) (rest : List ℕ) (tied : Bool) (p : ℕ) → not (is_profile_kind o.kind) ≡ true → Fits o.kind v → Suits known o.kind v → IsApart rest → IsReadAs known o v rest tied p
+operand-read known o contents.Flag rest tied p other h suits apart = flag-read known o rest tied p h apart
+operand-read known o (contents.Id w) rest tied p other h suits apart = valued-read known o (contents.Id w) rest tied p h suits tt refl
+operand-read known o (contents.Authority a) rest tied p other h suits apart = valued-read known o (contents.Authority a) rest tied p h suits tt refl
+operand-read known o (contents.Name t) rest tied p other h suits apart = valued-read known o (contents.Name t) rest tied p h suits tt refl
+operand-read known o (contents.Ids xs) rest tied p other h suits apart = valued-read known o (contents.Ids xs) rest tied p h suits tt refl
+operand-read known o (contents.Level l) rest tied p other h suits apart = valued-read known o (contents.Level l) rest tied p h suits tt refl
+operand-read known o (contents.Audit r) rest tied p other h suits apart = valued-read known o (contents.Audit r) rest tied p h suits tt refl
+operand-read known o (contents.Profile n) rest tied p other h suits apart = absurd (no-profile o.kind n other h)
+operand-read known o (contents.Reset r) rest tied p other h suits apart = valued-read known o (contents.Reset r) rest tied p h suits tt refl
+operand-read known o (contents.Whos ws) rest tied p other h suits apart = valued-read known o (contents.Whos ws) rest tied p h suits tt refl
+operand-read known o (contents.When c) rest tied p other h suits apart = valued-read known o (contents.When c) rest tied p h suits tt refl
+operand-read known o (contents.Members ms) rest tied p other h suits apart = valued-read known o (contents.Members ms) rest tied p h suits tt refl
+operand-read known o (contents.MemberNames ns) rest tied p other h suits apart = valued-read known o (contents.MemberNames ns) rest tied p h suits tt refl
+operand-read known o (contents.Generic g) rest tied p other h suits apart = valued-read known o (contents.Generic g) rest tied p h suits tt refl
 
 -- The rows from os on: what stands before them was read, and their slots are empty.
-operands_again : (at : Scope) (rows pre os : List Operand) (front ss : Slots) (k : ℕ) (tied : Bool) (p : ℕ) → rows ≡ pre ++ os → length pre ≡ k → length front ≡ k → AreFound rows k os → FitsAll os ss
+operands_again : (at : Scope) (rows pre os : List Operand) (front ss : Slots) (k : ℕ) (tied : Bool) (p : ℕ) → rows ≡ pre ++ os → length pre ≡ k → length front ≡ k → AreFound rows k os → FitsAll os ss → SuitsAll at.known os ss
     → operands_at at rows (front ++ replicate (length os) None) (items (tokens_from Ignored tied 0 p (operands_text os ss))) ≡ Ok (front ++ ss)
-operands_again at rows pre [] front [] k tied p whole at_pre at_front found h = refl
-operands_again at rows pre [] front (s ∷ ss) k tied p whole at_pre at_front found h = absurd h
-operands_again at rows pre (o ∷ os) front [] k tied p whole at_pre at_front found h = absurd h
-operands_again at rows pre (o ∷ os) front (None ∷ ss) k tied p whole at_pre at_front found h =
+operands_again at rows pre [] front [] k tied p whole at_pre at_front found h suits = refl
+operands_again at rows pre [] front (s ∷ ss) k tied p whole at_pre at_front found h suits = absurd h
+operands_again at rows pre (o ∷ os) front [] k tied p whole at_pre at_front found h suits = absurd h
+operands_again at rows pre (o ∷ os) front (None ∷ ss) k tied p whole at_pre at_front found h suits =
     let pre' : length (pre ++ o ∷ []) ≡ suc k = omega (arith, length-append pre (o ∷ [])) in
     let front' : length (front ++ None ∷ []) ≡ suc k = omega (arith, length-append front (None ∷ [])) in
     let whole' : rows ≡ (pre ++ o ∷ []) ++ os = whole ∙ sym (append_assoc pre (o ∷ []) os) in
     ap (λ slots. operands_at at rows slots (items (tokens_from Ignored tied 0 p (operands_text os ss)))) (sym (append_assoc front (None ∷ []) (replicate (length os) None)))
-    ∙ operands_again at rows (pre ++ o ∷ []) os (front ++ None ∷ []) ss (suc k) tied p whole' pre' front' found.2 h
+    ∙ operands_again at rows (pre ++ o ∷ []) os (front ++ None ∷ []) ss (suc k) tied p whole' pre' front' found.2 h suits
     ∙ ap Ok (append_assoc front (None ∷ []) ss)
-operands_again at rows pre (o ∷ os) front (Some v ∷ ss) k tied p whole at_pre at_front found h =
+operands_again at rows pre (o ∷ os) front (Some v ∷ ss) k tied p whole at_pre at_front found h suits =
     let pre' : length (pre ++ o ∷ []) ≡ suc k = omega (arith, length-append pre (o ∷ [])) in
     let front' : length (front ++ Some v ∷ []) ≡ suc k = omega (arith, length-append front (Some v ∷ [])) in
     let whole' : rows ≡ (pre ++ o ∷ []) ++ os = whole ∙ sym (append_assoc pre (o ∷ []) os) in
     let here : row_at rows k ≡ o = ap (λ rs. row_at rs k) whole ∙ get_or_at pre o os no_operand k at_pre in
     let free : is_given (front ++ None ∷ replicate (length os) None) k ≡ false = ap is_some (get_or_at front None (replicate (length os) None) None k at_front) in
-    let read = operand-read o v (operands_text os ss) tied p found.1 h.0 (operands-apart os ss) in
+    let read = operand-read at.known o v (operands_text os ss) tied p found.1 h.0 suits.0 (operands-apart os ss) in
     let stored : slice_set (front ++ None ∷ replicate (length os) None) k (Some v) ≡ (front ++ Some v ∷ []) ++ replicate (length os) None =
     set_at front None (replicate (length os) None) (Some v) k at_front ∙ sym (append_assoc front (Some v ∷ []) (replicate (length os) None)) in
     ap (operands_at at rows (front ++ None ∷ replicate (length os) None)) read.item_first
     ∙ ap (λ r. r >>= λ x. operands_at at rows (slice_set (front ++ None ∷ replicate (length os) None) x.0 (Some x.1)) (items (tokens_from Ignored read.tied_behind 0 read.place_behind (operands_text os ss))))
-    (read.reads at rows (front ++ None ∷ replicate (length os) None) k here found.0 free)
+    (read.reads at refl rows (front ++ None ∷ replicate (length os) None) k here found.0 free)
     ∙ ap (λ slots. operands_at at rows slots (items (tokens_from Ignored read.tied_behind 0 read.place_behind (operands_text os ss)))) stored
-    ∙ operands_again at rows (pre ++ o ∷ []) os (front ++ Some v ∷ []) ss (suc k) read.tied_behind read.place_behind whole' pre' front' found.2 h.1
+    ∙ operands_again at rows (pre ++ o ∷ []) os (front ++ Some v ∷ []) ss (suc k) read.tied_behind read.place_behind whole' pre' front' found.2 h.1 suits.1
     ∙ ap Ok (append_assoc front (Some v ∷ []) ss)
 
 -- a positional word that is written as a name
@@ -360,6 +363,7 @@ record ArePositionsRead (at : Scope) (rows : List Operand) (ps : List Position) 
   tied_behind : Bool
   place_behind : ℕ
   scope_behind : Scope
+  known_is : scope_behind.known ≡ known_last at.known ps vs
   reads : positions_at at rows ps front (tokens_from Ignored tied 0 p (positions_text vs ++ rest)) ≡ Ok (front ++ vs, scope_behind, tokens_from Ignored tied_behind 0 place_behind rest)
 
 abbrev are_names : List Position → Bool
@@ -379,7 +383,7 @@ positions-apart at (pos ∷ ps) (v ∷ vs) rest names h suits apart =
 positions_again : (at : Scope) (rows : List Operand) (ps : List Position) (front vs : List Content) (rest : List ℕ) (tied : Bool) (p : ℕ) → are_names ps ≡ true → FitsPositions ps vs → SuitsPositions at.known ps vs → IsApart rest
     → ArePositionsRead at rows ps front vs rest tied p
 positions_again at rows [] front [] rest tied p names h suits apart =
-    record { tied_behind = tied; place_behind = p; scope_behind = at; reads = ap (λ vs. Ok (vs, at, tokens_from Ignored tied 0 p rest)) (sym (append-nil front)) }
+    record { tied_behind = tied; place_behind = p; scope_behind = at; known_is = refl; reads = ap (λ vs. Ok (vs, at, tokens_from Ignored tied 0 p rest)) (sym (append-nil front)) }
 positions_again at rows [] front (v ∷ vs) rest tied p names h suits apart = absurd h
 positions_again at rows (pos ∷ ps) front [] rest tied p names h suits apart = absurd h
 positions_again at rows (pos ∷ ps) front (v ∷ vs) rest tied p names h suits apart =
@@ -396,6 +400,7 @@ positions_again at rows (pos ∷ ps) front (v ∷ vs) rest tied p names h suits 
       tied_behind = more.tied_behind;
       place_behind = more.place_behind;
       scope_behind = more.scope_behind;
+      known_is = more.known_is;
       reads = ap (positions_at at rows (pos ∷ ps) front) first
           ∙ ap (λ r. r >>= λ x. positions_at (behind at pos.kind x.0) rows ps (front ++ x.0 ∷ []) x.1)
           (judged at rows pos (suc p) named.name (tokens_from Ignored true 0 (suc p + length named.name) (positions_text vs ++ rest)) v name_here
@@ -411,15 +416,15 @@ closed-again g lawful =
     ∙ ap (λ ss. unless_clash (clash (given (operands_of g.verb) ss)) ss) lawful.complete
     ∙ ap (λ c. unless_clash c g.slots) lawful.apart
 
-filled-again : (at : Scope) (g : Generic) (tied : Bool) (p : ℕ) → IsLawful g
+filled-again : (at : Scope) (g : Generic) (tied : Bool) (p : ℕ) → IsLawful g → SuitsAll at.known (operands_of g.verb) g.slots
     → operands_at at (operands_of g.verb) (no_slots (operands_of g.verb)) (items (tokens_from Ignored tied 0 p (operands_text (operands_of g.verb) g.slots))) ≡ Ok g.slots
-filled-again at g tied p lawful = operands_again at (operands_of g.verb) [] (operands_of g.verb) [] g.slots 0 tied p refl refl refl (operands-found g.verb) lawful.fits_operands
+filled-again at g tied p lawful suits = operands_again at (operands_of g.verb) [] (operands_of g.verb) [] g.slots 0 tied p refl refl refl (operands-found g.verb) lawful.fits_operands suits
 
 -- the operands behind the positional words
-behind_again : (at : Scope) (g : Generic) (tied : Bool) (p : ℕ) → IsLawful g
+behind_again : (at : Scope) (g : Generic) (tied : Bool) (p : ℕ) → IsLawful g → SuitsAll at.known (operands_of g.verb) g.slots
     → (operands_at at (operands_of g.verb) (no_slots (operands_of g.verb)) (items (tokens_from Ignored tied 0 p (operands_text (operands_of g.verb) g.slots))) >>= λ slots. closed g.verb slots >>= λ slots. Ok (record { verb = g.verb; positions = g.positions; slots = slots })) ≡ Ok g
-behind_again at g tied p lawful =
-    ap (λ r. r >>= λ slots. closed g.verb slots >>= λ slots. Ok (record { verb = g.verb; positions = g.positions; slots = slots })) (filled-again at g tied p lawful)
+behind_again at g tied p lawful suits =
+    ap (λ r. r >>= λ slots. closed g.verb slots >>= λ slots. Ok (record { verb = g.verb; positions = g.positions; slots = slots })) (filled-again at g tied p lawful suits)
     ∙ ap (λ r. r >>= λ slots. Ok (record { verb = g.verb; positions = g.positions; slots = slots })) (closed-again g lawful)
 
 abbrev then_operands : Verb → Result (List Content × Scope × List Token) Syntax → Result Generic Syntax
@@ -428,6 +433,12 @@ then_operands v r = r >>= λ x. operands_at x.1 (operands_of v) (no_slots (opera
 -- nothing is known before the first positional word
 nothing-first : (g : Generic) → IsLawful g → is_late (positions_of g.verb) ≡ false → SuitsPositions (class_known None) (positions_of g.verb) g.positions
 nothing-first g lawful early = subst (λ (k : Known). SuitsPositions k (positions_of g.verb) g.positions) (ap (λ c. class_known (if c then class_in g.slots else None)) early) lawful.suits_positions
+
+-- what the operands behind the positional words know
+suits-last : (g : Generic) → IsLawful g → is_late (positions_of g.verb) ≡ false → (k : Known) → k ≡ known_last (class_known None) (positions_of g.verb) g.positions → SuitsAll k (operands_of g.verb) g.slots
+suits-last g lawful early k same =
+    subst (λ (m : Known). SuitsAll m (operands_of g.verb) g.slots)
+    (ap (λ c. known_last (class_known (if c then class_in g.slots else None)) (positions_of g.verb) g.positions) early ∙ sym same) lawful.suits_operands
 
 early_body : (at : Context) (v : Verb) (ts : List Token) → is_late (positions_of v) ≡ false → body_at (begun at) v ts ≡ plain_at (begun at) v ts
 early_body at v ts early = ap (λ c. if c then late_at (begun at) v ts else plain_at (begun at) v ts) early
@@ -438,7 +449,7 @@ plain_again : (at : Context) (g : Generic) (tied : Bool) (p : ℕ) → IsLawful 
 plain_again at g tied p lawful early names =
     let read = positions_again (begun at) (operands_of g.verb) (positions_of g.verb) [] g.positions (operands_text (operands_of g.verb) g.slots) tied p names lawful.fits_positions (nothing-first g lawful early) (operands-apart (operands_of g.verb) g.slots) in
     early_body at g.verb (tokens_from Ignored tied 0 p (positions_text g.positions ++ operands_text (operands_of g.verb) g.slots)) early
-    ∙ ap (then_operands g.verb) read.reads ∙ behind_again read.scope_behind g read.tied_behind read.place_behind lawful
+    ∙ ap (then_operands g.verb) read.reads ∙ behind_again read.scope_behind g read.tied_behind read.place_behind lawful (suits-last g lawful early read.scope_behind.known read.known_is)
 
 -- a data set's name in quotes
 quoted_again : (at : Scope) (rows : List Operand) (n : Spelled) (rest : List ℕ) (tied : Bool) (p : ℕ) → dataset_profile n.text ≡ Some n → IsApart rest
@@ -503,6 +514,8 @@ dataset_again at g tied p lawful same =
     ∙ ap (λ vs. Ok (vs, behind (begun at) kinds.DataSetProfile (contents.Profile found.0), tokens_from Ignored true 0 (suc p + length (39 ∷ (found.0.text ++ 39 ∷ []))) rest)) (sym found.1) in
     early_body at g.verb (tokens_from AtName tied 0 p (positions_text g.positions ++ rest)) (ap is_late same)
     ∙ ap (then_operands g.verb) read ∙ behind_again (behind (begun at) kinds.DataSetProfile (contents.Profile found.0)) g true (suc p + length (39 ∷ (found.0.text ++ 39 ∷ []))) lawful
+    (suits-last g lawful (ap is_late same) (known_behind (class_known None) kinds.DataSetProfile (contents.Profile found.0))
+    (sym (ap (λ ps. known_last (class_known None) ps g.positions) same ∙ ap (known_last (class_known None) DATASET_POSITION) found.1)))
 
 -- PERMIT's name, as it is written
 record IsAnyName (issuer : List ℕ) (class : Option (List ℕ)) (n : Spelled) : Type 0 where
@@ -604,7 +617,7 @@ permit_again at n slots tied p lawful =
     ap (λ r. r >>= λ x. operands_at (begun at) rows (no_slots rows) (items x.2) >>= λ ss. late_name (begun at) ss x.0 x.1 >>= λ m. late_closed m verbs.Permit ss >>= λ ss. Ok (record { verb = verbs.Permit; positions = contents.Profile m ∷ []; slots = ss }))
     (late_again at rows (class_in slots) n rest tied p name (operands-apart rows slots))
     ∙ ap (λ r. r >>= λ ss. late_name (begun at) ss (suc p) name.word >>= λ m. late_closed m verbs.Permit ss >>= λ ss. Ok (record { verb = verbs.Permit; positions = contents.Profile m ∷ []; slots = ss }))
-    (filled-again (begun at) g true q lawful)
+    (filled-again (begun at) g true q lawful (suits-none (begun at).known rows slots refl))
     ∙ ap (λ o. or_fault o (faults.BadValue (suc p)) >>= λ m. late_closed m verbs.Permit slots >>= λ ss. Ok (record { verb = verbs.Permit; positions = contents.Profile m ∷ []; slots = ss })) name.reads
     ∙ ap (λ m. (unless_mark n m slots >>= λ ss. closed verbs.Permit ss) >>= λ ss. Ok (record { verb = verbs.Permit; positions = contents.Profile n ∷ []; slots = ss })) mark
     ∙ ap (λ r. r >>= λ ss. Ok (record { verb = verbs.Permit; positions = contents.Profile n ∷ []; slots = ss })) (closed-again g lawful)

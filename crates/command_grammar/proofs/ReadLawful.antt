@@ -1,6 +1,6 @@
 -- What is read is lawful.
 use Rattle.std.proofs.Common.{◌≡◌, ◌⊎◌, inl, inr, ℕ, zero, suc, List, [], ◌∷◌, ◌++◌, length, map, Bool, true, false, cond, not, ◌&&◌, Option, None, Some, Result, Ok, Err, refl, sym, ap, subst, ◌∙◌, arith, append_assoc}
-use Rattle.std.specs.Prelude.{◌==◌, slice_set, nat_lt, is_ok, bytes_eq, codes, if◌then◌else◌}
+use Rattle.std.specs.Prelude.{◌==◌, slice_set, nat_le, nat_lt, is_ok, bytes_eq, codes, if◌then◌else◌}
 use Rattle.std.specs.Result.{result_ok}
 use Rattle.std.proofs.lemmas.List.{append-nil}
 use Rattle.access_levels.specs.Spelling.{id_of, authority_of, level_of}
@@ -41,13 +41,22 @@ use Rattle.command_grammar.specs.Results.{◌>>=◌, or_fault}
 use Rattle.command_grammar.specs.Table.{positions_of, operands_of, verb_named}
 use Rattle.command_grammar.specs.WordsOfValues.{clean, word_of, stray, held, unless_stray}
 use Rattle.command_grammar.specs.ProfileNames.{dataset_profile, class_profile, dataset_text, profile_of_text, dataset_named, profile_in, form_in, named_by_form, any_named, any_profile}
+use Rattle.command_grammar.specs.declared.members.MemberForm.{MemberForm}
+use Rattle.command_grammar.specs.declared.members.MemberForm.TheVariants as member_forms
+use Rattle.command_grammar.specs.Members.{whole_text, named_so, member_named, parted, number_behind, if_number, number_of, access_with, access_of, grade_with, grade_of, category_of, member_form, member_in, id_name, dropped_in, each_of, some_of, added, dropped}
+use Rattle.racf_profiles.specs.declared.profiles.Member.{Member}
+use Rattle.racf_profiles.specs.declared.profiles.Member.TheVariants as member
+use Rattle.generic_names.specs.declared.kind.NameKind.{NameKind}
+use Rattle.generic_names.specs.declared.kind.NameKind.TheVariants.{General}
+use Rattle.generic_names.specs.Faults.{member_of}
 use Rattle.command_grammar.specs.Entries.{port_class_of, port_name, port_of, port}
 use Rattle.command_grammar.specs.Audits.{so_far, with_word, is_audit_level, if_audit_level, audit_level, with_level, audit_word, audit_more, audits, audit_rule, is_half, is_audit_rule}
 use Rattle.command_grammar.specs.Values.{name_of, is_name, if_name, unquoted, name_text, reset_of, star_or, whos, one, quotes_of, single, names, several, value, bare}
 use Rattle.command_grammar.specs.Reading.{Generic, Slots, row_at, placed, position_at, behind, positions_at, slot_of, operand_at, operands_at, given, clash, unless_clash, is_generic_kind, is_given, generic_place, cleared, is_late, with_class, means_read, with_access, completed, missing, closed, no_slots, plain_at, class_in, mark_in, unless_mark, late_word, late_name, late_closed, late_at, body_at, begins_with_name, behind_first, begun, command_at, parsed}
-use Rattle.command_grammar.specs.Lawful.{AreNames, IsNonEmpty, Fits, FitsPositions, FitsAll, AreNamed, AreWhos, Suits, SuitsPositions, class_known, first_known, IsLawful}
-use Rattle.command_grammar.proofs.Names.{if-err, name-again}
-use Rattle.command_grammar.proofs.Patterns.{dataset-named, general-named, class-named}
+use Rattle.command_grammar.specs.Lawful.{AreNames, IsNonEmpty, Fits, FitsPositions, FitsAll, AreNamed, AreWhos, IsMember, IsDropped, Each, AreSome, AreMembers, AreDropped, Suits, SuitsPositions, known_last, SuitsAll, class_known, first_known, IsLawful}
+use Rattle.command_grammar.proofs.Names.{if-err, if-none, result_ok-some, id_of-ok, name-again}
+use Rattle.command_grammar.proofs.SuitsNone.{suits-none}
+use Rattle.command_grammar.proofs.Patterns.{if-there, dataset-named, general-named, class-named, member-named-so}
 
 bind-ok : {A B : Type 0} (r : Result A Syntax) (f : A → Result B Syntax) (y : B) → (r >>= f) ≡ Ok y → (x : A) × (r ≡ Ok x) × (f x ≡ Ok y)
 bind-ok (Ok x) f y h = (x, refl, h)
@@ -297,43 +306,137 @@ port-fits p (i ∷ is) c h =
     let read = bind-ok (port_of i) (λ c. unless_stray (stray Ignored is) c) c h in
     subst (λ (d : Condition). name_of kinds.Id d.name ≡ Some d.name) (unless_stray-ok (stray Ignored is) read.0 c read.2) (port_of-fits i read.0 read.1)
 
-value-fits : (at : Scope) (k : Kind) (p : ℕ) (is : List Item) (v : Content) → value at k p is ≡ Ok v → Fits k v
-value-fits at kinds.Ids p is v h = let list = several-fits kinds.Ids p is v h in along kinds.Ids (contents.Ids list.0) v list.1 (list.2, list.3)
-value-fits at kinds.Classes p is v h = let list = several-fits kinds.Classes p is v h in along kinds.Classes (contents.Ids list.0) v list.1 (list.2, list.3)
+-- members
+each-fit : {X : Type 0} (read : List ℕ → Option X) (P : X → Type 0) → ((w : List ℕ) (x : X) → read w ≡ Some x → P x) → (front : List X) (is : List Item) (xs : List X) → each_of read front is ≡ Ok xs → AreSome front → Each P front → AreSome xs × Each P xs
+each-fit {X} read P fits front [] xs h some each = let same : front ≡ xs = cc in subst (λ (ys : List X). AreSome ys × Each P ys) same (some, each)
+each-fit {X} read P fits front (i ∷ is) xs h some each =
+    let word = bind-ok (word_of Ignored i) (λ w. or_fault (read w.1) (faults.BadValue w.0) >>= λ x. each_of read (front ++ x ∷ []) is) xs h in
+    let one = bind-ok (or_fault (read word.0.1) (faults.BadValue word.0.0)) (λ x. each_of read (front ++ x ∷ []) is) xs word.2 in
+    each-fit read P fits (front ++ one.0 ∷ []) is xs one.2 (some-push front one.0) (each-push front one.0 each (fits word.0.1 one.0 (or_fault-ok (read word.0.1) (faults.BadValue word.0.0) one.0 one.1)))
+  where
+    some-push : (front : List X) (x : X) → AreSome (front ++ x ∷ [])
+    some-push [] x = tt
+    some-push (y ∷ front) x = tt
+
+    each-push : (front : List X) (x : X) → Each P front → P x → Each P (front ++ x ∷ [])
+    each-push [] x h one = (one, tt)
+    each-push (y ∷ front) x h one = (h.0, each-push front x h.1 one)
+
+some-fit : {X : Type 0} (read : List ℕ → Option X) (P : X → Type 0) → ((w : List ℕ) (x : X) → read w ≡ Some x → P x) → (p : ℕ) (is : List Item) (xs : List X) → some_of read p is ≡ Ok xs → AreSome xs × Each P xs
+some-fit read P fits p [] xs h = cc
+some-fit read P fits p (i ∷ is) xs h =
+    let word = bind-ok (word_of Ignored i) (λ w. or_fault (read w.1) (faults.BadValue w.0) >>= λ x. each_of read (x ∷ []) is) xs h in
+    let one = bind-ok (or_fault (read word.0.1) (faults.BadValue word.0.0)) (λ x. each_of read (x ∷ []) is) xs word.2 in
+    each-fit read P fits (one.0 ∷ []) is xs one.2 tt (fits word.0.1 one.0 (or_fault-ok (read word.0.1) (faults.BadValue word.0.0) one.0 one.1), tt)
+
+name-fits : (kind : NameKind) (o : Option (List ℕ)) (n : Spelled) → named_so kind o ≡ Some n → result_ok (member_of kind n.text) ≡ Some n
+name-fits kind None n h = cc
+name-fits kind (Some t) n h = ap (λ x. result_ok (member_of kind x)) (member-named-so kind t n h).text ∙ h
+
+access-fits : (kind : NameKind) (o : Option Spelled) (l : Option Level) (m : Member) → access_with o l ≡ Some m → ((n : Spelled) → o ≡ Some n → result_ok (member_of kind n.text) ≡ Some n) → IsMember (member_forms.Access kind) m
+access-fits kind None l m h fits = cc
+access-fits kind (Some n) None m h fits = cc
+access-fits kind (Some n) (Some l) m h fits = let same : member.Access n l ≡ m = cc in subst (λ (x : Member). IsMember (member_forms.Access kind) x) same (fits n refl)
+
+grade-fits : (o : Option (List ℕ)) (n : Option ℕ) (m : Member) → grade_with o n ≡ Some m → ((x : List ℕ) → o ≡ Some x → id_of x ≡ Ok x) → ((k : ℕ) → n ≡ Some k → if_number (Some k) ≡ Some k) → IsMember member_forms.Grade m
+grade-fits None n m h fits numbers = cc
+grade-fits (Some x) None m h fits numbers = cc
+grade-fits (Some x) (Some n) m h fits numbers = let same : member.Grade x n ≡ m = cc in subst (λ (y : Member). IsMember member_forms.Grade y) same (fits x refl, numbers n refl)
+
+category-fits : (o : Option (List ℕ)) (m : Member) → category_of o ≡ Some m → ((x : List ℕ) → o ≡ Some x → id_of x ≡ Ok x) → IsMember member_forms.Category m
+category-fits None m h fits = cc
+category-fits (Some x) m h fits = let same : member.Category x ≡ m = cc in subst (λ (y : Member). IsMember member_forms.Category y) same (fits x refl)
+
+id-fits : (w x : List ℕ) → result_ok (id_of (map upper w)) ≡ Some x → id_of x ≡ Ok x
+id-fits w x h =
+    let read : id_of (map upper w) ≡ Ok x = result_ok-some (id_of (map upper w)) x h in
+    let same : x ≡ map upper w = (id_of-ok (map upper w) x read).0 in
+    ap id_of same ∙ read
+
+range-fits : (o : Option ℕ) (k : ℕ) → if_number o ≡ Some k → if_number (Some k) ≡ Some k
+range-fits None k h = cc
+range-fits (Some n) k h = range-one (nat_le 1 n && nat_le n 254) refl h
+  where
+    range-one : (c : Bool) → (nat_le 1 n && nat_le n 254) ≡ c → cond c (Some n) None ≡ Some k → if_number (Some k) ≡ Some k
+    range-one true is h = let same : n ≡ k = cc in subst (λ (m : ℕ). if_number (Some m) ≡ Some m) same (rw is refl)
+    range-one false is h = cc
+
+number-fits : (w : List ℕ) (k : ℕ) → number_of w ≡ Some k → if_number (Some k) ≡ Some k
+number-fits [] k h = cc
+number-fits (b ∷ w) k h = range-fits (number_behind 0 (b ∷ w)) k (if-none (b == 48) (if_number (number_behind 0 (b ∷ w))) k h).1
+
+access_of-fits : (kind : NameKind) (o : Option (List ℕ × List ℕ)) (m : Member) → access_of kind o ≡ Some m → IsMember (member_forms.Access kind) m
+access_of-fits kind None m h = cc
+access_of-fits kind (Some parts) m h = access-fits kind (member_named kind parts.0) (level_of (map upper parts.1)) m h (name-fits kind (whole_text parts.0))
+
+grade_of-fits : (o : Option (List ℕ × List ℕ)) (m : Member) → grade_of o ≡ Some m → IsMember member_forms.Grade m
+grade_of-fits None m h = cc
+grade_of-fits (Some parts) m h = grade-fits (result_ok (id_of (map upper parts.0))) (number_of parts.1) m h (id-fits parts.0) (number-fits parts.1)
+
+member-fits : (form : MemberForm) (w : List ℕ) (m : Member) → member_in form w ≡ Some m → IsMember form m
+member-fits (member_forms.Access kind) w m h = access_of-fits kind (parted w) m h
+member-fits member_forms.Grade w m h = grade_of-fits (parted w) m h
+member-fits member_forms.Category w m h = category-fits (result_ok (id_of (map upper w))) m h (id-fits w)
+
+id_name-fits : (t : List ℕ) (n : Spelled) → id_name t ≡ Some n → id_name n.text ≡ Some n
+id_name-fits t n h = ap id_name (member-named-so General t n (if-there (is_ok (id_of t)) (result_ok (member_of General t)) n h)).text ∙ h
+
+dropped-fits : (form : MemberForm) (w : List ℕ) (n : Spelled) → dropped_in form w ≡ Some n → IsDropped form n
+dropped-fits (member_forms.Access kind) w n h = name-fits kind (whole_text w) n h
+dropped-fits member_forms.Grade w n h = id_name-fits (map upper w) n h
+dropped-fits member_forms.Category w n h = id_name-fits (map upper w) n h
+
+added-fit : (form : Option MemberForm) (p : ℕ) (is : List Item) (ms : List Member) → added form p is ≡ Ok ms → AreSome ms × AreMembers form ms
+added-fit None p is ms h = cc
+added-fit (Some form) p is ms h = some-fit (member_in form) (IsMember form) (member-fits form) p is ms h
+
+dropped-fit : (form : Option MemberForm) (p : ℕ) (is : List Item) (ns : List Spelled) → dropped form p is ≡ Ok ns → AreSome ns × AreDropped form ns
+dropped-fit None p is ns h = cc
+dropped-fit (Some form) p is ns h = some-fit (dropped_in form) (IsDropped form) (dropped-fits form) p is ns h
+
+value-fits : (at : Scope) (k : Kind) (p : ℕ) (is : List Item) (v : Content) → value at k p is ≡ Ok v → FitsHere at.known k v
+value-fits at kinds.Ids p is v h = let list = several-fits kinds.Ids p is v h in along-here at.known kinds.Ids (contents.Ids list.0) v list.1 ((list.2, list.3), tt)
+value-fits at kinds.Classes p is v h = let list = several-fits kinds.Classes p is v h in along-here at.known kinds.Classes (contents.Ids list.0) v list.1 ((list.2, list.3), tt)
 value-fits at kinds.Audit p is v h =
     let read = bind-ok (audit_rule p is) (λ rule. Ok (contents.Audit rule)) v h in
     let same : contents.Audit read.0 ≡ v = cc in
-    along kinds.Audit (contents.Audit read.0) v same (audit-fits p is read.0 read.1)
-value-fits at kinds.Id p is v h = (single-fits at kinds.Id p is v h).0
-value-fits at kinds.Group p is v h = (single-fits at kinds.Group p is v h).0
-value-fits at kinds.Class p is v h = (single-fits at kinds.Class p is v h).0
-value-fits at kinds.Authority p is v h = (single-fits at kinds.Authority p is v h).0
-value-fits at kinds.Name p is v h = (single-fits at kinds.Name p is v h).0
-value-fits at kinds.Level p is v h = (single-fits at kinds.Level p is v h).0
-value-fits at kinds.Reset p is v h = (single-fits at kinds.Reset p is v h).0
+    along-here at.known kinds.Audit (contents.Audit read.0) v same (audit-fits p is read.0 read.1, tt)
+value-fits at kinds.Whos p is v h =
+    let read = bind-ok (whos p is) (λ ws. Ok (contents.Whos ws)) v h in
+    let same : contents.Whos read.0 ≡ v = cc in
+    along-here at.known kinds.Whos (contents.Whos read.0) v same (whos-fit p is read.0 read.1, tt)
+value-fits at kinds.When p is v h =
+    let read = bind-ok (port p is) (λ c. Ok (contents.When c)) v h in
+    let same : contents.When read.0 ≡ v = cc in
+    along-here at.known kinds.When (contents.When read.0) v same (port-fits p is read.0 read.1, tt)
+value-fits at kinds.AddedMembers p is v h =
+    let read = bind-ok (added (member_form at.known.class at.known.profile) p is) (λ ms. Ok (contents.Members ms)) v h in
+    let same : contents.Members read.0 ≡ v = cc in
+    along-here at.known kinds.AddedMembers (contents.Members read.0) v same (added-fit (member_form at.known.class at.known.profile) p is read.0 read.1)
+value-fits at kinds.DroppedMembers p is v h =
+    let read = bind-ok (dropped (member_form at.known.class at.known.profile) p is) (λ ns. Ok (contents.MemberNames ns)) v h in
+    let same : contents.MemberNames read.0 ≡ v = cc in
+    along-here at.known kinds.DroppedMembers (contents.MemberNames read.0) v same (dropped-fit (member_form at.known.class at.known.profile) p is read.0 read.1)
+value-fits at kinds.Id p is v h = single-fits at kinds.Id p is v h
+value-fits at kinds.Group p is v h = single-fits at kinds.Group p is v h
+value-fits at kinds.Class p is v h = single-fits at kinds.Class p is v h
+value-fits at kinds.Authority p is v h = single-fits at kinds.Authority p is v h
+value-fits at kinds.Name p is v h = single-fits at kinds.Name p is v h
+value-fits at kinds.Level p is v h = single-fits at kinds.Level p is v h
+value-fits at kinds.Reset p is v h = single-fits at kinds.Reset p is v h
 value-fits at kinds.Flag p is v h = cc
 value-fits at kinds.DataSetProfile p is v h = cc
 value-fits at kinds.ClassProfile p is v h = cc
 value-fits at kinds.AnyProfile p is v h = cc
-value-fits at kinds.Whos p is v h =
-    let read = bind-ok (whos p is) (λ ws. Ok (contents.Whos ws)) v h in
-    let same : contents.Whos read.0 ≡ v = cc in
-    along kinds.Whos (contents.Whos read.0) v same (whos-fit p is read.0 read.1)
-value-fits at kinds.When p is v h =
-    let read = bind-ok (port p is) (λ c. Ok (contents.When c)) v h in
-    let same : contents.When read.0 ≡ v = cc in
-    along kinds.When (contents.When read.0) v same (port-fits p is read.0 read.1)
-value-fits at kinds.AddedMembers p is v h = cc
-value-fits at kinds.DroppedMembers p is v h = cc
 value-fits at kinds.Generic p is v h = cc
 
 -- what stands in a slot while a text is read: a value of its kind, or GENERIC
-abbrev pub Holds : Kind → Content → Type 0
-Holds k v = (is_generic_kind k ≡ true) ⊎ Fits k v
+abbrev pub Holds : Known → Kind → Content → Type 0
+Holds known k v = (is_generic_kind k ≡ true) ⊎ FitsHere known k v
 
-bare-holds : (at : Scope) (k : Kind) (p : ℕ) (v : Content) → bare at k p ≡ Ok v → Holds k v
-bare-holds at kinds.Flag p v h = let same : contents.Flag ≡ v = cc in inr (along kinds.Flag contents.Flag v same tt)
-bare-holds at kinds.Reset p v h = let same : contents.Reset resets.All ≡ v = cc in inr (along kinds.Reset (contents.Reset resets.All) v same tt)
+bare-holds : (at : Scope) (k : Kind) (p : ℕ) (v : Content) → bare at k p ≡ Ok v → Holds at.known k v
+bare-holds at kinds.Flag p v h = let same : contents.Flag ≡ v = cc in inr (along-here at.known kinds.Flag contents.Flag v same (tt, tt))
+bare-holds at kinds.Reset p v h = let same : contents.Reset resets.All ≡ v = cc in inr (along-here at.known kinds.Reset (contents.Reset resets.All) v same (tt, tt))
 bare-holds at kinds.Generic p v h = inl refl
 bare-holds at kinds.Id p v h = cc
 bare-holds at kinds.Group p v h = cc
@@ -361,55 +464,55 @@ pair-ok {A} j k u v h =
     (ap (λ (x : ℕ × A). x.0) same, ap (λ (x : ℕ × A). x.1) same)
 
 -- operands
-abbrev pub HoldsAll : List Operand → Slots → Type 0
-HoldsAll [] [] = Unit {0}
-HoldsAll (o ∷ os) (None ∷ ss) = HoldsAll os ss
-HoldsAll (o ∷ os) (Some v ∷ ss) = Holds o.kind v × HoldsAll os ss
-HoldsAll os ss = ⊥
+abbrev pub HoldsAll : Known → List Operand → Slots → Type 0
+HoldsAll known [] [] = Unit {0}
+HoldsAll known (o ∷ os) (None ∷ ss) = HoldsAll known os ss
+HoldsAll known (o ∷ os) (Some v ∷ ss) = Holds known o.kind v × HoldsAll known os ss
+HoldsAll known os ss = ⊥
 
-operand-holds : (at : Scope) (rows : List Operand) (slots : Slots) (i : Item) (k : ℕ) (v : Content) → operand_at at rows slots i ≡ Ok (k, v) → Holds (row_at rows k).kind v
+operand-holds : (at : Scope) (rows : List Operand) (slots : Slots) (i : Item) (k : ℕ) (v : Content) → operand_at at rows slots i ≡ Ok (k, v) → Holds at.known (row_at rows k).kind v
 operand-holds at rows slots (Bare p w) k v h =
     let slot = bind-ok (slot_of rows slots p w) (λ k. bare at (row_at rows k).kind p >>= λ v. Ok (k, v)) (k, v) h in
     let read = bind-ok (bare at (row_at rows slot.0).kind p) (λ v. Ok (slot.0, v)) (k, v) slot.2 in
     let pair = pair-ok slot.0 k read.0 v read.2 in
     let row : slot.0 ≡ k = pair.0 in
     let same : read.0 ≡ v = pair.1 in
-    let holds : Holds (row_at rows slot.0).kind read.0 = bare-holds at (row_at rows slot.0).kind p read.0 read.1 in
-    subst (λ (j : ℕ). Holds (row_at rows j).kind v) row (subst (λ (u : Content). Holds (row_at rows slot.0).kind u) same holds)
+    let holds : Holds at.known (row_at rows slot.0).kind read.0 = bare-holds at (row_at rows slot.0).kind p read.0 read.1 in
+    subst (λ (j : ℕ). Holds at.known (row_at rows j).kind v) row (subst (λ (u : Content). Holds at.known (row_at rows slot.0).kind u) same holds)
 operand-holds at rows slots (With p w t) k v h =
     let slot = bind-ok (slot_of rows slots p w) (λ k. value at (row_at rows k).kind p (items (tokens t)) >>= λ v. Ok (k, v)) (k, v) h in
     let read = bind-ok (value at (row_at rows slot.0).kind p (items (tokens t))) (λ v. Ok (slot.0, v)) (k, v) slot.2 in
     let pair = pair-ok slot.0 k read.0 v read.2 in
     let row : slot.0 ≡ k = pair.0 in
     let same : read.0 ≡ v = pair.1 in
-    let fits : Fits (row_at rows slot.0).kind read.0 = value-fits at (row_at rows slot.0).kind p (items (tokens t)) read.0 read.1 in
-    subst (λ (j : ℕ). Holds (row_at rows j).kind v) row (inr (along (row_at rows slot.0).kind read.0 v same fits))
+    let fits : FitsHere at.known (row_at rows slot.0).kind read.0 = value-fits at (row_at rows slot.0).kind p (items (tokens t)) read.0 read.1 in
+    subst (λ (j : ℕ). Holds at.known (row_at rows j).kind v) row (inr (along-here at.known (row_at rows slot.0).kind read.0 v same fits))
 operand-holds at rows slots (Unbounded p w place) k v h =
     let slot = bind-ok (slot_of rows slots p w) (λ k. Err (faults.Unclosed place)) (k, v) h in
     let no = slot.2 in cc
 operand-holds at rows slots (Odd p) k v h = cc
 
-HoldsAll-tail : (o : Operand) (os : List Operand) (s : Option Content) (ss : Slots) → HoldsAll (o ∷ os) (s ∷ ss) → HoldsAll os ss
-HoldsAll-tail o os None ss h = h
-HoldsAll-tail o os (Some v) ss h = h.1
+HoldsAll-tail : (known : Known) (o : Operand) (os : List Operand) (s : Option Content) (ss : Slots) → HoldsAll known (o ∷ os) (s ∷ ss) → HoldsAll known os ss
+HoldsAll-tail known o os None ss h = h
+HoldsAll-tail known o os (Some v) ss h = h.1
 
-HoldsAll-set : (os : List Operand) (ss : Slots) (k : ℕ) (v : Content) → HoldsAll os ss → Holds (row_at os k).kind v → HoldsAll os (slice_set ss k (Some v))
-HoldsAll-set [] [] k v h holds = tt
-HoldsAll-set [] (s ∷ ss) k v h holds = absurd h
-HoldsAll-set (o ∷ os) [] k v h holds = absurd h
-HoldsAll-set (o ∷ os) (s ∷ ss) zero v h holds = (holds, HoldsAll-tail o os s ss h)
-HoldsAll-set (o ∷ os) (None ∷ ss) (suc k) v h holds = HoldsAll-set os ss k v h holds
-HoldsAll-set (o ∷ os) (Some u ∷ ss) (suc k) v h holds = (h.0, HoldsAll-set os ss k v h.1 holds)
+HoldsAll-set : (known : Known) (os : List Operand) (ss : Slots) (k : ℕ) (v : Content) → HoldsAll known os ss → Holds known (row_at os k).kind v → HoldsAll known os (slice_set ss k (Some v))
+HoldsAll-set known [] [] k v h holds = tt
+HoldsAll-set known [] (s ∷ ss) k v h holds = absurd h
+HoldsAll-set known (o ∷ os) [] k v h holds = absurd h
+HoldsAll-set known (o ∷ os) (s ∷ ss) zero v h holds = (holds, HoldsAll-tail known o os s ss h)
+HoldsAll-set known (o ∷ os) (None ∷ ss) (suc k) v h holds = HoldsAll-set known os ss k v h holds
+HoldsAll-set known (o ∷ os) (Some u ∷ ss) (suc k) v h holds = (h.0, HoldsAll-set known os ss k v h.1 holds)
 
-HoldsAll-none : (os : List Operand) → HoldsAll os (no_slots os)
-HoldsAll-none [] = tt
-HoldsAll-none (o ∷ os) = HoldsAll-none os
+HoldsAll-none : (known : Known) (os : List Operand) → HoldsAll known os (no_slots os)
+HoldsAll-none known [] = tt
+HoldsAll-none known (o ∷ os) = HoldsAll-none known os
 
-operands-hold : (at : Scope) (rows : List Operand) (slots : Slots) (is : List Item) (ss : Slots) → operands_at at rows slots is ≡ Ok ss → HoldsAll rows slots → HoldsAll rows ss
-operands-hold at rows slots [] ss h holds = let same : slots ≡ ss = cc in subst (λ (xs : Slots). HoldsAll rows xs) same holds
+operands-hold : (at : Scope) (rows : List Operand) (slots : Slots) (is : List Item) (ss : Slots) → operands_at at rows slots is ≡ Ok ss → HoldsAll at.known rows slots → HoldsAll at.known rows ss
+operands-hold at rows slots [] ss h holds = let same : slots ≡ ss = cc in subst (λ (xs : Slots). HoldsAll at.known rows xs) same holds
 operands-hold at rows slots (i ∷ is) ss h holds =
     let read = bind-ok (operand_at at rows slots i) (λ x. operands_at at rows (slice_set slots x.0 (Some x.1)) is) ss h in
-    operands-hold at rows (slice_set slots read.0.0 (Some read.0.1)) is ss read.2 (HoldsAll-set rows slots read.0.0 read.0.1 holds (operand-holds at rows slots i read.0.0 read.0.1 read.1))
+    operands-hold at rows (slice_set slots read.0.0 (Some read.0.1)) is ss read.2 (HoldsAll-set at.known rows slots read.0.0 read.0.1 holds (operand-holds at rows slots i read.0.0 read.0.1 read.1))
 
 -- GENERIC leaves nothing behind
 abbrev none_generic : List Operand → Bool
@@ -421,66 +524,74 @@ only_generic [] k = true
 only_generic (o ∷ os) zero = none_generic os
 only_generic (o ∷ os) (suc k) = not (is_generic_kind o.kind) && only_generic os k
 
-holds-fits : (k : Kind) (v : Content) → not (is_generic_kind k) ≡ true → Holds k v → Fits k v
-holds-fits k v h (inl g) = let no : not true ≡ true = ap not (sym g) ∙ h in cc
-holds-fits k v h (inr fits) = fits
+-- each value fits, and suits what stands in front
+abbrev BothAll : Known → List Operand → Slots → Type 0
+BothAll known os ss = FitsAll os ss × SuitsAll known os ss
 
-none-fits : (os : List Operand) (ss : Slots) → HoldsAll os ss → none_generic os ≡ true → FitsAll os ss
-none-fits [] [] h none = tt
-none-fits [] (s ∷ ss) h none = absurd h
-none-fits (o ∷ os) [] h none = absurd h
-none-fits (o ∷ os) (None ∷ ss) h none = none-fits os ss h (both_second (not (is_generic_kind o.kind)) (none_generic os) none)
-none-fits (o ∷ os) (Some v ∷ ss) h none =
-    (holds-fits o.kind v (both_first (not (is_generic_kind o.kind)) (none_generic os) none) h.0, none-fits os ss h.1 (both_second (not (is_generic_kind o.kind)) (none_generic os) none))
+holds-fits : (known : Known) (k : Kind) (v : Content) → not (is_generic_kind k) ≡ true → Holds known k v → FitsHere known k v
+holds-fits known k v h (inl g) = let no : not true ≡ true = ap not (sym g) ∙ h in cc
+holds-fits known k v h (inr fits) = fits
 
-cleared-fits : (os : List Operand) (ss : Slots) (k : ℕ) → HoldsAll os ss → only_generic os k ≡ true → FitsAll os (slice_set ss k None)
-cleared-fits [] [] k h only = tt
-cleared-fits [] (s ∷ ss) k h only = absurd h
-cleared-fits (o ∷ os) [] k h only = absurd h
-cleared-fits (o ∷ os) (s ∷ ss) zero h only = none-fits os ss (HoldsAll-tail o os s ss h) only
-cleared-fits (o ∷ os) (None ∷ ss) (suc k) h only = cleared-fits os ss k h (both_second (not (is_generic_kind o.kind)) (only_generic os k) only)
-cleared-fits (o ∷ os) (Some v ∷ ss) (suc k) h only =
-    (holds-fits o.kind v (both_first (not (is_generic_kind o.kind)) (only_generic os k) only) h.0, cleared-fits os ss k h.1 (both_second (not (is_generic_kind o.kind)) (only_generic os k) only))
+none-fits : (known : Known) (os : List Operand) (ss : Slots) → HoldsAll known os ss → none_generic os ≡ true → BothAll known os ss
+none-fits known [] [] h none = (tt, tt)
+none-fits known [] (s ∷ ss) h none = absurd h
+none-fits known (o ∷ os) [] h none = absurd h
+none-fits known (o ∷ os) (None ∷ ss) h none = none-fits known os ss h (both_second (not (is_generic_kind o.kind)) (none_generic os) none)
+none-fits known (o ∷ os) (Some v ∷ ss) h none =
+    let here = holds-fits known o.kind v (both_first (not (is_generic_kind o.kind)) (none_generic os) none) h.0 in
+    let more = none-fits known os ss h.1 (both_second (not (is_generic_kind o.kind)) (none_generic os) none) in
+    ((here.0, more.0), (here.1, more.1))
 
-FitsAll-tail : (o : Operand) (os : List Operand) (s : Option Content) (ss : Slots) → FitsAll (o ∷ os) (s ∷ ss) → FitsAll os ss
-FitsAll-tail o os None ss h = h
-FitsAll-tail o os (Some v) ss h = h.1
+cleared-fits : (known : Known) (os : List Operand) (ss : Slots) (k : ℕ) → HoldsAll known os ss → only_generic os k ≡ true → BothAll known os (slice_set ss k None)
+cleared-fits known [] [] k h only = (tt, tt)
+cleared-fits known [] (s ∷ ss) k h only = absurd h
+cleared-fits known (o ∷ os) [] k h only = absurd h
+cleared-fits known (o ∷ os) (s ∷ ss) zero h only = none-fits known os ss (HoldsAll-tail known o os s ss h) only
+cleared-fits known (o ∷ os) (None ∷ ss) (suc k) h only = cleared-fits known os ss k h (both_second (not (is_generic_kind o.kind)) (only_generic os k) only)
+cleared-fits known (o ∷ os) (Some v ∷ ss) (suc k) h only =
+    let here = holds-fits known o.kind v (both_first (not (is_generic_kind o.kind)) (only_generic os k) only) h.0 in
+    let more = cleared-fits known os ss k h.1 (both_second (not (is_generic_kind o.kind)) (only_generic os k) only) in
+    ((here.0, more.0), (here.1, more.1))
 
-FitsAll-set : (os : List Operand) (ss : Slots) (k : ℕ) (v : Content) → FitsAll os ss → Fits (row_at os k).kind v → FitsAll os (slice_set ss k (Some v))
-FitsAll-set [] [] k v h fits = tt
-FitsAll-set [] (s ∷ ss) k v h fits = absurd h
-FitsAll-set (o ∷ os) [] k v h fits = absurd h
-FitsAll-set (o ∷ os) (s ∷ ss) zero v h fits = (fits, FitsAll-tail o os s ss h)
-FitsAll-set (o ∷ os) (None ∷ ss) (suc k) v h fits = FitsAll-set os ss k v h fits
-FitsAll-set (o ∷ os) (Some u ∷ ss) (suc k) v h fits = (h.0, FitsAll-set os ss k v h.1 fits)
+BothAll-tail : (known : Known) (o : Operand) (os : List Operand) (s : Option Content) (ss : Slots) → BothAll known (o ∷ os) (s ∷ ss) → BothAll known os ss
+BothAll-tail known o os None ss h = h
+BothAll-tail known o os (Some v) ss h = (h.0.1, h.1.1)
 
-either-fits : (os : List Operand) (c : Bool) (x y : Slots) → FitsAll os x → FitsAll os y → FitsAll os (cond c x y)
-either-fits os true x y h k = h
-either-fits os false x y h k = k
+BothAll-set : (known : Known) (os : List Operand) (ss : Slots) (k : ℕ) (v : Content) → BothAll known os ss → FitsHere known (row_at os k).kind v → BothAll known os (slice_set ss k (Some v))
+BothAll-set known [] [] k v h fits = (tt, tt)
+BothAll-set known [] (s ∷ ss) k v h fits = absurd h.0
+BothAll-set known (o ∷ os) [] k v h fits = absurd h.0
+BothAll-set known (o ∷ os) (s ∷ ss) zero v h fits = let tail = BothAll-tail known o os s ss h in ((fits.0, tail.0), (fits.1, tail.1))
+BothAll-set known (o ∷ os) (None ∷ ss) (suc k) v h fits = BothAll-set known os ss k v h fits
+BothAll-set known (o ∷ os) (Some u ∷ ss) (suc k) v h fits = let more = BothAll-set known os ss k v (h.0.1, h.1.1) fits in ((h.0.0, more.0), (h.1.0, more.1))
+
+either-fits : (known : Known) (os : List Operand) (c : Bool) (x y : Slots) → BothAll known os x → BothAll known os y → BothAll known os (cond c x y)
+either-fits known os true x y h k = h
+either-fits known os false x y h k = k
 
 -- PERMIT's defaults
-class-fits : (ss : Slots) → FitsAll (operands_of verbs.Permit) ss → FitsAll (operands_of verbs.Permit) (with_class ss)
-class-fits ss h = either-fits (operands_of verbs.Permit) (is_given ss PERMIT_CLASS) ss (slice_set ss PERMIT_CLASS (Some (contents.Id (codes "DATASET")))) h (FitsAll-set (operands_of verbs.Permit) ss PERMIT_CLASS (contents.Id (codes "DATASET")) h refl)
+class-fits : (known : Known) (ss : Slots) → BothAll known (operands_of verbs.Permit) ss → BothAll known (operands_of verbs.Permit) (with_class ss)
+class-fits known ss h = either-fits known (operands_of verbs.Permit) (is_given ss PERMIT_CLASS) ss (slice_set ss PERMIT_CLASS (Some (contents.Id (codes "DATASET")))) h (BothAll-set known (operands_of verbs.Permit) ss PERMIT_CLASS (contents.Id (codes "DATASET")) h (refl, tt))
 
-access-fits : (ss : Slots) → FitsAll (operands_of verbs.Permit) ss → FitsAll (operands_of verbs.Permit) (with_access ss)
-access-fits ss h = either-fits (operands_of verbs.Permit) (means_read ss) (slice_set ss PERMIT_ACCESS (Some (contents.Level Read))) ss (FitsAll-set (operands_of verbs.Permit) ss PERMIT_ACCESS (contents.Level Read) h tt) h
+access-default-fits : (known : Known) (ss : Slots) → BothAll known (operands_of verbs.Permit) ss → BothAll known (operands_of verbs.Permit) (with_access ss)
+access-default-fits known ss h = either-fits known (operands_of verbs.Permit) (means_read ss) (slice_set ss PERMIT_ACCESS (Some (contents.Level Read))) ss (BothAll-set known (operands_of verbs.Permit) ss PERMIT_ACCESS (contents.Level Read) h (tt, tt)) h
 
-completed-fits : (v : Verb) (ss : Slots) → HoldsAll (operands_of v) ss → FitsAll (operands_of v) (completed v ss)
-completed-fits verbs.AddUser ss h = none-fits (operands_of verbs.AddUser) ss h refl
-completed-fits verbs.AltUser ss h = none-fits (operands_of verbs.AltUser) ss h refl
-completed-fits verbs.DelUser ss h = none-fits (operands_of verbs.DelUser) ss h refl
-completed-fits verbs.AddGroup ss h = none-fits (operands_of verbs.AddGroup) ss h refl
-completed-fits verbs.AltGroup ss h = none-fits (operands_of verbs.AltGroup) ss h refl
-completed-fits verbs.DelGroup ss h = none-fits (operands_of verbs.DelGroup) ss h refl
-completed-fits verbs.Connect ss h = none-fits (operands_of verbs.Connect) ss h refl
-completed-fits verbs.Remove ss h = none-fits (operands_of verbs.Remove) ss h refl
-completed-fits verbs.RDefine ss h = none-fits (operands_of verbs.RDefine) ss h refl
-completed-fits verbs.RAlter ss h = none-fits (operands_of verbs.RAlter) ss h refl
-completed-fits verbs.RDelete ss h = none-fits (operands_of verbs.RDelete) ss h refl
-completed-fits verbs.AddSd ss h = cleared-fits (operands_of verbs.AddSd) ss 8 h refl
-completed-fits verbs.AltSd ss h = cleared-fits (operands_of verbs.AltSd) ss 12 h refl
-completed-fits verbs.DelSd ss h = cleared-fits (operands_of verbs.DelSd) ss 0 h refl
-completed-fits verbs.Permit ss h = access-fits (with_class (slice_set ss 6 None)) (class-fits (slice_set ss 6 None) (cleared-fits (operands_of verbs.Permit) ss 6 h refl))
+completed-fits : (known : Known) (v : Verb) (ss : Slots) → HoldsAll known (operands_of v) ss → BothAll known (operands_of v) (completed v ss)
+completed-fits known verbs.AddUser ss h = none-fits known (operands_of verbs.AddUser) ss h refl
+completed-fits known verbs.AltUser ss h = none-fits known (operands_of verbs.AltUser) ss h refl
+completed-fits known verbs.DelUser ss h = none-fits known (operands_of verbs.DelUser) ss h refl
+completed-fits known verbs.AddGroup ss h = none-fits known (operands_of verbs.AddGroup) ss h refl
+completed-fits known verbs.AltGroup ss h = none-fits known (operands_of verbs.AltGroup) ss h refl
+completed-fits known verbs.DelGroup ss h = none-fits known (operands_of verbs.DelGroup) ss h refl
+completed-fits known verbs.Connect ss h = none-fits known (operands_of verbs.Connect) ss h refl
+completed-fits known verbs.Remove ss h = none-fits known (operands_of verbs.Remove) ss h refl
+completed-fits known verbs.RDefine ss h = none-fits known (operands_of verbs.RDefine) ss h refl
+completed-fits known verbs.RAlter ss h = none-fits known (operands_of verbs.RAlter) ss h refl
+completed-fits known verbs.RDelete ss h = none-fits known (operands_of verbs.RDelete) ss h refl
+completed-fits known verbs.AddSd ss h = cleared-fits known (operands_of verbs.AddSd) ss 8 h refl
+completed-fits known verbs.AltSd ss h = cleared-fits known (operands_of verbs.AltSd) ss 12 h refl
+completed-fits known verbs.DelSd ss h = cleared-fits known (operands_of verbs.DelSd) ss 0 h refl
+completed-fits known verbs.Permit ss h = access-default-fits known (with_class (slice_set ss 6 None)) (class-fits known (slice_set ss 6 None) (cleared-fits known (operands_of verbs.Permit) ss 6 h refl))
 
 set-twice : (ss : Slots) (k : ℕ) → slice_set (slice_set ss k None) k None ≡ slice_set ss k None
 set-twice [] k = refl
@@ -508,10 +619,10 @@ record AreSeven (ss : Slots) : Type 0 where
   s6 : Option Content
   are : ss ≡ s0 ∷ (s1 ∷ (s2 ∷ (s3 ∷ (s4 ∷ (s5 ∷ (s6 ∷ []))))))
 
-seven-slots : (ss : Slots) → HoldsAll (operands_of verbs.Permit) ss → AreSeven ss
-seven-slots ss h = seven-of ss (holds-length (operands_of verbs.Permit) ss h)
+seven-slots : (known : Known) (ss : Slots) → HoldsAll known (operands_of verbs.Permit) ss → AreSeven ss
+seven-slots known ss h = seven-of ss (holds-length (operands_of verbs.Permit) ss h)
   where
-    holds-length : (os : List Operand) (ss : Slots) → HoldsAll os ss → length ss ≡ length os
+    holds-length : (os : List Operand) (ss : Slots) → HoldsAll known os ss → length ss ≡ length os
     holds-length [] [] h = refl
     holds-length [] (s ∷ ss) h = absurd h
     holds-length (o ∷ os) [] h = absurd h
@@ -539,23 +650,23 @@ settled-permit (Some c) r (Some i) None None w g = record { again = refl; lacks 
 settled-permit (Some c) r (Some i) None (Some d) w g = record { again = refl; lacks = refl; class = refl }
 settled-permit (Some c) r (Some i) (Some a) d w g = record { again = refl; lacks = refl; class = refl }
 
-settled-slots : (v : Verb) (ss : Slots) → HoldsAll (operands_of v) ss → IsSettled v ss
-settled-slots verbs.AddUser ss h = record { again = cleared-again (generic_place (operands_of verbs.AddUser)) ss; lacks = refl; class = refl }
-settled-slots verbs.AltUser ss h = record { again = cleared-again (generic_place (operands_of verbs.AltUser)) ss; lacks = refl; class = refl }
-settled-slots verbs.DelUser ss h = record { again = cleared-again (generic_place (operands_of verbs.DelUser)) ss; lacks = refl; class = refl }
-settled-slots verbs.AddGroup ss h = record { again = cleared-again (generic_place (operands_of verbs.AddGroup)) ss; lacks = refl; class = refl }
-settled-slots verbs.AltGroup ss h = record { again = cleared-again (generic_place (operands_of verbs.AltGroup)) ss; lacks = refl; class = refl }
-settled-slots verbs.DelGroup ss h = record { again = cleared-again (generic_place (operands_of verbs.DelGroup)) ss; lacks = refl; class = refl }
-settled-slots verbs.Connect ss h = record { again = cleared-again (generic_place (operands_of verbs.Connect)) ss; lacks = refl; class = refl }
-settled-slots verbs.Remove ss h = record { again = cleared-again (generic_place (operands_of verbs.Remove)) ss; lacks = refl; class = refl }
-settled-slots verbs.AddSd ss h = record { again = cleared-again (generic_place (operands_of verbs.AddSd)) ss; lacks = refl; class = refl }
-settled-slots verbs.AltSd ss h = record { again = cleared-again (generic_place (operands_of verbs.AltSd)) ss; lacks = refl; class = refl }
-settled-slots verbs.DelSd ss h = record { again = cleared-again (generic_place (operands_of verbs.DelSd)) ss; lacks = refl; class = refl }
-settled-slots verbs.RDefine ss h = record { again = cleared-again (generic_place (operands_of verbs.RDefine)) ss; lacks = refl; class = refl }
-settled-slots verbs.RAlter ss h = record { again = cleared-again (generic_place (operands_of verbs.RAlter)) ss; lacks = refl; class = refl }
-settled-slots verbs.RDelete ss h = record { again = cleared-again (generic_place (operands_of verbs.RDelete)) ss; lacks = refl; class = refl }
-settled-slots verbs.Permit ss h =
-    let seven = seven-slots ss h in
+settled-slots : (known : Known) (v : Verb) (ss : Slots) → HoldsAll known (operands_of v) ss → IsSettled v ss
+settled-slots known verbs.AddUser ss h = record { again = cleared-again (generic_place (operands_of verbs.AddUser)) ss; lacks = refl; class = refl }
+settled-slots known verbs.AltUser ss h = record { again = cleared-again (generic_place (operands_of verbs.AltUser)) ss; lacks = refl; class = refl }
+settled-slots known verbs.DelUser ss h = record { again = cleared-again (generic_place (operands_of verbs.DelUser)) ss; lacks = refl; class = refl }
+settled-slots known verbs.AddGroup ss h = record { again = cleared-again (generic_place (operands_of verbs.AddGroup)) ss; lacks = refl; class = refl }
+settled-slots known verbs.AltGroup ss h = record { again = cleared-again (generic_place (operands_of verbs.AltGroup)) ss; lacks = refl; class = refl }
+settled-slots known verbs.DelGroup ss h = record { again = cleared-again (generic_place (operands_of verbs.DelGroup)) ss; lacks = refl; class = refl }
+settled-slots known verbs.Connect ss h = record { again = cleared-again (generic_place (operands_of verbs.Connect)) ss; lacks = refl; class = refl }
+settled-slots known verbs.Remove ss h = record { again = cleared-again (generic_place (operands_of verbs.Remove)) ss; lacks = refl; class = refl }
+settled-slots known verbs.AddSd ss h = record { again = cleared-again (generic_place (operands_of verbs.AddSd)) ss; lacks = refl; class = refl }
+settled-slots known verbs.AltSd ss h = record { again = cleared-again (generic_place (operands_of verbs.AltSd)) ss; lacks = refl; class = refl }
+settled-slots known verbs.DelSd ss h = record { again = cleared-again (generic_place (operands_of verbs.DelSd)) ss; lacks = refl; class = refl }
+settled-slots known verbs.RDefine ss h = record { again = cleared-again (generic_place (operands_of verbs.RDefine)) ss; lacks = refl; class = refl }
+settled-slots known verbs.RAlter ss h = record { again = cleared-again (generic_place (operands_of verbs.RAlter)) ss; lacks = refl; class = refl }
+settled-slots known verbs.RDelete ss h = record { again = cleared-again (generic_place (operands_of verbs.RDelete)) ss; lacks = refl; class = refl }
+settled-slots known verbs.Permit ss h =
+    let seven = seven-slots known ss h in
     subst (λ (xs : Slots). IsSettled verbs.Permit xs) (sym seven.are) (settled-permit seven.s0 seven.s1 seven.s2 seven.s3 seven.s4 seven.s5 seven.s6)
 
 first-ok : {A B : Type 0} (u v : A) (x y : B) → let read : Result (A × B) Syntax = Ok (u, x) in read ≡ Ok (v, y) → u ≡ v
@@ -573,15 +684,18 @@ position-fits at rows pos ts v rest h =
 triple-ok : {A B C : Type 0} (a d : A) (b e : B) (c f : C) → let read : Result (A × B × C) Syntax = Ok (a, b, c) in read ≡ Ok (d, e, f) → a ≡ d
 triple-ok {A} {B} {C} a d b e c f h = ap (λ (z : A × B × C). z.0) (ok-same (a, b, c) (d, e, f) h)
 
+triple-second : {A B C : Type 0} (a d : A) (b e : B) (c f : C) → let read : Result (A × B × C) Syntax = Ok (a, b, c) in read ≡ Ok (d, e, f) → b ≡ e
+triple-second {A} {B} {C} a d b e c f h = ap (λ (z : A × B × C). z.1) (ok-same (a, b, c) (d, e, f) h)
+
 -- the values behind those that were there
 positions-fit : (at : Scope) (rows : List Operand) (ps : List Position) (front : List Content) (ts : List Token) (all : List Content) (last : Scope) (rest : List Token) → positions_at at rows ps front ts ≡ Ok (all, last, rest)
-    → (vs : List Content) × (all ≡ front ++ vs) × FitsPositions ps vs × SuitsPositions at.known ps vs
-positions-fit at rows [] front ts all last rest h = ([], sym (triple-ok front all at last ts rest h) ∙ sym (append-nil front), tt, tt)
+    → (vs : List Content) × (all ≡ front ++ vs) × FitsPositions ps vs × SuitsPositions at.known ps vs × (last.known ≡ known_last at.known ps vs)
+positions-fit at rows [] front ts all last rest h = ([], sym (triple-ok front all at last ts rest h) ∙ sym (append-nil front), tt, tt, ap (λ (x : Scope). x.known) (sym (triple-second front all at last ts rest h)))
 positions-fit at rows (pos ∷ ps) front ts all last rest h =
     let read = bind-ok (position_at at rows pos ts) (λ x. positions_at (behind at pos.kind x.0) rows ps (front ++ x.0 ∷ []) x.1) (all, last, rest) h in
     let more = positions-fit (behind at pos.kind read.0.0) rows ps (front ++ read.0.0 ∷ []) read.0.1 all last rest read.2 in
     let fits = position-fits at rows pos ts read.0.0 read.0.1 read.1 in
-    (read.0.0 ∷ more.0, more.1 ∙ append_assoc front (read.0.0 ∷ []) more.0, (fits.0, more.2), (fits.1, more.3))
+    (read.0.0 ∷ more.0, more.1 ∙ append_assoc front (read.0.0 ∷ []) more.0, (fits.0, more.2), (fits.1, more.3), more.4)
 
 unless_clash-ok : (c : Option (Operand × Operand)) (slots ss : Slots) → unless_clash c slots ≡ Ok ss → (c ≡ None) × (slots ≡ ss)
 unless_clash-ok None slots ss h = (refl, cc)
@@ -594,19 +708,22 @@ closed-ok v slots ss h =
     (complete.0, subst (λ (xs : Slots). clash (given (operands_of v) xs) ≡ None) apart.1 apart.0, apart.1)
 
 -- what holds of the slots when they were closed
-record AreClosed (v : Verb) (slots ss : Slots) : Type 0 where
+record AreClosed (known : Known) (v : Verb) (slots ss : Slots) : Type 0 where
+  suits : SuitsAll known (operands_of v) ss
   operands : FitsAll (operands_of v) ss
   class : first_known v ss ≡ first_known v slots
   lacks : missing v ss ≡ false
   whole : completed v ss ≡ ss
   alone : clash (given (operands_of v) ss) ≡ None
 
-closed-slots : (v : Verb) (slots ss : Slots) → HoldsAll (operands_of v) slots → closed v slots ≡ Ok ss → AreClosed v slots ss
-closed-slots v slots ss holds h =
+closed-slots : (known : Known) (v : Verb) (slots ss : Slots) → HoldsAll known (operands_of v) slots → closed v slots ≡ Ok ss → AreClosed known v slots ss
+closed-slots known v slots ss holds h =
     let ok = closed-ok v slots ss h in
-    let settled = settled-slots v slots holds in
+    let settled = settled-slots known v slots holds in
+    let both = completed-fits known v slots holds in
     record {
-      operands = subst (λ (xs : Slots). FitsAll (operands_of v) xs) ok.2 (completed-fits v slots holds);
+      operands = subst (λ (xs : Slots). FitsAll (operands_of v) xs) ok.2 both.0;
+      suits = subst (λ (xs : Slots). SuitsAll known (operands_of v) xs) ok.2 both.1;
       class = ap (first_known v) (sym ok.2) ∙ settled.class;
       lacks = ap (missing v) (sym ok.2) ∙ settled.lacks ∙ ok.0;
       whole = ap (completed v) (sym ok.2) ∙ settled.again ∙ ok.2;
@@ -618,15 +735,18 @@ plain-lawful at v ts g early h =
     let words = bind-ok (positions_at (begun at) (operands_of v) (positions_of v) [] ts) (λ x. operands_at x.1 (operands_of v) (no_slots (operands_of v)) (items x.2) >>= λ slots. closed v slots >>= λ slots. Ok (record { verb = v; positions = x.0; slots = slots })) g h in
     let filled = bind-ok (operands_at words.0.1 (operands_of v) (no_slots (operands_of v)) (items words.0.2)) (λ slots. closed v slots >>= λ slots. Ok (record { verb = v; positions = words.0.0; slots = slots })) g words.2 in
     let end = bind-ok (closed v filled.0) (λ slots. Ok (record { verb = v; positions = words.0.0; slots = slots })) g filled.2 in
-    let closed_so = closed-slots v filled.0 end.0 (operands-hold words.0.1 (operands_of v) (no_slots (operands_of v)) (items words.0.2) filled.0 filled.1 (HoldsAll-none (operands_of v))) end.1 in
+    let closed_so = closed-slots words.0.1.known v filled.0 end.0 (operands-hold words.0.1 (operands_of v) (no_slots (operands_of v)) (items words.0.2) filled.0 filled.1 (HoldsAll-none words.0.1.known (operands_of v))) end.1 in
     let found = positions-fit (begun at) (operands_of v) (positions_of v) [] ts words.0.0 words.0.1 words.0.2 words.1 in
     let positions : FitsPositions (positions_of v) words.0.0 = subst (λ (vs : List Content). FitsPositions (positions_of v) vs) (sym found.1) found.2 in
     let suited : SuitsPositions (class_known None) (positions_of v) words.0.0 = subst (λ (vs : List Content). SuitsPositions (class_known None) (positions_of v) vs) (sym found.1) found.3 in
     let nothing : first_known v end.0 ≡ class_known None = closed_so.class ∙ ap (λ c. class_known (if c then class_in filled.0 else None)) early in
     let suited_here : SuitsPositions (first_known v end.0) (positions_of v) words.0.0 = subst (λ (k : Known). SuitsPositions k (positions_of v) words.0.0) (sym nothing) suited in
+    let last : words.0.1.known ≡ known_last (first_known v end.0) (positions_of v) words.0.0 =
+    found.4 ∙ ap (known_last (class_known None) (positions_of v)) (sym found.1) ∙ ap (λ k. known_last k (positions_of v) words.0.0) (sym nothing) in
+    let suited_slots : SuitsAll (known_last (first_known v end.0) (positions_of v) words.0.0) (operands_of v) end.0 = subst (λ (k : Known). SuitsAll k (operands_of v) end.0) last closed_so.suits in
     let made_here : Generic = record { verb = v; positions = words.0.0; slots = end.0 } in
     let same : made_here ≡ g = cc in
-    subst (λ (x : Generic). IsLawful x) same (record { fits_positions = positions; fits_operands = closed_so.operands; suits_positions = suited_here; needed = closed_so.lacks; complete = closed_so.whole; apart = closed_so.alone })
+    subst (λ (x : Generic). IsLawful x) same (record { fits_positions = positions; fits_operands = closed_so.operands; suits_positions = suited_here; suits_operands = suited_slots; needed = closed_so.lacks; complete = closed_so.whole; apart = closed_so.alone })
 
 -- PERMIT's name is judged by the class that its operand names
 form-fits : (issuer : List ℕ) (form : NameForm) (w : List ℕ) (n : Spelled) → named_by_form issuer form w ≡ Some n → profile_in form n.text ≡ Some n
@@ -658,13 +778,13 @@ late-lawful at ts g h =
     let marked = bind-ok (unless_mark name.0 (mark_in filled.0) filled.0) (λ slots. closed verbs.Permit slots) end.0 end.1 in
     let kept : filled.0 ≡ marked.0 = unless_mark-ok name.0 (mark_in filled.0) filled.0 marked.0 marked.1 in
     let closed_here : closed verbs.Permit filled.0 ≡ Ok end.0 = ap (closed verbs.Permit) kept ∙ marked.2 in
-    let closed_so = closed-slots verbs.Permit filled.0 end.0 (operands-hold (begun at) rows (no_slots rows) (items word.0.2) filled.0 filled.1 (HoldsAll-none rows)) closed_here in
+    let closed_so = closed-slots (begun at).known verbs.Permit filled.0 end.0 (operands-hold (begun at) rows (no_slots rows) (items word.0.2) filled.0 filled.1 (HoldsAll-none (begun at).known rows)) closed_here in
     let named : any_named at.issuer (class_in filled.0) word.0.1 ≡ Some name.0 = or_fault-ok (any_named at.issuer (class_in filled.0) word.0.1) (faults.BadValue word.0.0) name.0 name.1 in
     let suits : any_profile (class_in filled.0) name.0.text ≡ Some name.0 = any-fits at.issuer (class_in filled.0) word.0.1 name.0 named in
     let suited : SuitsPositions (first_known verbs.Permit end.0) (positions_of verbs.Permit) (contents.Profile name.0 ∷ []) = subst (λ (k : Known). SuitsPositions k (positions_of verbs.Permit) (contents.Profile name.0 ∷ [])) (sym closed_so.class) (suits, tt) in
     let made_here : Generic = record { verb = verbs.Permit; positions = contents.Profile name.0 ∷ []; slots = end.0 } in
     let same : made_here ≡ g = cc in
-    subst (λ (x : Generic). IsLawful x) same (record { fits_positions = (tt, tt); fits_operands = closed_so.operands; suits_positions = suited; needed = closed_so.lacks; complete = closed_so.whole; apart = closed_so.alone })
+    subst (λ (x : Generic). IsLawful x) same (record { fits_positions = (tt, tt); fits_operands = closed_so.operands; suits_positions = suited; suits_operands = suits-none (known_last (first_known verbs.Permit end.0) (positions_of verbs.Permit) (contents.Profile name.0 ∷ [])) rows end.0 refl; needed = closed_so.lacks; complete = closed_so.whole; apart = closed_so.alone })
 
 body-lawful : (at : Context) (v : Verb) (ts : List Token) (g : Generic) → body_at (begun at) v ts ≡ Ok g → IsLawful g
 body-lawful at verbs.AddUser ts g h = plain-lawful at verbs.AddUser ts g refl h

@@ -29,21 +29,15 @@ use Rattle.command_grammar.specs.declared.values.Reset.{Reset}
 use Rattle.command_grammar.specs.declared.values.Reset.TheVariants as resets
 use Rattle.command_grammar.specs.Results.{◌>>=◌}
 use Rattle.command_grammar.specs.Values.{name_of, is_name, if_name, unquoted, name_text, reset_name, single, names, several, whos, value, more_text, ids_text, text_of}
-use Rattle.command_grammar.specs.Lawful.{AreNames, IsNonEmpty, AreWhos, Fits}
+use Rattle.command_grammar.specs.Lawful.{AreNames, IsNonEmpty, AreWhos, Fits, Suits}
 use Rattle.command_grammar.proofs.Names.{IsPlainName, name-plain}
+use Rattle.command_grammar.proofs.WordItems.{word_items}
 use Rattle.command_grammar.specs.Entries.{whos_text}
+use Rattle.command_grammar.specs.declared.values.Known.{Known}
+use Rattle.command_grammar.specs.Members.{member_form}
+use Rattle.command_grammar.proofs.MembersAgain.{added_again, dropped_again, added_end, dropped_end}
 use Rattle.command_grammar.proofs.EntriesAgain.{listed, port_again, port_ends}
 use Rattle.command_grammar.proofs.AuditAgain.{level_calm, audit_again, audit_ends}
-
--- the items of a word of letters, whatever follows it that is no value of its own
-pub word_items : (ts : List Token) (p : ℕ) (w : List ℕ) → opens_value ts ≡ false → items (Word p w ∷ ts) ≡ Bare p w ∷ items ts
-word_items [] p w h = refl
-word_items (Word q v ∷ ts) p w h = refl
-word_items (Group true q t ∷ ts) p w h = cc
-word_items (Group false q t ∷ ts) p w h = refl
-word_items (Open true q place ∷ ts) p w h = cc
-word_items (Open false q place ∷ ts) p w h = refl
-word_items (Close q ∷ ts) p w h = refl
 
 -- a value of one name
 name_item : (q : ℕ) (w : List ℕ) → IsPlainName w → items (tokens (within q w)) ≡ Bare (suc q) w ∷ []
@@ -228,24 +222,26 @@ IsShown (contents.Members ms) = Unit {0}
 IsShown (contents.MemberNames ns) = Unit {0}
 IsShown (contents.Generic g) = Unit {0}
 
-pub value-again : (at : Scope) (k : Kind) (p q : ℕ) (v : Content) → Fits k v → IsShown v → value at k p (items (tokens (within q (text_of v)))) ≡ Ok v
-value-again at kinds.Flag p q contents.Flag h shown = absurd shown
-value-again at kinds.Id p q (contents.Id w) h shown = single_id at p q w h
-value-again at kinds.Group p q (contents.Id w) h shown = single_group at p q w h
-value-again at kinds.Authority p q (contents.Authority a) h shown = single_authority at p q a
-value-again at kinds.Name p q (contents.Name t) h shown = single_name at p q t h
-value-again at kinds.Ids p q (contents.Ids xs) h shown = several_again kinds.Ids p q xs h.0 h.1
-value-again at kinds.Classes p q (contents.Ids xs) h shown = several_again kinds.Classes p q xs h.0 h.1
-value-again at kinds.Class p q (contents.Id w) h shown = single_class at p q w h
-value-again at kinds.Level p q (contents.Level l) h shown = single_level at p q l
-value-again at kinds.Reset p q (contents.Reset r) h shown = single_reset at p q r
-value-again at kinds.Audit p q (contents.Audit rule) h shown = ap (λ r. r >>= λ rule. Ok (contents.Audit rule)) (audit_again p q rule h)
-value-again at kinds.DataSetProfile p q (contents.Profile n) h shown = absurd shown
-value-again at kinds.ClassProfile p q (contents.Profile n) h shown = absurd shown
-value-again at kinds.AnyProfile p q (contents.Profile n) h shown = absurd shown
-value-again at kinds.Whos p q (contents.Whos ws) h shown = ap (λ r. r >>= λ ws. Ok (contents.Whos ws)) (whos_again p q ws h)
-value-again at kinds.When p q (contents.When c) h shown = ap (λ r. r >>= λ c. Ok (contents.When c)) (port_again p q c h)
-value-again at k p q v h shown = absurd h
+pub value-again : (at : Scope) (k : Kind) (p q : ℕ) (v : Content) → Fits k v → IsShown v → Suits at.known k v → value at k p (items (tokens (within q (text_of v)))) ≡ Ok v
+value-again at kinds.Flag p q contents.Flag h shown suits = absurd shown
+value-again at kinds.Id p q (contents.Id w) h shown suits = single_id at p q w h
+value-again at kinds.Group p q (contents.Id w) h shown suits = single_group at p q w h
+value-again at kinds.Authority p q (contents.Authority a) h shown suits = single_authority at p q a
+value-again at kinds.Name p q (contents.Name t) h shown suits = single_name at p q t h
+value-again at kinds.Ids p q (contents.Ids xs) h shown suits = several_again kinds.Ids p q xs h.0 h.1
+value-again at kinds.Classes p q (contents.Ids xs) h shown suits = several_again kinds.Classes p q xs h.0 h.1
+value-again at kinds.Class p q (contents.Id w) h shown suits = single_class at p q w h
+value-again at kinds.Level p q (contents.Level l) h shown suits = single_level at p q l
+value-again at kinds.Reset p q (contents.Reset r) h shown suits = single_reset at p q r
+value-again at kinds.Audit p q (contents.Audit rule) h shown suits = ap (λ r. r >>= λ rule. Ok (contents.Audit rule)) (audit_again p q rule h)
+value-again at kinds.DataSetProfile p q (contents.Profile n) h shown suits = absurd shown
+value-again at kinds.ClassProfile p q (contents.Profile n) h shown suits = absurd shown
+value-again at kinds.AnyProfile p q (contents.Profile n) h shown suits = absurd shown
+value-again at kinds.Whos p q (contents.Whos ws) h shown suits = ap (λ r. r >>= λ ws. Ok (contents.Whos ws)) (whos_again p q ws h)
+value-again at kinds.When p q (contents.When c) h shown suits = ap (λ r. r >>= λ c. Ok (contents.When c)) (port_again p q c h)
+value-again at kinds.AddedMembers p q (contents.Members ms) h shown suits = ap (λ r. r >>= λ ms. Ok (contents.Members ms)) (added_again (member_form at.known.class at.known.profile) p q ms h suits)
+value-again at kinds.DroppedMembers p q (contents.MemberNames ns) h shown suits = ap (λ r. r >>= λ ns. Ok (contents.MemberNames ns)) (dropped_again (member_form at.known.class at.known.profile) p q ns h suits)
+value-again at k p q v h shown suits = absurd h
 
 -- where the parenthesis of a value that was written closes
 all_calm : (w : List ℕ) → list_all is_letter w ≡ true → list_all is_calm w ≡ true
@@ -281,21 +277,23 @@ reset_calm resets.All = refl
 reset_calm resets.Standard = refl
 reset_calm resets.When = refl
 
-pub value-ends : (k : Kind) (v : Content) (outer p : ℕ) (rest : List ℕ) → Fits k v → IsShown v → group_end outer Outside 0 p (text_of v ++ 41 ∷ rest) ≡ Ok (p + length (text_of v))
-value-ends kinds.Flag contents.Flag outer p rest h shown = absurd shown
-value-ends kinds.Id (contents.Id w) outer p rest h shown = group_end-calm outer p w rest (all_calm w (name-plain kinds.Id w w h).letters)
-value-ends kinds.Group (contents.Id w) outer p rest h shown = group_end-calm outer p w rest (all_calm w (name-plain kinds.Group w w h).letters)
-value-ends kinds.Authority (contents.Authority a) outer p rest h shown = group_end-calm outer p (authority_name a) rest (authority_calm a)
-value-ends kinds.Name (contents.Name t) outer p rest h shown = group_end-quoted outer p t rest
-value-ends kinds.Ids (contents.Ids xs) outer p rest h shown = group_end-calm outer p (ids_text xs) rest (ids_calm kinds.Ids xs h.1)
-value-ends kinds.Classes (contents.Ids xs) outer p rest h shown = group_end-calm outer p (ids_text xs) rest (ids_calm kinds.Classes xs h.1)
-value-ends kinds.Class (contents.Id w) outer p rest h shown = group_end-calm outer p w rest (all_calm w (name-plain kinds.Class w w h).letters)
-value-ends kinds.Level (contents.Level l) outer p rest h shown = group_end-calm outer p (level_name l) rest (level_calm l)
-value-ends kinds.Reset (contents.Reset r) outer p rest h shown = group_end-calm outer p (reset_name r) rest (reset_calm r)
-value-ends kinds.Audit (contents.Audit rule) outer p rest h shown = audit_ends outer p rule rest
-value-ends kinds.DataSetProfile (contents.Profile n) outer p rest h shown = absurd shown
-value-ends kinds.ClassProfile (contents.Profile n) outer p rest h shown = absurd shown
-value-ends kinds.AnyProfile (contents.Profile n) outer p rest h shown = absurd shown
-value-ends kinds.Whos (contents.Whos ws) outer p rest h shown = whos_end outer p ws rest h
-value-ends kinds.When (contents.When c) outer p rest h shown = port_ends outer p c rest h
-value-ends k v outer p rest h shown = absurd h
+pub value-ends : (known : Known) (k : Kind) (v : Content) (outer p : ℕ) (rest : List ℕ) → Fits k v → IsShown v → Suits known k v → group_end outer Outside 0 p (text_of v ++ 41 ∷ rest) ≡ Ok (p + length (text_of v))
+value-ends known kinds.Flag contents.Flag outer p rest h shown suits = absurd shown
+value-ends known kinds.Id (contents.Id w) outer p rest h shown suits = group_end-calm outer p w rest (all_calm w (name-plain kinds.Id w w h).letters)
+value-ends known kinds.Group (contents.Id w) outer p rest h shown suits = group_end-calm outer p w rest (all_calm w (name-plain kinds.Group w w h).letters)
+value-ends known kinds.Authority (contents.Authority a) outer p rest h shown suits = group_end-calm outer p (authority_name a) rest (authority_calm a)
+value-ends known kinds.Name (contents.Name t) outer p rest h shown suits = group_end-quoted outer p t rest
+value-ends known kinds.Ids (contents.Ids xs) outer p rest h shown suits = group_end-calm outer p (ids_text xs) rest (ids_calm kinds.Ids xs h.1)
+value-ends known kinds.Classes (contents.Ids xs) outer p rest h shown suits = group_end-calm outer p (ids_text xs) rest (ids_calm kinds.Classes xs h.1)
+value-ends known kinds.Class (contents.Id w) outer p rest h shown suits = group_end-calm outer p w rest (all_calm w (name-plain kinds.Class w w h).letters)
+value-ends known kinds.Level (contents.Level l) outer p rest h shown suits = group_end-calm outer p (level_name l) rest (level_calm l)
+value-ends known kinds.Reset (contents.Reset r) outer p rest h shown suits = group_end-calm outer p (reset_name r) rest (reset_calm r)
+value-ends known kinds.Audit (contents.Audit rule) outer p rest h shown suits = audit_ends outer p rule rest
+value-ends known kinds.DataSetProfile (contents.Profile n) outer p rest h shown suits = absurd shown
+value-ends known kinds.ClassProfile (contents.Profile n) outer p rest h shown suits = absurd shown
+value-ends known kinds.AnyProfile (contents.Profile n) outer p rest h shown suits = absurd shown
+value-ends known kinds.Whos (contents.Whos ws) outer p rest h shown suits = whos_end outer p ws rest h
+value-ends known kinds.When (contents.When c) outer p rest h shown suits = port_ends outer p c rest h
+value-ends known kinds.AddedMembers (contents.Members ms) outer p rest h shown suits = added_end (member_form known.class known.profile) outer p ms rest h suits
+value-ends known kinds.DroppedMembers (contents.MemberNames ns) outer p rest h shown suits = dropped_end (member_form known.class known.profile) outer p ns rest h suits
+value-ends known k v outer p rest h shown suits = absurd h

@@ -1,5 +1,5 @@
 -- Which values a text can spell, and which commands.
-use Rattle.std.specs.Prelude.{◌≡◌, ℕ, List, [], ◌∷◌, true, false, Option, None, Some, if◌then◌else◌}
+use Rattle.std.specs.Prelude.{◌≡◌, ℕ, List, [], ◌∷◌, true, false, Option, None, Some, Ok, if◌then◌else◌}
 use Rattle.command_grammar.specs.declared.table.Kind.{Kind}
 use Rattle.command_grammar.specs.declared.table.Kind.TheVariants as kinds
 use Rattle.command_grammar.specs.declared.table.Position.{Position}
@@ -10,6 +10,15 @@ use Rattle.command_grammar.specs.Table.{positions_of, operands_of}
 use Rattle.command_grammar.specs.declared.values.Known.{Known}
 use Rattle.command_grammar.specs.ProfileNames.{dataset_profile, class_profile, any_profile}
 use Rattle.command_grammar.specs.Audits.{is_audit_rule}
+use Rattle.command_grammar.specs.declared.members.MemberForm.{MemberForm}
+use Rattle.command_grammar.specs.declared.members.MemberForm.TheVariants as forms
+use Rattle.command_grammar.specs.Members.{member_form, if_number, id_name}
+use Rattle.racf_profiles.specs.declared.profiles.Member.{Member}
+use Rattle.racf_profiles.specs.declared.profiles.Member.TheVariants as member
+use Rattle.generic_names.specs.Spelled.{Spelled}
+use Rattle.generic_names.specs.Faults.{member_of}
+use Rattle.access_levels.specs.Spelling.{id_of}
+use Rattle.std.specs.Result.{result_ok}
 use Rattle.access_levels.specs.declared.entries.Who.{Who}
 use Rattle.access_levels.specs.declared.entries.Who.TheVariants.{Star, Named}
 use Rattle.command_grammar.specs.declared.table.Verb.{Verb}
@@ -37,6 +46,34 @@ AreWhos (Star ∷ []) = Unit {0}
 AreWhos (Star ∷ (w ∷ ws)) = ⊥
 AreWhos (Named x ∷ ws) = (name_of kinds.Ids x ≡ Some x) × AreNamed ws
 
+-- members of profiles of this form, and names of members
+abbrev pub IsMember : MemberForm → Member → Type 0
+IsMember (forms.Access kind) (member.Access n l) = result_ok (member_of kind n.text) ≡ Some n
+IsMember forms.Grade (member.Grade x n) = (id_of x ≡ Ok x) × (if_number (Some n) ≡ Some n)
+IsMember forms.Category (member.Category x) = id_of x ≡ Ok x
+IsMember form m = ⊥
+
+abbrev pub IsDropped : MemberForm → Spelled → Type 0
+IsDropped (forms.Access kind) n = result_ok (member_of kind n.text) ≡ Some n
+IsDropped forms.Grade n = id_name n.text ≡ Some n
+IsDropped forms.Category n = id_name n.text ≡ Some n
+
+abbrev pub Each : {X : Type 0} → (X → Type 0) → List X → Type 0
+Each P [] = Unit {0}
+Each P (x ∷ xs) = P x × Each P xs
+
+abbrev pub AreSome : {X : Type 0} → List X → Type 0
+AreSome [] = ⊥
+AreSome (x ∷ xs) = Unit {0}
+
+abbrev pub AreMembers : Option MemberForm → List Member → Type 0
+AreMembers None ms = ⊥
+AreMembers (Some form) ms = Each (IsMember form) ms
+
+abbrev pub AreDropped : Option MemberForm → List Spelled → Type 0
+AreDropped None ns = ⊥
+AreDropped (Some form) ns = Each (IsDropped form) ns
+
 -- a value of its kind
 abbrev pub Fits : Kind → Content → Type 0
 Fits kinds.Flag contents.Flag = Unit {0}
@@ -55,6 +92,8 @@ Fits kinds.ClassProfile (contents.Profile n) = Unit {0}
 Fits kinds.AnyProfile (contents.Profile n) = Unit {0}
 Fits kinds.Whos (contents.Whos ws) = AreWhos ws
 Fits kinds.When (contents.When c) = name_of kinds.Id c.name ≡ Some c.name
+Fits kinds.AddedMembers (contents.Members ms) = AreSome ms
+Fits kinds.DroppedMembers (contents.MemberNames ns) = AreSome ns
 Fits k v = ⊥
 
 -- a value for each positional word
@@ -70,16 +109,30 @@ FitsAll (o ∷ os) (None ∷ ss) = FitsAll os ss
 FitsAll (o ∷ os) (Some v ∷ ss) = Fits o.kind v × FitsAll os ss
 FitsAll os ss = ⊥
 
--- A value that depends on the words in front: the name of a profile on its class.
+-- A value that depends on the words in front: the name of a profile on its class, its members on both.
 abbrev pub Suits : Known → Kind → Content → Type 0
 Suits known kinds.ClassProfile (contents.Profile n) = class_profile known.class n.text ≡ Some n
 Suits known kinds.AnyProfile (contents.Profile n) = any_profile known.class n.text ≡ Some n
+Suits known kinds.AddedMembers (contents.Members ms) = AreMembers (member_form known.class known.profile) ms
+Suits known kinds.DroppedMembers (contents.MemberNames ns) = AreDropped (member_form known.class known.profile) ns
 Suits known k v = Unit {0}
 
 abbrev pub SuitsPositions : Known → List Position → List Content → Type 0
 SuitsPositions known [] vs = Unit {0}
 SuitsPositions known (pos ∷ more) [] = Unit {0}
 SuitsPositions known (pos ∷ more) (v ∷ vs) = Suits known pos.kind v × SuitsPositions (known_behind known pos.kind v) more vs
+
+-- what is known behind the positional words
+abbrev pub known_last : Known → List Position → List Content → Known
+known_last known [] vs = known
+known_last known (pos ∷ more) [] = known
+known_last known (pos ∷ more) (v ∷ vs) = known_last (known_behind known pos.kind v) more vs
+
+abbrev pub SuitsAll : Known → List Operand → Slots → Type 0
+SuitsAll known [] ss = Unit {0}
+SuitsAll known (o ∷ os) [] = Unit {0}
+SuitsAll known (o ∷ os) (None ∷ ss) = SuitsAll known os ss
+SuitsAll known (o ∷ os) (Some v ∷ ss) = Suits known o.kind v × SuitsAll known os ss
 
 -- what is known of a command before its first positional word: nothing, or in PERMIT the class
 abbrev pub class_known : Option (List ℕ) → Known
@@ -93,6 +146,7 @@ pub record IsLawful (g : Generic) : Type 0 where
   pub fits_positions : FitsPositions (positions_of g.verb) g.positions
   pub fits_operands : FitsAll (operands_of g.verb) g.slots
   pub suits_positions : SuitsPositions (first_known g.verb g.slots) (positions_of g.verb) g.positions
+  pub suits_operands : SuitsAll (known_last (first_known g.verb g.slots) (positions_of g.verb) g.positions) (operands_of g.verb) g.slots
   pub needed : missing g.verb g.slots ≡ false
   pub complete : completed g.verb g.slots ≡ g.slots
   pub apart : clash (given (operands_of g.verb) g.slots) ≡ None

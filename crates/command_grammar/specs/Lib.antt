@@ -5,6 +5,7 @@ pub mod WordsOfValues
 pub mod ProfileNames
 pub mod Audits
 pub mod Entries
+pub mod Members
 pub mod Values
 pub mod Reading
 pub mod Canon

@@ -25,6 +25,7 @@ use Rattle.command_grammar.specs.Results.{◌>>=◌, or_fault}
 use Rattle.command_grammar.specs.WordsOfValues.{clean, word_of, stray, held, unless_stray}
 use Rattle.command_grammar.specs.ProfileNames.{dataset_named, class_profile, profile_text}
 use Rattle.command_grammar.specs.Audits.{audit_rule, audit_text}
+use Rattle.command_grammar.specs.Members.{member_form, added, dropped, member_text}
 use Rattle.command_grammar.specs.Entries.{whos_text, port, port_text}
 use Rattle.access_levels.specs.declared.entries.Who.{Who}
 use Rattle.access_levels.specs.declared.entries.Who.TheVariants.{Star, Named}
@@ -129,6 +130,8 @@ value at kinds.Reset p is = single at kinds.Reset p is
 value at kinds.Audit p is = audit_rule p is >>= λ rule. Ok (contents.Audit rule)
 value at kinds.Whos p is = whos p is >>= λ ws. Ok (contents.Whos ws)
 value at kinds.When p is = port p is >>= λ c. Ok (contents.When c)
+value at kinds.AddedMembers p is = added (member_form at.known.class at.known.profile) p is >>= λ ms. Ok (contents.Members ms)
+value at kinds.DroppedMembers p is = dropped (member_form at.known.class at.known.profile) p is >>= λ ns. Ok (contents.MemberNames ns)
 value at k p is = Err (faults.BadValue p)
 
 -- GENERIC stands with a generic name alone; where the name isn't known yet it is judged later, at its place.
@@ -165,6 +168,6 @@ text_of (contents.Profile n) = profile_text n
 text_of (contents.Reset r) = reset_name r
 text_of (contents.Whos ws) = whos_text ws
 text_of (contents.When c) = port_text c
-text_of (contents.Members ms) = []
-text_of (contents.MemberNames ns) = []
+text_of (contents.Members ms) = ids_text (map member_text ms)
+text_of (contents.MemberNames ns) = ids_text (map profile_text ns)
 text_of (contents.Generic p) = []

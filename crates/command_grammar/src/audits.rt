@@ -10,9 +10,10 @@ ghost use Rattle.command_grammar.specs.Results.{Finds};
 ghost use Rattle.command_grammar.specs.Audits.{audit_word_name, audit_word_of, may_follow as can_follow, if_may_follow, so_far as rule_so_far, with_word as rule_with, is_audit_level, if_audit_level, audit_level as level_in, with_level as rule_with_level, audit_word as word_at, audit_more as rule_with_more, audits as rule_of_all, audit_rule as rule_in};
 
 use crate::faults::Syntax;
+use crate::value::level_named;
 use crate::value_words::{clean, held, refused_at};
 use access_levels::Level;
-use command_words::{Item, Quoting, ShortWord, Tokens, is_spelled};
+use command_words::{Item, Quoting, Tokens, is_spelled};
 use racf_profiles::AuditRule;
 
 /// The words of AUDIT and GLOBALAUDIT (z/OS Security Server RACF Command Language Reference, ALTDSD).
@@ -95,13 +96,6 @@ fn with_word(rule: AuditRule, word: AuditWord, level: Level) -> AuditRule
         AuditWord::Failures => logged(rule.success, Some(level)),
         AuditWord::Nothing => logged(None, None),
     }
-}
-
-fn level_named(word: &[u8]) -> Option<Level>
-    ensures { result ≡ level_of (map upper word.now) }
-{
-    let short = ShortWord::of(word)?;
-    Level::read(short.as_slice())
 }
 
 // The level of auditing that a word spells: READ, UPDATE, CONTROL or ALTER.

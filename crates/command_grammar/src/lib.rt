@@ -7,6 +7,7 @@ mod closing;
 mod entries;
 mod faults;
 pub mod laws;
+mod members;
 mod operands;
 mod printing;
 mod profile_names;

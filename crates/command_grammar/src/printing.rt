@@ -1,9 +1,10 @@
 //! The canonical text of a command.
 
-ghost use Rattle.std.specs.Prelude.{◌≡◌, ◌++◌, ◌∷◌, [], OnOk, IfOk};
+ghost use Rattle.std.specs.Prelude.{◌≡◌, ◌++◌, ◌∷◌, [], map, OnOk, IfOk};
 ghost use Rattle.command_words.specs.Quotes.{doubled};
 ghost use Rattle.command_grammar.specs.ProfileNames.{profile_text};
 ghost use Rattle.command_grammar.specs.Audits.{half_text, audit_text};
+ghost use Rattle.command_grammar.specs.Members.{number_text, member_text};
 ghost use Rattle.command_grammar.specs.Entries.{who_text, whos_text, port_text};
 ghost use Rattle.command_grammar.specs.Values.{ids_text, text_of};
 ghost use Rattle.command_grammar.specs.Canon.{value_text, positions_text, operands_text, canon};
@@ -14,8 +15,8 @@ use crate::reading::Parts;
 use crate::table::Operand;
 use crate::values::Content;
 use access_levels::{Condition, Id, Level, Text, Who};
-use generic_names::{NameKind, Pattern};
-use racf_profiles::AuditRule;
+use generic_names::{MemberName, NameKind, Pattern};
+use racf_profiles::{AuditRule, Member};
 use std::alloc::{AllocError, Global};
 
 // A text as it stands between quotes, each quote twice.
@@ -56,17 +57,17 @@ fn push_ids(out: &mut Vec<u8>, ids: &[Id]) -> Result<(), AllocError>
 }
 
 // The name of a profile, a data set's in quotes.
-fn push_profile(out: &mut Vec<u8>, name: &Pattern) -> Result<(), AllocError>
-    ensures { OnOk result (out.new.items ≡ out.old.items ++ profile_text name.now) }
+fn push_profile(out: &mut Vec<u8>, pattern: &Pattern) -> Result<(), AllocError>
+    ensures { OnOk result (out.new.items ≡ out.old.items ++ profile_text pattern.now) }
 {
-    match name.kind() {
+    match pattern.kind() {
         NameKind::DataSet => {
             out.push(b'\'')?;
-            out.extend_from_slice(name.text())?;
+            out.extend_from_slice(pattern.text())?;
             out.push(b'\'')?;
             Ok(())
         }
-        NameKind::General => out.extend_from_slice(name.text()),
+        NameKind::General => out.extend_from_slice(pattern.text()),
     }
 }
 
@@ -130,6 +131,84 @@ fn push_port(out: &mut Vec<u8>, port: &Condition) -> Result<(), AllocError>
     Ok(())
 }
 
+fn push_number(out: &mut Vec<u8>, number: u8) -> Result<(), AllocError>
+    ensures { OnOk result (out.new.items ≡ out.old.items ++ number_text number) }
+{
+    if number < 10 {
+        out.push(b'0' + number)?;
+    } else if number < 100 {
+        out.push(b'0' + number / 10)?;
+        out.push(b'0' + number % 10)?;
+    } else {
+        out.push(b'0' + number / 100)?;
+        out.push(b'0' + number / 10 % 10)?;
+        out.push(b'0' + number % 10)?;
+    }
+    Ok(())
+}
+
+// The name of a member, a data set's in quotes.
+fn push_member_name(out: &mut Vec<u8>, name: &MemberName) -> Result<(), AllocError>
+    ensures { OnOk result (out.new.items ≡ out.old.items ++ profile_text name.now) }
+{
+    match name.kind() {
+        NameKind::DataSet => {
+            out.push(b'\'')?;
+            out.extend_from_slice(name.text())?;
+            out.push(b'\'')?;
+            Ok(())
+        }
+        NameKind::General => out.extend_from_slice(name.text()),
+    }
+}
+
+fn push_member(out: &mut Vec<u8>, member: &Member) -> Result<(), AllocError>
+    ensures { OnOk result (out.new.items ≡ out.old.items ++ member_text member.now) }
+{
+    match member {
+        Member::Access(name, level) => {
+            push_member_name(out, name)?;
+            out.push(b'/')?;
+            out.extend_from_slice(level.name())
+        }
+        Member::Grade(name, number) => {
+            out.extend_from_slice(name.text())?;
+            out.push(b'/')?;
+            push_number(out, *number)
+        }
+        Member::Category(name) => out.extend_from_slice(name.text()),
+    }
+}
+
+// Members parted by one blank.
+fn push_members(out: &mut Vec<u8>, members: &[Member]) -> Result<(), AllocError>
+    ensures { OnOk result (out.new.items ≡ out.old.items ++ ids_text (map member_text members.now)) }
+{
+    let Some((first, rest)) = members.split_first() else {
+        return Ok(());
+    };
+    push_member(out, first)?;
+    for member in rest {
+        out.push(b' ')?;
+        push_member(out, member)?;
+    }
+    Ok(())
+}
+
+fn push_member_names(out: &mut Vec<u8>, names: &[MemberName]) -> Result<(), AllocError>
+    ensures { OnOk result (out.new.items ≡ out.old.items ++ ids_text (map profile_text names.now)) }
+{
+    let Some((first, rest)) = names.split_first() else {
+        return Ok(());
+    };
+    push_member_name(out, first)?;
+    for name in rest {
+        out.push(b' ')?;
+        push_member_name(out, name)?;
+    }
+    Ok(())
+}
+
 fn push_content(out: &mut Vec<u8>, content: &Content) -> Result<(), AllocError>
     ensures { OnOk result (out.new.items ≡ out.old.items ++ text_of content.now) }
 {
@@ -145,7 +224,9 @@ fn push_content(out: &mut Vec<u8>, content: &Content) -> Result<(), AllocError>
         Content::Reset(reset) => out.extend_from_slice(reset.name()),
         Content::Whos(whos) => push_whos(out, &whos.items),
         Content::When(condition) => push_port(out, condition),
-        _ => Ok(()),
+        Content::Members(members) => push_members(out, &members.items),
+        Content::MemberNames(names) => push_member_names(out, &names.items),
+        Content::Generic(_) => Ok(()),
     }
 }
 

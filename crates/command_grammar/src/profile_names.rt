@@ -128,7 +128,8 @@ fn push_folded(out: &mut Vec<u8>, word: &[u8]) -> Result<(), AllocError>
     Ok(())
 }
 
-fn folded_word(alloc: Global, word: &[u8]) -> Result<Vec<u8>, AllocError>
+/// The word in upper case.
+pub fn folded_word(alloc: Global, word: &[u8]) -> Result<Vec<u8>, AllocError>
     ensures { IfOk result (λ text. text.items ≡ map upper word.now) }
 {
     let mut text = Vec::new(alloc);
@@ -174,8 +175,8 @@ pub fn is_unclosed(word: &[u8]) -> bool
     *byte == b'\'' && !has_quote(rest)
 }
 
-// The text between quotes, behind whose opening one `rest` stands.
-fn in_quotes(alloc: Global, rest: &[u8]) -> Result<Option<Vec<u8>>, AllocError>
+/// The text in upper case between quotes, behind whose opening one `rest` stands, where the next quote ends the word.
+pub fn in_quotes(alloc: Global, rest: &[u8]) -> Result<Option<Vec<u8>>, AllocError>
     ensures { IfOk result (λ text. option_map (λ t. t.items) text ≡ text_in_quotes (position (λ b. b == 39) rest.now) rest.now) }
 {
     match first_quote(rest) {

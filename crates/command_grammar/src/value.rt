@@ -14,6 +14,7 @@ ghost use Rattle.command_grammar.specs.Values.{unless_dataset, name_of as name_i
 use crate::audits::audit_rule;
 use crate::entries::{port, whos};
 use crate::faults::{ParseFault, Syntax};
+use crate::members::{added, dropped, member_form};
 use crate::profile_names::{class_profile, dataset_named};
 use crate::table::Kind;
 use crate::value_words::{held, word_of};
@@ -162,7 +163,8 @@ fn name_named(alloc: Global, word: &[u8]) -> Result<Option<Text>, AllocError>
     Ok(Some(Text::of(alloc, text.as_slice())?))
 }
 
-fn level_named(word: &[u8]) -> Option<Level>
+/// The access level that a word is.
+pub fn level_named(word: &[u8]) -> Option<Level>
     ensures { result ≡ level_of (map upper word.now) }
 {
     let short = ShortWord::of(word)?;
@@ -273,6 +275,14 @@ pub fn value(
         Kind::Audit => Ok(Content::Audit(audit_rule(place, inner)?)),
         Kind::Whos => Ok(Content::Whos(whos(alloc, place, inner)?)),
         Kind::When => Ok(Content::When(port(place, inner)?)),
+        Kind::AddedMembers => {
+            let form = member_form(&at.known);
+            Ok(Content::Members(added(alloc, form, place, inner)?))
+        }
+        Kind::DroppedMembers => {
+            let form = member_form(&at.known);
+            Ok(Content::MemberNames(dropped(alloc, form, place, inner)?))
+        }
         _ => Err(ParseFault::Syntax(Syntax::BadValue(place))),
     }
 }

@@ -6,10 +6,11 @@ use Rattle.std.proofs.lemmas.List.{append-nil}
 use Rattle.std.proofs.Math.Seq.{take-append_seam, take-length, drop-append_seam, drop-length}
 use Rattle.std.proofs.lemmas.Bool.Decides.{nat_tests}
 use Rattle.command_words.specs.declared.quoting.Quoting.{Quoting}
-use Rattle.command_words.specs.declared.quoting.Quoting.TheVariants.{Ignored, Outside, Inside, AtName, InName}
+use Rattle.command_words.specs.declared.quoting.Quoting.TheVariants.{Ignored, Outside, Inside, Met, AtName, InName}
+use Rattle.command_words.specs.Bytes.{is_word_byte}
 use Rattle.command_words.specs.Quotes.{after, next_word, word_len, doubled}
 use Rattle.command_words.specs.Tokens.{Word, Group, within, group_end, tokens_from, word_then}
-use Rattle.command_words.proofs.Letters.{is_letter, letter-gap, letter-open, letter-close, letter-quote, both_first, both_second, IsSteady, Ignored-steady, EndsWord, word_len-letters}
+use Rattle.command_words.proofs.Letters.{is_letter, letter-word, letter-gap, letter-open, letter-close, letter-quote, both_first, both_second, IsSteady, Ignored-steady, Outside-steady, EndsWord, word_len-letters}
 use Rattle.command_words.proofs.Skips.{grouped-ok, worded-at}
 
 -- a word of letters, and what follows it
@@ -174,3 +175,61 @@ bare_name_token tied p b w rest h e =
     ∙ ap (λ v. Word p v ∷ tokens_from Ignored true 0 (p + 1 + length w) (drop (length w) (w ++ rest))) whole
     ∙ ap (λ n. Word p (b ∷ w) ∷ tokens_from Ignored true 0 n (drop (length w) (w ++ rest))) next
     ∙ ap (λ bs. Word p (b ∷ w) ∷ tokens_from Ignored true 0 (p + length (b ∷ w)) bs) (drop-append_seam w rest)
+
+-- a word of a value that begins with a text in quotes, in which there is no quote
+word_len-quoted : (open_at p : ℕ) (t u rest : List ℕ) → list_all is_letter t ≡ true → list_all is_letter u ≡ true → EndsWord rest → word_len (Inside open_at) p (t ++ 39 ∷ (u ++ rest)) ≡ length t + 1 + length u
+word_len-quoted open_at p [] [] [] h k e = refl
+word_len-quoted open_at p [] [] (b ∷ rest) h k e = rw e refl
+word_len-quoted open_at p [] (b ∷ u) rest h k e =
+    let letter : is_letter b ≡ true = both_first _ _ k in
+    let word : is_word_byte b ≡ true = letter-word b letter in
+    let more : word_len Outside (suc (suc p)) (u ++ rest) ≡ length u = word_len-letters Outside Outside-steady (suc (suc p)) u rest (both_second _ _ k) e in
+    let next : suc (suc (length u)) ≡ 0 + 1 + length (b ∷ u) = omega arith in
+    rw (word, letter-quote b letter) (ap (λ n. suc (suc n)) more ∙ next)
+word_len-quoted open_at p (b ∷ t) u rest h k e =
+    let next : suc (length t + 1 + length u) ≡ length (b ∷ t) + 1 + length u = omega arith in
+    rw (letter-quote b (both_first _ _ h)) (ap suc (word_len-quoted open_at (suc p) t u rest (both_second _ _ h) k e) ∙ next)
+
+pub quoted_word_token : (tied : Bool) (p : ℕ) (t u rest : List ℕ) → list_all is_letter t ≡ true → list_all is_letter u ≡ true → EndsWord rest
+    → tokens_from Outside tied 0 p (39 ∷ (t ++ 39 ∷ (u ++ rest))) ≡ Word p (39 ∷ (t ++ 39 ∷ u)) ∷ tokens_from Outside true 0 (p + length (39 ∷ (t ++ 39 ∷ u))) rest
+quoted_word_token tied p t u rest h k e =
+    let measured : length t + 1 + length u ≡ word_len (after Outside p 39) (p + 1) (t ++ 39 ∷ (u ++ rest)) = sym (word_len-quoted p (p + 1) t u rest h k e) in
+    let count : length (t ++ 39 ∷ u) ≡ length t + 1 + length u = length-append t (39 ∷ u) ∙ omega arith in
+    let parted : t ++ 39 ∷ (u ++ rest) ≡ (t ++ 39 ∷ u) ++ rest = sym (append_assoc t (39 ∷ u) rest) in
+    let whole : take (length t + 1 + length u + 1) (39 ∷ (t ++ 39 ∷ (u ++ rest))) ≡ 39 ∷ (t ++ 39 ∷ u) =
+    rw (parted, ← count, add-one (length (t ++ 39 ∷ u)), take-append_seam (t ++ 39 ∷ u) rest) refl in
+    let left : drop (length t + 1 + length u) (t ++ 39 ∷ (u ++ rest)) ≡ rest = rw (parted, ← count) (drop-append_seam (t ++ 39 ∷ u) rest) in
+    let next : p + 1 + (length t + 1 + length u) ≡ p + length (39 ∷ (t ++ 39 ∷ u)) = omega (arith, count) in
+    worded-at Outside 39 p (length t + 1 + length u) (t ++ 39 ∷ (u ++ rest)) measured
+    ∙ ap (λ v. Word p v ∷ tokens_from Outside true 0 (p + 1 + (length t + 1 + length u)) (drop (length t + 1 + length u) (t ++ 39 ∷ (u ++ rest)))) whole
+    ∙ ap (λ bs. Word p (39 ∷ (t ++ 39 ∷ u)) ∷ tokens_from Outside true 0 (p + 1 + (length t + 1 + length u)) bs) left
+    ∙ ap (λ n. Word p (39 ∷ (t ++ 39 ∷ u)) ∷ tokens_from Outside true 0 n rest) next
+
+-- past such a word to the parenthesis that closes, or to the blank behind it
+inside-through : (outer open_at p : ℕ) (t rest : List ℕ) → list_all is_letter t ≡ true → group_end outer (Inside open_at) 0 p (t ++ 39 ∷ rest) ≡ group_end outer (Met open_at) 0 (p + length t + 1) rest
+inside-through outer open_at p [] rest h = ap (λ n. group_end outer (Met open_at) 0 n rest) (omega arith)
+inside-through outer open_at p (b ∷ t) rest h =
+    let next : suc p + length t + 1 ≡ p + length (b ∷ t) + 1 = omega arith in
+    rw (letter-quote b (both_first _ _ h)) (inside-through outer open_at (suc p) t rest (both_second _ _ h) ∙ ap (λ n. group_end outer (Met open_at) 0 n rest) next)
+
+met-through : (outer open_at p : ℕ) (u rest : List ℕ) → list_all is_letter u ≡ true → ((n : ℕ) → group_end outer (Met open_at) 0 n rest ≡ group_end outer Outside 0 n rest) → group_end outer (Met open_at) 0 p (u ++ rest) ≡ group_end outer Outside 0 (p + length u) rest
+met-through outer open_at p [] rest h same = rw add-zero (same p)
+met-through outer open_at p (b ∷ u) rest h same =
+    let letter : is_letter b ≡ true = both_first _ _ h in
+    let next : suc p + length u ≡ p + length (b ∷ u) = omega arith in
+    let calm : list_all is_calm u ≡ true = calm-letters u (both_second _ _ h) in
+    rw (letter-quote b letter, letter-open b letter, letter-close b letter)
+    (group_end-through outer 0 (suc p) u rest calm ∙ ap (λ n. group_end outer Outside 0 n rest) next)
+  where
+    calm-letters : (w : List ℕ) → list_all is_letter w ≡ true → list_all is_calm w ≡ true
+    calm-letters [] h = refl
+    calm-letters (b ∷ w) h = rw (letter-calm b (both_first _ _ h)) (calm-letters w (both_second _ _ h))
+
+pub quoted_word-through : (outer p : ℕ) (t u rest : List ℕ) → list_all is_letter t ≡ true → list_all is_letter u ≡ true
+    → ((n open_at : ℕ) → group_end outer (Met open_at) 0 n rest ≡ group_end outer Outside 0 n rest)
+    → group_end outer Outside 0 p (39 ∷ (t ++ 39 ∷ (u ++ rest))) ≡ group_end outer Outside 0 (p + length (39 ∷ (t ++ 39 ∷ u))) rest
+quoted_word-through outer p t u rest h k same =
+    let count : suc p + length t + 1 + length u ≡ p + length (39 ∷ (t ++ 39 ∷ u)) = omega (arith, length-append t (39 ∷ u)) in
+    inside-through outer p (suc p) t (u ++ rest) h
+    ∙ met-through outer p (suc p + length t + 1) u rest k (λ n. same n p)
+    ∙ ap (λ n. group_end outer Outside 0 n rest) count

@@ -1,0 +1,50 @@
+-- Operands whose values depend on nothing in front of them.
+use Rattle.std.proofs.Common.{◌≡◌, List, [], ◌∷◌, Bool, true, false, not, ◌&&◌, Option, None, Some, refl}
+use Rattle.command_words.proofs.Letters.{both_first, both_second}
+use Rattle.command_grammar.specs.declared.table.Kind.{Kind}
+use Rattle.command_grammar.specs.declared.table.Kind.TheVariants as kinds
+use Rattle.command_grammar.specs.declared.table.Operand.{Operand}
+use Rattle.command_grammar.specs.declared.values.Content.{Content}
+use Rattle.command_grammar.specs.declared.values.Known.{Known}
+use Rattle.command_grammar.specs.Reading.{Slots}
+use Rattle.command_grammar.specs.Lawful.{Suits, SuitsAll}
+
+-- no operand of PERMIT depends on what stands in front
+abbrev pub is_member_kind : Kind → Bool
+is_member_kind kinds.AddedMembers = true
+is_member_kind kinds.DroppedMembers = true
+is_member_kind kinds.ClassProfile = true
+is_member_kind kinds.AnyProfile = true
+is_member_kind k = false
+
+abbrev pub none_members : List Operand → Bool
+none_members [] = true
+none_members (o ∷ os) = not (is_member_kind o.kind) && none_members os
+
+suits-any : (known : Known) (k : Kind) (v : Content) → not (is_member_kind k) ≡ true → Suits known k v
+suits-any known kinds.Flag v h = tt
+suits-any known kinds.Id v h = tt
+suits-any known kinds.Group v h = tt
+suits-any known kinds.Authority v h = tt
+suits-any known kinds.Name v h = tt
+suits-any known kinds.Ids v h = tt
+suits-any known kinds.Classes v h = tt
+suits-any known kinds.Level v h = tt
+suits-any known kinds.Audit v h = tt
+suits-any known kinds.Class v h = tt
+suits-any known kinds.DataSetProfile v h = tt
+suits-any known kinds.ClassProfile v h = cc
+suits-any known kinds.AnyProfile v h = cc
+suits-any known kinds.Reset v h = tt
+suits-any known kinds.Whos v h = tt
+suits-any known kinds.When v h = tt
+suits-any known kinds.AddedMembers v h = cc
+suits-any known kinds.DroppedMembers v h = cc
+suits-any known kinds.Generic v h = tt
+
+pub suits-none : (known : Known) (os : List Operand) (ss : Slots) → none_members os ≡ true → SuitsAll known os ss
+suits-none known [] ss h = tt
+suits-none known (o ∷ os) [] h = tt
+suits-none known (o ∷ os) (None ∷ ss) h = suits-none known os ss (both_second (not (is_member_kind o.kind)) (none_members os) h)
+suits-none known (o ∷ os) (Some v ∷ ss) h =
+    (suits-any known o.kind v (both_first (not (is_member_kind o.kind)) (none_members os) h), suits-none known os ss (both_second (not (is_member_kind o.kind)) (none_members os) h))

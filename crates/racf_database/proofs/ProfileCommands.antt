@@ -30,19 +30,19 @@ use Rattle.command_parser.specs.declared.profile_forms.AltSd.{AltSd}
 use Rattle.command_parser.specs.declared.profile_forms.RDefine.{RDefine}
 use Rattle.command_parser.specs.declared.profile_forms.RAlter.{RAlter}
 use Rattle.command_parser.specs.declared.profile_forms.Permit.{Permit}
-use Rattle.racf_database.specs.declared.conflict.Conflict.{Conflict}
-use Rattle.racf_database.specs.declared.conflict.Kind.TheVariants.{ClassProfiles, Profiles, AllEntries, Categories}
+use Rattle.command_conflicts.specs.declared.conflict.Conflict.{Conflict}
+use Rattle.command_conflicts.specs.declared.conflict.Kind.TheVariants.{ClassProfiles, Profiles, AllEntries, Categories}
 use Rattle.class_profiles.specs.Classes.{ClassList, CanPutIn, entries_in, profile_count, entry_count, room_in, profile_in}
-use Rattle.racf_database.specs.Members.{options_after}
-use Rattle.racf_database.specs.ProfileEffects.{dataset, new_data_set, altered_data_set, new_resource, altered_resource}
-use Rattle.racf_database.specs.PermitEffects.{standard_reset, conditional_reset, level_of, with_entry, with_conditional, standard_entries, conditional_entries, standard_after, conditional_after, permitted_profile}
-use Rattle.racf_database.specs.Edits.{put_changed, put_options, edits_of_add_sd, edits_of_alt_sd, edits_of_r_define, edits_of_r_alter, edits_of_permit}
-use Rattle.racf_database.specs.Contents.{rows_of}
-use Rattle.racf_database.specs.UserList.{UserList}
-use Rattle.racf_database.specs.Kept.{HasFewCategories, CanMake, CanFollow, CanApply, HasRoom}
-use Rattle.racf_database.specs.Required.{first_met, over}
-use Rattle.racf_database.specs.ProfileConflicts.{profiles_in, no_resource_class, class_profiles_full, profiles_full, entries_full, categories_full, add_sd_conflicts, r_define_conflicts, r_alter_conflicts, permit_conflicts}
-use Rattle.racf_database.proofs.Unmet.{each_unmet, unmet, or_false, within}
+use Rattle.command_effects.specs.Members.{options_after}
+use Rattle.command_effects.specs.ProfileEffects.{dataset, new_data_set, altered_data_set, new_resource, altered_resource}
+use Rattle.command_effects.specs.PermitEffects.{standard_reset, conditional_reset, level_of, with_entry, with_conditional, standard_entries, conditional_entries, standard_after, conditional_after, permitted_profile}
+use Rattle.command_effects.specs.Edits.{put_changed, put_options, edits_of_add_sd, edits_of_alt_sd, edits_of_r_define, edits_of_r_alter, edits_of_permit}
+use Rattle.row_tables.specs.Tables.{rows_of}
+use Rattle.row_tables.specs.UserList.{UserList}
+use Rattle.row_tables.specs.Applying.{HasFewCategories, CanMake, CanFollow, CanApply, HasRoom}
+use Rattle.command_conflicts.specs.Required.{first_met, over}
+use Rattle.command_conflicts.specs.ProfileConflicts.{profiles_in, no_resource_class, class_profiles_full, profiles_full, entries_full, categories_full, add_sd_conflicts, r_define_conflicts, r_alter_conflicts, permit_conflicts}
+use Rattle.command_conflicts.proofs.Unmet.{each_unmet, unmet, or_false, within}
 use Rattle.racf_database.proofs.ProfileReady.{CountsAreEnough, FoundIsLawful, found-le, dataset-there, can_add, can_replace, class-of-profile}
 
 -- ---- PERMIT with DELETE makes no list longer

@@ -14,8 +14,8 @@ use Rattle.racf_profiles.specs.Lookup.{is_class, is_profile}
 use Rattle.class_profiles.specs.Lawful.{AreProfiles, AreClasses, kind_in, most_profiles}
 use Rattle.class_profiles.specs.Classes.{ClassList, CanPutIn, IsRoomFor, entries_in, profile_count, entry_count, most_entries, room_in, profile_in}
 use Rattle.group_tree.proofs.Rows.{same, find-passes}
-use Rattle.racf_database.specs.ProfileEffects.{dataset}
-use Rattle.racf_database.proofs.AfterLaws.{is_some-find-map}
+use Rattle.command_effects.specs.ProfileEffects.{dataset}
+use Rattle.command_effects.proofs.AfterLaws.{is_some-find-map}
 
 -- what holds of all holds of what is found
 all-found : {X : Type 0} (P : X → Type 0) (it : X → Bool) (xs : List X) (x : X) → AllByRecursion P xs → find it xs ≡ Some x → P x

@@ -27,26 +27,27 @@ use Rattle.command_parser.specs.declared.forms.Connect.{Connect}
 use Rattle.command_parser.specs.declared.forms.Remove.{Remove}
 use Rattle.command_parser.specs.declared.forms.Form.{Form}
 use Rattle.command_parser.specs.declared.forms.Form.TheVariants as form
-use Rattle.racf_database.specs.Names.{is_to, connections, connected_to}
-use Rattle.racf_database.specs.Contents.{rows_of}
-use Rattle.racf_database.specs.UserList.{UserList, CanPut}
-use Rattle.racf_database.specs.Kept.{CanAddGroup, CanMoveGroup, CanPutGroup, CanDropGroup, CanApply, HasRoom, is_of_kind, is_of_data_sets, fits_its_class}
+use Rattle.row_tables.specs.Names.{is_to, connections, connected_to}
+use Rattle.row_tables.specs.Tables.{rows_of}
+use Rattle.row_tables.specs.UserList.{UserList, CanPut}
+use Rattle.row_tables.specs.Applying.{CanAddGroup, CanMoveGroup, CanPutGroup, CanDropGroup, CanApply, HasRoom}
+use Rattle.racf_database.specs.Kept.{is_of_kind, is_of_data_sets, fits_its_class}
 use Rattle.generic_names.specs.declared.kind.NameKind.{NameKind}
 use Rattle.generic_names.specs.declared.kind.NameKind.TheVariants.{DataSet, General}
 use Rattle.generic_names.specs.Spelled.{Spelled}
 use Rattle.racf_database.proofs.ProfileReady.{CountsAreEnough, FoundIsLawful}
 use Rattle.class_profiles.specs.Lawful.{AreClasses}
 use Rattle.racf_database.proofs.ProfileCommands.{ready_add_sd, ready_alt_sd, ready_r_define, ready_r_alter, ready_permit}
-use Rattle.racf_database.specs.Effects.{at_row, step, new_user, altered_user, new_group, altered_group, connected_user, removed_user, group_or_current}
-use Rattle.racf_database.specs.Edits.{edits_of, put_user, put_group}
-use Rattle.racf_database.specs.declared.conflict.Conflict.TheVariants.{Root}
-use Rattle.racf_database.specs.declared.conflict.Kind.TheVariants.{Users, Groups, AllConnections}
+use Rattle.command_effects.specs.Effects.{at_row, step, new_user, altered_user, new_group, altered_group, connected_user, removed_user, group_or_current}
+use Rattle.command_effects.specs.Edits.{edits_of, put_user, put_group}
+use Rattle.command_conflicts.specs.declared.conflict.Conflict.TheVariants.{Root}
+use Rattle.command_conflicts.specs.declared.conflict.Kind.TheVariants.{Users, Groups, AllConnections}
 use Rattle.std.specs.Option.{option_or}
-use Rattle.racf_database.specs.Conflicts.{conflict_of, if_met, is_root, cycle, no_named_group, meets, users_full, groups_full, connections_full, add_user_conflicts, add_group_conflicts, alt_group_conflicts, del_group_conflicts, connect_conflicts}
-use Rattle.racf_database.proofs.RowLaws.{put_row-new, length-drop_row-le}
-use Rattle.racf_database.proofs.AfterLaws.{at_row-absent, sum-at_row}
-use Rattle.racf_database.proofs.Walks.{meets-within}
-use Rattle.racf_database.proofs.Unmet.{each_unmet, group_there, named_there, within, no_subgroup, no_root, no_root_moved, no_cycle, unmet}
+use Rattle.command_conflicts.specs.Conflicts.{conflict_of, if_met, is_root, cycle, no_named_group, meets, users_full, groups_full, connections_full, add_user_conflicts, add_group_conflicts, alt_group_conflicts, del_group_conflicts, connect_conflicts}
+use Rattle.row_tables.proofs.RowLaws.{put_row-new, length-drop_row-le}
+use Rattle.command_effects.proofs.AfterLaws.{at_row-absent, sum-at_row}
+use Rattle.command_conflicts.proofs.Walks.{meets-within}
+use Rattle.command_conflicts.proofs.Unmet.{each_unmet, group_there, named_there, within, no_subgroup, no_root, no_root_moved, no_cycle, unmet}
 use Rattle.racf_database.proofs.StepLaws.{put_user-at, add_user-free, add_group-free}
 
 of_data_sets : (name : Spelled) → is_of_data_sets name ≡ true → name.kind ≡ DataSet

@@ -1,0 +1,7 @@
+pub mod Security
+pub mod UserEffects
+pub mod Members
+pub mod ProfileEffects
+pub mod PermitEffects
+pub mod Effects
+pub mod Edits

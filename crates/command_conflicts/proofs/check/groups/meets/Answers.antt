@@ -8,7 +8,7 @@ use Rattle.command_conflicts.proofs.check.groups.meets.Goals as goal
 -- in a tree, what is below the group is what meets it on a walk up
 pub returns : goal.returns
 returns c =
-    same_truth c.is_within.result (meets c.args.group c.args.from c.tree.result.now.groups)
-    (λ t. meets-within c.tree.result.now.groups c.len-count.ensures.lawful c.args.group c.args.from (c.is_within.ensures.0 t))
-    (λ m. c.is_within.ensures.1 (within-meets c.tree.result.now.groups c.args.group c.args.from m))
-    ∙ ap (meets c.args.group c.args.from) c.tree.ensures
+    same_truth c.is_within.result (meets c.args.group c.args.from c.tree-tree.result.now.groups)
+    (λ t. meets-within c.tree-tree.result.now.groups c.len-count.ensures.lawful c.args.group c.args.from (c.is_within.ensures.0 t))
+    (λ m. c.is_within.ensures.1 (within-meets c.tree-tree.result.now.groups c.args.group c.args.from m))
+    ∙ ap (meets c.args.group c.args.from) c.tree-tree.ensures

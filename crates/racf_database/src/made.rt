@@ -5,6 +5,7 @@ ghost use Rattle.racf_database.specs.Effects.{switched, group_or_current, owner_
 mod classes;
 mod connects;
 mod members;
+mod operands;
 mod permit;
 mod profiles;
 mod security;

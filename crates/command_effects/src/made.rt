@@ -5,6 +5,7 @@ ghost use Rattle.command_effects.specs.Effects.{switched, group_or_current, owne
 mod classes;
 mod connects;
 mod members;
+mod operands;
 mod permit;
 mod profiles;
 mod security;

@@ -13,32 +13,25 @@ use std::alloc::Global;
 
 /// The members without those of DELMEM, and then with those of ADDMEM, each in place of the one of its name or else last.
 pub(crate) fn members_after(
-    alloc: Global,
+    members: Vec<Member>,
     added: &[Member],
     gone: &[MemberName],
-    old: &[Member],
 ) -> Result<Vec<Member>, NoMemory>
-    ensures { IfOk result (λ members. members.items ≡ members_after added.now gone.now old.now) }
+    ensures { IfOk result (λ after. after.items ≡ members_after added.now gone.now members.items) }
 {
-    let mut members = without_members(alloc, gone, old)?;
+    let mut members = members;
+    drop_members(&mut members, gone);
     for member in added {
         put_member(&mut members, *member)?;
     }
     Ok(members)
 }
 
-// The members without those of DELMEM.
-fn without_members(
-    alloc: Global,
-    gone: &[MemberName],
-    old: &[Member],
-) -> Result<Vec<Member>, NoMemory>
-    ensures { IfOk result (λ members. members.items ≡ without_members gone.now old.now) }
+// Takes the members of DELMEM away.
+fn drop_members(members: &mut Vec<Member>, gone: &[MemberName])
+    ensures { members.new.items ≡ without_members gone.now members.old.items }
 {
-    old.iter()
-        .copied()
-        .filter(|member| !is_named_in(gone, member))
-        .collect(alloc)
+    members.retain(|member| !is_named_in(gone, member));
 }
 
 /// Whether a member has one of these names.

@@ -1,14 +1,17 @@
 //! Profiles as a command makes them.
 ghost use Rattle.std.specs.Prelude.{◌≡◌, [], unwrap_or, IfOk};
-ghost use Rattle.access_levels.specs.declared.levels.Level.TheVariants.{NoAccess};
-ghost use Rattle.command_effects.specs.ProfileEffects.{dataset, failures_from_read, new_data_set, altered_data_set, new_resource, altered_resource};
+ghost use Rattle.command_effects.specs.ProfileEffects.{dataset, new_data_set, altered_data_set, new_resource, altered_resource};
+ghost use Rattle.command_effects.specs.Operands.{first_profile};
+ghost use Rattle.command_effects.specs.Members.{members_after};
 
 use super::members::members_after;
-use super::security::{label_given, level_given, with_categories, without_categories};
-use super::{owner_or_issuer, switched};
+use super::operands::{Operands, operands_of_altered, operands_of_new, with_operands};
 use access_levels::{Categories, Id, Level};
 use command_parser::{AddSd, AltSd, Issuer, RAlter, RDefine};
-use racf_profiles::{AuditRule, CondEntries, Entries, FixedClass, Members, NoMemory, Profile};
+use generic_names::{MemberName, Pattern};
+use racf_profiles::{
+    AuditRule, CondEntries, Entries, FixedClass, Member, Members, NoMemory, Profile,
+};
 use row_tables::RowTables;
 use std::alloc::Global;
 
@@ -21,24 +24,12 @@ pub(crate) fn new_data_set(
 ) -> Profile
     ensures { result ≡ new_data_set issuer.now command.now tables.now.rows }
 {
-    Profile {
-        name: command.profile,
-        owner: owner_or_issuer(issuer, command.owner),
-        uacc: first_uacc(command.uacc),
-        warning: switched(command.warning, command.nowarning, false),
-        standard: no_entries(alloc),
-        conditional: no_conditional_entries(alloc),
-        level: level_given(tables, command.seclevel, false, 0),
-        categories: with_categories(
-            tables,
-            Categories::NONE,
-            command.addcategory.items.as_slice(),
-        ),
-        label: command.seclabel,
-        audit: first_audit(command.audit),
-        global_audit: NO_AUDIT,
-        members: no_members(alloc),
-    }
+    let operands = operands_of_new!(command);
+    with_operands(
+        tables,
+        first_profile(alloc, command.profile, issuer.id),
+        &operands,
+    )
 }
 
 /// A profile after ALTDSD.
@@ -50,24 +41,8 @@ pub(crate) fn altered_data_set(
 ) -> Result<Profile, NoMemory>
     ensures { IfOk result (λ profile. profile ≡ altered_data_set command.now tables.now.rows old.now) }
 {
-    let standard = old.standard.copy(alloc)?;
-    let conditional = old.conditional.copy(alloc)?;
-    let members = old.members.copy(alloc)?;
-    let fewer = without_categories(tables, old.categories, command.delcategory.items.as_slice());
-    Ok(Profile {
-        name: old.name,
-        owner: command.owner.unwrap_or(old.owner),
-        uacc: command.uacc.unwrap_or(old.uacc),
-        warning: switched(command.warning, command.nowarning, old.warning),
-        standard,
-        conditional,
-        level: level_given(tables, command.seclevel, command.noseclevel, old.level),
-        categories: with_categories(tables, fewer, command.addcategory.items.as_slice()),
-        label: label_given(command.seclabel, command.noseclabel, old.label),
-        audit: command.audit.unwrap_or(old.audit),
-        global_audit: command.globalaudit.unwrap_or(old.global_audit),
-        members,
-    })
+    let operands = operands_of_altered!(command);
+    Ok(with_operands(tables, old.copy(alloc)?, &operands))
 }
 
 /// The profile of RDEFINE.
@@ -79,25 +54,10 @@ pub(crate) fn new_resource(
 ) -> Result<Profile, NoMemory>
     ensures { IfOk result (λ profile. profile ≡ new_resource issuer.now command.now tables.now.rows) }
 {
-    let members = members_after(alloc, command.addmem.items.as_slice(), &[], &[])?;
-    Ok(Profile {
-        name: command.profile,
-        owner: owner_or_issuer(issuer, command.owner),
-        uacc: first_uacc(command.uacc),
-        warning: switched(command.warning, command.nowarning, false),
-        standard: no_entries(alloc),
-        conditional: no_conditional_entries(alloc),
-        level: level_given(tables, command.seclevel, false, 0),
-        categories: with_categories(
-            tables,
-            Categories::NONE,
-            command.addcategory.items.as_slice(),
-        ),
-        label: command.seclabel,
-        audit: first_audit(command.audit),
-        global_audit: NO_AUDIT,
-        members: Members { items: members },
-    })
+    let operands = operands_of_new!(command);
+    let base = first_profile(alloc, command.profile, issuer.id);
+    let profile = with_operands(tables, base, &operands);
+    with_members(profile, command.addmem.items.as_slice(), &[])
 }
 
 /// A profile after RALTER.
@@ -109,43 +69,49 @@ pub(crate) fn altered_resource(
 ) -> Result<Profile, NoMemory>
     ensures { IfOk result (λ profile. profile ≡ altered_resource command.now tables.now.rows old.now) }
 {
-    let standard = old.standard.copy(alloc)?;
-    let conditional = old.conditional.copy(alloc)?;
-    let members = members_after(
-        alloc,
+    let operands = operands_of_altered!(command);
+    let base = old.copy(alloc)?;
+    let profile = with_operands(tables, base, &operands);
+    with_members(
+        profile,
         command.addmem.items.as_slice(),
         command.delmem.items.as_slice(),
-        old.members.items.as_slice(),
-    )?;
-    let fewer = without_categories(tables, old.categories, command.delcategory.items.as_slice());
+    )
+}
+
+// The profile that a command defines, before its operands change it.
+fn first_profile(alloc: Global, name: Pattern, owner: Id) -> Profile
+    ensures { result ≡ first_profile name owner }
+{
+    Profile {
+        name,
+        owner,
+        uacc: Level::NoAccess,
+        warning: false,
+        standard: no_entries(alloc),
+        conditional: no_conditional_entries(alloc),
+        level: 0,
+        categories: Categories::NONE,
+        label: None,
+        audit: FAILURES_FROM_READ,
+        global_audit: NO_AUDIT,
+        members: no_members(alloc),
+    }
+}
+
+// The profile without the members of DELMEM, and then with those of ADDMEM.
+fn with_members(
+    profile: Profile,
+    added: &[Member],
+    gone: &[MemberName],
+) -> Result<Profile, NoMemory>
+    ensures { IfOk result (λ after. after ≡ record profile { members = members_after added.now gone.now profile.members }) }
+{
+    let items = members_after(profile.members.items, added, gone)?;
     Ok(Profile {
-        name: old.name,
-        owner: command.owner.unwrap_or(old.owner),
-        uacc: command.uacc.unwrap_or(old.uacc),
-        warning: switched(command.warning, command.nowarning, old.warning),
-        standard,
-        conditional,
-        level: level_given(tables, command.seclevel, command.noseclevel, old.level),
-        categories: with_categories(tables, fewer, command.addcategory.items.as_slice()),
-        label: label_given(command.seclabel, command.noseclabel, old.label),
-        audit: command.audit.unwrap_or(old.audit),
-        global_audit: command.globalaudit.unwrap_or(old.global_audit),
-        members: Members { items: members },
+        members: Members { items },
+        ..profile
     })
-}
-
-// The universal access of a new profile: NONE, unless UACC names another.
-fn first_uacc(given: Option<Level>) -> Level
-    ensures { result ≡ unwrap_or given NoAccess }
-{
-    given.unwrap_or(Level::NoAccess)
-}
-
-// What a new profile logs, unless AUDIT names something else.
-fn first_audit(given: Option<AuditRule>) -> AuditRule
-    ensures { result ≡ unwrap_or given failures_from_read }
-{
-    given.unwrap_or(FAILURES_FROM_READ)
 }
 
 // What a new profile logs without AUDIT: failures from READ on.

@@ -1,5 +1,4 @@
-use Rattle.std.proofs.Common.{◌≡◌, ◌∙◌, List, ap, sym}
-use Rattle.racf_profiles.specs.declared.groups.Group.{Group}
+use Rattle.std.proofs.Common.{◌∙◌, ap}
 use Rattle.command_conflicts.specs.Conflicts.{meets}
 use Rattle.command_effects.proofs.AfterLaws.{same_truth}
 use Rattle.command_conflicts.proofs.Walks.{meets-within, within-meets}

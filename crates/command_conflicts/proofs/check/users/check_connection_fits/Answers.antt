@@ -1,9 +1,8 @@
-use Rattle.std.proofs.Common.{◌≡◌, ◌∙◌, ◌+◌, List, None, Some, ap, sym, subst, find, arith}
-use Rattle.racf_profiles.specs.declared.users.User.{User}
+use Rattle.std.proofs.Common.{◌≡◌, ◌∙◌, ap, sym, arith}
 use Rattle.racf_profiles.specs.Lookup.{is_user}
 use Rattle.command_conflicts.specs.declared.conflict.Kind.TheVariants.{AllConnections}
 use Rattle.row_tables.specs.Names.{connections, growth}
-use Rattle.command_effects.specs.Effects.{at_row, connected_user, group_or_current}
+use Rattle.command_effects.specs.Effects.{connected_user, group_or_current}
 use Rattle.command_conflicts.specs.Conflicts.{connections_full, over}
 use Rattle.command_effects.proofs.AfterLaws.{at_row-absent, connections-connected}
 use Rattle.command_conflicts.proofs.check.users.check_connection_fits.Goals as goal

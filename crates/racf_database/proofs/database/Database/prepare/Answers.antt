@@ -15,8 +15,8 @@ use Rattle.racf_database.proofs.Ready.{can_apply-edits_of}
 use Rattle.racf_database.proofs.database.Database.prepare.Goals as goal
 
 -- the rows are as they were, so what was made of them can be applied
-pub invariant_of-self-3 : goal.invariant_of-self-3
-invariant_of-self-3 c =
+pub invariant_of-self-2 : goal.invariant_of-self-2
+invariant_of-self-2 c =
     let issuer = c.args.issuer.now in
     let command = c.args.command.now in
     let tables = c.reserve.new.self in

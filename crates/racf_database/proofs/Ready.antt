@@ -1,30 +1,23 @@
 -- The edits of a command that meets no conflict can be made without memory, once there is room for one more user and one more
 -- group.
-use Rattle.std.proofs.Common.{◌≡◌, ◌≢◌, ℕ, ◌+◌, ◌<◌, ◌≤◌, Bool, true, false, cond, ◌&&◌, not, List, [], ◌∷◌, ◌++◌, length, Option, None, Some, IsSome, is_some, refl, sym, ap, subst, ◌∙◌, true≢false, arith, inl, inr, length-append}
-use Rattle.std.specs.Prelude.{find, sum_by, MatchOption, ◌⊎◌}
-use Rattle.std.proofs.lemmas.List.Sums.{sum_by-append}
+use Rattle.std.proofs.Common.{◌≡◌, ℕ, ◌<◌, ◌≤◌, Bool, true, false, cond, ◌&&◌, not, List, [], ◌∷◌, length, Option, None, Some, IsSome, is_some, refl, sym, ap, subst, ◌∙◌, true≢false, arith, inl, inr, length-append}
+use Rattle.std.specs.Prelude.{find, MatchOption, ◌⊎◌}
 use Rattle.racf_profiles.specs.declared.users.User.{User}
-use Rattle.racf_profiles.specs.declared.users.Connect.{Connect as Connection}
 use Rattle.racf_profiles.specs.declared.groups.Group.{Group}
 use Rattle.racf_profiles.specs.declared.options.Options.{Options}
-use Rattle.racf_profiles.specs.declared.rows.Rows.{Rows}
 use Rattle.class_profiles.specs.Classes.{ClassList, profile_count, entry_count}
-use Rattle.racf_profiles.specs.NewDatabase.{sys1}
-use Rattle.racf_profiles.specs.Lookup.{user_of, group_of, is_user, is_group}
-use Rattle.racf_profiles.specs.Edits.{put_row, drop_row}
+use Rattle.racf_profiles.specs.Lookup.{is_user}
 use Rattle.group_tree.specs.Groups.{GroupTree, find_group}
 use Rattle.group_tree.specs.Lawful.{IsTree}
-use Rattle.group_tree.specs.Answers.{CanAdd, CanMove, CanRemove}
-use Rattle.group_tree.proofs.Rows.{same, some_of, find-passes, id-find_group}
+use Rattle.group_tree.specs.Answers.{CanAdd, CanMove}
+use Rattle.group_tree.proofs.Rows.{id-find_group}
 use Rattle.group_tree.proofs.Edits.{one_there, both_there}
 use Rattle.command_parser.specs.declared.commands.Issuer.{Issuer}
 use Rattle.command_parser.specs.declared.forms.AddUser.{AddUser}
-use Rattle.command_parser.specs.declared.forms.AltUser.{AltUser}
 use Rattle.command_parser.specs.declared.forms.AddGroup.{AddGroup}
 use Rattle.command_parser.specs.declared.forms.AltGroup.{AltGroup}
 use Rattle.command_parser.specs.declared.forms.DelGroup.{DelGroup}
 use Rattle.command_parser.specs.declared.forms.Connect.{Connect}
-use Rattle.command_parser.specs.declared.forms.Remove.{Remove}
 use Rattle.command_parser.specs.declared.forms.Form.{Form}
 use Rattle.command_parser.specs.declared.forms.Form.TheVariants as form
 use Rattle.row_tables.specs.Names.{is_to, connections, connected_to}
@@ -38,7 +31,7 @@ use Rattle.generic_names.specs.Spelled.{Spelled}
 use Rattle.racf_database.proofs.ProfileReady.{CountsAreEnough, FoundIsLawful}
 use Rattle.class_profiles.specs.Lawful.{AreClasses}
 use Rattle.racf_database.proofs.ProfileCommands.{ready_add_sd, ready_alt_sd, ready_r_define, ready_r_alter, ready_permit}
-use Rattle.command_effects.specs.Effects.{at_row, step, new_user, altered_user, new_group, altered_group, connected_user, removed_user, group_or_current}
+use Rattle.command_effects.specs.Effects.{at_row, new_user, altered_user, new_group, altered_group, connected_user, removed_user, group_or_current}
 use Rattle.command_effects.specs.Edits.{edits_of, put_user, put_group}
 use Rattle.command_conflicts.specs.declared.conflict.Conflict.TheVariants.{Root}
 use Rattle.command_conflicts.specs.declared.conflict.Kind.TheVariants.{Users, Groups, AllConnections}

@@ -2,4 +2,5 @@
 mod large;
 mod large_rows;
 mod likeness;
+mod memory;
 mod small;

@@ -45,7 +45,7 @@ fn users_and_groups(rt: HostRuntime) -> Result<(), Fail> {
     let absent = Id::read(b"NOBODY")?;
     assert_eq!(rt; rows.users.items.len(), 200);
     assert_eq!(rt; rows.groups.items.len(), 50);
-    println!(rt; "MADE")?;
+    println!(rt; "FROM HERE")?;
     assert_eq!(rt; image.generation(), 500);
     assert!(rt; has_users(&image, &rows.users.items));
     assert!(rt; has_groups(&image, &rows.groups.items));
@@ -58,7 +58,7 @@ fn users_and_groups(rt: HostRuntime) -> Result<(), Fail> {
 fn scope_of_owners(rt: HostRuntime) -> Result<(), Fail> {
     let rows = rows(rt.alloc())?;
     let image = Image::of(rt.alloc(), &rows, 500)?;
-    println!(rt; "MADE")?;
+    println!(rt; "FROM HERE")?;
     for group in &rows.groups.items {
         assert!(rt; has_scope(&image, &rows, group.id));
     }
@@ -75,7 +75,7 @@ fn classes_and_profiles(rt: HostRuntime) -> Result<(), Fail> {
     let names = resources(rt.alloc())?;
     let absent = Id::read(b"NOCLASS")?;
     assert_eq!(rt; rows.classes.items.len(), 14);
-    println!(rt; "MADE")?;
+    println!(rt; "FROM HERE")?;
     assert!(rt; has_classes(&image, &rows.classes.items));
     assert!(rt; finds(&image, &rows.classes.items, &names));
     assert!(rt; image.class(absent).is_none() && image.effective(absent).is_none());

@@ -77,7 +77,8 @@ fn flags(row: &ClassRow) -> ClassFlags {
     }
 }
 
-fn has_profiles(class: &ClassImage, profiles: &[Profile]) -> bool {
+/// Whether the image of a class has these profiles at their places, and no more.
+pub(super) fn has_profiles(class: &ClassImage, profiles: &[Profile]) -> bool {
     class.len() == profiles.len()
         && profiles
             .iter()

@@ -115,7 +115,7 @@ fn profile(alloc: Global, kind: NameKind, name: &[u8], uacc: Level) -> Result<Pr
 }
 
 // Three profiles of FACILITY.
-fn facilities(alloc: Global) -> Result<Profiles, Fail>
+pub(super) fn facilities(alloc: Global) -> Result<Profiles, Fail>
     ensures { IfOk result (λ profiles. AreProfiles NameKind.General profiles) }
 {
     let mut items = Vec::new(alloc);

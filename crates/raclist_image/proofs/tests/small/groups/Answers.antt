@@ -6,7 +6,7 @@ use Rattle.racf_profiles.specs.declared.groups.Group.{Group}
 use Rattle.group_tree.specs.Groups.{find_group}
 use Rattle.group_tree.specs.Scope.{IsWithin}
 use Rattle.group_tree.specs.Lawful.{IsTree}
-use Rattle.raclist_image.proofs.tests.groups.Goals as goal
+use Rattle.raclist_image.proofs.tests.small.groups.Goals as goal
 
 row : (g : Group) (id : List ℕ) (superior : Option (List ℕ)) → g.id ≡ id → g.superior ≡ superior → g ≡ record { id = id; superior = superior; owner = g.owner }
 row g id superior h k = subst (λ (i : List ℕ). g ≡ record { id = i; superior = superior; owner = g.owner }) h (subst (λ (s : Option (List ℕ)). g ≡ record { id = g.id; superior = s; owner = g.owner }) k refl)

@@ -2,7 +2,7 @@ use Rattle.std.proofs.Common.{◌≡◌, ◌∷◌, ◌++◌, [], codes, bytes_e
 use Rattle.std.specs.List.{IsDistinct}
 use Rattle.racf_profiles.specs.declared.users.User.{User}
 use Rattle.class_profiles.specs.Lawful.{AreUsers}
-use Rattle.raclist_image.proofs.tests.users.Goals as goal
+use Rattle.raclist_image.proofs.tests.small.users.Goals as goal
 
 three : IsDistinct bytes_eq (codes "SUE" ∷ codes "BOB" ∷ codes "ANN" ∷ [])
 unfolding IsDistinct

@@ -31,13 +31,23 @@ class Program:
             raise SystemExit(f"decision_times: no answer to {row[:60]}")
         return printed
 
-    def seconds(self, row, wanted=None, runs=3):
-        """The seconds of a row that prints one line, the best of some runs. It is worked once before, behind all rows given."""
-        for run in range(runs + 1):
-            begun = time.monotonic()
-            (printed,) = self.ask(row)
-            took = time.monotonic() - begun
-            if wanted is not None and printed != str(wanted):
-                raise SystemExit(f"decision_times: {row[:60]} gave {printed} and not {wanted}")
-            best = took if run < 2 else min(best, took)
-        return best
+    def seconds(self, row, yes, runs=10):
+        """The seconds of a row that is answered with the number `yes`: the least of some runs."""
+        return min(self.run(row, yes) for _ in range(runs))
+
+    def microseconds(self, row, yes, questions=1):
+        """Microseconds of each of the questions that a row asks so many times as it is given, of which `yes` are answered so.
+        They are asked until it takes 20 milliseconds, and what the row takes without them is taken off."""
+        self.run(row(0), 0)  # waits for the rows that were given
+        times = 1
+        while self.seconds(row(times), times * yes, runs=3) < 0.02:
+            times *= 2
+        return (self.seconds(row(times), times * yes) - self.seconds(row(0), 0)) * 1e6 / (times * questions)
+
+    def run(self, row, yes):
+        begun = time.monotonic()
+        (printed,) = self.ask(row)
+        took = time.monotonic() - begun
+        if printed != str(yes):
+            raise SystemExit(f"decision_times: {row[:60]} gave {printed} and not {yes}")
+        return took

@@ -1,0 +1,2 @@
+pub mod AlterLaws
+mod WorkedRows

@@ -1,2 +1,3 @@
 pub mod AlterLaws
+pub mod SpecialLaws
 mod WorkedRows

@@ -90,10 +90,10 @@ some_rows owner more = record {
   groups = groups owner;
   classes =
       class_row (codes "DATASET") (
-          profile (data_set (codes "SYS1.A")) (codes "SYS1") (is_for (codes "BOB") ∷ everyone ∷ [])
-          ∷ profile (data_set (codes "SYS1.**")) (codes "SYS1") (is_for (codes "BOB") ∷ [])
-          ∷ profile (data_set (codes "SUE.A")) (codes "SUE") []
-          ∷ [])
+      profile (data_set (codes "SYS1.A")) (codes "SYS1") (is_for (codes "BOB") ∷ everyone ∷ [])
+      ∷ profile (data_set (codes "SYS1.**")) (codes "SYS1") (is_for (codes "BOB") ∷ [])
+      ∷ profile (data_set (codes "SUE.A")) (codes "SUE") []
+      ∷ [])
       ∷ class_row (codes "FACILITY") (profile (general (codes "F.A")) (codes "SYS1") (is_for (codes "G1") ∷ []) ∷ [])
       ∷ [];
   options = no_options;
@@ -134,21 +134,21 @@ abbrev named_sue : Form
 named_sue = form.AltUser (record (alt_user (codes "SUE")) { name = Some (codes "Sue") })
 
 scope_of_group_special : map (λ owner. lacks (some_rows owner (adm ∷ [])) (codes "ADM") named_sue) (codes "D1" ∷ codes "IBMUSER" ∷ []) ≡ None ∷ Some over_user ∷ []
-unfolding is_met alt_user_requirements
+unfolding need is_met alt_user_requirements
 scope_of_group_special = refl
 
 owned_user : lacks (some_rows (codes "IBMUSER") (adm ∷ [])) (codes "ADM") (form.DelUser (record { user = codes "TOM" })) ≡ None
-unfolding is_met del_user_requirements
+unfolding need is_met del_user_requirements
 owned_user = refl
 
 -- a revoked connection counts for nothing
 revoked_connection : lacks (some_rows (codes "D1") (record adm { connects = record (connection (codes "D1")) { special = true; revoked = true } ∷ [] } ∷ [])) (codes "ADM") named_sue ≡ Some over_user
-unfolding is_met alt_user_requirements
+unfolding need is_met alt_user_requirements
 revoked_connection = refl
 
 -- an issuer who isn't a user
 no_issuer : lacks (some_rows (codes "D1") []) (codes "ADM") (form.DelUser (record { user = codes "TOM" })) ≡ Some over_user
-unfolding is_met del_user_requirements
+unfolding need is_met del_user_requirements
 no_issuer = refl
 
 -- ---- authority in a group
@@ -164,7 +164,7 @@ bob_to_g1 = connect (codes "BOB") (codes "G1")
 
 connect_rows : map (λ (c : ConnectForm). lacks (with_ann MayConnect []) (codes "ANN") (form.Connect c)) (bob_to_g1 ∷ record bob_to_g1 { authority = Some MayConnect } ∷ record bob_to_g1 { authority = Some MayJoin } ∷ record bob_to_g1 { special = true } ∷ [])
     ≡ None ∷ None ∷ Some (Special ∷ Owner ∷ GroupSpecial ∷ Authority MayJoin ∷ []) ∷ Some (Special ∷ GroupSpecial ∷ []) ∷ []
-unfolding is_met connect_requirements
+unfolding need is_met connect_requirements
 connect_rows = refl
 
 -- AU CAT DFLTGRP(G1): with JOIN and CLAUTH(USER), without the class, and with CONNECT alone; then AU CAT DFLTGRP(G1) AUDITOR
@@ -176,16 +176,16 @@ over_g1 = Special ∷ UserJoin (codes "G1") ∷ UserOwner ∷ UserGroupSpecial �
 
 add_user_rows : map (λ (rows : Rows). lacks rows (codes "ANN") (form.AddUser cat_in_g1)) (with_ann MayJoin (codes "USER" ∷ []) ∷ with_ann MayJoin [] ∷ with_ann MayConnect (codes "USER" ∷ []) ∷ [])
     ≡ None ∷ Some over_g1 ∷ Some over_g1 ∷ []
-unfolding is_met add_user_requirements
+unfolding need is_met add_user_requirements
 add_user_rows = refl
 
 add_auditor : lacks (with_ann MayJoin (codes "USER" ∷ [])) (codes "ANN") (form.AddUser (record cat_in_g1 { auditor = true })) ≡ Some (Special ∷ [])
-unfolding is_met add_user_requirements
+unfolding need is_met add_user_requirements
 add_auditor = refl
 
 -- IBMUSER has SPECIAL: AU CAT DFLTGRP(G1) SPECIAL
 add_special : lacks (with_ann MayUse []) (codes "IBMUSER") (form.AddUser (record cat_in_g1 { special = true })) ≡ None
-unfolding is_met add_user_requirements
+unfolding need is_met add_user_requirements
 add_special = refl
 
 -- AG NEW SUPGROUP(G1), ALG G1 SUPGROUP(G1), DG G1 and DG SYS1, by ANN who has JOIN in G1
@@ -195,12 +195,12 @@ group_rows : map (λ c. lacks (with_ann MayJoin []) (codes "ANN") c)
     ∷ form.DelGroup (record { group = codes "G1" })
     ∷ form.DelGroup (record { group = codes "SYS1" }) ∷ [])
     ≡ None ∷ Some over_user ∷ Some (Special ∷ Join (codes "SYS1") ∷ Owner ∷ GroupSpecial ∷ []) ∷ Some over_user ∷ []
-unfolding is_met add_group_requirements alt_group_requirements del_group_requirements
+unfolding need is_met add_group_requirements alt_group_requirements del_group_requirements
 group_rows = refl
 
 -- ALG D3 SUPGROUP(SYS1), by ADM who has group-SPECIAL in D1
 moved_out_of_scope : lacks (some_rows (codes "D1") (adm ∷ [])) (codes "ADM") (form.AltGroup (record { group = codes "D3"; supgroup = Some (codes "SYS1"); owner = None })) ≡ Some (Special ∷ Join (codes "SYS1") ∷ Owner ∷ GroupSpecial ∷ [])
-unfolding is_met alt_group_requirements
+unfolding need is_met alt_group_requirements
 moved_out_of_scope = refl
 
 -- ---- the auditor's
@@ -216,11 +216,11 @@ abbrev audited : List AltUser
 audited = record (alt_user (codes "SUE")) { uaudit = true } ∷ record (alt_user (codes "SUE")) { nouaudit = true; name = Some (codes "Sue") } ∷ alt_user (codes "SUE") ∷ []
 
 uaudit_by_auditor : map (λ (c : AltUser). lacks with_two (codes "AUD") (form.AltUser c)) audited ≡ None ∷ Some over_user ∷ Some over_user ∷ []
-unfolding is_met alt_user_requirements
+unfolding need is_met alt_user_requirements
 uaudit_by_auditor = refl
 
 uaudit_by_special : map (λ (c : AltUser). lacks with_two (codes "SPE") (form.AltUser c)) audited ≡ Some (Auditor ∷ []) ∷ Some (Auditor ∷ []) ∷ None ∷ []
-unfolding is_met alt_user_requirements
+unfolding need is_met alt_user_requirements
 uaudit_by_special = refl
 
 -- RALT FACILITY F.A GLOBALAUDIT(NONE), and the same with OWNER(SUE)
@@ -228,11 +228,11 @@ abbrev global_audit : RAlter
 global_audit = record (r_alter (codes "FACILITY") (codes "F.A")) { globalaudit = Some no_audit }
 
 global_audit_rows : map (λ who. lacks with_two who (form.RAlter global_audit)) (codes "AUD" ∷ codes "SPE" ∷ []) ≡ None ∷ Some (Auditor ∷ []) ∷ []
-unfolding is_met r_alter_requirements
+unfolding need is_met r_alter_requirements
 global_audit_rows = refl
 
 global_audit_and_owner : lacks with_two (codes "AUD") (form.RAlter (record global_audit { owner = Some (codes "SUE") })) ≡ Some (Special ∷ Owner ∷ GroupSpecial ∷ AlterEntry ∷ [])
-unfolding is_met r_alter_requirements
+unfolding need is_met r_alter_requirements
 global_audit_and_owner = refl
 
 -- ---- profiles
@@ -241,11 +241,11 @@ abbrev readers : Rows
 readers = some_rows (codes "D1") (user (codes "BOB") (codes "SYS1") [] ∷ user (codes "CAT") (codes "SYS1") [] ∷ [])
 
 by_entry : map (λ who. lacks readers who (permit (codes "DATASET") (data_set (codes "SYS1.A")))) (codes "BOB" ∷ codes "CAT" ∷ []) ≡ None ∷ Some (Special ∷ Owner ∷ GroupSpecial ∷ OwnData ∷ AlterEntry ∷ []) ∷ []
-unfolding is_met permit_requirements
+unfolding need is_met permit_requirements
 by_entry = refl
 
 generic_by_entry : lacks readers (codes "BOB") (permit (codes "DATASET") (data_set (codes "SYS1.**"))) ≡ Some (Special ∷ Owner ∷ GroupSpecial ∷ OwnData ∷ [])
-unfolding is_met permit_requirements
+unfolding need is_met permit_requirements
 generic_by_entry = refl
 
 -- PERMIT of F.A, in which G1 has ALTER, by JIM: connected to G1, by a revoked connection, and with an entry of his own too
@@ -253,12 +253,12 @@ abbrev with_jim : Bool → Rows
 with_jim revoked = some_rows (codes "D1") (user (codes "JIM") (codes "SYS1") (connection (codes "D3") ∷ record (connection (codes "G1")) { revoked = revoked } ∷ []) ∷ [])
 
 by_group_entry : map (λ revoked. lacks (with_jim revoked) (codes "JIM") (permit (codes "FACILITY") (general (codes "F.A")))) (false ∷ true ∷ []) ≡ None ∷ Some (Special ∷ Owner ∷ GroupSpecial ∷ AlterEntry ∷ []) ∷ []
-unfolding is_met permit_requirements
+unfolding need is_met permit_requirements
 by_group_entry = refl
 
 -- PERMIT of SUE.A by SUE, whose own data it is; by ADM, in whose scope SUE is, its owner
 own_data : map (λ who. lacks (some_rows (codes "D1") (adm ∷ [])) who (permit (codes "DATASET") (data_set (codes "SUE.A")))) (codes "SUE" ∷ codes "ADM" ∷ codes "TOM" ∷ []) ≡ None ∷ None ∷ Some (Special ∷ Owner ∷ GroupSpecial ∷ OwnData ∷ AlterEntry ∷ []) ∷ []
-unfolding is_met permit_requirements
+unfolding need is_met permit_requirements
 own_data = refl
 
 -- AD 'ANN.B', AD 'G1.B' and AD 'BOB.B' by ANN, who has CREATE in G1, and then USE
@@ -266,5 +266,5 @@ add_sd_rows : map (λ authority. map (λ name. lacks (with_ann authority []) (co
     ≡ (None ∷ None ∷ Some (Special ∷ OwnData ∷ Create (codes "BOB") ∷ GroupSpecial ∷ []) ∷ [])
     ∷ (None ∷ Some (Special ∷ OwnData ∷ Create (codes "G1") ∷ GroupSpecial ∷ []) ∷ Some (Special ∷ OwnData ∷ Create (codes "BOB") ∷ GroupSpecial ∷ []) ∷ [])
     ∷ []
-unfolding is_met add_sd_requirements
+unfolding need is_met add_sd_requirements
 add_sd_rows = refl

@@ -46,5 +46,5 @@ is_met rows issuer requirement = not requirement.stands || option_map_or (λ (us
 abbrev pub first_unmet : Rows → Issuer → List Requirement → Option (List Need)
 first_unmet rows issuer list = option_map (λ (requirement : Requirement). requirement.needs) (find (λ requirement. not (is_met rows issuer requirement)) list)
 
-abbrev pub need : Rows → Issuer → Form → Option (List Need)
+unfoldable pub need : Rows → Issuer → Form → Option (List Need)
 need rows issuer command = first_unmet rows issuer (requirements rows issuer command)

@@ -14,10 +14,7 @@ use racf_profiles::{Connect, User};
 pub(crate) fn has_class(user: &User, class: &[u8]) -> bool
     ensures { result ≡ has_class user.now class.now }
 {
-    user.classes
-        .items
-        .iter()
-        .any(|name| name.text() == class)
+    user.classes.items.iter().any(|name| name.text() == class)
 }
 
 /// Whether the user's authority in the group is at least the one that is wanted.
@@ -71,8 +68,8 @@ fn is_for(entry: &Entry, id: Id) -> bool
     ensures { result ≡ is_for (Who.Named id) entry.now }
 {
     match &entry.who {
-        Who::Star => false,
         Who::Named(other) => *other == id,
+        _ => false,
     }
 }
 

@@ -4,15 +4,13 @@ ghost use Rattle.std.specs.List.{list_any};
 ghost use Rattle.std.specs.Result.{result_err};
 ghost use Rattle.command_authority.specs.Authority.{may_define_users, holds, is_met, first_unmet, need};
 
-use crate::groups;
+use crate::groups::{add_group, alt_group, connect, del_group, remove};
 use crate::held::{has_authority, has_class};
 use crate::needs::{Need, Needs};
-use crate::profiles;
+use crate::profiles::{add_sd, alt_sd, del_sd, permit, r_alter, r_define, r_delete};
 use crate::requirement::{Requirement, Target};
-use crate::targets::{
-    has_alter_entry, has_authority_in, has_group_special, is_own_data, is_owner,
-};
-use crate::users;
+use crate::targets::{has_alter_entry, has_authority_in, has_group_special, is_own_data, is_owner};
+use crate::users::{add_user, alt_user, del_user};
 use access_levels::GroupAuthority;
 use command_parser::{Command, Form, Issuer};
 use group_tree::Tree;
@@ -26,6 +24,7 @@ use racf_profiles::{User, View};
 /// # Errors
 ///
 /// All needs of the first requirement of the command that the issuer doesn't meet, in their order.
+#[tactic(auto, unfolding(crate::specs::Authority::need))]
 pub fn authorised<V: View>(
     view: &V,
     tree: &Tree,
@@ -36,21 +35,21 @@ pub fn authorised<V: View>(
     ensures { result_err result ≡ need (V.rows view.now) issuer.now command.now }
 {
     match command.form() {
-        Form::AddUser(command) => first_unmet(view, tree, issuer, &users::add_user(issuer, command)),
-        Form::AltUser(command) => first_unmet(view, tree, issuer, &users::alt_user(command)),
-        Form::DelUser(command) => first_unmet(view, tree, issuer, &users::del_user(command)),
-        Form::AddGroup(command) => first_unmet(view, tree, issuer, &groups::add_group(issuer, command)),
-        Form::AltGroup(command) => first_unmet(view, tree, issuer, &groups::alt_group(command)),
-        Form::DelGroup(command) => first_unmet(view, tree, issuer, &groups::del_group(view, command)),
-        Form::Connect(command) => first_unmet(view, tree, issuer, &groups::connect(issuer, command)),
-        Form::Remove(command) => first_unmet(view, tree, issuer, &groups::remove(issuer, command)),
-        Form::AddSd(command) => first_unmet(view, tree, issuer, &profiles::add_sd(command)),
-        Form::AltSd(command) => first_unmet(view, tree, issuer, &profiles::alt_sd(command)),
-        Form::DelSd(command) => first_unmet(view, tree, issuer, &profiles::del_sd(command)),
-        Form::RDefine(command) => first_unmet(view, tree, issuer, &profiles::r_define(command)),
-        Form::RAlter(command) => first_unmet(view, tree, issuer, &profiles::r_alter(command)),
-        Form::RDelete(command) => first_unmet(view, tree, issuer, &profiles::r_delete(command)),
-        Form::Permit(command) => first_unmet(view, tree, issuer, &profiles::permit(command)),
+        Form::AddUser(command) => first_unmet(view, tree, issuer, &add_user(issuer, command)),
+        Form::AltUser(command) => first_unmet(view, tree, issuer, &alt_user(command)),
+        Form::DelUser(command) => first_unmet(view, tree, issuer, &del_user(command)),
+        Form::AddGroup(command) => first_unmet(view, tree, issuer, &add_group(issuer, command)),
+        Form::AltGroup(command) => first_unmet(view, tree, issuer, &alt_group(command)),
+        Form::DelGroup(command) => first_unmet(view, tree, issuer, &del_group(view, command)),
+        Form::Connect(command) => first_unmet(view, tree, issuer, &connect(issuer, command)),
+        Form::Remove(command) => first_unmet(view, tree, issuer, &remove(issuer, command)),
+        Form::AddSd(command) => first_unmet(view, tree, issuer, &add_sd(command)),
+        Form::AltSd(command) => first_unmet(view, tree, issuer, &alt_sd(command)),
+        Form::DelSd(command) => first_unmet(view, tree, issuer, &del_sd(command)),
+        Form::RDefine(command) => first_unmet(view, tree, issuer, &r_define(command)),
+        Form::RAlter(command) => first_unmet(view, tree, issuer, &r_alter(command)),
+        Form::RDelete(command) => first_unmet(view, tree, issuer, &r_delete(command)),
+        Form::Permit(command) => first_unmet(view, tree, issuer, &permit(command)),
     }
 }
 

@@ -5,6 +5,7 @@
 mod groups;
 mod held;
 mod judge;
+pub mod laws;
 mod needs;
 mod operands;
 mod profiles;
@@ -15,3 +16,6 @@ mod users;
 pub use judge::authorised;
 pub use needs::{Need, Needs};
 pub use requirement::{Requirement, Target};
+
+#[cfg(test)]
+mod tests;

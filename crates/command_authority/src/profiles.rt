@@ -70,7 +70,11 @@ pub(crate) fn r_alter(command: &RAlter) -> [Requirement; 2]
     ensures { result ≡ r_alter_requirements command.now }
 {
     [
-        over_profile(!r_alter_audits_alone(command), command.class, &command.profile),
+        over_profile(
+            !r_alter_audits_alone(command),
+            command.class,
+            &command.profile,
+        ),
         auditing(command.globalaudit.is_some()),
     ]
 }
@@ -93,7 +97,11 @@ pub(crate) fn permit(command: &Permit) -> [Requirement; 1]
 fn over_profile(stands: bool, class: Id, name: &Pattern) -> Requirement
     ensures { result ≡ over_profile stands class name.now }
 {
-    over_where(stands, Target::Profile(class, *name), profile_needs(class, name))
+    over_where(
+        stands,
+        Target::Profile(class, *name),
+        profile_needs(class, name),
+    )
 }
 
 // What is needed over a profile: in class DATASET one's own data count, and an entry counts for a discrete profile.

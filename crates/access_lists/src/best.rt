@@ -70,8 +70,8 @@ fn better_under(
     }
 }
 
-// The better of the best so far and an entry. The groups are gone through only for an entry that can
-// be the better one by its level.
+// The better of the best so far and an entry. Its group is looked up only where it can be the better
+// one by its level.
 fn better(best: Option<GroupEntry>, places: &Places, who: Who, level: Level) -> Option<GroupEntry>
     ensures { result ≡ first_of_two best (for_group places.now level who) }
 {

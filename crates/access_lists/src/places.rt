@@ -49,7 +49,7 @@ impl<'a> Places<'a> {
         ensures { result ≡ position (bytes_eq id) self.now }
     {
         match &self.starts {
-            None => place_from(self.groups, 0, id),
+            None => place_in(self.groups, id),
             Some(starts) => place_from(self.groups, usize::from(starts[slot_of(id)]), id),
         }
     }
@@ -94,8 +94,16 @@ fn place_from(groups: &[Id], from: usize, id: Id) -> Option<usize>
     requires behind { (place : ℕ) → place < from → bytes_eq id (get_or groups.now place []) ≡ false }
     ensures { result ≡ position (bytes_eq id) groups.now }
 {
-    match groups[from..].iter().position(|group| id == *group) {
+    let behind = &groups[from..];
+    match place_in(behind, id) {
         Some(place) => Some(from + place),
         None => None,
     }
+}
+
+// The place of a group in a list.
+fn place_in(groups: &[Id], id: Id) -> Option<usize>
+    ensures { result ≡ position (bytes_eq id) groups.now }
+{
+    groups.iter().position(|group| id == *group)
 }

@@ -1,3 +1,4 @@
 mod PutLaws
 mod BestLaws
 mod PlaceLaws
+mod StartLaws

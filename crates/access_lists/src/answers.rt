@@ -27,8 +27,10 @@ pub enum Found {
 /// entry of a higher one, and not where its level is too low (z/OS Security Server RACF Security
 /// Administrator's Guide, authorization checking).
 ///
-/// It goes through the list three times at most, and through the groups once for each entry whose
-/// level isn't below the best one so far: with n entries and g groups at most n * g comparisons of IDs.
+/// It goes through the list three times at most, and through the groups once. For each entry whose level
+/// isn't below the best one so far its group is looked up among them: only the groups from the first one
+/// of the same slot on are compared with it, none where no group has that slot. With fewer than 16 groups
+/// or entries all groups are compared. It takes no memory.
 pub fn answer(list: &[Entry], user: Id, groups: &[Id], restricted: bool) -> Found
     ensures { result ≡ answered user groups.now restricted list.now }
 {
@@ -67,7 +69,7 @@ fn level_for(list: &[Entry], who: Who) -> Option<Level>
 /// # Returns
 ///
 /// None exactly where no entry counts, as for a user without a port of entry. It costs what `answer`
-/// costs, and one more way through the list.
+/// costs, the look-ups too, and one more way through the list.
 pub fn answer_when(
     list: &[CondEntry],
     port: Option<Condition>,

@@ -4,6 +4,7 @@ ghost use Rattle.access_lists.specs.Lists.{is_under};
 ghost use Rattle.access_lists.specs.Answers.{for_group, as_group_entry, goes_before, first_of_two, group_entry, unconditional, entries_under};
 
 use crate::edits::is_same_port;
+use crate::places::Places;
 use access_levels::{CondEntry, Condition, Entry, Id, Level, Who};
 
 /// An entry for a group of the user.
@@ -29,9 +30,10 @@ impl GroupEntry {
 pub(crate) fn group_entry(list: &[Entry], groups: &[Id]) -> Option<GroupEntry>
     ensures { result ≡ group_entry groups.now list.now }
 {
+    let places = Places::of(groups, list.len());
     let mut best = None;
     for entry in list {
-        best = better(best, groups, entry.who, entry.level);
+        best = better(best, &places, entry.who, entry.level);
     }
     best
 }
@@ -44,9 +46,10 @@ pub(crate) fn group_entry_under(
 ) -> Option<GroupEntry>
     ensures { result ≡ group_entry groups.now (entries_under port.now list.now) }
 {
+    let places = Places::of(groups, list.len());
     let mut best = None;
     for entry in list {
-        best = better_under(best, port, groups, entry);
+        best = better_under(best, port, &places, entry);
     }
     best
 }
@@ -55,27 +58,27 @@ pub(crate) fn group_entry_under(
 fn better_under(
     best: Option<GroupEntry>,
     port: &Condition,
-    groups: &[Id],
+    places: &Places,
     entry: &CondEntry,
 ) -> Option<GroupEntry>
-    ensures { result ≡ (if is_under port.now entry.now then first_of_two best (as_group_entry groups.now (unconditional entry.now)) else best) }
+    ensures { result ≡ (if is_under port.now entry.now then first_of_two best (as_group_entry places.now (unconditional entry.now)) else best) }
 {
     if is_same_port(&entry.condition, port) {
-        better(best, groups, entry.who, entry.level)
+        better(best, places, entry.who, entry.level)
     } else {
         best
     }
 }
 
-// The better of the best so far and an entry. The groups are gone through only for an entry that can
-// be the better one by its level.
-fn better(best: Option<GroupEntry>, groups: &[Id], who: Who, level: Level) -> Option<GroupEntry>
-    ensures { result ≡ first_of_two best (for_group groups.now level who) }
+// The better of the best so far and an entry. Its group is looked up only where it can be the better
+// one by its level.
+fn better(best: Option<GroupEntry>, places: &Places, who: Who, level: Level) -> Option<GroupEntry>
+    ensures { result ≡ first_of_two best (for_group places.now level who) }
 {
     match best {
-        None => for_group(groups, who, level),
+        None => for_group(places, who, level),
         Some(best) if best.level.rank() > level.rank() => Some(best),
-        Some(best) => first_of_two(best, for_group(groups, who, level)),
+        Some(best) => first_of_two(best, for_group(places, who, level)),
     }
 }
 
@@ -90,12 +93,12 @@ fn first_of_two(best: GroupEntry, other: Option<GroupEntry>) -> Option<GroupEntr
 }
 
 // An entry for one of the groups, with the place of its group.
-fn for_group(groups: &[Id], who: Who, level: Level) -> Option<GroupEntry>
-    ensures { result ≡ for_group groups.now level who }
+fn for_group(places: &Places, who: Who, level: Level) -> Option<GroupEntry>
+    ensures { result ≡ for_group places.now level who }
 {
     match &who {
         Who::Star => None,
-        Who::Named(id) => match place_of(groups, *id) {
+        Who::Named(id) => match places.place_of(*id) {
             Some(place) => Some(GroupEntry {
                 group: *id,
                 level,
@@ -104,11 +107,4 @@ fn for_group(groups: &[Id], who: Who, level: Level) -> Option<GroupEntry>
             None => None,
         },
     }
-}
-
-// The place of a group.
-fn place_of(groups: &[Id], id: Id) -> Option<usize>
-    ensures { result ≡ position (bytes_eq id) groups.now }
-{
-    groups.iter().position(|group| id == *group)
 }

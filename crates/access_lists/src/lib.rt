@@ -4,6 +4,7 @@
 mod answers;
 mod best;
 mod edits;
+mod places;
 
 pub use answers::{Found, answer, answer_when};
 pub use edits::{ListFault, MOST_ENTRIES, permit, permit_when, withdraw, withdraw_when};

@@ -1,4 +1,5 @@
-//! Entries put in and taken away up to the limit, and answers with ties, by groups and by ports.
+//! Entries put in and taken away up to the limit, and answers with ties, by few and many groups and by
+//! ports.
 use crate::{Found, ListFault, answer, answer_when, permit, permit_when, withdraw, withdraw_when};
 use access_levels::{CondEntry, Condition, Entry, Id, Level, PortClass, Who};
 use std::alloc::Global;
@@ -134,6 +135,63 @@ fn answers_by_rank_and_order(rt: HostRuntime) -> Result<(), Fail> {
         rank_of(&answer(list.as_slice(), numbered(6)?, &groups, false)),
         0
     );
+    Ok(())
+}
+
+// The number of the first group, the step to each next one, how many there are, and the rank that
+// answers: no group has an entry, one has, all have, all in falling order, fifteen; at last four groups
+// of one slot, whose second answers.
+const GROUPS: [(u16, u16, u16, u8); 6] = [
+    (5_000, 1, 300, 9),
+    (999, 1, 300, 13),
+    (0, 3, 300, 13),
+    (999, 9_997, 300, 13),
+    (0, 1, 15, 15),
+    (968, 9_758, 300, 14),
+];
+
+fn numbered_groups(alloc: Global, first: u16, step: u16, count: u16) -> Result<Vec<Id>, Fail> {
+    let mut groups = Vec::new(alloc);
+    let mut number = first;
+    for _ in 0..count {
+        groups.push(numbered(number)?)?;
+        number = number.wrapping_add(step) % 10_000;
+    }
+    Ok(groups)
+}
+
+// The first of the groups whose entry has the highest rank, by a walk through the list for each.
+fn walked(list: &[Entry], groups: &[Id]) -> Option<Id> {
+    let mut best = None;
+    let mut least = 0;
+    for group in groups {
+        let rank = rank_for(list, *group);
+        if rank < 9 && rank >= least {
+            best = Some(*group);
+            least = rank + 1;
+        }
+    }
+    best
+}
+
+// Whether the answer is what the walk gives.
+fn is_walked(found: &Found, list: &[Entry], groups: &[Id]) -> bool {
+    match walked(list, groups) {
+        Some(group) => is_group(found, group),
+        None => rank_of(found) == 9,
+    }
+}
+
+#[test]
+fn looks_up_many_groups(rt: HostRuntime) -> Result<(), Fail> {
+    let list = large_list(rt.alloc())?;
+    let joe = id(b"JOE")?;
+    for (first, step, count, rank) in GROUPS {
+        let groups = numbered_groups(rt.alloc(), first, step, count)?;
+        let found = answer(list.as_slice(), joe, groups.as_slice(), true);
+        assert_eq!(rt; rank_of(&found), rank);
+        assert!(rt; is_walked(&found, list.as_slice(), groups.as_slice()));
+    }
     Ok(())
 }
 

@@ -11,6 +11,8 @@ loop-entry-preserved c =
     let i = c.loop-entry.entry-index in
     let best = c.loop-entry.best in
     let entry = get_or list i c.entry-item.result in
-    ap (λ o. first_of_two o (group_entry groups (drop (i + 1) list))) (c.better-best.ensures ∙ ap (λ e. first_of_two best (as_group_entry groups e)) c.entry-item.is)
+    ap (λ o. first_of_two o (group_entry groups (drop (i + 1) list))) (c.better-best.ensures
+    ∙ ap (λ gs. first_of_two best (as_group_entry gs c.entry-item.result)) c.of-places.ensures
+    ∙ ap (λ e. first_of_two best (as_group_entry groups e)) c.entry-item.is)
     ∙ one_more groups best entry (drop (i + 1) list) list
     (sym (at_drop_more (λ xs. first_of_two best (group_entry groups xs)) list i c.entry-item.result c.loop-entry-test.true) ∙ c.loop-entry.invariant)

@@ -14,6 +14,8 @@ loop-entry-preserved c =
     let best = c.loop-entry.best in
     let entry = get_or list i c.entry-item.result in
     ap (λ o. first_of_two o (group_entry groups (entries_under port (drop (i + 1) list))))
-    (c.better_under-best.ensures ∙ ap (λ e. cond (is_under port e) (first_of_two best (as_group_entry groups (unconditional e))) best) c.entry-item.is)
+    (c.better_under-best.ensures
+    ∙ ap (λ gs. cond (is_under port c.entry-item.result) (first_of_two best (as_group_entry gs (unconditional c.entry-item.result))) best) c.of-places.ensures
+    ∙ ap (λ e. cond (is_under port e) (first_of_two best (as_group_entry groups (unconditional e))) best) c.entry-item.is)
     ∙ one_more_under groups port best entry (drop (i + 1) list) list
     (sym (at_drop_more (λ xs. first_of_two best (group_entry groups (entries_under port xs))) list i c.entry-item.result c.loop-entry-test.true) ∙ c.loop-entry.invariant)

@@ -12,8 +12,10 @@ pub mod StepLaws
 pub mod Ready
 pub mod IdNames
 pub mod Growth
+pub mod NewNames
 pub mod Places
 pub mod ListCounts
+pub mod PermitFits
 pub mod ProfileReady
 pub mod ProfileCommands
 pub mod ProfileSteps

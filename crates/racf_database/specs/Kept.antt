@@ -1,11 +1,6 @@
 -- How a database is kept: the users, the tree of groups, the classes with their profiles, the options, and the change that
 -- was prepared.
-use Rattle.std.specs.Prelude.{◌≡◌, ◌≢◌, ◌⊎◌, Bool, true, false, not, ℕ, ◌<◌, ◌≤◌, length, List, [], ◌∷◌, Option, None, Some, MatchOption, IsSome, find}
-use Rattle.generic_names.specs.declared.kind.NameKind.{NameKind}
-use Rattle.generic_names.specs.declared.kind.NameKind.TheVariants.{DataSet, General}
-use Rattle.generic_names.specs.Spelled.{Spelled}
-use Rattle.command_parser.specs.declared.forms.Form.{Form}
-use Rattle.command_parser.specs.declared.forms.Form.TheVariants as form
+use Rattle.std.specs.Prelude.{◌≡◌, ◌≢◌, ◌⊎◌, ℕ, ◌<◌, ◌≤◌, length, List, [], ◌∷◌, Some, MatchOption, IsSome, find}
 use Rattle.racf_profiles.specs.declared.groups.Group.{Group}
 use Rattle.racf_profiles.specs.declared.options.Options.{Options}
 use Rattle.racf_profiles.specs.declared.edits.Edit.{Edit}
@@ -74,31 +69,6 @@ CanFollow (PutOptions options) = HasFewCategories options
 CanFollow (PutClass class active global log) = ⊥
 CanFollow (ListCopy class) = ⊥
 CanFollow (Unlist class) = ⊥
-
--- The name of a new profile is of the kind that its class has: data sets in DATASET, general ones elsewhere.
-abbrev pub is_of_kind : NameKind → Bool
-is_of_kind DataSet = true
-is_of_kind General = false
-
-abbrev pub is_of_data_sets : Spelled → Bool
-is_of_data_sets name = is_of_kind name.kind
-
-abbrev pub fits_its_class : Form → Bool
-fits_its_class (form.AddUser c) = true
-fits_its_class (form.AltUser c) = true
-fits_its_class (form.DelUser c) = true
-fits_its_class (form.AddGroup c) = true
-fits_its_class (form.AltGroup c) = true
-fits_its_class (form.DelGroup c) = true
-fits_its_class (form.Connect c) = true
-fits_its_class (form.Remove c) = true
-fits_its_class (form.AddSd c) = is_of_data_sets c.profile
-fits_its_class (form.AltSd c) = true
-fits_its_class (form.DelSd c) = true
-fits_its_class (form.RDefine c) = not (is_of_data_sets c.profile)
-fits_its_class (form.RAlter c) = true
-fits_its_class (form.RDelete c) = true
-fits_its_class (form.Permit c) = true
 
 -- There is room for the profile that an edit puts into a class, where there is such a class.
 abbrev pub HasRoomFor : ClassList → Edit → Type 0

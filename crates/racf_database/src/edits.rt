@@ -1,9 +1,10 @@
 //! The edits that a command makes.
-ghost use Rattle.std.specs.Prelude.{◌≡◌, [], ◌∷◌, IfOk};
+ghost use Rattle.std.specs.Prelude.{◌≡◌, [], ◌∷◌, None, IfOk};
 ghost use Rattle.std.specs.Option.{option_copied};
 ghost use Rattle.racf_profiles.specs.Lookup.{user_of, group_of};
 ghost use Rattle.racf_profiles.specs.declared.users.User.{User};
 ghost use Rattle.racf_database.specs.Effects.{altered_user, connected_user, removed_user, altered_group};
+ghost use Rattle.racf_database.specs.Conflicts.{conflict_of};
 ghost use Rattle.racf_database.specs.Edits.{edits_of, put_user, put_group};
 
 mod profiles;
@@ -22,6 +23,7 @@ impl Database {
         issuer: &Issuer,
         command: &Command,
     ) -> Result<Vec<Edit>, NoMemory>
+        requires { conflict_of issuer.now command.now self.now.rows ≡ None }
         ensures { IfOk result (λ edits. edits.items ≡ edits_of issuer.now command.now self.now.rows) }
     {
         match command.form() {

@@ -1,6 +1,7 @@
 //! The edits of the commands on profiles.
-ghost use Rattle.std.specs.Prelude.{◌≡◌, ◌++◌, IfOk, OnOk};
+ghost use Rattle.std.specs.Prelude.{◌≡◌, ◌++◌, None, IfOk, OnOk};
 ghost use Rattle.racf_profiles.specs.Lookup.{profile_of};
+ghost use Rattle.racf_database.specs.ProfileConflicts.{standard_full, conditional_full};
 ghost use Rattle.racf_database.specs.Members.{options_after};
 ghost use Rattle.racf_database.specs.ProfileEffects.{dataset, altered_data_set, altered_resource};
 ghost use Rattle.racf_database.specs.PermitEffects.{permitted_profile};
@@ -84,6 +85,8 @@ impl Database {
         alloc: Global,
         command: &Permit,
     ) -> Result<Vec<Edit>, NoMemory>
+        requires standard_fits { standard_full command.now self.now.rows ≡ None }
+        requires conditional_fits { conditional_full command.now self.now.rows ≡ None }
         ensures { IfOk result (λ edits. edits.items ≡ edits_of_permit command.now self.now.rows) }
     {
         match self.profile(command.class, &command.profile) {

@@ -1,22 +1,20 @@
-use Rattle.std.proofs.Common.{◌≡◌, ◌∙◌, ◌<◌, ◌≤◌, true, List, None, ap, sym, subst, arith}
-use Rattle.racf_profiles.specs.declared.users.User.{User}
-use Rattle.racf_profiles.specs.declared.groups.Group.{Group}
-use Rattle.racf_profiles.specs.declared.class_rows.ClassRow.{ClassRow}
-use Rattle.racf_profiles.specs.declared.rows.Rows.{Rows}
+use Rattle.std.proofs.Common.{◌≡◌, ◌∙◌, ◌<◌, ◌≤◌, List, None, ap, sym, subst, arith}
 use Rattle.racf_profiles.specs.declared.edits.Edit.{Edit}
 use Rattle.racf_profiles.specs.Edits.{changed}
 use Rattle.class_profiles.specs.Classes.{profile_count, entry_count}
+use Rattle.command_parser.specs.Forms.{canonical}
 use Rattle.racf_database.specs.Contents.{rows_of}
-use Rattle.racf_database.specs.Kept.{CanApply, HasRoom, fits_its_class}
+use Rattle.racf_database.specs.Kept.{CanApply, HasRoom}
 use Rattle.racf_database.specs.Edits.{edits_of}
 use Rattle.racf_database.specs.Conflicts.{conflict_of}
 use Rattle.racf_database.proofs.StepLaws.{changed-edits_of}
+use Rattle.racf_database.proofs.NewNames.{kind-spelled}
 use Rattle.racf_database.proofs.Ready.{can_apply-edits_of}
 use Rattle.racf_database.proofs.database.Database.prepare.Goals as goal
 
 -- the rows are as they were, so what was made of them can be applied
-pub invariant_of-self-3 : goal.invariant_of-self-3
-invariant_of-self-3 c =
+pub invariant_of-self-2 : goal.invariant_of-self-2
+invariant_of-self-2 c =
     let issuer = c.args.issuer.now in
     let command = c.args.command.now in
     let list = c.reserve.new.self in
@@ -33,7 +31,7 @@ invariant_of-self-3 c =
     c.in_ok-edits.ensures ∙ ap (λ v. edits_of issuer command v.rows) c.self.view_is ∙ sym (ap (edits_of issuer command) same) in
     let made : c.in_ok-kept.kept.items ≡ edits_of issuer command (rows_of list.users tree.groups tables.classes options) =
     c.in_ok-kept.ensures ∙ c.as_slice.ensures.value ∙ of_rows in
-    let fits : fits_its_class command ≡ true = sym (c.fits_its_class.ensures ∙ ap fits_its_class c.form.ensures) ∙ c.if-not-fits_its_class.false in
+    let kind = kind-spelled c.what_is_read_is_lawful.ensures issuer.id (canonical command) command (c.printed_is_read.ensures issuer.id) in
     let class_room : HasRoom tables (edits_of issuer command (rows_of list.users tree.groups tables.classes options)) =
     subst (HasRoom tables) (c.as_slice-2.ensures.value ∙ of_rows) c.in_ok-reserve_profile.ensures.room in
     let room : 0 < tree.spare = omega (arith, c.in-Ok.ensures.spare) in
@@ -42,7 +40,7 @@ invariant_of-self-3 c =
     record {
       ready = subst (CanApply list tree tables) (sym made)
           (can_apply-edits_of list tree tables options c.len-groups.ensures.lawful c.in_ok-reserve.ensures.few_users c.in_ok-reserve.ensures.few_connections c.in_ok-reserve.ensures.spare room
-          c.counts_are_enough.ensures c.found_is_lawful.ensures c.count-profiles.ensures.lawful few_profiles few_entries issuer command fits class_room free);
+          c.counts_are_enough.ensures c.found_is_lawful.ensures c.count-profiles.ensures.lawful few_profiles few_entries issuer command kind class_room free);
       few_categories = c.self.invariant.few_categories;
     }
 

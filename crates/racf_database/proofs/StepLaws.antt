@@ -1,5 +1,5 @@
 -- The edits of a command that meets no conflict make the rows that the command makes.
-use Rattle.std.proofs.Common.{◌≡◌, ℕ, List, [], ◌∷◌, ◌++◌, Option, None, Some, refl, sym, ap, ◌∙◌}
+use Rattle.std.proofs.Common.{◌≡◌, ℕ, List, Option, None, Some, refl, sym, ap, ◌∙◌}
 use Rattle.std.specs.Prelude.{find}
 use Rattle.racf_profiles.specs.declared.users.User.{User}
 use Rattle.racf_profiles.specs.declared.groups.Group.{Group}
@@ -12,7 +12,7 @@ use Rattle.command_parser.specs.declared.forms.AddUser.{AddUser}
 use Rattle.command_parser.specs.declared.forms.AddGroup.{AddGroup}
 use Rattle.command_parser.specs.declared.forms.Form.{Form}
 use Rattle.command_parser.specs.declared.forms.Form.TheVariants as form
-use Rattle.racf_database.specs.Effects.{at_row, step, new_user, altered_user, new_group, altered_group, connected_user, removed_user, group_or_current}
+use Rattle.racf_database.specs.Effects.{at_row, step, new_user, altered_user, new_group, altered_group, connected_user, removed_user}
 use Rattle.racf_database.specs.Edits.{edits_of, put_user, put_group}
 use Rattle.racf_database.specs.Conflicts.{conflict_of, add_user_conflicts, add_group_conflicts}
 use Rattle.racf_database.specs.ProfileEffects.{dataset, altered_data_set}

@@ -1,14 +1,13 @@
 -- What holds where no conflict is met.
-use Rattle.std.proofs.Common.{◌≡◌, ℕ, ◌<◌, ◌≤◌, Bool, true, false, cond, ◌||◌, ◌&&◌, not, ◌==◌, List, [], ◌∷◌, length, Option, None, Some, IsSome, is_some, bytes_eq, codes, refl, sym, ap, subst, ◌∙◌, true≢false, arith}
-use Rattle.std.specs.Prelude.{nat_lt, find}
+use Rattle.std.proofs.Common.{◌≡◌, ℕ, ◌≤◌, Bool, true, false, ◌||◌, ◌&&◌, not, List, [], ◌∷◌, Option, None, Some, IsSome, is_some, bytes_eq, codes, refl, sym, ap, ◌∙◌, true≢false, arith}
+use Rattle.std.specs.Prelude.{nat_lt}
 use Rattle.std.specs.Option.{option_map}
 use Rattle.std.proofs.lemmas.Bool.Decides.{nat_tests}
-use Rattle.racf_profiles.specs.declared.users.User.{User}
 use Rattle.racf_profiles.specs.declared.groups.Group.{Group}
 use Rattle.racf_profiles.specs.declared.rows.Rows.{Rows}
 use Rattle.racf_profiles.specs.Lookup.{user_of, group_of}
 use Rattle.group_tree.specs.Groups.{first_subgroup}
-use Rattle.group_tree.proofs.Rows.{itself, some_of}
+use Rattle.group_tree.proofs.Rows.{itself}
 use Rattle.group_tree.proofs.Edits.{none_from_is_some, none_from_map}
 use Rattle.racf_database.specs.declared.conflict.Conflict.{Conflict}
 use Rattle.racf_database.specs.declared.conflict.Conflict.TheVariants.{Root}

@@ -1,6 +1,5 @@
 -- The groups that a walk up meets are those that the group is below, or is.
-use Rattle.std.proofs.Common.{◌≡◌, ℕ, ◌+◌, ◌<◌, ◌≤◌, zero, suc, Bool, true, false, cond, ◌||◌, List, [], ◌∷◌, ◌++◌, length, Option, None, Some, IsSome, is_some, bytes_eq, refl, sym, ap, subst, ◌∙◌, true≢false, arith, length-append}
-use Rattle.std.specs.Prelude.{find, IsSomeAnd}
+use Rattle.std.proofs.Common.{◌≡◌, ℕ, ◌<◌, zero, suc, Bool, true, false, ◌||◌, List, [], ◌∷◌, ◌++◌, length, Option, None, Some, is_some, bytes_eq, refl, sym, ap, subst, ◌∙◌, true≢false, arith, length-append}
 use Rattle.std.specs.List.{list_any}
 use Rattle.std.specs.Option.{option_map_or}
 use Rattle.racf_profiles.specs.declared.groups.Group.{Group}
@@ -9,7 +8,7 @@ use Rattle.group_tree.specs.Groups.{find_group, IsGroup}
 use Rattle.group_tree.specs.Scope.{IsWay, IsUnder, IsWithin}
 use Rattle.group_tree.specs.Lawful.{IsTree}
 use Rattle.group_tree.proofs.Rows.{same, itself, value_of, holds_of, some_of, id-find_group}
-use Rattle.group_tree.proofs.Ways.{way-first, way-append, length-way_le}
+use Rattle.group_tree.proofs.Ways.{way-append, length-way_le}
 use Rattle.racf_database.specs.Conflicts.{walk_up, and_above, meets}
 
 -- whether a walk meets the group

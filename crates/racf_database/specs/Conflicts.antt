@@ -1,6 +1,6 @@
 -- What a command conflicts with. Conflicts are judged on the rows before the command; LastSpecial, OwnerNotSuperior and
 -- Full alone speak of the rows after it.
-use Rattle.std.specs.Prelude.{ℕ, zero, suc, Bool, ◌&&◌, ◌||◌, not, ◌==◌, nat_lt, List, [], ◌∷◌, length, Option, None, Some, is_some, find, option_map, option_and_then, codes, bytes_eq, if◌then◌else◌}
+use Rattle.std.specs.Prelude.{ℕ, zero, suc, Bool, ◌&&◌, not, ◌==◌, List, [], ◌∷◌, length, Option, None, Some, is_some, find, option_map, option_and_then, codes, bytes_eq}
 use Rattle.std.specs.List.{list_any}
 use Rattle.std.specs.Option.{option_map_or, option_eq}
 use Rattle.racf_profiles.specs.declared.users.User.{User}
@@ -10,10 +10,8 @@ use Rattle.racf_profiles.specs.declared.users.Connect.{Connect as Connection}
 use Rattle.racf_profiles.specs.Lookup.{user_of, group_of}
 use Rattle.group_tree.specs.Groups.{find_group, first_subgroup}
 use Rattle.racf_database.specs.declared.conflict.Conflict.{Conflict}
-use Rattle.racf_database.specs.declared.conflict.Conflict.TheVariants.{NoUser, NoGroup, NoClass, Exists, NotConnected, Root, InUse, Cycle, OwnerNotSuperior, DefaultGroup, LastSpecial, UnknownName, Full}
-use Rattle.racf_database.specs.declared.conflict.Named.TheVariants as named
+use Rattle.racf_database.specs.declared.conflict.Conflict.TheVariants.{Root, InUse, Cycle, OwnerNotSuperior, DefaultGroup, LastSpecial}
 use Rattle.racf_database.specs.declared.conflict.Holder.TheVariants.{Subgroup, Connected, Profile as ProfileOf}
-use Rattle.racf_database.specs.declared.conflict.Kind.{Kind}
 use Rattle.racf_database.specs.declared.conflict.Kind.TheVariants.{Users, Groups, Connections, AllConnections}
 use Rattle.command_parser.specs.declared.commands.Issuer.{Issuer}
 use Rattle.command_parser.specs.declared.forms.AddUser.{AddUser}
@@ -28,8 +26,7 @@ use Rattle.command_parser.specs.declared.forms.Form.{Form}
 use Rattle.command_parser.specs.declared.forms.Form.TheVariants as form
 use Rattle.class_profiles.specs.Classes.{first_under}
 use Rattle.racf_database.specs.Limits.{most_users, most_groups, most_connections, most_connections_in_all}
-use Rattle.racf_database.specs.Names.{is_taken, is_class_word, is_to, is_connected_to, connects_of, administrators, connections}
-use Rattle.racf_database.specs.Security.{level_number, is_category, category_number, is_label}
+use Rattle.racf_database.specs.Names.{is_connected_to, connects_of, administrators, connections}
 use Rattle.racf_database.specs.Effects.{group_or_current, new_user, new_group, altered_group, connects_after, step}
 use Rattle.racf_database.specs.ProfileConflicts.{add_sd_conflicts, alt_sd_conflicts, del_sd_conflicts, r_define_conflicts, r_alter_conflicts, r_delete_conflicts, permit_conflicts}
 unfoldable pub use Rattle.racf_database.specs.Required.{no_user, no_group, no_owner, no_named_group, no_class, name_taken, not_connected, default_not_connected, unknown_level, unknown_category, never_category, unknown_label}

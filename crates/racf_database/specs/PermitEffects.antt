@@ -1,5 +1,5 @@
 -- What PERMIT makes of a profile's access lists.
-use Rattle.std.specs.Prelude.{Bool, List, [], Option, None, Some, fold, unwrap_or, if◌then◌else◌}
+use Rattle.std.specs.Prelude.{List, [], Option, None, Some, fold, unwrap_or, if◌then◌else◌}
 use Rattle.access_levels.specs.declared.levels.Level.{Level}
 use Rattle.access_levels.specs.declared.levels.Level.TheVariants.{Read}
 use Rattle.access_levels.specs.declared.entries.Who.{Who}

@@ -1,5 +1,5 @@
 -- What a command requires of the rows: who and what has to be there, or not, and how much there may be.
-use Rattle.std.specs.Prelude.{ℕ, Bool, ◌||◌, not, nat_lt, List, [], ◌∷◌, Option, None, Some, is_some, find, option_map, if◌then◌else◌}
+use Rattle.std.specs.Prelude.{ℕ, Bool, not, nat_lt, List, [], ◌∷◌, Option, None, Some, is_some, find, option_map, if◌then◌else◌}
 use Rattle.std.specs.List.{list_any}
 use Rattle.racf_profiles.specs.declared.rows.Rows.{Rows}
 use Rattle.racf_profiles.specs.Lookup.{user_of, group_of}

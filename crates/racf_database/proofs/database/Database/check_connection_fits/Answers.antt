@@ -1,9 +1,8 @@
-use Rattle.std.proofs.Common.{◌≡◌, ◌∙◌, ◌+◌, List, None, Some, ap, sym, subst, find, arith}
-use Rattle.racf_profiles.specs.declared.users.User.{User}
+use Rattle.std.proofs.Common.{◌≡◌, ◌∙◌, ap, sym, arith}
 use Rattle.racf_profiles.specs.Lookup.{is_user}
 use Rattle.racf_database.specs.declared.conflict.Kind.TheVariants.{AllConnections}
 use Rattle.racf_database.specs.Names.{connections, growth}
-use Rattle.racf_database.specs.Effects.{at_row, connected_user, group_or_current}
+use Rattle.racf_database.specs.Effects.{connected_user, group_or_current}
 use Rattle.racf_database.specs.Conflicts.{connections_full, over}
 use Rattle.racf_database.proofs.AfterLaws.{at_row-absent, connections-connected}
 use Rattle.racf_database.proofs.database.Database.check_connection_fits.Goals as goal

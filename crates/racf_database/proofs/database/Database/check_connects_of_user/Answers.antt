@@ -1,4 +1,4 @@
-use Rattle.std.proofs.Common.{◌≡◌, ◌∙◌, List, [], ap, sym, length}
+use Rattle.std.proofs.Common.{◌∙◌, [], ap, sym, length}
 use Rattle.std.specs.Option.{option_map_or}
 use Rattle.racf_profiles.specs.declared.users.User.{User}
 use Rattle.racf_database.specs.declared.conflict.Kind.TheVariants.{Connections}

@@ -1,5 +1,5 @@
 -- The class that was found has the name that was sought.
-use Rattle.std.proofs.Common.{◌≡◌, ◌∙◌, sym, ap}
+use Rattle.std.proofs.Common.{◌∙◌, sym, ap}
 use Rattle.racf_profiles.specs.Lookup.{is_class}
 use Rattle.class_profiles.specs.Lawful.{kind_in}
 use Rattle.group_tree.proofs.Rows.{same, find-passes}

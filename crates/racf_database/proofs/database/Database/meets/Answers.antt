@@ -1,5 +1,4 @@
-use Rattle.std.proofs.Common.{◌≡◌, ◌∙◌, List, ap, sym}
-use Rattle.racf_profiles.specs.declared.groups.Group.{Group}
+use Rattle.std.proofs.Common.{◌∙◌, ap}
 use Rattle.racf_database.specs.Conflicts.{meets}
 use Rattle.racf_database.proofs.AfterLaws.{same_truth}
 use Rattle.racf_database.proofs.Walks.{meets-within, within-meets}

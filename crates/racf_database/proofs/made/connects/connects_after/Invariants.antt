@@ -1,4 +1,4 @@
-use Rattle.std.proofs.Common.{◌≡◌, ◌++◌, Bool, true, false, List, drop}
+use Rattle.std.proofs.Common.{◌≡◌, ◌++◌, drop}
 use Rattle.racf_database.specs.Effects.{connects_after}
 use Rattle.racf_database.proofs.ConnectLaws.{rest_after}
 use Rattle.racf_database.proofs.made.connects.connects_after.Given as goal

@@ -1,4 +1,4 @@
-use Rattle.std.proofs.Common.{◌≡◌, ◌++◌, Bool, true, false, List, drop}
+use Rattle.std.proofs.Common.{◌≡◌, ◌++◌, drop}
 use Rattle.racf_profiles.specs.Edits.{drop_row}
 use Rattle.racf_database.specs.Names.{is_to}
 use Rattle.racf_database.proofs.ConnectLaws.{rest_without}

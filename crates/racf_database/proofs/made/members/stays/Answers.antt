@@ -1,5 +1,5 @@
 -- Those that pass among those that stay.
-use Rattle.std.proofs.Common.{◌≡◌, ◌∙◌, not, sym}
+use Rattle.std.proofs.Common.{◌∙◌, not, sym}
 use Rattle.racf_database.specs.Members.{is_member_named, is_named_in}
 use Rattle.racf_database.proofs.ListCounts.{list_any-filter}
 use Rattle.racf_database.proofs.made.members.stays.Goals as goal

@@ -1,5 +1,4 @@
 -- one user more
-use Rattle.std.proofs.Common.{◌≡◌, ◌∙◌, ◌++◌, ◌∷◌, [], List, ap}
 use Rattle.racf_database.proofs.Places.{take-next}
 use Rattle.racf_database.proofs.user_table.UserTable.rows.Goals as goal
 

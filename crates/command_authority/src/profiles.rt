@@ -1,0 +1,128 @@
+//! What the commands on profiles require.
+ghost use Rattle.std.specs.Prelude.{◌≡◌, bytes_eq};
+ghost use Rattle.std.specs.Result.{result_ok};
+ghost use Rattle.access_levels.specs.Spelling.{id_of};
+ghost use Rattle.command_authority.specs.Targets.{first_qualifier};
+ghost use Rattle.command_authority.specs.Requirements.{dataset, over_new_data_set, profile_needs, over_profile, auditing, add_sd_requirements, alt_sd_requirements, del_sd_requirements, r_define_requirements, r_alter_requirements, r_delete_requirements, permit_requirements};
+
+use crate::needs::{Need, Needs};
+use crate::operands::{alt_sd_audits_alone, r_alter_audits_alone};
+use crate::requirement::{Requirement, Target, over, over_where};
+use crate::targets::first_qualifier;
+use access_levels::Id;
+use command_parser::{AddSd, AltSd, DelSd, Permit, RAlter, RDefine, RDelete};
+use generic_names::Pattern;
+use racf_profiles::FixedClass;
+
+#[tactic(auto, unfolding(crate::specs::Requirements::add_sd_requirements))]
+pub(crate) fn add_sd(command: &AddSd) -> [Requirement; 1]
+    ensures { result ≡ add_sd_requirements command.now }
+{
+    let qualifier = Id::read(first_qualifier(command.profile.text())).ok();
+    [over_new_data_set(qualifier)]
+}
+
+// What a new data set profile requires, by its first qualifier.
+fn over_new_data_set(qualifier: Option<Id>) -> Requirement
+    ensures { result ≡ over_new_data_set qualifier }
+{
+    match qualifier {
+        None => over(Target::Nothing, Needs::of(&[Need::Special])),
+        Some(qualifier) => {
+            let needs = Needs::of(&[
+                Need::Special,
+                Need::OwnData,
+                Need::Create(qualifier),
+                Need::GroupSpecial,
+            ]);
+            over(Target::DataSets(qualifier), needs)
+        }
+    }
+}
+
+#[tactic(auto, unfolding(crate::specs::Requirements::r_define_requirements))]
+pub(crate) fn r_define(command: &RDefine) -> [Requirement; 1]
+    ensures { result ≡ r_define_requirements command.now }
+{
+    let needs = Needs::of(&[Need::Special, Need::ClassAuthority(command.class)]);
+    [over(Target::Nothing, needs)]
+}
+
+#[tactic(auto, unfolding(crate::specs::Requirements::alt_sd_requirements))]
+pub(crate) fn alt_sd(command: &AltSd) -> [Requirement; 2]
+    ensures { result ≡ alt_sd_requirements command.now }
+{
+    [
+        over_profile(!alt_sd_audits_alone(command), dataset(), &command.profile),
+        auditing(command.globalaudit.is_some()),
+    ]
+}
+
+#[tactic(auto, unfolding(crate::specs::Requirements::del_sd_requirements))]
+pub(crate) fn del_sd(command: &DelSd) -> [Requirement; 1]
+    ensures { result ≡ del_sd_requirements command.now }
+{
+    [over_profile(true, dataset(), &command.profile)]
+}
+
+#[tactic(auto, unfolding(crate::specs::Requirements::r_alter_requirements))]
+pub(crate) fn r_alter(command: &RAlter) -> [Requirement; 2]
+    ensures { result ≡ r_alter_requirements command.now }
+{
+    [
+        over_profile(
+            !r_alter_audits_alone(command),
+            command.class,
+            &command.profile,
+        ),
+        auditing(command.globalaudit.is_some()),
+    ]
+}
+
+#[tactic(auto, unfolding(crate::specs::Requirements::r_delete_requirements))]
+pub(crate) fn r_delete(command: &RDelete) -> [Requirement; 1]
+    ensures { result ≡ r_delete_requirements command.now }
+{
+    [over_profile(true, command.class, &command.profile)]
+}
+
+#[tactic(auto, unfolding(crate::specs::Requirements::permit_requirements))]
+pub(crate) fn permit(command: &Permit) -> [Requirement; 1]
+    ensures { result ≡ permit_requirements command.now }
+{
+    [over_profile(true, command.class, &command.profile)]
+}
+
+// What a change of a profile that is there requires.
+fn over_profile(stands: bool, class: Id, name: &Pattern) -> Requirement
+    ensures { result ≡ over_profile stands class name.now }
+{
+    over_where(
+        stands,
+        Target::Profile(class, *name),
+        profile_needs(class, name),
+    )
+}
+
+// What is needed over a profile: in class DATASET one's own data count, and an entry counts for a discrete profile.
+fn profile_needs(class: Id, name: &Pattern) -> Needs
+    ensures { result ≡ profile_needs class name.now }
+{
+    Needs::of(&[Need::Special, Need::Owner, Need::GroupSpecial])
+        .and_where(class == dataset(), Need::OwnData)
+        .and_where(!name.is_generic(), Need::AlterEntry)
+}
+
+// What GLOBALAUDIT requires.
+fn auditing(stands: bool) -> Requirement
+    ensures { result ≡ auditing stands }
+{
+    over_where(stands, Target::Nothing, Needs::of(&[Need::Auditor]))
+}
+
+// The class of data sets.
+fn dataset() -> Id
+    ensures { result ≡ dataset }
+{
+    FixedClass::Dataset.id()
+}

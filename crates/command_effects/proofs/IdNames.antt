@@ -1,7 +1,7 @@
 -- An ID's spelling is a lawful general name.
-use Rattle.std.proofs.Common.{◌≡◌, ℕ, ◌+◌, Bool, true, false, cond, ◌||◌, ◌&&◌, not, ◌==◌, nat_le, List, [], ◌∷◌, length, Option, None, Some, Result, Ok, Err, refl, sym, ap, subst, ◌∙◌, true≢false, arith}
-use Rattle.std.specs.Prelude.{nat_lt, codes, bytes_eq}
-use Rattle.std.specs.List.{position_from, slice_split, onto_first, list_any}
+use Rattle.std.proofs.Common.{◌≡◌, ℕ, ◌+◌, Bool, true, false, cond, ◌||◌, ◌&&◌, not, ◌==◌, nat_le, List, [], ◌∷◌, length, Option, None, Some, Ok, Err, refl, sym, ap, ◌∙◌, true≢false, arith}
+use Rattle.std.specs.Prelude.{nat_lt}
+use Rattle.std.specs.List.{position_from, slice_split, onto_first}
 use Rattle.std.specs.Option.{option_or}
 use Rattle.std.proofs.lemmas.Bool.Decides.{nat_tests}
 use Rattle.access_levels.specs.Spelling.{is_id_byte, bad_byte, unless_bad, id_of}
@@ -9,8 +9,8 @@ use Rattle.generic_names.specs.declared.kind.NameKind.TheVariants.{General}
 use Rattle.generic_names.specs.declared.fault.NameFault.{NameFault}
 use Rattle.generic_names.specs.declared.fault.NameFault.TheVariants as fault
 use Rattle.access_levels.specs.declared.ids.IdFault.TheVariants as idfault
-use Rattle.generic_names.specs.Faults.{has_generic, is_ordinary, is_whole, byte_fault, bytes_fault, qualifier_fault, qualifiers_fault, fault_of, name_of, pattern_of, unless}
-use Rattle.generic_names.specs.Spelled.{Spelled, qualifiers}
+use Rattle.generic_names.specs.Faults.{has_generic, is_ordinary, is_whole, byte_fault, bytes_fault, qualifiers_fault, fault_of, name_of, pattern_of, unless}
+use Rattle.generic_names.specs.Spelled.{qualifiers}
 use Rattle.command_effects.specs.Security.{general_name}
 
 -- each byte is one that an ID has

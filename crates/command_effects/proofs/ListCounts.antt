@@ -1,17 +1,17 @@
 -- How many entries, members and categories there are, once more are put.
 use Rattle.std.proofs.Common.{◌≡◌, ℕ, ◌+◌, ◌≤◌, Bool, true, false, cond, ◌||◌, ◌&&◌, not, List, [], ◌∷◌, ◌++◌, length, refl, sym, ap, ◌∙◌, true≢false, arith, bytes_eq, length-append}
-use Rattle.std.specs.Prelude.{fold, filter, count_by}
+use Rattle.std.specs.Prelude.{fold, filter, count_by, nat_le}
+use Rattle.std.proofs.lemmas.Bool.Decides.{nat_tests}
 use Rattle.std.proofs.lemmas.List.Sums.{length-filter}
 use Rattle.std.proofs.lemmas.List.Filters.{length-filter_both}
 use Rattle.std.specs.List.{list_any}
-use Rattle.access_levels.specs.declared.levels.Level.{Level}
 use Rattle.access_levels.specs.declared.entries.Who.{Who}
 use Rattle.access_levels.specs.declared.entries.Who.TheVariants.{Star, Named}
 use Rattle.access_levels.specs.declared.entries.Entry.{Entry}
 use Rattle.access_levels.specs.declared.entries.CondEntry.{CondEntry}
 use Rattle.access_levels.specs.declared.entries.Condition.{Condition}
 use Rattle.access_levels.specs.Level.{port_class_name}
-use Rattle.access_lists.specs.Lists.{is_same_who, is_same_port, is_for, is_under, is_for_under, entry_put, permitted, withdrawn, permitted_when, withdrawn_when}
+use Rattle.access_lists.specs.Lists.{is_same_who, is_same_port, is_for, is_under, is_for_under, entry_put, permitted, withdrawn, permitted_when, withdrawn_when, is_full, is_full_when}
 use Rattle.racf_profiles.specs.declared.profiles.Member.{Member}
 use Rattle.racf_profiles.specs.declared.profiles.Member.TheVariants.{Access, Grade, Category}
 use Rattle.command_parser.specs.declared.profile_forms.Permit.{Permit}
@@ -20,7 +20,7 @@ use Rattle.command_effects.specs.Security.{is_category_member}
 use Rattle.command_effects.specs.UserEffects.{with_class}
 use Rattle.command_effects.specs.Members.{member_name, is_member_named, with_member, with_category_name, category_repeats}
 use Rattle.command_effects.specs.PermitEffects.{level_of, with_entry, with_conditional}
-use Rattle.command_effects.proofs.Growth.{or-assoc, or-comm, any-put, length-put, any-fold, length-more}
+use Rattle.command_effects.proofs.Growth.{or-assoc, or-comm, any-put, length-put, length-more}
 
 -- ---- standard entries
 same_who : (a b : Who) → is_same_who a b ≡ true → a ≡ b
@@ -51,6 +51,21 @@ module _ (c : Permit) (gives : c.delete ≡ false) where
   pub entries-more : (list : List Entry) (whos : List Who) (who : Who) → length (with_entry c (fold (with_entry c) list whos) who) ≡ length (fold (with_entry c) list whos) + cond (list_any (is_for who) list || list_any (λ other. is_same_who other who) whos) 0 1
   entries-more list whos who = length-more (with_entry c) is_for is_same_who any-entry length-entry who list whos
 
+  -- no list gets shorter, so a list that is within the limit at last was so all along, and never full for an entry
+  pub entries-longer : (list : List Entry) (whos : List Who) → length list ≤ length (fold (with_entry c) list whos)
+  entries-longer list [] = omega arith
+  entries-longer list (who ∷ whos) = omega (arith, length-entry who list, entries-longer (with_entry c list who) whos)
+
+  pub entry-fits : (list : List Entry) (who : Who) → length (with_entry c list who) ≤ 1000 → is_full (entry_for c who) list ≡ false
+  entry-fits list who fits = by (list_any (is_for who) list) refl
+    where
+      by : (b : Bool) → list_any (is_for who) list ≡ b → is_full (entry_for c who) list ≡ false
+      by true there = ap (λ b. not b && nat_le 1000 (length list)) there
+      by false absent =
+          let longer : length (with_entry c list who) ≡ length list + 1 = length-entry who list ∙ ap (λ b. length list + cond b 0 1) absent in
+          let room : nat_le 1000 (length list) ≡ false = grind (arith, nat_tests) in
+          ap (λ b. not b && nat_le 1000 (length list)) absent ∙ room
+
   -- ---- conditional entries
   module _ (condition : Condition) where
     put_when-is : (list : List CondEntry) (who : Who) → with_conditional c condition list who ≡ entry_put (is_for_under condition who) (conditional_for c condition who) list
@@ -79,6 +94,20 @@ module _ (c : Permit) (gives : c.delete ≡ false) where
     length-conditional k list =
         ap (λ (xs : List CondEntry). length xs) (put_when-is list k)
         ∙ length-put entry_put (is_for_under condition) (conditional_for c condition) is_same_who (λ r x. refl) (λ r x y ys. refl) own_when alike_when k list
+
+    pub conditionals-longer : (list : List CondEntry) (whos : List Who) → length list ≤ length (fold (with_conditional c condition) list whos)
+    conditionals-longer list [] = omega arith
+    conditionals-longer list (who ∷ whos) = omega (arith, length-conditional who list, conditionals-longer (with_conditional c condition list who) whos)
+
+    pub conditional-fits : (list : List CondEntry) (who : Who) → length (with_conditional c condition list who) ≤ 1000 → is_full_when (conditional_for c condition who) list ≡ false
+    conditional-fits list who fits = by (list_any (is_for_under condition who) list) refl
+      where
+        by : (b : Bool) → list_any (is_for_under condition who) list ≡ b → is_full_when (conditional_for c condition who) list ≡ false
+        by true there = ap (λ b. not b && nat_le 1000 (length list)) there
+        by false absent =
+            let longer : length (with_conditional c condition list who) ≡ length list + 1 = length-conditional who list ∙ ap (λ b. length list + cond b 0 1) absent in
+            let room : nat_le 1000 (length list) ≡ false = grind (arith, nat_tests) in
+            ap (λ b. not b && nat_le 1000 (length list)) absent ∙ room
 
     pub conditionals-more : (list : List CondEntry) (whos : List Who) (who : Who)
         → length (with_conditional c condition (fold (with_conditional c condition) list whos) who) ≡ length (fold (with_conditional c condition) list whos) + cond (list_any (is_for_under condition who) list || list_any (λ other. is_same_who other who) whos) 0 1

@@ -1,5 +1,5 @@
 -- What an accepted command makes of the rows.
-use Rattle.std.specs.Prelude.{List, [], ◌∷◌, ◌++◌}
+use Rattle.std.specs.Prelude.{[], ◌∷◌, ◌++◌}
 use Rattle.racf_profiles.specs.declared.rows.Rows.{Rows}
 use Rattle.racf_profiles.specs.Lookup.{is_user, is_group}
 use Rattle.racf_profiles.specs.Edits.{drop_row}

@@ -1,5 +1,5 @@
 -- The members of profiles of GLOBAL and SECDATA, and the categories that they define.
-use Rattle.std.specs.Prelude.{ℕ, Bool, ◌||◌, not, List, [], ◌∷◌, fold, filter, bytes_eq, if◌then◌else◌}
+use Rattle.std.specs.Prelude.{ℕ, Bool, ◌||◌, not, List, fold, filter, bytes_eq, if◌then◌else◌}
 use Rattle.std.specs.List.{list_any}
 use Rattle.access_lists.specs.Lists.{entry_put}
 use Rattle.generic_names.specs.Spelled.{Spelled}

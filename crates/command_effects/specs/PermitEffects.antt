@@ -1,14 +1,15 @@
 -- What PERMIT makes of a profile's access lists.
-use Rattle.std.specs.Prelude.{Bool, List, [], Option, None, Some, fold, unwrap_or, if◌then◌else◌}
+use Rattle.std.specs.Prelude.{List, [], Option, None, Some, fold, unwrap_or, if◌then◌else◌, ◌≡◌, ◌≤◌, false, length, IfSome}
 use Rattle.access_levels.specs.declared.levels.Level.{Level}
 use Rattle.access_levels.specs.declared.levels.Level.TheVariants.{Read}
 use Rattle.access_levels.specs.declared.entries.Who.{Who}
 use Rattle.access_levels.specs.declared.entries.Entry.{Entry}
 use Rattle.access_levels.specs.declared.entries.Condition.{Condition}
 use Rattle.access_levels.specs.declared.entries.CondEntry.{CondEntry}
-use Rattle.access_lists.specs.Lists.{permitted, withdrawn, permitted_when, withdrawn_when}
+use Rattle.access_lists.specs.Lists.{permitted, withdrawn, permitted_when, withdrawn_when, most_entries}
 use Rattle.racf_profiles.specs.declared.profiles.Profile.{Profile}
 use Rattle.racf_profiles.specs.declared.rows.Rows.{Rows}
+use Rattle.racf_profiles.specs.Lookup.{profile_of}
 use Rattle.command_grammar.specs.declared.values.Reset.{Reset}
 use Rattle.command_grammar.specs.declared.values.Reset.TheVariants as reset
 use Rattle.command_parser.specs.declared.profile_forms.Permit.{Permit}
@@ -57,3 +58,11 @@ permitted_profile c old = record old { standard = standard_after c old.standard;
 
 abbrev pub after_permit : Permit → Rows → Rows
 after_permit c rows = profile_changed c.class c.profile (permitted_profile c) rows
+
+-- A PERMIT that gives access leaves both lists within the limit.
+pub record ListsFit (c : Permit) (old : Profile) : Type 0 where
+  pub standard : length (standard_after c old.standard) ≤ most_entries
+  pub conditional : length (conditional_after c old.conditional) ≤ most_entries
+
+abbrev pub PermitFits : Permit → Rows → Type 0
+PermitFits c rows = c.delete ≡ false → IfSome (profile_of c.class c.profile rows) (ListsFit c)

@@ -1,5 +1,5 @@
 -- What the commands on profiles make.
-use Rattle.std.specs.Prelude.{ℕ, Bool, false, List, [], ◌∷◌, Option, None, Some, fold, unwrap_or, option_and_then, codes, if◌then◌else◌}
+use Rattle.std.specs.Prelude.{ℕ, Bool, false, List, [], Option, None, Some, fold, unwrap_or, option_and_then, codes, if◌then◌else◌}
 use Rattle.std.specs.Option.{option_map_or, option_or}
 use Rattle.access_levels.specs.declared.levels.Level.TheVariants.{NoAccess, Read}
 use Rattle.generic_names.specs.Spelled.{Spelled}

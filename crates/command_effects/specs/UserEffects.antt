@@ -1,7 +1,7 @@
 -- What the commands on users, groups and connections make.
 use Rattle.std.specs.Prelude.{ℕ, Bool, false, ◌&&◌, ◌||◌, not, List, [], ◌∷◌, ◌++◌, Option, None, Some, fold, filter, unwrap_or, bytes_eq, if◌then◌else◌}
 use Rattle.std.specs.List.{list_any}
-use Rattle.std.specs.Option.{option_map_or, option_or, option_and_then}
+use Rattle.std.specs.Option.{option_or, option_and_then}
 use Rattle.access_levels.specs.declared.entries.Attributes.{Attributes}
 use Rattle.access_levels.specs.declared.authorities.GroupAuthority.TheVariants.{MayUse}
 use Rattle.racf_profiles.specs.declared.users.User.{User}

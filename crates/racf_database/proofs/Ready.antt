@@ -1,6 +1,6 @@
 -- The edits of a command that meets no conflict can be made without memory, once there is room for one more user and one more
 -- group.
-use Rattle.std.proofs.Common.{◌≡◌, ℕ, ◌<◌, ◌≤◌, Bool, true, false, cond, ◌&&◌, not, List, [], ◌∷◌, length, Option, None, Some, IsSome, is_some, refl, sym, ap, subst, ◌∙◌, true≢false, arith, inl, inr, length-append}
+use Rattle.std.proofs.Common.{◌≡◌, ℕ, ◌<◌, ◌≤◌, Bool, true, false, cond, ◌&&◌, List, [], ◌∷◌, length, Option, None, Some, IsSome, is_some, refl, sym, ap, subst, ◌∙◌, true≢false, arith, inl, inr, length-append}
 use Rattle.std.specs.Prelude.{find, MatchOption, ◌⊎◌}
 use Rattle.racf_profiles.specs.declared.users.User.{User}
 use Rattle.racf_profiles.specs.declared.groups.Group.{Group}
@@ -24,10 +24,7 @@ use Rattle.row_tables.specs.Names.{is_to, connections, connected_to}
 use Rattle.row_tables.specs.Tables.{rows_of}
 use Rattle.row_tables.specs.UserList.{UserList, CanPut}
 use Rattle.row_tables.specs.Applying.{CanAddGroup, CanMoveGroup, CanPutGroup, CanDropGroup, CanApply, HasRoom}
-use Rattle.racf_database.specs.Kept.{is_of_kind, is_of_data_sets, fits_its_class}
-use Rattle.generic_names.specs.declared.kind.NameKind.{NameKind}
-use Rattle.generic_names.specs.declared.kind.NameKind.TheVariants.{DataSet, General}
-use Rattle.generic_names.specs.Spelled.{Spelled}
+use Rattle.racf_database.proofs.NewNames.{IsOfItsKind}
 use Rattle.racf_database.proofs.ProfileReady.{CountsAreEnough, FoundIsLawful}
 use Rattle.class_profiles.specs.Lawful.{AreClasses}
 use Rattle.racf_database.proofs.ProfileCommands.{ready_add_sd, ready_alt_sd, ready_r_define, ready_r_alter, ready_permit}
@@ -42,20 +39,6 @@ use Rattle.command_effects.proofs.AfterLaws.{at_row-absent, sum-at_row}
 use Rattle.command_conflicts.proofs.Walks.{meets-within}
 use Rattle.command_conflicts.proofs.Unmet.{each_unmet, group_there, named_there, within, no_subgroup, no_root, no_root_moved, no_cycle, unmet}
 use Rattle.racf_database.proofs.StepLaws.{put_user-at, add_user-free, add_group-free}
-
-of_data_sets : (name : Spelled) → is_of_data_sets name ≡ true → name.kind ≡ DataSet
-of_data_sets name h = by name.kind h
-  where
-    by : (k : NameKind) → is_of_kind k ≡ true → k ≡ DataSet
-    by DataSet e = refl
-    by General e = absurd (true≢false (sym e))
-
-general : (name : Spelled) → not (is_of_data_sets name) ≡ true → name.kind ≡ General
-general name h = by name.kind h
-  where
-    by : (k : NameKind) → not (is_of_kind k) ≡ true → k ≡ General
-    by DataSet e = absurd (true≢false (sym e))
-    by General e = refl
 
 length-at_row : {X : Type 0} (it : X → Bool) (change : X → X) (rows : List X) → length (at_row it change rows) ≡ length rows
 length-at_row it change [] = refl
@@ -183,7 +166,7 @@ module _ (list : UserList) (tree : GroupTree) (tables : ClassList) (options : Op
 
   -- ---- each command
   module _ (enough : CountsAreEnough) (lawful_in : FoundIsLawful) (lawful_classes : AreClasses tables.classes) (few_profiles : profile_count tables.classes ≤ 100000) (few_entries : entry_count tables.classes ≤ 1000000) where
-    pub can_apply-edits_of : (issuer : Issuer) (command : Form) → fits_its_class command ≡ true → HasRoom tables (edits_of issuer command (rows_of list.users tree.groups tables.classes options)) → conflict_of issuer command (rows_of list.users tree.groups tables.classes options) ≡ None
+    pub can_apply-edits_of : (issuer : Issuer) (command : Form) → IsOfItsKind command → HasRoom tables (edits_of issuer command (rows_of list.users tree.groups tables.classes options)) → conflict_of issuer command (rows_of list.users tree.groups tables.classes options) ≡ None
         → CanApply list tree tables (edits_of issuer command (rows_of list.users tree.groups tables.classes options))
     can_apply-edits_of issuer (form.AddUser c) kind profile_room h = ready_add_user issuer c h
     can_apply-edits_of issuer (form.AltUser c) kind profile_room h = put_ready (altered_user c (rows_of list.users tree.groups tables.classes options)) (λ user. refl) c.user (not_more (altered_user c (rows_of list.users tree.groups tables.classes options)) c.user (λ user. omega arith))
@@ -193,10 +176,10 @@ module _ (list : UserList) (tree : GroupTree) (tables : ClassList) (options : Op
     can_apply-edits_of issuer (form.DelGroup c) kind profile_room h = ready_del_group issuer c h
     can_apply-edits_of issuer (form.Connect c) kind profile_room h = put_ready (connected_user issuer c) (λ user. refl) c.user (few_connect issuer c h)
     can_apply-edits_of issuer (form.Remove c) kind profile_room h = put_ready (removed_user issuer c) (λ user. refl) c.user (not_more (removed_user issuer c) c.user (λ user. length-drop_row-le (is_to (group_or_current issuer c.group)) user.connects))
-    can_apply-edits_of issuer (form.AddSd c) kind profile_room h = ready_add_sd enough lawful_in list tree tables options lawful_classes few_profiles few_entries issuer c (of_data_sets c.profile kind) h profile_room
+    can_apply-edits_of issuer (form.AddSd c) kind profile_room h = ready_add_sd enough lawful_in list tree tables options lawful_classes few_profiles few_entries issuer c kind h profile_room
     can_apply-edits_of issuer (form.AltSd c) kind profile_room h = ready_alt_sd enough lawful_in list tree tables options lawful_classes few_profiles few_entries c
     can_apply-edits_of issuer (form.DelSd c) kind profile_room h = tt
-    can_apply-edits_of issuer (form.RDefine c) kind profile_room h = ready_r_define enough lawful_in list tree tables options lawful_classes few_profiles few_entries issuer c (general c.profile kind) h profile_room
+    can_apply-edits_of issuer (form.RDefine c) kind profile_room h = ready_r_define enough lawful_in list tree tables options lawful_classes few_profiles few_entries issuer c kind h profile_room
     can_apply-edits_of issuer (form.RAlter c) kind profile_room h = ready_r_alter enough lawful_in list tree tables options lawful_classes few_profiles few_entries c h
     can_apply-edits_of issuer (form.RDelete c) kind profile_room h = tt
     can_apply-edits_of issuer (form.Permit c) kind profile_room h = ready_permit enough lawful_in list tree tables options lawful_classes few_profiles few_entries c h

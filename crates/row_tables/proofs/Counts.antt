@@ -1,5 +1,5 @@
 -- Counts that are kept beside the users, after a user was put or dropped.
-use Rattle.std.proofs.Common.{◌≡◌, ℕ, ◌+◌, ◌-◌, ◌≤◌, List, refl, sym, ap, subst, ◌∙◌, arith}
+use Rattle.std.proofs.Common.{◌≡◌, ℕ, ◌+◌, ◌-◌, ◌≤◌, List, sym, ap, ◌∙◌, arith}
 use Rattle.std.specs.Prelude.{find, sum_by}
 use Rattle.std.specs.Option.{option_map_or}
 use Rattle.racf_profiles.specs.declared.users.User.{User}

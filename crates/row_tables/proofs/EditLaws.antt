@@ -1,5 +1,5 @@
 -- A change of two edits.
-use Rattle.std.proofs.Common.{◌≡◌, List, [], ◌∷◌, ◌++◌, Option, Some, refl, sym, ap, subst, ◌∙◌}
+use Rattle.std.proofs.Common.{◌≡◌, List, [], ◌∷◌, ◌++◌, Option, Some, refl, ap, subst, ◌∙◌}
 use Rattle.std.specs.Option.{option_to_list}
 use Rattle.racf_profiles.specs.declared.edits.Edit.{Edit}
 use Rattle.group_tree.specs.Groups.{GroupTree}

@@ -1,5 +1,5 @@
 -- A group put in its place, as the tree changes it.
-use Rattle.std.proofs.Common.{◌≡◌, ℕ, ◌<◌, Bool, true, false, cond, map, List, [], ◌∷◌, ◌++◌, Option, Some, None, IsSome, is_some, bytes_eq, refl, sym, ap, subst, ◌∙◌, true≢false, arith}
+use Rattle.std.proofs.Common.{◌≡◌, ℕ, ◌<◌, Bool, true, false, cond, map, List, [], ◌∷◌, Option, Some, None, IsSome, is_some, bytes_eq, refl, sym, ap, subst, ◌∙◌, true≢false, arith}
 use Rattle.std.specs.Prelude.{find}
 use Rattle.std.specs.List.{IsDistinct, AllByRecursion}
 use Rattle.std.specs.Option.{option_eq, option_map}
@@ -9,7 +9,7 @@ use Rattle.racf_profiles.specs.Lookup.{is_group}
 use Rattle.racf_profiles.specs.Edits.{put_row}
 use Rattle.group_tree.specs.declared.faults.TreeFault.{TreeFault}
 use Rattle.group_tree.specs.declared.faults.TreeFault.TheVariants.{NoGroup, Exists, Cycle, HasSubgroup, Full, NoMemory}
-use Rattle.group_tree.specs.Groups.{GroupTree, find_group, first_absent, at_group}
+use Rattle.group_tree.specs.Groups.{GroupTree, find_group, at_group}
 use Rattle.group_tree.specs.Answers.{CanAdd, AddRefused, CanMove, MoveRefused, OwnerRefused, CanRemove, RemoveRefused}
 use Rattle.group_tree.proofs.Rows.{same, itself, turned}
 use Rattle.group_tree.proofs.Edits.{one_there}

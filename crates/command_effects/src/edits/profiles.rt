@@ -3,7 +3,7 @@ ghost use Rattle.std.specs.Prelude.{◌≡◌, ◌++◌, IfOk, OnOk};
 ghost use Rattle.racf_profiles.specs.Lookup.{profile_of};
 ghost use Rattle.command_effects.specs.Members.{options_after};
 ghost use Rattle.command_effects.specs.ProfileEffects.{dataset, altered_data_set, altered_resource};
-ghost use Rattle.command_effects.specs.PermitEffects.{permitted_profile};
+ghost use Rattle.command_effects.specs.PermitEffects.{permitted_profile, PermitFits};
 ghost use Rattle.command_effects.specs.Edits.{put_changed, put_options, edits_of_add_sd, edits_of_alt_sd, edits_of_r_define, edits_of_r_alter, edits_of_permit};
 
 use super::one;
@@ -90,6 +90,7 @@ pub(super) fn edits_of_permit(
     tables: &RowTables,
     command: &Permit,
 ) -> Result<Vec<Edit>, NoMemory>
+    requires { PermitFits command.now tables.now.rows }
     ensures { IfOk result (λ edits. edits.items ≡ edits_of_permit command.now tables.now.rows) }
 {
     match tables.profile(command.class, &command.profile) {

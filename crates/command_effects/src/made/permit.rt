@@ -1,11 +1,11 @@
 //! Access lists as PERMIT makes them.
-ghost use Rattle.std.specs.Prelude.{◌≡◌, ◌||◌, false, fold, length, IfOk, OnOk, if◌then◌else◌};
+ghost use Rattle.std.specs.Prelude.{◌≡◌, ◌≤◌, ◌||◌, false, fold, length, IfOk, OnOk, if◌then◌else◌};
 ghost use Rattle.std.specs.List.{list_any};
-ghost use Rattle.access_lists.specs.Lists.{is_same_who, is_same_port, is_for, is_for_under};
+ghost use Rattle.access_lists.specs.Lists.{is_same_who, is_same_port, is_for, is_for_under, most_entries};
 ghost use Rattle.command_effects.specs.PermitEffects.{standard_reset, conditional_reset, level_of, with_entry, with_conditional, standard_after, conditional_after, permitted_profile};
 
 use access_levels::{CondEntry, Condition, Entry, Id, Level, Who};
-use access_lists::{permit, permit_when, withdraw, withdraw_when};
+use access_lists::{ListFault, permit, permit_when, withdraw, withdraw_when};
 use command_parser::{Permit, Reset};
 use racf_profiles::{CondEntries, Entries, NoMemory, Profile};
 use std::alloc::{AllocError, Global};
@@ -16,6 +16,8 @@ pub(crate) fn permitted_profile(
     command: &Permit,
     old: &Profile,
 ) -> Result<Profile, NoMemory>
+    requires standard_fits { command.now.delete ≡ false → length (standard_after command.now old.now.standard) ≤ most_entries }
+    requires conditional_fits { command.now.delete ≡ false → length (conditional_after command.now old.now.conditional) ≤ most_entries }
     ensures { IfOk result (λ profile. profile ≡ permitted_profile command.now old.now) }
 {
     let standard = standard_after(alloc, command, old.standard.items.as_slice())?;
@@ -39,6 +41,7 @@ pub(crate) fn permitted_profile(
 
 // A standard list after PERMIT.
 fn standard_after(alloc: Global, command: &Permit, old: &[Entry]) -> Result<Vec<Entry>, NoMemory>
+    requires { command.now.delete ≡ false → length (standard_after command.now old.now) ≤ most_entries }
     ensures { IfOk result (λ list. list.items ≡ standard_after command.now old.now) }
 {
     let list = Vec::from_slice(alloc, standard_reset(command.reset, old))?;
@@ -54,6 +57,7 @@ fn conditional_after(
     command: &Permit,
     old: &[CondEntry],
 ) -> Result<Vec<CondEntry>, NoMemory>
+    requires { command.now.delete ≡ false → length (conditional_after command.now old.now) ≤ most_entries }
     ensures { IfOk result (λ list. list.items ≡ conditional_after command.now old.now) }
 {
     let list = Vec::from_slice(alloc, conditional_reset(command.reset, old))?;
@@ -87,6 +91,7 @@ pub(crate) fn conditional_reset(reset: Option<Reset>, list: &[CondEntry]) -> &[C
 
 // The list with the entries of all IDs, or without them.
 fn with_entries(command: &Permit, list: Vec<Entry>, whos: &[Who]) -> Result<Vec<Entry>, NoMemory>
+    requires { command.now.delete ≡ false → length (fold (with_entry command.now) list.items whos.now) ≤ most_entries }
     ensures { IfOk result (λ after. after.items ≡ fold (with_entry command.now) list.items whos.now) }
 {
     let mut list = list;
@@ -103,6 +108,7 @@ fn with_conditionals(
     list: Vec<CondEntry>,
     whos: &[Who],
 ) -> Result<Vec<CondEntry>, NoMemory>
+    requires { command.now.delete ≡ false → length (fold (with_conditional command.now condition.now) list.items whos.now) ≤ most_entries }
     ensures { IfOk result (λ after. after.items ≡ fold (with_conditional command.now condition.now) list.items whos.now) }
 {
     let mut list = list;
@@ -112,8 +118,9 @@ fn with_conditionals(
     Ok(list)
 }
 
-// Gives one ID its entry, or takes it away. A list that would get too long was refused when the command was checked.
+// Gives one ID its entry, or takes it away.
 fn put_entry(command: &Permit, list: &mut Vec<Entry>, who: Who) -> Result<(), NoMemory>
+    requires { command.now.delete ≡ false → length (with_entry command.now list.old.items who) ≤ most_entries }
     ensures { OnOk result (list.new.items ≡ with_entry command.now list.old.items who) }
 {
     if command.delete {
@@ -123,7 +130,8 @@ fn put_entry(command: &Permit, list: &mut Vec<Entry>, who: Who) -> Result<(), No
     let level = level_of(command);
     match permit(list, Entry { who, level }) {
         Ok(()) => Ok(()),
-        Err(_) => Err(AllocError),
+        Err(ListFault::NoMemory) => Err(AllocError),
+        Err(ListFault::Full) => unreachable!(),
     }
 }
 
@@ -134,6 +142,7 @@ fn put_conditional(
     list: &mut Vec<CondEntry>,
     who: Who,
 ) -> Result<(), NoMemory>
+    requires { command.now.delete ≡ false → length (with_conditional command.now condition.now list.old.items who) ≤ most_entries }
     ensures { OnOk result (list.new.items ≡ with_conditional command.now condition.now list.old.items who) }
 {
     if command.delete {
@@ -143,7 +152,8 @@ fn put_conditional(
     let level = level_of(command);
     match permit_when(list, conditional_entry(condition, who, level)) {
         Ok(()) => Ok(()),
-        Err(_) => Err(AllocError),
+        Err(ListFault::NoMemory) => Err(AllocError),
+        Err(ListFault::Full) => unreachable!(),
     }
 }
 

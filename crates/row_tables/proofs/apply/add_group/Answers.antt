@@ -1,5 +1,4 @@
-use Rattle.std.proofs.Common.{◌≡◌, ◌∙◌, ◌++◌, List, [], ◌∷◌, Some, ap, sym}
-use Rattle.racf_profiles.specs.declared.groups.Group.{Group}
+use Rattle.std.proofs.Common.{◌∙◌, ◌++◌, [], ◌∷◌, ap, sym}
 use Rattle.racf_profiles.specs.Lookup.{is_group}
 use Rattle.row_tables.proofs.RowLaws.{put_row-new}
 use Rattle.row_tables.proofs.apply.add_group.Goals as goal

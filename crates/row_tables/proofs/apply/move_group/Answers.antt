@@ -1,5 +1,4 @@
-use Rattle.std.proofs.Common.{◌≡◌, ◌∙◌, List, Some, ap, sym}
-use Rattle.racf_profiles.specs.declared.groups.Group.{Group}
+use Rattle.std.proofs.Common.{◌∙◌, ap, sym}
 use Rattle.racf_profiles.specs.Lookup.{is_group}
 use Rattle.racf_profiles.specs.Edits.{put_row}
 use Rattle.group_tree.specs.Groups.{with_superior}

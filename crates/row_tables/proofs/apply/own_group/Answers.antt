@@ -1,4 +1,4 @@
-use Rattle.std.proofs.Common.{◌≡◌, ◌∙◌, List, Some, ap, sym}
+use Rattle.std.proofs.Common.{◌∙◌, ap}
 use Rattle.racf_profiles.specs.declared.groups.Group.{Group}
 use Rattle.racf_profiles.specs.Lookup.{is_group}
 use Rattle.racf_profiles.specs.Edits.{put_row}

@@ -1,4 +1,4 @@
-use Rattle.std.proofs.Common.{◌≡◌, ◌++◌, Bool, true, false, List, drop}
+use Rattle.std.proofs.Common.{◌≡◌, ◌++◌, drop}
 use Rattle.command_effects.specs.Effects.{connects_after}
 use Rattle.command_effects.proofs.ConnectLaws.{rest_after}
 use Rattle.command_effects.proofs.made.connects.connects_after.Given as goal

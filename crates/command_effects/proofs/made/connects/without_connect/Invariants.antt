@@ -1,4 +1,4 @@
-use Rattle.std.proofs.Common.{◌≡◌, ◌++◌, Bool, true, false, List, drop}
+use Rattle.std.proofs.Common.{◌≡◌, ◌++◌, drop}
 use Rattle.racf_profiles.specs.Edits.{drop_row}
 use Rattle.row_tables.specs.Names.{is_to}
 use Rattle.command_effects.proofs.ConnectLaws.{rest_without}

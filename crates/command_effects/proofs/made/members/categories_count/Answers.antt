@@ -1,7 +1,7 @@
 -- One member further.
-use Rattle.std.proofs.Common.{◌≡◌, ◌∙◌, ◌+◌, ◌-◌, ◌<◌, ◌≤◌, ℕ, List, length, fold, take, sym, ap, arith}
+use Rattle.std.proofs.Common.{◌≡◌, ◌∙◌, ◌+◌, ◌<◌, ℕ, List, length, fold, take, sym, ap, arith}
 use Rattle.std.proofs.lemmas.List.Sums.{fold_more}
-use Rattle.command_effects.specs.Members.{with_category_name, category_repeats}
+use Rattle.command_effects.specs.Members.{with_category_name}
 use Rattle.command_effects.proofs.ListCounts.{categories-more, category_repeats-le}
 use Rattle.command_effects.proofs.made.members.categories_count.Goals as goal
 

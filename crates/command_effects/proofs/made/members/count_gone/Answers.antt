@@ -1,5 +1,5 @@
 -- Those that go and those that stay.
-use Rattle.std.proofs.Common.{◌≡◌, ◌∙◌, ◌+◌, ap, length}
+use Rattle.std.proofs.Common.{◌∙◌, ◌+◌, ap, length}
 use Rattle.command_effects.specs.Members.{is_named_in, without_members}
 use Rattle.command_effects.proofs.ListCounts.{count-filter}
 use Rattle.command_effects.proofs.made.members.count_gone.Goals as goal

@@ -1,5 +1,5 @@
 -- The member is written at the place of the one of its name, or goes last.
-use Rattle.std.proofs.Common.{◌≡◌, ◌∙◌, Some, None, sym, ap}
+use Rattle.std.proofs.Common.{◌∙◌, sym, ap}
 use Rattle.std.specs.List.{position}
 use Rattle.command_effects.specs.Members.{member_name, is_member_named}
 use Rattle.command_effects.proofs.Puts.{set_at_position, added_without_position}

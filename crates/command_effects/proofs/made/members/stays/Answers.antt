@@ -1,5 +1,5 @@
 -- Those that pass among those that stay.
-use Rattle.std.proofs.Common.{◌≡◌, ◌∙◌, not, sym}
+use Rattle.std.proofs.Common.{◌∙◌, not, sym}
 use Rattle.command_effects.specs.Members.{is_member_named, is_named_in}
 use Rattle.command_effects.proofs.ListCounts.{list_any-filter}
 use Rattle.command_effects.proofs.made.members.stays.Goals as goal

@@ -1,5 +1,5 @@
 -- An ID spells a general name.
-use Rattle.std.proofs.Common.{◌≡◌, ◌∙◌, Ok, Err, sym, ap}
+use Rattle.std.proofs.Common.{◌∙◌, ap}
 use Rattle.generic_names.specs.Faults.{pattern_of}
 use Rattle.generic_names.specs.declared.kind.NameKind.TheVariants.{General}
 use Rattle.command_effects.proofs.IdNames.{general-id}

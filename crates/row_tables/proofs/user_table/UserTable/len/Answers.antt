@@ -1,6 +1,5 @@
-use Rattle.std.proofs.Common.{◌≡◌, List, map, sym, subst, ap, bytes_eq}
+use Rattle.std.proofs.Common.{subst, bytes_eq}
 use Rattle.std.specs.List.{IsDistinct}
-use Rattle.racf_profiles.specs.declared.users.User.{User}
 use Rattle.class_profiles.specs.Lawful.{AreUsers}
 use Rattle.row_tables.proofs.user_table.UserTable.len.Goals as goal
 

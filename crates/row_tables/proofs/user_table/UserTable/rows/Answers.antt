@@ -1,5 +1,4 @@
 -- one user more
-use Rattle.std.proofs.Common.{◌≡◌, ◌∙◌, ◌++◌, ◌∷◌, [], List, ap}
 use Rattle.row_tables.proofs.Places.{take-next}
 use Rattle.row_tables.proofs.user_table.UserTable.rows.Goals as goal
 

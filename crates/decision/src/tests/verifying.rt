@@ -51,10 +51,13 @@ fn verified_user(rt: HostRuntime) -> Result<(), Fail> {
     match verify(alloc, &image, &request) {
         Ok(acee) => {
             assert_eq!(rt; acee.user, request.user);
+            assert_eq!(rt; acee.groups.names().len(), 1);
             println!(rt; "MADE")?;
         }
-        Err(VerifyFault::NoMemory) => println!(rt; "NO MEMORY")?,
-        Err(_) => println!(rt; "REFUSED")?,
+        Err(fault) => {
+            assert!(rt; matches!(fault, VerifyFault::NoMemory));
+            println!(rt; "NO MEMORY")?;
+        }
     }
     Ok(())
 }

@@ -1,6 +1,5 @@
 use Rattle.std.proofs.Common.{[], bytes_eq, arith, subst, sym}
 use Rattle.std.specs.List.{IsDistinct}
-use Rattle.racf_profiles.specs.declared.users.User.{User}
 use Rattle.class_profiles.specs.Lawful.{AreUsers}
 use Rattle.raclist_image.proofs.tests.large_rows.users.Goals as goal
 

@@ -1,13 +1,13 @@
 -- What AUDIT holds is read again from how it is written.
-use Rattle.std.proofs.Common.{◌≡◌, ℕ, suc, ◌+◌, List, [], ◌∷◌, ◌++◌, length, Bool, true, false, ◌&&◌, Option, None, Some, Result, Ok, Err, refl, sym, ap, ◌∙◌, arith, append_assoc, length-append}
+use Rattle.std.proofs.Common.{◌≡◌, ℕ, suc, ◌+◌, List, [], ◌∷◌, ◌++◌, length, Bool, true, false, ◌&&◌, Option, None, Some, Ok, refl, sym, ap, ◌∙◌, arith, append_assoc, length-append}
 use Rattle.std.specs.List.{list_all}
 use Rattle.access_levels.specs.declared.levels.Level.{Level}
 use Rattle.access_levels.specs.declared.levels.Level.TheVariants.{NoAccess, Execute, Read, Update, Control, Alter}
 use Rattle.access_levels.specs.Level.{level_name}
 use Rattle.racf_profiles.specs.declared.profiles.AuditRule.{AuditRule}
-use Rattle.command_words.specs.declared.quoting.Quoting.TheVariants.{Ignored, Outside}
-use Rattle.command_words.specs.Tokens.{Token, Word, within, group_end, tokens, tokens_from}
-use Rattle.command_words.specs.Items.{Item, Bare, With, items}
+use Rattle.command_words.specs.declared.quoting.Quoting.TheVariants.{Outside}
+use Rattle.command_words.specs.Tokens.{Word, within, group_end, tokens, tokens_from}
+use Rattle.command_words.specs.Items.{Item, With, items}
 use Rattle.command_words.proofs.Letters.{is_letter, both_first, both_second, Outside-steady}
 use Rattle.command_words.proofs.Spelled.{is_calm, word_token, group_token, group_end-calm, group_end-nested}
 use Rattle.command_grammar.specs.declared.faults.Syntax.TheVariants as faults

@@ -1,5 +1,5 @@
 -- Users and groups, and ports of entry, are read again from how they are written.
-use Rattle.std.proofs.Common.{◌≡◌, ℕ, suc, ◌+◌, List, [], ◌∷◌, ◌++◌, length, map, Bool, true, false, ◌&&◌, Option, None, Some, Result, Ok, Err, refl, sym, ap, subst, ◌∙◌, arith, append_assoc, length-append}
+use Rattle.std.proofs.Common.{◌≡◌, ℕ, suc, ◌+◌, List, [], ◌∷◌, ◌++◌, length, map, true, false, None, Some, Ok, refl, ap, ◌∙◌, arith, append_assoc, length-append}
 use Rattle.std.specs.List.{list_all}
 use Rattle.std.specs.Result.{result_ok}
 use Rattle.access_levels.specs.declared.entries.Who.{Who}
@@ -11,18 +11,17 @@ use Rattle.access_levels.specs.Level.{port_class_name}
 use Rattle.access_levels.specs.Spelling.{id_of}
 use Rattle.command_words.specs.declared.quoting.Quoting.TheVariants.{Ignored, Outside}
 use Rattle.command_words.specs.Bytes.{upper}
-use Rattle.command_words.specs.Tokens.{Token, Word, within, group_end, tokens, tokens_from}
-use Rattle.command_words.specs.Items.{Item, With, items, faulty_at}
-use Rattle.command_words.proofs.Letters.{is_letter, both_first, both_second, Outside-steady}
+use Rattle.command_words.specs.Tokens.{Word, within, group_end, tokens, tokens_from}
+use Rattle.command_words.specs.Items.{With, items, faulty_at}
+use Rattle.command_words.proofs.Letters.{is_letter, Outside-steady}
 use Rattle.command_words.proofs.Spelled.{is_calm, letter-calm, word_token, word_alone, group_token, group_end-calm, group_end-nested}
-use Rattle.command_grammar.specs.declared.faults.Syntax.TheVariants as faults
 use Rattle.command_grammar.specs.declared.table.Kind.TheVariants as kinds
-use Rattle.command_grammar.specs.Results.{◌>>=◌, or_fault}
-use Rattle.command_grammar.specs.WordsOfValues.{stray, unless_stray}
-use Rattle.command_grammar.specs.Entries.{who_text, more_whos_text, whos_text, port_class_of, port_name, port_of, port, port_text}
-use Rattle.command_grammar.specs.Values.{name_of, names, more_text, ids_text, star_or, whos}
+use Rattle.command_grammar.specs.Results.{◌>>=◌}
+use Rattle.command_grammar.specs.WordsOfValues.{unless_stray}
+use Rattle.command_grammar.specs.Entries.{more_whos_text, whos_text, port_class_of, port_name, port, port_text}
+use Rattle.command_grammar.specs.Values.{name_of, more_text, ids_text}
 use Rattle.command_grammar.specs.Lawful.{AreNames, AreNamed, AreWhos}
-use Rattle.command_grammar.proofs.Names.{IsPlainName, name-plain, all_of}
+use Rattle.command_grammar.proofs.Names.{name-plain, all_of}
 
 all_calm : (w : List ℕ) → list_all is_letter w ≡ true → list_all is_calm w ≡ true
 all_calm w h = all_of is_letter is_calm letter-calm w h

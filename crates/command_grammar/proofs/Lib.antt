@@ -9,5 +9,14 @@ pub mod SuitsNone
 pub mod MembersAgain
 pub mod ValueAgain
 pub mod TableFacts
+pub mod OperandsAgain
+pub mod PositionsAgain
+pub mod PermitAgain
 pub mod ReadAgain
+pub mod Outcomes
+pub mod AuditLawful
+pub mod MembersLawful
+pub mod ValueLawful
+pub mod OperandsLawful
+pub mod CompletedLawful
 pub mod ReadLawful

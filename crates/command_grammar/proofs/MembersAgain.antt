@@ -1,6 +1,6 @@
 -- Members are read again from how they are written.
-use Rattle.std.proofs.Common.{◌≡◌, ℕ, zero, suc, ◌+◌, ◌<◌, List, [], ◌∷◌, ◌++◌, length, map, Bool, true, false, cond, not, ◌&&◌, ◌||◌, Option, None, Some, Result, Ok, Err, refl, sym, ap, subst, ◌∙◌, arith, add-zero, append_assoc, length-append}
-use Rattle.std.specs.Prelude.{◌==◌, nat_le, is_none, is_ok, position}
+use Rattle.std.proofs.Common.{◌≡◌, ℕ, zero, suc, ◌+◌, ◌<◌, List, [], ◌∷◌, ◌++◌, length, map, Bool, true, false, cond, not, ◌&&◌, ◌||◌, Option, None, Some, Ok, refl, sym, ap, subst, ◌∙◌, arith, add-zero, append_assoc, length-append}
+use Rattle.std.specs.Prelude.{◌==◌, nat_le, is_none, is_ok}
 use Rattle.std.specs.List.{list_all}
 use Rattle.std.specs.Result.{result_ok}
 use Rattle.std.proofs.lemmas.List.{append-nil}
@@ -19,19 +19,17 @@ use Rattle.racf_profiles.specs.declared.profiles.Member.{Member}
 use Rattle.racf_profiles.specs.declared.profiles.Member.TheVariants as member
 use Rattle.command_words.specs.declared.quoting.Quoting.TheVariants.{Ignored, Outside, Met}
 use Rattle.command_words.specs.Bytes.{is_faulty_byte, upper}
-use Rattle.command_words.specs.Tokens.{Token, Word, within, group_end, tokens, tokens_from}
+use Rattle.command_words.specs.Tokens.{Word, within, group_end, tokens, tokens_from}
 use Rattle.command_words.specs.Items.{Item, Bare, items, opens_value, faulty_at}
 use Rattle.command_words.proofs.Letters.{is_letter, letter-quote, both_first, both_second, Outside-steady, EndsWord}
 use Rattle.command_words.proofs.Spelled.{is_calm, letter-calm, word_token, quoted_word_token, quoted_word-through, group_end-through}
-use Rattle.command_grammar.specs.declared.faults.Syntax.TheVariants as faults
 use Rattle.command_grammar.specs.declared.members.MemberForm.{MemberForm}
 use Rattle.command_grammar.specs.declared.members.MemberForm.TheVariants as forms
-use Rattle.command_grammar.specs.Results.{◌>>=◌, or_fault}
 use Rattle.command_grammar.specs.ProfileNames.{text_by_kind, profile_text}
 use Rattle.command_grammar.specs.Members.{whole_text, named_so, member_named, parted, if_number, number_of, number_text, access_with, access_of, grade_with, grade_of, category_of, member_in, id_name, dropped_in, each_of, some_of, added, dropped, member_text}
 use Rattle.command_grammar.specs.Values.{more_text, ids_text}
 use Rattle.command_grammar.specs.Lawful.{IsMember, IsDropped, Each, AreSome, AreMembers, AreDropped}
-use Rattle.command_grammar.proofs.Names.{IsPlainName, plain_name, all_of}
+use Rattle.command_grammar.proofs.Names.{plain_name, all_of}
 use Rattle.command_grammar.proofs.Patterns.{IsSome, IsPlainText, is_sound_byte, sound-letters, sound-faultless, member-named-so, in-quotes}
 use Rattle.command_grammar.proofs.MemberParts.{parted-last}
 use Rattle.command_grammar.proofs.WordItems.{word_items}

@@ -4,7 +4,6 @@ use Rattle.std.specs.Prelude.{◌==◌, bytes_eq, codes, nat_lt, if◌then◌els
 use Rattle.std.specs.List.{list_all, onto_first}
 use Rattle.std.specs.Option.{option_or}
 use Rattle.std.proofs.lemmas.Bool.{eqb-true}
-use Rattle.std.proofs.lemmas.Bool.Decides.{nat_tests}
 use Rattle.std.proofs.lemmas.Slice.Eq.{bytes_eq-Decides}
 use Rattle.generic_names.specs.declared.kind.NameKind.{NameKind}
 use Rattle.generic_names.specs.declared.kind.NameKind.TheVariants.{DataSet, General}

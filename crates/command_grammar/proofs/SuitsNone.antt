@@ -1,5 +1,5 @@
 -- Operands whose values depend on nothing in front of them.
-use Rattle.std.proofs.Common.{◌≡◌, List, [], ◌∷◌, Bool, true, false, not, ◌&&◌, Option, None, Some, refl}
+use Rattle.std.proofs.Common.{◌≡◌, List, [], ◌∷◌, Bool, true, false, not, ◌&&◌, None, Some}
 use Rattle.command_words.proofs.Letters.{both_first, both_second}
 use Rattle.command_grammar.specs.declared.table.Kind.{Kind}
 use Rattle.command_grammar.specs.declared.table.Kind.TheVariants as kinds

@@ -16,7 +16,7 @@ use Rattle.access_levels.specs.declared.authorities.GroupAuthority.TheVariants.{
 use Rattle.access_levels.specs.Spelling.{id_of}
 use Rattle.command_words.specs.declared.quoting.Quoting.TheVariants.{Ignored, Outside, Inside}
 use Rattle.command_words.specs.Quotes.{doubled}
-use Rattle.command_words.specs.Tokens.{Token, Word, Group, Open, Close, within, group_end, tokens, tokens_from}
+use Rattle.command_words.specs.Tokens.{within, group_end, tokens, tokens_from}
 use Rattle.command_words.specs.Items.{Item, Bare, items, opens_value, faulty_at}
 use Rattle.command_words.proofs.Letters.{is_letter, both_first, both_second, Outside-steady, EndsWord}
 use Rattle.command_words.proofs.Spelled.{is_calm, letter-calm, quoted, word_token, word_alone, quoted_token, group_end-calm, group_end-quoted}

@@ -1,5 +1,5 @@
 -- Whose entries PERMIT means, and at which port of entry.
-use Rattle.std.specs.Prelude.{ℕ, List, [], ◌∷◌, ◌++◌, Bool, true, false, map, find, codes, bytes_eq, Option, None, Some, Result, Ok, Err}
+use Rattle.std.specs.Prelude.{ℕ, List, [], ◌∷◌, ◌++◌, map, find, codes, bytes_eq, Option, Result, Ok, Err}
 use Rattle.std.specs.Result.{result_ok}
 use Rattle.access_levels.specs.declared.entries.Who.{Who}
 use Rattle.access_levels.specs.declared.entries.Who.TheVariants.{Star, Named}
@@ -15,7 +15,7 @@ use Rattle.command_grammar.specs.declared.faults.Syntax.{Syntax}
 use Rattle.command_grammar.specs.declared.faults.Syntax.TheVariants as faults
 use Rattle.command_grammar.specs.declared.values.TheConstants.{PORT_CLASSES}
 use Rattle.command_grammar.specs.Results.{◌>>=◌, or_fault}
-use Rattle.command_grammar.specs.WordsOfValues.{clean, refused_at, word_of, stray, held, unless_stray}
+use Rattle.command_grammar.specs.WordsOfValues.{clean, refused_at, stray, held, unless_stray}
 
 abbrev pub star_alone : List Who
 star_alone = Star ∷ []

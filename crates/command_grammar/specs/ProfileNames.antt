@@ -1,5 +1,5 @@
 -- The names of profiles, by the class that they stand in. The text is in upper case.
-use Rattle.std.specs.Prelude.{ℕ, ◌+◌, List, [], ◌∷◌, ◌++◌, Bool, true, false, ◌||◌, ◌&&◌, ◌==◌, not, map, take, length, codes, bytes_eq, position, if◌then◌else◌, is_ok, Option, None, Some}
+use Rattle.std.specs.Prelude.{ℕ, ◌+◌, List, [], ◌∷◌, ◌++◌, Bool, false, ◌||◌, ◌&&◌, ◌==◌, not, map, take, length, codes, bytes_eq, position, if◌then◌else◌, is_ok, Option, None, Some}
 use Rattle.std.specs.List.{list_any}
 use Rattle.std.specs.Result.{result_ok}
 use Rattle.access_levels.specs.Spelling.{id_of}

@@ -22,7 +22,7 @@ use Rattle.command_grammar.specs.declared.values.Reset.TheVariants as resets
 use Rattle.command_grammar.specs.declared.values.TheConstants.{RESETS}
 use Rattle.command_grammar.specs.declared.values.Scope.{Scope}
 use Rattle.command_grammar.specs.Results.{◌>>=◌, or_fault}
-use Rattle.command_grammar.specs.WordsOfValues.{clean, word_of, stray, held, unless_stray}
+use Rattle.command_grammar.specs.WordsOfValues.{word_of, stray, held, unless_stray}
 use Rattle.command_grammar.specs.ProfileNames.{dataset_named, class_profile, profile_text}
 use Rattle.command_grammar.specs.Audits.{audit_rule, audit_text}
 use Rattle.command_grammar.specs.Members.{member_form, added, dropped, member_text}

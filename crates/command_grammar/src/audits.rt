@@ -11,7 +11,7 @@ ghost use Rattle.command_grammar.specs.Audits.{audit_word_name, audit_word_of, m
 
 use crate::faults::Syntax;
 use crate::value::level_named;
-use crate::value_words::{clean, held, refused_at};
+use crate::value_words::{clean, held, refused_at, unless_stray};
 use access_levels::Level;
 use command_words::{Item, Quoting, Tokens, is_spelled};
 use racf_profiles::AuditRule;
@@ -112,10 +112,7 @@ fn audit_level(place: u32, inner: Tokens<'_>) -> Result<Level, Syntax>
 {
     let (place, word, stray) = held(Quoting::Ignored, place, inner)?;
     let level = audit_level_named(word).ok_or(Syntax::BadValue(place))?;
-    match stray {
-        Some(place) => Err(Syntax::BadValue(place)),
-        None => Ok(level),
-    }
+    unless_stray(stray, level)
 }
 
 // The word at `place`, where it can stand behind what was read.

@@ -17,7 +17,7 @@ ghost use Rattle.command_grammar.specs.Values.{whos as whos_in};
 use crate::faults::{ParseFault, Syntax};
 use crate::table::Kind;
 use crate::value::{id_named, names};
-use crate::value_words::{clean, held, refused_at, stray, word_of};
+use crate::value_words::{clean, held, refused_at, stray, unless_stray, word_of};
 use crate::values::{PORT_CLASSES, Whos};
 use access_levels::{Condition, Id, PortClass, Who};
 use command_words::{Item, Quoting, Tokens, is_spelled};
@@ -38,10 +38,7 @@ fn port_name(place: u32, inner: Tokens<'_>) -> Result<Id, Syntax>
 {
     let (place, word, stray) = held(Quoting::Ignored, place, inner)?;
     let name = id_named(word).ok_or(Syntax::BadValue(place))?;
-    match stray {
-        Some(place) => Err(Syntax::BadValue(place)),
-        None => Ok(name),
-    }
+    unless_stray(stray, name)
 }
 
 fn port_of(item: Item<'_>) -> Result<Condition, Syntax>
@@ -67,10 +64,7 @@ pub fn port(place: u32, inner: Tokens<'_>) -> Result<Condition, Syntax>
         return Err(Syntax::BadValue(place));
     };
     let condition = port_of(item)?;
-    match stray(Quoting::Ignored, &rest) {
-        Some(place) => Err(Syntax::BadValue(place)),
-        None => Ok(condition),
-    }
+    unless_stray(stray(Quoting::Ignored, &rest), condition)
 }
 
 // The users and groups of these names.

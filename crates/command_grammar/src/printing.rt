@@ -282,7 +282,8 @@ fn push_operands(
     Ok(())
 }
 
-/// The canonical text of a command.
+/// The canonical text of a command: its full name, its positional words, and its operands in the order of the table,
+/// each behind one blank. It may be longer than a command's text can be.
 #[tactic(auto, unfolding(crate::specs::Canon::canon))]
 pub fn printed(alloc: Global, parts: &Parts) -> Result<Vec<u8>, AllocError>
     ensures { IfOk result (λ text. text.items ≡ canon (generic parts.now)) }

@@ -14,7 +14,7 @@ use crate::operands::{named, operands};
 use crate::profile_names::{any_named, is_unclosed};
 use crate::table::{Kind, Operand, Position, VERBS, Verb};
 use crate::value::one;
-use crate::value_words::{clean, held};
+use crate::value_words::{clean, held, unless_stray};
 use crate::values::{Content, Context, Known, Scope};
 use crate::words::Word;
 use command_words::{Piece, Quoting, Tokens, is_spelled};
@@ -28,7 +28,9 @@ pub const LONGEST: usize = 30_000;
 #[derive(Drop)]
 pub struct Parts {
     pub verb: Verb,
+    /// One for each row of `verb.positions()`.
     pub positions: Vec<Content>,
+    /// One for each row of `verb.operands()`, empty where the operand wasn't given and has no default.
     pub slots: Vec<Option<Content>>,
 }
 
@@ -102,10 +104,7 @@ fn position<'a>(
 {
     let ((place, word, stray), rest) = placed(rows, wanted, text)?;
     let content = one(alloc, at, wanted.kind, place, word)?;
-    match stray {
-        Some(place) => Err(ParseFault::Syntax(Syntax::BadValue(place))),
-        None => Ok((content, rest)),
-    }
+    Ok((unless_stray(stray, content)?, rest))
 }
 
 // What is known behind a positional word.
@@ -179,10 +178,7 @@ fn late_word<'a>(rows: &[Operand], text: &Tokens<'a>) -> Result<(u32, &'a [u8], 
         kind: Kind::AnyProfile,
     };
     let ((place, word, stray), rest) = placed(rows, wanted, text)?;
-    match stray {
-        Some(place) => Err(Syntax::BadValue(place)),
-        None => Ok((place, word, rest)),
-    }
+    unless_stray(stray, (place, word, rest))
 }
 
 // The profile of the class that the operands name.
@@ -276,7 +272,12 @@ fn begun(at: &Context) -> Scope
     }
 }
 
-/// What the text spells, but for the length of its canonical text.
+/// What the text spells, whatever the length of its canonical text.
+///
+/// # Errors
+///
+/// `Syntax`, with the first fault: of the length, then from word to word, and then what the whole text is needed for
+/// (PERMIT's name, operands that lack, operands that exclude one another). `NoMemory` where there was no room for a value.
 #[tactic(auto, unfolding(crate::specs::Reading::parsed))]
 pub fn read(alloc: Global, at: &Context, text: &[u8]) -> Result<Parts, ParseFault>
     ensures { Gives generic result (parsed at.now text.now) }

@@ -17,7 +17,7 @@ use crate::faults::{ParseFault, Syntax};
 use crate::members::{added, dropped, member_form};
 use crate::profile_names::{class_profile, dataset_named};
 use crate::table::Kind;
-use crate::value_words::{held, word_of};
+use crate::value_words::{held, unless_stray, word_of};
 use crate::values::{Content, Ids, RESETS, Reset, Scope};
 use access_levels::{GroupAuthority, Id, Level, Text};
 use command_words::{Quoting, ShortWord, Tokens, is_spelled};
@@ -221,10 +221,7 @@ pub fn single(
 {
     let (place, word, stray) = held(quotes_of(kind), place, inner)?;
     let content = one(alloc, at, kind, place, word)?;
-    match stray {
-        Some(place) => Err(ParseFault::Syntax(Syntax::BadValue(place))),
-        None => Ok(content),
-    }
+    Ok(unless_stray(stray, content)?)
 }
 
 /// The names of a list.

@@ -5,7 +5,7 @@ ghost use Rattle.command_words.specs.Tokens.{tokens};
 ghost use Rattle.command_words.specs.Items.{items, IsItemInReach};
 ghost use Rattle.command_words.specs.Pieces.{seen_item};
 ghost use Rattle.command_grammar.specs.Results.{Finds};
-ghost use Rattle.command_grammar.specs.WordsOfValues.{clean, refused_at as refusal_of, word_of as word_in, stray as stray_in, held as held_in};
+ghost use Rattle.command_grammar.specs.WordsOfValues.{clean, refused_at as refusal_of, word_of as word_in, stray as stray_in, held as held_in, unless_stray as unless_stray_in};
 
 use crate::faults::Syntax;
 use command_words::{Item, Quoting, Tokens, faulty_at};
@@ -51,6 +51,16 @@ pub fn stray(quoting: Quoting, rest: &Tokens<'_>) -> Option<u32>
 {
     let (item, _) = rest.split_item()?;
     Some(refused_at(quoting, item))
+}
+
+/// The value, unless something stands behind its word: that is refused at its place.
+pub fn unless_stray<T: Drop>(stray: Option<u32>, value: T) -> Result<T, Syntax>
+    ensures { Finds (λ x. x) result (unless_stray_in stray value) }
+{
+    match stray {
+        Some(place) => Err(Syntax::BadValue(place)),
+        None => Ok(value),
+    }
 }
 
 /// The word of a value of one word: its place, its bytes, and the place of what stands behind it. Where there is no word

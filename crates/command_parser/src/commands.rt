@@ -90,7 +90,11 @@ fn parse_exact(alloc: Global, at: &Context, text: &[u8]) -> Result<Command, Pars
     })
 }
 
-/// The command that the text spells where `issuer` gives it, or the text's first fault.
+/// The command that the text spells where `issuer` gives it, whose ID stands in front of data set names without quotes.
+///
+/// # Errors
+///
+/// `Syntax`, with the text's first fault; `NoMemory` where there was no room for the command or its canonical text.
 pub fn parse(alloc: Global, issuer: Id, text: &[u8]) -> Result<Command, ParseFault>
     // What is read is spelled so.
     ensures found { IfOk result (Spells issuer text.now) }

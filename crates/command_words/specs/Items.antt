@@ -46,3 +46,9 @@ IsItemInReach (Bare p w) = p + length w < 2 ^ 30
 IsItemInReach (With p w t) = p + length w < 2 ^ 30
 IsItemInReach (Unbounded p w place) = p + length w < 2 ^ 30
 IsItemInReach (Odd p) = Unit {0}
+
+-- there is a list, and nothing in it
+abbrev pub is_nothing : Option (List ℕ) → Bool
+is_nothing None = false
+is_nothing (Some []) = true
+is_nothing (Some (b ∷ bs)) = false

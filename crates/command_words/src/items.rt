@@ -1,11 +1,11 @@
 //! A word together with the value behind it, and the tests of single words.
 
-ghost use Rattle.std.specs.Prelude.{◌≡◌, ◌+◌, ◌<◌, ◌^◌, [], ◌∷◌, length, map, MatchOption, IfSome, bytes_eq};
+ghost use Rattle.std.specs.Prelude.{◌≡◌, ◌+◌, ◌<◌, ◌^◌, [], ◌∷◌, length, map, MatchOption, IfSome, bytes_eq, is_some, nat_eq};
 ghost use Rattle.std.specs.List.{starts_with};
-ghost use Rattle.std.specs.Prelude.{nat_eq};
+ghost use Rattle.std.specs.Option.{option_copied};
 ghost use Rattle.command_words.specs.Bytes.{upper};
 ghost use Rattle.command_words.specs.Tokens.{tokens, Word};
-ghost use Rattle.command_words.specs.Items.{items, opens_value, faulty_at as first_faulty, IsItemInReach};
+ghost use Rattle.command_words.specs.Items.{items, opens_value, faulty_at as first_faulty, is_nothing, IsItemInReach};
 ghost use Rattle.command_words.specs.Pieces.{seen_item};
 
 use crate::bytes::{folded, is_faulty};
@@ -86,38 +86,36 @@ pub fn faulty_at(mut quoting: Quoting, mut place: u32, word: &[u8]) -> Option<u3
     None
 }
 
+/// What is left of the spelling behind the word, where the word, folded to upper case, begins it.
+fn left_of<'a>(word: &[u8], spelling: &'a [u8]) -> Option<&'a [u8]>
+    ensures begins { is_some result ≡ starts_with nat_eq spelling.now (map upper word.now) }
+    ensures whole { is_nothing (option_copied result) ≡ bytes_eq (map upper word.now) spelling.now }
+{
+    let (mut word, mut left) = (word, spelling);
+    while let Some((byte, more)) = word.split_first() {
+        let (letter, behind) = left.split_first()?;
+        if folded(*byte) != *letter {
+            return None;
+        }
+        word = more;
+        left = behind;
+    }
+    Some(left)
+}
+
 /// Whether the word, folded to upper case, is this spelling.
 pub fn is_spelled(word: &[u8], spelling: &[u8]) -> bool
     ensures { result ≡ bytes_eq (map upper word.now) spelling.now }
 {
-    let (mut word, mut spelling) = (word, spelling);
-    while let (Some((byte, left)), Some((letter, behind))) = (
-        word.split_first(),
-        spelling.split_first(),
-    ) {
-        if folded(*byte) != *letter {
-            return false;
-        }
-        word = left;
-        spelling = behind;
+    match left_of(word, spelling) {
+        Some(left) => left.is_empty(),
+        None => false,
     }
-    word.is_empty() && spelling.is_empty()
 }
 
 /// Whether the word, folded to upper case, begins this spelling.
 pub fn is_cut(word: &[u8], spelling: &[u8]) -> bool
     ensures { result ≡ starts_with nat_eq spelling.now (map upper word.now) }
 {
-    let (mut word, mut spelling) = (word, spelling);
-    while let (Some((byte, left)), Some((letter, behind))) = (
-        word.split_first(),
-        spelling.split_first(),
-    ) {
-        if folded(*byte) != *letter {
-            return false;
-        }
-        word = left;
-        spelling = behind;
-    }
-    word.is_empty()
+    left_of(word, spelling).is_some()
 }

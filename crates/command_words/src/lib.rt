@@ -2,14 +2,14 @@
 #![tactic(auto)]
 
 mod bytes;
+mod folded_word;
 mod items;
 mod quoting;
 mod scan;
-mod short_word;
 mod tokens;
 
-pub use bytes::folded;
+pub use bytes::{folded, is_blank};
+pub use folded_word::{FoldedWord, ShortWord};
 pub use items::{Item, faulty_at, is_cut, is_spelled};
 pub use quoting::Quoting;
-pub use short_word::ShortWord;
 pub use tokens::{Piece, Tokens};

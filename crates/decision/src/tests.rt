@@ -1,17 +1,20 @@
-//! Each case of the table once, and pairs of neighbours where both would fit, on images of a new database with one
-//! profile of a data set.
+//! Settings of each case of the table, and of pairs of neighbours where both would fit, on images of a new database with
+//! one profile of a data set.
 ghost use Rattle.std.specs.Prelude.{◌≡◌, Ok, IfOk};
 ghost use Rattle.generic_names.specs.Faults.{pattern_of};
 ghost use Rattle.generic_names.specs.declared.kind.NameKind.{NameKind};
 ghost use Rattle.group_tree.specs.Lawful.{IsTree};
 ghost use Rattle.class_profiles.specs.Lawful.{AreUsers, AreProfiles, AreClasses};
 
-use crate::{Request, Rule, auth, verify};
+mod table;
+mod verifying;
+
+use crate::{Request, Rule, auth};
 use access_levels::{
     Attributes, Categories, CondEntry, Condition, Entry, GroupAuthority, Id, Level, PortClass, Who,
 };
-use acee::{Acee, AceeGroups, VerifyFault, VerifyRequest};
-use generic_names::{NameKind, Pattern, Resource};
+use acee::{Acee, AceeGroups};
+use generic_names::{NameKind, Pattern};
 use group_tree::Tree;
 use racf_profiles::{
     AuditRule, ClassRows, CondEntries, Connect, Entries, Groups, Members, Profile, Profiles, Rows,
@@ -407,86 +410,12 @@ fn image(
     Ok(Image::of(alloc, &rows, 7)?)
 }
 
-fn ask(
-    alloc: Global,
-    image: &Image,
-    setting: &Setting,
-    class: &[u8],
-    name: Resource,
-) -> Result<(u8, u8, u8), Fail> {
-    let acee = joe(alloc, setting)?;
-    let request = Request::new(Id::read(class)?, name, setting.asked).ok_or("a request")?;
-    let decision = auth(image, &acee, &request);
-    Ok((
+// The number of the case that decides, its code and the rank that it found.
+fn answer(image: &Image, acee: &Acee, request: &Request) -> (u8, u8, u8) {
+    let decision = auth(image, acee, request);
+    (
         case_number(&decision.rule),
         decision.rc,
         decision.found.rank(),
-    ))
-}
-
-// The case, its code and the rank that it found, of SYS1.A or of another data set whose profile has its name.
-fn told(alloc: Global, name: &[u8], setting: &Setting) -> Result<(u8, u8, u8), Fail> {
-    let classes = classes(alloc, name, setting)?;
-    let image = image(alloc, classes, setting.grplist, false)?;
-    let resource = Resource::read(NameKind::DataSet, name)?;
-    ask(alloc, &image, setting, b"DATASET", resource)
-}
-
-#[test]
-fn without_a_profile(rt: HostRuntime) -> Result<(), Fail> {
-    let alloc = rt.alloc();
-    let x = Resource::read(NameKind::General, b"X.Y")?;
-    let own = Resource::read(NameKind::DataSet, b"JOE.A")?;
-    let open = image(alloc, new_classes(alloc)?, false, false)?;
-    let protected = image(alloc, new_classes(alloc)?, false, true)?;
-    assert_eq!(rt; ask(alloc, &open, &BASE, b"NOSUCH", x)?, (1, 4, 0));
-    assert_eq!(rt; ask(alloc, &open, &BASE, b"FACILITY", x)?, (2, 4, 0));
-    assert_eq!(rt; ask(alloc, &protected, &BASE, b"DATASET", own)?, (4, 8, 0));
-    assert_eq!(rt; ask(alloc, &open, &BASE, b"DATASET", own)?, (5, 4, 0));
-    Ok(())
-}
-
-// The access lists and the universal access, and what comes behind them.
-#[test]
-fn with_a_profile(rt: HostRuntime) -> Result<(), Fail> {
-    let alloc = rt.alloc();
-    for (setting, expected) in &ROWS {
-        assert_eq!(rt; told(alloc, b"SYS1.A", setting)?, *expected);
-    }
-    Ok(())
-}
-
-#[test]
-fn own_data(rt: HostRuntime) -> Result<(), Fail> {
-    let alloc = rt.alloc();
-    let setting = Setting { own: NONE, ..BASE };
-    assert_eq!(rt; told(alloc, b"JOE.A", &setting)?, (7, 0, 0));
-    Ok(())
-}
-
-// The return code of VERIFY for a user who names this group.
-fn verified(alloc: Global, image: &Image, user: &[u8], group: &[u8]) -> Result<u8, Fail> {
-    let request = VerifyRequest {
-        user: Id::read(user)?,
-        group: Some(Id::read(group)?),
-        port: Some(port()?),
-        application: Some(Id::read(b"APP")?),
-        label: None,
-    };
-    match verify(alloc, image, &request) {
-        Ok(_) => Ok(0),
-        Err(VerifyFault::NotDefined) => Ok(4),
-        Err(VerifyFault::NotConnected) => Ok(20),
-        Err(_) => Ok(99),
-    }
-}
-
-#[test]
-fn verifies(rt: HostRuntime) -> Result<(), Fail> {
-    let alloc = rt.alloc();
-    let image = image(alloc, new_classes(alloc)?, false, false)?;
-    assert_eq!(rt; verified(alloc, &image, b"IBMUSER", b"SYS1")?, 0);
-    assert_eq!(rt; verified(alloc, &image, b"IBMUSER", b"G2")?, 20);
-    assert_eq!(rt; verified(alloc, &image, b"JOE", b"SYS1")?, 4);
-    Ok(())
+    )
 }

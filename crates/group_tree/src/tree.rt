@@ -1,7 +1,8 @@
 //! The tree of groups.
 ghost use Rattle.access_levels.specs.Spelling.{id_of};
-ghost use Rattle.std.specs.Prelude.{◌≡◌, ℕ, ◌<◌, List, ◌∷◌, [], length, slice_get, Ok, Some, None, IfOk, IfErr};
+ghost use Rattle.std.specs.Prelude.{◌≡◌, ℕ, ◌+◌, ◌<◌, ◌≤◌, List, ◌∷◌, ◌++◌, [], length, slice_get, bytes_eq, Ok, Some, None, IfOk, IfErr, OnOk, OnErr};
 ghost use Rattle.std.specs.Option.{option_copied, option_map};
+ghost use Rattle.indexmap.specs.IndexMap.{get, spare, IsUnchanged};
 ghost use Rattle.racf_profiles.specs.NewDatabase.{sys1};
 ghost use Rattle.group_tree.specs.Groups.{find_group, first_subgroup};
 ghost use Rattle.group_tree.specs.Lawful.{IsTree, IsBelow};
@@ -54,10 +55,8 @@ impl Tree {
             owner: spelled(b"IBMUSER"),
         };
         let mut groups = IndexMap::new(alloc);
-        match groups.insert(root.id, root) {
-            Ok(_) => Ok(Tree { groups, spare: 0 }),
-            Err(_) => Err(TreeFault::NoMemory),
-        }
+        put_last(&mut groups, root)?;
+        Ok(Tree { groups, spare: 0 })
     }
 
     /// The tree of these groups, in their order.
@@ -72,9 +71,7 @@ impl Tree {
     {
         let mut kept = IndexMap::new(alloc);
         for group in groups {
-            let Ok(_) = kept.insert(group.id, *group) else {
-                return Err(TreeFault::NoMemory);
-            };
+            put_last(&mut kept, *group)?;
         }
         Ok(Tree {
             groups: kept,
@@ -116,6 +113,20 @@ impl Tree {
             }
         }
         None
+    }
+}
+
+// Puts a group that isn't there behind the others, under its name.
+fn put_last(groups: &mut IndexMap<Id, Group>, group: Group) -> Result<(), TreeFault>
+    requires { get bytes_eq groups.old group.id ≡ None }
+    ensures last { OnOk result (groups.new.entries ≡ groups.old.entries ++ (group.id, group) ∷ []) }
+    ensures spare { spare groups.old ≤ spare groups.new + 1 }
+    ensures refused { IfErr result (λ fault. (fault ≡ TreeFault.NoMemory) × (spare groups.old ≡ 0)) }
+    ensures kept { OnErr result (IsUnchanged groups.old groups.new) }
+{
+    match groups.insert(group.id, group) {
+        Ok(_) => Ok(()),
+        Err(_) => Err(TreeFault::NoMemory),
     }
 }
 

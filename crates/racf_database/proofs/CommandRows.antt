@@ -1,25 +1,18 @@
 -- Runs of commands, computed by the definitions: what each is refused for, and the rows in the end.
-use Rattle.std.proofs.Common.{◌≡◌, ℕ, Bool, true, false, List, [], ◌∷◌, ◌++◌, map, Option, None, Some, codes, refl, length}
+use Rattle.std.proofs.Common.{◌≡◌, ℕ, true, false, List, [], ◌∷◌, Option, None, Some, codes, refl}
 use Rattle.racf_profiles.specs.declared.rows.Rows.{Rows}
-use Rattle.racf_profiles.specs.declared.users.User.{User}
-use Rattle.racf_profiles.specs.declared.users.Connect.{Connect as Connection}
-use Rattle.racf_profiles.specs.NewDatabase.{new_rows, ibmuser}
-use Rattle.racf_profiles.specs.Edits.{changed}
-use Rattle.access_levels.specs.declared.authorities.GroupAuthority.{GroupAuthority}
-use Rattle.access_levels.specs.declared.authorities.GroupAuthority.TheVariants.{MayUse, MayConnect, MayJoin}
-use Rattle.racf_database.specs.declared.conflict.Conflict.{Conflict}
-use Rattle.racf_database.specs.declared.conflict.Conflict.TheVariants.{NoUser, NoGroup, NoClass, Exists, NotConnected, Root, InUse, Cycle, OwnerNotSuperior, DefaultGroup, LastSpecial, UnknownName, Full}
-use Rattle.racf_database.specs.declared.conflict.Named.TheVariants as named
-use Rattle.racf_database.specs.declared.conflict.Holder.TheVariants.{Subgroup, Connected}
+use Rattle.racf_profiles.specs.NewDatabase.{new_rows}
+use Rattle.command_conflicts.specs.declared.conflict.Conflict.{Conflict}
+use Rattle.command_conflicts.specs.declared.conflict.Conflict.TheVariants.{Root, InUse, Cycle, DefaultGroup}
+use Rattle.command_conflicts.specs.declared.conflict.Holder.TheVariants.{Subgroup, Connected}
 use Rattle.command_parser.specs.declared.commands.Issuer.{Issuer}
 use Rattle.command_parser.specs.declared.forms.AddUser.{AddUser}
 use Rattle.command_parser.specs.declared.forms.AltUser.{AltUser}
 use Rattle.command_parser.specs.declared.forms.Connect.{Connect}
 use Rattle.command_parser.specs.declared.forms.Form.{Form}
 use Rattle.command_parser.specs.declared.forms.Form.TheVariants as form
-use Rattle.racf_database.specs.Effects.{step}
-use Rattle.racf_database.specs.Edits.{edits_of}
-use Rattle.racf_database.specs.Conflicts.{conflict_of, no_user, no_owner, no_group, no_named_group, no_class, name_taken, not_connected, default_not_connected, has_subgroup, has_connected, has_profile, cycle, owner_not_superior, default_group, last_special, unknown_level, unknown_category, never_category, unknown_label, is_root, meets, users_full, groups_full, connections_full, user_full, add_user_conflicts, alt_user_conflicts, del_user_conflicts, add_group_conflicts, alt_group_conflicts, del_group_conflicts, connect_conflicts, remove_conflicts}
+use Rattle.command_effects.specs.Effects.{step}
+use Rattle.command_conflicts.specs.Conflicts.{conflict_of, no_user, no_owner, no_group, no_named_group, no_class, name_taken, not_connected, default_not_connected, has_subgroup, has_connected, has_profile, cycle, owner_not_superior, default_group, last_special, unknown_level, unknown_category, never_category, unknown_label, is_root, meets, users_full, groups_full, connections_full, user_full, add_user_conflicts, alt_user_conflicts, del_user_conflicts, add_group_conflicts, alt_group_conflicts, del_group_conflicts, connect_conflicts, remove_conflicts}
 
 abbrev start : Rows
 start = new_rows (λ _. true)

@@ -1,6 +1,6 @@
 -- The edits of a command on profiles that meets no conflict can be made without memory, once there is room for one more profile in
 -- its class.
-use Rattle.std.proofs.Common.{◌≡◌, ℕ, ◌+◌, ◌-◌, ◌<◌, ◌≤◌, Bool, true, false, cond, ◌||◌, not, List, [], ◌∷◌, ◌++◌, length, Option, None, Some, IsSome, is_some, codes, bytes_eq, refl, sym, ap, subst, ◌∙◌, true≢false, arith}
+use Rattle.std.proofs.Common.{◌≡◌, ℕ, ◌+◌, ◌-◌, ◌<◌, ◌≤◌, Bool, true, false, cond, ◌||◌, not, List, [], ◌∷◌, ◌++◌, length, Option, None, Some, IsSome, is_some, bytes_eq, refl, sym, ap, ◌∙◌, true≢false, arith}
 use Rattle.std.specs.Prelude.{find, sum_by, fold, filter}
 use Rattle.std.specs.Option.{option_map_or, option_and_then}
 use Rattle.std.proofs.lemmas.List.Sums.{length-filter, count_by-le-length}
@@ -17,8 +17,7 @@ use Rattle.racf_profiles.specs.declared.options.Options.{Options}
 use Rattle.racf_profiles.specs.declared.class_rows.ClassRow.{ClassRow}
 use Rattle.racf_profiles.specs.declared.edits.Edit.{Edit}
 use Rattle.racf_profiles.specs.declared.edits.Edit.TheVariants.{PutProfile}
-use Rattle.racf_profiles.specs.declared.rows.Rows.{Rows}
-use Rattle.racf_profiles.specs.Lookup.{class_of, profile_of, is_class, is_profile}
+use Rattle.racf_profiles.specs.Lookup.{is_class, is_profile}
 use Rattle.class_profiles.specs.Lawful.{AreClasses, kind_in}
 use Rattle.group_tree.specs.Groups.{GroupTree}
 use Rattle.group_tree.proofs.Rows.{some_of}
@@ -30,19 +29,19 @@ use Rattle.command_parser.specs.declared.profile_forms.AltSd.{AltSd}
 use Rattle.command_parser.specs.declared.profile_forms.RDefine.{RDefine}
 use Rattle.command_parser.specs.declared.profile_forms.RAlter.{RAlter}
 use Rattle.command_parser.specs.declared.profile_forms.Permit.{Permit}
-use Rattle.racf_database.specs.declared.conflict.Conflict.{Conflict}
-use Rattle.racf_database.specs.declared.conflict.Kind.TheVariants.{ClassProfiles, Profiles, AllEntries, Categories}
+use Rattle.command_conflicts.specs.declared.conflict.Conflict.{Conflict}
+use Rattle.command_conflicts.specs.declared.conflict.Kind.TheVariants.{ClassProfiles, Profiles, AllEntries, Categories}
 use Rattle.class_profiles.specs.Classes.{ClassList, CanPutIn, entries_in, profile_count, entry_count, room_in, profile_in}
-use Rattle.racf_database.specs.Members.{options_after}
-use Rattle.racf_database.specs.ProfileEffects.{dataset, new_data_set, altered_data_set, new_resource, altered_resource}
-use Rattle.racf_database.specs.PermitEffects.{standard_reset, conditional_reset, level_of, with_entry, with_conditional, standard_entries, conditional_entries, standard_after, conditional_after, permitted_profile}
-use Rattle.racf_database.specs.Edits.{put_changed, put_options, edits_of_add_sd, edits_of_alt_sd, edits_of_r_define, edits_of_r_alter, edits_of_permit}
-use Rattle.racf_database.specs.Contents.{rows_of}
-use Rattle.racf_database.specs.UserList.{UserList}
-use Rattle.racf_database.specs.Kept.{HasFewCategories, CanMake, CanFollow, CanApply, HasRoom}
-use Rattle.racf_database.specs.Required.{first_met, over}
-use Rattle.racf_database.specs.ProfileConflicts.{profiles_in, no_resource_class, class_profiles_full, profiles_full, entries_full, categories_full, add_sd_conflicts, r_define_conflicts, r_alter_conflicts, permit_conflicts}
-use Rattle.racf_database.proofs.Unmet.{each_unmet, unmet, or_false, within}
+use Rattle.command_effects.specs.Members.{options_after}
+use Rattle.command_effects.specs.ProfileEffects.{dataset, new_data_set, altered_data_set, new_resource, altered_resource}
+use Rattle.command_effects.specs.PermitEffects.{standard_reset, conditional_reset, level_of, with_entry, with_conditional, standard_entries, conditional_entries, standard_after, conditional_after, permitted_profile}
+use Rattle.command_effects.specs.Edits.{put_changed, put_options, edits_of_add_sd, edits_of_alt_sd, edits_of_r_define, edits_of_r_alter, edits_of_permit}
+use Rattle.row_tables.specs.Tables.{rows_of}
+use Rattle.row_tables.specs.UserList.{UserList}
+use Rattle.row_tables.specs.Applying.{HasFewCategories, CanApply, HasRoom}
+use Rattle.command_conflicts.specs.Required.{first_met, over}
+use Rattle.command_conflicts.specs.ProfileConflicts.{profiles_in, no_resource_class, class_profiles_full, profiles_full, entries_full, categories_full, add_sd_conflicts, r_define_conflicts, r_alter_conflicts, permit_conflicts}
+use Rattle.command_conflicts.proofs.Unmet.{each_unmet, unmet, or_false, within}
 use Rattle.racf_database.proofs.ProfileReady.{CountsAreEnough, FoundIsLawful, found-le, dataset-there, can_add, can_replace, class-of-profile}
 
 -- ---- PERMIT with DELETE makes no list longer

@@ -1,5 +1,5 @@
 -- When a profile can be put into a class without memory.
-use Rattle.std.proofs.Common.{◌≡◌, ℕ, ◌+◌, ◌<◌, ◌≤◌, Bool, true, false, cond, map, List, [], ◌∷◌, length, Option, None, Some, IsSome, is_some, codes, bytes_eq, refl, sym, ap, subst, ◌∙◌, arith}
+use Rattle.std.proofs.Common.{◌≡◌, ℕ, ◌+◌, ◌<◌, ◌≤◌, Bool, true, false, cond, List, [], ◌∷◌, length, Option, None, Some, IsSome, is_some, bytes_eq, refl, sym, ap, subst, ◌∙◌, arith}
 use Rattle.std.specs.Prelude.{find, sum_by}
 use Rattle.std.specs.List.{AllByRecursion}
 use Rattle.std.specs.Option.{option_map_or, option_and_then}
@@ -9,13 +9,12 @@ use Rattle.generic_names.specs.declared.kind.NameKind.{NameKind}
 use Rattle.generic_names.specs.Laws.{IsPattern}
 use Rattle.racf_profiles.specs.declared.profiles.Profile.{Profile}
 use Rattle.racf_profiles.specs.declared.class_rows.ClassRow.{ClassRow}
-use Rattle.racf_profiles.specs.ClassTable.{class_name, fixed_classes}
 use Rattle.racf_profiles.specs.Lookup.{is_class, is_profile}
 use Rattle.class_profiles.specs.Lawful.{AreProfiles, AreClasses, kind_in, most_profiles}
 use Rattle.class_profiles.specs.Classes.{ClassList, CanPutIn, IsRoomFor, entries_in, profile_count, entry_count, most_entries, room_in, profile_in}
 use Rattle.group_tree.proofs.Rows.{same, find-passes}
-use Rattle.racf_database.specs.ProfileEffects.{dataset}
-use Rattle.racf_database.proofs.AfterLaws.{is_some-find-map}
+use Rattle.command_effects.specs.ProfileEffects.{dataset}
+use Rattle.command_effects.proofs.AfterLaws.{is_some-find-map}
 
 -- what holds of all holds of what is found
 all-found : {X : Type 0} (P : X → Type 0) (it : X → Bool) (xs : List X) (x : X) → AllByRecursion P xs → find it xs ≡ Some x → P x

@@ -1,16 +1,14 @@
 -- Commands on profiles, computed by the definitions: what each is refused for, and what it makes.
-use Rattle.std.proofs.Common.{◌≡◌, ℕ, Bool, true, false, List, [], ◌∷◌, map, Option, None, Some, codes, refl, length}
+use Rattle.std.proofs.Common.{◌≡◌, ℕ, true, false, List, [], ◌∷◌, map, None, Some, codes, refl}
 use Rattle.access_levels.specs.declared.levels.Level.{Level}
 use Rattle.access_levels.specs.declared.levels.Level.TheVariants.{NoAccess, Read, Update, Alter}
 use Rattle.access_levels.specs.declared.entries.Who.{Who}
 use Rattle.access_levels.specs.declared.entries.Who.TheVariants.{Star, Named}
 use Rattle.access_levels.specs.declared.entries.Entry.{Entry}
-use Rattle.access_levels.specs.declared.entries.Condition.{Condition}
 use Rattle.access_levels.specs.declared.entries.PortClass.TheVariants.{Terminal}
 use Rattle.generic_names.specs.declared.kind.NameKind.TheVariants.{DataSet, General}
 use Rattle.generic_names.specs.Spelled.{Spelled}
 use Rattle.racf_profiles.specs.declared.profiles.Profile.{Profile}
-use Rattle.racf_profiles.specs.declared.profiles.AuditRule.{AuditRule}
 use Rattle.racf_profiles.specs.declared.profiles.Member.TheVariants as member
 use Rattle.racf_profiles.specs.declared.rows.Rows.{Rows}
 use Rattle.racf_profiles.specs.NewDatabase.{new_rows}
@@ -18,20 +16,18 @@ use Rattle.command_grammar.specs.declared.values.Reset.TheVariants as reset
 use Rattle.command_parser.specs.declared.commands.Issuer.{Issuer}
 use Rattle.command_parser.specs.declared.profile_forms.AddSd.{AddSd}
 use Rattle.command_parser.specs.declared.profile_forms.AltSd.{AltSd}
-use Rattle.command_parser.specs.declared.profile_forms.DelSd.{DelSd}
 use Rattle.command_parser.specs.declared.profile_forms.RDefine.{RDefine}
 use Rattle.command_parser.specs.declared.profile_forms.RAlter.{RAlter}
 use Rattle.command_parser.specs.declared.profile_forms.RDelete.{RDelete}
 use Rattle.command_parser.specs.declared.profile_forms.Permit.{Permit}
-use Rattle.racf_database.specs.declared.conflict.Conflict.{Conflict}
-use Rattle.racf_database.specs.declared.conflict.Conflict.TheVariants.{NoUser, NoProfile, NoClass, Exists, InUse, NotGeneric, UnknownName}
-use Rattle.racf_database.specs.declared.conflict.Named.TheVariants as named
-use Rattle.racf_database.specs.declared.conflict.Holder.TheVariants as holder
-use Rattle.racf_database.specs.ProfileEffects.{dataset, new_data_set, altered_data_set, after_add_sd, after_alt_sd, after_del_sd, after_r_define, after_r_alter, after_r_delete}
-use Rattle.racf_database.specs.PermitEffects.{permitted_profile, after_permit}
-use Rattle.racf_database.specs.Required.{first_met, no_owner, unknown_level, unknown_category, never_category, unknown_label}
-use Rattle.racf_database.specs.Conflicts.{has_profile}
-use Rattle.racf_database.specs.ProfileConflicts.{profiles_in, no_first_qualifier, no_permitted, no_such_class, no_resource_class, no_global_class, no_profile, profile_taken, not_generic, class_profiles_full, profiles_full, standard_full, conditional_full, entries_full, members_full, altered_members_full, categories_full, add_sd_conflicts, alt_sd_conflicts, del_sd_conflicts, r_define_conflicts, r_alter_conflicts, r_delete_conflicts, permit_conflicts}
+use Rattle.command_conflicts.specs.declared.conflict.Conflict.TheVariants.{NoUser, NoProfile, NoClass, Exists, InUse, NotGeneric, UnknownName}
+use Rattle.command_conflicts.specs.declared.conflict.Named.TheVariants as named
+use Rattle.command_conflicts.specs.declared.conflict.Holder.TheVariants as holder
+use Rattle.command_effects.specs.ProfileEffects.{dataset, new_data_set, altered_data_set, after_add_sd, after_r_define, after_r_alter}
+use Rattle.command_effects.specs.PermitEffects.{permitted_profile}
+use Rattle.command_conflicts.specs.Required.{first_met, no_owner, unknown_level, unknown_category, never_category, unknown_label}
+use Rattle.command_conflicts.specs.Conflicts.{has_profile}
+use Rattle.command_conflicts.specs.ProfileConflicts.{profiles_in, no_first_qualifier, no_permitted, no_such_class, no_resource_class, no_global_class, no_profile, profile_taken, not_generic, class_profiles_full, profiles_full, standard_full, conditional_full, entries_full, members_full, altered_members_full, categories_full, add_sd_conflicts, alt_sd_conflicts, r_define_conflicts, r_alter_conflicts, r_delete_conflicts, permit_conflicts}
 
 abbrev start : Rows
 start = new_rows (λ _. true)

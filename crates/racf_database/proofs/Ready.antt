@@ -1,52 +1,46 @@
 -- The edits of a command that meets no conflict can be made without memory, once there is room for one more user and one more
 -- group.
-use Rattle.std.proofs.Common.{◌≡◌, ◌≢◌, ℕ, ◌+◌, ◌<◌, ◌≤◌, Bool, true, false, cond, ◌&&◌, not, List, [], ◌∷◌, ◌++◌, length, Option, None, Some, IsSome, is_some, refl, sym, ap, subst, ◌∙◌, true≢false, arith, inl, inr, length-append}
-use Rattle.std.specs.Prelude.{find, sum_by, MatchOption, ◌⊎◌}
-use Rattle.std.proofs.lemmas.List.Sums.{sum_by-append}
+use Rattle.std.proofs.Common.{◌≡◌, ℕ, ◌<◌, ◌≤◌, Bool, true, false, cond, ◌&&◌, not, List, [], ◌∷◌, length, Option, None, Some, IsSome, is_some, refl, sym, ap, subst, ◌∙◌, true≢false, arith, inl, inr, length-append}
+use Rattle.std.specs.Prelude.{find, MatchOption, ◌⊎◌}
 use Rattle.racf_profiles.specs.declared.users.User.{User}
-use Rattle.racf_profiles.specs.declared.users.Connect.{Connect as Connection}
 use Rattle.racf_profiles.specs.declared.groups.Group.{Group}
 use Rattle.racf_profiles.specs.declared.options.Options.{Options}
-use Rattle.racf_profiles.specs.declared.rows.Rows.{Rows}
 use Rattle.class_profiles.specs.Classes.{ClassList, profile_count, entry_count}
-use Rattle.racf_profiles.specs.NewDatabase.{sys1}
-use Rattle.racf_profiles.specs.Lookup.{user_of, group_of, is_user, is_group}
-use Rattle.racf_profiles.specs.Edits.{put_row, drop_row}
+use Rattle.racf_profiles.specs.Lookup.{is_user}
 use Rattle.group_tree.specs.Groups.{GroupTree, find_group}
 use Rattle.group_tree.specs.Lawful.{IsTree}
-use Rattle.group_tree.specs.Answers.{CanAdd, CanMove, CanRemove}
-use Rattle.group_tree.proofs.Rows.{same, some_of, find-passes, id-find_group}
+use Rattle.group_tree.specs.Answers.{CanAdd, CanMove}
+use Rattle.group_tree.proofs.Rows.{id-find_group}
 use Rattle.group_tree.proofs.Edits.{one_there, both_there}
 use Rattle.command_parser.specs.declared.commands.Issuer.{Issuer}
 use Rattle.command_parser.specs.declared.forms.AddUser.{AddUser}
-use Rattle.command_parser.specs.declared.forms.AltUser.{AltUser}
 use Rattle.command_parser.specs.declared.forms.AddGroup.{AddGroup}
 use Rattle.command_parser.specs.declared.forms.AltGroup.{AltGroup}
 use Rattle.command_parser.specs.declared.forms.DelGroup.{DelGroup}
 use Rattle.command_parser.specs.declared.forms.Connect.{Connect}
-use Rattle.command_parser.specs.declared.forms.Remove.{Remove}
 use Rattle.command_parser.specs.declared.forms.Form.{Form}
 use Rattle.command_parser.specs.declared.forms.Form.TheVariants as form
-use Rattle.racf_database.specs.Names.{is_to, connections, connected_to}
-use Rattle.racf_database.specs.Contents.{rows_of}
-use Rattle.racf_database.specs.UserList.{UserList, CanPut}
-use Rattle.racf_database.specs.Kept.{CanAddGroup, CanMoveGroup, CanPutGroup, CanDropGroup, CanApply, HasRoom, is_of_kind, is_of_data_sets, fits_its_class}
+use Rattle.row_tables.specs.Names.{is_to, connections, connected_to}
+use Rattle.row_tables.specs.Tables.{rows_of}
+use Rattle.row_tables.specs.UserList.{UserList, CanPut}
+use Rattle.row_tables.specs.Applying.{CanAddGroup, CanMoveGroup, CanPutGroup, CanDropGroup, CanApply, HasRoom}
+use Rattle.racf_database.specs.Kept.{is_of_kind, is_of_data_sets, fits_its_class}
 use Rattle.generic_names.specs.declared.kind.NameKind.{NameKind}
 use Rattle.generic_names.specs.declared.kind.NameKind.TheVariants.{DataSet, General}
 use Rattle.generic_names.specs.Spelled.{Spelled}
 use Rattle.racf_database.proofs.ProfileReady.{CountsAreEnough, FoundIsLawful}
 use Rattle.class_profiles.specs.Lawful.{AreClasses}
 use Rattle.racf_database.proofs.ProfileCommands.{ready_add_sd, ready_alt_sd, ready_r_define, ready_r_alter, ready_permit}
-use Rattle.racf_database.specs.Effects.{at_row, step, new_user, altered_user, new_group, altered_group, connected_user, removed_user, group_or_current}
-use Rattle.racf_database.specs.Edits.{edits_of, put_user, put_group}
-use Rattle.racf_database.specs.declared.conflict.Conflict.TheVariants.{Root}
-use Rattle.racf_database.specs.declared.conflict.Kind.TheVariants.{Users, Groups, AllConnections}
+use Rattle.command_effects.specs.Effects.{at_row, new_user, altered_user, new_group, altered_group, connected_user, removed_user, group_or_current}
+use Rattle.command_effects.specs.Edits.{edits_of, put_user, put_group}
+use Rattle.command_conflicts.specs.declared.conflict.Conflict.TheVariants.{Root}
+use Rattle.command_conflicts.specs.declared.conflict.Kind.TheVariants.{Users, Groups, AllConnections}
 use Rattle.std.specs.Option.{option_or}
-use Rattle.racf_database.specs.Conflicts.{conflict_of, if_met, is_root, cycle, no_named_group, meets, users_full, groups_full, connections_full, add_user_conflicts, add_group_conflicts, alt_group_conflicts, del_group_conflicts, connect_conflicts}
-use Rattle.racf_database.proofs.RowLaws.{put_row-new, length-drop_row-le}
-use Rattle.racf_database.proofs.AfterLaws.{at_row-absent, sum-at_row}
-use Rattle.racf_database.proofs.Walks.{meets-within}
-use Rattle.racf_database.proofs.Unmet.{each_unmet, group_there, named_there, within, no_subgroup, no_root, no_root_moved, no_cycle, unmet}
+use Rattle.command_conflicts.specs.Conflicts.{conflict_of, if_met, is_root, cycle, no_named_group, meets, users_full, groups_full, connections_full, add_user_conflicts, add_group_conflicts, alt_group_conflicts, del_group_conflicts, connect_conflicts}
+use Rattle.row_tables.proofs.RowLaws.{put_row-new, length-drop_row-le}
+use Rattle.command_effects.proofs.AfterLaws.{at_row-absent, sum-at_row}
+use Rattle.command_conflicts.proofs.Walks.{meets-within}
+use Rattle.command_conflicts.proofs.Unmet.{each_unmet, group_there, named_there, within, no_subgroup, no_root, no_root_moved, no_cycle, unmet}
 use Rattle.racf_database.proofs.StepLaws.{put_user-at, add_user-free, add_group-free}
 
 of_data_sets : (name : Spelled) → is_of_data_sets name ≡ true → name.kind ≡ DataSet

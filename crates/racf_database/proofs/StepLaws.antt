@@ -1,5 +1,5 @@
 -- The edits of a command that meets no conflict make the rows that the command makes.
-use Rattle.std.proofs.Common.{◌≡◌, ℕ, List, [], ◌∷◌, ◌++◌, Option, None, Some, refl, sym, ap, ◌∙◌}
+use Rattle.std.proofs.Common.{◌≡◌, ℕ, List, Option, None, Some, refl, sym, ap, ◌∙◌}
 use Rattle.std.specs.Prelude.{find}
 use Rattle.racf_profiles.specs.declared.users.User.{User}
 use Rattle.racf_profiles.specs.declared.groups.Group.{Group}
@@ -12,15 +12,15 @@ use Rattle.command_parser.specs.declared.forms.AddUser.{AddUser}
 use Rattle.command_parser.specs.declared.forms.AddGroup.{AddGroup}
 use Rattle.command_parser.specs.declared.forms.Form.{Form}
 use Rattle.command_parser.specs.declared.forms.Form.TheVariants as form
-use Rattle.racf_database.specs.Effects.{at_row, step, new_user, altered_user, new_group, altered_group, connected_user, removed_user, group_or_current}
-use Rattle.racf_database.specs.Edits.{edits_of, put_user, put_group}
-use Rattle.racf_database.specs.Conflicts.{conflict_of, add_user_conflicts, add_group_conflicts}
-use Rattle.racf_database.specs.ProfileEffects.{dataset, altered_data_set}
-use Rattle.racf_database.specs.PermitEffects.{permitted_profile}
-use Rattle.racf_database.proofs.ProfileSteps.{changed-put_changed, changed-r_define, changed-r_alter}
-use Rattle.racf_database.proofs.RowLaws.{put_row-at_row, put_row-new}
-use Rattle.racf_database.proofs.AfterLaws.{at_row-absent}
-use Rattle.racf_database.proofs.Unmet.{each_unmet, name_free}
+use Rattle.command_effects.specs.Effects.{at_row, step, new_user, altered_user, new_group, altered_group, connected_user, removed_user}
+use Rattle.command_effects.specs.Edits.{edits_of, put_user, put_group}
+use Rattle.command_conflicts.specs.Conflicts.{conflict_of, add_user_conflicts, add_group_conflicts}
+use Rattle.command_effects.specs.ProfileEffects.{dataset, altered_data_set}
+use Rattle.command_effects.specs.PermitEffects.{permitted_profile}
+use Rattle.command_effects.proofs.ProfileSteps.{changed-put_changed, changed-r_define, changed-r_alter}
+use Rattle.row_tables.proofs.RowLaws.{put_row-at_row, put_row-new}
+use Rattle.command_effects.proofs.AfterLaws.{at_row-absent}
+use Rattle.command_conflicts.proofs.Unmet.{each_unmet, name_free}
 
 -- ---- a row that is there
 pub put_user-at : (change : User → User) → ((user : User) → (change user).id ≡ user.id) → (id : List ℕ) (users : List User) (user : User) → find (is_user id) users ≡ Some user

@@ -1,17 +1,3 @@
-pub mod Limits
-pub mod Names
-pub mod Security
-pub mod UserEffects
-pub mod Members
-pub mod ProfileEffects
-pub mod PermitEffects
-pub mod Effects
-pub mod Edits
-pub mod Required
-pub mod ProfileConflicts
-pub mod Conflicts
-pub mod UserList
-pub mod KeptUsers
 pub mod Contents
 pub mod Kept
 pub mod Covering

@@ -17,7 +17,7 @@ impl Database {
         requires { name.now.kind ≡ kind_in class }
         ensures { option_copied result ≡ covering_profile class name.now self.now.rows }
     {
-        match self.classes.class(class) {
+        match self.tables.classes().class(class) {
             None => None,
             Some(table) => best(table, name),
         }

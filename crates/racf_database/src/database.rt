@@ -1,19 +1,20 @@
 //! The database: its rows, by name, and the change that was prepared.
-ghost use Rattle.std.specs.Prelude.{◌≡◌, None, IfOk};
-ghost use Rattle.racf_profiles.specs.NewDatabase.{no_options};
+ghost use Rattle.std.specs.Prelude.{◌≡◌, None, Some, IfOk};
+ghost use Rattle.std.specs.Result.{result_err};
+ghost use Rattle.racf_profiles.specs.Edits.{changed};
 ghost use Rattle.group_tree.specs.Lawful.{IsTree};
 ghost use Rattle.class_profiles.specs.Lawful.{AreUsers, AreClasses};
-ghost use Rattle.racf_database.specs.Contents.{first_rows};
+ghost use Rattle.row_tables.specs.Tables.{first_rows};
+ghost use Rattle.command_conflicts.specs.Conflicts.{conflict_of};
 
-use crate::user_table::UserTable;
 use access_levels::Id;
-use class_profiles::ClassTables;
+use command_conflicts::{Conflict, check_command};
+use command_parser::{Command, Issuer};
 use generic_names::Pattern;
 use group_tree::Tree;
-use racf_profiles::{
-    CategoryNames, Change, Group, Groups, NoMemory, Options, Profile, Rows, User, View,
-};
-use std::alloc::{AllocError, Global};
+use racf_profiles::{Change, Group, NoMemory, Profile, Rows, User, View};
+use row_tables::RowTables;
+use std::alloc::Global;
 use std::marker::Model;
 
 /// The users, groups, connections and profiles of a database. Users and groups are found by name in one look-up, whatever
@@ -23,10 +24,7 @@ use std::marker::Model;
 /// A command is judged by `check`, then `prepare` takes all memory and answers its edits, and `apply` makes them.
 #[derive(Drop)]
 pub struct Database {
-    pub(crate) users: UserTable,
-    pub(crate) tree: Tree,
-    pub(crate) classes: ClassTables,
-    pub(crate) options: Options,
+    pub(crate) tables: RowTables,
     pub(crate) prepared: Option<Change>,
 }
 
@@ -48,24 +46,44 @@ impl Database {
         ensures rows { IfOk result (λ database. database.rows ≡ first_rows) }
         ensures nothing_prepared { IfOk result (λ database. database.prepared ≡ None) }
     {
-        let users = first_users(alloc)?;
-        let tree = first_tree(alloc)?;
-        let classes = ClassTables::all_active(alloc)?;
-        let options = first_options(alloc);
+        let tables = RowTables::new(alloc)?;
         Ok(Database {
-            users,
-            tree,
-            classes,
-            options,
+            tables,
             prepared: None,
         })
+    }
+
+    /// Whether the rows allow the command. It takes no memory. A command takes a look-up for each name in it. DELGROUP also
+    /// looks at every group, where a user may be connected at every user, and where a data set profile may have its name, as
+    /// DELUSER does, at every data set profile. PERMIT compares each ID with those before it and with the entries of the list,
+    /// and ADDMEM each member with those before it and with the others.
+    ///
+    /// # Errors
+    ///
+    /// The first conflict that is met, by the order of the kinds and then of the operands in the canonical text.
+    pub fn check(&self, issuer: &Issuer, command: &Command) -> Result<(), Conflict>
+        ensures { result_err result ≡ conflict_of issuer.now command.now self.now.rows }
+    {
+        check_command(&self.tables, issuer, command)
+    }
+
+    /// Makes the change that was prepared last. It takes no memory. A user or a group that goes takes time that grows with
+    /// the users or the groups, and a profile that comes or goes moves those behind it in its class; any other row that is
+    /// put takes a look-up.
+    pub fn apply(&mut self, change: Change)
+        requires { self.old.prepared ≡ Some change }
+        ensures rows { self.new.rows ≡ changed change.edits self.old.rows }
+        ensures nothing_prepared { self.new.prepared ≡ None }
+    {
+        self.prepared = None;
+        self.tables.apply(change.edits.items);
     }
 
     /// The tree of its groups.
     pub fn tree(&self) -> &Tree
         ensures { result.now.groups ≡ self.now.rows.groups }
     {
-        &self.tree
+        self.tables.tree()
     }
 
     /// All rows, copied.
@@ -75,19 +93,7 @@ impl Database {
         ensures groups { IsTree self.now.rows.groups }
         ensures classes { AreClasses self.now.rows.classes }
     {
-        let _users = self.users.len();
-        let _groups = self.tree.len();
-        let _profiles = self.classes.count();
-        let users = self.users.rows(alloc)?;
-        let groups = group_rows(alloc, &self.tree)?;
-        let classes = self.classes.rows(alloc)?;
-        let options = self.options.copy(alloc)?;
-        Ok(Rows {
-            users,
-            groups,
-            classes,
-            options,
-        })
+        self.tables.to_rows(alloc)
     }
 }
 
@@ -95,65 +101,14 @@ impl View for Database {
     ghost rows = { λ database. database.rows };
 
     fn user(&self, id: Id) -> Option<&User> {
-        self.users.get(id)
+        self.tables.user(id)
     }
 
     fn group(&self, id: Id) -> Option<&Group> {
-        self.tree.get(id)
+        self.tables.group(id)
     }
 
     fn profile(&self, class: Id, name: &Pattern) -> Option<&Profile> {
-        self.classes.profile(class, name)
-    }
-}
-
-// The groups, copied.
-fn group_rows(alloc: Global, tree: &Tree) -> Result<Groups, NoMemory>
-    ensures { IfOk result (λ groups. groups ≡ tree.now.groups) }
-{
-    let mut items = Vec::new(alloc);
-    for place in 0..tree.len() {
-        let group = tree.at(place);
-        let _superior: Option<Id> = group.superior;
-        items.push(*group)?;
-    }
-    Ok(Groups { items })
-}
-
-// The users of a new database.
-fn first_users(alloc: Global) -> Result<UserTable, NoMemory>
-    ensures { IfOk result (λ table. table.users ≡ first_rows.users) }
-{
-    let rows = Rows::new_database(alloc)?;
-    let mut items = rows.users.items;
-    let mut table = UserTable::new(alloc);
-    if let Some(user) = items.pop() {
-        table.reserve()?;
-        table.put(user);
-    }
-    Ok(table)
-}
-
-// The tree of a new database.
-fn first_tree(alloc: Global) -> Result<Tree, NoMemory>
-    ensures { IfOk result (λ tree. tree.groups ≡ first_rows.groups) }
-{
-    match Tree::new(alloc) {
-        Ok(tree) => Ok(tree),
-        Err(_) => Err(AllocError),
-    }
-}
-
-// The options of a new database.
-fn first_options(alloc: Global) -> Options
-    ensures { result ≡ no_options }
-{
-    Options {
-        grplist: false,
-        protectall: false,
-        mls: false,
-        categories: CategoryNames {
-            items: Vec::new(alloc),
-        },
+        self.tables.profile(class, name)
     }
 }

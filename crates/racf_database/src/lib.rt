@@ -1,20 +1,13 @@
 //! The database of users, groups, connections and profiles: what a command conflicts with, and one step of the rows.
 #![tactic(auto)]
 
-mod apply;
-mod check;
-mod conflict;
 mod covering;
 mod database;
-mod edits;
-mod limits;
-mod made;
 mod prepare;
-mod user_table;
 
-pub use conflict::{Conflict, Holder, Kind, Named};
+pub use command_conflicts::{Conflict, Holder, Kind, Named};
 pub use database::Database;
-pub use limits::{
+pub use row_tables::{
     MOST_CATEGORIES, MOST_CONNECTIONS, MOST_CONNECTIONS_IN_ALL, MOST_GROUPS, MOST_MEMBERS,
     MOST_USERS,
 };

@@ -1,17 +1,16 @@
 //! Taking all memory that a command needs, and what it makes of the rows.
 ghost use Rattle.std.specs.Prelude.{◌≡◌, None, Some, IfOk, OnOk, OnErr};
 ghost use Rattle.racf_profiles.specs.Edits.{changed};
-ghost use Rattle.racf_database.specs.Effects.{step};
-ghost use Rattle.racf_database.specs.Edits.{edits_of};
-ghost use Rattle.racf_database.specs.Kept.{HasRoom, fits_its_class, is_of_data_sets};
-ghost use Rattle.racf_database.specs.Conflicts.{conflict_of};
+ghost use Rattle.command_effects.specs.Effects.{step};
+ghost use Rattle.command_effects.specs.Edits.{edits_of};
+ghost use Rattle.racf_database.specs.Kept.{fits_its_class, is_of_data_sets};
+ghost use Rattle.command_conflicts.specs.Conflicts.{conflict_of};
 
 use crate::database::Database;
-use crate::edits::copies;
-use class_profiles::ClassTables;
+use command_effects::{copies, edits_of};
 use command_parser::{Command, Form, Issuer};
 use generic_names::{NameKind, Pattern};
-use racf_profiles::{Change, Edit, Edits, NoMemory};
+use racf_profiles::{Change, Edits, NoMemory};
 use std::alloc::{AllocError, Global};
 
 impl Database {
@@ -39,17 +38,11 @@ impl Database {
         if !fits_its_class(command.form()) {
             return Err(AllocError);
         }
-        let edits = self.edits(alloc, issuer, command)?;
+        let edits = edits_of(alloc, &self.tables, issuer, command)?;
         let kept = copies(alloc, edits.as_slice())?;
-        self.users.reserve()?;
-        let Ok(()) = self.tree.reserve() else {
-            return Err(AllocError);
-        };
-        reserve_profile(&mut self.classes, edits.as_slice())?;
-        // What holds of every tree, and of all classes, is what the next change rests on.
-        let _groups = self.tree.len();
-        let _profiles = self.classes.count();
-        let _entries = self.classes.entries();
+        self.tables.reserve(edits.as_slice())?;
+        // What holds of all rows is what the next change rests on.
+        self.tables.are_lawful();
         class_profiles::laws::counts_are_enough();
         class_profiles::laws::found_is_lawful();
         self.prepared = Some(Change {
@@ -79,16 +72,5 @@ fn is_of_data_sets(name: &Pattern) -> bool
     match name.kind() {
         NameKind::DataSet => true,
         NameKind::General => false,
-    }
-}
-
-// Makes room for the profile that the first edit puts.
-fn reserve_profile(classes: &mut ClassTables, edits: &[Edit]) -> Result<(), NoMemory>
-    ensures classes { classes.new.classes ≡ classes.old.classes }
-    ensures room { OnOk result (HasRoom classes.new edits.now) }
-{
-    match edits.first() {
-        Some(Edit::PutProfile(class, _)) => classes.reserve(*class),
-        _ => Ok(()),
     }
 }

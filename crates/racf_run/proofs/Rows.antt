@@ -10,9 +10,9 @@ use Rattle.command_grammar.specs.Reading.{parsed}
 use Rattle.command_parser.specs.Fields.{front, behind}
 use Rattle.command_parser.specs.FormOf.{form_of}
 use Rattle.command_words.specs.Tokens.{tokens}
-use Rattle.racf_database.specs.Conflicts.{is_root, has_subgroup, has_connected, has_profile, meets, cycle, owner_not_superior, default_group, last_special, users_full, groups_full, connections_full, user_full, add_user_conflicts, alt_user_conflicts, del_user_conflicts, add_group_conflicts, alt_group_conflicts, del_group_conflicts, connect_conflicts, remove_conflicts}
-use Rattle.racf_database.specs.ProfileConflicts.{no_first_qualifier, no_permitted, no_such_class, no_resource_class, no_global_class, no_profile, profile_taken, not_generic, class_profiles_full, profiles_full, standard_full, conditional_full, entries_full, members_full, altered_members_full, categories_full, add_sd_conflicts, alt_sd_conflicts, del_sd_conflicts, r_define_conflicts, r_alter_conflicts, r_delete_conflicts, permit_conflicts}
-use Rattle.racf_database.specs.Required.{no_user, no_group, no_owner, no_named_group, no_class, name_taken, not_connected, default_not_connected, unknown_level, unknown_category, never_category, unknown_label}
+use Rattle.command_conflicts.specs.Conflicts.{is_root, has_subgroup, has_connected, has_profile, meets, cycle, owner_not_superior, default_group, last_special, users_full, groups_full, connections_full, user_full, add_user_conflicts, alt_user_conflicts, del_user_conflicts, add_group_conflicts, alt_group_conflicts, del_group_conflicts, connect_conflicts, remove_conflicts}
+use Rattle.command_conflicts.specs.ProfileConflicts.{no_first_qualifier, no_permitted, no_such_class, no_resource_class, no_global_class, no_profile, profile_taken, not_generic, class_profiles_full, profiles_full, standard_full, conditional_full, entries_full, members_full, altered_members_full, categories_full, add_sd_conflicts, alt_sd_conflicts, del_sd_conflicts, r_define_conflicts, r_alter_conflicts, r_delete_conflicts, permit_conflicts}
+use Rattle.command_conflicts.specs.Required.{no_user, no_group, no_owner, no_named_group, no_class, name_taken, not_connected, default_not_connected, unknown_level, unknown_category, never_category, unknown_label}
 use Rattle.racf_run.specs.Commands.{is_other_command, read_command}
 use Rattle.racf_run.specs.Items.{request_of, is_request}
 use Rattle.racf_run.specs.Replies.{reply_line}

@@ -10,8 +10,8 @@ use Rattle.command_parser.specs.declared.forms.Form.{Form}
 use Rattle.command_parser.specs.Forms.{fault}
 use Rattle.command_parser.specs.FormOf.{command_in}
 use Rattle.racf_profiles.specs.declared.rows.Rows.{Rows}
-use Rattle.racf_database.specs.declared.conflict.Conflict.{Conflict}
-use Rattle.racf_database.specs.Conflicts.{conflict_of}
+use Rattle.command_conflicts.specs.declared.conflict.Conflict.{Conflict}
+use Rattle.command_conflicts.specs.Conflicts.{conflict_of}
 use Rattle.racf_run.specs.declared.reply.Refusal.{Refusal}
 use Rattle.racf_run.specs.declared.reply.Refusal.TheVariants as refusal
 use Rattle.racf_run.specs.Unbuilt.{is_unbuilt}

@@ -5,14 +5,14 @@ use Rattle.racf_run.specs.declared.reply.Refusal.TheVariants as refusal
 use Rattle.command_grammar.specs.declared.faults.Syntax.{Syntax}
 use Rattle.command_grammar.specs.declared.faults.Syntax.TheVariants as syntax
 use Rattle.command_grammar.specs.Words.{spelling_of}
-use Rattle.racf_database.specs.declared.conflict.Conflict.{Conflict}
-use Rattle.racf_database.specs.declared.conflict.Conflict.TheVariants as conflict
-use Rattle.racf_database.specs.declared.conflict.Named.{Named}
-use Rattle.racf_database.specs.declared.conflict.Named.TheVariants as named
-use Rattle.racf_database.specs.declared.conflict.Holder.{Holder}
-use Rattle.racf_database.specs.declared.conflict.Holder.TheVariants as holder
-use Rattle.racf_database.specs.declared.conflict.Kind.{Kind}
-use Rattle.racf_database.specs.declared.conflict.Kind.TheVariants as kind
+use Rattle.command_conflicts.specs.declared.conflict.Conflict.{Conflict}
+use Rattle.command_conflicts.specs.declared.conflict.Conflict.TheVariants as conflict
+use Rattle.command_conflicts.specs.declared.conflict.Named.{Named}
+use Rattle.command_conflicts.specs.declared.conflict.Named.TheVariants as named
+use Rattle.command_conflicts.specs.declared.conflict.Holder.{Holder}
+use Rattle.command_conflicts.specs.declared.conflict.Holder.TheVariants as holder
+use Rattle.command_conflicts.specs.declared.conflict.Kind.{Kind}
+use Rattle.command_conflicts.specs.declared.conflict.Kind.TheVariants as kind
 use Rattle.racf_run.specs.declared.reply.Reply.{Reply}
 use Rattle.racf_run.specs.declared.reply.Reply.TheVariants.{Accepted, Refused}
 

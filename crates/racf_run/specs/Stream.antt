@@ -8,8 +8,8 @@ use Rattle.racf_run.specs.declared.reply.Reply.TheVariants.{Accepted, Refused}
 use Rattle.command_parser.specs.declared.forms.Form.{Form}
 use Rattle.racf_profiles.specs.declared.rows.Rows.{Rows}
 use Rattle.racf_profiles.specs.State.{restart}
-use Rattle.racf_database.specs.Contents.{first_rows}
-use Rattle.racf_database.specs.Effects
+use Rattle.row_tables.specs.Tables.{first_rows}
+use Rattle.command_effects.specs.Effects
 use Rattle.raclist_image.specs.Imaged.{Imaged}
 use Rattle.request_files.specs.declared.acees.NamedAcee.{NamedAcee}
 use Rattle.request_files.specs.declared.line.LineRefusal.{LineRefusal}

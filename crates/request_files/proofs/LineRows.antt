@@ -1,13 +1,12 @@
 -- Worked rows: what lines ask for, and the places of what doesn't fit.
-use Rattle.std.proofs.Common.{◌≡◌, ◌∷◌, [], List, ℕ, refl, codes, Ok, Err, Some, None, Result}
+use Rattle.std.proofs.Common.{◌≡◌, refl, codes, Ok, Err, Some, None}
 use Rattle.access_levels.specs.declared.levels.Level.TheVariants.{Read as ReadLevel, Update}
 use Rattle.access_levels.specs.declared.entries.PortClass.TheVariants.{Terminal}
 use Rattle.generic_names.specs.declared.kind.NameKind.TheVariants.{DataSet, General}
 use Rattle.generic_names.specs.declared.fault.NameFault.TheVariants.{EmptyQualifier}
-use Rattle.request_files.specs.declared.line.LineRefusal.{LineRefusal}
 use Rattle.request_files.specs.declared.line.LineRefusal.TheVariants.{BadLine, BadName}
 use Rattle.request_files.specs.Words.{words_at}
-use Rattle.request_files.specs.Grammar.{Line, Verify, Auth, Fastauth, Delete, After, Skip, next, deleted, number_after, asked_by, verified_by, requested, read}
+use Rattle.request_files.specs.Grammar.{Verify, Auth, Fastauth, Delete, After, Skip, next, deleted, number_after, asked_by, verified_by, requested, read}
 
 -- lines that ask for nothing
 

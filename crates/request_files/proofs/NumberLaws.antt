@@ -1,5 +1,5 @@
 -- Numbers grow with their digits.
-use Rattle.std.proofs.Common.{◌≡◌, ℕ, ◌+◌, ◌-◌, ◌*◌, ◌<◌, ◌≤◌, ◌^◌, List, [], ◌∷◌, length, arith}
+use Rattle.std.proofs.Common.{ℕ, ◌+◌, ◌-◌, ◌*◌, ◌<◌, ◌≤◌, ◌^◌, List, [], ◌∷◌, length, arith}
 use Rattle.request_files.specs.Spellings.{number_behind}
 
 pub number_behind-grows : (digits : List ℕ) (number : ℕ) → number ≤ number_behind number digits

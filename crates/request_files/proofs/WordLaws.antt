@@ -1,10 +1,10 @@
 -- How a line is taken apart, word by word.
-use Rattle.std.proofs.Common.{◌≡◌, ℕ, suc, zero, ◌+◌, ◌<◌, ◌≤◌, Bool, true, false, not, cond, List, [], ◌∷◌, length, take, drop, filter, refl, ap, sym, subst, ◌∙◌, arith, add-zero}
+use Rattle.std.proofs.Common.{◌≡◌, ℕ, suc, ◌+◌, ◌<◌, Bool, true, false, not, cond, List, [], ◌∷◌, length, take, drop, filter, refl, ap, sym, subst, ◌∙◌, arith, add-zero}
 use Rattle.std.specs.List.{onto_first, slice_split, prefix_len}
 use Rattle.std.proofs.lemmas.Bool.Decides.{nat_tests}
 use Rattle.std.specs.Prelude.{nat_lt, ◌==◌}
 use Rattle.command_words.specs.Bytes.{is_blank_byte}
-use Rattle.request_files.specs.Words.{Word, words_at, placed, is_word}
+use Rattle.request_files.specs.Words.{words_at, placed, is_word}
 use Rattle.request_files.specs.Taking.{BeginsWithNoBlank}
 
 abbrev pub stays : ℕ → Bool

@@ -1,8 +1,8 @@
 -- Worked rows: words with their places, and what single words say.
-use Rattle.std.proofs.Common.{◌≡◌, List, [], ◌∷◌, refl, codes, Some, None}
+use Rattle.std.proofs.Common.{◌≡◌, [], ◌∷◌, refl, codes, Some, None}
 use Rattle.access_levels.specs.declared.levels.Level.TheVariants.{Update}
 use Rattle.access_levels.specs.declared.entries.PortClass.TheVariants.{Terminal}
-use Rattle.request_files.specs.Words.{Word, words_at, unread_at}
+use Rattle.request_files.specs.Words.{words_at, unread_at}
 use Rattle.request_files.specs.Spellings.{id_word, group_word, level_word, number_word, operand_word}
 use Rattle.request_files.specs.declared.operands.Operand.TheVariants as operand
 

@@ -1,5 +1,5 @@
 -- What a line asks for, by its words.
-use Rattle.std.specs.Prelude.{ℕ, ◌+◌, nat_lt, nat_eq, if◌then◌else◌, List, [], ◌∷◌, length, Option, Some, None, is_none, Result, Ok, Err, option_and_then, codes, bytes_eq}
+use Rattle.std.specs.Prelude.{ℕ, nat_lt, nat_eq, if◌then◌else◌, List, [], ◌∷◌, length, Option, Some, None, is_none, Result, Ok, Err, option_and_then, codes, bytes_eq}
 use Rattle.std.specs.List.{starts_with}
 use Rattle.access_levels.specs.declared.levels.Level.{Level}
 use Rattle.generic_names.specs.Spelled.{Spelled}

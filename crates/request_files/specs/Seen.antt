@@ -1,5 +1,5 @@
 -- What the code reads, as what its words say.
-use Rattle.std.specs.Prelude.{ℕ, Result, Ok, Err}
+use Rattle.std.specs.Prelude.{ℕ, Result}
 use Rattle.std.specs.Result.{result_map_both}
 use Rattle.generic_names.specs.declared.fault.NameFault.{NameFault}
 use Rattle.decision.specs.declared.request.Request.{Request}

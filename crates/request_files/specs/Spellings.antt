@@ -6,7 +6,6 @@ use Rattle.std.specs.Io.BufRead.{ends_with_byte}
 use Rattle.access_levels.specs.Spelling.{id_of, group_of, level_of}
 use Rattle.access_levels.specs.Level.{port_class_name}
 use Rattle.access_levels.specs.declared.levels.Level.{Level}
-use Rattle.access_levels.specs.declared.entries.Condition.{Condition}
 use Rattle.access_levels.specs.declared.entries.PortClass.{PortClass}
 use Rattle.access_levels.specs.declared.entries.PortClass.TheVariants.{Terminal, Console, Jesinput, Appcport}
 use Rattle.command_words.specs.Bytes.{upper}

@@ -4,7 +4,6 @@
 mod acees;
 mod answers;
 mod line;
-mod long_word;
 mod next_words;
 mod numbers;
 mod operands;

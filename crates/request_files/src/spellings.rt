@@ -6,10 +6,12 @@ ghost use Rattle.generic_names.specs.Faults.{resource_of};
 ghost use Rattle.decision.specs.Asked.{may_be_asked};
 ghost use Rattle.request_files.specs.Spellings.{folded, id_word, group_word, level_word};
 
-use crate::long_word::LongWord;
 use access_levels::{Id, Level};
-use command_words::ShortWord;
+use command_words::{FoldedWord, ShortWord};
 use generic_names::{NameFault, NameKind, Resource};
+
+/// A word of at most 246 bytes, as the names of resources are.
+type LongWord = FoldedWord<246>;
 
 /// The ID that a word spells: the name of an ACEE, of a user or of a class.
 pub(crate) fn id_word(word: &[u8]) -> Option<Id>

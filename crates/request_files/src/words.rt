@@ -6,6 +6,7 @@ ghost use Rattle.command_words.specs.Bytes.{is_blank_byte};
 ghost use Rattle.request_files.specs.Words.{words_at, unread_at};
 ghost use Rattle.request_files.specs.Taking.{BeginsWithNoBlank, IsFirstWord};
 
+use command_words::is_blank;
 use std::marker::Model;
 
 /// A word of a line.
@@ -63,13 +64,6 @@ impl<'a> Words<'a> {
     {
         self.place + self.bytes.len() as u32
     }
-}
-
-/// A blank or a tab.
-fn is_blank(byte: u8) -> bool
-    ensures { result ≡ is_blank_byte byte }
-{
-    byte == b' ' || byte == b'\t'
 }
 
 /// The bytes without the blanks and tabs in front, and their place.

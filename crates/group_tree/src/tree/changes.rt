@@ -6,7 +6,7 @@ ghost use Rattle.racf_profiles.specs.NewDatabase.{sys1};
 ghost use Rattle.group_tree.specs.Groups.{find_group, with_group, at_group, with_superior, with_owner};
 ghost use Rattle.group_tree.specs.Answers.{CanAdd, AddRefused, CanMove, MoveRefused, OwnerRefused, CanRemove, RemoveRefused};
 
-use super::{MOST_GROUPS, Tree};
+use super::{MOST_GROUPS, Tree, put_last};
 use crate::faults::TreeFault;
 use access_levels::Id;
 use racf_profiles::Group;
@@ -39,13 +39,9 @@ impl Tree {
             superior: Some(superior),
             owner,
         };
-        match self.groups.insert(group, row) {
-            Ok(_) => {
-                self.spare = self.spare.saturating_sub(1);
-                Ok(())
-            }
-            Err(_) => Err(TreeFault::NoMemory),
-        }
+        put_last(&mut self.groups, row)?;
+        self.spare = self.spare.saturating_sub(1);
+        Ok(())
     }
 
     /// Puts a group below another superior group, with all that is below it. It takes no memory. SYS1 has no superior

@@ -1,4 +1,4 @@
-use Rattle.std.proofs.Common.{◌≡◌, ℕ, ◌+◌, ◌-◌, ◌<◌, List, length, get_or, drop, None, arith}
+use Rattle.std.proofs.Common.{◌≡◌, ℕ, ◌+◌, ◌-◌, ◌<◌, length, drop, None, arith}
 use Rattle.command_grammar.specs.Members.{parted as parts_of}
 use Rattle.command_grammar.proofs.MemberParts.{parted-at}
 use Rattle.command_grammar.proofs.members.parted.Goals as goal

@@ -1,4 +1,4 @@
-use Rattle.std.proofs.Common.{◌≡◌, arith}
+use Rattle.std.proofs.Common.{arith}
 use Rattle.std.proofs.lemmas.Grind.{common_steps}
 use Rattle.request_files.proofs.WordLaws.{words_at-blank}
 use Rattle.request_files.proofs.words.past_blanks.Goals as goal

@@ -1,28 +1,31 @@
-use Rattle.std.proofs.Common.{◌≡◌, ◌<◌, ◌∙◌, ◌++◌, ◌∷◌, [], List, length, take, map, None, ap, sym, subst, bytes_eq, arith}
+use Rattle.std.proofs.Common.{◌≡◌, ◌∙◌, ◌++◌, ◌∷◌, [], List, take, map, None, ap, sym, subst, bytes_eq, arith}
 use Rattle.std.specs.Map.{lookup, keys_of, values_of}
 use Rattle.std.proofs.lemmas.List.{map_more, take_all}
 use Rattle.racf_profiles.specs.declared.groups.Group.{Group}
-use Rattle.indexmap.specs.IndexMap.{get}
-use Rattle.indexmap.proofs.CallerLemmas.{insert_entry-new}
 use Rattle.group_tree.specs.Lawful.{IsTree}
 use Rattle.group_tree.proofs.Listed.{entry_of, values-listed, keys-listed, next_absent}
 use Rattle.group_tree.proofs.tree.Tree.of.Goals as goal
 
--- the next name is new, so its group goes last
+-- the next name is new
+pub put_last-requires : goal.put_last-requires
+put_last-requires c =
+    let gs = c.args.groups.now in
+    let i = c.loop-group.group-index in
+    let g = c.group-item.result in
+    let before : lookup (bytes_eq g.id) (map entry_of (take i gs)) ≡ None =
+    subst (λ (h : Group). lookup (bytes_eq h.id) (map entry_of (take i gs)) ≡ None) (sym c.group-item.is) (next_absent gs i g c.requires.distinct (omega arith)) in
+    ap (lookup (bytes_eq g.id)) c.loop-group.invariant ∙ before
+
+-- so its group goes last
 pub loop-group-preserved : goal.loop-group-preserved
 loop-group-preserved c =
     let gs = c.args.groups.now in
     let i = c.loop-group.group-index in
-    let kept = c.loop-group.kept in
     let g = c.group-item.result in
-    let within : i < length gs = omega arith in
-    let before : lookup (bytes_eq g.id) (map entry_of (take i gs)) ≡ None =
-    subst (λ (h : Group). lookup (bytes_eq h.id) (map entry_of (take i gs)) ≡ None) (sym c.group-item.is) (next_absent gs i g c.requires.distinct within) in
-    let absent : get bytes_eq kept g.id ≡ None = ap (lookup (bytes_eq g.id)) c.loop-group.invariant ∙ before in
-    c.in-Ok.ensures.entries ∙ insert_entry-new bytes_eq kept g.id g absent
+    c.in_ok-put_last.ensures.last
     ∙ ap (λ es. es ++ (g.id, g) ∷ []) c.loop-group.invariant
     ∙ ap (λ (h : Group). map entry_of (take i gs) ++ entry_of h ∷ []) c.group-item.is
-    ∙ sym (map_more entry_of gs i g within)
+    ∙ sym (map_more entry_of gs i g (omega arith))
 
 pub invariant_of-result : goal.invariant_of-result
 invariant_of-result c =

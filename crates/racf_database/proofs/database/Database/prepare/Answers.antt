@@ -1,50 +1,33 @@
-use Rattle.std.proofs.Common.{◌≡◌, ◌∙◌, ◌<◌, ◌≤◌, true, List, None, ap, sym, subst, arith}
-use Rattle.racf_profiles.specs.declared.users.User.{User}
-use Rattle.racf_profiles.specs.declared.groups.Group.{Group}
-use Rattle.racf_profiles.specs.declared.class_rows.ClassRow.{ClassRow}
-use Rattle.racf_profiles.specs.declared.rows.Rows.{Rows}
+use Rattle.std.proofs.Common.{◌≡◌, ◌∙◌, true, List, None, ap, sym, subst}
 use Rattle.racf_profiles.specs.declared.edits.Edit.{Edit}
 use Rattle.racf_profiles.specs.Edits.{changed}
-use Rattle.class_profiles.specs.Classes.{profile_count, entry_count}
-use Rattle.racf_database.specs.Contents.{rows_of}
-use Rattle.racf_database.specs.Kept.{CanApply, HasRoom, fits_its_class}
-use Rattle.racf_database.specs.Edits.{edits_of}
-use Rattle.racf_database.specs.Conflicts.{conflict_of}
+use Rattle.row_tables.specs.Tables.{users_in, groups_in, classes_in}
+use Rattle.row_tables.specs.Applying.{CanApplyTo, HasRoom}
+use Rattle.racf_database.specs.Kept.{fits_its_class}
+use Rattle.command_effects.specs.Edits.{edits_of}
+use Rattle.command_conflicts.specs.Conflicts.{conflict_of}
 use Rattle.racf_database.proofs.StepLaws.{changed-edits_of}
 use Rattle.racf_database.proofs.Ready.{can_apply-edits_of}
 use Rattle.racf_database.proofs.database.Database.prepare.Goals as goal
 
 -- the rows are as they were, so what was made of them can be applied
-pub invariant_of-self-3 : goal.invariant_of-self-3
-invariant_of-self-3 c =
+pub invariant_of-self-2 : goal.invariant_of-self-2
+invariant_of-self-2 c =
     let issuer = c.args.issuer.now in
     let command = c.args.command.now in
-    let list = c.reserve.new.self in
-    let tree = c.reserve-2.new.self in
-    let tables = c.reserve_profile.new.classes in
-    let options = c.self.inside.options in
-    let same : rows_of list.users tree.groups tables.classes options ≡ c.args.self.now.rows =
-    ap (λ us. rows_of us tree.groups tables.classes options) c.in_ok-reserve.ensures.users
-    ∙ ap (λ gs. rows_of c.self.inside.users.users gs tables.classes options) c.in-Ok.ensures.groups
-    ∙ ap (λ cs. rows_of c.self.inside.users.users c.self.inside.tree.groups cs options) c.in_ok-reserve_profile.ensures.classes
-    ∙ ap (λ v. v.rows) c.self.view_is in
-    let free : conflict_of issuer command (rows_of list.users tree.groups tables.classes options) ≡ None = ap (conflict_of issuer command) same ∙ c.requires in
-    let of_rows : c.in_ok-edits.edits.items ≡ edits_of issuer command (rows_of list.users tree.groups tables.classes options) =
+    let tables = c.reserve.new.self in
+    let same : tables.rows ≡ c.args.self.now.rows = c.in_ok-reserve.ensures.rows ∙ ap (λ v. v.rows) c.self.view_is in
+    let free : conflict_of issuer command tables.rows ≡ None = ap (conflict_of issuer command) same ∙ c.requires in
+    let of_rows : c.in_ok-edits.edits.items ≡ edits_of issuer command tables.rows =
     c.in_ok-edits.ensures ∙ ap (λ v. edits_of issuer command v.rows) c.self.view_is ∙ sym (ap (edits_of issuer command) same) in
-    let made : c.in_ok-kept.kept.items ≡ edits_of issuer command (rows_of list.users tree.groups tables.classes options) =
-    c.in_ok-kept.ensures ∙ c.as_slice.ensures.value ∙ of_rows in
+    let made : c.in_ok-kept.kept.items ≡ edits_of issuer command tables.rows = c.in_ok-kept.ensures ∙ c.as_slice.ensures.value ∙ of_rows in
     let fits : fits_its_class command ≡ true = sym (c.fits_its_class.ensures ∙ ap fits_its_class c.form.ensures) ∙ c.if-not-fits_its_class.false in
-    let class_room : HasRoom tables (edits_of issuer command (rows_of list.users tree.groups tables.classes options)) =
-    subst (HasRoom tables) (c.as_slice-2.ensures.value ∙ of_rows) c.in_ok-reserve_profile.ensures.room in
-    let room : 0 < tree.spare = omega (arith, c.in-Ok.ensures.spare) in
-    let few_profiles : profile_count tables.classes ≤ 100000 = omega (arith, c.count-profiles.ensures.count, c.count-profiles.ensures.few) in
-    let few_entries : entry_count tables.classes ≤ 1000000 = omega (arith, c.entries-entries.ensures.count, c.entries-entries.ensures.few) in
-    record {
-      ready = subst (CanApply list tree tables) (sym made)
-          (can_apply-edits_of list tree tables options c.len-groups.ensures.lawful c.in_ok-reserve.ensures.few_users c.in_ok-reserve.ensures.few_connections c.in_ok-reserve.ensures.spare room
-          c.counts_are_enough.ensures c.found_is_lawful.ensures c.count-profiles.ensures.lawful few_profiles few_entries issuer command fits class_room free);
-      few_categories = c.self.invariant.few_categories;
-    }
+    let class_room : HasRoom (classes_in tables) (edits_of issuer command tables.rows) =
+    subst (HasRoom (classes_in tables)) (c.as_slice-2.ensures.value ∙ of_rows) c.in_ok-reserve.ensures.profiles in
+    let lawful = c.are_lawful.ensures in
+    subst (CanApplyTo tables) (sym made)
+    (can_apply-edits_of (users_in tables) (groups_in tables) (classes_in tables) tables.rows.options lawful.groups lawful.users.few lawful.few_connections c.in_ok-reserve.ensures.users c.in_ok-reserve.ensures.groups
+    c.counts_are_enough.ensures c.found_is_lawful.ensures lawful.classes lawful.few_profiles lawful.few_entries issuer command fits class_room free)
 
 pub returns-clause-step : goal.returns-clause-step
 returns-clause-step c =

@@ -1,0 +1,3 @@
+pub mod Required
+pub mod ProfileConflicts
+pub mod Conflicts

@@ -1,0 +1,296 @@
+//! What a command conflicts with.
+ghost use Rattle.std.specs.Prelude.{◌≡◌};
+ghost use Rattle.std.specs.Result.{result_err};
+ghost use Rattle.command_conflicts.specs.ProfileConflicts.{add_sd_conflicts, alt_sd_conflicts, del_sd_conflicts, r_define_conflicts, r_alter_conflicts, r_delete_conflicts, permit_conflicts};
+ghost use Rattle.command_conflicts.specs.Conflicts.{conflict_of, first_met, add_user_conflicts, alt_user_conflicts, del_user_conflicts, add_group_conflicts, alt_group_conflicts, del_group_conflicts, connect_conflicts, remove_conflicts};
+
+mod groups;
+mod members;
+mod names;
+mod permit;
+mod profiles;
+mod security;
+mod users;
+
+use crate::conflict::Conflict;
+use command_effects::{dataset, group_or_current};
+use command_parser::{
+    AddGroup, AddSd, AddUser, AltGroup, AltSd, AltUser, Command, Connect, DelGroup, DelSd, DelUser,
+    Form, Issuer, Permit, RAlter, RDefine, RDelete, Remove,
+};
+use groups::{
+    check_altered_owner, check_cycle, check_group_fits, check_new_owner, check_no_subgroup,
+    check_root_gone, check_root_moved,
+};
+use members::{check_categories_fit, check_members_fit, check_new_members_fit};
+use names::{
+    check_classes, check_connected, check_default_connected, check_free, check_group,
+    check_named_group, check_no_profile, check_none_connected, check_not_default, check_owner,
+    check_user,
+};
+use permit::{check_conditional_fits, check_entries_fit, check_permitted, check_standard_fits};
+use profiles::{
+    check_class, check_class_profiles_fit, check_first_qualifier, check_generic,
+    check_global_class, check_profile, check_profile_free, check_profiles_fit,
+    check_resource_class,
+};
+use row_tables::RowTables;
+use security::{check_categories, check_former_categories, check_label, check_level};
+use users::{
+    check_administrator_altered, check_administrator_gone, check_connection_fits,
+    check_connects_of_user, check_new_connection_fits, check_user_fits,
+};
+
+/// The first conflict that these tests meet. Each stands for `test?`, of which Rattle makes no proof where the error is an
+/// enum with enums of names in it.
+macro_rules! first_conflict {
+    ($($test:expr),+ $(,)?) => {{
+        $(
+            if let Err(conflict) = $test {
+                return Err(conflict);
+            }
+        )+
+        Ok(())
+    }};
+}
+
+/// Whether the rows allow the command. It takes no memory. A command takes a look-up for each name in it. DELGROUP also
+/// looks at every group, where a user may be connected at every user, and where a data set profile may have its name, as
+/// DELUSER does, at every data set profile. PERMIT compares each ID with those before it and with the entries of the list,
+/// and ADDMEM each member with those before it and with the others.
+///
+/// # Errors
+///
+/// The first conflict that is met, by the order of the kinds and then of the operands in the canonical text.
+pub fn check_command(tables: &RowTables, issuer: &Issuer, command: &Command) -> Result<(), Conflict>
+    ensures { result_err result ≡ conflict_of issuer.now command.now tables.now.rows }
+{
+    match command.form() {
+        Form::AddUser(command) => check_add_user(tables, issuer, command),
+        Form::AltUser(command) => check_alt_user(tables, issuer, command),
+        Form::DelUser(command) => check_del_user(tables, issuer, command),
+        Form::AddGroup(command) => check_add_group(tables, issuer, command),
+        Form::AltGroup(command) => check_alt_group(tables, command),
+        Form::DelGroup(command) => check_del_group(tables, command),
+        Form::Connect(command) => check_connect(tables, issuer, command),
+        Form::Remove(command) => check_remove(tables, issuer, command),
+        Form::AddSd(command) => check_add_sd(tables, command),
+        Form::AltSd(command) => check_alt_sd(tables, command),
+        Form::DelSd(command) => check_del_sd(tables, command),
+        Form::RDefine(command) => check_r_define(tables, command),
+        Form::RAlter(command) => check_r_alter(tables, command),
+        Form::RDelete(command) => check_r_delete(tables, command),
+        Form::Permit(command) => check_permit(tables, command),
+    }
+}
+
+#[tactic(auto, unfolding(crate::specs::Conflicts::add_user_conflicts, crate::specs::Conflicts::user_full))]
+fn check_add_user(tables: &RowTables, issuer: &Issuer, command: &AddUser) -> Result<(), Conflict>
+    ensures { result_err result ≡ first_met (add_user_conflicts issuer.now command.now tables.now.rows) }
+{
+    first_conflict![
+        check_owner(tables, command.owner),
+        check_group(tables, group_or_current(issuer, command.dfltgrp)),
+        check_classes(tables, &command.clauth),
+        check_free(tables, command.user),
+        check_level(tables, command.seclevel),
+        check_categories(tables, &command.addcategory),
+        check_label(tables, command.seclabel),
+        check_user_fits(tables, issuer, command),
+        check_new_connection_fits(tables, issuer, command),
+    ]
+}
+
+#[tactic(auto, unfolding(crate::specs::Conflicts::alt_user_conflicts))]
+fn check_alt_user(tables: &RowTables, issuer: &Issuer, command: &AltUser) -> Result<(), Conflict>
+    ensures { result_err result ≡ first_met (alt_user_conflicts issuer.now command.now tables.now.rows) }
+{
+    first_conflict![
+        check_user(tables, command.user),
+        check_owner(tables, command.owner),
+        check_named_group(tables, command.dfltgrp),
+        check_classes(tables, &command.clauth),
+        check_classes(tables, &command.noclauth),
+        check_default_connected(tables, command.user, command.dfltgrp),
+        check_administrator_altered(tables, issuer, command),
+        check_level(tables, command.seclevel),
+        check_categories(tables, &command.addcategory),
+        check_former_categories(tables, &command.delcategory),
+        check_label(tables, command.seclabel),
+    ]
+}
+
+#[tactic(auto, unfolding(crate::specs::Conflicts::del_user_conflicts))]
+fn check_del_user(tables: &RowTables, issuer: &Issuer, command: &DelUser) -> Result<(), Conflict>
+    ensures { result_err result ≡ first_met (del_user_conflicts issuer.now command.now tables.now.rows) }
+{
+    first_conflict![
+        check_user(tables, command.user),
+        check_no_profile(tables, command.user),
+        check_administrator_gone(tables, issuer, command),
+    ]
+}
+
+#[tactic(auto, unfolding(crate::specs::Conflicts::add_group_conflicts))]
+fn check_add_group(tables: &RowTables, issuer: &Issuer, command: &AddGroup) -> Result<(), Conflict>
+    ensures { result_err result ≡ first_met (add_group_conflicts issuer.now command.now tables.now.rows) }
+{
+    first_conflict![
+        check_owner(tables, command.owner),
+        check_group(tables, group_or_current(issuer, command.supgroup)),
+        check_free(tables, command.group),
+        check_new_owner(tables, issuer, command),
+        check_group_fits(tables, issuer, command),
+    ]
+}
+
+#[tactic(auto, unfolding(crate::specs::Conflicts::alt_group_conflicts))]
+fn check_alt_group(tables: &RowTables, command: &AltGroup) -> Result<(), Conflict>
+    ensures { result_err result ≡ first_met (alt_group_conflicts command.now tables.now.rows) }
+{
+    first_conflict![
+        check_owner(tables, command.owner),
+        check_group(tables, command.group),
+        check_named_group(tables, command.supgroup),
+        check_root_moved(command),
+        check_cycle(tables, command.group, command.supgroup),
+        check_altered_owner(tables, command),
+    ]
+}
+
+#[tactic(auto, unfolding(crate::specs::Conflicts::del_group_conflicts))]
+fn check_del_group(tables: &RowTables, command: &DelGroup) -> Result<(), Conflict>
+    ensures { result_err result ≡ first_met (del_group_conflicts command.now tables.now.rows) }
+{
+    first_conflict![
+        check_group(tables, command.group),
+        check_root_gone(command),
+        check_no_subgroup(tables, command.group),
+        check_none_connected(tables, command.group),
+        check_no_profile(tables, command.group),
+    ]
+}
+
+#[tactic(auto, unfolding(crate::specs::Conflicts::connect_conflicts))]
+fn check_connect(tables: &RowTables, issuer: &Issuer, command: &Connect) -> Result<(), Conflict>
+    ensures { result_err result ≡ first_met (connect_conflicts issuer.now command.now tables.now.rows) }
+{
+    let group = group_or_current(issuer, command.group);
+    first_conflict![
+        check_user(tables, command.user),
+        check_group(tables, group),
+        check_connects_of_user(tables, command, group),
+        check_connection_fits(tables, issuer, command, group),
+    ]
+}
+
+#[tactic(auto, unfolding(crate::specs::Conflicts::remove_conflicts))]
+fn check_remove(tables: &RowTables, issuer: &Issuer, command: &Remove) -> Result<(), Conflict>
+    ensures { result_err result ≡ first_met (remove_conflicts issuer.now command.now tables.now.rows) }
+{
+    let group = group_or_current(issuer, command.group);
+    first_conflict![
+        check_user(tables, command.user),
+        check_group(tables, group),
+        check_connected(tables, command.user, group),
+        check_not_default(tables, command.user, group),
+    ]
+}
+
+#[tactic(auto, unfolding(crate::specs::ProfileConflicts::add_sd_conflicts))]
+fn check_add_sd(tables: &RowTables, command: &AddSd) -> Result<(), Conflict>
+    ensures { result_err result ≡ first_met (add_sd_conflicts command.now tables.now.rows) }
+{
+    first_conflict![
+        check_first_qualifier(tables, &command.profile),
+        check_owner(tables, command.owner),
+        check_profile_free(tables, dataset(), &command.profile),
+        check_level(tables, command.seclevel),
+        check_categories(tables, &command.addcategory),
+        check_label(tables, command.seclabel),
+        check_class_profiles_fit(tables, dataset()),
+        check_profiles_fit(tables),
+    ]
+}
+
+#[tactic(auto, unfolding(crate::specs::ProfileConflicts::alt_sd_conflicts))]
+fn check_alt_sd(tables: &RowTables, command: &AltSd) -> Result<(), Conflict>
+    ensures { result_err result ≡ first_met (alt_sd_conflicts command.now tables.now.rows) }
+{
+    first_conflict![
+        check_owner(tables, command.owner),
+        check_profile(tables, dataset(), &command.profile),
+        check_level(tables, command.seclevel),
+        check_categories(tables, &command.addcategory),
+        check_former_categories(tables, &command.delcategory),
+        check_label(tables, command.seclabel),
+    ]
+}
+
+#[tactic(auto, unfolding(crate::specs::ProfileConflicts::del_sd_conflicts))]
+fn check_del_sd(tables: &RowTables, command: &DelSd) -> Result<(), Conflict>
+    ensures { result_err result ≡ first_met (del_sd_conflicts command.now tables.now.rows) }
+{
+    check_profile(tables, dataset(), &command.profile)
+}
+
+#[tactic(auto, unfolding(crate::specs::ProfileConflicts::r_define_conflicts))]
+fn check_r_define(tables: &RowTables, command: &RDefine) -> Result<(), Conflict>
+    ensures { result_err result ≡ first_met (r_define_conflicts command.now tables.now.rows) }
+{
+    first_conflict![
+        check_owner(tables, command.owner),
+        check_resource_class(tables, command.class),
+        check_global_class(tables, command.class, &command.profile),
+        check_profile_free(tables, command.class, &command.profile),
+        check_generic(command.class, &command.profile),
+        check_level(tables, command.seclevel),
+        check_categories(tables, &command.addcategory),
+        check_label(tables, command.seclabel),
+        check_class_profiles_fit(tables, command.class),
+        check_profiles_fit(tables),
+        check_new_members_fit(command),
+        check_categories_fit(tables, &command.addmem),
+    ]
+}
+
+#[tactic(auto, unfolding(crate::specs::ProfileConflicts::r_alter_conflicts))]
+fn check_r_alter(tables: &RowTables, command: &RAlter) -> Result<(), Conflict>
+    ensures { result_err result ≡ first_met (r_alter_conflicts command.now tables.now.rows) }
+{
+    first_conflict![
+        check_owner(tables, command.owner),
+        check_resource_class(tables, command.class),
+        check_profile(tables, command.class, &command.profile),
+        check_level(tables, command.seclevel),
+        check_categories(tables, &command.addcategory),
+        check_former_categories(tables, &command.delcategory),
+        check_label(tables, command.seclabel),
+        check_members_fit(tables, command),
+        check_categories_fit(tables, &command.addmem),
+    ]
+}
+
+#[tactic(auto, unfolding(crate::specs::ProfileConflicts::r_delete_conflicts))]
+fn check_r_delete(tables: &RowTables, command: &RDelete) -> Result<(), Conflict>
+    ensures { result_err result ≡ first_met (r_delete_conflicts command.now tables.now.rows) }
+{
+    first_conflict![
+        check_resource_class(tables, command.class),
+        check_profile(tables, command.class, &command.profile),
+    ]
+}
+
+#[tactic(auto, unfolding(crate::specs::ProfileConflicts::permit_conflicts))]
+fn check_permit(tables: &RowTables, command: &Permit) -> Result<(), Conflict>
+    ensures { result_err result ≡ first_met (permit_conflicts command.now tables.now.rows) }
+{
+    first_conflict![
+        check_permitted(tables, command),
+        check_class(tables, command.class),
+        check_profile(tables, command.class, &command.profile),
+        check_standard_fits(tables, command),
+        check_conditional_fits(tables, command),
+        check_entries_fit(tables, command),
+    ]
+}

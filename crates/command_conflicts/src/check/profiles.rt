@@ -1,0 +1,183 @@
+//! Which profiles and classes have to be there, or not, and how many there may be.
+ghost use Rattle.std.specs.Prelude.{◌≡◌, ◌≤◌, ◌==◌, position, length, codes, bytes_eq};
+ghost use Rattle.std.specs.Result.{result_err, result_ok};
+ghost use Rattle.access_levels.specs.Spelling.{id_of};
+ghost use Rattle.class_profiles.specs.Classes.{first_qualifier};
+ghost use Rattle.class_profiles.specs.Lawful.{most_class_profiles};
+ghost use Rattle.generic_names.specs.Spelled.{period};
+ghost use Rattle.command_effects.specs.ProfileEffects.{dataset};
+ghost use Rattle.command_conflicts.specs.ProfileConflicts.{no_first_qualifier, no_such_class, no_resource_class, no_global_class, classless, no_profile, profile_taken, has_generic, not_generic, profiles_in, class_profiles_full, profiles_full};
+
+use super::names::{check_owner, has_class};
+use crate::conflict::{Conflict, Kind, Named};
+use crate::limits::check_count;
+use access_levels::Id;
+use class_profiles::{MOST_CLASS_PROFILES, MOST_PROFILES};
+use command_effects::dataset;
+use generic_names::Pattern;
+use racf_profiles::{FixedClass, View, class_facts};
+use row_tables::RowTables;
+
+/// The first qualifier of a data set profile is a user or a group.
+#[tactic(auto, unfolding(crate::specs::ProfileConflicts::no_first_qualifier))]
+pub(super) fn check_first_qualifier(tables: &RowTables, name: &Pattern) -> Result<(), Conflict>
+    ensures { result_err result ≡ no_first_qualifier name.now tables.now.rows }
+{
+    check_owner(tables, first_qualifier(name))
+}
+
+/// The class is in the table.
+#[tactic(auto, unfolding(crate::specs::ProfileConflicts::no_such_class))]
+pub(super) fn check_class(tables: &RowTables, class: Id) -> Result<(), Conflict>
+    ensures { result_err result ≡ no_such_class class tables.now.rows }
+{
+    if has_class(tables, class) {
+        Ok(())
+    } else {
+        Err(Conflict::NoClass(class))
+    }
+}
+
+/// The class is in the table, and isn't that of the data sets.
+#[tactic(auto, unfolding(crate::specs::ProfileConflicts::no_resource_class, crate::specs::ProfileConflicts::no_such_class))]
+pub(super) fn check_resource_class(tables: &RowTables, class: Id) -> Result<(), Conflict>
+    ensures { result_err result ≡ no_resource_class class tables.now.rows }
+{
+    if class == dataset() {
+        return Err(Conflict::NoClass(class));
+    }
+    check_class(tables, class)
+}
+
+/// A profile of class GLOBAL has the name of a class.
+#[tactic(auto, unfolding(crate::specs::ProfileConflicts::no_global_class))]
+pub(super) fn check_global_class(
+    tables: &RowTables,
+    class: Id,
+    name: &Pattern,
+) -> Result<(), Conflict>
+    ensures { result_err result ≡ no_global_class class name.now tables.now.rows }
+{
+    check_classless(tables, is_global(class), Id::read(name.text()).ok())
+}
+
+// The same, of a name that is spelled as an ID.
+fn check_classless(tables: &RowTables, global: bool, name: Option<Id>) -> Result<(), Conflict>
+    ensures { result_err result ≡ classless global name tables.now.rows }
+{
+    match name {
+        None => Ok(()),
+        Some(id) => {
+            if global && !has_class(tables, id) {
+                return Err(Conflict::NoClass(id));
+            }
+            Ok(())
+        }
+    }
+}
+
+/// There is a profile of that name.
+#[tactic(auto, unfolding(crate::specs::ProfileConflicts::no_profile))]
+pub(super) fn check_profile(tables: &RowTables, class: Id, name: &Pattern) -> Result<(), Conflict>
+    ensures { result_err result ≡ no_profile class name.now tables.now.rows }
+{
+    match tables.profile(class, name) {
+        Some(_) => Ok(()),
+        None => Err(Conflict::NoProfile(class, *name)),
+    }
+}
+
+/// There is no profile of that name.
+#[tactic(auto, unfolding(crate::specs::ProfileConflicts::profile_taken))]
+pub(super) fn check_profile_free(
+    tables: &RowTables,
+    class: Id,
+    name: &Pattern,
+) -> Result<(), Conflict>
+    ensures { result_err result ≡ profile_taken class name.now tables.now.rows }
+{
+    match tables.profile(class, name) {
+        Some(_) => Err(Conflict::Exists(Named::Profile(*name))),
+        None => Ok(()),
+    }
+}
+
+/// One more profile is within the limit of its class.
+#[tactic(auto, unfolding(crate::specs::ProfileConflicts::class_profiles_full))]
+pub(super) fn check_class_profiles_fit(tables: &RowTables, class: Id) -> Result<(), Conflict>
+    ensures { result_err result ≡ class_profiles_full class tables.now.rows }
+{
+    let count = profiles_in(tables, class) + 1;
+    check_count(Kind::ClassProfiles, MOST_CLASS_PROFILES, count)
+}
+
+// How many profiles the class has.
+fn profiles_in(tables: &RowTables, class: Id) -> usize
+    ensures count { result ≡ length (profiles_in class tables.now.rows) }
+    ensures few { result ≤ most_class_profiles }
+{
+    match tables.classes().class(class) {
+        Some(table) => table.profiles().len(),
+        None => 0,
+    }
+}
+
+/// One more profile is within the limit of all classes.
+#[tactic(auto, unfolding(crate::specs::ProfileConflicts::profiles_full))]
+pub(super) fn check_profiles_fit(tables: &RowTables) -> Result<(), Conflict>
+    ensures { result_err result ≡ profiles_full tables.now.rows }
+{
+    check_count(Kind::Profiles, MOST_PROFILES, tables.classes().count() + 1)
+}
+
+/// A generic name stands only in a class that has generic profiles.
+#[tactic(auto, unfolding(crate::specs::ProfileConflicts::not_generic))]
+pub(super) fn check_generic(class: Id, name: &Pattern) -> Result<(), Conflict>
+    ensures { result_err result ≡ not_generic class name.now }
+{
+    if name.is_generic() && !has_generic(class) {
+        return Err(Conflict::NotGeneric(class));
+    }
+    Ok(())
+}
+
+// Whether the class has generic profiles.
+fn has_generic(class: Id) -> bool
+    ensures { result ≡ has_generic class }
+{
+    match class_facts(class) {
+        Some(facts) => facts.generic,
+        None => false,
+    }
+}
+
+// Whether it is the class of the global access table.
+fn is_global(class: Id) -> bool
+    ensures { result ≡ bytes_eq class (codes "GLOBAL") }
+{
+    class == FixedClass::Global.id()
+}
+
+// The first qualifier of a name, where it is spelled as an ID.
+fn first_qualifier(name: &Pattern) -> Option<Id>
+    ensures { result ≡ result_ok (id_of (first_qualifier name.now.text)) }
+{
+    Id::read(up_to_period(name.text())).ok()
+}
+
+// The bytes before the first period.
+fn up_to_period(text: &[u8]) -> &[u8]
+    ensures { result.now ≡ first_qualifier text.now }
+{
+    match first_period(text) {
+        Some(end) => &text[..end],
+        None => text,
+    }
+}
+
+// The place of the first period.
+fn first_period(text: &[u8]) -> Option<usize>
+    ensures { result ≡ position (λ byte. byte == period) text.now }
+{
+    text.iter().position(|byte| *byte == b'.')
+}

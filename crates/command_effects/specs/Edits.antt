@@ -1,0 +1,81 @@
+-- The edits that a command makes: each is the whole new row, or drops one.
+use Rattle.std.specs.Prelude.{ℕ, List, [], ◌∷◌, ◌++◌, Option, None, Some}
+use Rattle.racf_profiles.specs.declared.users.User.{User}
+use Rattle.racf_profiles.specs.declared.groups.Group.{Group}
+use Rattle.racf_profiles.specs.declared.profiles.Profile.{Profile}
+use Rattle.racf_profiles.specs.declared.profiles.Member.{Member}
+use Rattle.racf_profiles.specs.declared.options.Options.{Options}
+use Rattle.racf_profiles.specs.declared.rows.Rows.{Rows}
+use Rattle.racf_profiles.specs.declared.edits.Edit.{Edit}
+use Rattle.racf_profiles.specs.declared.edits.Edit.TheVariants.{PutUser, DropUser, PutGroup, DropGroup, PutProfile, DropProfile, PutOptions}
+use Rattle.racf_profiles.specs.Lookup.{user_of, group_of, profile_of}
+use Rattle.command_parser.specs.declared.commands.Issuer.{Issuer}
+use Rattle.command_parser.specs.declared.forms.Form.{Form}
+use Rattle.command_parser.specs.declared.forms.Form.TheVariants as form
+use Rattle.command_parser.specs.declared.profile_forms.AddSd.{AddSd}
+use Rattle.command_parser.specs.declared.profile_forms.AltSd.{AltSd}
+use Rattle.command_parser.specs.declared.profile_forms.DelSd.{DelSd}
+use Rattle.command_parser.specs.declared.profile_forms.RDefine.{RDefine}
+use Rattle.command_parser.specs.declared.profile_forms.RAlter.{RAlter}
+use Rattle.command_parser.specs.declared.profile_forms.RDelete.{RDelete}
+use Rattle.command_parser.specs.declared.profile_forms.Permit.{Permit}
+use Rattle.command_effects.specs.Members.{options_after}
+use Rattle.command_effects.specs.ProfileEffects.{dataset, new_data_set, altered_data_set, new_resource, altered_resource}
+use Rattle.command_effects.specs.PermitEffects.{permitted_profile}
+use Rattle.command_effects.specs.Effects.{new_user, altered_user, new_group, altered_group, connected_user, removed_user}
+
+-- A row that is there, changed.
+abbrev pub put_user : (User → User) → Option User → List Edit
+put_user change None = []
+put_user change (Some user) = PutUser (change user) ∷ []
+
+abbrev pub put_group : (Group → Group) → Option Group → List Edit
+put_group change None = []
+put_group change (Some group) = PutGroup (change group) ∷ []
+
+abbrev pub put_changed : List ℕ → (Profile → Profile) → Option Profile → List Edit
+put_changed class change None = []
+put_changed class change (Some profile) = PutProfile class (change profile) ∷ []
+
+-- The options change only with members, which may define categories.
+abbrev pub put_options : List Member → Options → List Edit
+put_options [] options = []
+put_options (member ∷ members) options = PutOptions (options_after (member ∷ members) options) ∷ []
+
+abbrev pub edits_of_add_sd : Issuer → AddSd → Rows → List Edit
+edits_of_add_sd issuer c rows = PutProfile dataset (new_data_set issuer c rows) ∷ []
+
+abbrev pub edits_of_alt_sd : AltSd → Rows → List Edit
+edits_of_alt_sd c rows = put_changed dataset (altered_data_set c rows) (profile_of dataset c.profile rows)
+
+abbrev pub edits_of_del_sd : DelSd → List Edit
+edits_of_del_sd c = DropProfile dataset c.profile ∷ []
+
+abbrev pub edits_of_r_define : Issuer → RDefine → Rows → List Edit
+edits_of_r_define issuer c rows = PutProfile c.class (new_resource issuer c rows) ∷ put_options c.addmem rows.options
+
+abbrev pub edits_of_r_alter : RAlter → Rows → List Edit
+edits_of_r_alter c rows = put_changed c.class (altered_resource c rows) (profile_of c.class c.profile rows) ++ put_options c.addmem rows.options
+
+abbrev pub edits_of_r_delete : RDelete → List Edit
+edits_of_r_delete c = DropProfile c.class c.profile ∷ []
+
+abbrev pub edits_of_permit : Permit → Rows → List Edit
+edits_of_permit c rows = put_changed c.class (permitted_profile c) (profile_of c.class c.profile rows)
+
+abbrev pub edits_of : Issuer → Form → Rows → List Edit
+edits_of issuer (form.AddUser c) rows = PutUser (new_user issuer c rows) ∷ []
+edits_of issuer (form.AltUser c) rows = put_user (altered_user c rows) (user_of c.user rows)
+edits_of issuer (form.DelUser c) rows = DropUser c.user ∷ []
+edits_of issuer (form.AddGroup c) rows = PutGroup (new_group issuer c) ∷ []
+edits_of issuer (form.AltGroup c) rows = put_group (altered_group c) (group_of c.group rows)
+edits_of issuer (form.DelGroup c) rows = DropGroup c.group ∷ []
+edits_of issuer (form.Connect c) rows = put_user (connected_user issuer c) (user_of c.user rows)
+edits_of issuer (form.Remove c) rows = put_user (removed_user issuer c) (user_of c.user rows)
+edits_of issuer (form.AddSd c) rows = edits_of_add_sd issuer c rows
+edits_of issuer (form.AltSd c) rows = edits_of_alt_sd c rows
+edits_of issuer (form.DelSd c) rows = edits_of_del_sd c
+edits_of issuer (form.RDefine c) rows = edits_of_r_define issuer c rows
+edits_of issuer (form.RAlter c) rows = edits_of_r_alter c rows
+edits_of issuer (form.RDelete c) rows = edits_of_r_delete c
+edits_of issuer (form.Permit c) rows = edits_of_permit c rows

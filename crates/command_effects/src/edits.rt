@@ -1,0 +1,162 @@
+//! The edits that a command makes.
+ghost use Rattle.std.specs.Prelude.{◌≡◌, [], ◌∷◌, IfOk};
+ghost use Rattle.std.specs.Option.{option_copied};
+ghost use Rattle.racf_profiles.specs.Lookup.{user_of, group_of};
+ghost use Rattle.racf_profiles.specs.declared.users.User.{User};
+ghost use Rattle.command_effects.specs.Effects.{altered_user, connected_user, removed_user, altered_group};
+ghost use Rattle.command_effects.specs.Edits.{edits_of, put_user, put_group};
+
+mod profiles;
+
+use crate::made::{
+    altered_group, altered_user, connected_user, dataset, new_group, new_user, removed_user,
+};
+use command_parser::{AltGroup, AltUser, Command, Connect, Form, Issuer, Remove};
+use profiles::{
+    edits_of_add_sd, edits_of_alt_sd, edits_of_permit, edits_of_r_alter, edits_of_r_define,
+};
+use racf_profiles::{Edit, NoMemory, View};
+use row_tables::RowTables;
+use std::alloc::Global;
+
+/// The edits that the command makes of these rows: at most one of a row, and behind it one of the options.
+///
+/// # Errors
+///
+/// Want of memory.
+pub fn edits_of(
+    alloc: Global,
+    tables: &RowTables,
+    issuer: &Issuer,
+    command: &Command,
+) -> Result<Vec<Edit>, NoMemory>
+    ensures { IfOk result (λ edits. edits.items ≡ edits_of issuer.now command.now tables.now.rows) }
+{
+    match command.form() {
+        Form::AddUser(command) => one(
+            alloc,
+            Edit::PutUser(new_user(alloc, tables, issuer, command)?),
+        ),
+        Form::AltUser(command) => edits_of_alt_user(alloc, tables, command),
+        Form::DelUser(command) => one(alloc, Edit::DropUser(command.user)),
+        Form::AddGroup(command) => one(alloc, Edit::PutGroup(new_group(issuer, command))),
+        Form::AltGroup(command) => edits_of_alt_group(alloc, tables, command),
+        Form::DelGroup(command) => one(alloc, Edit::DropGroup(command.group)),
+        Form::Connect(command) => edits_of_connect(alloc, tables, issuer, command),
+        Form::Remove(command) => edits_of_remove(alloc, tables, issuer, command),
+        Form::AddSd(command) => edits_of_add_sd(alloc, tables, issuer, command),
+        Form::AltSd(command) => edits_of_alt_sd(alloc, tables, command),
+        Form::DelSd(command) => one(alloc, Edit::DropProfile(dataset(), command.profile)),
+        Form::RDefine(command) => edits_of_r_define(alloc, tables, issuer, command),
+        Form::RAlter(command) => edits_of_r_alter(alloc, tables, command),
+        Form::RDelete(command) => one(alloc, Edit::DropProfile(command.class, command.profile)),
+        Form::Permit(command) => edits_of_permit(alloc, tables, command),
+    }
+}
+
+fn edits_of_alt_user(
+    alloc: Global,
+    tables: &RowTables,
+    command: &AltUser,
+) -> Result<Vec<Edit>, NoMemory>
+    ensures { IfOk result (λ edits. edits.items ≡ put_user (altered_user command.now tables.now.rows) (user_of command.now.user tables.now.rows)) }
+{
+    match tables.user(command.user) {
+        None => Ok(Vec::new(alloc)),
+        Some(old) => one(
+            alloc,
+            Edit::PutUser(altered_user(alloc, tables, command, old)?),
+        ),
+    }
+}
+
+fn edits_of_connect(
+    alloc: Global,
+    tables: &RowTables,
+    issuer: &Issuer,
+    command: &Connect,
+) -> Result<Vec<Edit>, NoMemory>
+    ensures { IfOk result (λ edits. edits.items ≡ put_user (connected_user issuer.now command.now) (user_of command.now.user tables.now.rows)) }
+{
+    match tables.user(command.user) {
+        None => Ok(Vec::new(alloc)),
+        Some(old) => one(
+            alloc,
+            Edit::PutUser(connected_user(alloc, issuer, command, old)?),
+        ),
+    }
+}
+
+fn edits_of_remove(
+    alloc: Global,
+    tables: &RowTables,
+    issuer: &Issuer,
+    command: &Remove,
+) -> Result<Vec<Edit>, NoMemory>
+    ensures { IfOk result (λ edits. edits.items ≡ put_user (removed_user issuer.now command.now) (user_of command.now.user tables.now.rows)) }
+{
+    match tables.user(command.user) {
+        None => Ok(Vec::new(alloc)),
+        Some(old) => one(
+            alloc,
+            Edit::PutUser(removed_user(alloc, issuer, command, old)?),
+        ),
+    }
+}
+
+fn edits_of_alt_group(
+    alloc: Global,
+    tables: &RowTables,
+    command: &AltGroup,
+) -> Result<Vec<Edit>, NoMemory>
+    ensures { IfOk result (λ edits. edits.items ≡ put_group (altered_group command.now) (group_of command.now.group tables.now.rows)) }
+{
+    match tables.group(command.group) {
+        None => Ok(Vec::new(alloc)),
+        Some(old) => one(alloc, Edit::PutGroup(altered_group(command, old))),
+    }
+}
+
+/// One edit.
+pub(crate) fn one(alloc: Global, edit: Edit) -> Result<Vec<Edit>, NoMemory>
+    ensures { IfOk result (λ edits. edits.items ≡ edit ∷ []) }
+{
+    let mut edits = Vec::new(alloc);
+    edits.push(edit)?;
+    Ok(edits)
+}
+
+/// Equal edits.
+///
+/// # Errors
+///
+/// Want of memory.
+pub fn copies(alloc: Global, edits: &[Edit]) -> Result<Vec<Edit>, NoMemory>
+    ensures { IfOk result (λ copies. copies.items ≡ edits.now) }
+{
+    let mut copies = Vec::new(alloc);
+    for edit in edits {
+        copies.push(copy(alloc, edit)?)?;
+    }
+    Ok(copies)
+}
+
+// An equal edit.
+fn copy(alloc: Global, edit: &Edit) -> Result<Edit, NoMemory>
+    ensures { IfOk result (λ copy. copy ≡ edit.now) }
+{
+    Ok(match edit {
+        Edit::PutUser(user) => Edit::PutUser(user.copy(alloc)?),
+        Edit::DropUser(id) => Edit::DropUser(*id),
+        Edit::PutGroup(group) => Edit::PutGroup(*group),
+        Edit::DropGroup(id) => Edit::DropGroup(*id),
+        Edit::PutProfile(class, profile) => Edit::PutProfile(*class, profile.copy(alloc)?),
+        Edit::DropProfile(class, name) => Edit::DropProfile(*class, *name),
+        Edit::PutOptions(options) => Edit::PutOptions(options.copy(alloc)?),
+        Edit::PutClass(class, active, global, log) => Edit::PutClass(
+            *class, *active, *global, *log,
+        ),
+        Edit::List(class) => Edit::List(*class),
+        Edit::Unlist(class) => Edit::Unlist(*class),
+    })
+}

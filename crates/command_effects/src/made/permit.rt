@@ -1,0 +1,301 @@
+//! Access lists as PERMIT makes them.
+ghost use Rattle.std.specs.Prelude.{◌≡◌, ◌||◌, false, fold, length, IfOk, OnOk, if◌then◌else◌};
+ghost use Rattle.std.specs.List.{list_any};
+ghost use Rattle.access_lists.specs.Lists.{is_same_who, is_same_port, is_for, is_for_under};
+ghost use Rattle.command_effects.specs.PermitEffects.{standard_reset, conditional_reset, level_of, with_entry, with_conditional, standard_after, conditional_after, permitted_profile};
+
+use access_levels::{CondEntry, Condition, Entry, Id, Level, Who};
+use access_lists::{permit, permit_when, withdraw, withdraw_when};
+use command_parser::{Permit, Reset};
+use racf_profiles::{CondEntries, Entries, NoMemory, Profile};
+use std::alloc::{AllocError, Global};
+
+/// A profile after PERMIT.
+pub(crate) fn permitted_profile(
+    alloc: Global,
+    command: &Permit,
+    old: &Profile,
+) -> Result<Profile, NoMemory>
+    ensures { IfOk result (λ profile. profile ≡ permitted_profile command.now old.now) }
+{
+    let standard = standard_after(alloc, command, old.standard.items.as_slice())?;
+    let conditional = conditional_after(alloc, command, old.conditional.items.as_slice())?;
+    let members = old.members.copy(alloc)?;
+    Ok(Profile {
+        name: old.name,
+        owner: old.owner,
+        uacc: old.uacc,
+        warning: old.warning,
+        standard: Entries { items: standard },
+        conditional: CondEntries { items: conditional },
+        level: old.level,
+        categories: old.categories,
+        label: old.label,
+        audit: old.audit,
+        global_audit: old.global_audit,
+        members,
+    })
+}
+
+// A standard list after PERMIT.
+fn standard_after(alloc: Global, command: &Permit, old: &[Entry]) -> Result<Vec<Entry>, NoMemory>
+    ensures { IfOk result (λ list. list.items ≡ standard_after command.now old.now) }
+{
+    let list = Vec::from_slice(alloc, standard_reset(command.reset, old))?;
+    match command.when {
+        Some(_) => Ok(list),
+        None => with_entries(command, list, command.id.items.as_slice()),
+    }
+}
+
+// A conditional list after PERMIT.
+fn conditional_after(
+    alloc: Global,
+    command: &Permit,
+    old: &[CondEntry],
+) -> Result<Vec<CondEntry>, NoMemory>
+    ensures { IfOk result (λ list. list.items ≡ conditional_after command.now old.now) }
+{
+    let list = Vec::from_slice(alloc, conditional_reset(command.reset, old))?;
+    match command.when {
+        Some(condition) => {
+            with_conditionals(command, &condition, list, command.id.items.as_slice())
+        }
+        None => Ok(list),
+    }
+}
+
+/// A standard list after RESET.
+pub(crate) fn standard_reset(reset: Option<Reset>, list: &[Entry]) -> &[Entry]
+    ensures { result.now ≡ standard_reset reset list.now }
+{
+    match reset {
+        None | Some(Reset::When) => list,
+        Some(Reset::All | Reset::Standard) => &[],
+    }
+}
+
+/// A conditional list after RESET.
+pub(crate) fn conditional_reset(reset: Option<Reset>, list: &[CondEntry]) -> &[CondEntry]
+    ensures { result.now ≡ conditional_reset reset list.now }
+{
+    match reset {
+        None | Some(Reset::Standard) => list,
+        Some(Reset::All | Reset::When) => &[],
+    }
+}
+
+// The list with the entries of all IDs, or without them.
+fn with_entries(command: &Permit, list: Vec<Entry>, whos: &[Who]) -> Result<Vec<Entry>, NoMemory>
+    ensures { IfOk result (λ after. after.items ≡ fold (with_entry command.now) list.items whos.now) }
+{
+    let mut list = list;
+    for who in whos {
+        put_entry(command, &mut list, *who)?;
+    }
+    Ok(list)
+}
+
+// The same of a conditional list.
+fn with_conditionals(
+    command: &Permit,
+    condition: &Condition,
+    list: Vec<CondEntry>,
+    whos: &[Who],
+) -> Result<Vec<CondEntry>, NoMemory>
+    ensures { IfOk result (λ after. after.items ≡ fold (with_conditional command.now condition.now) list.items whos.now) }
+{
+    let mut list = list;
+    for who in whos {
+        put_conditional(command, condition, &mut list, *who)?;
+    }
+    Ok(list)
+}
+
+// Gives one ID its entry, or takes it away. A list that would get too long was refused when the command was checked.
+fn put_entry(command: &Permit, list: &mut Vec<Entry>, who: Who) -> Result<(), NoMemory>
+    ensures { OnOk result (list.new.items ≡ with_entry command.now list.old.items who) }
+{
+    if command.delete {
+        withdraw(list, who);
+        return Ok(());
+    }
+    let level = level_of(command);
+    match permit(list, Entry { who, level }) {
+        Ok(()) => Ok(()),
+        Err(_) => Err(AllocError),
+    }
+}
+
+// The same of a conditional list.
+fn put_conditional(
+    command: &Permit,
+    condition: &Condition,
+    list: &mut Vec<CondEntry>,
+    who: Who,
+) -> Result<(), NoMemory>
+    ensures { OnOk result (list.new.items ≡ with_conditional command.now condition.now list.old.items who) }
+{
+    if command.delete {
+        withdraw_when(list, *condition, who);
+        return Ok(());
+    }
+    let level = level_of(command);
+    match permit_when(list, conditional_entry(condition, who, level)) {
+        Ok(()) => Ok(()),
+        Err(_) => Err(AllocError),
+    }
+}
+
+// An entry under a condition.
+fn conditional_entry(condition: &Condition, who: Who, level: Level) -> CondEntry
+    ensures { result ≡ record { condition = condition.now; who = who; level = level } }
+{
+    CondEntry {
+        condition: *condition,
+        who,
+        level,
+    }
+}
+
+// The level that PERMIT gives.
+fn level_of(command: &Permit) -> Level
+    ensures { result ≡ level_of command.now }
+{
+    command.access.unwrap_or(Level::Read)
+}
+
+/// How many entries a standard list has after PERMIT with an access. Each ID is compared with those before it and with the
+/// list.
+pub fn standard_count(command: &Permit, old: &[Entry]) -> usize
+    requires { command.now.delete ≡ false }
+    ensures { result ≡ length (standard_after command.now old.now) }
+{
+    let list = standard_reset(command.reset, old);
+    match command.when {
+        Some(_) => list.len(),
+        None => count_with(command, list, command.id.items.as_slice()),
+    }
+}
+
+/// The same of a conditional list.
+pub fn conditional_count(command: &Permit, old: &[CondEntry]) -> usize
+    requires { command.now.delete ≡ false }
+    ensures { result ≡ length (conditional_after command.now old.now) }
+{
+    let list = conditional_reset(command.reset, old);
+    match command.when {
+        Some(condition) => {
+            count_with_conditional(command, &condition, list, command.id.items.as_slice())
+        }
+        None => list.len(),
+    }
+}
+
+// How many entries there are once each ID has one.
+fn count_with(command: &Permit, list: &[Entry], whos: &[Who]) -> usize
+    requires { command.now.delete ≡ false }
+    ensures { result ≡ length (fold (with_entry command.now) list.now whos.now) }
+{
+    let _gives = command.delete;
+    let mut count = list.len() + whos.len();
+    for (i, who) in whos.iter().enumerate() {
+        count -= repeats(who, &whos[..i], list);
+    }
+    count
+}
+
+// The same of a conditional list.
+fn count_with_conditional(
+    command: &Permit,
+    condition: &Condition,
+    list: &[CondEntry],
+    whos: &[Who],
+) -> usize
+    requires { command.now.delete ≡ false }
+    ensures { result ≡ length (fold (with_conditional command.now condition.now) list.now whos.now) }
+{
+    let _gives = command.delete;
+    let mut count = list.len() + whos.len();
+    for (i, who) in whos.iter().enumerate() {
+        count -= repeats_under(who, &whos[..i], condition, list);
+    }
+    count
+}
+
+// 1 for an ID that adds no entry, since it has one or was named before, else 0.
+fn repeats(who: &Who, before: &[Who], list: &[Entry]) -> usize
+    ensures { result ≡ (if list_any (is_for who.now) list.now || list_any (λ other. is_same_who other who.now) before.now then 1 else 0) }
+{
+    if is_listed(who, list) || is_among(who, before) {
+        1
+    } else {
+        0
+    }
+}
+
+// The same under a condition.
+fn repeats_under(who: &Who, before: &[Who], condition: &Condition, list: &[CondEntry]) -> usize
+    ensures { result ≡ (if list_any (is_for_under condition.now who.now) list.now || list_any (λ other. is_same_who other who.now) before.now then 1 else 0) }
+{
+    if is_listed_under(who, condition, list) || is_among(who, before) {
+        1
+    } else {
+        0
+    }
+}
+
+// Whether an ID has an entry.
+fn is_listed(who: &Who, list: &[Entry]) -> bool
+    ensures { result ≡ list_any (is_for who.now) list.now }
+{
+    list.iter().any(|entry| is_same_who(&entry.who, who))
+}
+
+// Whether an ID has an entry under a condition.
+fn is_listed_under(who: &Who, condition: &Condition, list: &[CondEntry]) -> bool
+    ensures { result ≡ list_any (is_for_under condition.now who.now) list.now }
+{
+    list.iter().any(|entry| is_for_under(entry, condition, who))
+}
+
+// Whether it is one of these.
+fn is_among(who: &Who, whos: &[Who]) -> bool
+    ensures { result ≡ list_any (λ other. is_same_who other who.now) whos.now }
+{
+    whos.iter().any(|other| is_same_who(other, who))
+}
+
+// Whether a conditional entry is for an ID under a condition.
+fn is_for_under(entry: &CondEntry, condition: &Condition, who: &Who) -> bool
+    ensures { result ≡ is_for_under condition.now who.now entry.now }
+{
+    is_same_port(&entry.condition, condition) && is_same_who(&entry.who, who)
+}
+
+// Whether both are `*`, or both one ID.
+fn is_same_who(who: &Who, other: &Who) -> bool
+    ensures { result ≡ is_same_who who.now other.now }
+{
+    match who {
+        Who::Star => matches!(other, Who::Star),
+        Who::Named(id) => is_named(other, *id),
+    }
+}
+
+// Whether it is that ID.
+fn is_named(who: &Who, id: Id) -> bool
+    ensures { result ≡ is_same_who (Who.Named id) who.now }
+{
+    match who {
+        Who::Star => false,
+        Who::Named(other) => id == *other,
+    }
+}
+
+// Whether both name one port.
+fn is_same_port(port: &Condition, other: &Condition) -> bool
+    ensures { result ≡ is_same_port port.now other.now }
+{
+    port.class.name() == other.class.name() && port.name == other.name
+}

@@ -1,7 +1,0 @@
-use Rattle.std.proofs.Common.{◌≡◌, ◌++◌, Bool, true, false, List, drop}
-use Rattle.racf_database.specs.Effects.{connects_after}
-use Rattle.racf_database.proofs.ConnectLaws.{rest_after}
-use Rattle.racf_database.proofs.made.connects.connects_after.Given as goal
-
-abbrev pub invariant-loop-connection : goal.invariant-loop-connection
-invariant-loop-connection l = l.connects.items ++ rest_after l.command l.group l.met (drop l.connection-index l.old) ≡ connects_after l.command l.group l.old

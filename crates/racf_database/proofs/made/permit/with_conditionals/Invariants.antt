@@ -1,7 +1,0 @@
-use Rattle.std.proofs.Common.{◌≡◌, fold, drop}
-use Rattle.racf_database.specs.PermitEffects.{with_conditional}
-use Rattle.racf_database.proofs.made.permit.with_conditionals.Given as goal
-
--- what is left makes the same of what was made
-abbrev pub invariant-loop-who : goal.invariant-loop-who
-invariant-loop-who l = fold (with_conditional l.command l.condition) l.list.items (drop l.who-index l.whos) ≡ fold (with_conditional l.command l.condition) l.fn.list.items l.whos

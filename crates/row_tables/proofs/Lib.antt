@@ -1,0 +1,6 @@
+pub mod RowLaws
+pub mod Keyed
+pub mod Counts
+pub mod GroupLaws
+pub mod Places
+pub mod EditLaws

@@ -1,14 +1,13 @@
 //! What issuers lack for commands of every kind, and how needs are told.
-ghost use Rattle.std.specs.Prelude.{[], ◌∷◌};
-
 use crate::{Need, authorised};
 use access_levels::{Attributes, Categories, Entry, GroupAuthority, Id, Level, Text, Who};
 use command_parser::{Issuer, parse};
 use generic_names::{NameKind, Pattern};
 use group_tree::Tree;
 use racf_profiles::{
-    AuditRule, Classes, CondEntries, Connect, Connects, Entries, Group, Members, Profile, Rows,
-    User, View,
+    AuditRule, CategoryNames, ClassRow, ClassRows, Classes, CondEntries, Connect, Connects,
+    Entries, FixedClass, Group, Groups, LogOption, Members, Options, Profile, Profiles, Rows, User,
+    Users, View,
 };
 use std::alloc::Global;
 use std::test::Fail;
@@ -51,36 +50,99 @@ fn tree(alloc: Global, owner: &[u8]) -> Result<Tree, Fail> {
     Ok(tree)
 }
 
-// A user with one connection.
-fn user(alloc: Global, id: &[u8], owner: &[u8], connect: Connect) -> Result<User, Fail> {
-    let mut connects = Vec::new(alloc);
-    connects.push(connect)?;
+/// A user with one connection.
+struct Known {
+    id: &'static [u8],
+    owner: &'static [u8],
+    group: &'static [u8],
+    authority: GroupAuthority,
+    /// The connection has group-SPECIAL.
+    special: bool,
+    /// The user has SPECIAL and AUDITOR.
+    administrator: bool,
+}
+
+/// ADM has group-SPECIAL in D1, ANN has CONNECT in G1, and D3 owns SUE.
+const USERS: [Known; 4] = [
+    Known {
+        id: b"IBMUSER",
+        owner: b"SYS1",
+        group: b"SYS1",
+        authority: GroupAuthority::MayJoin,
+        special: false,
+        administrator: true,
+    },
+    Known {
+        id: b"ADM",
+        owner: b"SYS1",
+        group: b"D1",
+        authority: GroupAuthority::MayUse,
+        special: true,
+        administrator: false,
+    },
+    Known {
+        id: b"ANN",
+        owner: b"SYS1",
+        group: b"G1",
+        authority: GroupAuthority::MayConnect,
+        special: false,
+        administrator: false,
+    },
+    Known {
+        id: b"SUE",
+        owner: b"D3",
+        group: b"D3",
+        authority: GroupAuthority::MayUse,
+        special: false,
+        administrator: false,
+    },
+];
+
+fn connects(alloc: Global, known: &Known) -> Result<Connects, Fail> {
+    let mut items = Vec::new(alloc);
+    items.push(Connect {
+        group: Id::read(known.group)?,
+        authority: known.authority,
+        special: known.special,
+        operations: false,
+        auditor: false,
+        revoked: false,
+    })?;
+    Ok(Connects { items })
+}
+
+fn user(alloc: Global, known: &Known) -> Result<User, Fail> {
+    let connects = connects(alloc, known)?;
+    let name = Text::of(alloc, b"")?;
     Ok(User {
-        id: Id::read(id)?,
-        default_group: connect.group,
-        owner: Id::read(owner)?,
-        name: Text::of(alloc, b"")?,
-        attributes: Attributes::default(),
+        id: Id::read(known.id)?,
+        default_group: Id::read(known.group)?,
+        owner: Id::read(known.owner)?,
+        name,
+        attributes: Attributes {
+            special: known.administrator,
+            operations: false,
+            auditor: known.administrator,
+            restricted: false,
+            revoked: false,
+            uaudit: false,
+        },
         classes: Classes {
             items: Vec::new(alloc),
         },
         level: 0,
         categories: Categories::NONE,
         label: None,
-        connects: Connects { items: connects },
+        connects,
     })
 }
 
-// A connection with this authority, with group-SPECIAL where it is said.
-fn connect(group: &[u8], authority: GroupAuthority, special: bool) -> Result<Connect, Fail> {
-    Ok(Connect {
-        group: Id::read(group)?,
-        authority,
-        special,
-        operations: false,
-        auditor: false,
-        revoked: false,
-    })
+fn users(alloc: Global) -> Result<Users, Fail> {
+    let mut items = Vec::new(alloc);
+    for known in &USERS {
+        items.push(user(alloc, known)?)?;
+    }
+    Ok(Users { items })
 }
 
 // A data set profile in whose standard list ANN has ALTER.
@@ -114,23 +176,44 @@ fn profile(alloc: Global, name: &[u8]) -> Result<Profile, Fail> {
     })
 }
 
-// The rows of a new database with ADM, who has group-SPECIAL in D1; ANN, who has CONNECT in G1; SUE, whom D3 owns; and
-// the data set profiles SYS1.A and SYS1.*.
-fn rows(alloc: Global) -> Result<Rows, Fail> {
-    let mut rows = Rows::new_database(alloc)?;
-    let adm = connect(b"D1", GroupAuthority::MayUse, true)?;
-    rows.users.items.push(user(alloc, b"ADM", b"SYS1", adm)?)?;
-    let ann = connect(b"G1", GroupAuthority::MayConnect, false)?;
-    rows.users.items.push(user(alloc, b"ANN", b"SYS1", ann)?)?;
-    let sue = connect(b"D3", GroupAuthority::MayUse, false)?;
-    rows.users.items.push(user(alloc, b"SUE", b"D3", sue)?)?;
-    let discrete = profile(alloc, b"SYS1.A")?;
-    let generic = profile(alloc, b"SYS1.*")?;
-    if let Some(class) = rows.classes.items.first_mut() {
-        class.profiles.items.push(discrete)?;
-        class.profiles.items.push(generic)?;
+fn profiles(alloc: Global) -> Result<Profiles, Fail> {
+    let mut items = Vec::new(alloc);
+    for name in [b"SYS1.A".as_slice(), b"SYS1.*".as_slice()] {
+        items.push(profile(alloc, name)?)?;
     }
-    Ok(rows)
+    Ok(Profiles { items })
+}
+
+fn classes(alloc: Global) -> Result<ClassRows, Fail> {
+    let mut items = Vec::new(alloc);
+    items.push(ClassRow {
+        name: FixedClass::Dataset.id(),
+        active: true,
+        listed: false,
+        global: false,
+        log: LogOption::ByProfile,
+        profiles: profiles(alloc)?,
+    })?;
+    Ok(ClassRows { items })
+}
+
+// The users, and the data set profiles SYS1.A and SYS1.*. The groups are those of a tree.
+fn rows(alloc: Global) -> Result<Rows, Fail> {
+    Ok(Rows {
+        users: users(alloc)?,
+        groups: Groups {
+            items: Vec::new(alloc),
+        },
+        classes: classes(alloc)?,
+        options: Options {
+            grplist: false,
+            protectall: false,
+            mls: false,
+            categories: CategoryNames {
+                items: Vec::new(alloc),
+            },
+        },
+    })
 }
 
 // A need as it is printed.

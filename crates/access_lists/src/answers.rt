@@ -27,10 +27,10 @@ pub enum Found {
 /// entry of a higher one, and not where its level is too low (z/OS Security Server RACF Security
 /// Administrator's Guide, authorization checking).
 ///
-/// It goes through the list three times at most, and through the groups once. For each entry whose level
-/// isn't below the best one so far its group is looked up among them: only the groups from the first one
-/// of the same slot on are compared with it, none where no group has that slot. With fewer than 16 groups
-/// or entries all groups are compared. It takes no memory.
+/// It goes through the list three times at most. With 16 groups and 16 entries or more it goes through
+/// the groups once, and then looks up the group of each entry whose level isn't below the best one so
+/// far: only the groups from the first one of the same slot on are compared with it, none where no group
+/// has that slot. With fewer all groups are compared. It takes no memory.
 pub fn answer(list: &[Entry], user: Id, groups: &[Id], restricted: bool) -> Found
     ensures { result ≡ answered user groups.now restricted list.now }
 {

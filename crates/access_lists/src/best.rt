@@ -4,7 +4,7 @@ ghost use Rattle.access_lists.specs.Lists.{is_under};
 ghost use Rattle.access_lists.specs.Answers.{for_group, as_group_entry, goes_before, first_of_two, group_entry, unconditional, entries_under};
 
 use crate::edits::is_same_port;
-use crate::places::Places;
+use crate::places::{Places, pays, starts_of};
 use access_levels::{CondEntry, Condition, Entry, Id, Level, Who};
 
 /// An entry for a group of the user.
@@ -26,19 +26,37 @@ impl GroupEntry {
     }
 }
 
-// The group entry of a standard list.
+// The group entry of a standard list. Few groups are compared, and no room for a look-up is made.
 pub(crate) fn group_entry(list: &[Entry], groups: &[Id]) -> Option<GroupEntry>
     ensures { result ≡ group_entry groups.now list.now }
 {
-    let places = Places::of(groups, list.len());
+    if pays(groups, list.len()) {
+        looked_up(list, groups)
+    } else {
+        best_of(list, &Places::compared(groups))
+    }
+}
+
+// The same by a look-up.
+fn looked_up(list: &[Entry], groups: &[Id]) -> Option<GroupEntry>
+    ensures { result ≡ group_entry groups.now list.now }
+{
+    let starts = starts_of(groups);
+    best_of(list, &Places::looked_up(groups, &starts))
+}
+
+// The best of the entries of a standard list.
+fn best_of(list: &[Entry], places: &Places) -> Option<GroupEntry>
+    ensures { result ≡ group_entry places.now list.now }
+{
     let mut best = None;
     for entry in list {
-        best = better(best, &places, entry.who, entry.level);
+        best = better(best, places, entry.who, entry.level);
     }
     best
 }
 
-// The group entry of a conditional list under a port.
+// The group entry of a conditional list under a port, likewise.
 pub(crate) fn group_entry_under(
     list: &[CondEntry],
     port: &Condition,
@@ -46,10 +64,28 @@ pub(crate) fn group_entry_under(
 ) -> Option<GroupEntry>
     ensures { result ≡ group_entry groups.now (entries_under port.now list.now) }
 {
-    let places = Places::of(groups, list.len());
+    if pays(groups, list.len()) {
+        looked_up_under(list, port, groups)
+    } else {
+        best_under(list, port, &Places::compared(groups))
+    }
+}
+
+// The same by a look-up.
+fn looked_up_under(list: &[CondEntry], port: &Condition, groups: &[Id]) -> Option<GroupEntry>
+    ensures { result ≡ group_entry groups.now (entries_under port.now list.now) }
+{
+    let starts = starts_of(groups);
+    best_under(list, port, &Places::looked_up(groups, &starts))
+}
+
+// The best of the entries of a conditional list under a port.
+fn best_under(list: &[CondEntry], port: &Condition, places: &Places) -> Option<GroupEntry>
+    ensures { result ≡ group_entry places.now (entries_under port.now list.now) }
+{
     let mut best = None;
     for entry in list {
-        best = better_under(best, port, &places, entry);
+        best = better_under(best, port, places, entry);
     }
     best
 }

@@ -11,12 +11,15 @@ const SLOTS: usize = 2048;
 /// Fewer groups are all compared, and so are all for fewer entries: that costs less than a look-up.
 const FEW: usize = 16;
 
-/// The groups of a user, each of which is looked for from the first group of its slot on. Contracts see
-/// them as their list.
+/// For each slot a place that isn't behind its first group.
+pub(crate) type Starts = [u16; SLOTS];
+
+/// The groups of a user, which are all compared, or each looked for from the start of its slot on.
+/// Contracts see them as their list.
 #[derive(Drop)]
 pub(crate) struct Places<'a> {
     groups: &'a [Id],
-    starts: Option<[u16; SLOTS]>,
+    starts: Option<&'a Starts>,
 }
 
 impl<'a> Model for Places<'a> {
@@ -27,21 +30,29 @@ impl<'a> Model for Places<'a> {
 
     ghost view = { λ places. places.groups.now };
 
-    ghost invariant = { λ places. IfSome places.starts (λ starts. AreStarts places.groups.now starts) };
+    ghost invariant = { λ places. IfSome places.starts (λ starts. AreStarts places.groups.now starts.now) };
 }
 
 impl<'a> Places<'a> {
-    // The groups in their order, to be asked for about as many entries. The look-up is made where it
-    // pays, in one walk over the groups.
-    pub(crate) fn of(groups: &'a [Id], entries: usize) -> Places<'a>
+    // Groups that are all compared.
+    pub(crate) fn compared(groups: &'a [Id]) -> Places<'a>
         ensures { result ≡ groups.now }
     {
-        let starts = if groups.len() < FEW || entries < FEW {
-            None
-        } else {
-            Some(starts_of(groups))
-        };
-        Places { groups, starts }
+        Places {
+            groups,
+            starts: None,
+        }
+    }
+
+    // Groups that are looked up by their starts.
+    pub(crate) fn looked_up(groups: &'a [Id], starts: &'a Starts) -> Places<'a>
+        requires { AreStarts groups.now starts.now }
+        ensures { result ≡ groups.now }
+    {
+        Places {
+            groups,
+            starts: Some(starts),
+        }
     }
 
     // The place of a group.
@@ -55,8 +66,13 @@ impl<'a> Places<'a> {
     }
 }
 
+// Whether it pays to look the groups up, for so many entries.
+pub(crate) fn pays(groups: &[Id], entries: usize) -> bool {
+    groups.len() >= FEW && entries >= FEW
+}
+
 // For each slot the place of its first group, and the number of groups for a slot without one.
-fn starts_of(groups: &[Id]) -> [u16; SLOTS]
+pub(crate) fn starts_of(groups: &[Id]) -> Starts
     ensures { AreStarts groups.now result }
 {
     let mut starts = [at_most(groups.len()); SLOTS];

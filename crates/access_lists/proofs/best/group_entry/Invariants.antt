@@ -1,6 +1,0 @@
-use Rattle.std.proofs.Common.{◌≡◌, drop}
-use Rattle.access_lists.specs.Answers.{first_of_two, group_entry}
-use Rattle.access_lists.proofs.best.group_entry.Given as goal
-
-abbrev pub invariant-loop-entry : goal.invariant-loop-entry
-invariant-loop-entry l = first_of_two l.best (group_entry l.groups (drop l.entry-index l.list)) ≡ group_entry l.groups l.list

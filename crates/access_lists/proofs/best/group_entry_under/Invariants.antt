@@ -1,6 +1,0 @@
-use Rattle.std.proofs.Common.{◌≡◌, drop}
-use Rattle.access_lists.specs.Answers.{first_of_two, group_entry, entries_under}
-use Rattle.access_lists.proofs.best.group_entry_under.Given as goal
-
-abbrev pub invariant-loop-entry : goal.invariant-loop-entry
-invariant-loop-entry l = first_of_two l.best (group_entry l.groups (entries_under l.port (drop l.entry-index l.list))) ≡ group_entry l.groups (entries_under l.port l.list)

@@ -18,7 +18,7 @@ use Rattle.access_lists.specs.Answers.{user_entry, group_entry, as_group_entry, 
 use Rattle.racf_profiles.specs.declared.users.User.{User}
 use Rattle.racf_profiles.specs.declared.users.Connect.{Connect as Connection}
 use Rattle.command_authority.specs.Held.{counting, groups_of, is_alter, has_alter}
-use Rattle.command_authority.specs.Entries.{is_in, is_for_group, gives_group_alter}
+use Rattle.command_authority.specs.Entries.{is_for_group, gives_group_alter}
 
 abbrev best_alter : Option GroupEntry → Bool
 best_alter o = option_map_or (λ (entry : GroupEntry). suffices entry.level Alter) o false

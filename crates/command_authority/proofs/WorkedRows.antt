@@ -4,7 +4,7 @@ use Rattle.access_levels.specs.declared.authorities.GroupAuthority.{GroupAuthori
 use Rattle.access_levels.specs.declared.authorities.GroupAuthority.TheVariants.{MayUse, MayCreate, MayConnect, MayJoin}
 use Rattle.access_levels.specs.declared.entries.Entry.{Entry}
 use Rattle.access_levels.specs.declared.entries.Who.TheVariants.{Star, Named}
-use Rattle.access_levels.specs.declared.levels.Level.TheVariants.{NoAccess, Read, Control, Alter}
+use Rattle.access_levels.specs.declared.levels.Level.TheVariants.{Read, Alter}
 use Rattle.generic_names.specs.Spelled.{Spelled}
 use Rattle.generic_names.specs.declared.kind.NameKind.TheVariants.{DataSet, General}
 use Rattle.racf_profiles.specs.declared.users.User.{User}
@@ -20,14 +20,12 @@ use Rattle.command_parser.specs.declared.commands.Issuer.{Issuer}
 use Rattle.command_parser.specs.declared.forms.AddUser.{AddUser}
 use Rattle.command_parser.specs.declared.forms.AltUser.{AltUser}
 use Rattle.command_parser.specs.declared.forms.Connect.{Connect as ConnectForm}
-use Rattle.command_parser.specs.declared.profile_forms.AddSd.{AddSd}
 use Rattle.command_parser.specs.declared.profile_forms.RAlter.{RAlter}
-use Rattle.command_parser.specs.declared.profile_forms.Permit.{Permit}
 use Rattle.command_parser.specs.declared.forms.Form.{Form}
 use Rattle.command_parser.specs.declared.forms.Form.TheVariants as form
 use Rattle.command_authority.specs.declared.needs.Need.{Need}
-use Rattle.command_authority.specs.declared.needs.Need.TheVariants.{Special, Auditor, ClassAuthority, Join, Connect, Create, Authority, Owner, GroupSpecial, OwnData, AlterEntry, UserJoin, UserOwner, UserGroupSpecial}
-use Rattle.command_authority.specs.Requirements.{add_user_requirements, alt_user_requirements, del_user_requirements, add_group_requirements, alt_group_requirements, del_group_requirements, connect_requirements, remove_requirements, add_sd_requirements, alt_sd_requirements, del_sd_requirements, r_define_requirements, r_alter_requirements, r_delete_requirements, permit_requirements}
+use Rattle.command_authority.specs.declared.needs.Need.TheVariants.{Special, Auditor, Join, Create, Authority, Owner, GroupSpecial, OwnData, AlterEntry, UserJoin, UserOwner, UserGroupSpecial}
+use Rattle.command_authority.specs.Requirements.{add_user_requirements, alt_user_requirements, del_user_requirements, add_group_requirements, alt_group_requirements, del_group_requirements, connect_requirements, add_sd_requirements, r_alter_requirements, permit_requirements}
 use Rattle.command_authority.specs.Authority.{is_met, need}
 
 -- ---- rows

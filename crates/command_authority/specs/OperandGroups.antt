@@ -1,9 +1,8 @@
 -- Words of the functions that ask for a command's operands: operands that stand side by side in the table.
 use Rattle.std.specs.Prelude.{ℕ, Bool, ◌||◌, not, List, Option, is_some}
-use Rattle.generic_names.specs.Spelled.{Spelled, is_empty}
+use Rattle.generic_names.specs.Spelled.{is_empty}
 use Rattle.access_levels.specs.declared.levels.Level.{Level}
 use Rattle.racf_profiles.specs.declared.profiles.AuditRule.{AuditRule}
-use Rattle.racf_profiles.specs.declared.profiles.Member.{Member}
 use Rattle.command_parser.specs.declared.forms.AltUser.{AltUser}
 
 -- ALTUSER: NAME, DFLTGRP and OWNER; the attributes; REVOKE to NOCLAUTH

@@ -79,9 +79,6 @@ adm = let row = user (codes "ADM") (codes "SYS1") (record (connection (codes "D1
 abbrev groups : (owner : List ℕ) → List Group
 groups owner = sys1 ∷ group (codes "D1") (codes "SYS1") (codes "SYS1") ∷ group (codes "D2") (codes "D1") owner ∷ group (codes "D3") (codes "D2") (codes "D2") ∷ []
 
-abbrev with_users : (owner : List ℕ) → List User → Rows
-with_users owner users = record { users = ibmuser ∷ users; groups = groups owner; classes = []; options = no_options }
-
 abbrev some_rows : (owner : List ℕ) → List User → Rows
 some_rows owner more = record {
   users = ibmuser ∷ user (codes "SUE") (codes "D3") [] ∷ user (codes "TOM") (codes "ADM") [] ∷ more;
@@ -246,7 +243,7 @@ generic_by_entry : lacks readers (codes "BOB") (permit (codes "DATASET") (data_s
 unfolding need is_met permit_requirements
 generic_by_entry = refl
 
--- PERMIT of F.A, in which G1 has ALTER, by JIM: connected to G1, by a revoked connection, and with an entry of his own too
+-- PERMIT of F.A, in which G1 has ALTER, by JIM: connected to G1, and by a revoked connection
 abbrev with_jim : Bool → Rows
 with_jim revoked = some_rows (codes "D1") (user (codes "JIM") (codes "SYS1") (connection (codes "D3") ∷ record (connection (codes "G1")) { revoked = revoked } ∷ []) ∷ [])
 
@@ -254,7 +251,7 @@ by_group_entry : map (λ revoked. lacks (with_jim revoked) (codes "JIM") (permit
 unfolding need is_met permit_requirements
 by_group_entry = refl
 
--- PERMIT of SUE.A by SUE, whose own data it is; by ADM, in whose scope SUE is, its owner
+-- PERMIT of SUE.A by SUE, whose own data it is; by ADM, in whose scope its owner SUE is; and by TOM
 own_data : map (λ who. lacks (some_rows (codes "D1") (adm ∷ [])) who (permit (codes "DATASET") (data_set (codes "SUE.A")))) (codes "SUE" ∷ codes "ADM" ∷ codes "TOM" ∷ []) ≡ None ∷ None ∷ Some (Special ∷ Owner ∷ GroupSpecial ∷ OwnData ∷ AlterEntry ∷ []) ∷ []
 unfolding need is_met permit_requirements
 own_data = refl

@@ -55,3 +55,6 @@ port_class_name Terminal = codes "TERMINAL"
 port_class_name Console = codes "CONSOLE"
 port_class_name Jesinput = codes "JESINPUT"
 port_class_name Appcport = codes "APPCPORT"
+
+abbrev pub port_classes : List PortClass
+port_classes = Terminal ∷ Console ∷ Jesinput ∷ Appcport ∷ []

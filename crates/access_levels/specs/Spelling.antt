@@ -2,11 +2,12 @@
 use Rattle.std.specs.Prelude.{ℕ, Bool, ◌==◌, ◌||◌, not, nat_lt, List, [], ◌∷◌, length, false, Option, Some, None, Result, Ok, Err, if◌then◌else◌, bytes_eq}
 use Rattle.std.specs.Char.{is_ascii_uppercase, is_ascii_digit}
 use Rattle.std.specs.List.{position_from, find}
-use Rattle.access_levels.specs.Level.{level_name, levels, authority_name, authorities}
+use Rattle.access_levels.specs.Level.{level_name, levels, authority_name, authorities, port_class_name, port_classes}
 use Rattle.access_levels.specs.declared.ids.IdFault.{IdFault}
 use Rattle.access_levels.specs.declared.ids.IdFault.TheVariants.{Empty, TooLong, BadByte}
 use Rattle.access_levels.specs.declared.levels.Level.{Level}
 use Rattle.access_levels.specs.declared.authorities.GroupAuthority.{GroupAuthority}
+use Rattle.access_levels.specs.declared.entries.PortClass.{PortClass}
 
 -- A name is made of the letters A to Z, digits, and # (35), $ (36) and @ (64).
 abbrev pub is_id_byte : ℕ → Bool
@@ -46,3 +47,7 @@ level_of text = find (λ level. bytes_eq (level_name level) text) levels
 
 abbrev pub authority_of : List ℕ → Option GroupAuthority
 authority_of text = find (λ authority. bytes_eq (authority_name authority) text) authorities
+
+-- The class of ports of entry whose name a text is.
+abbrev pub port_class_of : List ℕ → Option PortClass
+port_class_of text = find (λ class. bytes_eq (port_class_name class) text) port_classes

@@ -32,7 +32,11 @@ impl Model for Categories {
 
 impl Categories {
     /// The set of no category.
-    pub const NONE: Categories = Categories { words: [0; 4] };
+    pub fn none() -> Categories
+        ensures { result ≡ 0 }
+    {
+        Categories { words: [0; 4] }
+    }
 
     /// Whether a number is in the set.
     pub fn has(&self, n: u8) -> bool

@@ -1,6 +1,7 @@
 //! Entries of access lists, the conditions under which they count, and a user's attributes.
 ghost use Rattle.std.specs.Prelude.{◌≡◌};
 ghost use Rattle.access_levels.specs.Level.{port_class_name};
+ghost use Rattle.access_levels.specs.Spelling.{port_class_of};
 
 use crate::ids::Id;
 use crate::levels::Level;
@@ -29,6 +30,24 @@ pub enum PortClass {
 }
 
 impl PortClass {
+    /// The classes in the order of their definition.
+    pub const ALL: [PortClass; 4] = [
+        PortClass::Terminal,
+        PortClass::Console,
+        PortClass::Jesinput,
+        PortClass::Appcport,
+    ];
+
+    /// The class of that name.
+    pub fn read(bytes: &[u8]) -> Option<PortClass>
+        ensures { result ≡ port_class_of bytes.now }
+    {
+        PortClass::ALL
+            .iter()
+            .copied()
+            .find(|class| class.name() == bytes)
+    }
+
     /// The name of the class.
     pub fn name(self) -> &'static [u8]
         ensures { result.now ≡ port_class_name self }

@@ -93,14 +93,14 @@ impl Id {
         &self.bytes[..len]
     }
 
-    // The eight bytes as one number.
+    /// The eight bytes as one number.
     fn as_number(&self) -> u64
         ensures { result ≡ as_number self.now }
     {
         u64::from_be_bytes(self.bytes)
     }
 
-    // The identifier of a text that is known to spell one.
+    /// The identifier of a text that is known to spell one.
     fn spelled_by(text: &[u8]) -> Id
         requires short { length text.now ≤ 8 }
         requires spelled { id_of text.now ≡ Ok text.now }
@@ -117,7 +117,7 @@ impl Id {
     }
 }
 
-// Whether a byte may stand in an identifier.
+/// Whether a byte may stand in an identifier.
 fn is_id_byte(byte: u8) -> bool
     ensures { result ≡ is_id_byte byte }
 {
@@ -128,7 +128,7 @@ fn is_id_byte(byte: u8) -> bool
         || byte == b'@'
 }
 
-// The place, from 1, of the first byte that no identifier has.
+/// The place, from 1, of the first byte that no identifier has.
 fn first_bad_byte(bytes: &[u8]) -> Option<u32>
     requires { length bytes.now ≤ 8 }
     ensures { result ≡ bad_byte bytes.now }
@@ -143,7 +143,7 @@ fn first_bad_byte(bytes: &[u8]) -> Option<u32>
     None
 }
 
-// Whether the first byte is a digit.
+/// Whether the first byte is a digit.
 fn begins_with_digit(bytes: &[u8]) -> bool
     ensures { result ≡ begins_with_digit bytes.now }
 {

@@ -70,13 +70,14 @@ fn words(rt: HostRuntime) {
     );
     assert_eq!(rt; GroupAuthority::read(b""), None);
     assert_eq!(rt; GroupAuthority::MayConnect.rank(), 2);
-    assert!(rt; PortClass::Appcport.name() == b"APPCPORT".as_slice());
+    assert_eq!(rt; PortClass::read(b"APPCPORT"), Some(PortClass::Appcport));
+    assert_eq!(rt; PortClass::read(b"APPL"), None);
 }
 
 #[test]
 fn categories(rt: HostRuntime) {
     let borders = [0, 63, 64, 255];
-    let mut all = Categories::NONE;
+    let mut all = Categories::none();
     for n in borders {
         assert!(rt; !all.has(n));
         all = all.with(n);
@@ -87,7 +88,7 @@ fn categories(rt: HostRuntime) {
     assert_eq!(rt; all.without(0).without(255).first_missing(&all), Some(0));
     assert_eq!(rt; all.first_missing(&all.without(63)), None);
     assert_eq!(rt;
-        Categories::NONE.with(64).first_missing(&all.without(0)),
+        Categories::none().with(64).first_missing(&all.without(0)),
         Some(63)
     );
 }

@@ -1,6 +1,7 @@
 -- The first of two group entries, and of three whichever two are compared first.
-use Rattle.std.proofs.Common.{◌≡◌, ℕ, ◌<◌, ◌≤◌, Bool, true, false, cond, ◌||◌, ◌&&◌, eqb, ltb, List, [], ◌∷◌, map, drop, Option, Some, None, Decides, refl, sym, ◌∙◌, ap, arith, ◌⊎◌, inl, inr, ⊎_elim}
-use Rattle.std.specs.List.{filter}
+use Rattle.std.proofs.Common.{◌≡◌, ℕ, ◌<◌, ◌≤◌, Bool, true, false, cond, ◌||◌, ◌&&◌, eqb, ltb, List, [], ◌∷◌, map, drop, Option, Some, None, Decides, refl, subst, sym, ◌∙◌, ap, arith, ◌⊎◌, inl, inr, ⊎_elim}
+use Rattle.std.specs.Prelude.{IfSome, MatchOption}
+use Rattle.std.specs.List.{AllByRecursion, filter}
 use Rattle.std.proofs.lemmas.Bool.{cases_Bool, cases_order, cases_lt, false≢true}
 use Rattle.std.proofs.lemmas.Bool.Decides.{Decides-or, Decides-and, Decides-ltb, Decides-eqb, not_from_Decides}
 use Rattle.access_levels.specs.declared.entries.Entry.{Entry}
@@ -9,7 +10,7 @@ use Rattle.access_levels.specs.declared.entries.Condition.{Condition}
 use Rattle.access_levels.specs.Level.{level_rank}
 use Rattle.access_lists.specs.declared.best.GroupEntry.{GroupEntry}
 use Rattle.access_lists.specs.Lists.{is_under}
-use Rattle.access_lists.specs.Answers.{as_group_entry, goes_before, first_of_two, group_entry, unconditional, entries_under}
+use Rattle.access_lists.specs.Answers.{as_group_entry, goes_before, first_of_two, group_entry, unconditional, entries_under, IsAmong, IsFirst}
 
 abbrev Precedes : GroupEntry → GroupEntry → Type 0
 Precedes x y = (level_rank y.level < level_rank x.level) ⊎ ((level_rank x.level ≡ level_rank y.level) × (x.place < y.place))
@@ -104,3 +105,66 @@ one_more_under groups port best entry rest whole h = ⊎_elim
     ap (λ t. first_of_two (cond t (first_of_two best (as_group_entry groups (unconditional entry))) best) (group_entry groups (entries_under port rest))) miss
     ∙ ap (λ t. first_of_two best (group_entry groups (map unconditional (cond t (entry ∷ filter (is_under port) rest) (filter (is_under port) rest))))) (sym miss) ∙ h)
     (cases_Bool (is_under port entry))
+
+-- ---- the group entry in words
+never-both : (x y : GroupEntry) → goes_before x y ≡ true → goes_before y x ≡ false
+never-both x y h = ⊎_elim
+    (λ (hit : goes_before y x ≡ true). absurd (apart x y ((decides x y).0 h) ((decides y x).0 hit)))
+    (λ (miss : goes_before y x ≡ false). miss)
+    (cases_Bool (goes_before y x))
+  where
+    apart : (a b : GroupEntry) → Precedes a b → Precedes b a → ⊥
+    apart a b (inl h) (inl k) = omega (arith, h, k)
+    apart a b (inl h) (inr k) = omega (arith, h, k.0)
+    apart a b (inr h) (inl k) = omega (arith, h.0, k)
+    apart a b (inr h) (inr k) = omega (arith, h.1, k.1)
+
+not-itself : (x : GroupEntry) → goes_before x x ≡ false
+not-itself x = ⊎_elim
+    (λ (hit : goes_before x x ≡ true). absurd (false≢true (sym (never-both x x hit) ∙ hit)))
+    (λ (miss : goes_before x x ≡ false). miss)
+    (cases_Bool (goes_before x x))
+
+module _ (groups : List (List ℕ)) where
+  abbrev NoneBefore : GroupEntry → List Entry → Type 0
+  NoneBefore best list = AllByRecursion (λ entry. IfSome (as_group_entry groups entry) (λ other. goes_before other best ≡ false)) list
+
+  -- where no entry is for a group, none goes before any
+  none-for : (best : GroupEntry) (list : List Entry) → AllByRecursion (λ entry. as_group_entry groups entry ≡ None) list → NoneBefore best list
+  none-for best [] none = tt
+  none-for best (entry ∷ list) none = (subst (λ (o : Option GroupEntry). IfSome o (λ other. goes_before other best ≡ false)) (sym none.0) tt, none-for best list none.1)
+
+  passed : (y x : GroupEntry) (list : List Entry) → goes_before y x ≡ false → NoneBefore y list → NoneBefore x list
+  passed y x [] h none = tt
+  passed y x (entry ∷ list) h none = (one (as_group_entry groups entry) none.0, passed y x list h none.1)
+    where
+      one : (o : Option GroupEntry) → IfSome o (λ other. goes_before other y ≡ false) → IfSome o (λ other. goes_before other x ≡ false)
+      one None k = tt
+      one (Some other) k = after-trans other y x k h
+
+  pub group_entry-first-in : (list : List Entry) → MatchOption (group_entry groups list) (AllByRecursion (λ entry. as_group_entry groups entry ≡ None) list) (IsFirst groups list)
+  group_entry-first-in [] = tt
+  group_entry-first-in (entry ∷ list) = settled (group_entry-first-in list) (as_group_entry groups entry) refl (group_entry groups list) refl
+    where
+      settled : MatchOption (group_entry groups list) (AllByRecursion (λ e. as_group_entry groups e ≡ None) list) (IsFirst groups list)
+          → (o : Option GroupEntry) → as_group_entry groups entry ≡ o → (r : Option GroupEntry) → group_entry groups list ≡ r
+          → MatchOption (first_of_two o r) (AllByRecursion (λ e. as_group_entry groups e ≡ None) (entry ∷ list)) (IsFirst groups (entry ∷ list))
+      settled rest None is None was = (is, subst (λ (m : Option GroupEntry). MatchOption m (AllByRecursion (λ e. as_group_entry groups e ≡ None) list) (IsFirst groups list)) was rest)
+      settled rest None is (Some y) was =
+          let first : IsFirst groups list y = subst (λ (m : Option GroupEntry). MatchOption m (AllByRecursion (λ e. as_group_entry groups e ≡ None) list) (IsFirst groups list)) was rest in
+          record { among = inr first.among; none_before = (subst (λ (o : Option GroupEntry). IfSome o (λ other. goes_before other y ≡ false)) (sym is) tt, first.none_before) }
+      settled rest (Some x) is None was =
+          let none : AllByRecursion (λ e. as_group_entry groups e ≡ None) list = subst (λ (m : Option GroupEntry). MatchOption m (AllByRecursion (λ e. as_group_entry groups e ≡ None) list) (IsFirst groups list)) was rest in
+          record { among = inl is; none_before = (subst (λ (o : Option GroupEntry). IfSome o (λ other. goes_before other x ≡ false)) (sym is) (not-itself x), none-for x list none) }
+      settled rest (Some x) is (Some y) was = chosen (goes_before y x) refl
+        where
+          chosen : (t : Bool) → goes_before y x ≡ t → MatchOption (cond t (Some y) (Some x)) (AllByRecursion (λ e. as_group_entry groups e ≡ None) (entry ∷ list)) (IsFirst groups (entry ∷ list))
+          chosen true h =
+              let first : IsFirst groups list y = subst (λ (m : Option GroupEntry). MatchOption m (AllByRecursion (λ e. as_group_entry groups e ≡ None) list) (IsFirst groups list)) was rest in
+              record { among = inr first.among; none_before = (subst (λ (o : Option GroupEntry). IfSome o (λ other. goes_before other y ≡ false)) (sym is) (never-both y x h), first.none_before) }
+          chosen false h =
+              let first : IsFirst groups list y = subst (λ (m : Option GroupEntry). MatchOption m (AllByRecursion (λ e. as_group_entry groups e ≡ None) list) (IsFirst groups list)) was rest in
+              record { among = inl is; none_before = (subst (λ (o : Option GroupEntry). IfSome o (λ other. goes_before other x ≡ false)) (sym is) (not-itself x), passed y x list h first.none_before) }
+
+pub group_entry-first : (groups : List (List ℕ)) (list : List Entry) → MatchOption (group_entry groups list) (AllByRecursion (λ entry. as_group_entry groups entry ≡ None) list) (IsFirst groups list)
+group_entry-first groups list = group_entry-first-in groups list

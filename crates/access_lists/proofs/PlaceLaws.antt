@@ -9,7 +9,8 @@ use Rattle.access_levels.specs.declared.levels.Level.TheVariants.{NoAccess}
 use Rattle.access_levels.specs.declared.entries.CondEntry.{CondEntry}
 use Rattle.access_levels.specs.declared.entries.Condition.{Condition}
 use Rattle.access_lists.specs.declared.best.GroupEntry.{GroupEntry}
-use Rattle.access_lists.specs.Lists.{is_for, is_under, is_for_under, is_same_who}
+use Rattle.access_lists.specs.Lists.{is_for, is_under, is_for_under}
+use Rattle.access_levels.specs.Entries.{is_same_who}
 use Rattle.access_lists.specs.Answers.{user_entry, group_entry, star_entry, found_of, who_counts, unconditional, entries_under, answered_when}
 use Rattle.access_lists.proofs.PutLaws.{any_at_position, new_without_position}
 

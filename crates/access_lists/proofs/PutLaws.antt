@@ -7,7 +7,7 @@ use Rattle.std.proofs.lemmas.Bool.{cases_Bool}
 use Rattle.std.proofs.lemmas.Bool.Decides.{nat_tests}
 use Rattle.std.proofs.lemmas.List.Quantifiers.{position-Some}
 use Rattle.std.proofs.lemmas.List.Folds.{list_any_at}
-use Rattle.access_lists.specs.Lists.{entry_put, has_no_room, most_entries}
+use Rattle.access_lists.specs.Lists.{entry_put, is_absent, has_no_room, most_entries}
 
 put-hit : {X : Type 0} (p : X → Bool) (x y : X) (ys : List X) → p y ≡ true → entry_put p x (y ∷ ys) ≡ x ∷ ys
 put-hit p x y ys hit = ap (λ b. cond b (x ∷ ys) (y ∷ entry_put p x ys)) hit
@@ -72,3 +72,7 @@ not_full fault full is = (λ h. absurd cc, λ h. absurd cc)
 pub added_is_put : {X E : Type 0} (p : X → Bool) (xs new : List X) (x : X) (r : Result (Unit {0}) E) → position p xs ≡ None → MatchResult r (λ _. new ≡ xs ++ x ∷ []) (λ _. new ≡ xs) → MatchResult r (λ _. new ≡ entry_put p x xs) (λ _. new ≡ xs)
 added_is_put p xs new x (Ok u) none h = h ∙ sym (new_without_position p xs x none).put
 added_is_put p xs new x (Err e) none h = h
+
+-- Where no place is found, no entry is for the ID.
+pub absent_at_none : {X : Type 0} (p : X → Bool) (xs : List X) (x : X) → position p xs ≡ None → is_absent p xs ≡ true
+absent_at_none p xs x none = ap not (new_without_position p xs x none).any

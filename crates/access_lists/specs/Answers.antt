@@ -1,6 +1,6 @@
 -- Which entry of an access list counts for a user and his groups.
-use Rattle.std.specs.Prelude.{ℕ, Bool, true, false, ◌==◌, ◌||◌, ◌&&◌, nat_lt, if◌then◌else◌, List, [], ◌∷◌, map, Option, Some, None, option_map, option_and_then, bytes_eq}
-use Rattle.std.specs.List.{find, filter, position}
+use Rattle.std.specs.Prelude.{◌≡◌, ◌⊎◌, ℕ, Bool, true, false, ◌==◌, ◌||◌, ◌&&◌, nat_lt, if◌then◌else◌, List, [], ◌∷◌, map, Option, Some, None, IfSome, MatchOption, option_map, option_and_then, bytes_eq}
+use Rattle.std.specs.List.{AllByRecursion, find, filter, position}
 use Rattle.access_levels.specs.declared.entries.Who.{Who}
 use Rattle.access_levels.specs.declared.entries.Who.TheVariants.{Star, Named}
 use Rattle.access_levels.specs.declared.entries.Entry.{Entry}
@@ -42,6 +42,20 @@ first_of_two (Some entry) (Some other) = if goes_before other entry then Some ot
 abbrev pub group_entry : List (List ℕ) → List Entry → Option GroupEntry
 group_entry groups [] = None
 group_entry groups (entry ∷ list) = first_of_two (as_group_entry groups entry) (group_entry groups list)
+
+-- It is the entry of the list for one of the groups.
+abbrev pub IsAmong : List (List ℕ) → GroupEntry → List Entry → Type 0
+IsAmong groups best [] = ⊥
+IsAmong groups best (entry ∷ list) = (as_group_entry groups entry ≡ Some best) ⊎ IsAmong groups best list
+
+-- It is one of the entries for the groups, and none of them goes before it.
+pub record IsFirst (groups : List (List ℕ)) (list : List Entry) (best : GroupEntry) : Type 0 where
+  pub among : IsAmong groups best list
+  pub none_before : AllByRecursion (λ entry. IfSome (as_group_entry groups entry) (λ other. goes_before other best ≡ false)) list
+
+-- The group entry is that one, and there is none only where no entry is for one of the groups.
+abbrev pub GroupEntryIsFirst : Type 0
+GroupEntryIsFirst = (groups : List (List ℕ)) (list : List Entry) → MatchOption (group_entry groups list) (AllByRecursion (λ entry. as_group_entry groups entry ≡ None) list) (IsFirst groups list)
 
 -- The user entry, without one the group entry, without both the star entry.
 abbrev pub found_of : Option Entry → Option GroupEntry → Option Entry → Found

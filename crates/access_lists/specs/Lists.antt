@@ -2,23 +2,10 @@
 use Rattle.std.specs.Prelude.{ℕ, Bool, true, false, ◌&&◌, not, nat_le, if◌then◌else◌, List, [], ◌∷◌, length, bytes_eq}
 use Rattle.std.specs.List.{filter, list_any}
 use Rattle.access_levels.specs.declared.entries.Who.{Who}
-use Rattle.access_levels.specs.declared.entries.Who.TheVariants.{Star, Named}
 use Rattle.access_levels.specs.declared.entries.Entry.{Entry}
 use Rattle.access_levels.specs.declared.entries.CondEntry.{CondEntry}
 use Rattle.access_levels.specs.declared.entries.Condition.{Condition}
-use Rattle.access_levels.specs.declared.entries.PortClass.{PortClass}
-use Rattle.access_levels.specs.Level.{port_class_name}
-
--- Both are `*`, or both are one ID.
-abbrev pub is_same_who : Who → Who → Bool
-is_same_who Star Star = true
-is_same_who Star (Named id) = false
-is_same_who (Named id) Star = false
-is_same_who (Named id) (Named other) = bytes_eq id other
-
--- Both name one port of one class.
-abbrev pub is_same_port : Condition → Condition → Bool
-is_same_port port other = bytes_eq (port_class_name port.class) (port_class_name other.class) && bytes_eq port.name other.name
+use Rattle.access_levels.specs.Entries.{is_same_who, is_same_port}
 
 -- The entry is for `*` or for the ID that is meant, and of a conditional list also under the condition.
 abbrev pub is_for : Who → Entry → Bool
@@ -49,12 +36,16 @@ withdrawn who list = filter (λ entry. not (is_for who entry)) list
 abbrev pub withdrawn_when : Condition → Who → List CondEntry → List CondEntry
 withdrawn_when condition who list = filter (λ entry. not (is_for_under condition who entry)) list
 
+-- No entry is for the ID that is meant, so that one would be added.
+abbrev pub is_absent : {X : Type 0} → (X → Bool) → List X → Bool
+is_absent replaces list = not (list_any replaces list)
+
 -- A list has at most 1,000 entries (this product's own limit): it is full for an entry that it would have to add to them.
 abbrev pub most_entries : ℕ
 most_entries = 1000
 
 abbrev pub has_no_room : {X : Type 0} → (X → Bool) → List X → Bool
-has_no_room replaces list = not (list_any replaces list) && nat_le most_entries (length list)
+has_no_room replaces list = is_absent replaces list && nat_le most_entries (length list)
 
 abbrev pub is_full : Entry → List Entry → Bool
 is_full entry list = has_no_room (is_for entry.who) list

@@ -43,7 +43,7 @@ pub fn answer(list: &[Entry], user: Id, groups: &[Id], restricted: bool) -> Foun
     star_level(list, restricted)
 }
 
-// What the star entry gives.
+/// What the star entry gives.
 fn star_level(list: &[Entry], restricted: bool) -> Found
     ensures { result ≡ found_of None None (star_entry restricted list.now) }
 {
@@ -53,7 +53,7 @@ fn star_level(list: &[Entry], restricted: bool) -> Found
     }
 }
 
-// The level of the entry for one.
+/// The level of the entry for one.
 fn level_for(list: &[Entry], who: Who) -> Option<Level>
     ensures { result ≡ option_map (λ (entry : Entry). entry.level) (find (is_for who) list.now) }
 {
@@ -85,7 +85,7 @@ pub fn answer_when(
     }
 }
 
-// The place of the entry that counts under a port.
+/// The place of the entry that counts under a port.
 fn place_that_counts(
     list: &[CondEntry],
     port: &Condition,

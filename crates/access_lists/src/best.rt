@@ -17,7 +17,7 @@ pub struct GroupEntry {
 }
 
 impl GroupEntry {
-    // Whether it goes before another: by its level, and at the same level by its group's place.
+    /// Whether it goes before another: by its level, and at the same level by its group's place.
     fn goes_before(&self, other: &GroupEntry) -> bool
         ensures { result ≡ goes_before self.now other.now }
     {
@@ -26,7 +26,7 @@ impl GroupEntry {
     }
 }
 
-// The group entry of a standard list. Few groups are compared, and no room for a look-up is made.
+/// The group entry of a standard list. Few groups are compared, and no room for a look-up is made.
 pub(crate) fn group_entry(list: &[Entry], groups: &[Id]) -> Option<GroupEntry>
     ensures { result ≡ group_entry groups.now list.now }
 {
@@ -37,7 +37,7 @@ pub(crate) fn group_entry(list: &[Entry], groups: &[Id]) -> Option<GroupEntry>
     }
 }
 
-// The same by a look-up.
+/// The same by a look-up.
 fn looked_up(list: &[Entry], groups: &[Id]) -> Option<GroupEntry>
     ensures { result ≡ group_entry groups.now list.now }
 {
@@ -45,7 +45,7 @@ fn looked_up(list: &[Entry], groups: &[Id]) -> Option<GroupEntry>
     best_of(list, &Places::looked_up(groups, &starts))
 }
 
-// The best of the entries of a standard list.
+/// The best of the entries of a standard list.
 fn best_of(list: &[Entry], places: &Places) -> Option<GroupEntry>
     ensures { result ≡ group_entry places.now list.now }
 {
@@ -56,7 +56,7 @@ fn best_of(list: &[Entry], places: &Places) -> Option<GroupEntry>
     best
 }
 
-// The group entry of a conditional list under a port, likewise.
+/// The group entry of a conditional list under a port, likewise.
 pub(crate) fn group_entry_under(
     list: &[CondEntry],
     port: &Condition,
@@ -71,7 +71,7 @@ pub(crate) fn group_entry_under(
     }
 }
 
-// The same by a look-up.
+/// The same by a look-up.
 fn looked_up_under(list: &[CondEntry], port: &Condition, groups: &[Id]) -> Option<GroupEntry>
     ensures { result ≡ group_entry groups.now (entries_under port.now list.now) }
 {
@@ -79,7 +79,7 @@ fn looked_up_under(list: &[CondEntry], port: &Condition, groups: &[Id]) -> Optio
     best_under(list, port, &Places::looked_up(groups, &starts))
 }
 
-// The best of the entries of a conditional list under a port.
+/// The best of the entries of a conditional list under a port.
 fn best_under(list: &[CondEntry], port: &Condition, places: &Places) -> Option<GroupEntry>
     ensures { result ≡ group_entry places.now (entries_under port.now list.now) }
 {
@@ -90,7 +90,7 @@ fn best_under(list: &[CondEntry], port: &Condition, places: &Places) -> Option<G
     best
 }
 
-// The better of the best so far and a conditional entry under the port.
+/// The better of the best so far and a conditional entry under the port.
 fn better_under(
     best: Option<GroupEntry>,
     port: &Condition,
@@ -106,8 +106,8 @@ fn better_under(
     }
 }
 
-// The better of the best so far and an entry. Its group is looked up only where it can be the better
-// one by its level.
+/// The better of the best so far and an entry. Its group is looked up only where it can be the better
+/// one by its level.
 fn better(best: Option<GroupEntry>, places: &Places, who: Who, level: Level) -> Option<GroupEntry>
     ensures { result ≡ first_of_two best (for_group places.now level who) }
 {
@@ -118,7 +118,7 @@ fn better(best: Option<GroupEntry>, places: &Places, who: Who, level: Level) -> 
     }
 }
 
-// The first of two where there is a second.
+/// The first of two where there is a second.
 fn first_of_two(best: GroupEntry, other: Option<GroupEntry>) -> Option<GroupEntry>
     ensures { result ≡ first_of_two (Some best) other }
 {
@@ -128,7 +128,7 @@ fn first_of_two(best: GroupEntry, other: Option<GroupEntry>) -> Option<GroupEntr
     }
 }
 
-// An entry for one of the groups, with the place of its group.
+/// An entry for one of the groups, with the place of its group.
 fn for_group(places: &Places, who: Who, level: Level) -> Option<GroupEntry>
     ensures { result ≡ for_group places.now level who }
 {

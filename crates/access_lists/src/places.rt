@@ -34,7 +34,7 @@ impl<'a> Model for Places<'a> {
 }
 
 impl<'a> Places<'a> {
-    // Groups that are all compared.
+    /// Groups that are all compared.
     pub(crate) fn compared(groups: &'a [Id]) -> Places<'a>
         ensures { result ≡ groups.now }
     {
@@ -44,7 +44,7 @@ impl<'a> Places<'a> {
         }
     }
 
-    // Groups that are looked up by their starts.
+    /// Groups that are looked up by their starts.
     pub(crate) fn looked_up(groups: &'a [Id], starts: &'a Starts) -> Places<'a>
         requires { AreStarts groups.now starts.now }
         ensures { result ≡ groups.now }
@@ -55,7 +55,7 @@ impl<'a> Places<'a> {
         }
     }
 
-    // The place of a group.
+    /// The place of a group.
     pub(crate) fn place_of(&self, id: Id) -> Option<usize>
         ensures { result ≡ position (bytes_eq id) self.now }
     {
@@ -66,12 +66,12 @@ impl<'a> Places<'a> {
     }
 }
 
-// Whether it pays to look the groups up, for so many entries.
+/// Whether it pays to look the groups up, for so many entries.
 pub(crate) fn pays(groups: &[Id], entries: usize) -> bool {
     groups.len() >= FEW && entries >= FEW
 }
 
-// For each slot the place of its first group, and the number of groups for a slot without one.
+/// For each slot the place of its first group, and the number of groups for a slot without one.
 pub(crate) fn starts_of(groups: &[Id]) -> Starts
     ensures { AreStarts groups.now result }
 {
@@ -85,14 +85,14 @@ pub(crate) fn starts_of(groups: &[Id]) -> Starts
     starts
 }
 
-// A place that isn't behind this one, in sixteen bits.
+/// A place that isn't behind this one, in sixteen bits.
 fn at_most(place: usize) -> u16
     ensures { result ≤ place }
 {
     u16::try_from(place).unwrap_or(u16::MAX)
 }
 
-// The slot of a group.
+/// The slot of a group.
 fn slot_of(id: Id) -> usize
     ensures slot { result ≡ slot_of id }
     ensures within { result < 2048 }
@@ -104,7 +104,7 @@ fn slot_of(id: Id) -> usize
     slot
 }
 
-// The place of a group that isn't before this place.
+/// The place of a group that isn't before this place.
 fn place_from(groups: &[Id], from: usize, id: Id) -> Option<usize>
     requires within { from ≤ length groups.now }
     requires behind { (place : ℕ) → place < from → bytes_eq id (get_or groups.now place []) ≡ false }
@@ -117,7 +117,7 @@ fn place_from(groups: &[Id], from: usize, id: Id) -> Option<usize>
     }
 }
 
-// The place of a group in a list.
+/// The place of a group in a list.
 fn place_in(groups: &[Id], id: Id) -> Option<usize>
     ensures { result ≡ position (bytes_eq id) groups.now }
 {

@@ -9,7 +9,7 @@ fn id(text: &[u8]) -> Result<Id, Fail> {
     Ok(Id::read(text).ok().ok_or("a lawful ID")?)
 }
 
-// The ID U and a number of four digits.
+/// The ID U and a number of four digits.
 fn numbered(number: u16) -> Result<Id, Fail> {
     let digits = [
         b'U',
@@ -28,7 +28,7 @@ fn entry(text: &[u8], level: Level) -> Result<Entry, Fail> {
     })
 }
 
-// The rank of the level that the list has for an ID, and 9 where it has none.
+/// The rank of the level that the list has for an ID, and 9 where it has none.
 fn rank_for(list: &[Entry], user: Id) -> u8 {
     rank_of(&answer(list, user, &[], true))
 }
@@ -42,7 +42,7 @@ fn rank_of(found: &Found) -> u8 {
     }
 }
 
-// Whether the answer is this group.
+/// Whether the answer is this group.
 fn is_group(found: &Found, group: Id) -> bool {
     match found {
         Found::Group(id, _) => *id == group,
@@ -102,7 +102,7 @@ fn is_full_at_a_thousand(rt: HostRuntime) -> Result<(), Fail> {
     Ok(())
 }
 
-// U0000 to U0999 with the levels NONE to ALTER in turn.
+/// U0000 to U0999 with the levels NONE to ALTER in turn.
 fn large_list(alloc: Global) -> Result<Vec<Entry>, Fail> {
     let mut list = Vec::new(alloc);
     for number in 0..1000 {
@@ -117,7 +117,7 @@ fn large_list(alloc: Global) -> Result<Vec<Entry>, Fail> {
 fn answers_by_rank_and_order(rt: HostRuntime) -> Result<(), Fail> {
     let mut list = large_list(rt.alloc())?;
     let joe = id(b"JOE")?;
-    // levels READ, UPDATE, ALTER, ALTER
+    /// levels READ, UPDATE, ALTER, ALTER
     let groups = [numbered(2)?, numbered(3)?, numbered(995)?, numbered(5)?];
     let found = answer(list.as_slice(), joe, &groups, false);
     assert_eq!(rt; rank_of(&found), 15);
@@ -138,9 +138,9 @@ fn answers_by_rank_and_order(rt: HostRuntime) -> Result<(), Fail> {
     Ok(())
 }
 
-// The number of the first group, the step to each next one, how many there are, and the rank that
-// answers: no group has an entry, one has, all have, all in falling order, fifteen; at last four groups
-// of one slot, whose second answers.
+/// The number of the first group, the step to each next one, how many there are, and the rank that
+/// answers: no group has an entry, one has, all have, all in falling order, fifteen; at last four groups
+/// of one slot, whose second answers.
 const GROUPS: [(u16, u16, u16, u8); 6] = [
     (5_000, 1, 300, 9),
     (999, 1, 300, 13),
@@ -160,7 +160,7 @@ fn numbered_groups(alloc: Global, first: u16, step: u16, count: u16) -> Result<V
     Ok(groups)
 }
 
-// The first of the groups whose entry has the highest rank, by a walk through the list for each.
+/// The first of the groups whose entry has the highest rank, by a walk through the list for each.
 fn walked(list: &[Entry], groups: &[Id]) -> Option<Id> {
     let mut best = None;
     let mut least = 0;
@@ -174,7 +174,7 @@ fn walked(list: &[Entry], groups: &[Id]) -> Option<Id> {
     best
 }
 
-// Whether the answer is what the walk gives.
+/// Whether the answer is what the walk gives.
 fn is_walked(found: &Found, list: &[Entry], groups: &[Id]) -> bool {
     match walked(list, groups) {
         Some(group) => is_group(found, group),
@@ -209,7 +209,7 @@ fn conditional(class: PortClass, who: Who, level: Level) -> Result<CondEntry, Fa
     })
 }
 
-// The place that answers for JOE, who is in the groups G1 and G2 and came by this port, and 99 for none.
+/// The place that answers for JOE, who is in the groups G1 and G2 and came by this port, and 99 for none.
 fn place_for_joe(list: &[CondEntry], class: PortClass, restricted: bool) -> Result<usize, Fail> {
     let groups = [id(b"G1")?, id(b"G2")?];
     let condition = Some(port(class)?);

@@ -61,7 +61,7 @@ impl AceeGroups {
     }
 }
 
-// The group of a connection.
+/// The group of a connection.
 fn acee_group(connection: &Connect) -> AceeGroup
     ensures { result ≡ acee_group connection.now }
 {
@@ -71,7 +71,7 @@ fn acee_group(connection: &Connect) -> AceeGroup
     }
 }
 
-// The groups of the connections that aren't revoked.
+/// The groups of the connections that aren't revoked.
 fn groups_of(alloc: Global, connects: &[Connect]) -> Result<Vec<AceeGroup>, NoMemory>
     ensures { IfOk result (λ groups. groups.items ≡ acee_groups connects.now) }
 {
@@ -82,7 +82,7 @@ fn groups_of(alloc: Global, connects: &[Connect]) -> Result<Vec<AceeGroup>, NoMe
         .collect(alloc)
 }
 
-// The names of the groups.
+/// The names of the groups.
 fn names_of(alloc: Global, groups: &[AceeGroup]) -> Result<Vec<Id>, NoMemory>
     ensures { IfOk result (λ names. names.items ≡ group_names groups.now) }
 {

@@ -9,6 +9,3 @@ mod verify;
 pub use acee::Acee;
 pub use groups::{AceeGroup, AceeGroups};
 pub use request::{VerifyFault, VerifyRequest};
-
-#[cfg(test)]
-mod tests;

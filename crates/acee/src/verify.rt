@@ -35,7 +35,7 @@ impl Acee {
     }
 }
 
-// The first check of a user that fails.
+/// The first check of a user that fails.
 fn first_fault(user: &User, request: &VerifyRequest) -> Option<VerifyFault>
     ensures { result ≡ checked_connection user.now (connection_to (group_asked request.now user.now) user.now) }
 {
@@ -51,7 +51,7 @@ fn first_fault(user: &User, request: &VerifyRequest) -> Option<VerifyFault>
     None
 }
 
-// The group that is asked for.
+/// The group that is asked for.
 fn group_asked(request: &VerifyRequest, user: &User) -> Id
     ensures { result ≡ group_asked request.now user.now }
 {
@@ -61,7 +61,7 @@ fn group_asked(request: &VerifyRequest, user: &User) -> Id
     }
 }
 
-// The user's connection to a group.
+/// The user's connection to a group.
 fn connection_to(user: &User, group: Id) -> Option<&Connect>
     ensures { option_copied result ≡ connection_to group user.now }
 {
@@ -71,7 +71,7 @@ fn connection_to(user: &User, group: Id) -> Option<&Connect>
         .find(|connection| connection.group == group)
 }
 
-// The ACEE of a user whose checks pass.
+/// The ACEE of a user whose checks pass.
 fn acee_for(
     alloc: Global,
     image: &Image,
@@ -95,7 +95,7 @@ fn acee_for(
     })
 }
 
-// The label of a user.
+/// The label of a user.
 fn label_for(image: &Image, request: &VerifyRequest, user: &User) -> Option<Id>
     ensures { result ≡ label_for request.now user.now image.now.state.rows }
 {
@@ -108,7 +108,7 @@ fn label_for(image: &Image, request: &VerifyRequest, user: &User) -> Option<Id>
     }
 }
 
-// Whether a class is active.
+/// Whether a class is active.
 fn is_active(image: &Image, class: Id) -> bool
     ensures { result ≡ is_active class image.now.state.rows }
 {

@@ -9,9 +9,11 @@ use Rattle.racf_profiles.specs.declared.class_rows.ClassRow.{ClassRow}
 use Rattle.racf_profiles.specs.Lookup.{is_class, is_profile}
 use Rattle.racf_profiles.specs.Edits.{put_profile, drop_row, at_class, with_profile, without_profile}
 use Rattle.std.specs.Prelude.{IfSome}
-use Rattle.class_profiles.specs.Lawful.{AreClasses, AreProfiles, kind_in, most_profiles, most_class_profiles}
+use Rattle.racf_profiles.specs.LawfulProfiles.{AreClasses, AreProfiles, kind_in}
+use Rattle.racf_profiles.specs.Limits.{most_profiles, most_class_profiles, most_entries_in_all}
 use Rattle.class_profiles.specs.Table.{CanPut}
-use Rattle.class_profiles.specs.Classes.{Roomy, ClassList, profile_in, profile_count, entry_count, entries_in, most_entries, IsRoomFor, CanPutIn}
+use Rattle.class_profiles.specs.Classes.{ClassWithRoom, ClassList, profile_in, IsRoomFor, CanPutIn}
+use Rattle.racf_profiles.specs.Counts.{profile_count, entry_count, entries_in}
 use Rattle.class_profiles.specs.Summed.{rows_in}
 use Rattle.class_profiles.proofs.Counts.{sum-put, sum-drop, length-put, length-drop, sum-at_class, found-le}
 use Rattle.class_profiles.proofs.Places.{IsAt, spares, found-at, name-at, room-at, set-at, lawful-found, lawful-found_by, lawful-at_class, at_class-absent}
@@ -52,7 +54,7 @@ pub entries-le : (name : List ℕ) (n : Spelled) (classes : List ClassRow) → o
 entries-le = part-le (sum_by entries_in) entries_in (λ n ps. sum-drop n entries_in ps)
 
 -- what a profile needs to be put is what its class's table asks
-pub can-put : (name : List ℕ) (items : List Roomy) (k : ℕ) (c : Roomy) (p : Profile) → IsAt name items k → slice_get items k ≡ Some c
+pub can-put : (name : List ℕ) (items : List ClassWithRoom) (k : ℕ) (c : ClassWithRoom) (p : Profile) → IsAt name items k → slice_get items k ≡ Some c
     → CanPutIn (record { classes = rows_in items; spare = spares items }) name p → CanPut (record { kind = kind_in c.row.name; profiles = c.row.profiles; spare = c.spare }) p
 can-put name items k c p at got can =
     let found = found-at name items k c at got in
@@ -67,7 +69,7 @@ can-put name items k c p at got can =
     few (Some row) is holds = let same : row ≡ c.row = cc in subst (λ (r : ClassRow). length (put_profile p r.profiles) ≤ most_class_profiles) same holds
 
 -- a profile that can be put, and the class at the place
-module _ (not_both : NotBoth) (passed_on : PassedOn) (name : List ℕ) (items : List Roomy) (k : ℕ) (c : Roomy) (p : Profile) (at : IsAt name items k) (got : slice_get items k ≡ Some c)
+module _ (not_both : NotBoth) (passed_on : PassedOn) (name : List ℕ) (items : List ClassWithRoom) (k : ℕ) (c : ClassWithRoom) (p : Profile) (at : IsAt name items k) (got : slice_get items k ≡ Some c)
     (lawful : AreClasses (rows_in items)) (can : CanPutIn (record { classes = rows_in items; spare = spares items }) name p) where
   found : find (is_class name) (rows_in items) ≡ Some c.row
   found = found-at name items k c at got
@@ -88,10 +90,10 @@ module _ (not_both : NotBoth) (passed_on : PassedOn) (name : List ℕ) (items : 
     put-entries = total-put (sum_by entries_in) entries_in (λ n ps. sum-drop n entries_in ps) name p.name c.row (rows_in items) found count part counted parted p (entries_in p)
         (sum-put not_both passed_on (kind_in c.row.name) p kind entries_in c.row.profiles profiles.named profiles.ordered)
 
-    pub put-few : entries_in p ≤ most_entries
+    pub put-few : entries_in p ≤ most_entries_in_all
     put-few = omega (arith, put-entries, can.few_entries)
 
-  module _ (y : Roomy) (row : y.row ≡ with_profile p c.row) (holds : AreProfiles (kind_in c.row.name) y.row.profiles) where
+  module _ (y : ClassWithRoom) (row : y.row ≡ with_profile p c.row) (holds : AreProfiles (kind_in c.row.name) y.row.profiles) where
     pub put-rows : rows_in (set items k y) ≡ at_class name (with_profile p) (rows_in items)
     put-rows = set-at name (with_profile p) items k c y at got row
 
@@ -109,11 +111,11 @@ module _ (not_both : NotBoth) (passed_on : PassedOn) (name : List ℕ) (items : 
       pub put-few_profiles : count - part + one ≤ most_profiles
       put-few_profiles = omega (arith, is_one, put-count count part counted parted, can.few)
 
-      pub put-few_entries : entries - entries_part + more ≤ most_entries
+      pub put-few_entries : entries - entries_part + more ≤ most_entries_in_all
       put-few_entries = omega (arith, is_more, put-entries entries entries_part entries_counted entries_parted, can.few_entries)
 
 -- a profile that is taken out, and the class at the place
-module _ (name : List ℕ) (items : List Roomy) (k : ℕ) (c y : Roomy) (n : Spelled) (at : IsAt name items k) (got : slice_get items k ≡ Some c) (lawful : AreClasses (rows_in items))
+module _ (name : List ℕ) (items : List ClassWithRoom) (k : ℕ) (c y : ClassWithRoom) (n : Spelled) (at : IsAt name items k) (got : slice_get items k ≡ Some c) (lawful : AreClasses (rows_in items))
     (row : y.row ≡ without_profile n c.row) (holds : AreProfiles (kind_in c.row.name) y.row.profiles) where
   pub drop-rows : rows_in (set items k y) ≡ at_class name (without_profile n) (rows_in items)
   drop-rows = set-at name (without_profile n) items k c y at got row
@@ -178,7 +180,7 @@ module _ (not_both : NotBoth) (passed_on : PassedOn) (name : List ℕ) (row : Cl
       )
 
 -- a change of a class that keeps its name and its profiles
-module _ (name : List ℕ) (items : List Roomy) (k : ℕ) (c y : Roomy) (change : ClassRow → ClassRow) (at : IsAt name items k) (got : slice_get items k ≡ Some c) (lawful : AreClasses (rows_in items))
+module _ (name : List ℕ) (items : List ClassWithRoom) (k : ℕ) (c y : ClassWithRoom) (change : ClassRow → ClassRow) (at : IsAt name items k) (got : slice_get items k ≡ Some c) (lawful : AreClasses (rows_in items))
     (row : y.row ≡ change c.row) (names : (r : ClassRow) → (change r).name ≡ r.name) (keeps : (r : ClassRow) → (change r).profiles ≡ r.profiles) where
   pub flag-rows : rows_in (set items k y) ≡ at_class name change (rows_in items)
   flag-rows = set-at name change items k c y at got row
@@ -204,7 +206,7 @@ module _ (name : List ℕ) (items : List Roomy) (k : ℕ) (c y : Roomy) (change 
 
 -- what is enough for a profile to be put
 pub enough : NotBoth → PassedOn → (list : ClassList) (name : List ℕ) (row : ClassRow) (p : Profile) → AreClasses list.classes → profile_count list.classes ≤ most_profiles → find (is_class name) list.classes ≡ Some row → p.name.kind ≡ kind_in name
-    → (profile_in name p.name list.classes ≡ None → IsRoomFor list name row) → entry_count list.classes + entries_in p ≤ most_entries + option_map_or entries_in (profile_in name p.name list.classes) 0 → CanPutIn list name p
+    → (profile_in name p.name list.classes ≡ None → IsRoomFor list name row) → entry_count list.classes + entries_in p ≤ most_entries_in_all + option_map_or entries_in (profile_in name p.name list.classes) 0 → CanPutIn list name p
 enough not_both passed_on list name row p lawful few found is room few_entries = record {
   kind = is;
   room = λ absent. (room absent).room;

@@ -11,7 +11,8 @@ use Rattle.generic_names.specs.Laws.{IsPattern, OneIsBefore, NotBoth, PassedOn}
 use Rattle.racf_profiles.specs.declared.profiles.Profile.{Profile}
 use Rattle.racf_profiles.specs.Lookup.{is_profile}
 use Rattle.racf_profiles.specs.Edits.{put_profile, drop_row, comes_first, is_in_order, AreNamed}
-use Rattle.class_profiles.specs.Lawful.{AreProfiles, most_class_profiles}
+use Rattle.racf_profiles.specs.LawfulProfiles.{AreProfiles}
+use Rattle.racf_profiles.specs.Limits.{most_class_profiles}
 
 pub head : (a b : Bool) → (a && b) ≡ true → a ≡ true
 head true b h = refl

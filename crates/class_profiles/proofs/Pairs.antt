@@ -17,7 +17,8 @@ use Rattle.profile_index.specs.Indexed.{AreOf, has_name, name_of, with_entry, wi
 use Rattle.racf_profiles.specs.declared.profiles.Profile.{Profile}
 use Rattle.racf_profiles.specs.Lookup.{is_profile}
 use Rattle.racf_profiles.specs.Edits.{put_profile, drop_row, is_in_order, AreNamed}
-use Rattle.class_profiles.specs.Lawful.{AreProfiles, most_class_profiles}
+use Rattle.racf_profiles.specs.LawfulProfiles.{AreProfiles}
+use Rattle.racf_profiles.specs.Limits.{most_class_profiles}
 use Rattle.class_profiles.specs.Paired.{entry_of, items_of}
 use Rattle.class_profiles.specs.Table.{IsPlaceOf, best_profile}
 use Rattle.class_profiles.proofs.Order.{ordered-tail, rest-behind, none-behind, none-left, the_other_way, same_spelled, all-drop_row, length-drop_row, order-drop_row, named-put}

@@ -3,30 +3,17 @@ use Rattle.std.specs.Prelude.{◌≡◌, ℕ, ◌+◌, ◌<◌, ◌≤◌, ◌==
 use Rattle.std.specs.List.{find, sum_by, before_first}
 use Rattle.std.specs.Option.{option_map, option_and_then}
 use Rattle.std.specs.Str.{bytes_eq}
-use Rattle.generic_names.specs.Spelled.{Spelled, period}
+use Rattle.generic_names.specs.Spelled.{Spelled, first_qualifier}
 use Rattle.racf_profiles.specs.declared.profiles.Profile.{Profile}
 use Rattle.racf_profiles.specs.declared.class_rows.ClassRow.{ClassRow}
 use Rattle.racf_profiles.specs.Lookup.{is_class, is_profile}
 use Rattle.racf_profiles.specs.Edits.{put_profile, at_class, with_profile}
-use Rattle.class_profiles.specs.Lawful.{kind_in, most_class_profiles, most_profiles}
-
--- The most entries of all access lists.
-abbrev pub most_entries : ℕ
-most_entries = 1000000
-
--- The entries of a profile's two access lists.
-abbrev pub entries_in : Profile → ℕ
-entries_in profile = length profile.standard + length profile.conditional
-
--- How many profiles the classes have together, and how many entries.
-abbrev pub profile_count : List ClassRow → ℕ
-profile_count classes = sum_by (λ (class : ClassRow). length class.profiles) classes
-
-abbrev pub entry_count : List ClassRow → ℕ
-entry_count classes = sum_by (λ (class : ClassRow). sum_by entries_in class.profiles) classes
+use Rattle.racf_profiles.specs.Counts.{profile_count, entry_count}
+use Rattle.racf_profiles.specs.Limits.{most_class_profiles, most_profiles, most_entries_in_all}
+use Rattle.racf_profiles.specs.LawfulProfiles.{kind_in}
 
 -- A class, and how many profiles can be added to it without memory.
-pub record Roomy : Type 0 where
+pub record ClassWithRoom : Type 0 where
   pub row : ClassRow
   pub spare : ℕ
 
@@ -48,10 +35,6 @@ room_in name list = room_among name list.classes list.spare
 abbrev pub profile_in : List ℕ → Spelled → List ClassRow → Option Profile
 profile_in class name classes = option_and_then (λ (row : ClassRow). find (is_profile name) row.profiles) (find (is_class class) classes)
 
--- The first qualifier of a text is what stands before its first period.
-abbrev pub first_qualifier : List ℕ → List ℕ
-first_qualifier text = before_first (λ byte. byte == period) text
-
 -- The first profile of DATASET, in order of specificity, whose name has that first qualifier.
 abbrev pub is_under : List ℕ → Profile → Bool
 is_under qualifier profile = bytes_eq (first_qualifier profile.name.text) qualifier
@@ -67,10 +50,11 @@ pub record IsRoomFor (list : ClassList) (class : List ℕ) (row : ClassRow) : Ty
   pub few_in_class : length row.profiles < most_class_profiles
   pub few : profile_count list.classes < most_profiles
 
--- The profile has a name of the class's kind, a profile of its name or room for one more is there, and the limits are kept.
+-- The profile has a name of the class's kind, a profile of its name or room for one more is there, and the limits are
+-- kept.
 pub record CanPutIn (list : ClassList) (class : List ℕ) (profile : Profile) : Type 0 where
   pub kind : profile.name.kind ≡ kind_in class
   pub room : profile_in class profile.name list.classes ≡ None → 0 < room_in class list
   pub few_in_class : IfSome (find (is_class class) list.classes) (λ (row : ClassRow). length (put_profile profile row.profiles) ≤ most_class_profiles)
   pub few : profile_count (at_class class (with_profile profile) list.classes) ≤ most_profiles
-  pub few_entries : entry_count (at_class class (with_profile profile) list.classes) ≤ most_entries
+  pub few_entries : entry_count (at_class class (with_profile profile) list.classes) ≤ most_entries_in_all

@@ -1,12 +1,12 @@
 -- How a class and all classes are kept.
 use Rattle.std.specs.Prelude.{◌≡◌}
 use Rattle.class_profiles.specs.declared.class_table.ClassTable.TheInside.{Inside}
-use Rattle.class_profiles.specs.Lawful.{kind_in}
-use Rattle.class_profiles.specs.Classes.{Roomy}
+use Rattle.racf_profiles.specs.LawfulProfiles.{kind_in}
+use Rattle.class_profiles.specs.Classes.{ClassWithRoom}
 
 -- the row of a class, with its profiles in it
-abbrev pub roomy : Inside → Roomy
-roomy table = record {
+abbrev pub class_with_room : Inside → ClassWithRoom
+class_with_room table = record {
   row = record { name = table.name; active = table.active; listed = table.listed; global = table.global; log = table.log; profiles = table.profiles.profiles };
   spare = table.profiles.spare;
 }

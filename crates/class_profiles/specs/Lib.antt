@@ -1,4 +1,3 @@
-pub mod Lawful
 pub mod Table
 pub mod Paired
 pub mod Classes

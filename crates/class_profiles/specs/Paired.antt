@@ -4,7 +4,7 @@ use Rattle.profile_index.specs.declared.entry.Entry.{Entry}
 use Rattle.racf_profiles.specs.declared.profiles.Profile.{Profile}
 use Rattle.class_profiles.specs.declared.table.ProfileTable.TheInside.{Inside}
 use Rattle.class_profiles.specs.Table.{ProfileList}
-use Rattle.class_profiles.specs.Lawful.{AreProfiles}
+use Rattle.racf_profiles.specs.LawfulProfiles.{AreProfiles}
 
 abbrev pub entry_of : Profile → Entry Profile
 entry_of profile = record { name = profile.name; item = profile }

@@ -2,14 +2,16 @@
 use Rattle.std.specs.Prelude.{◌≡◌, ◌≤◌, List, map}
 use Rattle.racf_profiles.specs.declared.class_rows.ClassRow.{ClassRow}
 use Rattle.class_profiles.specs.declared.class_tables.ClassTables.TheInside.{Inside}
-use Rattle.class_profiles.specs.Lawful.{AreClasses, most_profiles}
-use Rattle.class_profiles.specs.Classes.{Roomy, ClassList, profile_count, entry_count, most_entries}
+use Rattle.racf_profiles.specs.LawfulProfiles.{AreClasses}
+use Rattle.racf_profiles.specs.Limits.{most_profiles, most_entries_in_all}
+use Rattle.class_profiles.specs.Classes.{ClassWithRoom, ClassList}
+use Rattle.racf_profiles.specs.Counts.{profile_count, entry_count}
 
-abbrev pub rows_in : List Roomy → List ClassRow
-rows_in classes = map (λ (class : Roomy). class.row) classes
+abbrev pub rows_in : List ClassWithRoom → List ClassRow
+rows_in classes = map (λ (class : ClassWithRoom). class.row) classes
 
 abbrev pub class_list : Inside → ClassList
-class_list tables = record { classes = rows_in tables.classes.items; spare = map (λ (class : Roomy). class.spare) tables.classes.items }
+class_list tables = record { classes = rows_in tables.classes.items; spare = map (λ (class : ClassWithRoom). class.spare) tables.classes.items }
 
 -- The classes are lawful, the counts are theirs, and the limits hold.
 pub record AreSummed (tables : Inside) : Type 0 where
@@ -17,4 +19,4 @@ pub record AreSummed (tables : Inside) : Type 0 where
   pub counted : tables.count ≡ profile_count (rows_in tables.classes.items)
   pub entries_counted : tables.entries ≡ entry_count (rows_in tables.classes.items)
   pub few : tables.count ≤ most_profiles
-  pub few_entries : tables.entries ≤ most_entries
+  pub few_entries : tables.entries ≤ most_entries_in_all

@@ -8,7 +8,7 @@ use Rattle.generic_names.specs.Best.{best}
 use Rattle.racf_profiles.specs.declared.profiles.Profile.{Profile}
 use Rattle.racf_profiles.specs.Lookup.{is_profile}
 use Rattle.racf_profiles.specs.Edits.{put_profile}
-use Rattle.class_profiles.specs.Lawful.{most_class_profiles}
+use Rattle.racf_profiles.specs.Limits.{most_class_profiles}
 
 -- The kind of the names, the profiles in order of specificity, and how many can be added without memory.
 pub record ProfileList : Type 0 where
@@ -25,7 +25,8 @@ pub record IsPlaceOf (profiles : List Profile) (profile : Option Profile) (answe
   pub within : IfSome answer (λ place. place < length profiles)
   pub there : option_and_then (λ place. slice_get profiles place) answer ≡ profile
 
--- The profile has a name of the kind, a profile of its name or room for one more is there, and they aren't too many then.
+-- The profile has a name of the kind, a profile of its name or room for one more is there, and they aren't too many
+-- then.
 pub record CanPut (list : ProfileList) (profile : Profile) : Type 0 where
   pub kind : profile.name.kind ≡ list.kind
   pub room : find (is_profile profile.name) list.profiles ≡ None → 0 < list.spare

@@ -1,21 +1,20 @@
 //! A class with its profiles.
 ghost use Rattle.std.specs.Prelude.{◌≡◌, ◌+◌, ◌<◌, ◌≤◌, ◌==◌, length, position, is_some, OnOk, IfOk, if◌then◌else◌};
 ghost use Rattle.std.specs.List.{find};
-ghost use Rattle.generic_names.specs.Spelled.{period};
-ghost use Rattle.racf_profiles.specs.ClassTable.{class_name};
+ghost use Rattle.generic_names.specs.Spelled.{period, first_qualifier};
 ghost use Rattle.racf_profiles.specs.NewDatabase.{empty_class};
 ghost use Rattle.racf_profiles.specs.Lookup.{is_profile};
 ghost use Rattle.racf_profiles.specs.Edits.{put_profile, with_profile, without_profile, with_flags, with_listed};
-ghost use Rattle.class_profiles.specs.Lawful.{AreProfiles, kind_in};
+ghost use Rattle.racf_profiles.specs.LawfulProfiles.{AreProfiles, kind_in};
 ghost use Rattle.class_profiles.specs.Table.{CanPut};
-ghost use Rattle.class_profiles.specs.Classes.{is_under, first_qualifier};
+ghost use Rattle.class_profiles.specs.Classes.{is_under};
 ghost use Rattle.std.specs.Option.{option_copied, option_map};
 ghost use Rattle.std.specs.Str.{bytes_eq};
 
 use crate::table::ProfileTable;
 use access_levels::Id;
-use generic_names::{NameKind, Pattern};
-use racf_profiles::{ClassRow, FixedClass, LogOption, NoMemory, Profile};
+use generic_names::Pattern;
+use racf_profiles::{ClassRow, FixedClass, LogOption, NoMemory, Profile, kind_in};
 use std::alloc::Global;
 use std::marker::Model;
 
@@ -31,19 +30,19 @@ pub struct ClassTable {
 }
 
 impl Model for ClassTable {
-    ghost use Rattle.class_profiles.specs.Classes.{Roomy};
+    ghost use Rattle.class_profiles.specs.Classes.{ClassWithRoom};
 
-    ghost Value = { Roomy };
+    ghost Value = { ClassWithRoom };
 
-    ghost use Rattle.class_profiles.specs.Counted.{roomy, HasItsKind};
+    ghost use Rattle.class_profiles.specs.Counted.{class_with_room, HasItsKind};
 
-    ghost view = { roomy };
+    ghost view = { class_with_room };
 
     ghost invariant = { HasItsKind };
 }
 
 impl ClassTable {
-    // A class without profiles.
+    /// A class without profiles.
     pub(crate) fn new(
         alloc: Global,
         class: FixedClass,
@@ -57,7 +56,7 @@ impl ClassTable {
             listed: false,
             global: false,
             log: LogOption::ByProfile,
-            profiles: ProfileTable::new(alloc, kind_of(class))?,
+            profiles: ProfileTable::new(alloc, kind_in(class.id()))?,
         })
     }
 
@@ -102,7 +101,7 @@ impl ClassTable {
         &self.profiles
     }
 
-    // The name of the first profile with that first qualifier.
+    /// The name of the first profile with that first qualifier.
     pub(crate) fn first_under(&self, qualifier: Id) -> Option<&Pattern>
         ensures { option_copied result ≡ option_map (λ profile. profile.name) (find (is_under qualifier) self.now.row.profiles) }
     {
@@ -115,16 +114,16 @@ impl ClassTable {
         None
     }
 
-    // Makes room for one more profile.
-    pub(crate) fn reserve(&mut self) -> Result<(), NoMemory>
+    /// Makes room for this many profiles more.
+    pub(crate) fn reserve(&mut self, more: usize) -> Result<(), NoMemory>
         ensures row { self.new.row ≡ self.old.row }
-        ensures spare { OnOk result (0 < self.new.spare) }
+        ensures spare { OnOk result (more ≤ self.new.spare) }
         ensures kept { self.old.spare ≤ self.new.spare }
     {
-        self.profiles.reserve()
+        self.profiles.reserve(more)
     }
 
-    // Puts a profile.
+    /// Puts a profile.
     pub(crate) fn put(&mut self, profile: Profile)
         requires { CanPut (record { kind = kind_in self.old.row.name; profiles = self.old.row.profiles; spare = self.old.spare }) profile }
         ensures row { self.new.row ≡ with_profile profile self.old.row }
@@ -134,7 +133,7 @@ impl ClassTable {
         self.profiles.put(profile);
     }
 
-    // Takes the profile of that name away.
+    /// Takes the profile of that name away.
     pub(crate) fn remove(&mut self, name: &Pattern)
         ensures row { self.new.row ≡ without_profile name.now self.old.row }
         ensures spare { self.old.spare ≤ self.new.spare }
@@ -143,7 +142,7 @@ impl ClassTable {
         self.profiles.remove(name);
     }
 
-    // Sets whether the class is active, whether the global access table is used for it, and its log option.
+    /// Sets whether the class is active, whether the global access table is used for it, and its log option.
     pub(crate) fn set_flags(&mut self, active: bool, global: bool, log: LogOption)
         ensures row { self.new.row ≡ with_flags active global log self.old.row }
         ensures spare { self.new.spare ≡ self.old.spare }
@@ -153,7 +152,7 @@ impl ClassTable {
         self.log = log;
     }
 
-    // Sets whether it is RACLISTed.
+    /// Sets whether it is RACLISTed.
     pub(crate) fn set_listed(&mut self, listed: bool)
         ensures row { self.new.row ≡ with_listed listed self.old.row }
         ensures spare { self.new.spare ≡ self.old.spare }
@@ -161,7 +160,7 @@ impl ClassTable {
         self.listed = listed;
     }
 
-    // The row of the class, with copies of its profiles.
+    /// The row of the class, with copies of its profiles.
     pub(crate) fn row(&self, alloc: Global) -> Result<ClassRow, NoMemory>
         ensures { IfOk result (λ row. row ≡ self.now.row) }
     {
@@ -176,24 +175,14 @@ impl ClassTable {
     }
 }
 
-// The kind of the names in a class.
-fn kind_of(class: FixedClass) -> NameKind
-    ensures { result ≡ kind_in (class_name class) }
-{
-    match class {
-        FixedClass::Dataset => NameKind::DataSet,
-        _ => NameKind::General,
-    }
-}
-
-// Whether a name has that first qualifier.
+/// Whether a name has that first qualifier.
 fn is_under(name: &Pattern, qualifier: Id) -> bool
     ensures { result ≡ bytes_eq (first_qualifier name.now.text) qualifier }
 {
     first_qualifier(name.text()) == qualifier.text()
 }
 
-// What stands before the first period.
+/// What stands before the first period.
 fn first_qualifier(text: &[u8]) -> &[u8]
     ensures { result.now ≡ first_qualifier text.now }
 {
@@ -203,7 +192,7 @@ fn first_qualifier(text: &[u8]) -> &[u8]
     }
 }
 
-// The place of the first period.
+/// The place of the first period.
 fn first_period(text: &[u8]) -> Option<usize>
     ensures { result ≡ position (λ byte. byte == period) text.now }
 {

@@ -7,9 +7,11 @@ ghost use Rattle.racf_profiles.specs.ClassTable.{is_dataset};
 ghost use Rattle.racf_profiles.specs.NewDatabase.{new_classes};
 ghost use Rattle.racf_profiles.specs.Lookup.{is_class, is_profile};
 ghost use Rattle.racf_profiles.specs.Edits.{put_profile, at_class, with_profile, without_profile, with_flags, with_listed};
-ghost use Rattle.class_profiles.specs.Lawful.{AreClasses, most_profiles};
+ghost use Rattle.racf_profiles.specs.LawfulProfiles.{AreClasses};
+ghost use Rattle.racf_profiles.specs.Limits.{most_profiles, most_entries_in_all};
 ghost use Rattle.class_profiles.specs.Summed.{rows_in};
-ghost use Rattle.class_profiles.specs.Classes.{most_entries, entries_in, profile_count, entry_count, room_in, profile_in, first_under, CanPutIn};
+ghost use Rattle.class_profiles.specs.Classes.{room_in, profile_in, first_under, CanPutIn};
+ghost use Rattle.racf_profiles.specs.Counts.{entries_in, profile_count, entry_count};
 
 use crate::class_table::ClassTable;
 use access_levels::Id;
@@ -28,12 +30,10 @@ pub struct ClassTables {
 }
 
 impl Model for ClassTables {
-    ghost use Rattle.class_profiles.specs.Summed.{rows_in};
+    ghost use Rattle.class_profiles.specs.Summed.{rows_in, class_list, AreSummed};
     ghost use Rattle.class_profiles.specs.Classes.{ClassList};
 
     ghost Value = { ClassList };
-
-    ghost use Rattle.class_profiles.specs.Summed.{class_list, AreSummed};
 
     ghost view = { class_list };
 
@@ -67,7 +67,7 @@ impl ClassTables {
     /// How many entries the access lists of all profiles have, at most 1,000,000.
     pub fn entries(&self) -> usize
         ensures count { result ≡ entry_count self.now.classes }
-        ensures few { result ≤ most_entries }
+        ensures few { result ≤ most_entries_in_all }
     {
         self.entries
     }
@@ -92,14 +92,14 @@ impl ClassTables {
         }
     }
 
-    /// Makes room in a class for one more profile. An unknown class changes nothing.
-    pub fn reserve(&mut self, class: Id) -> Result<(), NoMemory>
+    /// Makes room in a class for this many profiles more. An unknown class changes nothing.
+    pub fn reserve(&mut self, class: Id, more: usize) -> Result<(), NoMemory>
         ensures classes { self.new.classes ≡ self.old.classes }
-        ensures room { OnOk result (IsSome (find (is_class class) self.old.classes) → 0 < room_in class self.new) }
+        ensures room { OnOk result (IsSome (find (is_class class) self.old.classes) → more ≤ room_in class self.new) }
         ensures kept { (name : List ℕ) → room_in name self.old ≤ room_in name self.new }
     {
         match place_of(&self.classes, class) {
-            Some(place) => self.classes[place].reserve(),
+            Some(place) => self.classes[place].reserve(more),
             None => Ok(()),
         }
     }
@@ -109,6 +109,7 @@ impl ClassTables {
     pub fn put(&mut self, class: Id, profile: Profile)
         requires { CanPutIn self.old class profile }
         ensures classes { self.new.classes ≡ at_class class (with_profile profile) self.old.classes }
+        ensures own { room_in class self.old ≤ room_in class self.new + 1 }
         ensures others { (name : List ℕ) → bytes_eq class name ≡ false → room_in name self.new ≡ room_in name self.old }
     {
         generic_names::laws::order_is_total();
@@ -179,7 +180,7 @@ impl ClassTables {
         rows_of(alloc, &self.classes)
     }
 
-    // What the profile of that name in a class adds to the counts.
+    /// What the profile of that name in a class adds to the counts.
     fn share_in(&self, class: Id, name: &Pattern) -> Share
         ensures profiles { result.profiles ≡ option_map_or (λ _. 1) (profile_in class name.now self.now.classes) 0 }
         ensures entries { result.entries ≡ option_map_or entries_in (profile_in class name.now self.now.classes) 0 }
@@ -197,14 +198,14 @@ impl ClassTables {
     }
 }
 
-// The place of the class of that name.
+/// The place of the class of that name.
 fn place_of(classes: &[ClassTable], name: Id) -> Option<usize>
     ensures { result ≡ position (λ class. is_class name class.row) classes.now }
 {
     classes.iter().position(|class| class.name() == name)
 }
 
-// Copies of the rows.
+/// Copies of the rows.
 fn rows_of(alloc: Global, classes: &[ClassTable]) -> Result<ClassRows, NoMemory>
     ensures { IfOk result (λ rows. rows ≡ rows_in classes.now) }
 {
@@ -215,16 +216,16 @@ fn rows_of(alloc: Global, classes: &[ClassTable]) -> Result<ClassRows, NoMemory>
     Ok(ClassRows { items })
 }
 
-// What a profile adds to the counts.
+/// What a profile adds to the counts.
 #[derive(Clone, Copy)]
 struct Share {
     profiles: usize,
     entries: usize,
 }
 
-// What this profile adds to the counts.
+/// What this profile adds to the counts.
 fn share_of(profile: &Profile) -> Share
-    requires { entries_in profile.now ≤ most_entries }
+    requires { entries_in profile.now ≤ most_entries_in_all }
     ensures profiles { result.profiles ≡ 1 }
     ensures entries { result.entries ≡ entries_in profile.now }
 {
@@ -234,7 +235,7 @@ fn share_of(profile: &Profile) -> Share
     }
 }
 
-// No profile; every class active, or DATASET alone.
+/// No profile; every class active, or DATASET alone.
 fn empty(alloc: Global, all: bool) -> Result<ClassTables, NoMemory>
     ensures { IfOk result (λ tables. tables.classes ≡ new_classes (λ class. all || is_dataset class)) }
 {

@@ -8,8 +8,10 @@ ghost use Rattle.racf_profiles.specs.declared.profiles.Profile.{Profile};
 ghost use Rattle.racf_profiles.specs.declared.class_rows.ClassRow.{ClassRow};
 ghost use Rattle.racf_profiles.specs.Lookup.{is_class, is_profile};
 ghost use Rattle.racf_profiles.specs.Edits.{put_profile, drop_row, at_class, with_profile, without_profile};
-ghost use Rattle.class_profiles.specs.Lawful.{AreProfiles, AreClasses, kind_in, most_profiles};
-ghost use Rattle.class_profiles.specs.Classes.{ClassList, profile_count, entry_count, entries_in, profile_in, most_entries, IsRoomFor, CanPutIn};
+ghost use Rattle.racf_profiles.specs.LawfulProfiles.{AreProfiles, AreClasses, kind_in};
+ghost use Rattle.racf_profiles.specs.Limits.{most_profiles, most_entries_in_all};
+ghost use Rattle.class_profiles.specs.Classes.{ClassList, profile_in, IsRoomFor, CanPutIn};
+ghost use Rattle.racf_profiles.specs.Counts.{profile_count, entry_count, entries_in};
 
 /// A profile that is put counts in place of the one of its name, if there was one.
 pub fn puts_are_counted()
@@ -34,7 +36,7 @@ pub fn found_is_lawful()
 /// A profile can be put where its class is known and has room for it, and the limits aren't reached: a profile that
 /// replaces another is no more than that one, and the entries of that one count no more.
 pub fn counts_are_enough()
-    ensures { (list : ClassList) (class : List ℕ) (row : ClassRow) (profile : Profile) → AreClasses list.classes → profile_count list.classes ≤ most_profiles → find (is_class class) list.classes ≡ Some row → profile.name.kind ≡ kind_in class → (profile_in class profile.name list.classes ≡ None → IsRoomFor list class row) → entry_count list.classes + entries_in profile ≤ most_entries + option_map_or entries_in (profile_in class profile.name list.classes) 0 → CanPutIn list class profile }
+    ensures { (list : ClassList) (class : List ℕ) (row : ClassRow) (profile : Profile) → AreClasses list.classes → profile_count list.classes ≤ most_profiles → find (is_class class) list.classes ≡ Some row → profile.name.kind ≡ kind_in class → (profile_in class profile.name list.classes ≡ None → IsRoomFor list class row) → entry_count list.classes + entries_in profile ≤ most_entries_in_all + option_map_or entries_in (profile_in class profile.name list.classes) 0 → CanPutIn list class profile }
 {
     generic_names::laws::order_is_total();
 }

@@ -1,4 +1,14 @@
-//! The profiles of the classes: each class's profiles in an index, found by name and by what they cover.
+//! The profiles of each class, [`ClassTables`], and of one class, [`ProfileTable`].
+//!
+//! Rows are those of `racf_profiles`, and the order of profiles is kept by `profile_index`. The tables of a database
+//! hold the classes; an image has a table for each class.
+//!
+//! ```
+//! let mut tables = ClassTables::new(alloc)?;
+//! tables.reserve(class, 1)?;
+//! tables.put(class, profile);
+//! let found = tables.profile(class, &name);
+//! ```
 #![tactic(auto)]
 
 mod class_table;
@@ -9,7 +19,7 @@ mod table;
 
 pub use class_table::ClassTable;
 pub use class_tables::ClassTables;
-pub use limits::{MOST_CLASS_PROFILES, MOST_ENTRIES, MOST_PROFILES};
+pub use limits::{MOST_CLASS_PROFILES, MOST_ENTRIES_IN_ALL, MOST_PROFILES};
 pub use racf_profiles::NoMemory;
 pub use table::ProfileTable;
 

@@ -7,4 +7,4 @@ pub const MOST_CLASS_PROFILES: usize = 50_000;
 pub const MOST_PROFILES: usize = 100_000;
 
 /// The most entries of all access lists.
-pub const MOST_ENTRIES: usize = 1_000_000;
+pub const MOST_ENTRIES_IN_ALL: usize = 1_000_000;

@@ -6,7 +6,8 @@ ghost use Rattle.std.specs.Result.{result_ok};
 ghost use Rattle.generic_names.specs.Faults.{pattern_of};
 ghost use Rattle.racf_profiles.specs.Lookup.{is_profile};
 ghost use Rattle.racf_profiles.specs.Edits.{put_profile, drop_row};
-ghost use Rattle.class_profiles.specs.Lawful.{AreProfiles, most_class_profiles};
+ghost use Rattle.racf_profiles.specs.LawfulProfiles.{AreProfiles};
+ghost use Rattle.racf_profiles.specs.Limits.{most_class_profiles};
 ghost use Rattle.class_profiles.specs.Table.{best_profile, IsPlaceOf, CanPut};
 
 use generic_names::{NameKind, Pattern, Resource};
@@ -125,12 +126,12 @@ impl ProfileTable {
         self.profiles.find(name)
     }
 
-    /// Makes room for one more profile.
-    pub fn reserve(&mut self) -> Result<(), NoMemory>
-        ensures ok { OnOk result (self.new ≡ record self.old { spare = max self.old.spare 1 }) }
+    /// Makes room for this many profiles more.
+    pub fn reserve(&mut self, more: usize) -> Result<(), NoMemory>
+        ensures ok { OnOk result (self.new ≡ record self.old { spare = max self.old.spare more }) }
         ensures err { OnErr result (self.new ≡ self.old) }
     {
-        self.profiles.reserve(1)
+        self.profiles.reserve(more)
     }
 
     /// Puts a profile in the place of the one of its name, or else at its place in the order. It takes no memory.
@@ -161,19 +162,19 @@ impl ProfileTable {
         }
     }
 
-    // Puts a profile, and takes the memory for it first.
+    /// Puts a profile, and takes the memory for it first.
     fn put_with_memory(&mut self, profile: Profile) -> Result<(), NoMemory>
         requires kind { profile.name.kind ≡ self.old.kind }
         requires few { length (put_profile profile self.old.profiles) ≤ most_class_profiles }
         ensures kind { OnOk result (self.new.kind ≡ self.old.kind) }
         ensures profiles { OnOk result (self.new.profiles ≡ put_profile profile self.old.profiles) }
     {
-        self.reserve()?;
+        self.reserve(1)?;
         self.put(profile);
         Ok(())
     }
 
-    // Takes the profile of a name of the kind away, if there is one.
+    /// Takes the profile of a name of the kind away, if there is one.
     fn take(&mut self, name: &Pattern)
         requires { name.now.kind ≡ self.old.kind }
         ensures kind { self.new.kind ≡ self.old.kind }
@@ -186,7 +187,7 @@ impl ProfileTable {
         self.profiles.remove(name);
     }
 
-    // Adds a profile of a new name.
+    /// Adds a profile of a new name.
     fn add(&mut self, profile: Profile)
         requires can { CanPut self.old profile }
         requires absent { find (is_profile profile.name) self.old.profiles ≡ None }
@@ -202,7 +203,7 @@ impl ProfileTable {
         self.profiles.insert(name, profile);
     }
 
-    // The place of the profile of that very name.
+    /// The place of the profile of that very name.
     fn place(&self, name: &Pattern) -> Option<usize>
         ensures { IsPlaceOf self.now.profiles (find (is_profile name.now) self.now.profiles) result }
     {
@@ -214,7 +215,7 @@ impl ProfileTable {
     }
 }
 
-// The name of that kind with the same text, if there is one.
+/// The name of that kind with the same text, if there is one.
 fn of_kind(kind: NameKind, name: &Pattern) -> Option<Pattern>
     ensures { result ≡ result_ok (pattern_of kind name.now.text) }
 {

@@ -1,10 +1,10 @@
 //! Tables of a few profiles: what is found, replaced and taken away, and what the counts say.
 ghost use Rattle.std.specs.Prelude.{◌≡◌, IfOk};
-ghost use Rattle.class_profiles.specs.Classes.{entries_in};
+ghost use Rattle.racf_profiles.specs.Counts.{entries_in};
 
 use crate::laws::{counts_are_enough, puts_are_counted};
 use crate::{
-    ClassTables, MOST_CLASS_PROFILES, MOST_ENTRIES, MOST_PROFILES, NoMemory, ProfileTable,
+    ClassTables, MOST_CLASS_PROFILES, MOST_ENTRIES_IN_ALL, MOST_PROFILES, NoMemory, ProfileTable,
 };
 use access_levels::{Categories, Entry, Id, Level, Who};
 use generic_names::{NameKind, Pattern, Resource};
@@ -12,7 +12,7 @@ use racf_profiles::{AuditRule, CondEntries, Entries, FixedClass, Members, Profil
 use std::alloc::Global;
 use std::test::Fail;
 
-// A profile of that name with one entry in its access list.
+/// A profile of that name with one entry in its access list.
 fn profile(alloc: Global, name: Pattern, uacc: Level) -> Result<Profile, NoMemory>
     ensures name { IfOk result (λ profile. profile.name ≡ name) }
     ensures one { IfOk result (λ profile. entries_in profile ≡ 1) }
@@ -38,7 +38,7 @@ fn profile(alloc: Global, name: Pattern, uacc: Level) -> Result<Profile, NoMemor
             items: Vec::new(alloc),
         },
         level: 0,
-        categories: Categories::NONE,
+        categories: Categories::none(),
         label: None,
         audit,
         global_audit: audit,
@@ -48,7 +48,7 @@ fn profile(alloc: Global, name: Pattern, uacc: Level) -> Result<Profile, NoMemor
     })
 }
 
-// Puts a profile of that name, if it is a name and there is room.
+/// Puts a profile of that name, if it is a name and there is room.
 fn put(alloc: Global, table: &mut ProfileTable, name: &[u8], uacc: Level) -> bool {
     puts_are_counted();
     let Ok(name) = Pattern::read(table.kind(), name) else {
@@ -60,14 +60,14 @@ fn put(alloc: Global, table: &mut ProfileTable, name: &[u8], uacc: Level) -> boo
     if table.len() >= MOST_CLASS_PROFILES {
         return false;
     }
-    let Ok(()) = table.reserve() else {
+    let Ok(()) = table.reserve(1) else {
         return false;
     };
     table.put(profile);
     true
 }
 
-// Whether that profile decides on the resource; none does where it is empty.
+/// Whether that profile decides on the resource; none does where it is empty.
 fn decides(table: &ProfileTable, resource: &[u8], name: &[u8]) -> bool {
     let Ok(resource) = Resource::read(table.kind(), resource) else {
         return false;
@@ -78,7 +78,7 @@ fn decides(table: &ProfileTable, resource: &[u8], name: &[u8]) -> bool {
     }
 }
 
-// How many profiles are left once the profile of that name is taken away.
+/// How many profiles are left once the profile of that name is taken away.
 fn left_without(table: &mut ProfileTable, name: &[u8]) -> usize {
     let Ok(name) = Pattern::read(NameKind::General, name) else {
         return 0;
@@ -106,7 +106,7 @@ fn one_class(rt: HostRuntime) -> Result<(), Fail> {
     Ok(())
 }
 
-// Puts a profile of that name into a class, if it is a name of its kind and there is room.
+/// Puts a profile of that name into a class, if it is a name of its kind and there is room.
 fn put_in(alloc: Global, tables: &mut ClassTables, class: Id, name: &[u8]) -> bool {
     counts_are_enough();
     let Some(row) = tables.class(class) else {
@@ -118,20 +118,20 @@ fn put_in(alloc: Global, tables: &mut ClassTables, class: Id, name: &[u8]) -> bo
     if row.profiles().len() >= MOST_CLASS_PROFILES {
         return false;
     }
-    if tables.count() >= MOST_PROFILES || tables.entries() >= MOST_ENTRIES {
+    if tables.count() >= MOST_PROFILES || tables.entries() >= MOST_ENTRIES_IN_ALL {
         return false;
     }
     let Ok(profile) = profile(alloc, name, Level::NoAccess) else {
         return false;
     };
-    let Ok(()) = tables.reserve(class) else {
+    let Ok(()) = tables.reserve(class, 1) else {
         return false;
     };
     tables.put(class, profile);
     true
 }
 
-// Whether the first profile under that qualifier has that name; there is none where it is empty.
+/// Whether the first profile under that qualifier has that name; there is none where it is empty.
 fn is_first_under(tables: &ClassTables, qualifier: Id, name: &[u8]) -> bool {
     match tables.first_under(qualifier) {
         Some(first) => first.text() == name,

@@ -11,17 +11,17 @@ use Rattle.racf_profiles.specs.declared.groups.Group.{Group}
 use Rattle.racf_profiles.specs.declared.rows.Rows.{Rows}
 use Rattle.racf_profiles.specs.Lookup.{user_of, group_of}
 use Rattle.command_parser.specs.declared.commands.Issuer.{Issuer}
-use Rattle.command_parser.specs.declared.forms.Form.{Form}
-use Rattle.command_parser.specs.declared.forms.Form.TheVariants as form
+use Rattle.command_parser.specs.declared.fields.CommandFields.{CommandFields}
+use Rattle.command_parser.specs.declared.fields.CommandFields.TheVariants as form
 use Rattle.command_authority.specs.declared.needs.Need.{Need}
 use Rattle.command_authority.specs.declared.needs.Need.TheVariants.{Special, Auditor, GroupSpecial}
 use Rattle.command_authority.specs.declared.requirement.Target.{Target}
 use Rattle.command_authority.specs.declared.requirement.Target.TheVariants as targets
 use Rattle.command_authority.specs.declared.requirement.Requirement.{Requirement}
-use Rattle.command_authority.specs.Targets.{first_qualifier}
+use Rattle.generic_names.specs.Spelled.{first_qualifier}
 use Rattle.command_authority.specs.Operands.{some_stands, alters_attribute, alters_uaudit, alters_group_attribute}
-use Rattle.command_parser.specs.Slots.{slots_of_alt_user}
-use Rattle.command_parser.specs.ProfileSlots.{slots_of_alt_sd, slots_of_r_alter}
+use Rattle.command_parser.specs.Operands.{slots_of_alt_user}
+use Rattle.command_parser.specs.Operands.{slots_of_alt_sd, slots_of_r_alter}
 use Rattle.command_authority.specs.Requirements.{over, over_where, over_new_data_set, over_members, leaving, giving, group_or_current, requirements, add_user_requirements, alt_user_requirements, del_user_requirements, add_group_requirements, alt_group_requirements, del_group_requirements, connect_requirements, remove_requirements, add_sd_requirements, alt_sd_requirements, del_sd_requirements, r_define_requirements, r_alter_requirements, r_delete_requirements, permit_requirements}
 use Rattle.command_authority.specs.Authority.{holds, is_met, first_unmet, need}
 
@@ -131,7 +131,7 @@ usual_giving : (group : List ℕ) (o : Option GroupAuthority) (stands : Bool) �
 usual_giving group None stands = refl
 usual_giving group (Some wanted) stands = refl
 
-usual : (rows : Rows) (issuer : Issuer) (command : Form) → list_all is_usual (requirements rows issuer command) ≡ true
+usual : (rows : Rows) (issuer : Issuer) (command : CommandFields) → list_all is_usual (requirements rows issuer command) ≡ true
 unfolding add_user_requirements alt_user_requirements del_user_requirements add_group_requirements alt_group_requirements del_group_requirements connect_requirements remove_requirements add_sd_requirements alt_sd_requirements del_sd_requirements r_define_requirements r_alter_requirements r_delete_requirements permit_requirements
 usual rows issuer (form.AddUser c) = refl
 usual rows issuer (form.AltUser c) = refl
@@ -162,7 +162,7 @@ stands_new : (o : Option (List ℕ)) → list_any (λ (r : Requirement). r.stand
 stands_new None = refl
 stands_new (Some qualifier) = refl
 
-stands : (rows : Rows) (issuer : Issuer) (command : Form) → list_any (λ (r : Requirement). r.stands) (requirements rows issuer command) ≡ true
+stands : (rows : Rows) (issuer : Issuer) (command : CommandFields) → list_any (λ (r : Requirement). r.stands) (requirements rows issuer command) ≡ true
 unfolding add_user_requirements alt_user_requirements del_user_requirements add_group_requirements alt_group_requirements del_group_requirements connect_requirements remove_requirements add_sd_requirements alt_sd_requirements del_sd_requirements r_define_requirements r_alter_requirements r_delete_requirements permit_requirements
 stands rows issuer (form.AddUser c) = refl
 stands rows issuer (form.AltUser c) = of_three (alters_uaudit c) (not (some_stands (slots_of_alt_user (record c { uaudit = false; nouaudit = false })))) (alters_attribute c)
@@ -181,7 +181,7 @@ stands rows issuer (form.RDelete c) = refl
 stands rows issuer (form.Permit c) = refl
 
 -- ---- the laws
-pub special_law : (rows : Rows) (issuer : Issuer) (command : Form) → IsSomeAnd (user_of issuer.id rows) (λ user. IsTrue user.attributes.special) → (need rows issuer command ≡ None) ⊎ (need rows issuer command ≡ Some (Auditor ∷ []))
+pub special_law : (rows : Rows) (issuer : Issuer) (command : CommandFields) → IsSomeAnd (user_of issuer.id rows) (λ user. IsTrue user.attributes.special) → (need rows issuer command ≡ None) ⊎ (need rows issuer command ≡ Some (Auditor ∷ []))
 unfolding need
 special_law rows issuer command h = by (user_of issuer.id rows) refl h
   where
@@ -189,6 +189,6 @@ special_law rows issuer command h = by (user_of issuer.id rows) refl h
     by None e h = absurd h
     by (Some user) e h = only rows issuer user e h (requirements rows issuer command) (usual rows issuer command)
 
-pub absent_law : (rows : Rows) (issuer : Issuer) (command : Form) → user_of issuer.id rows ≡ None → IsSome (need rows issuer command)
+pub absent_law : (rows : Rows) (issuer : Issuer) (command : CommandFields) → user_of issuer.id rows ≡ None → IsSome (need rows issuer command)
 unfolding need
 absent_law rows issuer command h = some_lacks rows issuer h (requirements rows issuer command) (stands rows issuer command)

@@ -17,12 +17,12 @@ use Rattle.racf_profiles.specs.declared.class_rows.LogOption.TheVariants.{ByProf
 use Rattle.racf_profiles.specs.declared.rows.Rows.{Rows}
 use Rattle.racf_profiles.specs.NewDatabase.{ibmuser, sys1, no_options}
 use Rattle.command_parser.specs.declared.commands.Issuer.{Issuer}
-use Rattle.command_parser.specs.declared.forms.AddUser.{AddUser}
-use Rattle.command_parser.specs.declared.forms.AltUser.{AltUser}
-use Rattle.command_parser.specs.declared.forms.Connect.{Connect as ConnectForm}
-use Rattle.command_parser.specs.declared.profile_forms.RAlter.{RAlter}
-use Rattle.command_parser.specs.declared.forms.Form.{Form}
-use Rattle.command_parser.specs.declared.forms.Form.TheVariants as form
+use Rattle.command_parser.specs.declared.fields.AddUser.{AddUser}
+use Rattle.command_parser.specs.declared.fields.AltUser.{AltUser}
+use Rattle.command_parser.specs.declared.fields.Connect.{Connect as ConnectForm}
+use Rattle.command_parser.specs.declared.profile_fields.RAlter.{RAlter}
+use Rattle.command_parser.specs.declared.fields.CommandFields.{CommandFields}
+use Rattle.command_parser.specs.declared.fields.CommandFields.TheVariants as form
 use Rattle.command_authority.specs.declared.needs.Need.{Need}
 use Rattle.command_authority.specs.declared.needs.Need.TheVariants.{Special, Auditor, Join, Create, Authority, Owner, GroupSpecial, OwnData, AlterEntry, UserJoin, UserOwner, UserGroupSpecial}
 use Rattle.command_authority.specs.Requirements.{add_user_requirements, alt_user_requirements, del_user_requirements, add_group_requirements, alt_group_requirements, del_group_requirements, connect_requirements, add_sd_requirements, r_alter_requirements, permit_requirements}
@@ -98,7 +98,7 @@ abbrev issued_by : List ℕ → Issuer
 issued_by id = record { id = id; group = codes "D1"; group_spelled = refl }
 
 -- what an issuer lacks for a command
-abbrev lacks : Rows → List ℕ → Form → Option (List Need)
+abbrev lacks : Rows → List ℕ → CommandFields → Option (List Need)
 lacks rows id command = need rows (issued_by id) command
 
 -- ---- commands with few operands
@@ -111,13 +111,13 @@ alt_user id = record { user = id; name = None; dfltgrp = None; owner = None; spe
 abbrev connect : List ℕ → List ℕ → ConnectForm
 connect id group = record { user = id; group = Some group; authority = None; special = false; nospecial = false; operations = false; nooperations = false; auditor = false; noauditor = false; revoke = false; resume = false }
 
-abbrev add_sd : List ℕ → Form
+abbrev add_sd : List ℕ → CommandFields
 add_sd name = form.AddSd (record { profile = data_set name; owner = None; uacc = None; warning = false; nowarning = false; audit = None; seclevel = None; addcategory = []; seclabel = None })
 
 abbrev r_alter : List ℕ → List ℕ → RAlter
 r_alter class name = record { class = class; profile = general name; owner = None; uacc = None; warning = false; nowarning = false; audit = None; globalaudit = None; seclevel = None; noseclevel = false; addcategory = []; delcategory = []; seclabel = None; noseclabel = false; addmem = []; delmem = [] }
 
-abbrev permit : List ℕ → Spelled → Form
+abbrev permit : List ℕ → Spelled → CommandFields
 permit class name = form.Permit (record { profile = name; class = class; reset = None; id = Star ∷ []; access = Some Read; delete = false; when = None })
 
 abbrev over_user : List Need
@@ -125,7 +125,7 @@ over_user = Special ∷ Owner ∷ GroupSpecial ∷ []
 
 -- ---- group-SPECIAL in D1
 -- ALU SUE NAME('Sue'), SUE owned by D3: D2 owned by D1, and then by IBMUSER; DU TOM, whom ADM owns
-abbrev named_sue : Form
+abbrev named_sue : CommandFields
 named_sue = form.AltUser (record (alt_user (codes "SUE")) { name = Some (codes "Sue") })
 
 scope_of_group_special : map (λ owner. lacks (some_rows owner (adm ∷ [])) (codes "ADM") named_sue) (codes "D1" ∷ codes "IBMUSER" ∷ []) ≡ None ∷ Some over_user ∷ []

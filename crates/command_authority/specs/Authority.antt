@@ -8,7 +8,7 @@ use Rattle.racf_profiles.specs.declared.users.User.{User}
 use Rattle.racf_profiles.specs.declared.rows.Rows.{Rows}
 use Rattle.racf_profiles.specs.Lookup.{user_of}
 use Rattle.command_parser.specs.declared.commands.Issuer.{Issuer}
-use Rattle.command_parser.specs.declared.forms.Form.{Form}
+use Rattle.command_parser.specs.declared.fields.CommandFields.{CommandFields}
 use Rattle.command_authority.specs.declared.needs.Need.{Need}
 use Rattle.command_authority.specs.declared.needs.Need.TheVariants.{Special, Auditor, ClassAuthority, Join, Connect, Create, Authority, Owner, GroupSpecial, OwnData, AlterEntry, UserJoin, UserOwner, UserGroupSpecial}
 use Rattle.command_authority.specs.declared.requirement.Target.{Target}
@@ -46,5 +46,5 @@ is_met rows issuer requirement = not requirement.stands || option_map_or (λ (us
 abbrev pub first_unmet : Rows → Issuer → List Requirement → Option (List Need)
 first_unmet rows issuer list = option_map (λ (requirement : Requirement). requirement.needs) (find (λ requirement. not (is_met rows issuer requirement)) list)
 
-unfoldable pub need : Rows → Issuer → Form → Option (List Need)
+unfoldable pub need : Rows → Issuer → CommandFields → Option (List Need)
 need rows issuer command = first_unmet rows issuer (requirements rows issuer command)

@@ -3,7 +3,7 @@ use Rattle.std.specs.Prelude.{ℕ, Bool, ◌||◌, not, List, Option, is_some}
 use Rattle.generic_names.specs.Spelled.{is_empty}
 use Rattle.access_levels.specs.declared.levels.Level.{Level}
 use Rattle.racf_profiles.specs.declared.profiles.AuditRule.{AuditRule}
-use Rattle.command_parser.specs.declared.forms.AltUser.{AltUser}
+use Rattle.command_parser.specs.declared.fields.AltUser.{AltUser}
 
 -- ALTUSER: NAME, DFLTGRP and OWNER; the attributes; REVOKE to NOCLAUTH
 abbrev pub alters_person : AltUser → Bool

@@ -3,13 +3,13 @@
 use Rattle.std.specs.Prelude.{Bool, false, ◌&&◌, ◌||◌, not, List, Option, None, is_some}
 use Rattle.std.specs.List.{list_any}
 use Rattle.generic_names.specs.Spelled.{is_empty}
-use Rattle.command_parser.specs.declared.forms.AddUser.{AddUser}
-use Rattle.command_parser.specs.declared.forms.AltUser.{AltUser}
-use Rattle.command_parser.specs.declared.forms.Connect.{Connect}
-use Rattle.command_parser.specs.declared.profile_forms.AltSd.{AltSd}
-use Rattle.command_parser.specs.declared.profile_forms.RAlter.{RAlter}
-use Rattle.command_parser.specs.Slots.{slots_of_alt_user}
-use Rattle.command_parser.specs.ProfileSlots.{slots_of_alt_sd, slots_of_r_alter}
+use Rattle.command_parser.specs.declared.fields.AddUser.{AddUser}
+use Rattle.command_parser.specs.declared.fields.AltUser.{AltUser}
+use Rattle.command_parser.specs.declared.fields.Connect.{Connect}
+use Rattle.command_parser.specs.declared.profile_fields.AltSd.{AltSd}
+use Rattle.command_parser.specs.declared.profile_fields.RAlter.{RAlter}
+use Rattle.command_parser.specs.Operands.{slots_of_alt_user}
+use Rattle.command_parser.specs.Operands.{slots_of_alt_sd, slots_of_r_alter}
 
 -- One of the operands stands.
 abbrev pub some_stands : {X : Type 0} → List (Option X) → Bool

@@ -9,29 +9,29 @@ use Rattle.racf_profiles.specs.declared.groups.Group.{Group}
 use Rattle.racf_profiles.specs.declared.rows.Rows.{Rows}
 use Rattle.racf_profiles.specs.Lookup.{group_of}
 use Rattle.command_parser.specs.declared.commands.Issuer.{Issuer}
-use Rattle.command_parser.specs.declared.forms.AddUser.{AddUser}
-use Rattle.command_parser.specs.declared.forms.AltUser.{AltUser}
-use Rattle.command_parser.specs.declared.forms.DelUser.{DelUser}
-use Rattle.command_parser.specs.declared.forms.AddGroup.{AddGroup}
-use Rattle.command_parser.specs.declared.forms.AltGroup.{AltGroup}
-use Rattle.command_parser.specs.declared.forms.DelGroup.{DelGroup}
-use Rattle.command_parser.specs.declared.forms.Connect.{Connect as ConnectForm}
-use Rattle.command_parser.specs.declared.forms.Remove.{Remove}
-use Rattle.command_parser.specs.declared.profile_forms.AddSd.{AddSd}
-use Rattle.command_parser.specs.declared.profile_forms.AltSd.{AltSd}
-use Rattle.command_parser.specs.declared.profile_forms.DelSd.{DelSd}
-use Rattle.command_parser.specs.declared.profile_forms.RDefine.{RDefine}
-use Rattle.command_parser.specs.declared.profile_forms.RAlter.{RAlter}
-use Rattle.command_parser.specs.declared.profile_forms.RDelete.{RDelete}
-use Rattle.command_parser.specs.declared.profile_forms.Permit.{Permit}
-use Rattle.command_parser.specs.declared.forms.Form.{Form}
-use Rattle.command_parser.specs.declared.forms.Form.TheVariants as form
+use Rattle.command_parser.specs.declared.fields.AddUser.{AddUser}
+use Rattle.command_parser.specs.declared.fields.AltUser.{AltUser}
+use Rattle.command_parser.specs.declared.fields.DelUser.{DelUser}
+use Rattle.command_parser.specs.declared.fields.AddGroup.{AddGroup}
+use Rattle.command_parser.specs.declared.fields.AltGroup.{AltGroup}
+use Rattle.command_parser.specs.declared.fields.DelGroup.{DelGroup}
+use Rattle.command_parser.specs.declared.fields.Connect.{Connect as ConnectForm}
+use Rattle.command_parser.specs.declared.fields.Remove.{Remove}
+use Rattle.command_parser.specs.declared.profile_fields.AddSd.{AddSd}
+use Rattle.command_parser.specs.declared.profile_fields.AltSd.{AltSd}
+use Rattle.command_parser.specs.declared.profile_fields.DelSd.{DelSd}
+use Rattle.command_parser.specs.declared.profile_fields.RDefine.{RDefine}
+use Rattle.command_parser.specs.declared.profile_fields.RAlter.{RAlter}
+use Rattle.command_parser.specs.declared.profile_fields.RDelete.{RDelete}
+use Rattle.command_parser.specs.declared.profile_fields.Permit.{Permit}
+use Rattle.command_parser.specs.declared.fields.CommandFields.{CommandFields}
+use Rattle.command_parser.specs.declared.fields.CommandFields.TheVariants as form
 use Rattle.command_authority.specs.declared.needs.Need.{Need}
 use Rattle.command_authority.specs.declared.needs.Need.TheVariants.{Special, Auditor, ClassAuthority, Join, Connect, Create, Authority, Owner, GroupSpecial, OwnData, AlterEntry, UserJoin, UserOwner, UserGroupSpecial}
 use Rattle.command_authority.specs.declared.requirement.Target.{Target}
 use Rattle.command_authority.specs.declared.requirement.Target.TheVariants as targets
 use Rattle.command_authority.specs.declared.requirement.Requirement.{Requirement}
-use Rattle.command_authority.specs.Targets.{first_qualifier}
+use Rattle.generic_names.specs.Spelled.{first_qualifier}
 use Rattle.command_authority.specs.Operands.{gives_attribute, alters_attribute, alters_uaudit, alters_uaudit_alone, alters_group_attribute, alt_sd_audits_alone, r_alter_audits_alone}
 
 -- One of these needs has to hold over the target.
@@ -158,7 +158,7 @@ unfoldable pub permit_requirements : Permit → List Requirement
 permit_requirements c = over_profile true c.class c.profile ∷ []
 
 -- ---- all
-abbrev pub requirements : Rows → Issuer → Form → List Requirement
+abbrev pub requirements : Rows → Issuer → CommandFields → List Requirement
 requirements rows issuer (form.AddUser c) = add_user_requirements issuer c
 requirements rows issuer (form.AltUser c) = alt_user_requirements c
 requirements rows issuer (form.DelUser c) = del_user_requirements c

@@ -1,10 +1,10 @@
 -- What a command is about, as its issuer's authority over it is judged: who owns it, and whether group-SPECIAL reaches
 -- it. Nobody owns what isn't there, and it is in no scope.
-use Rattle.std.specs.Prelude.{ℕ, Bool, false, ◌&&◌, ◌==◌, List, Option, None, option_map, bytes_eq}
-use Rattle.std.specs.List.{list_any, before_first}
+use Rattle.std.specs.Prelude.{ℕ, Bool, false, ◌&&◌, List, Option, None, option_map, bytes_eq}
+use Rattle.std.specs.List.{list_any}
 use Rattle.std.specs.Option.{option_map_or}
 use Rattle.access_levels.specs.declared.authorities.GroupAuthority.{GroupAuthority}
-use Rattle.generic_names.specs.Spelled.{period}
+use Rattle.generic_names.specs.Spelled.{first_qualifier}
 use Rattle.racf_profiles.specs.declared.users.User.{User}
 use Rattle.racf_profiles.specs.declared.users.Connect.{Connect as Connection}
 use Rattle.racf_profiles.specs.declared.groups.Group.{Group}
@@ -40,10 +40,7 @@ is_owner rows user target = option_map_or (λ owner. bytes_eq owner user.id) (ow
 abbrev pub has_group_special : Rows → User → Target → Bool
 has_group_special rows user target = list_any (λ (connection : Connection). connection.special && is_in_scope rows connection.group target) (counting user)
 
--- The first qualifier of a name is what stands before its first period. A user's own data sets begin with his ID.
-abbrev pub first_qualifier : List ℕ → List ℕ
-first_qualifier text = before_first (λ byte. byte == period) text
-
+-- A user's own data sets begin with his ID.
 abbrev pub is_own_data : User → Target → Bool
 is_own_data user (targets.Profile class name) = bytes_eq (first_qualifier name.text) user.id
 is_own_data user (targets.DataSets qualifier) = bytes_eq qualifier user.id

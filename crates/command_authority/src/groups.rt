@@ -49,7 +49,7 @@ pub(crate) fn del_group<V: View>(view: &V, command: &DelGroup) -> [Requirement; 
     [over(Target::Group(command.group), leaving(superior))]
 }
 
-// The superior group of a group.
+/// The superior group of a group.
 fn superior_of<V: View>(view: &V, group: Id) -> Option<Id>
     ensures { result ≡ option_and_then (λ (group : Group). group.superior) (group_of group (V.rows view.now)) }
 {
@@ -59,7 +59,7 @@ fn superior_of<V: View>(view: &V, group: Id) -> Option<Id>
     }
 }
 
-// What is needed over the superior group.
+/// What is needed over the superior group.
 fn below(superior: Id) -> Needs
     ensures { result ≡ below superior }
 {
@@ -71,7 +71,7 @@ fn below(superior: Id) -> Needs
     ])
 }
 
-// What DELGROUP needs. SYS1 has no superior group.
+/// What DELGROUP needs. SYS1 has no superior group.
 fn leaving(superior: Option<Id>) -> Needs
     ensures { result ≡ leaving superior }
 {
@@ -108,7 +108,7 @@ pub(crate) fn remove(issuer: &Issuer, command: &Remove) -> [Requirement; 1]
     [over_members(group_or_current(issuer, command.group))]
 }
 
-// What connections to a group require.
+/// What connections to a group require.
 fn over_members(group: Id) -> Requirement
     ensures { result ≡ over_members group }
 {
@@ -121,7 +121,7 @@ fn over_members(group: Id) -> Requirement
     over(Target::Group(group), needs)
 }
 
-// What AUTHORITY needs.
+/// What AUTHORITY needs.
 fn giving(authority: Option<GroupAuthority>) -> Needs
     ensures { result ≡ giving authority }
 {

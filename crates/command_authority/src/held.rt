@@ -28,7 +28,7 @@ pub(crate) fn has_authority(user: &User, wanted: GroupAuthority, group: Id) -> b
         .any(|connection| gives(connection, wanted, group))
 }
 
-// Whether the connection gives at least that authority in the group.
+/// Whether the connection gives at least that authority in the group.
 fn gives(connection: &Connect, wanted: GroupAuthority, group: Id) -> bool
     ensures { result ≡ (bytes_eq connection.now.group group && reaches wanted connection.now) }
 {
@@ -46,14 +46,14 @@ pub(crate) fn has_alter(user: &User, list: &[Entry]) -> bool
     }
 }
 
-// Whether an entry gives ALTER to a group of the user.
+/// Whether an entry gives ALTER to a group of the user.
 fn has_group_alter(user: &User, list: &[Entry]) -> bool
     ensures { result ≡ list_any (gives_group_alter user.now) list.now }
 {
     list.iter().any(|entry| gives_group_alter(user, entry))
 }
 
-// The level of the user's own entry.
+/// The level of the user's own entry.
 fn own_level(user: &User, list: &[Entry]) -> Option<Level>
     ensures { result ≡ option_map (λ (entry : Entry). entry.level) (user_entry user.now.id list.now) }
 {
@@ -63,7 +63,7 @@ fn own_level(user: &User, list: &[Entry]) -> Option<Level>
     }
 }
 
-// Whether the entry is for that ID.
+/// Whether the entry is for that ID.
 fn is_for(entry: &Entry, id: Id) -> bool
     ensures { result ≡ is_for (Who.Named id) entry.now }
 {
@@ -73,14 +73,14 @@ fn is_for(entry: &Entry, id: Id) -> bool
     }
 }
 
-// Whether the entry gives ALTER to a group of the user.
+/// Whether the entry gives ALTER to a group of the user.
 fn gives_group_alter(user: &User, entry: &Entry) -> bool
     ensures { result ≡ gives_group_alter user.now entry.now }
 {
     entry.level.suffices(Level::Alter) && is_for_group(user, &entry.who)
 }
 
-// Whether it is a group of the user.
+/// Whether it is a group of the user.
 fn is_for_group(user: &User, who: &Who) -> bool
     ensures { result ≡ is_for_group user.now who.now }
 {
@@ -90,7 +90,7 @@ fn is_for_group(user: &User, who: &Who) -> bool
     }
 }
 
-// Whether the user is in the group.
+/// Whether the user is in the group.
 fn is_in(user: &User, group: Id) -> bool
     ensures { result ≡ is_in user.now group }
 {

@@ -1,5 +1,7 @@
 //! Whether an issuer may give a command.
-ghost use Rattle.std.specs.Prelude.{◌≡◌};
+ghost use Rattle.std.specs.Prelude.{◌≡◌, ◌↔◌, ℕ, List, IsTrue};
+ghost use Rattle.racf_profiles.specs.Scope.{InScopeGroup, InScopeProfile};
+ghost use Rattle.group_tree.specs.ScopeTest.{is_group_in_scope, is_profile_in_scope};
 ghost use Rattle.std.specs.List.{list_any};
 ghost use Rattle.std.specs.Result.{result_err};
 ghost use Rattle.command_authority.specs.Authority.{may_define_users, holds, is_met, first_unmet, need};
@@ -12,8 +14,9 @@ use crate::requirement::{Requirement, Target};
 use crate::targets::{has_alter_entry, has_authority_in, has_group_special, is_own_data, is_owner};
 use crate::users::{add_user, alt_user, del_user};
 use access_levels::GroupAuthority;
-use command_parser::{Command, Form, Issuer};
+use command_parser::{Command, CommandFields, Issuer};
 use group_tree::Tree;
+use group_tree::laws::scope_is_tested;
 use racf_profiles::{User, View};
 
 /// Whether the issuer may give the command, by his user profile and his connections as the view has them (z/OS Security
@@ -32,28 +35,55 @@ pub fn authorised<V: View>(
     command: &Command,
 ) -> Result<(), Needs>
     requires { tree.now.groups ≡ (V.rows view.now).groups }
-    ensures { result_err result ≡ need (V.rows view.now) issuer.now command.now }
+    ensures lacking { result_err result ≡ need (V.rows view.now) issuer.now command.now }
+
+    // What is in scope is said by the test that can be computed; these say that it is scope by ways up.
+    ensures group_in_scope { (top group : List ℕ) → IsTrue (is_group_in_scope (V.rows view.now).groups top group) ↔ InScopeGroup (V.rows view.now).groups top group }
+    ensures profile_in_scope { (top owner : List ℕ) → IsTrue (is_profile_in_scope (V.rows view.now) top owner) ↔ InScopeProfile (V.rows view.now) top owner }
 {
-    match command.form() {
-        Form::AddUser(command) => first_unmet(view, tree, issuer, &add_user(issuer, command)),
-        Form::AltUser(command) => first_unmet(view, tree, issuer, &alt_user(command)),
-        Form::DelUser(command) => first_unmet(view, tree, issuer, &del_user(command)),
-        Form::AddGroup(command) => first_unmet(view, tree, issuer, &add_group(issuer, command)),
-        Form::AltGroup(command) => first_unmet(view, tree, issuer, &alt_group(command)),
-        Form::DelGroup(command) => first_unmet(view, tree, issuer, &del_group(view, command)),
-        Form::Connect(command) => first_unmet(view, tree, issuer, &connect(issuer, command)),
-        Form::Remove(command) => first_unmet(view, tree, issuer, &remove(issuer, command)),
-        Form::AddSd(command) => first_unmet(view, tree, issuer, &add_sd(command)),
-        Form::AltSd(command) => first_unmet(view, tree, issuer, &alt_sd(command)),
-        Form::DelSd(command) => first_unmet(view, tree, issuer, &del_sd(command)),
-        Form::RDefine(command) => first_unmet(view, tree, issuer, &r_define(command)),
-        Form::RAlter(command) => first_unmet(view, tree, issuer, &r_alter(command)),
-        Form::RDelete(command) => first_unmet(view, tree, issuer, &r_delete(command)),
-        Form::Permit(command) => first_unmet(view, tree, issuer, &permit(command)),
+    // The groups are a tree, and there the tests tell what is in scope.
+    let _groups = tree.len();
+    scope_is_tested();
+    match command.fields() {
+        CommandFields::AddUser(command) => first_unmet(
+            view,
+            tree,
+            issuer,
+            &add_user(issuer, command),
+        ),
+        CommandFields::AltUser(command) => first_unmet(view, tree, issuer, &alt_user(command)),
+        CommandFields::DelUser(command) => first_unmet(view, tree, issuer, &del_user(command)),
+        CommandFields::AddGroup(command) => first_unmet(
+            view,
+            tree,
+            issuer,
+            &add_group(issuer, command),
+        ),
+        CommandFields::AltGroup(command) => first_unmet(view, tree, issuer, &alt_group(command)),
+        CommandFields::DelGroup(command) => first_unmet(
+            view,
+            tree,
+            issuer,
+            &del_group(view, command),
+        ),
+        CommandFields::Connect(command) => first_unmet(
+            view,
+            tree,
+            issuer,
+            &connect(issuer, command),
+        ),
+        CommandFields::Remove(command) => first_unmet(view, tree, issuer, &remove(issuer, command)),
+        CommandFields::AddSd(command) => first_unmet(view, tree, issuer, &add_sd(command)),
+        CommandFields::AltSd(command) => first_unmet(view, tree, issuer, &alt_sd(command)),
+        CommandFields::DelSd(command) => first_unmet(view, tree, issuer, &del_sd(command)),
+        CommandFields::RDefine(command) => first_unmet(view, tree, issuer, &r_define(command)),
+        CommandFields::RAlter(command) => first_unmet(view, tree, issuer, &r_alter(command)),
+        CommandFields::RDelete(command) => first_unmet(view, tree, issuer, &r_delete(command)),
+        CommandFields::Permit(command) => first_unmet(view, tree, issuer, &permit(command)),
     }
 }
 
-// The needs of the first requirement that isn't met.
+/// The needs of the first requirement that isn't met.
 fn first_unmet<V: View>(
     view: &V,
     tree: &Tree,
@@ -72,7 +102,7 @@ fn first_unmet<V: View>(
     }
 }
 
-// Whether a requirement is met: it doesn't stand, or one of its needs holds.
+/// Whether a requirement is met: it doesn't stand, or one of its needs holds.
 #[tactic(auto, unfolding(crate::specs::Authority::is_met))]
 fn is_met<V: View>(view: &V, tree: &Tree, issuer: &Issuer, requirement: &Requirement) -> bool
     requires { tree.now.groups ≡ (V.rows view.now).groups }
@@ -87,7 +117,7 @@ fn is_met<V: View>(view: &V, tree: &Tree, issuer: &Issuer, requirement: &Require
     }
 }
 
-// Whether one of a requirement's needs holds.
+/// Whether one of a requirement's needs holds.
 fn one_holds<V: View>(view: &V, tree: &Tree, user: &User, requirement: &Requirement) -> bool
     requires { tree.now.groups ≡ (V.rows view.now).groups }
     ensures { result ≡ list_any (holds (V.rows view.now) user.now requirement.now.target) requirement.now.needs }
@@ -99,7 +129,7 @@ fn one_holds<V: View>(view: &V, tree: &Tree, user: &User, requirement: &Requirem
         .any(|need| holds(view, tree, user, &requirement.target, need))
 }
 
-// Whether a need holds over the target.
+/// Whether a need holds over the target.
 fn holds<V: View>(view: &V, tree: &Tree, user: &User, target: &Target, need: &Need) -> bool
     requires { tree.now.groups ≡ (V.rows view.now).groups }
     ensures { result ≡ holds (V.rows view.now) user.now target.now need.now }
@@ -126,7 +156,7 @@ fn holds<V: View>(view: &V, tree: &Tree, user: &User, target: &Target, need: &Ne
     }
 }
 
-// Whether the user has class authority in the word USER.
+/// Whether the user has class authority in the word USER.
 fn may_define_users(user: &User) -> bool
     ensures { result ≡ may_define_users user.now }
 {

@@ -68,7 +68,7 @@ impl Needs {
         &self.items[..self.count]
     }
 
-    // These needs.
+    /// These needs.
     pub(crate) fn of(needs: &[Need]) -> Needs
         requires { length needs.now ≤ 6 }
         ensures { result ≡ needs.now }
@@ -81,7 +81,7 @@ impl Needs {
         }
     }
 
-    // These needs and, where the condition holds, one more.
+    /// These needs and, where the condition holds, one more.
     pub(crate) fn and_where(self, holds: bool, need: Need) -> Needs
         requires { length self < 6 }
         ensures { result ≡ self ++ need_where holds need }

@@ -43,7 +43,7 @@ pub(crate) fn alters_uaudit_alone(command: &AltUser) -> bool
     alters_uaudit(command) && !alters_more(command)
 }
 
-// ALTUSER: an operand other than [NO]UAUDIT stands.
+/// ALTUSER: an operand other than [NO]UAUDIT stands.
 fn alters_more(command: &AltUser) -> bool
     ensures { result ≡ (alters_person command.now || alters_rights command.now || alters_state command.now || alters_security command.now.seclevel command.now.noseclevel command.now.addcategory command.now.delcategory command.now.seclabel command.now.noseclabel) }
 {
@@ -60,14 +60,14 @@ fn alters_more(command: &AltUser) -> bool
         )
 }
 
-// NAME, DFLTGRP or OWNER stands.
+/// NAME, DFLTGRP or OWNER stands.
 fn alters_person(command: &AltUser) -> bool
     ensures { result ≡ alters_person command.now }
 {
     command.name.is_some() || command.dfltgrp.is_some() || command.owner.is_some()
 }
 
-// An attribute other than UAUDIT stands.
+/// An attribute other than UAUDIT stands.
 fn alters_rights(command: &AltUser) -> bool
     ensures { result ≡ alters_rights command.now }
 {
@@ -81,7 +81,7 @@ fn alters_rights(command: &AltUser) -> bool
         || command.norestricted
 }
 
-// REVOKE, RESUME, CLAUTH or NOCLAUTH stands.
+/// REVOKE, RESUME, CLAUTH or NOCLAUTH stands.
 fn alters_state(command: &AltUser) -> bool
     ensures { result ≡ alters_state command.now }
 {
@@ -91,7 +91,7 @@ fn alters_state(command: &AltUser) -> bool
         || !command.noclauth.items.is_empty()
 }
 
-// An operand stands that is about the security level, the categories or the label.
+/// An operand stands that is about the security level, the categories or the label.
 fn alters_security(
     seclevel: Option<Id>,
     noseclevel: bool,
@@ -129,7 +129,7 @@ pub(crate) fn alt_sd_audits_alone(command: &AltSd) -> bool
     command.globalaudit.is_some() && !alters_data_set(command)
 }
 
-// ALTDSD: an operand other than GLOBALAUDIT stands.
+/// ALTDSD: an operand other than GLOBALAUDIT stands.
 fn alters_data_set(command: &AltSd) -> bool
     ensures { result ≡ (alters_profile command.now.owner command.now.uacc command.now.warning command.now.nowarning command.now.audit || alters_security command.now.seclevel command.now.noseclevel command.now.addcategory command.now.delcategory command.now.seclabel command.now.noseclabel) }
 {
@@ -156,7 +156,7 @@ pub(crate) fn r_alter_audits_alone(command: &RAlter) -> bool
     command.globalaudit.is_some() && !alters_resource(command)
 }
 
-// RALTER: an operand other than GLOBALAUDIT stands.
+/// RALTER: an operand other than GLOBALAUDIT stands.
 fn alters_resource(command: &RAlter) -> bool
     ensures { result ≡ (alters_profile command.now.owner command.now.uacc command.now.warning command.now.nowarning command.now.audit || alters_security command.now.seclevel command.now.noseclevel command.now.addcategory command.now.delcategory command.now.seclabel command.now.noseclabel || (not (is_empty command.now.addmem) || not (is_empty command.now.delmem))) }
 {
@@ -176,14 +176,14 @@ fn alters_resource(command: &RAlter) -> bool
     ) || alters_members(command)
 }
 
-// RALTER: ADDMEM or DELMEM stands.
+/// RALTER: ADDMEM or DELMEM stands.
 fn alters_members(command: &RAlter) -> bool
     ensures { result ≡ (not (is_empty command.now.addmem) || not (is_empty command.now.delmem)) }
 {
     !command.addmem.items.is_empty() || !command.delmem.items.is_empty()
 }
 
-// OWNER, UACC, [NO]WARNING or AUDIT of a profile stands.
+/// OWNER, UACC, [NO]WARNING or AUDIT of a profile stands.
 fn alters_profile(
     owner: Option<Id>,
     uacc: Option<Level>,

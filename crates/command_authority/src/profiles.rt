@@ -2,16 +2,15 @@
 ghost use Rattle.std.specs.Prelude.{◌≡◌, bytes_eq};
 ghost use Rattle.std.specs.Result.{result_ok};
 ghost use Rattle.access_levels.specs.Spelling.{id_of};
-ghost use Rattle.command_authority.specs.Targets.{first_qualifier};
+ghost use Rattle.generic_names.specs.Spelled.{first_qualifier};
 ghost use Rattle.command_authority.specs.Requirements.{dataset, over_new_data_set, profile_needs, over_profile, auditing, add_sd_requirements, alt_sd_requirements, del_sd_requirements, r_define_requirements, r_alter_requirements, r_delete_requirements, permit_requirements};
 
 use crate::needs::{Need, Needs};
 use crate::operands::{alt_sd_audits_alone, r_alter_audits_alone};
 use crate::requirement::{Requirement, Target, over, over_where};
-use crate::targets::first_qualifier;
 use access_levels::Id;
 use command_parser::{AddSd, AltSd, DelSd, Permit, RAlter, RDefine, RDelete};
-use generic_names::Pattern;
+use generic_names::{Pattern, first_qualifier};
 use racf_profiles::FixedClass;
 
 #[tactic(auto, unfolding(crate::specs::Requirements::add_sd_requirements))]
@@ -22,7 +21,7 @@ pub(crate) fn add_sd(command: &AddSd) -> [Requirement; 1]
     [over_new_data_set(qualifier)]
 }
 
-// What a new data set profile requires, by its first qualifier.
+/// What a new data set profile requires, by its first qualifier.
 fn over_new_data_set(qualifier: Option<Id>) -> Requirement
     ensures { result ≡ over_new_data_set qualifier }
 {
@@ -93,7 +92,7 @@ pub(crate) fn permit(command: &Permit) -> [Requirement; 1]
     [over_profile(true, command.class, &command.profile)]
 }
 
-// What a change of a profile that is there requires.
+/// What a change of a profile that is there requires.
 fn over_profile(stands: bool, class: Id, name: &Pattern) -> Requirement
     ensures { result ≡ over_profile stands class name.now }
 {
@@ -104,7 +103,7 @@ fn over_profile(stands: bool, class: Id, name: &Pattern) -> Requirement
     )
 }
 
-// What is needed over a profile: in class DATASET one's own data count, and an entry counts for a discrete profile.
+/// What is needed over a profile: in class DATASET one's own data count, and an entry counts for a discrete profile.
 fn profile_needs(class: Id, name: &Pattern) -> Needs
     ensures { result ≡ profile_needs class name.now }
 {
@@ -113,14 +112,14 @@ fn profile_needs(class: Id, name: &Pattern) -> Needs
         .and_where(!name.is_generic(), Need::AlterEntry)
 }
 
-// What GLOBALAUDIT requires.
+/// What GLOBALAUDIT requires.
 fn auditing(stands: bool) -> Requirement
     ensures { result ≡ auditing stands }
 {
     over_where(stands, Target::Nothing, Needs::of(&[Need::Auditor]))
 }
 
-// The class of data sets.
+/// The class of data sets.
 fn dataset() -> Id
     ensures { result ≡ dataset }
 {

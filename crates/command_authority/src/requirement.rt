@@ -28,14 +28,14 @@ pub struct Requirement {
     pub needs: Needs,
 }
 
-// A requirement that a command has.
+/// A requirement that a command has.
 pub(crate) fn over(target: Target, needs: Needs) -> Requirement
     ensures { result ≡ over target needs }
 {
     over_where(true, target, needs)
 }
 
-// A requirement that a command has where an operand stands.
+/// A requirement that a command has where an operand stands.
 pub(crate) fn over_where(stands: bool, target: Target, needs: Needs) -> Requirement
     ensures { result ≡ over_where stands target needs }
 {

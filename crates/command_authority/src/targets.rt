@@ -1,13 +1,12 @@
 //! Authority over what a command is about.
-ghost use Rattle.std.specs.Prelude.{◌≡◌, ◌&&◌, ◌==◌, bytes_eq, position};
-ghost use Rattle.generic_names.specs.Spelled.{period};
+ghost use Rattle.std.specs.Prelude.{◌≡◌, ◌&&◌, bytes_eq};
 ghost use Rattle.group_tree.specs.ScopeTest.{is_group_in_scope, is_profile_in_scope};
-ghost use Rattle.command_authority.specs.Targets.{owner_of, is_in_scope, is_owner, has_group_special, first_qualifier, is_own_data, has_alter_entry, has_authority_in};
+ghost use Rattle.command_authority.specs.Targets.{owner_of, is_in_scope, is_owner, has_group_special, is_own_data, has_alter_entry, has_authority_in};
 
 use crate::held::{has_alter, has_authority};
 use crate::requirement::Target;
 use access_levels::{GroupAuthority, Id};
-use generic_names::Pattern;
+use generic_names::{Pattern, first_qualifier};
 use group_tree::Tree;
 use racf_profiles::{Connect, User, View};
 
@@ -21,7 +20,7 @@ pub(crate) fn is_owner<V: View>(view: &V, user: &User, target: &Target) -> bool
     }
 }
 
-// The target's owner.
+/// The target's owner.
 fn owner_of<V: View>(view: &V, target: &Target) -> Option<Id>
     ensures { result ≡ owner_of (V.rows view.now) target.now }
 {
@@ -51,7 +50,7 @@ pub(crate) fn has_group_special<V: View>(
         .any(|connection| reaches(view, tree, connection, target))
 }
 
-// Whether the connection's group-SPECIAL reaches the target.
+/// Whether the connection's group-SPECIAL reaches the target.
 fn reaches<V: View>(view: &V, tree: &Tree, connection: &Connect, target: &Target) -> bool
     requires { tree.now.groups ≡ (V.rows view.now).groups }
     ensures { result ≡ (connection.now.special && is_in_scope (V.rows view.now) connection.now.group target.now) }
@@ -59,7 +58,7 @@ fn reaches<V: View>(view: &V, tree: &Tree, connection: &Connect, target: &Target
     connection.special && is_in_scope(view, tree, connection.group, target)
 }
 
-// Whether the target is in scope of the group.
+/// Whether the target is in scope of the group.
 fn is_in_scope<V: View>(view: &V, tree: &Tree, top: Id, target: &Target) -> bool
     requires { tree.now.groups ≡ (V.rows view.now).groups }
     ensures { result ≡ is_in_scope (V.rows view.now) top target.now }
@@ -79,7 +78,7 @@ fn is_in_scope<V: View>(view: &V, tree: &Tree, top: Id, target: &Target) -> bool
     }
 }
 
-// Whether the group is in scope of another. The walk up tells it in a tree.
+/// Whether the group is in scope of another. The walk up tells it in a tree.
 fn is_group_in_scope(tree: &Tree, top: Id, group: Id) -> bool
     ensures { result ≡ is_group_in_scope tree.now.groups top group }
 {
@@ -88,7 +87,7 @@ fn is_group_in_scope(tree: &Tree, top: Id, group: Id) -> bool
     tree.in_scope_group(top, group)
 }
 
-// Whether a profile of that owner is in scope of the group.
+/// Whether a profile of that owner is in scope of the group.
 fn is_profile_in_scope<V: View>(view: &V, tree: &Tree, top: Id, owner: Id) -> bool
     requires { tree.now.groups ≡ (V.rows view.now).groups }
     ensures { result ≡ is_profile_in_scope (V.rows view.now) top owner }
@@ -130,21 +129,4 @@ pub(crate) fn is_own_data(user: &User, target: &Target) -> bool
         Target::DataSets(qualifier) => *qualifier == user.id,
         _ => false,
     }
-}
-
-/// The bytes of a name before its first period.
-pub(crate) fn first_qualifier(text: &[u8]) -> &[u8]
-    ensures { result.now ≡ first_qualifier text.now }
-{
-    match first_period(text) {
-        Some(end) => &text[..end],
-        None => text,
-    }
-}
-
-// The place of the first period.
-fn first_period(text: &[u8]) -> Option<usize>
-    ensures { result ≡ position (λ byte. byte == period) text.now }
-{
-    text.iter().position(|byte| *byte == b'.')
 }

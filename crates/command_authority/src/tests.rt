@@ -12,7 +12,7 @@ use racf_profiles::{
 use std::alloc::Global;
 use std::test::Fail;
 
-// Users and profiles beside a tree, as one view.
+/// Users and profiles beside a tree, as one view.
 #[derive(Drop)]
 struct Seen<'a> {
     tree: &'a Tree,
@@ -35,7 +35,7 @@ impl View for Seen<'_> {
     }
 }
 
-// SYS1, and below it D1, D2 and D3, each below the one before, and G1. Each is owned by its superior group, D2 by the owner given.
+/// SYS1, and below it D1, D2 and D3, each below the one before, and G1. Each is owned by its superior group, D2 by the owner given.
 fn tree(alloc: Global, owner: &[u8]) -> Result<Tree, Fail> {
     let mut tree = Tree::new(alloc)?;
     for (group, superior, owner) in [
@@ -44,7 +44,7 @@ fn tree(alloc: Global, owner: &[u8]) -> Result<Tree, Fail> {
         (b"D3".as_slice(), b"D2".as_slice(), b"D2".as_slice()),
         (b"G1".as_slice(), b"SYS1".as_slice(), b"SYS1".as_slice()),
     ] {
-        tree.reserve()?;
+        tree.reserve(1)?;
         tree.add(Id::read(group)?, Id::read(superior)?, Id::read(owner)?)?;
     }
     Ok(tree)
@@ -131,7 +131,7 @@ fn user(alloc: Global, known: &Known) -> Result<User, Fail> {
             items: Vec::new(alloc),
         },
         level: 0,
-        categories: Categories::NONE,
+        categories: Categories::none(),
         label: None,
         connects,
     })
@@ -145,7 +145,7 @@ fn users(alloc: Global) -> Result<Users, Fail> {
     Ok(Users { items })
 }
 
-// A data set profile in whose standard list ANN has ALTER.
+/// A data set profile in whose standard list ANN has ALTER.
 fn profile(alloc: Global, name: &[u8]) -> Result<Profile, Fail> {
     let mut entries = Vec::new(alloc);
     entries.push(Entry {
@@ -166,7 +166,7 @@ fn profile(alloc: Global, name: &[u8]) -> Result<Profile, Fail> {
             items: Vec::new(alloc),
         },
         level: 0,
-        categories: Categories::NONE,
+        categories: Categories::none(),
         label: None,
         audit,
         global_audit: audit,
@@ -197,7 +197,7 @@ fn classes(alloc: Global) -> Result<ClassRows, Fail> {
     Ok(ClassRows { items })
 }
 
-// The users, and the data set profiles SYS1.A and SYS1.*. The groups are those of a tree.
+/// The users, and the data set profiles SYS1.A and SYS1.*. The groups are those of a tree.
 fn rows(alloc: Global) -> Result<Rows, Fail> {
     Ok(Rows {
         users: users(alloc)?,
@@ -216,7 +216,7 @@ fn rows(alloc: Global) -> Result<Rows, Fail> {
     })
 }
 
-// A need as it is printed.
+/// A need as it is printed.
 fn write_need(need: &Need, out: &mut Vec<u8>) -> Result<(), Fail> {
     match need {
         Need::Special => write(b"SPECIAL ", b"", b"", out),
@@ -249,7 +249,7 @@ struct Row {
     lacks: &'static [u8],
 }
 
-// Whether the issuer, in this group, lacks what the row says.
+/// Whether the issuer, in this group, lacks what the row says.
 fn lacks_so(
     alloc: Global,
     seen: &Seen<'_>,

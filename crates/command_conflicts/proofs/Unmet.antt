@@ -11,8 +11,8 @@ use Rattle.group_tree.proofs.Rows.{itself}
 use Rattle.group_tree.proofs.Edits.{none_from_is_some, none_from_map}
 use Rattle.command_conflicts.specs.declared.conflict.Conflict.{Conflict}
 use Rattle.command_conflicts.specs.declared.conflict.Conflict.TheVariants.{Root}
-use Rattle.command_conflicts.specs.declared.conflict.Kind.{Kind}
-use Rattle.row_tables.specs.Names.{is_taken}
+use Rattle.command_conflicts.specs.declared.conflict.Limit.{Limit}
+use Rattle.racf_profiles.specs.Names.{is_taken}
 use Rattle.command_conflicts.specs.Conflicts.{if_met, first_met, over, no_user, no_group, no_named_group, name_taken, has_subgroup, is_root, cycle, meets}
 
 -- ---- of several tests, each
@@ -30,7 +30,7 @@ pub unmet : (met : Bool) (conflict : Conflict) → if_met met conflict ≡ None 
 unmet true conflict h = cc
 unmet false conflict h = refl
 
-not_false : (b : Bool) → not b ≡ false → b ≡ true
+pub not_false : (b : Bool) → not b ≡ false → b ≡ true
 not_false true h = refl
 not_false false h = absurd (true≢false h)
 
@@ -56,7 +56,7 @@ name_free id rows h =
     let both = or_false (is_some (user_of id rows)) (is_some (group_of id rows)) (unmet (is_taken id rows) _ h) in
     (none_from_is_some (user_of id rows) both.0, none_from_is_some (group_of id rows) both.1)
 
-pub within : (kind : Kind) (limit count : ℕ) → over kind limit count ≡ None → count ≤ limit
+pub within : (kind : Limit) (limit count : ℕ) → over kind limit count ≡ None → count ≤ limit
 within kind limit count h =
     let less : nat_lt limit count ≡ false = unmet (nat_lt limit count) _ h in
     grind (arith, nat_tests)

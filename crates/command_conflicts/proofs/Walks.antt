@@ -4,9 +4,9 @@ use Rattle.std.specs.List.{list_any}
 use Rattle.std.specs.Option.{option_map_or}
 use Rattle.racf_profiles.specs.declared.groups.Group.{Group}
 use Rattle.racf_profiles.specs.NewDatabase.{sys1}
-use Rattle.group_tree.specs.Groups.{find_group, IsGroup}
-use Rattle.group_tree.specs.Scope.{IsWay, IsUnder, IsWithin}
-use Rattle.group_tree.specs.Lawful.{IsTree}
+use Rattle.racf_profiles.specs.Lookup.{find_group, IsGroup}
+use Rattle.racf_profiles.specs.Scope.{IsWay, IsUnder, IsWithin}
+use Rattle.racf_profiles.specs.Tree.{IsTree}
 use Rattle.group_tree.proofs.Rows.{same, itself, value_of, holds_of, some_of, id-find_group}
 use Rattle.group_tree.proofs.Ways.{way-append, length-way_le}
 use Rattle.command_conflicts.specs.Conflicts.{walk_up, and_above, meets}

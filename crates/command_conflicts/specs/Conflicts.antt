@@ -7,27 +7,29 @@ use Rattle.racf_profiles.specs.declared.users.User.{User}
 use Rattle.racf_profiles.specs.declared.groups.Group.{Group}
 use Rattle.racf_profiles.specs.declared.rows.Rows.{Rows}
 use Rattle.racf_profiles.specs.declared.users.Connect.{Connect as Connection}
-use Rattle.racf_profiles.specs.Lookup.{user_of, group_of}
-use Rattle.group_tree.specs.Groups.{find_group, first_subgroup}
+use Rattle.racf_profiles.specs.Lookup.{user_of, group_of, find_group}
+use Rattle.group_tree.specs.Groups.{first_subgroup}
 use Rattle.command_conflicts.specs.declared.conflict.Conflict.{Conflict}
-use Rattle.command_conflicts.specs.declared.conflict.Conflict.TheVariants.{Root, InUse, Cycle, OwnerNotSuperior, DefaultGroup, LastSpecial}
+use Rattle.command_conflicts.specs.declared.conflict.Conflict.TheVariants.{NotBuilt, Root, InUse, Cycle, OwnerNotSuperior, DefaultGroup, LastSpecial}
 use Rattle.command_conflicts.specs.declared.conflict.Holder.TheVariants.{Subgroup, Connected, Profile as ProfileOf}
-use Rattle.command_conflicts.specs.declared.conflict.Kind.TheVariants.{Users, Groups, Connections, AllConnections}
+use Rattle.command_conflicts.specs.declared.conflict.Limit.TheVariants.{Users, Groups, Connections, AllConnections}
 use Rattle.command_parser.specs.declared.commands.Issuer.{Issuer}
-use Rattle.command_parser.specs.declared.forms.AddUser.{AddUser}
-use Rattle.command_parser.specs.declared.forms.AltUser.{AltUser}
-use Rattle.command_parser.specs.declared.forms.DelUser.{DelUser}
-use Rattle.command_parser.specs.declared.forms.AddGroup.{AddGroup}
-use Rattle.command_parser.specs.declared.forms.AltGroup.{AltGroup}
-use Rattle.command_parser.specs.declared.forms.DelGroup.{DelGroup}
-use Rattle.command_parser.specs.declared.forms.Connect.{Connect}
-use Rattle.command_parser.specs.declared.forms.Remove.{Remove}
-use Rattle.command_parser.specs.declared.forms.Form.{Form}
-use Rattle.command_parser.specs.declared.forms.Form.TheVariants as form
+use Rattle.command_parser.specs.declared.fields.AddUser.{AddUser}
+use Rattle.command_parser.specs.declared.fields.AltUser.{AltUser}
+use Rattle.command_parser.specs.declared.fields.DelUser.{DelUser}
+use Rattle.command_parser.specs.declared.fields.AddGroup.{AddGroup}
+use Rattle.command_parser.specs.declared.fields.AltGroup.{AltGroup}
+use Rattle.command_parser.specs.declared.fields.DelGroup.{DelGroup}
+use Rattle.command_parser.specs.declared.fields.Connect.{Connect}
+use Rattle.command_parser.specs.declared.fields.Remove.{Remove}
+use Rattle.command_parser.specs.declared.fields.CommandFields.{CommandFields}
+use Rattle.command_parser.specs.declared.fields.CommandFields.TheVariants as form
 use Rattle.class_profiles.specs.Classes.{first_under}
-use Rattle.row_tables.specs.Limits.{most_users, most_groups, most_connections, most_connections_in_all}
-use Rattle.row_tables.specs.Names.{is_connected_to, connects_of, administrators, connections}
+use Rattle.racf_profiles.specs.Limits.{most_users, most_groups, most_connections, most_connections_in_all}
+use Rattle.racf_profiles.specs.Names.{is_connected_to, connects_of, special_users, connections}
 use Rattle.command_effects.specs.Effects.{group_or_current, new_user, new_group, altered_group, connects_after, step}
+use Rattle.command_conflicts.specs.Unbuilt.{is_unbuilt}
+use Rattle.command_conflicts.specs.Numbers.{met, is_early}
 use Rattle.command_conflicts.specs.ProfileConflicts.{add_sd_conflicts, alt_sd_conflicts, del_sd_conflicts, r_define_conflicts, r_alter_conflicts, r_delete_conflicts, permit_conflicts}
 unfoldable pub use Rattle.command_conflicts.specs.Required.{no_user, no_group, no_owner, no_named_group, no_class, name_taken, not_connected, default_not_connected, unknown_level, unknown_category, never_category, unknown_label}
 pub use Rattle.command_conflicts.specs.Required.{if_met, first_met, over}
@@ -81,26 +83,26 @@ unfoldable pub default_group : List ℕ → List ℕ → Rows → Option Conflic
 default_group id group rows = option_and_then (λ (user : User). if_met (bytes_eq user.default_group group) (DefaultGroup group)) (user_of id rows)
 
 -- After the command no user who isn't revoked has SPECIAL.
-unfoldable pub last_special : Issuer → Form → List ℕ → Rows → Option Conflict
-last_special issuer command id rows = if_met (administrators (step issuer command rows).users == 0) (LastSpecial id)
+unfoldable pub last_special : Issuer → CommandFields → List ℕ → Rows → Option Conflict
+last_special issuer command id rows = if_met (special_users (step issuer command rows).users == 0) (LastSpecial id)
 
 -- ---- limits: more of a kind than the limit
 -- after the command
-unfoldable pub users_full : Issuer → Form → Rows → Option Conflict
+unfoldable pub users_full : Issuer → CommandFields → Rows → Option Conflict
 users_full issuer command rows = over Users most_users (length (step issuer command rows).users)
 
-unfoldable pub groups_full : Issuer → Form → Rows → Option Conflict
+unfoldable pub groups_full : Issuer → CommandFields → Rows → Option Conflict
 groups_full issuer command rows = over Groups most_groups (length (step issuer command rows).groups)
 
-unfoldable pub connections_full : Issuer → Form → Rows → Option Conflict
+unfoldable pub connections_full : Issuer → CommandFields → Rows → Option Conflict
 connections_full issuer command rows = over AllConnections most_connections_in_all (connections (step issuer command rows).users)
 
 -- of the user whom the command makes, or connects
 unfoldable pub user_full : List Connection → Option Conflict
 user_full connects = over Connections most_connections (length connects)
 
--- ---- the conflicts of each command, in the order in which they are tested: by their kinds, and of one kind in the order
--- of the operands in the canonical text
+-- ---- the conflicts of each command, in the order in which they are tested: by their kinds, and of one kind in the
+-- order of the operands in the canonical text
 unfoldable pub add_user_conflicts : Issuer → AddUser → Rows → List (Option Conflict)
 add_user_conflicts issuer c rows =
     no_owner c.owner rows
@@ -183,7 +185,7 @@ remove_conflicts issuer c rows =
     ∷ default_group c.user group rows
     ∷ []
 
-abbrev pub conflicts : Issuer → Form → Rows → List (Option Conflict)
+abbrev pub conflicts : Issuer → CommandFields → Rows → List (Option Conflict)
 conflicts issuer (form.AddUser c) rows = add_user_conflicts issuer c rows
 conflicts issuer (form.AltUser c) rows = alt_user_conflicts issuer c rows
 conflicts issuer (form.DelUser c) rows = del_user_conflicts issuer c rows
@@ -192,13 +194,21 @@ conflicts issuer (form.AltGroup c) rows = alt_group_conflicts c rows
 conflicts issuer (form.DelGroup c) rows = del_group_conflicts c rows
 conflicts issuer (form.Connect c) rows = connect_conflicts issuer c rows
 conflicts issuer (form.Remove c) rows = remove_conflicts issuer c rows
-conflicts issuer (form.AddSd c) rows = add_sd_conflicts c rows
+conflicts issuer (form.AddSd c) rows = add_sd_conflicts issuer c rows
 conflicts issuer (form.AltSd c) rows = alt_sd_conflicts c rows
 conflicts issuer (form.DelSd c) rows = del_sd_conflicts c rows
-conflicts issuer (form.RDefine c) rows = r_define_conflicts c rows
-conflicts issuer (form.RAlter c) rows = r_alter_conflicts c rows
+conflicts issuer (form.RDefine c) rows = r_define_conflicts issuer c rows
+conflicts issuer (form.RAlter c) rows = r_alter_conflicts issuer c rows
 conflicts issuer (form.RDelete c) rows = r_delete_conflicts c rows
-conflicts issuer (form.Permit c) rows = permit_conflicts c rows
+conflicts issuer (form.Permit c) rows = permit_conflicts issuer c rows
 
-abbrev pub conflict_of : Issuer → Form → Rows → Option Conflict
-conflict_of issuer command rows = first_met (conflicts issuer command rows)
+-- What isn't built comes before all else.
+abbrev pub tests : Issuer → CommandFields → Rows → List (Option Conflict)
+tests issuer command rows = if_met (is_unbuilt command) NotBuilt ∷ conflicts issuer command rows
+
+abbrev pub conflict_of : Issuer → CommandFields → Rows → Option Conflict
+conflict_of issuer command rows = first_met (tests issuer command rows)
+
+-- What is told before the issuer's authority is judged: the first conflict that is met of those that come before Root.
+abbrev pub first_conflict_of : Issuer → CommandFields → Rows → Option Conflict
+first_conflict_of issuer command rows = find is_early (met (tests issuer command rows))

@@ -1,3 +1,5 @@
+pub mod Numbers
+pub mod Unbuilt
 pub mod Required
 pub mod ProfileConflicts
 pub mod Conflicts

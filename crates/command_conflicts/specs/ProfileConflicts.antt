@@ -1,11 +1,11 @@
 -- What the commands on profiles conflict with.
-use Rattle.std.specs.Prelude.{ℕ, ◌+◌, ◌-◌, Bool, false, ◌&&◌, ◌||◌, not, List, [], ◌∷◌, length, Option, None, Some, is_some, find, option_and_then, codes, bytes_eq, if◌then◌else◌}
+use Rattle.std.specs.Prelude.{ℕ, ◌+◌, ◌-◌, Bool, false, ◌&&◌, ◌||◌, not, List, [], ◌∷◌, ◌++◌, length, Option, None, Some, is_some, find, option_and_then, codes, bytes_eq, if◌then◌else◌}
 use Rattle.std.specs.Option.{option_map_or}
 use Rattle.std.specs.Result.{result_ok}
 use Rattle.access_levels.specs.Spelling.{id_of}
 use Rattle.access_levels.specs.declared.entries.Who.{Who}
 use Rattle.access_levels.specs.declared.entries.Who.TheVariants.{Star, Named}
-use Rattle.generic_names.specs.Spelled.{Spelled}
+use Rattle.generic_names.specs.Spelled.{Spelled, first_qualifier}
 use Rattle.generic_names.specs.Covers.{is_generic}
 use Rattle.racf_profiles.specs.declared.profiles.Profile.{Profile}
 use Rattle.racf_profiles.specs.declared.profiles.Member.{Member}
@@ -14,25 +14,26 @@ use Rattle.racf_profiles.specs.declared.class_rows.ClassRow.{ClassRow}
 use Rattle.racf_profiles.specs.declared.rows.Rows.{Rows}
 use Rattle.racf_profiles.specs.ClassTable.{facts_of}
 use Rattle.racf_profiles.specs.Lookup.{class_of, profile_of}
-use Rattle.access_lists.specs.Lists.{most_entries}
-use Rattle.class_profiles.specs.Lawful.{most_class_profiles, most_profiles}
-use Rattle.command_parser.specs.declared.profile_forms.AddSd.{AddSd}
-use Rattle.command_parser.specs.declared.profile_forms.AltSd.{AltSd}
-use Rattle.command_parser.specs.declared.profile_forms.DelSd.{DelSd}
-use Rattle.command_parser.specs.declared.profile_forms.RDefine.{RDefine}
-use Rattle.command_parser.specs.declared.profile_forms.RAlter.{RAlter}
-use Rattle.command_parser.specs.declared.profile_forms.RDelete.{RDelete}
-use Rattle.command_parser.specs.declared.profile_forms.Permit.{Permit}
+use Rattle.racf_profiles.specs.Limits.{most_class_profiles, most_profiles, most_members, most_categories, most_list_entries, most_entries_in_all}
+use Rattle.command_parser.specs.declared.commands.Issuer.{Issuer}
+use Rattle.command_parser.specs.declared.fields.CommandFields.{CommandFields}
+use Rattle.command_parser.specs.declared.fields.CommandFields.TheVariants as fields
+use Rattle.command_parser.specs.declared.profile_fields.AddSd.{AddSd}
+use Rattle.command_parser.specs.declared.profile_fields.AltSd.{AltSd}
+use Rattle.command_parser.specs.declared.profile_fields.DelSd.{DelSd}
+use Rattle.command_parser.specs.declared.profile_fields.RDefine.{RDefine}
+use Rattle.command_parser.specs.declared.profile_fields.RAlter.{RAlter}
+use Rattle.command_parser.specs.declared.profile_fields.RDelete.{RDelete}
+use Rattle.command_parser.specs.declared.profile_fields.Permit.{Permit}
 use Rattle.command_conflicts.specs.declared.conflict.Conflict.{Conflict}
 use Rattle.command_conflicts.specs.declared.conflict.Conflict.TheVariants.{NoUser, NoProfile, NoClass, Exists, NotGeneric}
 use Rattle.command_conflicts.specs.declared.conflict.Named.TheVariants as named
-use Rattle.command_conflicts.specs.declared.conflict.Kind.TheVariants.{ClassProfiles, Profiles, Entries, AllEntries, Members, Categories}
-use Rattle.row_tables.specs.Limits.{most_members, most_categories}
-use Rattle.row_tables.specs.Names.{is_taken}
-use Rattle.class_profiles.specs.Classes.{profile_count, entry_count, entries_in, first_qualifier, most_entries as most_entries_in_all}
-use Rattle.command_effects.specs.Members.{members_after, categories_defined}
+use Rattle.command_conflicts.specs.declared.conflict.Limit.TheVariants.{ClassProfiles, Profiles, Entries, AllEntries, Members, Categories}
+use Rattle.racf_profiles.specs.Names.{is_taken}
+use Rattle.racf_profiles.specs.Counts.{profile_count, entry_count, entries_in}
 use Rattle.command_effects.specs.ProfileEffects.{dataset}
-use Rattle.command_effects.specs.PermitEffects.{standard_after, conditional_after, permitted_profile}
+use Rattle.command_effects.specs.Members.{members_after, categories_defined}
+use Rattle.command_effects.specs.Effects.{step}
 use Rattle.command_conflicts.specs.Required.{if_met, no_owner, unknown_level, unknown_category, never_category, unknown_label, over}
 
 -- ---- who and what has to be there
@@ -68,9 +69,12 @@ classless global (Some id) rows = if_met (global && not (is_some (class_of id ro
 unfoldable pub no_global_class : List ℕ → Spelled → Rows → Option Conflict
 no_global_class class name rows = classless (bytes_eq class (codes "GLOBAL")) (result_ok (id_of name.text)) rows
 
--- It is asked behind the class, and so met only where the class is there.
+-- A class without the profile: met only where the class is there.
 unfoldable pub no_profile : List ℕ → Spelled → Rows → Option Conflict
-no_profile class name rows = if_met (not (is_some (profile_of class name rows))) (NoProfile class name)
+no_profile class name rows = if_met (is_some (class_of class rows) && not (is_some (profile_of class name rows))) (NoProfile class name)
+
+unfoldable pub no_resource_profile : List ℕ → Spelled → Rows → Option Conflict
+no_resource_profile class name rows = if bytes_eq class dataset then None else no_profile class name rows
 
 -- What is to be defined isn't there.
 unfoldable pub profile_taken : List ℕ → Spelled → Rows → Option Conflict
@@ -83,48 +87,56 @@ has_generic class = option_map_or (λ (facts : ClassFacts). facts.generic) (fact
 unfoldable pub not_generic : List ℕ → Spelled → Option Conflict
 not_generic class name = if_met (is_generic name && not (has_generic class)) (NotGeneric class)
 
--- ---- limits, after the command. A definition adds one profile.
+-- ---- limits: of the rows after the command, each kind as the users' are
 abbrev pub profiles_in : List ℕ → Rows → List Profile
 profiles_in class rows = option_map_or (λ (row : ClassRow). row.profiles) (class_of class rows) []
 
-unfoldable pub class_profiles_full : List ℕ → Rows → Option Conflict
-class_profiles_full class rows = over ClassProfiles most_class_profiles (length (profiles_in class rows) + 1)
+unfoldable pub class_profiles_full : Issuer → CommandFields → List ℕ → Rows → Option Conflict
+class_profiles_full issuer command class rows = over ClassProfiles most_class_profiles (length (profiles_in class (step issuer command rows)))
 
-unfoldable pub profiles_full : Rows → Option Conflict
-profiles_full rows = over Profiles most_profiles (profile_count rows.classes + 1)
+unfoldable pub profiles_full : Issuer → CommandFields → Rows → Option Conflict
+profiles_full issuer command rows = over Profiles most_profiles (profile_count (step issuer command rows).classes)
 
--- of the profile that PERMIT changes, but with DELETE, which adds no entry: either list, and all lists with the new ones in place of the old ones
-unfoldable pub standard_full : Permit → Rows → Option Conflict
-standard_full c rows = if c.delete then None else option_and_then (λ (old : Profile). over Entries most_entries (length (standard_after c old.standard))) (profile_of c.class c.profile rows)
+-- of the profile that PERMIT changes: either list, and all lists. With DELETE no entry is added, so that no limit is
+-- passed.
+abbrev pub list_full : (Profile → ℕ) → Option Profile → Option Conflict
+list_full entries profile = option_and_then (λ (p : Profile). over Entries most_list_entries (entries p)) profile
 
-unfoldable pub conditional_full : Permit → Rows → Option Conflict
-conditional_full c rows = if c.delete then None else option_and_then (λ (old : Profile). over Entries most_entries (length (conditional_after c old.conditional))) (profile_of c.class c.profile rows)
+unfoldable pub standard_full : Issuer → Permit → Rows → Option Conflict
+standard_full issuer c rows = if c.delete then None else list_full (λ p. length p.standard) (profile_of c.class c.profile (step issuer (fields.Permit c) rows))
 
-unfoldable pub entries_full : Permit → Rows → Option Conflict
-entries_full c rows = if c.delete then None else option_and_then (λ (old : Profile). over AllEntries most_entries_in_all (entry_count rows.classes - entries_in old + entries_in (permitted_profile c old))) (profile_of c.class c.profile rows)
+unfoldable pub conditional_full : Issuer → Permit → Rows → Option Conflict
+conditional_full issuer c rows = if c.delete then None else list_full (λ p. length p.conditional) (profile_of c.class c.profile (step issuer (fields.Permit c) rows))
 
--- of the profile that RDEFINE makes, or that RALTER changes
-unfoldable pub members_full : List Member → Option Conflict
-members_full members = over Members most_members (length members)
+unfoldable pub entries_full : Issuer → Permit → Rows → Option Conflict
+entries_full issuer c rows = if c.delete then None else over AllEntries most_entries_in_all (entry_count (step issuer (fields.Permit c) rows).classes)
 
-unfoldable pub altered_members_full : RAlter → Rows → Option Conflict
-altered_members_full c rows = option_and_then (λ (old : Profile). members_full (members_after c.addmem c.delmem old.members)) (profile_of c.class c.profile rows)
+-- of the profile that RDEFINE makes, or that RALTER changes; and the names of categories
+unfoldable pub members_full : Issuer → CommandFields → List ℕ → Spelled → Rows → Option Conflict
+members_full issuer command class name rows = option_and_then (λ (p : Profile). over Members most_members (length p.members)) (profile_of class name (step issuer command rows))
 
-unfoldable pub categories_full : List Member → Rows → Option Conflict
-categories_full added rows = over Categories most_categories (length (categories_defined added rows.options.categories))
+unfoldable pub categories_full : Issuer → CommandFields → Rows → Option Conflict
+categories_full issuer command rows = over Categories most_categories (length (step issuer command rows).options.categories)
 
 -- ---- the conflicts of each command, in the order in which they are tested
-unfoldable pub add_sd_conflicts : AddSd → Rows → List (Option Conflict)
-add_sd_conflicts c rows =
+unfoldable pub add_sd_requirements : AddSd → Rows → List (Option Conflict)
+add_sd_requirements c rows =
     no_first_qualifier c.profile rows
     ∷ no_owner c.owner rows
     ∷ profile_taken dataset c.profile rows
     ∷ unknown_level c.seclevel rows
     ∷ unknown_category c.addcategory rows
     ∷ unknown_label c.seclabel rows
-    ∷ class_profiles_full dataset rows
-    ∷ profiles_full rows
     ∷ []
+
+unfoldable pub add_sd_limits : Issuer → AddSd → Rows → List (Option Conflict)
+add_sd_limits issuer c rows =
+    class_profiles_full issuer (fields.AddSd c) dataset rows
+    ∷ profiles_full issuer (fields.AddSd c) rows
+    ∷ []
+
+abbrev pub add_sd_conflicts : Issuer → AddSd → Rows → List (Option Conflict)
+add_sd_conflicts issuer c rows = add_sd_requirements c rows ++ add_sd_limits issuer c rows
 
 unfoldable pub alt_sd_conflicts : AltSd → Rows → List (Option Conflict)
 alt_sd_conflicts c rows =
@@ -139,8 +151,8 @@ alt_sd_conflicts c rows =
 unfoldable pub del_sd_conflicts : DelSd → Rows → List (Option Conflict)
 del_sd_conflicts c rows = no_profile dataset c.profile rows ∷ []
 
-unfoldable pub r_define_conflicts : RDefine → Rows → List (Option Conflict)
-r_define_conflicts c rows =
+unfoldable pub r_define_requirements : RDefine → Rows → List (Option Conflict)
+r_define_requirements c rows =
     no_owner c.owner rows
     ∷ no_resource_class c.class rows
     ∷ no_global_class c.class c.profile rows
@@ -149,34 +161,56 @@ r_define_conflicts c rows =
     ∷ unknown_level c.seclevel rows
     ∷ unknown_category c.addcategory rows
     ∷ unknown_label c.seclabel rows
-    ∷ class_profiles_full c.class rows
-    ∷ profiles_full rows
-    ∷ members_full (members_after c.addmem [] [])
-    ∷ categories_full c.addmem rows
     ∷ []
 
-unfoldable pub r_alter_conflicts : RAlter → Rows → List (Option Conflict)
-r_alter_conflicts c rows =
+unfoldable pub r_define_limits : Issuer → RDefine → Rows → List (Option Conflict)
+r_define_limits issuer c rows =
+    class_profiles_full issuer (fields.RDefine c) c.class rows
+    ∷ profiles_full issuer (fields.RDefine c) rows
+    ∷ members_full issuer (fields.RDefine c) c.class c.profile rows
+    ∷ categories_full issuer (fields.RDefine c) rows
+    ∷ []
+
+-- The same limits by counts: one profile more, and the members that RDEFINE names.
+abbrev pub new_profile_limits : List ℕ → Rows → List (Option Conflict)
+new_profile_limits class rows =
+    over ClassProfiles most_class_profiles (length (profiles_in class rows) + 1)
+    ∷ over Profiles most_profiles (profile_count rows.classes + 1)
+    ∷ []
+
+abbrev pub new_resource_limits : RDefine → Rows → List (Option Conflict)
+new_resource_limits c rows =
+    over ClassProfiles most_class_profiles (length (profiles_in c.class rows) + 1)
+    ∷ over Profiles most_profiles (profile_count rows.classes + 1)
+    ∷ over Members most_members (length (members_after c.addmem [] []))
+    ∷ over Categories most_categories (length (categories_defined c.addmem rows.options.categories))
+    ∷ []
+
+abbrev pub r_define_conflicts : Issuer → RDefine → Rows → List (Option Conflict)
+r_define_conflicts issuer c rows = r_define_requirements c rows ++ r_define_limits issuer c rows
+
+unfoldable pub r_alter_conflicts : Issuer → RAlter → Rows → List (Option Conflict)
+r_alter_conflicts issuer c rows =
     no_owner c.owner rows
+    ∷ no_resource_profile c.class c.profile rows
     ∷ no_resource_class c.class rows
-    ∷ no_profile c.class c.profile rows
     ∷ unknown_level c.seclevel rows
     ∷ unknown_category c.addcategory rows
     ∷ never_category c.delcategory rows
     ∷ unknown_label c.seclabel rows
-    ∷ altered_members_full c rows
-    ∷ categories_full c.addmem rows
+    ∷ members_full issuer (fields.RAlter c) c.class c.profile rows
+    ∷ categories_full issuer (fields.RAlter c) rows
     ∷ []
 
 unfoldable pub r_delete_conflicts : RDelete → Rows → List (Option Conflict)
-r_delete_conflicts c rows = no_resource_class c.class rows ∷ no_profile c.class c.profile rows ∷ []
+r_delete_conflicts c rows = no_resource_profile c.class c.profile rows ∷ no_resource_class c.class rows ∷ []
 
-unfoldable pub permit_conflicts : Permit → Rows → List (Option Conflict)
-permit_conflicts c rows =
+unfoldable pub permit_conflicts : Issuer → Permit → Rows → List (Option Conflict)
+permit_conflicts issuer c rows =
     no_permitted c.delete c.id rows
-    ∷ no_such_class c.class rows
     ∷ no_profile c.class c.profile rows
-    ∷ standard_full c rows
-    ∷ conditional_full c rows
-    ∷ entries_full c rows
+    ∷ no_such_class c.class rows
+    ∷ standard_full issuer c rows
+    ∷ conditional_full issuer c rows
+    ∷ entries_full issuer c rows
     ∷ []

@@ -6,8 +6,8 @@ use Rattle.racf_profiles.specs.Lookup.{user_of, group_of}
 use Rattle.command_conflicts.specs.declared.conflict.Conflict.{Conflict}
 use Rattle.command_conflicts.specs.declared.conflict.Conflict.TheVariants.{NoUser, NoGroup, NoClass, Exists, NotConnected, UnknownName, Full}
 use Rattle.command_conflicts.specs.declared.conflict.Named.TheVariants as named
-use Rattle.command_conflicts.specs.declared.conflict.Kind.{Kind}
-use Rattle.row_tables.specs.Names.{is_taken, is_class_word, is_to, connects_of}
+use Rattle.command_conflicts.specs.declared.conflict.Limit.{Limit}
+use Rattle.racf_profiles.specs.Names.{is_taken, is_class_word, is_to, connects_of}
 use Rattle.command_effects.specs.Security.{level_number, is_category, category_number, is_label}
 
 -- The conflict, where it is met.
@@ -70,5 +70,5 @@ unknown_label None rows = None
 unknown_label (Some name) rows = if_met (not (is_label rows name)) (UnknownName name)
 
 -- ---- limits: more of a kind than the limit
-abbrev pub over : Kind → ℕ → ℕ → Option Conflict
+abbrev pub over : Limit → ℕ → ℕ → Option Conflict
 over kind limit count = if_met (nat_lt limit count) (Full kind limit)

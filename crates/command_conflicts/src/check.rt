@@ -1,8 +1,10 @@
 //! What a command conflicts with.
-ghost use Rattle.std.specs.Prelude.{◌≡◌};
+ghost use Rattle.std.specs.Prelude.{◌≡◌, None, Some, if◌then◌else◌};
 ghost use Rattle.std.specs.Result.{result_err};
-ghost use Rattle.command_conflicts.specs.ProfileConflicts.{add_sd_conflicts, alt_sd_conflicts, del_sd_conflicts, r_define_conflicts, r_alter_conflicts, r_delete_conflicts, permit_conflicts};
-ghost use Rattle.command_conflicts.specs.Conflicts.{conflict_of, first_met, add_user_conflicts, alt_user_conflicts, del_user_conflicts, add_group_conflicts, alt_group_conflicts, del_group_conflicts, connect_conflicts, remove_conflicts};
+ghost use Rattle.command_effects.specs.ProfileEffects.{dataset};
+ghost use Rattle.command_conflicts.specs.ProfileConflicts.{add_sd_requirements, new_profile_limits, add_sd_conflicts, alt_sd_conflicts, del_sd_conflicts, r_define_requirements, new_resource_limits, r_define_conflicts, r_alter_conflicts, r_delete_conflicts, permit_conflicts};
+ghost use Rattle.command_conflicts.specs.Numbers.{is_early};
+ghost use Rattle.command_conflicts.specs.Conflicts.{conflict_of, first_conflict_of, conflicts, first_met, add_user_conflicts, alt_user_conflicts, del_user_conflicts, add_group_conflicts, alt_group_conflicts, del_group_conflicts, connect_conflicts, remove_conflicts};
 
 mod groups;
 mod members;
@@ -13,10 +15,11 @@ mod security;
 mod users;
 
 use crate::conflict::Conflict;
+use crate::unbuilt::is_unbuilt;
 use command_effects::{dataset, group_or_current};
 use command_parser::{
-    AddGroup, AddSd, AddUser, AltGroup, AltSd, AltUser, Command, Connect, DelGroup, DelSd, DelUser,
-    Form, Issuer, Permit, RAlter, RDefine, RDelete, Remove,
+    AddGroup, AddSd, AddUser, AltGroup, AltSd, AltUser, Command, CommandFields, Connect, DelGroup,
+    DelSd, DelUser, Issuer, Permit, RAlter, RDefine, RDelete, Remove,
 };
 use groups::{
     check_altered_owner, check_cycle, check_group_fits, check_new_owner, check_no_subgroup,
@@ -32,17 +35,17 @@ use permit::{check_conditional_fits, check_entries_fit, check_permitted, check_s
 use profiles::{
     check_class, check_class_profiles_fit, check_first_qualifier, check_generic,
     check_global_class, check_profile, check_profile_free, check_profiles_fit,
-    check_resource_class,
+    check_resource_class, check_resource_profile,
 };
 use row_tables::RowTables;
 use security::{check_categories, check_former_categories, check_label, check_level};
 use users::{
-    check_administrator_altered, check_administrator_gone, check_connection_fits,
-    check_connects_of_user, check_new_connection_fits, check_user_fits,
+    check_connection_fits, check_connects_of_user, check_new_connection_fits,
+    check_special_user_altered, check_special_user_gone, check_user_fits,
 };
 
-/// The first conflict that these tests meet. Each stands for `test?`, of which Rattle makes no proof where the error is an
-/// enum with enums of names in it.
+/// The first conflict that these tests meet. Each stands for `test?`, of which Rattle makes no proof where the error
+/// is an enum with enums of names in it.
 macro_rules! first_conflict {
     ($($test:expr),+ $(,)?) => {{
         $(
@@ -55,9 +58,9 @@ macro_rules! first_conflict {
 }
 
 /// Whether the rows allow the command. It takes no memory. A command takes a look-up for each name in it. DELGROUP also
-/// looks at every group, where a user may be connected at every user, and where a data set profile may have its name, as
-/// DELUSER does, at every data set profile. PERMIT compares each ID with those before it and with the entries of the list,
-/// and ADDMEM each member with those before it and with the others.
+/// looks at every group, where a user may be connected at every user, and where a data set profile may have its name,
+/// as DELUSER does, at every data set profile. PERMIT compares each ID with those before it and with the entries of
+/// the list, and ADDMEM each member with those before it and with the others.
 ///
 /// # Errors
 ///
@@ -65,22 +68,62 @@ macro_rules! first_conflict {
 pub fn check_command(tables: &RowTables, issuer: &Issuer, command: &Command) -> Result<(), Conflict>
     ensures { result_err result ≡ conflict_of issuer.now command.now tables.now.rows }
 {
-    match command.form() {
-        Form::AddUser(command) => check_add_user(tables, issuer, command),
-        Form::AltUser(command) => check_alt_user(tables, issuer, command),
-        Form::DelUser(command) => check_del_user(tables, issuer, command),
-        Form::AddGroup(command) => check_add_group(tables, issuer, command),
-        Form::AltGroup(command) => check_alt_group(tables, command),
-        Form::DelGroup(command) => check_del_group(tables, command),
-        Form::Connect(command) => check_connect(tables, issuer, command),
-        Form::Remove(command) => check_remove(tables, issuer, command),
-        Form::AddSd(command) => check_add_sd(tables, command),
-        Form::AltSd(command) => check_alt_sd(tables, command),
-        Form::DelSd(command) => check_del_sd(tables, command),
-        Form::RDefine(command) => check_r_define(tables, command),
-        Form::RAlter(command) => check_r_alter(tables, command),
-        Form::RDelete(command) => check_r_delete(tables, command),
-        Form::Permit(command) => check_permit(tables, command),
+    let fields = command.fields();
+    if is_unbuilt(fields) {
+        return Err(Conflict::NotBuilt);
+    }
+    check_fields(tables, issuer, fields)
+}
+
+/// What is told of the command before the issuer's authority is judged. It makes all tests of `check_command`.
+///
+/// # Errors
+///
+/// The first conflict that is met of those that come before `Root`.
+pub fn check_first_command(
+    tables: &RowTables,
+    issuer: &Issuer,
+    command: &Command,
+) -> Result<(), Conflict>
+    ensures { result_err result ≡ first_conflict_of issuer.now command.now tables.now.rows }
+{
+    crate::laws::first_conflicts();
+    match check_command(tables, issuer, command) {
+        Ok(()) => Ok(()),
+        Err(conflict) => unless_late(conflict),
+    }
+}
+
+/// The conflict, if it comes before `Root`.
+fn unless_late(conflict: Conflict) -> Result<(), Conflict>
+    ensures { result_err result ≡ (if is_early conflict then Some conflict else None) }
+{
+    if conflict.number() <= 6 {
+        return Err(conflict);
+    }
+    Ok(())
+}
+
+/// The conflicts of what is built.
+fn check_fields(tables: &RowTables, issuer: &Issuer, fields: &CommandFields) -> Result<(), Conflict>
+    ensures { result_err result ≡ first_met (conflicts issuer.now fields.now tables.now.rows) }
+{
+    match fields {
+        CommandFields::AddUser(command) => check_add_user(tables, issuer, command),
+        CommandFields::AltUser(command) => check_alt_user(tables, issuer, command),
+        CommandFields::DelUser(command) => check_del_user(tables, issuer, command),
+        CommandFields::AddGroup(command) => check_add_group(tables, issuer, command),
+        CommandFields::AltGroup(command) => check_alt_group(tables, command),
+        CommandFields::DelGroup(command) => check_del_group(tables, command),
+        CommandFields::Connect(command) => check_connect(tables, issuer, command),
+        CommandFields::Remove(command) => check_remove(tables, issuer, command),
+        CommandFields::AddSd(command) => check_add_sd(tables, issuer, command),
+        CommandFields::AltSd(command) => check_alt_sd(tables, command),
+        CommandFields::DelSd(command) => check_del_sd(tables, command),
+        CommandFields::RDefine(command) => check_r_define(tables, issuer, command),
+        CommandFields::RAlter(command) => check_r_alter(tables, issuer, command),
+        CommandFields::RDelete(command) => check_r_delete(tables, command),
+        CommandFields::Permit(command) => check_permit(tables, issuer, command),
     }
 }
 
@@ -112,7 +155,7 @@ fn check_alt_user(tables: &RowTables, issuer: &Issuer, command: &AltUser) -> Res
         check_classes(tables, &command.clauth),
         check_classes(tables, &command.noclauth),
         check_default_connected(tables, command.user, command.dfltgrp),
-        check_administrator_altered(tables, issuer, command),
+        check_special_user_altered(tables, issuer, command),
         check_level(tables, command.seclevel),
         check_categories(tables, &command.addcategory),
         check_former_categories(tables, &command.delcategory),
@@ -127,7 +170,7 @@ fn check_del_user(tables: &RowTables, issuer: &Issuer, command: &DelUser) -> Res
     first_conflict![
         check_user(tables, command.user),
         check_no_profile(tables, command.user),
-        check_administrator_gone(tables, issuer, command),
+        check_special_user_gone(tables, issuer, command),
     ]
 }
 
@@ -197,9 +240,29 @@ fn check_remove(tables: &RowTables, issuer: &Issuer, command: &Remove) -> Result
     ]
 }
 
-#[tactic(auto, unfolding(crate::specs::ProfileConflicts::add_sd_conflicts))]
-fn check_add_sd(tables: &RowTables, command: &AddSd) -> Result<(), Conflict>
-    ensures { result_err result ≡ first_met (add_sd_conflicts command.now tables.now.rows) }
+fn check_add_sd(tables: &RowTables, issuer: &Issuer, command: &AddSd) -> Result<(), Conflict>
+    ensures { result_err result ≡ first_met (add_sd_conflicts issuer.now command.now tables.now.rows) }
+{
+    tables.what_is_kept();
+    if let Err(conflict) = check_new_data_set(tables, command) {
+        return Err(conflict);
+    }
+    check_data_set_fits(tables)
+}
+
+/// One more data set profile is within the limits.
+fn check_data_set_fits(tables: &RowTables) -> Result<(), Conflict>
+    ensures { result_err result ≡ first_met (new_profile_limits dataset tables.now.rows) }
+{
+    first_conflict![
+        check_class_profiles_fit(tables, dataset()),
+        check_profiles_fit(tables),
+    ]
+}
+
+#[tactic(auto, unfolding(crate::specs::ProfileConflicts::add_sd_requirements))]
+fn check_new_data_set(tables: &RowTables, command: &AddSd) -> Result<(), Conflict>
+    ensures { result_err result ≡ first_met (add_sd_requirements command.now tables.now.rows) }
 {
     first_conflict![
         check_first_qualifier(tables, &command.profile),
@@ -208,8 +271,6 @@ fn check_add_sd(tables: &RowTables, command: &AddSd) -> Result<(), Conflict>
         check_level(tables, command.seclevel),
         check_categories(tables, &command.addcategory),
         check_label(tables, command.seclabel),
-        check_class_profiles_fit(tables, dataset()),
-        check_profiles_fit(tables),
     ]
 }
 
@@ -234,9 +295,18 @@ fn check_del_sd(tables: &RowTables, command: &DelSd) -> Result<(), Conflict>
     check_profile(tables, dataset(), &command.profile)
 }
 
-#[tactic(auto, unfolding(crate::specs::ProfileConflicts::r_define_conflicts))]
-fn check_r_define(tables: &RowTables, command: &RDefine) -> Result<(), Conflict>
-    ensures { result_err result ≡ first_met (r_define_conflicts command.now tables.now.rows) }
+fn check_r_define(tables: &RowTables, issuer: &Issuer, command: &RDefine) -> Result<(), Conflict>
+    ensures { result_err result ≡ first_met (r_define_conflicts issuer.now command.now tables.now.rows) }
+{
+    if let Err(conflict) = check_new_resource(tables, command) {
+        return Err(conflict);
+    }
+    check_resource_fits(tables, command)
+}
+
+#[tactic(auto, unfolding(crate::specs::ProfileConflicts::r_define_requirements))]
+fn check_new_resource(tables: &RowTables, command: &RDefine) -> Result<(), Conflict>
+    ensures { result_err result ≡ first_met (r_define_requirements command.now tables.now.rows) }
 {
     first_conflict![
         check_owner(tables, command.owner),
@@ -247,6 +317,14 @@ fn check_r_define(tables: &RowTables, command: &RDefine) -> Result<(), Conflict>
         check_level(tables, command.seclevel),
         check_categories(tables, &command.addcategory),
         check_label(tables, command.seclabel),
+    ]
+}
+
+/// One more profile, with its members, is within the limits.
+fn check_resource_fits(tables: &RowTables, command: &RDefine) -> Result<(), Conflict>
+    ensures { result_err result ≡ first_met (new_resource_limits command.now tables.now.rows) }
+{
+    first_conflict![
         check_class_profiles_fit(tables, command.class),
         check_profiles_fit(tables),
         check_new_members_fit(command),
@@ -254,19 +332,19 @@ fn check_r_define(tables: &RowTables, command: &RDefine) -> Result<(), Conflict>
     ]
 }
 
-#[tactic(auto, unfolding(crate::specs::ProfileConflicts::r_alter_conflicts))]
-fn check_r_alter(tables: &RowTables, command: &RAlter) -> Result<(), Conflict>
-    ensures { result_err result ≡ first_met (r_alter_conflicts command.now tables.now.rows) }
+#[tactic(auto, unfolding(crate::specs::ProfileConflicts::r_alter_conflicts, crate::specs::ProfileConflicts::categories_full))]
+fn check_r_alter(tables: &RowTables, issuer: &Issuer, command: &RAlter) -> Result<(), Conflict>
+    ensures { result_err result ≡ first_met (r_alter_conflicts issuer.now command.now tables.now.rows) }
 {
     first_conflict![
         check_owner(tables, command.owner),
+        check_resource_profile(tables, command.class, &command.profile),
         check_resource_class(tables, command.class),
-        check_profile(tables, command.class, &command.profile),
         check_level(tables, command.seclevel),
         check_categories(tables, &command.addcategory),
         check_former_categories(tables, &command.delcategory),
         check_label(tables, command.seclabel),
-        check_members_fit(tables, command),
+        check_members_fit(tables, issuer, command),
         check_categories_fit(tables, &command.addmem),
     ]
 }
@@ -276,21 +354,21 @@ fn check_r_delete(tables: &RowTables, command: &RDelete) -> Result<(), Conflict>
     ensures { result_err result ≡ first_met (r_delete_conflicts command.now tables.now.rows) }
 {
     first_conflict![
+        check_resource_profile(tables, command.class, &command.profile),
         check_resource_class(tables, command.class),
-        check_profile(tables, command.class, &command.profile),
     ]
 }
 
 #[tactic(auto, unfolding(crate::specs::ProfileConflicts::permit_conflicts))]
-fn check_permit(tables: &RowTables, command: &Permit) -> Result<(), Conflict>
-    ensures { result_err result ≡ first_met (permit_conflicts command.now tables.now.rows) }
+fn check_permit(tables: &RowTables, issuer: &Issuer, command: &Permit) -> Result<(), Conflict>
+    ensures { result_err result ≡ first_met (permit_conflicts issuer.now command.now tables.now.rows) }
 {
     first_conflict![
         check_permitted(tables, command),
-        check_class(tables, command.class),
         check_profile(tables, command.class, &command.profile),
-        check_standard_fits(tables, command),
-        check_conditional_fits(tables, command),
-        check_entries_fit(tables, command),
+        check_class(tables, command.class),
+        check_standard_fits(tables, issuer, command),
+        check_conditional_fits(tables, issuer, command),
+        check_entries_fit(tables, issuer, command),
     ]
 }

@@ -7,6 +7,8 @@ use generic_names::Pattern;
 /// issuer's authority was judged.
 #[derive(Clone, Copy)]
 pub enum Conflict {
+    /// The command sets a security level, a category, a label or a member, and decisions don't look at these yet.
+    NotBuilt,
     /// No user has this ID; or, of an owner, no user and no group.
     NoUser(Id),
     /// No group has this name.
@@ -40,7 +42,38 @@ pub enum Conflict {
     /// No level, category or label has this name.
     UnknownName(Id),
     /// The database would hold more of this kind than this number.
-    Full(Kind, u64),
+    Full(Limit, u64),
+}
+
+impl Conflict {
+    ghost use Rattle.std.specs.Prelude.{◌≡◌};
+    ghost use Rattle.command_conflicts.specs.Numbers.{number_of};
+
+    /// Its number: of several conflicts that a command meets, one of the least number is told.
+    pub fn number(&self) -> u8
+        ensures { result ≡ number_of self.now }
+    {
+        match self {
+            Conflict::NotBuilt => 0,
+            Conflict::NoUser(_) => 1,
+            Conflict::NoGroup(_) => 2,
+            Conflict::NoProfile(_, _) => 3,
+            Conflict::NoClass(_) => 4,
+            Conflict::Exists(_) => 5,
+            Conflict::NotConnected(_) => 6,
+            Conflict::Root => 7,
+            Conflict::InUse(_) => 8,
+            Conflict::Cycle(_) => 9,
+            Conflict::OwnerNotSuperior(_) => 10,
+            Conflict::NotGeneric(_) => 11,
+            Conflict::NotListed(_) => 12,
+            Conflict::ClassFixed(_) => 13,
+            Conflict::DefaultGroup(_) => 14,
+            Conflict::LastSpecial(_) => 15,
+            Conflict::UnknownName(_) => 16,
+            Conflict::Full(_, _) => 17,
+        }
+    }
 }
 
 /// What stands in the way of a definition.
@@ -64,7 +97,7 @@ pub enum Holder {
 
 /// What is limited in number (this product's own rule), in the order in which the limits are tested.
 #[derive(Clone, Copy, Debug, PartialEq, Eq)]
-pub enum Kind {
+pub enum Limit {
     Users,
     Groups,
     /// The connections of one user.

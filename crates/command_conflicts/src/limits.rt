@@ -3,10 +3,10 @@ ghost use Rattle.std.specs.Prelude.{◌≡◌, ◌+◌};
 ghost use Rattle.std.specs.Result.{result_err};
 ghost use Rattle.command_conflicts.specs.Conflicts.{over};
 
-use crate::conflict::{Conflict, Kind};
+use crate::conflict::{Conflict, Limit};
 
 /// Refuses a count that is over its limit.
-pub(crate) fn check_count(kind: Kind, limit: usize, count: usize) -> Result<(), Conflict>
+pub(crate) fn check_count(kind: Limit, limit: usize, count: usize) -> Result<(), Conflict>
     ensures { result_err result ≡ over kind limit count }
 {
     if count > limit {
@@ -17,7 +17,7 @@ pub(crate) fn check_count(kind: Kind, limit: usize, count: usize) -> Result<(), 
 
 /// Refuses three counts that are together over their limit.
 pub(crate) fn check_sum(
-    kind: Kind,
+    kind: Limit,
     limit: usize,
     first: usize,
     second: usize,

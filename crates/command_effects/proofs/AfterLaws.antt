@@ -8,8 +8,8 @@ use Rattle.racf_profiles.specs.declared.users.Connect.{Connect as Connection}
 use Rattle.racf_profiles.specs.Lookup.{is_user}
 use Rattle.racf_profiles.specs.Edits.{drop_row}
 use Rattle.command_parser.specs.declared.commands.Issuer.{Issuer}
-use Rattle.command_parser.specs.declared.forms.Connect.{Connect}
-use Rattle.row_tables.specs.Names.{is_to, growth, connected_to, connections, is_administrator, administering, administrators}
+use Rattle.command_parser.specs.declared.fields.Connect.{Connect}
+use Rattle.racf_profiles.specs.Names.{is_to, connections_added, connected_to, connections, is_special_user, special_user_count, special_users}
 use Rattle.command_effects.specs.Effects.{at_row, altered_connection, connects_after, connected_user, group_or_current}
 use Rattle.row_tables.proofs.RowLaws.{sum-put_row, sum-drop_row, put_row-at_row}
 
@@ -42,28 +42,28 @@ module _ {X : Type 0} (it : X → Bool) (change : X → X) where
         omega (arith, sum-at_row, sum-drop_row it weight rows, here)
 
 -- a connection is made where there is none
-pub length-connects_after : (c : Connect) (group : List ℕ) (connects : List Connection) → length (connects_after c group connects) ≡ length connects + growth group connects
+pub length-connects_after : (c : Connect) (group : List ℕ) (connects : List Connection) → length (connects_after c group connects) ≡ length connects + connections_added group connects
 length-connects_after c group [] = refl
 length-connects_after c group (x ∷ xs) = by (is_to group x) (length-connects_after c group xs)
   where
-    by : (b : Bool) → length (connects_after c group xs) ≡ length xs + growth group xs
+    by : (b : Bool) → length (connects_after c group xs) ≡ length xs + connections_added group xs
         → length (cond b (altered_connection c x ∷ xs) (x ∷ connects_after c group xs)) ≡ length (x ∷ xs) + cond (b || list_any (is_to group) xs) 0 1
     by true rest = omega arith
     by false rest = omega (arith, rest)
 
 pub connections-connected : (issuer : Issuer) (c : Connect) (users : List User) (user : User) → find (is_user c.user) users ≡ Some user
-    → connections (at_row (is_user c.user) (connected_user issuer c) users) ≡ connections users + growth (group_or_current issuer c.group) user.connects
+    → connections (at_row (is_user c.user) (connected_user issuer c) users) ≡ connections users + connections_added (group_or_current issuer c.group) user.connects
 connections-connected issuer c users user found =
     omega (arith, sum-at_row (is_user c.user) (connected_user issuer c) connected_to users user found, length-connects_after c (group_or_current issuer c.group) user.connects)
 
--- how many administrators there are, once a user was altered
-pub administrators-altered : (id : List ℕ) (change : User → User) (users : List User)
-    → administrators (at_row (is_user id) change users) ≡ administrators (drop_row (is_user id) users) + cond (option_map_or (λ (user : User). is_administrator (change user)) (find (is_user id) users) false) 1 0
-administrators-altered id change users = by (find (is_user id) users) refl
+-- how many special_users there are, once a user was altered
+pub special_users-altered : (id : List ℕ) (change : User → User) (users : List User)
+    → special_users (at_row (is_user id) change users) ≡ special_users (drop_row (is_user id) users) + cond (option_map_or (λ (user : User). is_special_user (change user)) (find (is_user id) users) false) 1 0
+special_users-altered id change users = by (find (is_user id) users) refl
   where
-    by : (o : Option User) → find (is_user id) users ≡ o → administrators (at_row (is_user id) change users) ≡ administrators (drop_row (is_user id) users) + cond (option_map_or (λ (user : User). is_administrator (change user)) o false) 1 0
-    by None none = omega (arith, ap administrators (at_row-absent (is_user id) change users none), ap administrators (drop_row-absent (is_user id) change users none))
-    by (Some user) found = sum-at_row-drop (is_user id) change administering users user found
+    by : (o : Option User) → find (is_user id) users ≡ o → special_users (at_row (is_user id) change users) ≡ special_users (drop_row (is_user id) users) + cond (option_map_or (λ (user : User). is_special_user (change user)) o false) 1 0
+    by None none = omega (arith, ap special_users (at_row-absent (is_user id) change users none), ap special_users (drop_row-absent (is_user id) change users none))
+    by (Some user) found = sum-at_row-drop (is_user id) change special_user_count users user found
 
 -- a class of the table is found among the rows of the classes
 pub is_some-find-map : {A B : Type 0} (f : A → B) (test : B → Bool) (xs : List A) → is_some (find test (map f xs)) ≡ is_some (find (λ x. test (f x)) xs)

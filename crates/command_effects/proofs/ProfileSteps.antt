@@ -8,8 +8,8 @@ use Rattle.racf_profiles.specs.declared.rows.Rows.{Rows}
 use Rattle.racf_profiles.specs.Lookup.{profile_of}
 use Rattle.racf_profiles.specs.Edits.{changed}
 use Rattle.command_parser.specs.declared.commands.Issuer.{Issuer}
-use Rattle.command_parser.specs.declared.profile_forms.RDefine.{RDefine}
-use Rattle.command_parser.specs.declared.profile_forms.RAlter.{RAlter}
+use Rattle.command_parser.specs.declared.profile_fields.RDefine.{RDefine}
+use Rattle.command_parser.specs.declared.profile_fields.RAlter.{RAlter}
 use Rattle.command_effects.specs.Members.{options_after}
 use Rattle.command_effects.specs.ProfileEffects.{new_resource, altered_resource, profile_put, profile_changed, after_r_define, after_r_alter}
 use Rattle.command_effects.specs.Edits.{put_changed, put_options, edits_of_r_define, edits_of_r_alter}

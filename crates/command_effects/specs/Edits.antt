@@ -10,15 +10,15 @@ use Rattle.racf_profiles.specs.declared.edits.Edit.{Edit}
 use Rattle.racf_profiles.specs.declared.edits.Edit.TheVariants.{PutUser, DropUser, PutGroup, DropGroup, PutProfile, DropProfile, PutOptions}
 use Rattle.racf_profiles.specs.Lookup.{user_of, group_of, profile_of}
 use Rattle.command_parser.specs.declared.commands.Issuer.{Issuer}
-use Rattle.command_parser.specs.declared.forms.Form.{Form}
-use Rattle.command_parser.specs.declared.forms.Form.TheVariants as form
-use Rattle.command_parser.specs.declared.profile_forms.AddSd.{AddSd}
-use Rattle.command_parser.specs.declared.profile_forms.AltSd.{AltSd}
-use Rattle.command_parser.specs.declared.profile_forms.DelSd.{DelSd}
-use Rattle.command_parser.specs.declared.profile_forms.RDefine.{RDefine}
-use Rattle.command_parser.specs.declared.profile_forms.RAlter.{RAlter}
-use Rattle.command_parser.specs.declared.profile_forms.RDelete.{RDelete}
-use Rattle.command_parser.specs.declared.profile_forms.Permit.{Permit}
+use Rattle.command_parser.specs.declared.fields.CommandFields.{CommandFields}
+use Rattle.command_parser.specs.declared.fields.CommandFields.TheVariants as form
+use Rattle.command_parser.specs.declared.profile_fields.AddSd.{AddSd}
+use Rattle.command_parser.specs.declared.profile_fields.AltSd.{AltSd}
+use Rattle.command_parser.specs.declared.profile_fields.DelSd.{DelSd}
+use Rattle.command_parser.specs.declared.profile_fields.RDefine.{RDefine}
+use Rattle.command_parser.specs.declared.profile_fields.RAlter.{RAlter}
+use Rattle.command_parser.specs.declared.profile_fields.RDelete.{RDelete}
+use Rattle.command_parser.specs.declared.profile_fields.Permit.{Permit}
 use Rattle.command_effects.specs.Members.{options_after}
 use Rattle.command_effects.specs.ProfileEffects.{dataset, new_data_set, altered_data_set, new_resource, altered_resource}
 use Rattle.command_effects.specs.PermitEffects.{permitted_profile}
@@ -63,7 +63,7 @@ edits_of_r_delete c = DropProfile c.class c.profile ∷ []
 abbrev pub edits_of_permit : Permit → Rows → List Edit
 edits_of_permit c rows = put_changed c.class (permitted_profile c) (profile_of c.class c.profile rows)
 
-abbrev pub edits_of : Issuer → Form → Rows → List Edit
+abbrev pub edits_of : Issuer → CommandFields → Rows → List Edit
 edits_of issuer (form.AddUser c) rows = PutUser (new_user issuer c rows) ∷ []
 edits_of issuer (form.AltUser c) rows = put_user (altered_user c rows) (user_of c.user rows)
 edits_of issuer (form.DelUser c) rows = DropUser c.user ∷ []

@@ -4,8 +4,8 @@ use Rattle.racf_profiles.specs.declared.rows.Rows.{Rows}
 use Rattle.racf_profiles.specs.Lookup.{is_user, is_group}
 use Rattle.racf_profiles.specs.Edits.{drop_row}
 use Rattle.command_parser.specs.declared.commands.Issuer.{Issuer}
-use Rattle.command_parser.specs.declared.forms.Form.{Form}
-use Rattle.command_parser.specs.declared.forms.Form.TheVariants as form
+use Rattle.command_parser.specs.declared.fields.CommandFields.{CommandFields}
+use Rattle.command_parser.specs.declared.fields.CommandFields.TheVariants as form
 use Rattle.command_effects.specs.ProfileEffects.{after_add_sd, after_alt_sd, after_del_sd, after_r_define, after_r_alter, after_r_delete}
 use Rattle.command_effects.specs.PermitEffects.{after_permit}
 pub use Rattle.command_effects.specs.UserEffects.{switched, with_class, without_classes, group_or_current, owner_or_issuer, new_connection, first_attributes, new_user, attributes_after, level_after, label_after, altered_user, new_group, altered_group, altered_connection, connects_after, connected_user, removed_user}
@@ -13,7 +13,7 @@ pub use Rattle.row_tables.specs.ChangedRow.{at_row}
 
 -- The rows after a command. What is new goes last. DELUSER takes the user's connections with it; what else names a user
 -- or a group that is gone stays.
-abbrev pub step : Issuer → Form → Rows → Rows
+abbrev pub step : Issuer → CommandFields → Rows → Rows
 step issuer (form.AddUser c) rows = record rows { users = rows.users ++ new_user issuer c rows ∷ [] }
 step issuer (form.AltUser c) rows = record rows { users = at_row (is_user c.user) (altered_user c rows) rows.users }
 step issuer (form.DelUser c) rows = record rows { users = drop_row (is_user c.user) rows.users }

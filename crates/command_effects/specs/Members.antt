@@ -4,16 +4,11 @@ use Rattle.std.specs.List.{list_any}
 use Rattle.access_lists.specs.Lists.{entry_put}
 use Rattle.generic_names.specs.Spelled.{Spelled}
 use Rattle.racf_profiles.specs.declared.profiles.Member.{Member}
-use Rattle.racf_profiles.specs.declared.profiles.Member.TheVariants.{Access, Grade, Category}
+use Rattle.racf_profiles.specs.declared.profiles.Member.TheVariants.{Access, SecurityLevel, Category}
 use Rattle.racf_profiles.specs.declared.options.Options.{Options}
+pub use Rattle.racf_profiles.specs.LawfulProfiles.{member_name}
 use Rattle.command_effects.specs.Security.{is_category_member}
 use Rattle.command_effects.specs.UserEffects.{with_class}
-
--- What a member is named: resources, a security level, or a category. The members of a profile are of one sort.
-abbrev pub member_name : Member → List ℕ
-member_name (Access resources level) = resources.text
-member_name (Grade name number) = name
-member_name (Category name) = name
 
 abbrev pub is_member_named : List ℕ → Member → Bool
 is_member_named name member = bytes_eq (member_name member) name
@@ -37,7 +32,7 @@ members_after added gone members = fold with_member (without_members gone member
 -- SECDATA's CATEGORY alone.
 abbrev pub with_category_name : List (List ℕ) → Member → List (List ℕ)
 with_category_name names (Access resources level) = names
-with_category_name names (Grade name number) = names
+with_category_name names (SecurityLevel name number) = names
 with_category_name names (Category name) = with_class names name
 
 abbrev pub categories_defined : List Member → List (List ℕ) → List (List ℕ)
@@ -46,9 +41,9 @@ categories_defined added names = fold with_category_name names added
 abbrev pub options_after : List Member → Options → Options
 options_after added options = record options { categories = categories_defined added options.categories }
 
--- 1 for a member that defines no category anew, since it is none, or one that is among these or among the members before it;
--- else 0.
+-- 1 for a member that defines no category anew, since it is none, or one that is among these or among the members
+-- before it; else 0.
 abbrev pub category_repeats : Member → List Member → List (List ℕ) → ℕ
 category_repeats (Access resources level) before names = 1
-category_repeats (Grade name number) before names = 1
+category_repeats (SecurityLevel name number) before names = 1
 category_repeats (Category name) before names = if list_any (λ other. bytes_eq other name) names || list_any (is_category_member name) before then 1 else 0

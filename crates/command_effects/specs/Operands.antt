@@ -8,7 +8,8 @@ use Rattle.command_effects.specs.declared.made.operands.Operands.{Operands}
 use Rattle.command_effects.specs.UserEffects.{switched}
 use Rattle.command_effects.specs.ProfileEffects.{failures_from_read, no_audit, level_given, categories_given, label_given}
 
--- A profile with what the operands name, and as it was in all else: of a new one the first profile, of an altered one what stands.
+-- A profile with what the operands name, and as it was in all else: of a new one the first profile, of an altered one
+-- what stands.
 abbrev pub with_operands : Operands → Rows → Profile → Profile
 with_operands c rows old = record old {
   owner = unwrap_or c.owner old.owner;
@@ -21,7 +22,8 @@ with_operands c rows old = record old {
   global_audit = unwrap_or c.globalaudit old.global_audit;
 }
 
--- What a new profile is before its operands change it: no entry and no member, the universal access NONE, and failures logged from READ on.
+-- What a new profile is before its operands change it: no entry and no member, the universal access NONE, and
+-- failures logged from READ on.
 abbrev pub first_profile : Spelled → List ℕ → Profile
 first_profile name owner = record {
   name = name;

@@ -10,9 +10,9 @@ use Rattle.access_lists.specs.Lists.{permitted, withdrawn, permitted_when, withd
 use Rattle.racf_profiles.specs.declared.profiles.Profile.{Profile}
 use Rattle.racf_profiles.specs.declared.rows.Rows.{Rows}
 use Rattle.racf_profiles.specs.Lookup.{profile_of}
-use Rattle.command_grammar.specs.declared.values.Reset.{Reset}
-use Rattle.command_grammar.specs.declared.values.Reset.TheVariants as reset
-use Rattle.command_parser.specs.declared.profile_forms.Permit.{Permit}
+use Rattle.command_values.specs.declared.values.Reset.{Reset}
+use Rattle.command_values.specs.declared.values.Reset.TheVariants as reset
+use Rattle.command_parser.specs.declared.profile_fields.Permit.{Permit}
 use Rattle.command_effects.specs.ProfileEffects.{profile_changed}
 
 -- RESET comes first: ALL empties both lists, STANDARD the standard one, WHEN the conditional one.

@@ -9,12 +9,12 @@ use Rattle.racf_profiles.specs.declared.rows.Rows.{Rows}
 use Rattle.racf_profiles.specs.Lookup.{profile_of}
 use Rattle.racf_profiles.specs.Edits.{at_class, with_profile, without_profile}
 use Rattle.command_parser.specs.declared.commands.Issuer.{Issuer}
-use Rattle.command_parser.specs.declared.profile_forms.AddSd.{AddSd}
-use Rattle.command_parser.specs.declared.profile_forms.AltSd.{AltSd}
-use Rattle.command_parser.specs.declared.profile_forms.DelSd.{DelSd}
-use Rattle.command_parser.specs.declared.profile_forms.RDefine.{RDefine}
-use Rattle.command_parser.specs.declared.profile_forms.RAlter.{RAlter}
-use Rattle.command_parser.specs.declared.profile_forms.RDelete.{RDelete}
+use Rattle.command_parser.specs.declared.profile_fields.AddSd.{AddSd}
+use Rattle.command_parser.specs.declared.profile_fields.AltSd.{AltSd}
+use Rattle.command_parser.specs.declared.profile_fields.DelSd.{DelSd}
+use Rattle.command_parser.specs.declared.profile_fields.RDefine.{RDefine}
+use Rattle.command_parser.specs.declared.profile_fields.RAlter.{RAlter}
+use Rattle.command_parser.specs.declared.profile_fields.RDelete.{RDelete}
 use Rattle.command_effects.specs.UserEffects.{switched, owner_or_issuer}
 use Rattle.command_effects.specs.Security.{level_number, with_category, without_category}
 use Rattle.command_effects.specs.Members.{members_after, options_after}
@@ -103,7 +103,8 @@ altered_resource c rows old = record old {
   members = members_after c.addmem c.delmem old.members;
 }
 
--- The rows with a profile in a class, in place of the one of its name or else at its place in the order; and without one.
+-- The rows with a profile in a class, in place of the one of its name or else at its place in the order; and without
+-- one.
 abbrev pub profile_put : List ℕ → Profile → Rows → Rows
 profile_put class profile rows = record rows { classes = at_class class (with_profile profile) rows.classes }
 

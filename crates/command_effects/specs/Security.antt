@@ -1,4 +1,5 @@
--- Security levels, categories and labels, by the live profiles that define them, whether their classes are active or not.
+-- Security levels, categories and labels, by the live profiles that define them, whether their classes are active or
+-- not.
 use Rattle.std.specs.Prelude.{ℕ, Bool, false, ◌||◌, List, [], ◌∷◌, Option, None, Some, is_some, position, codes, bytes_eq, if◌then◌else◌}
 use Rattle.std.specs.List.{list_any}
 use Rattle.std.specs.Option.{option_map_or, option_or}
@@ -7,7 +8,7 @@ use Rattle.generic_names.specs.declared.kind.NameKind.TheVariants.{General}
 use Rattle.generic_names.specs.Spelled.{Spelled}
 use Rattle.racf_profiles.specs.declared.profiles.Profile.{Profile}
 use Rattle.racf_profiles.specs.declared.profiles.Member.{Member}
-use Rattle.racf_profiles.specs.declared.profiles.Member.TheVariants.{Access, Grade, Category}
+use Rattle.racf_profiles.specs.declared.profiles.Member.TheVariants.{Access, SecurityLevel, Category}
 use Rattle.racf_profiles.specs.declared.rows.Rows.{Rows}
 use Rattle.racf_profiles.specs.Lookup.{profile_of}
 
@@ -19,22 +20,22 @@ abbrev pub secdata_members : List ℕ → Rows → List Member
 secdata_members name rows = option_map_or (λ (profile : Profile). profile.members) (profile_of (codes "SECDATA") (general_name name) rows) []
 
 -- The number of the security level that a member defines, where it has that name.
-abbrev pub grade_of : List ℕ → Member → Option ℕ
-grade_of name (Access resources level) = None
-grade_of name (Grade other number) = if bytes_eq other name then Some number else None
-grade_of name (Category other) = None
+abbrev pub security_level_of : List ℕ → Member → Option ℕ
+security_level_of name (Access resources level) = None
+security_level_of name (SecurityLevel other number) = if bytes_eq other name then Some number else None
+security_level_of name (Category other) = None
 
-abbrev pub first_grade : List ℕ → List Member → Option ℕ
-first_grade name [] = None
-first_grade name (member ∷ members) = option_or (grade_of name member) (first_grade name members)
+abbrev pub first_security_level : List ℕ → List Member → Option ℕ
+first_security_level name [] = None
+first_security_level name (member ∷ members) = option_or (security_level_of name member) (first_security_level name members)
 
 -- The number of a security level.
 abbrev pub level_number : Rows → List ℕ → Option ℕ
-level_number rows name = first_grade name (secdata_members (codes "SECLEVEL") rows)
+level_number rows name = first_security_level name (secdata_members (codes "SECLEVEL") rows)
 
 abbrev pub is_category_member : List ℕ → Member → Bool
 is_category_member name (Access resources level) = false
-is_category_member name (Grade other number) = false
+is_category_member name (SecurityLevel other number) = false
 is_category_member name (Category other) = bytes_eq other name
 
 -- A category that can be given now.

@@ -10,13 +10,13 @@ use Rattle.racf_profiles.specs.declared.groups.Group.{Group}
 use Rattle.racf_profiles.specs.declared.rows.Rows.{Rows}
 use Rattle.racf_profiles.specs.Edits.{drop_row}
 use Rattle.command_parser.specs.declared.commands.Issuer.{Issuer}
-use Rattle.command_parser.specs.declared.forms.AddUser.{AddUser}
-use Rattle.command_parser.specs.declared.forms.AltUser.{AltUser}
-use Rattle.command_parser.specs.declared.forms.AddGroup.{AddGroup}
-use Rattle.command_parser.specs.declared.forms.AltGroup.{AltGroup}
-use Rattle.command_parser.specs.declared.forms.Connect.{Connect}
-use Rattle.command_parser.specs.declared.forms.Remove.{Remove}
-use Rattle.row_tables.specs.Names.{is_to}
+use Rattle.command_parser.specs.declared.fields.AddUser.{AddUser}
+use Rattle.command_parser.specs.declared.fields.AltUser.{AltUser}
+use Rattle.command_parser.specs.declared.fields.AddGroup.{AddGroup}
+use Rattle.command_parser.specs.declared.fields.AltGroup.{AltGroup}
+use Rattle.command_parser.specs.declared.fields.Connect.{Connect}
+use Rattle.command_parser.specs.declared.fields.Remove.{Remove}
+use Rattle.racf_profiles.specs.Names.{is_to}
 use Rattle.command_effects.specs.Security.{level_number, with_category, without_category}
 
 -- An attribute after X, which gives it, and NOX, which takes it away and comes behind X.

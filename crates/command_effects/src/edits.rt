@@ -4,8 +4,8 @@ ghost use Rattle.std.specs.Option.{option_copied};
 ghost use Rattle.racf_profiles.specs.Lookup.{user_of, group_of};
 ghost use Rattle.racf_profiles.specs.declared.users.User.{User};
 ghost use Rattle.command_effects.specs.Effects.{altered_user, connected_user, removed_user, altered_group};
-ghost use Rattle.command_parser.specs.declared.forms.Form.TheVariants as form;
-ghost use Rattle.command_parser.specs.declared.profile_forms.Permit.{Permit};
+ghost use Rattle.command_parser.specs.declared.fields.CommandFields.TheVariants as form;
+ghost use Rattle.command_parser.specs.declared.profile_fields.Permit.{Permit};
 ghost use Rattle.command_effects.specs.PermitEffects.{PermitFits};
 ghost use Rattle.command_effects.specs.Edits.{edits_of, put_user, put_group};
 
@@ -14,7 +14,7 @@ mod profiles;
 use crate::made::{
     altered_group, altered_user, connected_user, dataset, new_group, new_user, removed_user,
 };
-use command_parser::{AltGroup, AltUser, Command, Connect, Form, Issuer, Remove};
+use command_parser::{AltGroup, AltUser, Command, CommandFields, Connect, Issuer, Remove};
 use profiles::{
     edits_of_add_sd, edits_of_alt_sd, edits_of_permit, edits_of_r_alter, edits_of_r_define,
 };
@@ -36,25 +36,28 @@ pub fn edits_of(
     requires { (permit : Permit) → command.now ≡ form.Permit permit → PermitFits permit tables.now.rows }
     ensures { IfOk result (λ edits. edits.items ≡ edits_of issuer.now command.now tables.now.rows) }
 {
-    match command.form() {
-        Form::AddUser(command) => one(
+    match command.fields() {
+        CommandFields::AddUser(command) => one(
             alloc,
             Edit::PutUser(new_user(alloc, tables, issuer, command)?),
         ),
-        Form::AltUser(command) => edits_of_alt_user(alloc, tables, command),
-        Form::DelUser(command) => one(alloc, Edit::DropUser(command.user)),
-        Form::AddGroup(command) => one(alloc, Edit::PutGroup(new_group(issuer, command))),
-        Form::AltGroup(command) => edits_of_alt_group(alloc, tables, command),
-        Form::DelGroup(command) => one(alloc, Edit::DropGroup(command.group)),
-        Form::Connect(command) => edits_of_connect(alloc, tables, issuer, command),
-        Form::Remove(command) => edits_of_remove(alloc, tables, issuer, command),
-        Form::AddSd(command) => edits_of_add_sd(alloc, tables, issuer, command),
-        Form::AltSd(command) => edits_of_alt_sd(alloc, tables, command),
-        Form::DelSd(command) => one(alloc, Edit::DropProfile(dataset(), command.profile)),
-        Form::RDefine(command) => edits_of_r_define(alloc, tables, issuer, command),
-        Form::RAlter(command) => edits_of_r_alter(alloc, tables, command),
-        Form::RDelete(command) => one(alloc, Edit::DropProfile(command.class, command.profile)),
-        Form::Permit(command) => edits_of_permit(alloc, tables, command),
+        CommandFields::AltUser(command) => edits_of_alt_user(alloc, tables, command),
+        CommandFields::DelUser(command) => one(alloc, Edit::DropUser(command.user)),
+        CommandFields::AddGroup(command) => one(alloc, Edit::PutGroup(new_group(issuer, command))),
+        CommandFields::AltGroup(command) => edits_of_alt_group(alloc, tables, command),
+        CommandFields::DelGroup(command) => one(alloc, Edit::DropGroup(command.group)),
+        CommandFields::Connect(command) => edits_of_connect(alloc, tables, issuer, command),
+        CommandFields::Remove(command) => edits_of_remove(alloc, tables, issuer, command),
+        CommandFields::AddSd(command) => edits_of_add_sd(alloc, tables, issuer, command),
+        CommandFields::AltSd(command) => edits_of_alt_sd(alloc, tables, command),
+        CommandFields::DelSd(command) => one(alloc, Edit::DropProfile(dataset(), command.profile)),
+        CommandFields::RDefine(command) => edits_of_r_define(alloc, tables, issuer, command),
+        CommandFields::RAlter(command) => edits_of_r_alter(alloc, tables, command),
+        CommandFields::RDelete(command) => one(
+            alloc,
+            Edit::DropProfile(command.class, command.profile),
+        ),
+        CommandFields::Permit(command) => edits_of_permit(alloc, tables, command),
     }
 }
 
@@ -145,7 +148,7 @@ pub fn copies(alloc: Global, edits: &[Edit]) -> Result<Vec<Edit>, NoMemory>
     Ok(copies)
 }
 
-// An equal edit.
+/// An equal edit.
 fn copy(alloc: Global, edit: &Edit) -> Result<Edit, NoMemory>
     ensures { IfOk result (λ copy. copy ≡ edit.now) }
 {

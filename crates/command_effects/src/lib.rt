@@ -1,4 +1,11 @@
-//! What each command makes of the rows, and the edits that make it.
+//! What each command makes of the rows, and the edits that make it: [`edits_of`].
+//!
+//! Commands are those of `command_parser`, the rows those of `row_tables`, which makes the edits. Whether the rows
+//! allow a command is told by `command_conflicts`, by counts that stand here beside the effects.
+//!
+//! ```
+//! let edits = edits_of(alloc, &tables, &issuer, &command)?;
+//! ```
 #![tactic(auto)]
 
 mod edits;

@@ -2,19 +2,19 @@
 use Rattle.std.proofs.Common.{◌≡◌, inl, inr, ℕ, zero, suc, List, [], ◌∷◌, length, Bool, true, false, cond, not, ◌&&◌, Option, None, Some, refl, sym, ap, subst, ◌∙◌, arith}
 use Rattle.std.specs.Prelude.{slice_set, codes}
 use Rattle.access_levels.specs.declared.levels.Level.TheVariants.{Read}
-use Rattle.command_grammar.specs.declared.profile_table.TheConstants.{PERMIT_CLASS, PERMIT_ACCESS}
+use Rattle.command_values.specs.declared.operand_words.Word.TheVariants as words
 use Rattle.command_words.proofs.Letters.{both_first, both_second}
 use Rattle.command_grammar.specs.declared.table.Verb.{Verb}
 use Rattle.command_grammar.specs.declared.table.Verb.TheVariants as verbs
-use Rattle.command_grammar.specs.declared.table.Kind.{Kind}
+use Rattle.command_values.specs.declared.value_kinds.ValueKind.{ValueKind}
 use Rattle.command_grammar.specs.declared.table.Operand.{Operand}
-use Rattle.command_grammar.specs.declared.values.Content.{Content}
-use Rattle.command_grammar.specs.declared.values.Content.TheVariants as contents
-use Rattle.command_grammar.specs.declared.values.Known.{Known}
+use Rattle.command_values.specs.declared.values.Content.{Content}
+use Rattle.command_values.specs.declared.values.Content.TheVariants as contents
+use Rattle.command_values.specs.declared.values.Known.{Known}
 use Rattle.command_grammar.specs.Table.{operands_of}
-use Rattle.command_grammar.specs.Reading.{Slots, row_at, is_generic_kind, is_given, generic_place, cleared, with_class, means_read, with_access, completed, missing}
+use Rattle.command_grammar.specs.Reading.{Slots, row_at, is_generic_kind, permits, generic_place, cleared, with_class, means_read, with_access, completed, missing}
 use Rattle.command_grammar.specs.Lawful.{FitsAll, SuitsAll, first_known}
-use Rattle.command_grammar.proofs.ValueLawful.{FitsHere}
+use Rattle.command_values.proofs.ValueLawful.{FitsHere}
 use Rattle.command_grammar.proofs.OperandsLawful.{Holds, HoldsAll, HoldsAll-tail}
 
 -- GENERIC leaves nothing behind
@@ -31,7 +31,7 @@ only_generic (o ∷ os) (suc k) = not (is_generic_kind o.kind) && only_generic o
 abbrev pub BothAll : Known → List Operand → Slots → Type 0
 BothAll known os ss = FitsAll os ss × SuitsAll known os ss
 
-holds-fits : (known : Known) (k : Kind) (v : Content) → not (is_generic_kind k) ≡ true → Holds known k v → FitsHere known k v
+holds-fits : (known : Known) (k : ValueKind) (v : Content) → not (is_generic_kind k) ≡ true → Holds known k v → FitsHere known k v
 holds-fits known k v h (inl g) = let no : not true ≡ true = ap not (sym g) ∙ h in cc
 holds-fits known k v h (inr fits) = fits
 
@@ -74,10 +74,10 @@ either-fits known os false x y h k = k
 
 -- PERMIT's defaults
 class-fits : (known : Known) (ss : Slots) → BothAll known (operands_of verbs.Permit) ss → BothAll known (operands_of verbs.Permit) (with_class ss)
-class-fits known ss h = either-fits known (operands_of verbs.Permit) (is_given ss PERMIT_CLASS) ss (slice_set ss PERMIT_CLASS (Some (contents.Id (codes "DATASET")))) h (BothAll-set known (operands_of verbs.Permit) ss PERMIT_CLASS (contents.Id (codes "DATASET")) h (refl, tt))
+class-fits known ss h = either-fits known (operands_of verbs.Permit) (permits words.Class ss) ss (slice_set ss 0 (Some (contents.Id (codes "DATASET")))) h (BothAll-set known (operands_of verbs.Permit) ss 0 (contents.Id (codes "DATASET")) h (refl, tt))
 
 access-default-fits : (known : Known) (ss : Slots) → BothAll known (operands_of verbs.Permit) ss → BothAll known (operands_of verbs.Permit) (with_access ss)
-access-default-fits known ss h = either-fits known (operands_of verbs.Permit) (means_read ss) (slice_set ss PERMIT_ACCESS (Some (contents.Level Read))) ss (BothAll-set known (operands_of verbs.Permit) ss PERMIT_ACCESS (contents.Level Read) h (tt, tt)) h
+access-default-fits known ss h = either-fits known (operands_of verbs.Permit) (means_read ss) (slice_set ss 3 (Some (contents.Level Read))) ss (BothAll-set known (operands_of verbs.Permit) ss 3 (contents.Level Read) h (tt, tt)) h
 
 pub completed-fits : (known : Known) (v : Verb) (ss : Slots) → HoldsAll known (operands_of v) ss → BothAll known (operands_of v) (completed v ss)
 completed-fits known verbs.AddUser ss h = none-fits known (operands_of verbs.AddUser) ss h refl

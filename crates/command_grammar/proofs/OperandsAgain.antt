@@ -4,29 +4,30 @@ use Rattle.std.specs.Prelude.{position, slice_set, is_some, if◌then◌else◌}
 use Rattle.std.specs.List.{list_all}
 use Rattle.std.proofs.lemmas.List.{get_or_at, set_at}
 use Rattle.generic_names.specs.Spelled.{Spelled}
-use Rattle.command_grammar.specs.declared.words.Word.TheVariants as words
-use Rattle.command_grammar.specs.declared.values.Known.{Known}
+use Rattle.command_values.specs.declared.operand_words.Word.TheVariants as words
+use Rattle.command_values.specs.declared.values.Known.{Known}
 use Rattle.command_words.specs.declared.quoting.Quoting.TheVariants.{Ignored}
 use Rattle.command_words.specs.Tokens.{Word, within, tokens_from}
-use Rattle.command_words.specs.Items.{Item, Bare, With, items, opens_value, faulty_at}
+use Rattle.command_words.specs.ValuedWords.{ValuedWord, Alone, Valued, valued_words, opens_value, faulty_at}
 use Rattle.command_words.proofs.Letters.{is_letter, Ignored-steady, EndsWord}
 use Rattle.command_words.proofs.Spelled.{word_token, group_token}
-use Rattle.command_grammar.specs.declared.faults.Syntax.TheVariants as faults
-use Rattle.command_grammar.specs.declared.table.Kind.{Kind}
-use Rattle.command_grammar.specs.declared.table.Kind.TheVariants as kinds
+use Rattle.command_values.specs.declared.faults.Syntax.TheVariants as faults
+use Rattle.command_values.specs.declared.value_kinds.ValueKind.{ValueKind}
+use Rattle.command_values.specs.declared.value_kinds.ValueKind.TheVariants as kinds
 use Rattle.command_grammar.specs.declared.table.Operand.{Operand}
-use Rattle.command_grammar.specs.declared.values.Content.{Content}
-use Rattle.command_grammar.specs.declared.values.Content.TheVariants as contents
-use Rattle.command_grammar.specs.declared.values.Scope.{Scope}
-use Rattle.command_grammar.specs.Results.{◌>>=◌}
-use Rattle.command_grammar.specs.Words.{spelling_of}
+use Rattle.command_values.specs.declared.values.Content.{Content}
+use Rattle.command_values.specs.declared.values.Content.TheVariants as contents
+use Rattle.command_values.specs.declared.values.Scope.{Scope}
+use Rattle.command_values.specs.Results.{◌>>=◌}
+use Rattle.command_values.specs.OperandWords.{spelling_of}
 use Rattle.command_grammar.specs.Table.{operands_of}
-use Rattle.command_grammar.specs.Values.{bare, text_of}
-use Rattle.command_grammar.specs.Reading.{Generic, Slots, is_spelling, row_at, no_operand, is_given, slot_of, operand_at, operands_at, given, clash, unless_clash, completed, closed, no_slots}
+use Rattle.command_values.specs.Values.{bare, text_of}
+use Rattle.command_grammar.specs.Reading.{Generic, Slots, is_spelling, row_at, no_operand, is_given, slot_of, operand_at, operands_at, clash, unless_clash, completed, closed, no_slots}
 use Rattle.command_grammar.specs.Canon.{value_text, operands_text}
-use Rattle.command_grammar.specs.Lawful.{Fits, FitsAll, Suits, SuitsAll, IsLawful}
-use Rattle.command_grammar.proofs.WordItems.{word_items}
-use Rattle.command_grammar.proofs.ValueAgain.{IsShown, value-again, value-ends}
+use Rattle.command_values.specs.LawfulValues.{Fits, Suits}
+use Rattle.command_grammar.specs.Lawful.{FitsAll, SuitsAll, IsLawful}
+use Rattle.command_values.proofs.WordItems.{word_items}
+use Rattle.command_values.proofs.ValueAgain.{IsShown, value-again, value-ends}
 use Rattle.command_grammar.proofs.TableFacts.{IsMore, spelling-plain, is_profile_kind, AreFound, operands-found}
 
 -- the first token is a plain word
@@ -81,7 +82,7 @@ slot-ok rows slots p o k found free =
     let sound : faulty_at Ignored p (spelling_of o.word) ≡ None = plain.sound p in
     rw (sound, plain.folded, found, free) refl
 
-bare-again : (at : Scope) (k : Kind) (p : ℕ) → Fits k contents.Flag → bare at k p ≡ Ok contents.Flag
+bare-again : (at : Scope) (k : ValueKind) (p : ℕ) → Fits k contents.Flag → bare at k p ≡ Ok contents.Flag
 bare-again at kinds.Flag p h = refl
 bare-again at kinds.Id p h = absurd h
 bare-again at kinds.Group p h = absurd h
@@ -104,10 +105,10 @@ bare-again at kinds.Generic p h = absurd h
 
 -- what an operand's text is read as: an item, and the text behind it
 pub record IsReadAs (known : Known) (o : Operand) (v : Content) (rest : List ℕ) (tied : Bool) (p : ℕ) : Type 0 where
-  pub item : Item
+  pub item : ValuedWord
   pub tied_behind : Bool
   pub place_behind : ℕ
-  pub item_first : items (tokens_from Ignored tied 0 p (32 ∷ (spelling_of o.word ++ (value_text v ++ rest)))) ≡ item ∷ items (tokens_from Ignored tied_behind 0 place_behind rest)
+  pub item_first : valued_words (tokens_from Ignored tied 0 p (32 ∷ (spelling_of o.word ++ (value_text v ++ rest)))) ≡ item ∷ valued_words (tokens_from Ignored tied_behind 0 place_behind rest)
   pub reads : (at : Scope) → at.known ≡ known → (rows : List Operand) (slots : Slots) (k : ℕ) → row_at rows k ≡ o → position (is_spelling (spelling_of o.word)) rows ≡ Some k → is_given slots k ≡ false
       → operand_at at rows slots item ≡ Ok (k, v)
 
@@ -115,10 +116,10 @@ flag-read : (known : Known) (o : Operand) (rest : List ℕ) (tied : Bool) (p : �
 flag-read known o rest tied p h apart =
     let plain = spelling-plain o.word in
     record {
-      item = Bare (suc p) (spelling_of o.word);
+      item = Alone (suc p) (spelling_of o.word);
       tied_behind = true;
       place_behind = suc p + length (spelling_of o.word);
-      item_first = ap items (plain_token (tied && true) (suc p) (spelling_of o.word) rest plain.some plain.letters apart.ends)
+      item_first = ap valued_words (plain_token (tied && true) (suc p) (spelling_of o.word) rest plain.some plain.letters apart.ends)
           ∙ word_items (tokens_from Ignored true 0 (suc p + length (spelling_of o.word)) rest) (suc p) (spelling_of o.word) (apart.opens true (suc p + length (spelling_of o.word)));
       reads = λ at same rows slots k here found free.
           rw (slot-ok rows slots (suc p) o k found free, here, bare-again at o.kind (suc p) h) refl;
@@ -137,16 +138,16 @@ valued-read known o v rest tied p h suits shown written =
     ∙ plain_token (tied && true) (suc p) (spelling_of o.word) (40 ∷ (text_of v ++ 41 ∷ rest)) plain.some plain.letters refl in
     let second = group_token Ignored true (suc p + length (spelling_of o.word)) (text_of v) rest (value-ends known o.kind v (suc p + length (spelling_of o.word)) (suc (suc p + length (spelling_of o.word))) rest h shown suits) in
     record {
-      item = With (suc p) (spelling_of o.word) (within (suc p + length (spelling_of o.word)) (text_of v));
+      item = Valued (suc p) (spelling_of o.word) (within (suc p + length (spelling_of o.word)) (text_of v));
       tied_behind = false;
       place_behind = suc p + length (spelling_of o.word) + length (text_of v) + 2;
-      item_first = ap items first ∙ ap (λ ts. items (Word (suc p) (spelling_of o.word) ∷ ts)) second;
+      item_first = ap valued_words first ∙ ap (λ ts. valued_words (Word (suc p) (spelling_of o.word) ∷ ts)) second;
       reads = λ at same rows slots k here found free.
           let suits_here : Suits at.known o.kind v = subst (λ (k : Known). Suits k o.kind v) (sym same) suits in
           rw (slot-ok rows slots (suc p) o k found free, here, value-again at o.kind (suc p) (suc p + length (spelling_of o.word)) v h shown suits_here) refl;
     }
 
-no-profile : (k : Kind) (n : Spelled) → not (is_profile_kind k) ≡ true → Fits k (contents.Profile n) → ⊥
+no-profile : (k : ValueKind) (n : Spelled) → not (is_profile_kind k) ≡ true → Fits k (contents.Profile n) → ⊥
 no-profile kinds.Flag n other h = h
 no-profile kinds.Id n other h = h
 no-profile kinds.Group n other h = h
@@ -185,7 +186,7 @@ operand-read known o (contents.Generic g) rest tied p other h suits apart = valu
 
 -- The rows from os on: what stands before them was read, and their slots are empty.
 operands_again : (at : Scope) (rows pre os : List Operand) (front ss : Slots) (k : ℕ) (tied : Bool) (p : ℕ) → rows ≡ pre ++ os → length pre ≡ k → length front ≡ k → AreFound rows k os → FitsAll os ss → SuitsAll at.known os ss
-    → operands_at at rows (front ++ replicate (length os) None) (items (tokens_from Ignored tied 0 p (operands_text os ss))) ≡ Ok (front ++ ss)
+    → operands_at at rows (front ++ replicate (length os) None) (valued_words (tokens_from Ignored tied 0 p (operands_text os ss))) ≡ Ok (front ++ ss)
 operands_again at rows pre [] front [] k tied p whole at_pre at_front found h suits = refl
 operands_again at rows pre [] front (s ∷ ss) k tied p whole at_pre at_front found h suits = absurd h
 operands_again at rows pre (o ∷ os) front [] k tied p whole at_pre at_front found h suits = absurd h
@@ -193,7 +194,7 @@ operands_again at rows pre (o ∷ os) front (None ∷ ss) k tied p whole at_pre 
     let pre' : length (pre ++ o ∷ []) ≡ suc k = omega (arith, length-append pre (o ∷ [])) in
     let front' : length (front ++ None ∷ []) ≡ suc k = omega (arith, length-append front (None ∷ [])) in
     let whole' : rows ≡ (pre ++ o ∷ []) ++ os = whole ∙ sym (append_assoc pre (o ∷ []) os) in
-    ap (λ slots. operands_at at rows slots (items (tokens_from Ignored tied 0 p (operands_text os ss)))) (sym (append_assoc front (None ∷ []) (replicate (length os) None)))
+    ap (λ slots. operands_at at rows slots (valued_words (tokens_from Ignored tied 0 p (operands_text os ss)))) (sym (append_assoc front (None ∷ []) (replicate (length os) None)))
     ∙ operands_again at rows (pre ++ o ∷ []) os (front ++ None ∷ []) ss (suc k) tied p whole' pre' front' found.2 h suits
     ∙ ap Ok (append_assoc front (None ∷ []) ss)
 operands_again at rows pre (o ∷ os) front (Some v ∷ ss) k tied p whole at_pre at_front found h suits =
@@ -206,26 +207,26 @@ operands_again at rows pre (o ∷ os) front (Some v ∷ ss) k tied p whole at_pr
     let stored : slice_set (front ++ None ∷ replicate (length os) None) k (Some v) ≡ (front ++ Some v ∷ []) ++ replicate (length os) None =
     set_at front None (replicate (length os) None) (Some v) k at_front ∙ sym (append_assoc front (Some v ∷ []) (replicate (length os) None)) in
     ap (operands_at at rows (front ++ None ∷ replicate (length os) None)) read.item_first
-    ∙ ap (λ r. r >>= λ x. operands_at at rows (slice_set (front ++ None ∷ replicate (length os) None) x.0 (Some x.1)) (items (tokens_from Ignored read.tied_behind 0 read.place_behind (operands_text os ss))))
+    ∙ ap (λ r. r >>= λ x. operands_at at rows (slice_set (front ++ None ∷ replicate (length os) None) x.0 (Some x.1)) (valued_words (tokens_from Ignored read.tied_behind 0 read.place_behind (operands_text os ss))))
     (read.reads at refl rows (front ++ None ∷ replicate (length os) None) k here found.0 free)
-    ∙ ap (λ slots. operands_at at rows slots (items (tokens_from Ignored read.tied_behind 0 read.place_behind (operands_text os ss)))) stored
+    ∙ ap (λ slots. operands_at at rows slots (valued_words (tokens_from Ignored read.tied_behind 0 read.place_behind (operands_text os ss)))) stored
     ∙ operands_again at rows (pre ++ o ∷ []) os (front ++ Some v ∷ []) ss (suc k) read.tied_behind read.place_behind whole' pre' front' found.2 h.1 suits.1
     ∙ ap Ok (append_assoc front (Some v ∷ []) ss)
 
 -- the slots of a lawful command are closed as they are
 pub closed-again : (g : Generic) → IsLawful g → closed g.verb g.slots ≡ Ok g.slots
 closed-again g lawful =
-    ap (λ c. if c then Err (faults.Missing words.Id) else unless_clash (clash (given (operands_of g.verb) (completed g.verb g.slots))) (completed g.verb g.slots)) lawful.needed
-    ∙ ap (λ ss. unless_clash (clash (given (operands_of g.verb) ss)) ss) lawful.complete
+    ap (λ c. if c then Err (faults.Missing words.Id) else unless_clash (clash g.verb (completed g.verb g.slots)) (completed g.verb g.slots)) lawful.needed
+    ∙ ap (λ ss. unless_clash (clash g.verb ss) ss) lawful.complete
     ∙ ap (λ c. unless_clash c g.slots) lawful.apart
 
 pub filled-again : (at : Scope) (g : Generic) (tied : Bool) (p : ℕ) → IsLawful g → SuitsAll at.known (operands_of g.verb) g.slots
-    → operands_at at (operands_of g.verb) (no_slots (operands_of g.verb)) (items (tokens_from Ignored tied 0 p (operands_text (operands_of g.verb) g.slots))) ≡ Ok g.slots
+    → operands_at at (operands_of g.verb) (no_slots (operands_of g.verb)) (valued_words (tokens_from Ignored tied 0 p (operands_text (operands_of g.verb) g.slots))) ≡ Ok g.slots
 filled-again at g tied p lawful suits = operands_again at (operands_of g.verb) [] (operands_of g.verb) [] g.slots 0 tied p refl refl refl (operands-found g.verb) lawful.fits_operands suits
 
 -- the operands behind the positional words
 pub behind_again : (at : Scope) (g : Generic) (tied : Bool) (p : ℕ) → IsLawful g → SuitsAll at.known (operands_of g.verb) g.slots
-    → (operands_at at (operands_of g.verb) (no_slots (operands_of g.verb)) (items (tokens_from Ignored tied 0 p (operands_text (operands_of g.verb) g.slots))) >>= λ slots. closed g.verb slots >>= λ slots. Ok (record { verb = g.verb; positions = g.positions; slots = slots })) ≡ Ok g
+    → (operands_at at (operands_of g.verb) (no_slots (operands_of g.verb)) (valued_words (tokens_from Ignored tied 0 p (operands_text (operands_of g.verb) g.slots))) >>= λ slots. closed g.verb slots >>= λ slots. Ok (record { verb = g.verb; positions = g.positions; slots = slots })) ≡ Ok g
 behind_again at g tied p lawful suits =
     ap (λ r. r >>= λ slots. closed g.verb slots >>= λ slots. Ok (record { verb = g.verb; positions = g.positions; slots = slots })) (filled-again at g tied p lawful suits)
     ∙ ap (λ r. r >>= λ slots. Ok (record { verb = g.verb; positions = g.positions; slots = slots })) (closed-again g lawful)

@@ -2,27 +2,27 @@
 use Rattle.std.proofs.Common.{◌≡◌, ◌⊎◌, inl, inr, ℕ, zero, suc, List, [], ◌∷◌, true, Option, None, Some, Ok, Err, refl, subst}
 use Rattle.std.specs.Prelude.{slice_set}
 use Rattle.command_words.specs.Tokens.{tokens}
-use Rattle.command_words.specs.Items.{Item, Bare, With, Unbounded, Odd, items}
-use Rattle.command_grammar.specs.declared.faults.Syntax.TheVariants as faults
-use Rattle.command_grammar.specs.declared.table.Kind.{Kind}
-use Rattle.command_grammar.specs.declared.table.Kind.TheVariants as kinds
+use Rattle.command_words.specs.ValuedWords.{ValuedWord, Alone, Valued, Unclosed, Parenthesis, valued_words}
+use Rattle.command_values.specs.declared.faults.Syntax.TheVariants as faults
+use Rattle.command_values.specs.declared.value_kinds.ValueKind.{ValueKind}
+use Rattle.command_values.specs.declared.value_kinds.ValueKind.TheVariants as kinds
 use Rattle.command_grammar.specs.declared.table.Operand.{Operand}
-use Rattle.command_grammar.specs.declared.values.Content.{Content}
-use Rattle.command_grammar.specs.declared.values.Content.TheVariants as contents
-use Rattle.command_grammar.specs.declared.values.Reset.TheVariants as resets
-use Rattle.command_grammar.specs.declared.values.Scope.{Scope}
-use Rattle.command_grammar.specs.declared.values.Known.{Known}
-use Rattle.command_grammar.specs.Results.{◌>>=◌}
-use Rattle.command_grammar.specs.Values.{value, bare}
+use Rattle.command_values.specs.declared.values.Content.{Content}
+use Rattle.command_values.specs.declared.values.Content.TheVariants as contents
+use Rattle.command_values.specs.declared.values.Reset.TheVariants as resets
+use Rattle.command_values.specs.declared.values.Scope.{Scope}
+use Rattle.command_values.specs.declared.values.Known.{Known}
+use Rattle.command_values.specs.Results.{◌>>=◌}
+use Rattle.command_values.specs.Values.{value, bare}
 use Rattle.command_grammar.specs.Reading.{Slots, row_at, slot_of, operand_at, operands_at, is_generic_kind, no_slots}
-use Rattle.command_grammar.proofs.Outcomes.{bind-ok, pair-ok}
-use Rattle.command_grammar.proofs.ValueLawful.{FitsHere, along-here, value-fits}
+use Rattle.command_values.proofs.Outcomes.{bind-ok, pair-ok}
+use Rattle.command_values.proofs.ValueLawful.{FitsHere, along-here, value-fits}
 
 -- what stands in a slot while a text is read: a value of its kind, or GENERIC
-abbrev pub Holds : Known → Kind → Content → Type 0
+abbrev pub Holds : Known → ValueKind → Content → Type 0
 Holds known k v = (is_generic_kind k ≡ true) ⊎ FitsHere known k v
 
-bare-holds : (at : Scope) (k : Kind) (p : ℕ) (v : Content) → bare at k p ≡ Ok v → Holds at.known k v
+bare-holds : (at : Scope) (k : ValueKind) (p : ℕ) (v : Content) → bare at k p ≡ Ok v → Holds at.known k v
 bare-holds at kinds.Flag p v h = let same : contents.Flag ≡ v = cc in inr (along-here at.known kinds.Flag contents.Flag v same (tt, tt))
 bare-holds at kinds.Reset p v h = let same : contents.Reset resets.All ≡ v = cc in inr (along-here at.known kinds.Reset (contents.Reset resets.All) v same (tt, tt))
 bare-holds at kinds.Generic p v h = inl refl
@@ -50,8 +50,8 @@ HoldsAll known (o ∷ os) (None ∷ ss) = HoldsAll known os ss
 HoldsAll known (o ∷ os) (Some v ∷ ss) = Holds known o.kind v × HoldsAll known os ss
 HoldsAll known os ss = ⊥
 
-operand-holds : (at : Scope) (rows : List Operand) (slots : Slots) (i : Item) (k : ℕ) (v : Content) → operand_at at rows slots i ≡ Ok (k, v) → Holds at.known (row_at rows k).kind v
-operand-holds at rows slots (Bare p w) k v h =
+operand-holds : (at : Scope) (rows : List Operand) (slots : Slots) (i : ValuedWord) (k : ℕ) (v : Content) → operand_at at rows slots i ≡ Ok (k, v) → Holds at.known (row_at rows k).kind v
+operand-holds at rows slots (Alone p w) k v h =
     let slot = bind-ok (slot_of rows slots p w) (λ k. bare at (row_at rows k).kind p >>= λ v. Ok (k, v)) (k, v) h in
     let read = bind-ok (bare at (row_at rows slot.0).kind p) (λ v. Ok (slot.0, v)) (k, v) slot.2 in
     let pair = pair-ok slot.0 k read.0 v read.2 in
@@ -59,18 +59,18 @@ operand-holds at rows slots (Bare p w) k v h =
     let same : read.0 ≡ v = pair.1 in
     let holds : Holds at.known (row_at rows slot.0).kind read.0 = bare-holds at (row_at rows slot.0).kind p read.0 read.1 in
     subst (λ (j : ℕ). Holds at.known (row_at rows j).kind v) row (subst (λ (u : Content). Holds at.known (row_at rows slot.0).kind u) same holds)
-operand-holds at rows slots (With p w t) k v h =
-    let slot = bind-ok (slot_of rows slots p w) (λ k. value at (row_at rows k).kind p (items (tokens t)) >>= λ v. Ok (k, v)) (k, v) h in
-    let read = bind-ok (value at (row_at rows slot.0).kind p (items (tokens t))) (λ v. Ok (slot.0, v)) (k, v) slot.2 in
+operand-holds at rows slots (Valued p w t) k v h =
+    let slot = bind-ok (slot_of rows slots p w) (λ k. value at (row_at rows k).kind p (valued_words (tokens t)) >>= λ v. Ok (k, v)) (k, v) h in
+    let read = bind-ok (value at (row_at rows slot.0).kind p (valued_words (tokens t))) (λ v. Ok (slot.0, v)) (k, v) slot.2 in
     let pair = pair-ok slot.0 k read.0 v read.2 in
     let row : slot.0 ≡ k = pair.0 in
     let same : read.0 ≡ v = pair.1 in
-    let fits : FitsHere at.known (row_at rows slot.0).kind read.0 = value-fits at (row_at rows slot.0).kind p (items (tokens t)) read.0 read.1 in
+    let fits : FitsHere at.known (row_at rows slot.0).kind read.0 = value-fits at (row_at rows slot.0).kind p (valued_words (tokens t)) read.0 read.1 in
     subst (λ (j : ℕ). Holds at.known (row_at rows j).kind v) row (inr (along-here at.known (row_at rows slot.0).kind read.0 v same fits))
-operand-holds at rows slots (Unbounded p w place) k v h =
+operand-holds at rows slots (Unclosed p w place) k v h =
     let slot = bind-ok (slot_of rows slots p w) (λ k. Err (faults.Unclosed place)) (k, v) h in
     let no = slot.2 in cc
-operand-holds at rows slots (Odd p) k v h = cc
+operand-holds at rows slots (Parenthesis p) k v h = cc
 
 pub HoldsAll-tail : (known : Known) (o : Operand) (os : List Operand) (s : Option Content) (ss : Slots) → HoldsAll known (o ∷ os) (s ∷ ss) → HoldsAll known os ss
 HoldsAll-tail known o os None ss h = h
@@ -88,7 +88,7 @@ pub HoldsAll-none : (known : Known) (os : List Operand) → HoldsAll known os (n
 HoldsAll-none known [] = tt
 HoldsAll-none known (o ∷ os) = HoldsAll-none known os
 
-pub operands-hold : (at : Scope) (rows : List Operand) (slots : Slots) (is : List Item) (ss : Slots) → operands_at at rows slots is ≡ Ok ss → HoldsAll at.known rows slots → HoldsAll at.known rows ss
+pub operands-hold : (at : Scope) (rows : List Operand) (slots : Slots) (is : List ValuedWord) (ss : Slots) → operands_at at rows slots is ≡ Ok ss → HoldsAll at.known rows slots → HoldsAll at.known rows ss
 operands-hold at rows slots [] ss h holds = let same : slots ≡ ss = cc in subst (λ (xs : Slots). HoldsAll at.known rows xs) same holds
 operands-hold at rows slots (i ∷ is) ss h holds =
     let read = bind-ok (operand_at at rows slots i) (λ x. operands_at at rows (slice_set slots x.0 (Some x.1)) is) ss h in

@@ -9,24 +9,25 @@ use Rattle.racf_profiles.specs.declared.fixed_classes.NameForm.TheVariants as na
 use Rattle.command_grammar.specs.declared.table.Verb.TheVariants as verbs
 use Rattle.command_words.specs.declared.quoting.Quoting.TheVariants.{Ignored, AtName}
 use Rattle.command_words.specs.Tokens.{Word, tokens_from}
-use Rattle.command_words.specs.Items.{items, opens_value, faulty_at}
+use Rattle.command_words.specs.ValuedWords.{valued_words, opens_value, faulty_at}
 use Rattle.command_words.proofs.Letters.{is_letter, letter-quote, both_first, EndsWord}
 use Rattle.command_words.proofs.Spelled.{name_token, bare_name_token}
 use Rattle.command_words.specs.Bytes.{upper}
-use Rattle.command_grammar.specs.declared.faults.Syntax.TheVariants as faults
-use Rattle.command_grammar.specs.declared.table.Kind.{Kind}
-use Rattle.command_grammar.specs.declared.table.Kind.TheVariants as kinds
+use Rattle.command_values.specs.declared.faults.Syntax.TheVariants as faults
+use Rattle.command_values.specs.declared.value_kinds.ValueKind.{ValueKind}
+use Rattle.command_values.specs.declared.value_kinds.ValueKind.TheVariants as kinds
 use Rattle.command_grammar.specs.declared.table.Operand.{Operand}
-use Rattle.command_grammar.specs.declared.values.Content.{Content}
-use Rattle.command_grammar.specs.declared.values.Content.TheVariants as contents
-use Rattle.command_grammar.specs.declared.values.Context.{Context}
-use Rattle.command_grammar.specs.Results.{◌>>=◌, or_fault}
+use Rattle.command_values.specs.declared.values.Content.{Content}
+use Rattle.command_values.specs.declared.values.Content.TheVariants as contents
+use Rattle.command_values.specs.declared.values.Context.{Context}
+use Rattle.command_values.specs.Results.{◌>>=◌, or_fault}
 use Rattle.command_grammar.specs.Table.{operands_of}
-use Rattle.command_grammar.specs.ProfileNames.{dataset_profile, profile_in, form_in, general_form, named_by_form, any_named, any_profile, is_unclosed, text_by_kind, profile_text}
+use Rattle.command_values.specs.ProfileNames.{dataset_profile, profile_in, form_in, general_form, named_by_form, any_named, any_profile, is_unclosed, text_by_kind, profile_text}
 use Rattle.command_grammar.specs.Reading.{Generic, Slots, row_at, operands_at, closed, no_slots, class_in, mark_of_slot, mark_in, unless_mark, late_word, late_name, late_closed, body_at, begun}
 use Rattle.command_grammar.specs.Canon.{positions_text, operands_text}
-use Rattle.command_grammar.specs.Lawful.{Fits, FitsAll, IsLawful}
-use Rattle.command_grammar.proofs.Patterns.{IsSome, dataset-named, general-named, quoted-named, quote_closes, quoted-sound}
+use Rattle.command_values.specs.LawfulValues.{Fits}
+use Rattle.command_grammar.specs.Lawful.{FitsAll, IsLawful}
+use Rattle.command_values.proofs.Patterns.{IsSome, dataset-named, general-named, quoted-named, quote_closes, quoted-sound}
 use Rattle.command_grammar.proofs.SuitsNone.{suits-none}
 use Rattle.command_grammar.proofs.OperandsAgain.{IsApart, closed-again, filled-again, operands-apart}
 
@@ -113,7 +114,7 @@ mark-none [] [] k h is = refl
 mark-none [] (s ∷ ss) k h is = absurd h
 mark-none (o ∷ os) [] k h is = absurd h
 mark-none (o ∷ os) (None ∷ ss) zero h is = refl
-mark-none (o ∷ os) (Some v ∷ ss) zero h is = let no : Fits kinds.Generic v = subst (λ (k : Kind). Fits k v) is h.0 in absurd no
+mark-none (o ∷ os) (Some v ∷ ss) zero h is = let no : Fits kinds.Generic v = subst (λ (k : ValueKind). Fits k v) is h.0 in absurd no
 mark-none (o ∷ os) (None ∷ ss) (suc k) h is = mark-none os ss k h is
 mark-none (o ∷ os) (Some v ∷ ss) (suc k) h is = mark-none os ss k h.1 is
 
@@ -127,7 +128,7 @@ permit_again at n slots tied p lawful =
     let name = any_name at.issuer (class_in slots) n suits in
     let q : ℕ = suc p + length name.word in
     let mark : mark_in slots ≡ None = ap mark_of_slot (mark-none rows slots 6 lawful.fits_operands refl) in
-    ap (λ r. r >>= λ x. operands_at (begun at) rows (no_slots rows) (items x.2) >>= λ ss. late_name (begun at) ss x.0 x.1 >>= λ m. late_closed m verbs.Permit ss >>= λ ss. Ok (record { verb = verbs.Permit; positions = contents.Profile m ∷ []; slots = ss }))
+    ap (λ r. r >>= λ x. operands_at (begun at) rows (no_slots rows) (valued_words x.2) >>= λ ss. late_name (begun at) ss x.0 x.1 >>= λ m. late_closed m verbs.Permit ss >>= λ ss. Ok (record { verb = verbs.Permit; positions = contents.Profile m ∷ []; slots = ss }))
     (late_again at rows (class_in slots) n rest tied p name (operands-apart rows slots))
     ∙ ap (λ r. r >>= λ ss. late_name (begun at) ss (suc p) name.word >>= λ m. late_closed m verbs.Permit ss >>= λ ss. Ok (record { verb = verbs.Permit; positions = contents.Profile m ∷ []; slots = ss }))
     (filled-again (begun at) g true q lawful (suits-none (begun at).known rows slots refl))

@@ -5,30 +5,31 @@ use Rattle.std.proofs.lemmas.List.{append-nil}
 use Rattle.generic_names.specs.Spelled.{Spelled}
 use Rattle.command_words.specs.declared.quoting.Quoting.TheVariants.{Ignored}
 use Rattle.command_words.specs.Tokens.{Token, Word, tokens_from}
-use Rattle.command_words.specs.Items.{opens_value, faulty_at}
+use Rattle.command_words.specs.ValuedWords.{opens_value, faulty_at}
 use Rattle.command_words.proofs.Letters.{is_letter, both_first, both_second}
 use Rattle.access_levels.specs.Spelling.{id_of}
-use Rattle.command_grammar.specs.declared.faults.Syntax.TheVariants as faults
-use Rattle.command_grammar.specs.declared.table.Kind.{Kind}
-use Rattle.command_grammar.specs.declared.table.Kind.TheVariants as kinds
+use Rattle.command_values.specs.declared.faults.Syntax.TheVariants as faults
+use Rattle.command_values.specs.declared.value_kinds.ValueKind.{ValueKind}
+use Rattle.command_values.specs.declared.value_kinds.ValueKind.TheVariants as kinds
 use Rattle.command_grammar.specs.declared.table.Position.{Position}
 use Rattle.command_grammar.specs.declared.table.Operand.{Operand}
-use Rattle.command_grammar.specs.declared.values.Content.{Content}
-use Rattle.command_grammar.specs.declared.values.Content.TheVariants as contents
-use Rattle.command_grammar.specs.declared.values.Scope.{Scope}
-use Rattle.command_grammar.specs.Results.{◌>>=◌, or_fault}
-use Rattle.command_grammar.specs.ProfileNames.{class_profile, text_by_kind}
-use Rattle.command_grammar.specs.Values.{name_of, one, text_of}
+use Rattle.command_values.specs.declared.values.Content.{Content}
+use Rattle.command_values.specs.declared.values.Content.TheVariants as contents
+use Rattle.command_values.specs.declared.values.Scope.{Scope}
+use Rattle.command_values.specs.Results.{◌>>=◌, or_fault}
+use Rattle.command_values.specs.ProfileNames.{class_profile, text_by_kind}
+use Rattle.command_values.specs.Values.{name_of, one, text_of}
 use Rattle.command_grammar.specs.Reading.{takes_quotes, position_at, behind, positions_at}
 use Rattle.command_grammar.specs.Canon.{positions_text}
-use Rattle.command_grammar.specs.Lawful.{Fits, FitsPositions, Suits, SuitsPositions, known_last}
-use Rattle.command_grammar.proofs.Names.{IsPlainName, name-plain}
-use Rattle.command_grammar.proofs.Patterns.{IsSome, class-named}
+use Rattle.command_values.specs.LawfulValues.{Fits, Suits}
+use Rattle.command_grammar.specs.Lawful.{FitsPositions, SuitsPositions, known_last}
+use Rattle.command_values.proofs.Names.{IsPlainName, name-plain}
+use Rattle.command_values.proofs.Patterns.{IsSome, class-named}
 use Rattle.command_grammar.proofs.TableFacts.{IsMore, is_name_kind}
 use Rattle.command_grammar.proofs.OperandsAgain.{IsApart, plain_token, word-apart}
 
 -- a positional word that is written as a name
-record IsNameValue (at : Scope) (k : Kind) (v : Content) : Type 0 where
+record IsNameValue (at : Scope) (k : ValueKind) (v : Content) : Type 0 where
   name : List ℕ
   is : text_of v ≡ name
   some : IsMore name
@@ -40,7 +41,7 @@ plain-some : (w : List ℕ) → IsPlainName w → IsMore w
 plain-some [] plain = let no : id_of [] ≡ Ok [] = plain.spelled in cc
 plain-some (b ∷ w) plain = tt
 
-id-value : (at : Scope) (k : Kind) (w : List ℕ) → name_of k w ≡ Some w → ((p : ℕ) → one at k p w ≡ Ok (contents.Id w)) → IsNameValue at k (contents.Id w)
+id-value : (at : Scope) (k : ValueKind) (w : List ℕ) → name_of k w ≡ Some w → ((p : ℕ) → one at k p w ≡ Ok (contents.Id w)) → IsNameValue at k (contents.Id w)
 id-value at k w h reads =
     let plain = name-plain k w w h in
     record { name = w; is = refl; some = plain-some w plain; letters = plain.letters; sound = plain.sound; reads = reads }
@@ -61,7 +62,7 @@ profile-value at n h =
       reads = λ p. ap (λ o. or_fault o (faults.BadValue p) >>= λ m. Ok (contents.Profile m)) (ap (class_profile at.known.class) named.plain.folded ∙ h);
     }
 
-name_value : (at : Scope) (k : Kind) (v : Content) → is_name_kind k ≡ true → Fits k v → Suits at.known k v → IsNameValue at k v
+name_value : (at : Scope) (k : ValueKind) (v : Content) → is_name_kind k ≡ true → Fits k v → Suits at.known k v → IsNameValue at k v
 name_value at kinds.Id (contents.Id w) names h suits = id-value at kinds.Id w h (λ p. rw h refl)
 name_value at kinds.Group (contents.Id w) names h suits = id-value at kinds.Group w h (λ p. rw h refl)
 name_value at kinds.Class (contents.Id w) names h suits = id-value at kinds.Class w h (λ p. rw h refl)
@@ -134,7 +135,7 @@ name_value at kinds.AddedMembers v names h suits = cc
 name_value at kinds.DroppedMembers v names h suits = cc
 name_value at kinds.Generic v names h suits = cc
 
-not-quoted : (k : Kind) → is_name_kind k ≡ true → takes_quotes k ≡ false
+not-quoted : (k : ValueKind) → is_name_kind k ≡ true → takes_quotes k ≡ false
 not-quoted kinds.Flag h = refl
 not-quoted kinds.Id h = refl
 not-quoted kinds.Group h = refl

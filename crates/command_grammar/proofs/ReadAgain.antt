@@ -5,37 +5,37 @@ use Rattle.std.specs.List.{list_all, list_any}
 use Rattle.std.proofs.lemmas.List.{append-nil}
 use Rattle.generic_names.specs.Spelled.{Spelled}
 use Rattle.command_grammar.specs.declared.table.Verb.TheVariants as verbs
-use Rattle.command_grammar.specs.declared.values.Known.{Known}
+use Rattle.command_values.specs.declared.values.Known.{Known}
 use Rattle.command_words.specs.declared.quoting.Quoting.TheVariants.{Ignored, BeforeName, AtName}
 use Rattle.command_words.specs.Tokens.{Token, Word, tokens, tokens_from}
-use Rattle.command_words.specs.Items.{items, opens_value, faulty_at}
+use Rattle.command_words.specs.ValuedWords.{valued_words, opens_value, faulty_at}
 use Rattle.command_words.proofs.Letters.{is_letter, BeforeName-steady, EndsWord}
 use Rattle.command_words.proofs.Spelled.{word_token, name_token}
-use Rattle.command_grammar.specs.declared.faults.Syntax.{Syntax}
-use Rattle.command_grammar.specs.declared.faults.Syntax.TheVariants as faults
-use Rattle.command_grammar.specs.declared.profile_table.TheConstants.{DATASET_POSITION}
+use Rattle.command_values.specs.declared.faults.Syntax.{Syntax}
+use Rattle.command_values.specs.declared.faults.Syntax.TheVariants as faults
+use Rattle.command_grammar.specs.CommandTable.{data_set_profile}
 use Rattle.command_grammar.specs.declared.table.Verb.{Verb}
-use Rattle.command_grammar.specs.declared.table.Kind.TheVariants as kinds
+use Rattle.command_values.specs.declared.value_kinds.ValueKind.TheVariants as kinds
 use Rattle.command_grammar.specs.declared.table.Position.{Position}
 use Rattle.command_grammar.specs.declared.table.Operand.{Operand}
-use Rattle.command_grammar.specs.declared.values.Content.{Content}
-use Rattle.command_grammar.specs.declared.values.Content.TheVariants as contents
-use Rattle.command_grammar.specs.declared.values.Context.{Context}
-use Rattle.command_grammar.specs.declared.values.Scope.{Scope}
-use Rattle.command_grammar.specs.Results.{◌>>=◌}
+use Rattle.command_values.specs.declared.values.Content.{Content}
+use Rattle.command_values.specs.declared.values.Content.TheVariants as contents
+use Rattle.command_values.specs.declared.values.Context.{Context}
+use Rattle.command_values.specs.declared.values.Scope.{Scope}
+use Rattle.command_values.specs.Results.{◌>>=◌}
 use Rattle.command_grammar.specs.Table.{full_name, positions_of, operands_of}
-use Rattle.command_grammar.specs.ProfileNames.{dataset_profile, dataset_named, text_by_kind, profile_text}
+use Rattle.command_values.specs.ProfileNames.{dataset_profile, dataset_named, text_by_kind, profile_text}
 use Rattle.command_grammar.specs.Reading.{Generic, Slots, is_late, known_behind, behind, positions_at, operands_at, closed, no_slots, plain_at, class_in, late_at, body_at, begins_with_name, begun, command_at, parsed}
 use Rattle.command_grammar.specs.Canon.{positions_text, operands_text, canon, spelled}
 use Rattle.command_grammar.specs.Lawful.{FitsPositions, SuitsPositions, known_last, SuitsAll, class_known, IsLawful}
-use Rattle.command_grammar.proofs.Patterns.{dataset-named, quoted-named, quote_closes, quoted-sound}
+use Rattle.command_values.proofs.Patterns.{dataset-named, quoted-named, quote_closes, quoted-sound}
 use Rattle.command_grammar.proofs.TableFacts.{IsMore, full_name-plain, verb_named-full_name, Shape, Plain, Quoted, Judged, shape}
 use Rattle.command_grammar.proofs.OperandsAgain.{IsApart, behind_again, operands-apart, plain_token}
 use Rattle.command_grammar.proofs.PositionsAgain.{are_names, positions_again}
 use Rattle.command_grammar.proofs.PermitAgain.{permit_one}
 
 abbrev then_operands : Verb → Result (List Content × Scope × List Token) Syntax → Result Generic Syntax
-then_operands v r = r >>= λ x. operands_at x.1 (operands_of v) (no_slots (operands_of v)) (items x.2) >>= λ slots. closed v slots >>= λ slots. Ok (record { verb = v; positions = x.0; slots = slots })
+then_operands v r = r >>= λ x. operands_at x.1 (operands_of v) (no_slots (operands_of v)) (valued_words x.2) >>= λ slots. closed v slots >>= λ slots. Ok (record { verb = v; positions = x.0; slots = slots })
 
 -- nothing is known before the first positional word
 nothing-first : (g : Generic) → IsLawful g → is_late (positions_of g.verb) ≡ false → SuitsPositions (class_known None) (positions_of g.verb) g.positions
@@ -60,7 +60,7 @@ plain_again at g tied p lawful early names =
 
 -- a data set's name in quotes
 quoted_again : (at : Scope) (rows : List Operand) (n : Spelled) (rest : List ℕ) (tied : Bool) (p : ℕ) → dataset_profile n.text ≡ Some n → IsApart rest
-    → positions_at at rows DATASET_POSITION [] (tokens_from AtName tied 0 p (positions_text (contents.Profile n ∷ []) ++ rest))
+    → positions_at at rows data_set_profile [] (tokens_from AtName tied 0 p (positions_text (contents.Profile n ∷ []) ++ rest))
     ≡ Ok (contents.Profile n ∷ [], behind at kinds.DataSetProfile (contents.Profile n), tokens_from Ignored true 0 (suc p + length (39 ∷ (n.text ++ 39 ∷ []))) rest)
 quoted_again at rows n rest tied p h apart =
     let named = dataset-named n.text n h in
@@ -74,7 +74,7 @@ quoted_again at rows n rest tied p h apart =
     let closes : list_any (λ c. c == 39) (n.text ++ 39 ∷ []) ≡ true = quote_closes n.text in
     let sound : faulty_at Ignored (suc p) (39 ∷ (n.text ++ 39 ∷ [])) ≡ None = quoted-sound (suc p) n.text named.plain.sound in
     let named_so : dataset_named at.issuer (39 ∷ (n.text ++ 39 ∷ [])) ≡ Some n = quoted-named at.issuer n.text named.plain ∙ h in
-    ap (positions_at at rows DATASET_POSITION []) first ∙ rw (opens, closes, sound, named_so) refl
+    ap (positions_at at rows data_set_profile []) first ∙ rw (opens, closes, sound, named_so) refl
 
 text-ends : (g : Generic) → EndsWord (positions_text g.positions ++ operands_text (operands_of g.verb) g.slots)
 text-ends g = ends-at g.positions
@@ -87,10 +87,10 @@ text-ends g = ends-at g.positions
 abbrev rest_of : Verb → List Token → List Token → List Token
 rest_of v us ts = if begins_with_name (positions_of v) then us else ts
 
-one_profile : (g : Generic) → positions_of g.verb ≡ DATASET_POSITION → IsLawful g → (n : Spelled) × (g.positions ≡ contents.Profile n ∷ []) × (dataset_profile n.text ≡ Some n)
+one_profile : (g : Generic) → positions_of g.verb ≡ data_set_profile → IsLawful g → (n : Spelled) × (g.positions ≡ contents.Profile n ∷ []) × (dataset_profile n.text ≡ Some n)
 one_profile g same lawful = one-in g.positions (subst (λ (ps : List Position). FitsPositions ps g.positions) same lawful.fits_positions)
   where
-    one-in : (vs : List Content) → FitsPositions DATASET_POSITION vs → (n : Spelled) × (vs ≡ contents.Profile n ∷ []) × (dataset_profile n.text ≡ Some n)
+    one-in : (vs : List Content) → FitsPositions data_set_profile vs → (n : Spelled) × (vs ≡ contents.Profile n ∷ []) × (dataset_profile n.text ≡ Some n)
     one-in [] h = absurd h
     one-in (contents.Profile n ∷ []) h = (n, refl, h.0)
     one-in (v ∷ (w ∷ vs)) h = absurd h.1
@@ -108,7 +108,7 @@ one_profile g same lawful = one-in g.positions (subst (λ (ps : List Position). 
     one-in (contents.MemberNames ns ∷ []) h = absurd h.0
     one-in (contents.Generic g ∷ []) h = absurd h.0
 
-dataset_again : (at : Context) (g : Generic) (tied : Bool) (p : ℕ) → IsLawful g → positions_of g.verb ≡ DATASET_POSITION
+dataset_again : (at : Context) (g : Generic) (tied : Bool) (p : ℕ) → IsLawful g → positions_of g.verb ≡ data_set_profile
     → body_at (begun at) g.verb (tokens_from AtName tied 0 p (positions_text g.positions ++ operands_text (operands_of g.verb) g.slots)) ≡ Ok g
 dataset_again at g tied p lawful same =
     let found = one_profile g same lawful in
@@ -116,13 +116,13 @@ dataset_again at g tied p lawful same =
     let read : positions_at (begun at) (operands_of g.verb) (positions_of g.verb) [] (tokens_from AtName tied 0 p (positions_text g.positions ++ rest))
     ≡ Ok (g.positions, behind (begun at) kinds.DataSetProfile (contents.Profile found.0), tokens_from Ignored true 0 (suc p + length (39 ∷ (found.0.text ++ 39 ∷ []))) rest) =
     ap (λ ps. positions_at (begun at) (operands_of g.verb) ps [] (tokens_from AtName tied 0 p (positions_text g.positions ++ rest))) same
-    ∙ ap (λ vs. positions_at (begun at) (operands_of g.verb) DATASET_POSITION [] (tokens_from AtName tied 0 p (positions_text vs ++ rest))) found.1
+    ∙ ap (λ vs. positions_at (begun at) (operands_of g.verb) data_set_profile [] (tokens_from AtName tied 0 p (positions_text vs ++ rest))) found.1
     ∙ quoted_again (begun at) (operands_of g.verb) found.0 rest tied p found.2 (operands-apart (operands_of g.verb) g.slots)
     ∙ ap (λ vs. Ok (vs, behind (begun at) kinds.DataSetProfile (contents.Profile found.0), tokens_from Ignored true 0 (suc p + length (39 ∷ (found.0.text ++ 39 ∷ []))) rest)) (sym found.1) in
     early_body at g.verb (tokens_from AtName tied 0 p (positions_text g.positions ++ rest)) (ap is_late same)
     ∙ ap (then_operands g.verb) read ∙ behind_again (behind (begun at) kinds.DataSetProfile (contents.Profile found.0)) g true (suc p + length (39 ∷ (found.0.text ++ 39 ∷ []))) lawful
     (suits-last g lawful (ap is_late same) (known_behind (class_known None) kinds.DataSetProfile (contents.Profile found.0))
-    (sym (ap (λ ps. known_last (class_known None) ps g.positions) same ∙ ap (known_last (class_known None) DATASET_POSITION) found.1)))
+    (sym (ap (λ ps. known_last (class_known None) ps g.positions) same ∙ ap (known_last (class_known None) data_set_profile) found.1)))
 
 abbrev ReadsPermit : Context → List Content → Slots → Bool → ℕ → Verb → Type 0
 ReadsPermit at vs slots tied p v =

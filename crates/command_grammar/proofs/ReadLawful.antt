@@ -6,33 +6,34 @@ use Rattle.generic_names.specs.Spelled.{Spelled}
 use Rattle.generic_names.specs.Covers.{is_generic}
 use Rattle.racf_profiles.specs.declared.fixed_classes.NameForm.{NameForm}
 use Rattle.racf_profiles.specs.declared.fixed_classes.NameForm.TheVariants as name_forms
-use Rattle.command_grammar.specs.declared.words.Word.TheVariants as words
+use Rattle.command_values.specs.declared.operand_words.Word.{Word as OperandWord}
+use Rattle.command_values.specs.declared.operand_words.Word.TheVariants as words
 use Rattle.command_words.specs.declared.quoting.Quoting.TheVariants.{Ignored}
 use Rattle.command_words.specs.Bytes.{upper}
 use Rattle.command_words.specs.Tokens.{Token, Word, Group, Open, Close, tokens, of_command, of_naming_command}
-use Rattle.command_words.specs.Items.{items}
-use Rattle.command_grammar.specs.declared.faults.Syntax.TheVariants as faults
+use Rattle.command_words.specs.ValuedWords.{valued_words}
+use Rattle.command_values.specs.declared.faults.Syntax.TheVariants as faults
 use Rattle.command_grammar.specs.declared.table.Verb.{Verb}
 use Rattle.command_grammar.specs.declared.table.Verb.TheVariants as verbs
 use Rattle.command_grammar.specs.declared.table.Position.{Position}
 use Rattle.command_grammar.specs.declared.table.Operand.{Operand}
-use Rattle.command_grammar.specs.declared.values.Content.{Content}
-use Rattle.command_grammar.specs.declared.values.Content.TheVariants as contents
-use Rattle.command_grammar.specs.declared.values.Context.{Context}
-use Rattle.command_grammar.specs.declared.values.Scope.{Scope}
-use Rattle.command_grammar.specs.declared.values.Known.{Known}
-use Rattle.command_grammar.specs.Results.{◌>>=◌, or_fault}
+use Rattle.command_values.specs.declared.values.Content.{Content}
+use Rattle.command_values.specs.declared.values.Content.TheVariants as contents
+use Rattle.command_values.specs.declared.values.Context.{Context}
+use Rattle.command_values.specs.declared.values.Scope.{Scope}
+use Rattle.command_values.specs.declared.values.Known.{Known}
+use Rattle.command_values.specs.Results.{◌>>=◌, or_fault}
 use Rattle.command_grammar.specs.Table.{positions_of, operands_of, verb_named}
-use Rattle.command_grammar.specs.WordsOfValues.{clean, unless_stray}
-use Rattle.command_grammar.specs.ProfileNames.{profile_in, form_in, named_by_form, any_named, any_profile}
-use Rattle.command_grammar.specs.Values.{one}
-use Rattle.command_grammar.specs.Reading.{Generic, Slots, placed, position_at, behind, positions_at, operands_at, given, clash, unless_clash, is_late, completed, missing, closed, no_slots, plain_at, class_in, mark_in, unless_mark, late_word, late_name, late_closed, late_at, body_at, begins_with_name, behind_first, begun, command_at, parsed}
+use Rattle.command_values.specs.WordsOfValues.{clean, unless_stray}
+use Rattle.command_values.specs.ProfileNames.{profile_in, form_in, named_by_form, any_named, any_profile}
+use Rattle.command_values.specs.Values.{one}
+use Rattle.command_grammar.specs.Reading.{Generic, Slots, placed, position_at, behind, positions_at, operands_at, clash, unless_clash, is_late, completed, missing, closed, no_slots, plain_at, class_in, mark_in, unless_mark, late_word, late_name, late_closed, late_at, body_at, begins_with_name, behind_first, begun, command_at, parsed}
 use Rattle.command_grammar.specs.Lawful.{FitsPositions, FitsAll, SuitsPositions, known_last, SuitsAll, class_known, first_known, IsLawful}
-use Rattle.command_grammar.proofs.Names.{if-err}
+use Rattle.command_values.proofs.Names.{if-err}
 use Rattle.command_grammar.proofs.SuitsNone.{suits-none}
-use Rattle.command_grammar.proofs.Patterns.{general-named}
-use Rattle.command_grammar.proofs.Outcomes.{bind-ok, first-ok, or_fault-ok, triple-ok, triple-second, unless_stray-ok}
-use Rattle.command_grammar.proofs.ValueLawful.{FitsHere, along-here, dataset-fits, one-fits}
+use Rattle.command_values.proofs.Patterns.{general-named}
+use Rattle.command_values.proofs.Outcomes.{bind-ok, first-ok, or_fault-ok, triple-ok, triple-second, unless_stray-ok}
+use Rattle.command_values.proofs.ValueLawful.{FitsHere, along-here, dataset-fits, one-fits}
 use Rattle.command_grammar.proofs.OperandsLawful.{HoldsAll, HoldsAll-none, operands-hold}
 use Rattle.command_grammar.proofs.CompletedLawful.{completed-fits, settled-slots}
 
@@ -55,15 +56,15 @@ positions-fit at rows (pos ∷ ps) front ts all last rest h =
     let fits = position-fits at rows pos ts read.0.0 read.0.1 read.1 in
     (read.0.0 ∷ more.0, more.1 ∙ append_assoc front (read.0.0 ∷ []) more.0, (fits.0, more.2), (fits.1, more.3), more.4)
 
-unless_clash-ok : (c : Option (Operand × Operand)) (slots ss : Slots) → unless_clash c slots ≡ Ok ss → (c ≡ None) × (slots ≡ ss)
+unless_clash-ok : (c : Option (OperandWord × OperandWord)) (slots ss : Slots) → unless_clash c slots ≡ Ok ss → (c ≡ None) × (slots ≡ ss)
 unless_clash-ok None slots ss h = (refl, cc)
 unless_clash-ok (Some both) slots ss h = cc
 
-closed-ok : (v : Verb) (slots ss : Slots) → closed v slots ≡ Ok ss → (missing v slots ≡ false) × (clash (given (operands_of v) ss) ≡ None) × (completed v slots ≡ ss)
+closed-ok : (v : Verb) (slots ss : Slots) → closed v slots ≡ Ok ss → (missing v slots ≡ false) × (clash v ss ≡ None) × (completed v slots ≡ ss)
 closed-ok v slots ss h =
-    let complete = if-err (missing v slots) (faults.Missing words.Id) (unless_clash (clash (given (operands_of v) (completed v slots))) (completed v slots)) ss h in
-    let apart = unless_clash-ok (clash (given (operands_of v) (completed v slots))) (completed v slots) ss complete.1 in
-    (complete.0, subst (λ (xs : Slots). clash (given (operands_of v) xs) ≡ None) apart.1 apart.0, apart.1)
+    let complete = if-err (missing v slots) (faults.Missing words.Id) (unless_clash (clash v (completed v slots)) (completed v slots)) ss h in
+    let apart = unless_clash-ok (clash v (completed v slots)) (completed v slots) ss complete.1 in
+    (complete.0, subst (λ (xs : Slots). clash v xs ≡ None) apart.1 apart.0, apart.1)
 
 -- what holds of the slots when they were closed
 record AreClosed (known : Known) (v : Verb) (slots ss : Slots) : Type 0 where
@@ -72,7 +73,7 @@ record AreClosed (known : Known) (v : Verb) (slots ss : Slots) : Type 0 where
   class : first_known v ss ≡ first_known v slots
   lacks : missing v ss ≡ false
   whole : completed v ss ≡ ss
-  alone : clash (given (operands_of v) ss) ≡ None
+  alone : clash v ss ≡ None
 
 closed-slots : (known : Known) (v : Verb) (slots ss : Slots) → HoldsAll known (operands_of v) slots → closed v slots ≡ Ok ss → AreClosed known v slots ss
 closed-slots known v slots ss holds h =
@@ -90,10 +91,10 @@ closed-slots known v slots ss holds h =
 
 plain-lawful : (at : Context) (v : Verb) (ts : List Token) (g : Generic) → is_late (positions_of v) ≡ false → plain_at (begun at) v ts ≡ Ok g → IsLawful g
 plain-lawful at v ts g early h =
-    let words = bind-ok (positions_at (begun at) (operands_of v) (positions_of v) [] ts) (λ x. operands_at x.1 (operands_of v) (no_slots (operands_of v)) (items x.2) >>= λ slots. closed v slots >>= λ slots. Ok (record { verb = v; positions = x.0; slots = slots })) g h in
-    let filled = bind-ok (operands_at words.0.1 (operands_of v) (no_slots (operands_of v)) (items words.0.2)) (λ slots. closed v slots >>= λ slots. Ok (record { verb = v; positions = words.0.0; slots = slots })) g words.2 in
+    let words = bind-ok (positions_at (begun at) (operands_of v) (positions_of v) [] ts) (λ x. operands_at x.1 (operands_of v) (no_slots (operands_of v)) (valued_words x.2) >>= λ slots. closed v slots >>= λ slots. Ok (record { verb = v; positions = x.0; slots = slots })) g h in
+    let filled = bind-ok (operands_at words.0.1 (operands_of v) (no_slots (operands_of v)) (valued_words words.0.2)) (λ slots. closed v slots >>= λ slots. Ok (record { verb = v; positions = words.0.0; slots = slots })) g words.2 in
     let end = bind-ok (closed v filled.0) (λ slots. Ok (record { verb = v; positions = words.0.0; slots = slots })) g filled.2 in
-    let closed_so = closed-slots words.0.1.known v filled.0 end.0 (operands-hold words.0.1 (operands_of v) (no_slots (operands_of v)) (items words.0.2) filled.0 filled.1 (HoldsAll-none words.0.1.known (operands_of v))) end.1 in
+    let closed_so = closed-slots words.0.1.known v filled.0 end.0 (operands-hold words.0.1 (operands_of v) (no_slots (operands_of v)) (valued_words words.0.2) filled.0 filled.1 (HoldsAll-none words.0.1.known (operands_of v))) end.1 in
     let found = positions-fit (begun at) (operands_of v) (positions_of v) [] ts words.0.0 words.0.1 words.0.2 words.1 in
     let positions : FitsPositions (positions_of v) words.0.0 = subst (λ (vs : List Content). FitsPositions (positions_of v) vs) (sym found.1) found.2 in
     let suited : SuitsPositions (class_known None) (positions_of v) words.0.0 = subst (λ (vs : List Content). SuitsPositions (class_known None) (positions_of v) vs) (sym found.1) found.3 in
@@ -129,14 +130,14 @@ unless_mark-ok n (Some p) slots ss h = mark-tested (is_generic n) h
 late-lawful : (at : Context) (ts : List Token) (g : Generic) → late_at (begun at) verbs.Permit ts ≡ Ok g → IsLawful g
 late-lawful at ts g h =
     let rows : List Operand = operands_of verbs.Permit in
-    let word = bind-ok (late_word rows ts) (λ x. operands_at (begun at) rows (no_slots rows) (items x.2) >>= λ slots. late_name (begun at) slots x.0 x.1 >>= λ n. late_closed n verbs.Permit slots >>= λ slots. Ok (record { verb = verbs.Permit; positions = contents.Profile n ∷ []; slots = slots })) g h in
-    let filled = bind-ok (operands_at (begun at) rows (no_slots rows) (items word.0.2)) (λ slots. late_name (begun at) slots word.0.0 word.0.1 >>= λ n. late_closed n verbs.Permit slots >>= λ slots. Ok (record { verb = verbs.Permit; positions = contents.Profile n ∷ []; slots = slots })) g word.2 in
+    let word = bind-ok (late_word rows ts) (λ x. operands_at (begun at) rows (no_slots rows) (valued_words x.2) >>= λ slots. late_name (begun at) slots x.0 x.1 >>= λ n. late_closed n verbs.Permit slots >>= λ slots. Ok (record { verb = verbs.Permit; positions = contents.Profile n ∷ []; slots = slots })) g h in
+    let filled = bind-ok (operands_at (begun at) rows (no_slots rows) (valued_words word.0.2)) (λ slots. late_name (begun at) slots word.0.0 word.0.1 >>= λ n. late_closed n verbs.Permit slots >>= λ slots. Ok (record { verb = verbs.Permit; positions = contents.Profile n ∷ []; slots = slots })) g word.2 in
     let name = bind-ok (late_name (begun at) filled.0 word.0.0 word.0.1) (λ n. late_closed n verbs.Permit filled.0 >>= λ slots. Ok (record { verb = verbs.Permit; positions = contents.Profile n ∷ []; slots = slots })) g filled.2 in
     let end = bind-ok (late_closed name.0 verbs.Permit filled.0) (λ slots. Ok (record { verb = verbs.Permit; positions = contents.Profile name.0 ∷ []; slots = slots })) g name.2 in
     let marked = bind-ok (unless_mark name.0 (mark_in filled.0) filled.0) (λ slots. closed verbs.Permit slots) end.0 end.1 in
     let kept : filled.0 ≡ marked.0 = unless_mark-ok name.0 (mark_in filled.0) filled.0 marked.0 marked.1 in
     let closed_here : closed verbs.Permit filled.0 ≡ Ok end.0 = ap (closed verbs.Permit) kept ∙ marked.2 in
-    let closed_so = closed-slots (begun at).known verbs.Permit filled.0 end.0 (operands-hold (begun at) rows (no_slots rows) (items word.0.2) filled.0 filled.1 (HoldsAll-none (begun at).known rows)) closed_here in
+    let closed_so = closed-slots (begun at).known verbs.Permit filled.0 end.0 (operands-hold (begun at) rows (no_slots rows) (valued_words word.0.2) filled.0 filled.1 (HoldsAll-none (begun at).known rows)) closed_here in
     let named : any_named at.issuer (class_in filled.0) word.0.1 ≡ Some name.0 = or_fault-ok (any_named at.issuer (class_in filled.0) word.0.1) (faults.BadValue word.0.0) name.0 name.1 in
     let suits : any_profile (class_in filled.0) name.0.text ≡ Some name.0 = any-fits at.issuer (class_in filled.0) word.0.1 name.0 named in
     let suited : SuitsPositions (first_known verbs.Permit end.0) (positions_of verbs.Permit) (contents.Profile name.0 ∷ []) = subst (λ (k : Known). SuitsPositions k (positions_of verbs.Permit) (contents.Profile name.0 ∷ [])) (sym closed_so.class) (suits, tt) in

@@ -1,16 +1,17 @@
 -- Operands whose values depend on nothing in front of them.
 use Rattle.std.proofs.Common.{◌≡◌, List, [], ◌∷◌, Bool, true, false, not, ◌&&◌, None, Some}
 use Rattle.command_words.proofs.Letters.{both_first, both_second}
-use Rattle.command_grammar.specs.declared.table.Kind.{Kind}
-use Rattle.command_grammar.specs.declared.table.Kind.TheVariants as kinds
+use Rattle.command_values.specs.declared.value_kinds.ValueKind.{ValueKind}
+use Rattle.command_values.specs.declared.value_kinds.ValueKind.TheVariants as kinds
 use Rattle.command_grammar.specs.declared.table.Operand.{Operand}
-use Rattle.command_grammar.specs.declared.values.Content.{Content}
-use Rattle.command_grammar.specs.declared.values.Known.{Known}
+use Rattle.command_values.specs.declared.values.Content.{Content}
+use Rattle.command_values.specs.declared.values.Known.{Known}
 use Rattle.command_grammar.specs.Reading.{Slots}
-use Rattle.command_grammar.specs.Lawful.{Suits, SuitsAll}
+use Rattle.command_values.specs.LawfulValues.{Suits}
+use Rattle.command_grammar.specs.Lawful.{SuitsAll}
 
 -- no operand of PERMIT depends on what stands in front
-abbrev pub is_member_kind : Kind → Bool
+abbrev pub is_member_kind : ValueKind → Bool
 is_member_kind kinds.AddedMembers = true
 is_member_kind kinds.DroppedMembers = true
 is_member_kind kinds.ClassProfile = true
@@ -21,7 +22,7 @@ abbrev pub none_members : List Operand → Bool
 none_members [] = true
 none_members (o ∷ os) = not (is_member_kind o.kind) && none_members os
 
-suits-any : (known : Known) (k : Kind) (v : Content) → not (is_member_kind k) ≡ true → Suits known k v
+suits-any : (known : Known) (k : ValueKind) (v : Content) → not (is_member_kind k) ≡ true → Suits known k v
 suits-any known kinds.Flag v h = tt
 suits-any known kinds.Id v h = tt
 suits-any known kinds.Group v h = tt

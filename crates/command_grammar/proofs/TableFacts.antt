@@ -5,19 +5,19 @@ use Rattle.std.specs.List.{list_all}
 use Rattle.std.proofs.lemmas.Bool.{eqb-true}
 use Rattle.command_words.specs.declared.quoting.Quoting.TheVariants.{Ignored}
 use Rattle.command_words.specs.Bytes.{upper}
-use Rattle.command_words.specs.Items.{faulty_at}
+use Rattle.command_words.specs.ValuedWords.{faulty_at}
 use Rattle.command_words.proofs.Letters.{is_letter, both_first, both_second}
-use Rattle.command_grammar.specs.declared.words.Word.{Word}
-use Rattle.command_grammar.specs.declared.words.Word.TheVariants as words
+use Rattle.command_values.specs.declared.operand_words.Word.{Word}
+use Rattle.command_values.specs.declared.operand_words.Word.TheVariants as words
 use Rattle.command_grammar.specs.declared.table.Verb.{Verb}
 use Rattle.command_grammar.specs.declared.table.Verb.TheVariants as verbs
-use Rattle.command_grammar.specs.declared.table.Kind.{Kind}
-use Rattle.command_grammar.specs.declared.table.Kind.TheVariants as kinds
+use Rattle.command_values.specs.declared.value_kinds.ValueKind.{ValueKind}
+use Rattle.command_values.specs.declared.value_kinds.ValueKind.TheVariants as kinds
 use Rattle.command_grammar.specs.declared.table.Position.{Position}
 use Rattle.command_grammar.specs.declared.table.Operand.{Operand}
-use Rattle.command_grammar.specs.Words.{spelling_of}
+use Rattle.command_values.specs.OperandWords.{spelling_of}
 use Rattle.command_grammar.specs.Table.{full_name, positions_of, operands_of, verb_named}
-use Rattle.command_grammar.specs.declared.profile_table.TheConstants.{DATASET_POSITION}
+use Rattle.command_grammar.specs.CommandTable.{data_set_profile}
 use Rattle.command_grammar.specs.Reading.{is_spelling, is_late, begins_with_name}
 
 abbrev pub IsMore : List ℕ → Type 0
@@ -110,7 +110,7 @@ verb_named-full_name verbs.RDelete = refl
 verb_named-full_name verbs.Permit = refl
 
 -- the kinds of profiles' names, which no operand has
-abbrev pub is_profile_kind : Kind → Bool
+abbrev pub is_profile_kind : ValueKind → Bool
 is_profile_kind kinds.DataSetProfile = true
 is_profile_kind kinds.ClassProfile = true
 is_profile_kind kinds.AnyProfile = true
@@ -160,7 +160,7 @@ pub operands-found : (v : Verb) → AreFound (operands_of v) 0 (operands_of v)
 operands-found v = found-tested (operands_of v) 0 (operands_of v) (all_found v)
 
 -- the kinds of positional words that are written as names
-abbrev pub is_name_kind : Kind → Bool
+abbrev pub is_name_kind : ValueKind → Bool
 is_name_kind kinds.Id = true
 is_name_kind kinds.Group = true
 is_name_kind kinds.Flag = false
@@ -184,7 +184,7 @@ is_name_kind kinds.Generic = false
 -- a command's positional words are names as they are written; or the first is a data set's in quotes; or it is PERMIT's
 pub data Shape (v : Verb) : Type 0 where
   Plain : begins_with_name (positions_of v) ≡ false → is_late (positions_of v) ≡ false → list_all (λ (pos : Position). is_name_kind pos.kind) (positions_of v) ≡ true → Shape v
-  Quoted : positions_of v ≡ DATASET_POSITION → Shape v
+  Quoted : positions_of v ≡ data_set_profile → Shape v
   Judged : v ≡ verbs.Permit → Shape v
 
 pub shape : (v : Verb) → Shape v

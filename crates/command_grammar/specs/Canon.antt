@@ -1,16 +1,16 @@
 -- The canonical text of a command: its full name, its positional words, then its operands in the order of the table,
 -- with one blank between words.
 use Rattle.std.specs.Prelude.{ℕ, List, [], ◌∷◌, ◌++◌, None, Some, Result, Ok, Err, length, nat_lt, if◌then◌else◌}
-use Rattle.command_grammar.specs.declared.faults.Syntax.{Syntax}
-use Rattle.command_grammar.specs.declared.faults.Syntax.TheVariants as faults
+use Rattle.command_values.specs.declared.faults.Syntax.{Syntax}
+use Rattle.command_values.specs.declared.faults.Syntax.TheVariants as faults
 use Rattle.command_grammar.specs.declared.table.Operand.{Operand}
-use Rattle.command_grammar.specs.declared.values.Content.{Content}
-use Rattle.command_grammar.specs.declared.values.Content.TheVariants as contents
-use Rattle.command_grammar.specs.Words.{spelling_of}
+use Rattle.command_values.specs.declared.values.Content.{Content}
+use Rattle.command_values.specs.declared.values.Content.TheVariants as contents
+use Rattle.command_values.specs.OperandWords.{spelling_of}
 use Rattle.command_grammar.specs.Table.{full_name, operands_of}
-use Rattle.command_grammar.specs.Results.{◌>>=◌}
-use Rattle.command_grammar.specs.declared.values.Context.{Context}
-use Rattle.command_grammar.specs.Values.{text_of}
+use Rattle.command_values.specs.Results.{◌>>=◌}
+use Rattle.command_values.specs.declared.values.Context.{Context}
+use Rattle.command_values.specs.Values.{text_of}
 use Rattle.command_grammar.specs.Reading.{Generic, Slots, parsed}
 
 -- a value in its parentheses, or nothing where an operand takes none

@@ -1,100 +1,13 @@
--- Which values a text can spell, and which commands.
-use Rattle.std.specs.Prelude.{◌≡◌, ℕ, List, [], ◌∷◌, true, false, Option, None, Some, Ok, if◌then◌else◌}
-use Rattle.command_grammar.specs.declared.table.Kind.{Kind}
-use Rattle.command_grammar.specs.declared.table.Kind.TheVariants as kinds
+-- Which commands a text can spell.
+use Rattle.std.specs.Prelude.{◌≡◌, ℕ, List, [], ◌∷◌, false, Option, None, Some, if◌then◌else◌}
 use Rattle.command_grammar.specs.declared.table.Position.{Position}
 use Rattle.command_grammar.specs.declared.table.Operand.{Operand}
-use Rattle.command_grammar.specs.declared.values.Content.{Content}
-use Rattle.command_grammar.specs.declared.values.Content.TheVariants as contents
-use Rattle.command_grammar.specs.Table.{positions_of, operands_of}
-use Rattle.command_grammar.specs.declared.values.Known.{Known}
-use Rattle.command_grammar.specs.ProfileNames.{dataset_profile, class_profile, any_profile}
-use Rattle.command_grammar.specs.Audits.{is_audit_rule}
-use Rattle.command_grammar.specs.declared.members.MemberForm.{MemberForm}
-use Rattle.command_grammar.specs.declared.members.MemberForm.TheVariants as forms
-use Rattle.command_grammar.specs.Members.{member_form, if_number, id_name}
-use Rattle.racf_profiles.specs.declared.profiles.Member.{Member}
-use Rattle.racf_profiles.specs.declared.profiles.Member.TheVariants as member
-use Rattle.generic_names.specs.Spelled.{Spelled}
-use Rattle.generic_names.specs.Faults.{member_of}
-use Rattle.access_levels.specs.Spelling.{id_of}
-use Rattle.std.specs.Result.{result_ok}
-use Rattle.access_levels.specs.declared.entries.Who.{Who}
-use Rattle.access_levels.specs.declared.entries.Who.TheVariants.{Star, Named}
 use Rattle.command_grammar.specs.declared.table.Verb.{Verb}
-use Rattle.command_grammar.specs.Values.{name_of, is_name}
-use Rattle.command_grammar.specs.Reading.{Generic, Slots, given, clash, known_behind, is_late, class_in, completed, missing}
-
--- names that are written as they are read
-abbrev pub AreNames : Kind → List (List ℕ) → Type 0
-AreNames k [] = Unit {0}
-AreNames k (w ∷ ws) = (name_of k w ≡ Some w) × AreNames k ws
-
-abbrev pub IsNonEmpty : List (List ℕ) → Type 0
-IsNonEmpty [] = ⊥
-IsNonEmpty (w ∷ ws) = Unit {0}
-
--- users and groups, or `*` alone
-abbrev pub AreNamed : List Who → Type 0
-AreNamed [] = Unit {0}
-AreNamed (Star ∷ ws) = ⊥
-AreNamed (Named x ∷ ws) = (name_of kinds.Ids x ≡ Some x) × AreNamed ws
-
-abbrev pub AreWhos : List Who → Type 0
-AreWhos [] = ⊥
-AreWhos (Star ∷ []) = Unit {0}
-AreWhos (Star ∷ (w ∷ ws)) = ⊥
-AreWhos (Named x ∷ ws) = (name_of kinds.Ids x ≡ Some x) × AreNamed ws
-
--- members of profiles of this form, and names of members
-abbrev pub IsMember : MemberForm → Member → Type 0
-IsMember (forms.Access kind) (member.Access n l) = result_ok (member_of kind n.text) ≡ Some n
-IsMember forms.Grade (member.Grade x n) = (id_of x ≡ Ok x) × (if_number (Some n) ≡ Some n)
-IsMember forms.Category (member.Category x) = id_of x ≡ Ok x
-IsMember form m = ⊥
-
-abbrev pub IsDropped : MemberForm → Spelled → Type 0
-IsDropped (forms.Access kind) n = result_ok (member_of kind n.text) ≡ Some n
-IsDropped forms.Grade n = id_name n.text ≡ Some n
-IsDropped forms.Category n = id_name n.text ≡ Some n
-
-abbrev pub Each : {X : Type 0} → (X → Type 0) → List X → Type 0
-Each P [] = Unit {0}
-Each P (x ∷ xs) = P x × Each P xs
-
-abbrev pub AreSome : {X : Type 0} → List X → Type 0
-AreSome [] = ⊥
-AreSome (x ∷ xs) = Unit {0}
-
-abbrev pub AreMembers : Option MemberForm → List Member → Type 0
-AreMembers None ms = ⊥
-AreMembers (Some form) ms = Each (IsMember form) ms
-
-abbrev pub AreDropped : Option MemberForm → List Spelled → Type 0
-AreDropped None ns = ⊥
-AreDropped (Some form) ns = Each (IsDropped form) ns
-
--- a value of its kind
-abbrev pub Fits : Kind → Content → Type 0
-Fits kinds.Flag contents.Flag = Unit {0}
-Fits kinds.Id (contents.Id w) = name_of kinds.Id w ≡ Some w
-Fits kinds.Group (contents.Id w) = name_of kinds.Group w ≡ Some w
-Fits kinds.Authority (contents.Authority a) = Unit {0}
-Fits kinds.Name (contents.Name t) = is_name t ≡ true
-Fits kinds.Ids (contents.Ids ws) = IsNonEmpty ws × AreNames kinds.Ids ws
-Fits kinds.Classes (contents.Ids ws) = IsNonEmpty ws × AreNames kinds.Classes ws
-Fits kinds.Class (contents.Id w) = name_of kinds.Class w ≡ Some w
-Fits kinds.Level (contents.Level l) = Unit {0}
-Fits kinds.Reset (contents.Reset r) = Unit {0}
-Fits kinds.Audit (contents.Audit rule) = is_audit_rule rule ≡ true
-Fits kinds.DataSetProfile (contents.Profile n) = dataset_profile n.text ≡ Some n
-Fits kinds.ClassProfile (contents.Profile n) = Unit {0}
-Fits kinds.AnyProfile (contents.Profile n) = Unit {0}
-Fits kinds.Whos (contents.Whos ws) = AreWhos ws
-Fits kinds.When (contents.When c) = name_of kinds.Id c.name ≡ Some c.name
-Fits kinds.AddedMembers (contents.Members ms) = AreSome ms
-Fits kinds.DroppedMembers (contents.MemberNames ns) = AreSome ns
-Fits k v = ⊥
+use Rattle.command_values.specs.declared.values.Content.{Content}
+use Rattle.command_values.specs.declared.values.Known.{Known}
+use Rattle.command_values.specs.LawfulValues.{Fits, Suits}
+use Rattle.command_grammar.specs.Table.{positions_of, operands_of}
+use Rattle.command_grammar.specs.Reading.{Generic, Slots, clash, known_behind, is_late, class_in, completed, missing}
 
 -- a value for each positional word
 abbrev pub FitsPositions : List Position → List Content → Type 0
@@ -108,14 +21,6 @@ FitsAll [] [] = Unit {0}
 FitsAll (o ∷ os) (None ∷ ss) = FitsAll os ss
 FitsAll (o ∷ os) (Some v ∷ ss) = Fits o.kind v × FitsAll os ss
 FitsAll os ss = ⊥
-
--- A value that depends on the words in front: the name of a profile on its class, its members on both.
-abbrev pub Suits : Known → Kind → Content → Type 0
-Suits known kinds.ClassProfile (contents.Profile n) = class_profile known.class n.text ≡ Some n
-Suits known kinds.AnyProfile (contents.Profile n) = any_profile known.class n.text ≡ Some n
-Suits known kinds.AddedMembers (contents.Members ms) = AreMembers (member_form known.class known.profile) ms
-Suits known kinds.DroppedMembers (contents.MemberNames ns) = AreDropped (member_form known.class known.profile) ns
-Suits known k v = Unit {0}
 
 abbrev pub SuitsPositions : Known → List Position → List Content → Type 0
 SuitsPositions known [] vs = Unit {0}
@@ -149,4 +54,4 @@ pub record IsLawful (g : Generic) : Type 0 where
   pub suits_operands : SuitsAll (known_last (first_known g.verb g.slots) (positions_of g.verb) g.positions) (operands_of g.verb) g.slots
   pub needed : missing g.verb g.slots ≡ false
   pub complete : completed g.verb g.slots ≡ g.slots
-  pub apart : clash (given (operands_of g.verb) g.slots) ≡ None
+  pub apart : clash g.verb g.slots ≡ None

@@ -1,12 +1,5 @@
-pub mod Words
+pub mod CommandTable
 pub mod Table
-pub mod Results
-pub mod WordsOfValues
-pub mod ProfileNames
-pub mod Audits
-pub mod Entries
-pub mod Members
-pub mod Values
 pub mod Reading
 pub mod Canon
 pub mod Parts

@@ -1,34 +1,33 @@
 -- How a text is read: the command, its positional words, its operands.
-use Rattle.std.specs.Prelude.{ℕ, List, [], ◌∷◌, ◌++◌, Bool, true, false, ◌&&◌, ◌||◌, not, codes, ◌==◌, nat_lt, nat_eq, length, map, bytes_eq, slice_set, replicate, count_by, position, find, if◌then◌else◌, is_some, is_ok, Option, None, Some, Result, Ok, Err}
+use Rattle.std.specs.Prelude.{ℕ, List, [], ◌∷◌, ◌++◌, Bool, true, false, ◌&&◌, ◌||◌, not, nat_lt, nat_eq, length, map, bytes_eq, slice_set, replicate, count_by, position, find, if◌then◌else◌, is_some, is_ok, Option, None, Some, Result, Ok, Err}
 use Rattle.std.specs.List.{starts_with, slice_index_or}
-use Rattle.std.specs.Option.{option_map}
 use Rattle.command_words.specs.declared.quoting.Quoting.TheVariants.{Ignored}
 use Rattle.command_words.specs.Bytes.{upper}
 use Rattle.command_words.specs.Tokens.{Token, Word, Group, Open, Close, tokens, of_command, of_naming_command}
-use Rattle.command_words.specs.Items.{Item, Bare, With, Unbounded, Odd, items, opens_value}
-use Rattle.command_grammar.specs.declared.faults.Syntax.{Syntax}
-use Rattle.command_grammar.specs.declared.faults.Syntax.TheVariants as faults
-use Rattle.command_grammar.specs.declared.words.Word.TheVariants as words
+use Rattle.command_words.specs.ValuedWords.{ValuedWord, Alone, Valued, Unclosed, Parenthesis, valued_words, opens_value}
+use Rattle.command_values.specs.declared.faults.Syntax.{Syntax}
+use Rattle.command_values.specs.declared.faults.Syntax.TheVariants as faults
+use Rattle.command_values.specs.declared.operand_words.Word.{Word as OperandWord}
+use Rattle.command_values.specs.declared.operand_words.Word.TheVariants as words
 use Rattle.command_grammar.specs.declared.table.Verb.{Verb}
-use Rattle.command_grammar.specs.declared.table.Kind.{Kind}
-use Rattle.command_grammar.specs.declared.table.Kind.TheVariants as kinds
+use Rattle.command_grammar.specs.declared.table.Verb.TheVariants as verbs
+use Rattle.command_values.specs.declared.value_kinds.ValueKind.{ValueKind}
+use Rattle.command_values.specs.declared.value_kinds.ValueKind.TheVariants as kinds
 use Rattle.command_grammar.specs.declared.table.Position.{Position}
 use Rattle.command_grammar.specs.declared.table.Operand.{Operand}
-use Rattle.command_grammar.specs.declared.values.Content.{Content}
-use Rattle.command_grammar.specs.declared.values.Content.TheVariants as contents
-use Rattle.command_grammar.specs.Words.{spelling_of}
-use Rattle.command_grammar.specs.Table.{positions_of, operands_of, verb_named}
-use Rattle.command_grammar.specs.Results.{◌>>=◌, or_fault}
-use Rattle.command_grammar.specs.declared.values.Context.{Context}
-use Rattle.command_grammar.specs.declared.values.Scope.{Scope}
-use Rattle.command_grammar.specs.declared.values.Known.{Known}
-use Rattle.command_grammar.specs.WordsOfValues.{clean, held, unless_stray}
-use Rattle.command_grammar.specs.ProfileNames.{is_unclosed, any_named}
-use Rattle.command_grammar.specs.Values.{value, one, bare}
-use Rattle.command_grammar.specs.declared.profile_table.TheConstants.{PERMIT_CLASS, PERMIT_RESET, PERMIT_ID, PERMIT_ACCESS, PERMIT_DELETE, PERMIT_WHEN, PERMIT_GENERIC}
+use Rattle.command_values.specs.declared.values.Content.{Content}
+use Rattle.command_values.specs.declared.values.Content.TheVariants as contents
+use Rattle.command_values.specs.OperandWords.{spelling_of, same_word}
+use Rattle.command_grammar.specs.Table.{positions_of, operands_of, excluded_of, default_of, verb_named}
+use Rattle.command_values.specs.Results.{◌>>=◌, or_fault}
+use Rattle.command_values.specs.declared.values.Context.{Context}
+use Rattle.command_values.specs.declared.values.Scope.{Scope}
+use Rattle.command_values.specs.declared.values.Known.{Known}
+use Rattle.command_values.specs.WordsOfValues.{clean, held, unless_stray}
+use Rattle.command_values.specs.ProfileNames.{is_unclosed, any_named}
+use Rattle.command_values.specs.Values.{value, one, bare}
 use Rattle.generic_names.specs.Spelled.{Spelled}
 use Rattle.generic_names.specs.Covers.{is_generic}
-use Rattle.access_levels.specs.declared.levels.Level.TheVariants.{Read}
 
 -- A word names the operand that it spells; else the only one that it is the beginning of.
 abbrev pub is_spelling : List ℕ → Operand → Bool
@@ -50,18 +49,18 @@ named rows p w = first_or (position (is_spelling w) rows) (only_beginning rows p
 
 -- the row at a place of the table; past its end it stands for nothing
 abbrev pub no_operand : Operand
-no_operand = record { word = words.Name; kind = kinds.Flag; pair = 0 }
+no_operand = record { word = words.Name; kind = kinds.Flag }
 
 abbrev pub row_at : List Operand → ℕ → Operand
 row_at rows k = slice_index_or rows k no_operand
 
 -- Where the name of a data set profile may stand, a word that begins with a quote must be closed by another.
-abbrev pub takes_quotes : Kind → Bool
+abbrev pub takes_quotes : ValueKind → Bool
 takes_quotes kinds.DataSetProfile = true
 takes_quotes kinds.AnyProfile = true
 takes_quotes k = false
 
-abbrev pub bounded : Kind → ℕ → List ℕ → Result (List ℕ) Syntax
+abbrev pub bounded : ValueKind → ℕ → List ℕ → Result (List ℕ) Syntax
 bounded k p w = if takes_quotes k && is_unclosed w then Err (faults.Unclosed p) else clean Ignored p w
 
 -- The word in a positional place, which may stand in parentheses: its place, its bytes and the place of what stands
@@ -72,7 +71,7 @@ placed rows pos [] = Err (faults.Missing pos.word)
 placed rows pos (Word p w ∷ ts) =
     if opens_value ts && is_ok (named rows p (map upper w)) then Err (faults.Missing pos.word)
     else (bounded pos.kind p w >>= λ w. Ok ((p, w, None), ts))
-placed rows pos (Group tied p t ∷ ts) = held Ignored p (items (tokens t)) >>= λ h. Ok (h, ts)
+placed rows pos (Group tied p t ∷ ts) = held Ignored p (valued_words (tokens t)) >>= λ h. Ok (h, ts)
 placed rows pos (Open tied p place ∷ ts) = Err (faults.Unclosed place)
 placed rows pos (Close p ∷ ts) = Err (faults.BadValue p)
 
@@ -81,13 +80,13 @@ abbrev pub position_at : Scope → List Operand → Position → List Token → 
 position_at at rows pos ts = placed rows pos ts >>= λ x. one at pos.kind x.0.0 x.0.1 >>= λ v. unless_stray x.0.2 v >>= λ v. Ok (v, x.1)
 
 -- What a positional word tells of those behind it: the class, or the profile's name.
-abbrev pub known_behind : Known → Kind → Content → Known
+abbrev pub known_behind : Known → ValueKind → Content → Known
 known_behind known kinds.Class (contents.Id class) = record { class = Some class; profile = known.profile }
 known_behind known kinds.DataSetProfile (contents.Profile n) = record { class = known.class; profile = Some n }
 known_behind known kinds.ClassProfile (contents.Profile n) = record { class = known.class; profile = Some n }
 known_behind known k v = known
 
-abbrev pub behind : Scope → Kind → Content → Scope
+abbrev pub behind : Scope → ValueKind → Content → Scope
 behind at k v = record { issuer = at.issuer; known = known_behind at.known k v }
 
 -- all positional words, behind those of `front`; what they tell; and the tokens behind
@@ -110,44 +109,49 @@ abbrev pub slot_of : List Operand → Slots → ℕ → List ℕ → Result ℕ 
 slot_of rows slots p w = clean Ignored p w >>= λ w. named rows p (map upper w) >>= λ k. fresh rows slots k
 
 -- An operand: its row, and its value.
-abbrev pub operand_at : Scope → List Operand → Slots → Item → Result (ℕ × Content) Syntax
-operand_at at rows slots (Bare p w) = slot_of rows slots p w >>= λ k. bare at (row_at rows k).kind p >>= λ v. Ok (k, v)
-operand_at at rows slots (With p w t) = slot_of rows slots p w >>= λ k. value at (row_at rows k).kind p (items (tokens t)) >>= λ v. Ok (k, v)
-operand_at at rows slots (Unbounded p w place) = slot_of rows slots p w >>= λ k. Err (faults.Unclosed place)
-operand_at at rows slots (Odd p) = Err (faults.UnknownOperand p)
+abbrev pub operand_at : Scope → List Operand → Slots → ValuedWord → Result (ℕ × Content) Syntax
+operand_at at rows slots (Alone p w) = slot_of rows slots p w >>= λ k. bare at (row_at rows k).kind p >>= λ v. Ok (k, v)
+operand_at at rows slots (Valued p w t) = slot_of rows slots p w >>= λ k. value at (row_at rows k).kind p (valued_words (tokens t)) >>= λ v. Ok (k, v)
+operand_at at rows slots (Unclosed p w place) = slot_of rows slots p w >>= λ k. Err (faults.Unclosed place)
+operand_at at rows slots (Parenthesis p) = Err (faults.UnknownOperand p)
 
 -- The operands from the left.
-abbrev pub operands_at : Scope → List Operand → Slots → List Item → Result Slots Syntax
+abbrev pub operands_at : Scope → List Operand → Slots → List ValuedWord → Result Slots Syntax
 operands_at at rows slots [] = Ok slots
 operands_at at rows slots (i ∷ is) = operand_at at rows slots i >>= λ x. operands_at at rows (slice_set slots x.0 (Some x.1)) is
 
--- the rows that were given, in the order of the table
-abbrev pub given : List Operand → Slots → List Operand
-given [] [] = []
-given [] (s ∷ ss) = []
-given (o ∷ os) [] = []
-given (o ∷ os) (None ∷ ss) = given os ss
-given (o ∷ os) (Some v ∷ ss) = o ∷ given os ss
+-- The slot of the operand with this word.
+abbrev pub has_word : OperandWord → Operand → Bool
+has_word w o = same_word o.word w
 
--- two operands of one pair exclude one another
-abbrev pub excludes : Operand → Operand → Bool
-excludes o q = not (o.pair == 0) && o.pair == q.pair
+abbrev pub slot_at : Option ℕ → Slots → Option Content
+slot_at None slots = None
+slot_at (Some k) slots = slice_index_or slots k None
 
-abbrev pub or_then : {A : Type 0} → Option A → Option A → Option A
-or_then None r = r
-or_then (Some x) r = Some x
+abbrev pub slot_for : Verb → OperandWord → Slots → Option Content
+slot_for v w slots = slot_at (position (has_word w) (operands_of v)) slots
 
--- the first pair of operands that exclude one another, by the place of the first and then of the second
-abbrev pub clash : List Operand → Option (Operand × Operand)
-clash [] = None
-clash (o ∷ os) = or_then (option_map (λ q. (o, q)) (find (excludes o) os)) (clash os)
+abbrev pub stands : Verb → OperandWord → Slots → Bool
+stands v w slots = is_some (slot_for v w slots)
 
-abbrev pub unless_clash : Option (Operand × Operand) → Slots → Result Slots Syntax
+-- the slots where that one has another value
+abbrev pub set_at : Option ℕ → Option Content → Slots → Slots
+set_at None value slots = slots
+set_at (Some k) value slots = slice_set slots k value
+
+abbrev pub with_slot : Verb → OperandWord → Option Content → Slots → Slots
+with_slot v w value slots = set_at (position (has_word w) (operands_of v)) value slots
+
+-- the first pair of operands that stand and exclude one another
+abbrev pub clash : Verb → Slots → Option (OperandWord × OperandWord)
+clash v slots = find (λ (pair : OperandWord × OperandWord). stands v pair.0 slots && stands v pair.1 slots) (excluded_of v)
+
+abbrev pub unless_clash : Option (OperandWord × OperandWord) → Slots → Result Slots Syntax
 unless_clash None slots = Ok slots
-unless_clash (Some both) slots = Err (faults.Excluded both.0.word both.1.word)
+unless_clash (Some both) slots = Err (faults.Excluded both.0 both.1)
 
 -- GENERIC leaves nothing behind.
-abbrev pub is_generic_kind : Kind → Bool
+abbrev pub is_generic_kind : ValueKind → Bool
 is_generic_kind kinds.Generic = true
 is_generic_kind k = false
 
@@ -159,7 +163,7 @@ cleared None slots = slots
 cleared (Some k) slots = slice_set slots k None
 
 -- Whether the profile's name is judged when the whole text was read, by the class that an operand names: in PERMIT.
-abbrev pub is_late_kind : Kind → Bool
+abbrev pub is_late_kind : ValueKind → Bool
 is_late_kind kinds.AnyProfile = true
 is_late_kind k = false
 
@@ -167,15 +171,22 @@ abbrev pub is_late : List Position → Bool
 is_late [] = false
 is_late (pos ∷ more) = is_late_kind pos.kind
 
--- PERMIT's class is DATASET where none is named, and ID without ACCESS and DELETE means ACCESS(READ).
+-- whether PERMIT's operand with this word was given
+abbrev pub permits : OperandWord → Slots → Bool
+permits w slots = stands verbs.Permit w slots
+
+-- PERMIT's class has its default where none is named, and ACCESS where ID stands without ACCESS and DELETE.
+abbrev pub with_default : OperandWord → Slots → Slots
+with_default w slots = with_slot verbs.Permit w (default_of verbs.Permit w) slots
+
 abbrev pub with_class : Slots → Slots
-with_class slots = if is_given slots PERMIT_CLASS then slots else slice_set slots PERMIT_CLASS (Some (contents.Id (codes "DATASET")))
+with_class slots = if permits words.Class slots then slots else with_default words.Class slots
 
 abbrev pub means_read : Slots → Bool
-means_read slots = is_given slots PERMIT_ID && not (is_given slots PERMIT_ACCESS || is_given slots PERMIT_DELETE)
+means_read slots = permits words.Id slots && not (permits words.Access slots || permits words.Delete slots)
 
 abbrev pub with_access : Slots → Slots
-with_access slots = if means_read slots then slice_set slots PERMIT_ACCESS (Some (contents.Level Read)) else slots
+with_access slots = if means_read slots then with_default words.Access slots else slots
 
 -- the operands with the defaults that the canonical text writes
 abbrev pub completed : Verb → Slots → Slots
@@ -185,17 +196,17 @@ completed v slots =
 
 -- PERMIT needs ID or RESET, and ACCESS, DELETE and WHEN need ID.
 abbrev pub needs_id : Slots → Bool
-needs_id slots = is_given slots PERMIT_ACCESS || is_given slots PERMIT_DELETE || is_given slots PERMIT_WHEN
+needs_id slots = permits words.Access slots || permits words.Delete slots || permits words.When slots
 
 abbrev pub lacks_id : Slots → Bool
-lacks_id slots = not (is_given slots PERMIT_ID || (is_given slots PERMIT_RESET && not (needs_id slots)))
+lacks_id slots = not (permits words.Id slots || (permits words.Reset slots && not (needs_id slots)))
 
 abbrev pub missing : Verb → Slots → Bool
 missing v slots = is_late (positions_of v) && lacks_id slots
 
 -- What is judged when the whole text was read: the operands that lack, and then those that exclude one another.
 abbrev pub closed : Verb → Slots → Result Slots Syntax
-closed v slots = if missing v slots then Err (faults.Missing words.Id) else unless_clash (clash (given (operands_of v) (completed v slots))) (completed v slots)
+closed v slots = if missing v slots then Err (faults.Missing words.Id) else unless_clash (clash v (completed v slots)) (completed v slots)
 
 -- A command as the table sees it: its positional words, and a slot for each row of its operands.
 pub record Generic : Type 0 where
@@ -209,25 +220,28 @@ no_slots rows = replicate (length rows) None
 abbrev pub plain_at : Scope → Verb → List Token → Result Generic Syntax
 plain_at at v ts =
     positions_at at (operands_of v) (positions_of v) [] ts >>= λ x.
-    operands_at x.1 (operands_of v) (no_slots (operands_of v)) (items x.2) >>= λ slots.
+    operands_at x.1 (operands_of v) (no_slots (operands_of v)) (valued_words x.2) >>= λ slots.
     closed v slots >>= λ slots.
     Ok (record { verb = v; positions = x.0; slots = slots })
 
--- PERMIT: the class that was named, and GENERIC's place where it was given
+-- PERMIT: the class that was named or is its default, and GENERIC's place where it was given
+abbrev pub or_default : Option Content → Option Content → Option Content
+or_default None value = value
+or_default (Some v) value = Some v
+
 abbrev pub class_of_slot : Option Content → Option (List ℕ)
-class_of_slot None = Some (codes "DATASET")
 class_of_slot (Some (contents.Id class)) = Some class
-class_of_slot (Some v) = None
+class_of_slot s = None
 
 abbrev pub class_in : Slots → Option (List ℕ)
-class_in slots = class_of_slot (slice_index_or slots PERMIT_CLASS None)
+class_in slots = class_of_slot (or_default (slot_for verbs.Permit words.Class slots) (default_of verbs.Permit words.Class))
 
 abbrev pub mark_of_slot : Option Content → Option ℕ
 mark_of_slot (Some (contents.Generic p)) = Some p
 mark_of_slot s = None
 
 abbrev pub mark_in : Slots → Option ℕ
-mark_in slots = mark_of_slot (slice_index_or slots PERMIT_GENERIC None)
+mark_in slots = mark_of_slot (slot_for verbs.Permit words.Generic slots)
 
 abbrev pub unless_mark : Spelled → Option ℕ → Slots → Result Slots Syntax
 unless_mark n None slots = Ok slots
@@ -250,7 +264,7 @@ late_closed n v slots = unless_mark n (mark_in slots) slots >>= λ slots. closed
 abbrev pub late_at : Scope → Verb → List Token → Result Generic Syntax
 late_at at v ts =
     late_word (operands_of v) ts >>= λ x.
-    operands_at at (operands_of v) (no_slots (operands_of v)) (items x.2) >>= λ slots.
+    operands_at at (operands_of v) (no_slots (operands_of v)) (valued_words x.2) >>= λ slots.
     late_name at slots x.0 x.1 >>= λ n.
     late_closed n v slots >>= λ slots.
     Ok (record { verb = v; positions = contents.Profile n ∷ []; slots = slots })

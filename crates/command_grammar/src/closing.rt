@@ -1,79 +1,62 @@
 //! What is judged when the whole text was read: operands that lack, operands that exclude one another, and the defaults
 //! that the canonical text writes.
 
-ghost use Rattle.std.specs.Prelude.{◌≡◌, ◌<◌, length, find, slice_set, IfSome};
-ghost use Rattle.command_grammar.specs.Table.{positions_of, operands_of};
-ghost use Rattle.command_grammar.specs.Results.{Finds};
-ghost use Rattle.command_grammar.specs.Reading.{given, excludes, clash as clash_of, is_generic_kind as leaves_nothing, generic_place as place_of_generic, cleared as cleared_of, is_given as given_at, is_late_kind as is_judged_late, is_late as judges_late, with_class as class_filled, with_access as access_filled, completed, means_read as reads, needs_id as id_needed, lacks_id as id_lacks, closed as closed_of, class_in as named_class, mark_in as mark_of, late_closed as late_closed_of};
+ghost use Rattle.std.specs.Prelude.{◌≡◌, ◌<◌, None, length, position, slice_set, slice_index_or, IfSome, option_copied};
+ghost use Rattle.command_grammar.specs.Table.{positions_of};
+ghost use Rattle.command_values.specs.Results.{Finds};
+ghost use Rattle.command_grammar.specs.Reading.{has_word, slot_for as slot_of_word, stands as stands_in, with_slot, permits as permits_in, clash as clash_of, is_generic_kind as leaves_nothing, generic_place as place_of_generic, cleared as cleared_of, is_late_kind as is_judged_late, is_late as judges_late, with_class as class_filled, with_access as access_filled, completed, means_read as reads, needs_id as id_needed, lacks_id as id_lacks, closed as closed_of, class_in as named_class, mark_in as mark_of, late_closed as late_closed_of};
 
-use crate::faults::Syntax;
-use crate::profile_table::{
-    PERMIT_ACCESS, PERMIT_CLASS, PERMIT_DELETE, PERMIT_GENERIC, PERMIT_ID, PERMIT_RESET,
-    PERMIT_WHEN,
-};
-use crate::table::{Kind, Operand, Verb};
-use crate::values::Content;
-use crate::words::Word;
+use crate::table::{Operand, Verb};
 use access_levels::{Id, Level};
+use command_values::{Content, Syntax, ValueKind, Word, is_same};
 use generic_names::Pattern;
 use racf_profiles::FixedClass;
 
 /// Slots, one for each row of a command's operands.
 type Slots = Vec<Option<Content>>;
 
-// The first operand that was given and that this one excludes.
-fn partner(row: Operand, rows: &[Operand], slots: &[Option<Content>]) -> Option<Operand>
-    ensures { result ≡ find (excludes row) (given rows.now slots.now) }
+/// The place of the operand with this word.
+fn place_of(rows: &[Operand], word: Word) -> Option<usize>
+    ensures { result ≡ position (has_word word) rows.now }
 {
-    let (mut rows, mut slots) = (rows, slots);
-    while let (Some((other, more_rows)), Some((slot, more_slots))) = (
-        rows.split_first(),
-        slots.split_first(),
-    ) {
-        if slot.is_some() && row.pair != 0 && row.pair == other.pair {
-            return Some(*other);
-        }
-        rows = more_rows;
-        slots = more_slots;
-    }
-    None
+    rows.iter().position(|row| is_same(row.word, word))
 }
 
-// The first pair of operands that exclude one another.
-fn clash(rows: &[Operand], slots: &[Option<Content>]) -> Option<(Operand, Operand)>
-    ensures { result ≡ clash_of (given rows.now slots.now) }
+/// The value that stands at a place.
+fn slot_at(slots: &[Option<Content>], place: usize) -> Option<&Content>
+    ensures { option_copied result ≡ slice_index_or slots.now place None }
 {
-    let (mut rows, mut slots) = (rows, slots);
-    while let (Some((row, more_rows)), Some((slot, more_slots))) = (
-        rows.split_first(),
-        slots.split_first(),
-    ) {
-        if slot.is_some() {
-            if let Some(other) = partner(*row, more_rows, more_slots) {
-                return Some((*row, other));
-            }
-        }
-        rows = more_rows;
-        slots = more_slots;
-    }
-    None
+    slots.get(place)?.as_ref()
 }
 
-// Whether the operand at a place was given.
-fn is_given(slots: &[Option<Content>], place: usize) -> bool
-    ensures { result ≡ given_at slots.now place }
+/// The value of the operand with this word, if it was given.
+fn slot_for(verb: Verb, slots: &[Option<Content>], word: Word) -> Option<&Content>
+    ensures { option_copied result ≡ slot_of_word verb word slots.now }
 {
-    match slots.get(place) {
-        Some(slot) => slot.is_some(),
-        None => false,
-    }
+    let place = place_of(verb.operands(), word)?;
+    slot_at(slots, place)
 }
 
-fn is_generic_kind(kind: Kind) -> bool
+/// Whether the operand with this word was given.
+fn stands(verb: Verb, slots: &[Option<Content>], word: Word) -> bool
+    ensures { result ≡ stands_in verb word slots.now }
+{
+    slot_for(verb, slots, word).is_some()
+}
+
+/// The first pair of operands that exclude one another.
+fn clash(verb: Verb, slots: &[Option<Content>]) -> Option<(Word, Word)>
+    ensures { result ≡ clash_of verb slots.now }
+{
+    verb.excluded().iter().copied().find(|pair| stands(verb, slots, pair.0)
+        && stands(verb, slots, pair.1))
+}
+
+fn is_generic_kind(kind: ValueKind) -> bool
     ensures { result ≡ leaves_nothing kind }
 {
     match kind {
-        Kind::Generic => true,
+        ValueKind::Generic => true,
         _ => false,
     }
 }
@@ -85,7 +68,7 @@ fn generic_place(rows: &[Operand]) -> Option<usize>
     rows.iter().position(|row| is_generic_kind(row.kind))
 }
 
-// Puts a value into a slot, if there is that slot.
+/// Puts a value into a slot, if there is that slot.
 fn put(slots: &mut Slots, place: usize, content: Option<Content>)
     ensures { slots.new.items ≡ slice_set slots.old.items place content }
 {
@@ -94,7 +77,7 @@ fn put(slots: &mut Slots, place: usize, content: Option<Content>)
     }
 }
 
-// GENERIC leaves nothing behind.
+/// GENERIC leaves nothing behind.
 fn clear(rows: &[Operand], slots: &mut Slots)
     ensures { slots.new.items ≡ cleared_of (place_of_generic rows.now) slots.old.items }
 {
@@ -103,39 +86,56 @@ fn clear(rows: &[Operand], slots: &mut Slots)
     }
 }
 
-fn fill_class(slots: &mut Slots)
-    ensures { slots.new.items ≡ class_filled slots.old.items }
+/// Gives the operand with this word another value, if the command has that operand.
+fn set(verb: Verb, slots: &mut Slots, word: Word, content: Option<Content>)
+    ensures { slots.new.items ≡ with_slot verb word content slots.old.items }
 {
-    if !is_given(slots, PERMIT_CLASS) {
-        put(
-            slots,
-            PERMIT_CLASS,
-            Some(Content::Id(FixedClass::Dataset.id())),
-        );
+    if let Some(place) = place_of(verb.operands(), word) {
+        put(slots, place, content);
     }
 }
 
-// Whether ID stands without ACCESS and DELETE.
+/// Whether PERMIT's operand with this word was given.
+fn permits(slots: &[Option<Content>], word: Word) -> bool
+    ensures { result ≡ permits_in word slots.now }
+{
+    stands(Verb::Permit, slots, word)
+}
+
+fn fill_class(slots: &mut Slots)
+    ensures { slots.new.items ≡ class_filled slots.old.items }
+{
+    if !permits(slots, Word::Class) {
+        let class = Content::Id(FixedClass::Dataset.id());
+        set(Verb::Permit, slots, Word::Class, Some(class));
+    }
+}
+
+/// Whether ID stands without ACCESS and DELETE.
 fn means_read(slots: &[Option<Content>]) -> bool
     ensures { result ≡ reads slots.now }
 {
-    is_given(slots, PERMIT_ID)
-        && !(is_given(slots, PERMIT_ACCESS) || is_given(slots, PERMIT_DELETE))
+    permits(slots, Word::Id) && !(permits(slots, Word::Access) || permits(slots, Word::Delete))
 }
 
 fn fill_access(slots: &mut Slots)
     ensures { slots.new.items ≡ access_filled slots.old.items }
 {
     if means_read(slots) {
-        put(slots, PERMIT_ACCESS, Some(Content::Level(Level::Read)));
+        set(
+            Verb::Permit,
+            slots,
+            Word::Access,
+            Some(Content::Level(Level::Read)),
+        );
     }
 }
 
-fn is_late_kind(kind: Kind) -> bool
+fn is_late_kind(kind: ValueKind) -> bool
     ensures { result ≡ is_judged_late kind }
 {
     match kind {
-        Kind::AnyProfile => true,
+        ValueKind::AnyProfile => true,
         _ => false,
     }
 }
@@ -150,7 +150,7 @@ pub fn is_late(verb: Verb) -> bool
     }
 }
 
-// The operands with the defaults that are written, and without GENERIC.
+/// The operands with the defaults that are written, and without GENERIC.
 fn complete(verb: Verb, slots: &mut Slots)
     ensures { slots.new.items ≡ completed verb slots.old.items }
 {
@@ -161,17 +161,17 @@ fn complete(verb: Verb, slots: &mut Slots)
     }
 }
 
-// Whether ACCESS, DELETE or WHEN was given, which need ID.
+/// Whether ACCESS, DELETE or WHEN was given, which need ID.
 fn needs_id(slots: &[Option<Content>]) -> bool
     ensures { result ≡ id_needed slots.now }
 {
-    is_given(slots, PERMIT_ACCESS) || is_given(slots, PERMIT_DELETE) || is_given(slots, PERMIT_WHEN)
+    permits(slots, Word::Access) || permits(slots, Word::Delete) || permits(slots, Word::When)
 }
 
 fn lacks_id(slots: &[Option<Content>]) -> bool
     ensures { result ≡ id_lacks slots.now }
 {
-    !(is_given(slots, PERMIT_ID) || (is_given(slots, PERMIT_RESET) && !needs_id(slots)))
+    !(permits(slots, Word::Id) || (permits(slots, Word::Reset) && !needs_id(slots)))
 }
 
 /// The slots of a command whose whole text was read, with its defaults.
@@ -183,8 +183,8 @@ pub fn closed(verb: Verb, slots: Slots) -> Result<Slots, Syntax>
     }
     let mut slots = slots;
     complete(verb, &mut slots);
-    match clash(verb.operands(), &slots) {
-        Some((one, other)) => Err(Syntax::Excluded(one.word, other.word)),
+    match clash(verb, &slots) {
+        Some((one, other)) => Err(Syntax::Excluded(one, other)),
         None => Ok(slots),
     }
 }
@@ -193,19 +193,19 @@ pub fn closed(verb: Verb, slots: Slots) -> Result<Slots, Syntax>
 pub fn class_in(slots: &[Option<Content>]) -> Option<Id>
     ensures { result ≡ named_class slots.now }
 {
-    match slots.get(PERMIT_CLASS) {
-        Some(Some(Content::Id(class))) => Some(*class),
-        Some(Some(_)) => None,
-        _ => Some(FixedClass::Dataset.id()),
+    match slot_for(Verb::Permit, slots, Word::Class) {
+        Some(Content::Id(class)) => Some(*class),
+        Some(_) => None,
+        None => Some(FixedClass::Dataset.id()),
     }
 }
 
-// The place of GENERIC, where it was given.
+/// The place of GENERIC, where it was given.
 fn mark_in(slots: &[Option<Content>]) -> Option<u32>
     ensures { result ≡ mark_of slots.now }
 {
-    match slots.get(PERMIT_GENERIC) {
-        Some(Some(Content::Generic(place))) => Some(*place),
+    match slot_for(Verb::Permit, slots, Word::Generic) {
+        Some(Content::Generic(place)) => Some(*place),
         _ => None,
     }
 }

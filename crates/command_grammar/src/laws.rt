@@ -1,7 +1,7 @@
 //! Laws of the definitions. The functions do nothing: their contracts are what is proved.
 
 ghost use Rattle.std.specs.Prelude.{◌≡◌, ℕ, List, Ok, length, nat_lt, false};
-ghost use Rattle.command_grammar.specs.declared.values.Context.{Context};
+ghost use Rattle.command_values.specs.declared.values.Context.{Context};
 ghost use Rattle.command_grammar.specs.Reading.{Generic, parsed};
 ghost use Rattle.command_grammar.specs.Canon.{canon, spelled};
 ghost use Rattle.command_grammar.specs.Lawful.{IsLawful};

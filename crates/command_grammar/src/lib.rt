@@ -1,27 +1,27 @@
 //! The table of commands, and the reader and the printer that go by it: a text is read as a command's positional words
 //! and operands, and these are written as the canonical text.
+//!
+//! `Parts` is a command as the table sees it, with a value for each operand that was given. `Verb` has the rows of the table.
+//! The values are those of `command_values`, and `command_parser` makes of `Parts` a struct with named fields.
+//!
+//! ```text
+//! let parts = read(alloc, &Context { issuer: joe }, b"ALG PAYROLL OWN(MARY)")?;
+//! printed(alloc, &parts)?; // ALTGROUP PAYROLL OWNER(MARY)
+//! ```
 #![tactic(auto)]
 
-mod audits;
 mod closing;
-mod entries;
-mod faults;
 pub mod laws;
-mod members;
+mod operand_rows;
 mod operands;
 mod printing;
-mod profile_names;
 mod profile_table;
 mod reading;
 mod table;
-mod value;
-mod value_words;
-mod values;
-mod words;
 
-pub use faults::{ParseFault, Syntax};
 pub use printing::printed;
 pub use reading::{LONGEST, Parts, read};
-pub use table::{Kind, Operand, Position, Verb};
-pub use values::{Content, Context, Ids, Known, MemberNames, Reset, Scope, Whos};
-pub use words::Word;
+pub use table::{Operand, Position, Verb};
+
+#[cfg(test)]
+mod tests;

@@ -3,17 +3,14 @@
 ghost use Rattle.std.specs.Prelude.{◌≡◌, ◌+◌, ◌<◌, ◌^◌, length, map, position, count_by, replicate, None, IfOk, IfSome};
 ghost use Rattle.command_words.specs.Bytes.{upper};
 ghost use Rattle.command_words.specs.Tokens.{tokens};
-ghost use Rattle.command_words.specs.Items.{items, IsItemInReach};
-ghost use Rattle.command_words.specs.Pieces.{seen_item};
-ghost use Rattle.command_grammar.specs.Results.{Gives, Finds};
+ghost use Rattle.command_words.specs.ValuedWords.{valued_words, IsValuedInReach};
+ghost use Rattle.command_words.specs.Pieces.{seen_valued};
+ghost use Rattle.command_values.specs.Results.{Gives, Finds};
 ghost use Rattle.command_grammar.specs.Reading.{is_spelling, is_beginning, named as row_named, row_at, slot_of as fresh_row, operand_at, operands_at, no_slots as empty_slots};
 
-use crate::faults::{ParseFault, Syntax};
 use crate::table::Operand;
-use crate::value::{bare, value};
-use crate::value_words::clean;
-use crate::values::{Content, Scope};
-use command_words::{Item, Quoting, Tokens, is_cut, is_spelled};
+use command_values::{Content, ParseFault, Scope, Syntax, bare, clean, value};
+use command_words::{Quoting, Tokens, ValuedWord, is_cut, is_spelled};
 use std::alloc::{AllocError, Global};
 
 fn first_spelled(rows: &[Operand], word: &[u8]) -> Option<usize>
@@ -54,7 +51,7 @@ pub fn named(rows: &[Operand], place: u32, word: &[u8]) -> Result<usize, Syntax>
     first_begun(rows, word).ok_or(Syntax::UnknownOperand(place))
 }
 
-// The row at a place of the table.
+/// The row at a place of the table.
 fn row(rows: &[Operand], k: usize) -> Operand
     requires { k < length rows.now }
     ensures { result ≡ row_at rows.now k }
@@ -62,7 +59,7 @@ fn row(rows: &[Operand], k: usize) -> Operand
     rows[k]
 }
 
-// The row that the word at `place` names, if its operand wasn't given before.
+/// The row that the word at `place` names, if its operand wasn't given before.
 fn slot_of(
     rows: &[Operand],
     slots: &[Option<Content>],
@@ -82,37 +79,37 @@ fn slot_of(
     Ok(k)
 }
 
-// An operand: its row and its value.
+/// An operand: its row and its value.
 fn operand(
     alloc: Global,
     at: &Scope,
     rows: &[Operand],
     slots: &[Option<Content>],
-    item: Item<'_>,
+    item: ValuedWord<'_>,
 ) -> Result<(usize, Content), ParseFault>
-    requires reach { IsItemInReach (seen_item item) }
+    requires reach { IsValuedInReach (seen_valued item) }
     requires same { length slots.now ≡ length rows.now }
-    ensures value { Gives (λ x. (x.0, x.1)) result (operand_at at.now rows.now slots.now (seen_item item.entry)) }
+    ensures value { Gives (λ x. (x.0, x.1)) result (operand_at at.now rows.now slots.now (seen_valued item.entry)) }
     ensures within { IfOk result (λ x. x.0 < length rows.now) }
 {
     match item {
-        Item::Bare(place, word) => {
+        ValuedWord::Alone(place, word) => {
             let k = slot_of(rows, slots, place, word)?;
             Ok((k, bare(at, row(rows, k).kind, place)?))
         }
-        Item::With(place, word, inner) => {
+        ValuedWord::Valued(place, word, inner) => {
             let k = slot_of(rows, slots, place, word)?;
             Ok((k, value(alloc, at, row(rows, k).kind, place, inner)?))
         }
-        Item::Unbounded(place, word, open) => {
+        ValuedWord::Unclosed(place, word, open) => {
             slot_of(rows, slots, place, word)?;
             Err(ParseFault::Syntax(Syntax::Unclosed(open)))
         }
-        Item::Odd(place) => Err(ParseFault::Syntax(Syntax::UnknownOperand(place))),
+        ValuedWord::Parenthesis(place) => Err(ParseFault::Syntax(Syntax::UnknownOperand(place))),
     }
 }
 
-// A slot for each row, all empty.
+/// A slot for each row, all empty.
 fn no_slots(alloc: Global, rows: &[Operand]) -> Result<Vec<Option<Content>>, AllocError>
     ensures { IfOk result (λ slots. slots.items ≡ empty_slots rows.now) }
 {
@@ -130,12 +127,12 @@ pub fn operands(
     rows: &[Operand],
     text: Tokens<'_>,
 ) -> Result<Vec<Option<Content>>, ParseFault>
-    ensures value { Gives (λ slots. slots.items) result (operands_at at.now rows.now (empty_slots rows.now) (items (tokens text.entry))) }
+    ensures value { Gives (λ slots. slots.items) result (operands_at at.now rows.now (empty_slots rows.now) (valued_words (tokens text.entry))) }
     ensures length { IfOk result (λ slots. length slots.items ≡ length rows.now) }
 {
     let mut slots = no_slots(alloc, rows)?;
     let mut left = text;
-    while let Some((item, rest)) = left.split_item() {
+    while let Some((item, rest)) = left.split_valued() {
         let (k, content) = operand(alloc, at, rows, &slots, item)?;
         slots[k] = Some(content);
         left = rest;

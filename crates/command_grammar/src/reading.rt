@@ -4,19 +4,17 @@ ghost use Rattle.std.specs.Prelude.{◌≡◌, ◌+◌, ◌<◌, ◌≤◌, ◌^
 ghost use Rattle.command_words.specs.Bytes.{upper};
 ghost use Rattle.command_words.specs.Tokens.{tokens, of_command, of_naming_command};
 ghost use Rattle.command_grammar.specs.Table.{verb_named as verb_called, positions_of};
-ghost use Rattle.command_grammar.specs.Results.{Gives, Finds};
+ghost use Rattle.command_values.specs.Results.{Gives, Finds};
 ghost use Rattle.command_grammar.specs.Reading.{takes_quotes as may_be_quoted, bounded as bounded_in, placed as placed_in, position_at, behind as scope_behind, positions_at, late_word as late_word_in, late_name as late_name_in, plain_at, late_at, body_at, begins_with_name as may_begin_quoted, behind_first as rest_behind, begun as scope_begun, command_at, parsed};
 ghost use Rattle.command_grammar.specs.Parts.{generic};
 
 use crate::closing::{class_in, closed, is_late, late_closed};
-use crate::faults::{ParseFault, Syntax};
 use crate::operands::{named, operands};
-use crate::profile_names::{any_named, is_unclosed};
-use crate::table::{Kind, Operand, Position, VERBS, Verb};
-use crate::value::one;
-use crate::value_words::{clean, held, unless_stray};
-use crate::values::{Content, Context, Known, Scope};
-use crate::words::Word;
+use crate::table::{Operand, Position, VERBS, Verb};
+use command_values::{
+    Content, Context, Known, ParseFault, Scope, Syntax, ValueKind, Word, any_named, clean, held,
+    is_unclosed, one, unless_stray,
+};
 use command_words::{Piece, Quoting, Tokens, is_spelled};
 use generic_names::Pattern;
 use std::alloc::Global;
@@ -34,7 +32,7 @@ pub struct Parts {
     pub slots: Vec<Option<Content>>,
 }
 
-// The command that a word names.
+/// The command that a word names.
 fn verb_named(word: &[u8]) -> Option<Verb>
     ensures { result ≡ verb_called (map upper word.now) }
 {
@@ -42,8 +40,8 @@ fn verb_named(word: &[u8]) -> Option<Verb>
         || is_spelled(word, verb.short_name()))
 }
 
-// The word in a positional place, unless quotes open it that nothing closes.
-fn bounded<'a>(kind: Kind, place: u32, word: &'a [u8]) -> Result<&'a [u8], Syntax>
+/// The word in a positional place, unless quotes open it that nothing closes.
+fn bounded<'a>(kind: ValueKind, place: u32, word: &'a [u8]) -> Result<&'a [u8], Syntax>
     requires { place + length word.now < 2 ^ 30 }
     ensures { Finds (λ x. x.now) result (bounded_in kind place word.now) }
 {
@@ -53,13 +51,13 @@ fn bounded<'a>(kind: Kind, place: u32, word: &'a [u8]) -> Result<&'a [u8], Synta
     clean(Quoting::Ignored, place, word)
 }
 
-// Whether a word of this kind may be a name in quotes.
-fn takes_quotes(kind: Kind) -> bool
+/// Whether a word of this kind may be a name in quotes.
+fn takes_quotes(kind: ValueKind) -> bool
     ensures { result ≡ may_be_quoted kind }
 {
     match kind {
-        Kind::DataSetProfile => true,
-        Kind::AnyProfile => true,
+        ValueKind::DataSetProfile => true,
+        ValueKind::AnyProfile => true,
         _ => false,
     }
 }
@@ -67,7 +65,7 @@ fn takes_quotes(kind: Kind) -> bool
 /// A word in a positional place: its place, its bytes, and the place of what stands behind it in its parentheses.
 type Held<'a> = (u32, &'a [u8], Option<u32>);
 
-// The word in a positional place, and the text behind it.
+/// The word in a positional place, and the text behind it.
 fn placed<'a>(
     rows: &[Operand],
     wanted: Position,
@@ -92,7 +90,7 @@ fn placed<'a>(
     }
 }
 
-// A positional word's value, and the text behind it.
+/// A positional word's value, and the text behind it.
 fn position<'a>(
     alloc: Global,
     at: &Scope,
@@ -107,20 +105,20 @@ fn position<'a>(
     Ok((unless_stray(stray, content)?, rest))
 }
 
-// What is known behind a positional word.
-fn behind(at: &Scope, kind: Kind, content: &Content) -> Scope
+/// What is known behind a positional word.
+fn behind(at: &Scope, kind: ValueKind, content: &Content) -> Scope
     ensures { result ≡ scope_behind at.now kind content.now }
 {
     let known = match (kind, content) {
-        (Kind::Class, Content::Id(class)) => Known {
+        (ValueKind::Class, Content::Id(class)) => Known {
             class: Some(*class),
             profile: at.known.profile,
         },
-        (Kind::DataSetProfile, Content::Profile(name)) => Known {
+        (ValueKind::DataSetProfile, Content::Profile(name)) => Known {
             class: at.known.class,
             profile: Some(*name),
         },
-        (Kind::ClassProfile, Content::Profile(name)) => Known {
+        (ValueKind::ClassProfile, Content::Profile(name)) => Known {
             class: at.known.class,
             profile: Some(*name),
         },
@@ -132,7 +130,7 @@ fn behind(at: &Scope, kind: Kind, content: &Content) -> Scope
     }
 }
 
-// All positional words, what they tell, and the text behind them.
+/// All positional words, what they tell, and the text behind them.
 fn positions<'a>(
     alloc: Global,
     at: Scope,
@@ -154,7 +152,7 @@ fn positions<'a>(
     Ok((found, scope, left))
 }
 
-// What follows the command's name, where the name is judged at once.
+/// What follows the command's name, where the name is judged at once.
 fn plain(alloc: Global, at: Scope, verb: Verb, text: Tokens<'_>) -> Result<Parts, ParseFault>
     ensures { Gives generic result (plain_at at verb (tokens text.entry)) }
 {
@@ -169,19 +167,19 @@ fn plain(alloc: Global, at: Scope, verb: Verb, text: Tokens<'_>) -> Result<Parts
     })
 }
 
-// The word of a profile's name that is judged later, with its place, and the text behind it.
+/// The word of a profile's name that is judged later, with its place, and the text behind it.
 fn late_word<'a>(rows: &[Operand], text: &Tokens<'a>) -> Result<(u32, &'a [u8], Tokens<'a>), Syntax>
     ensures { Finds (λ x. (x.0, x.1.now, tokens x.2)) result (late_word_in rows.now (tokens text.now)) }
 {
     let wanted = Position {
         word: Word::Profile,
-        kind: Kind::AnyProfile,
+        kind: ValueKind::AnyProfile,
     };
     let ((place, word, stray), rest) = placed(rows, wanted, text)?;
     unless_stray(stray, (place, word, rest))
 }
 
-// The profile of the class that the operands name.
+/// The profile of the class that the operands name.
 fn late_name(
     alloc: Global,
     at: &Scope,
@@ -196,7 +194,7 @@ fn late_name(
     Ok(name.ok_or(Syntax::BadValue(place))?)
 }
 
-// What follows the command's name, where the profile's name is judged when the whole text was read.
+/// What follows the command's name, where the profile's name is judged when the whole text was read.
 fn late(alloc: Global, at: Scope, verb: Verb, text: Tokens<'_>) -> Result<Parts, ParseFault>
     ensures { Gives generic result (late_at at verb (tokens text.entry)) }
 {
@@ -214,7 +212,7 @@ fn late(alloc: Global, at: Scope, verb: Verb, text: Tokens<'_>) -> Result<Parts,
     })
 }
 
-// What follows the command's name.
+/// What follows the command's name.
 fn body(alloc: Global, at: Scope, verb: Verb, text: Tokens<'_>) -> Result<Parts, ParseFault>
     ensures { Gives generic result (body_at at verb (tokens text.entry)) }
 {
@@ -225,7 +223,7 @@ fn body(alloc: Global, at: Scope, verb: Verb, text: Tokens<'_>) -> Result<Parts,
     }
 }
 
-// Whether the first positional word of a command may be a name in quotes.
+/// Whether the first positional word of a command may be a name in quotes.
 fn begins_with_name(verb: Verb) -> bool
     ensures { result ≡ may_begin_quoted (positions_of verb) }
 {
@@ -235,7 +233,7 @@ fn begins_with_name(verb: Verb) -> bool
     }
 }
 
-// The text behind the first word, where the second may be a name in quotes.
+/// The text behind the first word, where the second may be a name in quotes.
 fn behind_first(text: &[u8]) -> Tokens<'_>
     requires { length text.now ≤ 30000 }
     ensures { tokens result ≡ rest_behind (tokens (of_naming_command text.now)) }
@@ -247,7 +245,7 @@ fn behind_first(text: &[u8]) -> Tokens<'_>
     }
 }
 
-// The text behind the command's name, which `rest` is where no word in quotes may follow.
+/// The text behind the command's name, which `rest` is where no word in quotes may follow.
 fn behind_verb<'a>(verb: Verb, text: &'a [u8], rest: Tokens<'a>) -> Tokens<'a>
     requires { length text.now ≤ 30000 }
     ensures { tokens result ≡ (if may_begin_quoted (positions_of verb) then rest_behind (tokens (of_naming_command text.now)) else tokens rest.entry) }
@@ -259,7 +257,7 @@ fn behind_verb<'a>(verb: Verb, text: &'a [u8], rest: Tokens<'a>) -> Tokens<'a>
     }
 }
 
-// At the beginning nothing but the issuer is known.
+/// At the beginning nothing but the issuer is known.
 fn begun(at: &Context) -> Scope
     ensures { result ≡ scope_begun at.now }
 {

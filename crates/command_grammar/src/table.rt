@@ -6,11 +6,17 @@
 
 ghost use Rattle.std.specs.Prelude.{◌≡◌};
 
-use crate::profile_table::{
-    ADDSD_OPERANDS, ALTDSD_OPERANDS, CLASS_POSITIONS, DATASET_POSITION, DELDSD_OPERANDS,
-    PERMIT_OPERANDS, PERMIT_POSITION, RALTER_OPERANDS, RDEFINE_OPERANDS,
+use crate::operand_rows::{
+    ADDCATEGORY, AUDITOR, AUTHORITY, CLAUTH, DELCATEGORY, DFLTGRP, GROUP, NAME, NOAUDITOR,
+    NOCLAUTH, NOOPERATIONS, NORESTRICTED, NOSECLABEL, NOSECLEVEL, NOSPECIAL, NOUAUDIT, OPERATIONS,
+    OWNER, RESTRICTED, RESUME, REVOKE, SECLABEL, SECLEVEL, SPECIAL, SUPGROUP, UAUDIT,
 };
-use crate::words::Word;
+use crate::profile_table::{
+    ADDSD_EXCLUDED, ADDSD_OPERANDS, ALTDSD_EXCLUDED, ALTDSD_OPERANDS, CLASS_POSITIONS,
+    DATASET_POSITION, DELDSD_OPERANDS, PERMIT_EXCLUDED, PERMIT_OPERANDS, PERMIT_POSITION,
+    RALTER_EXCLUDED, RALTER_OPERANDS, RDEFINE_EXCLUDED, RDEFINE_OPERANDS,
+};
+use command_values::{ValueKind, Word};
 
 /// The commands.
 #[derive(Clone, Copy, Debug, PartialEq, Eq)]
@@ -51,370 +57,132 @@ pub const VERBS: [Verb; 15] = [
     Verb::Permit,
 ];
 
-/// What a positional word or an operand's value is.
-#[derive(Clone, Copy, Debug, PartialEq, Eq)]
-pub enum Kind {
-    /// No value.
-    Flag,
-    /// One name with an ID's spelling.
-    Id,
-    /// One name with a group name's spelling.
-    Group,
-    /// A group authority.
-    Authority,
-    /// The text of a user's name, in quotes: 1 to 20 bytes from X'20' to X'7E', in which a quote is written twice.
-    Name,
-    /// One or more names with an ID's spelling.
-    Ids,
-    /// One or more classes other than DATASET, or the word USER.
-    Classes,
-    /// An access level.
-    Level,
-    /// What is logged: ALL, SUCCESS, FAILURES or NONE, with levels.
-    Audit,
-    /// The name of a class, whether or not the table has it.
-    Class,
-    /// The name of a data set profile.
-    DataSetProfile,
-    /// The name of a profile of the class in front.
-    ClassProfile,
-    /// The name of a profile, judged by its class when the whole text was read.
-    AnyProfile,
-    /// Which access lists are emptied: ALL, STANDARD or WHEN; ALL where none is given.
-    Reset,
-    /// Users and groups, or `*` alone.
-    Whos,
-    /// A port of entry.
-    When,
-    /// Members to be added to a profile of GLOBAL or SECDATA.
-    AddedMembers,
-    /// Names of members to be taken away.
-    DroppedMembers,
-    /// No value, and a generic name as the profile's. It leaves no trace in the command.
-    Generic,
-}
-
 /// A positional word: the word that a refusal names it by, and what it is.
 #[derive(Clone, Copy, Debug, PartialEq, Eq)]
 pub struct Position {
     pub word: Word,
-    pub kind: Kind,
+    pub kind: ValueKind,
 }
 
-/// An operand. Two operands of one command with the same pair number, other than 0, exclude one another.
+/// An operand: its word, and the kind of its value.
 #[derive(Clone, Copy, Debug, PartialEq, Eq)]
 pub struct Operand {
     pub word: Word,
-    pub kind: Kind,
-    pub pair: u8,
+    pub kind: ValueKind,
 }
 
 /// The positional word of a command that names a user.
 pub const USER_POSITION: [Position; 1] = [Position {
     word: Word::User,
-    kind: Kind::Id,
+    kind: ValueKind::Id,
 }];
 
 /// The positional word of a command that names a group.
 pub const GROUP_POSITION: [Position; 1] = [Position {
     word: Word::Group,
-    kind: Kind::Group,
+    kind: ValueKind::Group,
 }];
 
 /// The operands of ADDUSER.
 pub const ADDUSER_OPERANDS: [Operand; 16] = [
-    Operand {
-        word: Word::Name,
-        kind: Kind::Name,
-        pair: 0,
-    },
-    Operand {
-        word: Word::Dfltgrp,
-        kind: Kind::Group,
-        pair: 0,
-    },
-    Operand {
-        word: Word::Owner,
-        kind: Kind::Id,
-        pair: 0,
-    },
-    Operand {
-        word: Word::Authority,
-        kind: Kind::Authority,
-        pair: 0,
-    },
-    Operand {
-        word: Word::Special,
-        kind: Kind::Flag,
-        pair: 1,
-    },
-    Operand {
-        word: Word::Nospecial,
-        kind: Kind::Flag,
-        pair: 1,
-    },
-    Operand {
-        word: Word::Operations,
-        kind: Kind::Flag,
-        pair: 2,
-    },
-    Operand {
-        word: Word::Nooperations,
-        kind: Kind::Flag,
-        pair: 2,
-    },
-    Operand {
-        word: Word::Auditor,
-        kind: Kind::Flag,
-        pair: 3,
-    },
-    Operand {
-        word: Word::Noauditor,
-        kind: Kind::Flag,
-        pair: 3,
-    },
-    Operand {
-        word: Word::Restricted,
-        kind: Kind::Flag,
-        pair: 4,
-    },
-    Operand {
-        word: Word::Norestricted,
-        kind: Kind::Flag,
-        pair: 4,
-    },
-    Operand {
-        word: Word::Clauth,
-        kind: Kind::Classes,
-        pair: 0,
-    },
-    Operand {
-        word: Word::Seclevel,
-        kind: Kind::Id,
-        pair: 0,
-    },
-    Operand {
-        word: Word::Addcategory,
-        kind: Kind::Ids,
-        pair: 0,
-    },
-    Operand {
-        word: Word::Seclabel,
-        kind: Kind::Id,
-        pair: 0,
-    },
+    NAME,
+    DFLTGRP,
+    OWNER,
+    AUTHORITY,
+    SPECIAL,
+    NOSPECIAL,
+    OPERATIONS,
+    NOOPERATIONS,
+    AUDITOR,
+    NOAUDITOR,
+    RESTRICTED,
+    NORESTRICTED,
+    CLAUTH,
+    SECLEVEL,
+    ADDCATEGORY,
+    SECLABEL,
+];
+
+/// The operands of ADDUSER that exclude one another.
+pub const ADDUSER_EXCLUDED: [(Word, Word); 4] = [
+    (Word::Special, Word::Nospecial),
+    (Word::Operations, Word::Nooperations),
+    (Word::Auditor, Word::Noauditor),
+    (Word::Restricted, Word::Norestricted),
 ];
 
 /// The operands of ALTUSER.
 pub const ALTUSER_OPERANDS: [Operand; 23] = [
-    Operand {
-        word: Word::Name,
-        kind: Kind::Name,
-        pair: 0,
-    },
-    Operand {
-        word: Word::Dfltgrp,
-        kind: Kind::Group,
-        pair: 0,
-    },
-    Operand {
-        word: Word::Owner,
-        kind: Kind::Id,
-        pair: 0,
-    },
-    Operand {
-        word: Word::Special,
-        kind: Kind::Flag,
-        pair: 1,
-    },
-    Operand {
-        word: Word::Nospecial,
-        kind: Kind::Flag,
-        pair: 1,
-    },
-    Operand {
-        word: Word::Operations,
-        kind: Kind::Flag,
-        pair: 2,
-    },
-    Operand {
-        word: Word::Nooperations,
-        kind: Kind::Flag,
-        pair: 2,
-    },
-    Operand {
-        word: Word::Auditor,
-        kind: Kind::Flag,
-        pair: 3,
-    },
-    Operand {
-        word: Word::Noauditor,
-        kind: Kind::Flag,
-        pair: 3,
-    },
-    Operand {
-        word: Word::Restricted,
-        kind: Kind::Flag,
-        pair: 4,
-    },
-    Operand {
-        word: Word::Norestricted,
-        kind: Kind::Flag,
-        pair: 4,
-    },
-    Operand {
-        word: Word::Uaudit,
-        kind: Kind::Flag,
-        pair: 5,
-    },
-    Operand {
-        word: Word::Nouaudit,
-        kind: Kind::Flag,
-        pair: 5,
-    },
-    Operand {
-        word: Word::Revoke,
-        kind: Kind::Flag,
-        pair: 6,
-    },
-    Operand {
-        word: Word::Resume,
-        kind: Kind::Flag,
-        pair: 6,
-    },
-    Operand {
-        word: Word::Clauth,
-        kind: Kind::Classes,
-        pair: 0,
-    },
-    Operand {
-        word: Word::Noclauth,
-        kind: Kind::Classes,
-        pair: 0,
-    },
-    Operand {
-        word: Word::Seclevel,
-        kind: Kind::Id,
-        pair: 7,
-    },
-    Operand {
-        word: Word::Noseclevel,
-        kind: Kind::Flag,
-        pair: 7,
-    },
-    Operand {
-        word: Word::Addcategory,
-        kind: Kind::Ids,
-        pair: 0,
-    },
-    Operand {
-        word: Word::Delcategory,
-        kind: Kind::Ids,
-        pair: 0,
-    },
-    Operand {
-        word: Word::Seclabel,
-        kind: Kind::Id,
-        pair: 8,
-    },
-    Operand {
-        word: Word::Noseclabel,
-        kind: Kind::Flag,
-        pair: 8,
-    },
+    NAME,
+    DFLTGRP,
+    OWNER,
+    SPECIAL,
+    NOSPECIAL,
+    OPERATIONS,
+    NOOPERATIONS,
+    AUDITOR,
+    NOAUDITOR,
+    RESTRICTED,
+    NORESTRICTED,
+    UAUDIT,
+    NOUAUDIT,
+    REVOKE,
+    RESUME,
+    CLAUTH,
+    NOCLAUTH,
+    SECLEVEL,
+    NOSECLEVEL,
+    ADDCATEGORY,
+    DELCATEGORY,
+    SECLABEL,
+    NOSECLABEL,
+];
+
+/// The operands of ALTUSER that exclude one another.
+pub const ALTUSER_EXCLUDED: [(Word, Word); 8] = [
+    (Word::Special, Word::Nospecial),
+    (Word::Operations, Word::Nooperations),
+    (Word::Auditor, Word::Noauditor),
+    (Word::Restricted, Word::Norestricted),
+    (Word::Uaudit, Word::Nouaudit),
+    (Word::Revoke, Word::Resume),
+    (Word::Seclevel, Word::Noseclevel),
+    (Word::Seclabel, Word::Noseclabel),
 ];
 
 /// The operands of ADDGROUP.
-pub const ADDGROUP_OPERANDS: [Operand; 2] = [
-    Operand {
-        word: Word::Supgroup,
-        kind: Kind::Group,
-        pair: 0,
-    },
-    Operand {
-        word: Word::Owner,
-        kind: Kind::Id,
-        pair: 0,
-    },
-];
+pub const ADDGROUP_OPERANDS: [Operand; 2] = [SUPGROUP, OWNER];
 
 /// The operands of ALTGROUP.
-pub const ALTGROUP_OPERANDS: [Operand; 2] = [
-    Operand {
-        word: Word::Supgroup,
-        kind: Kind::Group,
-        pair: 0,
-    },
-    Operand {
-        word: Word::Owner,
-        kind: Kind::Id,
-        pair: 0,
-    },
-];
+pub const ALTGROUP_OPERANDS: [Operand; 2] = [SUPGROUP, OWNER];
 
 /// The operands of CONNECT.
 pub const CONNECT_OPERANDS: [Operand; 10] = [
-    Operand {
-        word: Word::Group,
-        kind: Kind::Group,
-        pair: 0,
-    },
-    Operand {
-        word: Word::Authority,
-        kind: Kind::Authority,
-        pair: 0,
-    },
-    Operand {
-        word: Word::Special,
-        kind: Kind::Flag,
-        pair: 1,
-    },
-    Operand {
-        word: Word::Nospecial,
-        kind: Kind::Flag,
-        pair: 1,
-    },
-    Operand {
-        word: Word::Operations,
-        kind: Kind::Flag,
-        pair: 2,
-    },
-    Operand {
-        word: Word::Nooperations,
-        kind: Kind::Flag,
-        pair: 2,
-    },
-    Operand {
-        word: Word::Auditor,
-        kind: Kind::Flag,
-        pair: 3,
-    },
-    Operand {
-        word: Word::Noauditor,
-        kind: Kind::Flag,
-        pair: 3,
-    },
-    Operand {
-        word: Word::Revoke,
-        kind: Kind::Flag,
-        pair: 4,
-    },
-    Operand {
-        word: Word::Resume,
-        kind: Kind::Flag,
-        pair: 4,
-    },
+    GROUP,
+    AUTHORITY,
+    SPECIAL,
+    NOSPECIAL,
+    OPERATIONS,
+    NOOPERATIONS,
+    AUDITOR,
+    NOAUDITOR,
+    REVOKE,
+    RESUME,
+];
+
+/// The operands of CONNECT that exclude one another.
+pub const CONNECT_EXCLUDED: [(Word, Word); 4] = [
+    (Word::Special, Word::Nospecial),
+    (Word::Operations, Word::Nooperations),
+    (Word::Auditor, Word::Noauditor),
+    (Word::Revoke, Word::Resume),
 ];
 
 /// The operands of REMOVE.
-pub const REMOVE_OPERANDS: [Operand; 1] = [Operand {
-    word: Word::Group,
-    kind: Kind::Group,
-    pair: 0,
-}];
+pub const REMOVE_OPERANDS: [Operand; 1] = [GROUP];
 
 impl Verb {
-    ghost use Rattle.command_grammar.specs.Table.{full_name, short_name, positions_of, operands_of};
+    ghost use Rattle.command_grammar.specs.Table.{full_name, short_name, positions_of, operands_of, excluded_of};
 
     /// The command's full name.
     pub fn full_name(self) -> &'static [u8]
@@ -505,6 +273,29 @@ impl Verb {
             Verb::RAlter => &RALTER_OPERANDS,
             Verb::RDelete => &[],
             Verb::Permit => &PERMIT_OPERANDS,
+        }
+    }
+
+    /// The pairs of the command's operands that exclude one another, in the order in which they are judged.
+    pub fn excluded(self) -> &'static [(Word, Word)]
+        ensures { result.now ≡ excluded_of self }
+    {
+        match self {
+            Verb::AddUser => &ADDUSER_EXCLUDED,
+            Verb::AltUser => &ALTUSER_EXCLUDED,
+            Verb::DelUser => &[],
+            Verb::AddGroup => &[],
+            Verb::AltGroup => &[],
+            Verb::DelGroup => &[],
+            Verb::Connect => &CONNECT_EXCLUDED,
+            Verb::Remove => &[],
+            Verb::AddSd => &ADDSD_EXCLUDED,
+            Verb::AltSd => &ALTDSD_EXCLUDED,
+            Verb::DelSd => &[],
+            Verb::RDefine => &RDEFINE_EXCLUDED,
+            Verb::RAlter => &RALTER_EXCLUDED,
+            Verb::RDelete => &[],
+            Verb::Permit => &PERMIT_EXCLUDED,
         }
     }
 }

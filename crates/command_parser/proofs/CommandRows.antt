@@ -1,14 +1,19 @@
 -- Texts of commands, and their canonical text or the first fault.
-use Rattle.std.proofs.Common.{◌≡◌, ℕ, List, Result, Ok, Err, refl}
+use Rattle.std.proofs.Common.{◌≡◌, ℕ, List, None, Some, Result, Ok, Err, refl}
 use Rattle.std.specs.Prelude.{codes}
 use Rattle.command_words.specs.Tokens.{tokens}
-use Rattle.command_grammar.specs.declared.faults.Syntax.{Syntax}
-use Rattle.command_grammar.specs.declared.faults.Syntax.TheVariants.{UnknownCommand, UnknownOperand, AmbiguousOperand, Missing, Repeated, Excluded, BadValue, Unclosed}
-use Rattle.command_grammar.specs.declared.words.Word.TheVariants as words
-use Rattle.command_grammar.specs.Results.{◌>>=◌}
+use Rattle.command_values.specs.declared.faults.Syntax.{Syntax}
+use Rattle.command_values.specs.declared.faults.Syntax.TheVariants.{UnknownCommand, UnknownOperand, AmbiguousOperand, Missing, Repeated, Excluded, BadValue, Unclosed}
+use Rattle.command_values.specs.declared.operand_words.Word.TheVariants as words
+use Rattle.command_values.specs.Results.{◌>>=◌}
 use Rattle.command_grammar.specs.Reading.{parsed}
-use Rattle.command_grammar.specs.declared.values.Context.{Context}
+use Rattle.command_values.specs.declared.values.Context.{Context}
 use Rattle.command_grammar.specs.Canon.{canon, spelled}
+use Rattle.command_parser.specs.declared.fields.CommandFields.{CommandFields}
+use Rattle.command_parser.specs.declared.fields.CommandFields.TheVariants as command
+use Rattle.command_parser.specs.Forms.{canonical}
+use Rattle.command_parser.specs.Fields.{front, behind}
+use Rattle.command_parser.specs.FormOf.{form_of, command_in}
 
 by_joe : Context
 by_joe = record { issuer = codes "JOE" }
@@ -87,3 +92,23 @@ open-quote = refl
 open-parenthesis : written (codes "ALU JOE NAME('x'") ≡ Err (Unclosed 13)
 unfolding tokens parsed canon
 open-parenthesis = refl
+
+-- OWNER and SUPGROUP fill the fields of their names, and are written in the order of the table
+altered : List ℕ → List ℕ → CommandFields
+altered superior owner = command.AltGroup (record { group = codes "G"; supgroup = Some superior; owner = Some owner })
+
+superior-then-owner : command_in (codes "JOE") (codes "ALG G SUPGROUP(A) OWNER(B)") ≡ Some (altered (codes "A") (codes "B"))
+unfolding tokens parsed canon form_of front behind altered
+superior-then-owner = refl
+
+owner-then-superior : command_in (codes "JOE") (codes "ALG G OWNER(B) SUPGROUP(A)") ≡ Some (altered (codes "A") (codes "B"))
+unfolding tokens parsed canon form_of front behind altered
+owner-then-superior = refl
+
+owner-is-owner : command_in (codes "JOE") (codes "ALG G OWNER(A)") ≡ Some (command.AltGroup (record { group = codes "G"; supgroup = None; owner = Some (codes "A") }))
+unfolding tokens parsed canon form_of front behind
+owner-is-owner = refl
+
+superior-written-first : canonical (altered (codes "A") (codes "B")) ≡ codes "ALTGROUP G SUPGROUP(A) OWNER(B)"
+unfolding canonical altered
+superior-written-first = refl

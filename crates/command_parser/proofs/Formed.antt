@@ -12,115 +12,115 @@ use Rattle.racf_profiles.specs.declared.profiles.AuditRule.{AuditRule}
 use Rattle.racf_profiles.specs.declared.profiles.Member.{Member}
 use Rattle.command_grammar.specs.declared.table.Verb.{Verb}
 use Rattle.command_grammar.specs.declared.table.Verb.TheVariants as verbs
-use Rattle.command_grammar.specs.declared.table.Kind.{Kind}
-use Rattle.command_grammar.specs.declared.table.Kind.TheVariants as kinds
+use Rattle.command_values.specs.declared.value_kinds.ValueKind.{ValueKind}
+use Rattle.command_values.specs.declared.value_kinds.ValueKind.TheVariants as kinds
 use Rattle.command_grammar.specs.declared.table.Operand.{Operand}
-use Rattle.command_grammar.specs.declared.table.TheConstants.{USER_POSITION, GROUP_POSITION}
-use Rattle.command_grammar.specs.declared.profile_table.TheConstants.{DATASET_POSITION, CLASS_POSITIONS, PERMIT_POSITION}
-use Rattle.command_grammar.specs.declared.values.Content.{Content}
-use Rattle.command_grammar.specs.declared.values.Content.TheVariants as contents
-use Rattle.command_grammar.specs.declared.values.Reset.{Reset}
-use Rattle.command_parser.specs.declared.forms.Form.{Form}
-use Rattle.command_parser.specs.declared.forms.Form.TheVariants as forms
+use Rattle.command_grammar.specs.CommandTable.{user, group, data_set_profile, class_and_profile, any_profile}
+use Rattle.command_values.specs.declared.values.Content.{Content}
+use Rattle.command_values.specs.declared.values.Content.TheVariants as contents
+use Rattle.command_values.specs.declared.values.Reset.{Reset}
+use Rattle.command_parser.specs.declared.fields.CommandFields.{CommandFields}
+use Rattle.command_parser.specs.declared.fields.CommandFields.TheVariants as forms
 use Rattle.command_grammar.specs.Reading.{Generic, Slots, means_read, completed}
-use Rattle.command_grammar.specs.Lawful.{Fits, FitsAll, FitsPositions, IsLawful}
+use Rattle.command_values.specs.LawfulValues.{Fits}
+use Rattle.command_grammar.specs.Lawful.{FitsAll, FitsPositions, IsLawful}
 use Rattle.command_grammar.specs.Table.{positions_of, operands_of}
-use Rattle.command_parser.specs.Slots.{flag_slot, id_slot, authority_slot, name_slot, ids_slot, level_slot, audit_slot, reset_slot, whos_slot, when_slot, members_slot, member_names_slot}
+use Rattle.command_parser.specs.Operands.{flag_value, id_value, authority_value, name_value, ids_value, level_value, audit_value, reset_value, whos_value, when_value, members_value, member_names_value}
 use Rattle.command_parser.specs.Forms.{generic_form}
 use Rattle.command_parser.specs.Fields.{front, behind, flag_in, id_in, authority_in, name_in, ids_in, level_in, audit_in, reset_in, whos_in, when_in, members_in, member_names_in, add_user_in, alt_user_in, add_group_in, alt_group_in, connect_in, remove_in}
 use Rattle.command_parser.specs.ProfileFields.{add_sd_in, alt_sd_in, r_define_in, r_alter_in, permit_in}
 use Rattle.command_parser.specs.FormOf.{form_by, form_of}
 
-flag_in-slot : (b : Bool) → flag_in (flag_slot b) ≡ b
-flag_in-slot true = refl
-flag_in-slot false = refl
+flag_in-value : (b : Bool) → flag_in (flag_value b) ≡ b
+flag_in-value true = refl
+flag_in-value false = refl
 
-id_in-slot : (o : Option (List ℕ)) → id_in (id_slot o) ≡ o
-id_in-slot None = refl
-id_in-slot (Some id) = refl
+id_in-value : (o : Option (List ℕ)) → id_in (id_value o) ≡ o
+id_in-value None = refl
+id_in-value (Some id) = refl
 
-authority_in-slot : (o : Option GroupAuthority) → authority_in (authority_slot o) ≡ o
-authority_in-slot None = refl
-authority_in-slot (Some a) = refl
+authority_in-value : (o : Option GroupAuthority) → authority_in (authority_value o) ≡ o
+authority_in-value None = refl
+authority_in-value (Some a) = refl
 
-name_in-slot : (o : Option (List ℕ)) → name_in (name_slot o) ≡ o
-name_in-slot None = refl
-name_in-slot (Some t) = refl
+name_in-value : (o : Option (List ℕ)) → name_in (name_value o) ≡ o
+name_in-value None = refl
+name_in-value (Some t) = refl
 
-ids_in-slot : (ids : List (List ℕ)) → ids_in (ids_slot ids) ≡ ids
-ids_in-slot [] = refl
-ids_in-slot (id ∷ ids) = refl
+ids_in-value : (ids : List (List ℕ)) → ids_in (ids_value ids) ≡ ids
+ids_in-value [] = refl
+ids_in-value (id ∷ ids) = refl
 
-level_in-slot : (o : Option Level) → level_in (level_slot o) ≡ o
-level_in-slot None = refl
-level_in-slot (Some x) = refl
+level_in-value : (o : Option Level) → level_in (level_value o) ≡ o
+level_in-value None = refl
+level_in-value (Some x) = refl
 
-audit_in-slot : (o : Option AuditRule) → audit_in (audit_slot o) ≡ o
-audit_in-slot None = refl
-audit_in-slot (Some x) = refl
+audit_in-value : (o : Option AuditRule) → audit_in (audit_value o) ≡ o
+audit_in-value None = refl
+audit_in-value (Some x) = refl
 
-reset_in-slot : (o : Option Reset) → reset_in (reset_slot o) ≡ o
-reset_in-slot None = refl
-reset_in-slot (Some x) = refl
+reset_in-value : (o : Option Reset) → reset_in (reset_value o) ≡ o
+reset_in-value None = refl
+reset_in-value (Some x) = refl
 
-when_in-slot : (o : Option Condition) → when_in (when_slot o) ≡ o
-when_in-slot None = refl
-when_in-slot (Some x) = refl
+when_in-value : (o : Option Condition) → when_in (when_value o) ≡ o
+when_in-value None = refl
+when_in-value (Some x) = refl
 
-whos_in-slot : (xs : List Who) → whos_in (whos_slot xs) ≡ xs
-whos_in-slot [] = refl
-whos_in-slot (x ∷ xs) = refl
+whos_in-value : (xs : List Who) → whos_in (whos_value xs) ≡ xs
+whos_in-value [] = refl
+whos_in-value (x ∷ xs) = refl
 
-members_in-slot : (xs : List Member) → members_in (members_slot xs) ≡ xs
-members_in-slot [] = refl
-members_in-slot (x ∷ xs) = refl
+members_in-value : (xs : List Member) → members_in (members_value xs) ≡ xs
+members_in-value [] = refl
+members_in-value (x ∷ xs) = refl
 
-member_names_in-slot : (xs : List Spelled) → member_names_in (member_names_slot xs) ≡ xs
-member_names_in-slot [] = refl
-member_names_in-slot (x ∷ xs) = refl
+member_names_in-value : (xs : List Spelled) → member_names_in (member_names_value xs) ≡ xs
+member_names_in-value [] = refl
+member_names_in-value (x ∷ xs) = refl
 
 -- a command is read back from its view
-pub form_of-generic : (c : Form) → form_of (generic_form c) ≡ Some c
+pub form_of-generic : (c : CommandFields) → form_of (generic_form c) ≡ Some c
 unfolding form_of front behind
-form_of-generic (forms.AddUser c) = simp (flag_in-slot, id_in-slot, authority_in-slot, name_in-slot, ids_in-slot)
-form_of-generic (forms.AltUser c) = simp (flag_in-slot, id_in-slot, name_in-slot, ids_in-slot)
+form_of-generic (forms.AddUser c) = simp (flag_in-value, id_in-value, authority_in-value, name_in-value, ids_in-value)
+form_of-generic (forms.AltUser c) = simp (flag_in-value, id_in-value, name_in-value, ids_in-value)
 form_of-generic (forms.DelUser c) = refl
-form_of-generic (forms.AddGroup c) = simp id_in-slot
-form_of-generic (forms.AltGroup c) = simp id_in-slot
+form_of-generic (forms.AddGroup c) = simp id_in-value
+form_of-generic (forms.AltGroup c) = simp id_in-value
 form_of-generic (forms.DelGroup c) = refl
-form_of-generic (forms.Connect c) = simp (flag_in-slot, id_in-slot, authority_in-slot)
-form_of-generic (forms.Remove c) = simp id_in-slot
-form_of-generic (forms.AddSd c) = simp (flag_in-slot, id_in-slot, ids_in-slot, level_in-slot, audit_in-slot)
-form_of-generic (forms.AltSd c) = simp (flag_in-slot, id_in-slot, ids_in-slot, level_in-slot, audit_in-slot)
+form_of-generic (forms.Connect c) = simp (flag_in-value, id_in-value, authority_in-value)
+form_of-generic (forms.Remove c) = simp id_in-value
+form_of-generic (forms.AddSd c) = simp (flag_in-value, id_in-value, ids_in-value, level_in-value, audit_in-value)
+form_of-generic (forms.AltSd c) = simp (flag_in-value, id_in-value, ids_in-value, level_in-value, audit_in-value)
 form_of-generic (forms.DelSd c) = refl
-form_of-generic (forms.RDefine c) = simp (flag_in-slot, id_in-slot, ids_in-slot, level_in-slot, audit_in-slot, members_in-slot)
-form_of-generic (forms.RAlter c) = simp (flag_in-slot, id_in-slot, ids_in-slot, level_in-slot, audit_in-slot, members_in-slot, member_names_in-slot)
+form_of-generic (forms.RDefine c) = simp (flag_in-value, id_in-value, ids_in-value, level_in-value, audit_in-value, members_in-value)
+form_of-generic (forms.RAlter c) = simp (flag_in-value, id_in-value, ids_in-value, level_in-value, audit_in-value, members_in-value, member_names_in-value)
 form_of-generic (forms.RDelete c) = refl
-form_of-generic (forms.Permit c) = simp (flag_in-slot, level_in-slot, reset_in-slot, whos_in-slot, when_in-slot)
+form_of-generic (forms.Permit c) = simp (flag_in-value, level_in-value, reset_in-value, whos_in-value, when_in-value)
 
 -- the slot of the field that is read from a slot of this kind
-again : Kind → Option Content → Option Content
-again kinds.Flag s = flag_slot (flag_in s)
-again kinds.Id s = id_slot (id_in s)
-again kinds.Group s = id_slot (id_in s)
-again kinds.Authority s = authority_slot (authority_in s)
-again kinds.Name s = name_slot (name_in s)
-again kinds.Ids s = ids_slot (ids_in s)
-again kinds.Classes s = ids_slot (ids_in s)
-again kinds.Level s = level_slot (level_in s)
-again kinds.Audit s = audit_slot (audit_in s)
-again kinds.Class s = id_slot (id_in s)
+again : ValueKind → Option Content → Option Content
+again kinds.Flag s = flag_value (flag_in s)
+again kinds.Id s = id_value (id_in s)
+again kinds.Group s = id_value (id_in s)
+again kinds.Authority s = authority_value (authority_in s)
+again kinds.Name s = name_value (name_in s)
+again kinds.Ids s = ids_value (ids_in s)
+again kinds.Classes s = ids_value (ids_in s)
+again kinds.Level s = level_value (level_in s)
+again kinds.Audit s = audit_value (audit_in s)
+again kinds.Class s = id_value (id_in s)
 again kinds.DataSetProfile s = s
 again kinds.ClassProfile s = s
 again kinds.AnyProfile s = s
-again kinds.Reset s = reset_slot (reset_in s)
-again kinds.Whos s = whos_slot (whos_in s)
-again kinds.When s = when_slot (when_in s)
-again kinds.AddedMembers s = members_slot (members_in s)
-again kinds.DroppedMembers s = member_names_slot (member_names_in s)
+again kinds.Reset s = reset_value (reset_in s)
+again kinds.Whos s = whos_value (whos_in s)
+again kinds.When s = when_value (when_in s)
+again kinds.AddedMembers s = members_value (members_in s)
+again kinds.DroppedMembers s = member_names_value (member_names_in s)
 again kinds.Generic s = None
 
-again-none : (k : Kind) → again k None ≡ None
+again-none : (k : ValueKind) → again k None ≡ None
 unfolding again
 again-none kinds.Flag = refl
 again-none kinds.Id = refl
@@ -142,7 +142,7 @@ again-none kinds.AddedMembers = refl
 again-none kinds.DroppedMembers = refl
 again-none kinds.Generic = refl
 
-again-some : (k : Kind) (v : Content) → Fits k v → again k (Some v) ≡ Some v
+again-some : (k : ValueKind) (v : Content) → Fits k v → again k (Some v) ≡ Some v
 unfolding again
 again-some kinds.Flag contents.Flag h = refl
 again-some kinds.Id (contents.Id w) h = refl
@@ -179,31 +179,31 @@ all_again-is (o ∷ os) [] h = absurd h
 all_again-is (o ∷ os) (None ∷ ss) h = ap (λ (s : Option Content). s ∷ all_again os ss) (again-none o.kind) ∙ ap (λ (x : Slots). None ∷ x) (all_again-is os ss h)
 all_again-is (o ∷ os) (Some v ∷ ss) h = ap (λ (s : Option Content). s ∷ all_again os ss) (again-some o.kind v h.0) ∙ ap (λ (x : Slots). Some v ∷ x) (all_again-is os ss h.1)
 
-is_user : (words : List Content) → FitsPositions USER_POSITION words → (w : List ℕ) × (words ≡ contents.Id w ∷ [])
+is_user : (words : List Content) → FitsPositions user words → (w : List ℕ) × (words ≡ contents.Id w ∷ [])
 is_user [] h = absurd h
 is_user (contents.Id w ∷ []) h = (w, refl)
 is_user (contents.Id w ∷ v ∷ vs) h = absurd h.1
 is_user (v ∷ vs) h = absurd h.0
 
-is_group : (words : List Content) → FitsPositions GROUP_POSITION words → (w : List ℕ) × (words ≡ contents.Id w ∷ [])
+is_group : (words : List Content) → FitsPositions group words → (w : List ℕ) × (words ≡ contents.Id w ∷ [])
 is_group [] h = absurd h
 is_group (contents.Id w ∷ []) h = (w, refl)
 is_group (contents.Id w ∷ v ∷ vs) h = absurd h.1
 is_group (v ∷ vs) h = absurd h.0
 
-is_data_set : (words : List Content) → FitsPositions DATASET_POSITION words → (n : Spelled) × (words ≡ contents.Profile n ∷ [])
+is_data_set : (words : List Content) → FitsPositions data_set_profile words → (n : Spelled) × (words ≡ contents.Profile n ∷ [])
 is_data_set [] h = absurd h
 is_data_set (contents.Profile n ∷ []) h = (n, refl)
 is_data_set (contents.Profile n ∷ v ∷ vs) h = absurd h.1
 is_data_set (v ∷ vs) h = absurd h.0
 
-is_profile : (words : List Content) → FitsPositions PERMIT_POSITION words → (n : Spelled) × (words ≡ contents.Profile n ∷ [])
+is_profile : (words : List Content) → FitsPositions any_profile words → (n : Spelled) × (words ≡ contents.Profile n ∷ [])
 is_profile [] h = absurd h
 is_profile (contents.Profile n ∷ []) h = (n, refl)
 is_profile (contents.Profile n ∷ v ∷ vs) h = absurd h.1
 is_profile (v ∷ vs) h = absurd h.0
 
-is_class_profile : (words : List Content) → FitsPositions CLASS_POSITIONS words → (c : List ℕ) × (n : Spelled) × (words ≡ contents.Id c ∷ contents.Profile n ∷ [])
+is_class_profile : (words : List Content) → FitsPositions class_and_profile words → (c : List ℕ) × (n : Spelled) × (words ≡ contents.Id c ∷ contents.Profile n ∷ [])
 is_class_profile [] h = absurd h
 is_class_profile (contents.Id c ∷ contents.Profile n ∷ []) h = (c, n, refl)
 is_class_profile (contents.Id c ∷ contents.Profile n ∷ v ∷ vs) h = absurd h.1.1
@@ -213,7 +213,7 @@ is_class_profile (v ∷ vs) h = absurd h.0
 
 -- a command whose view has these parts
 pub record IsViewed (v : Verb) (words : List Content) (slots : Slots) : Type 0 where
-  pub form : Form
+  pub form : CommandFields
   pub read : form_by v words slots ≡ Some form
   pub view : generic_form form ≡ record { verb = v; positions = words; slots = slots }
 
@@ -236,7 +236,7 @@ permit_viewed n class slots given fits =
     record {
       form = forms.Permit (permit_in n class slots);
       read = ap (λ (o : Option (List ℕ)). option_map (λ (c : List ℕ). forms.Permit (permit_in n c slots)) o) given;
-      view = ap (λ (o : Option (List ℕ)). record { verb = verbs.Permit; positions = contents.Profile n ∷ []; slots = id_slot o ∷ all_again (behind_first (operands_of verbs.Permit)) (behind slots) }) (sym given)
+      view = ap (λ (o : Option (List ℕ)). record { verb = verbs.Permit; positions = contents.Profile n ∷ []; slots = id_value o ∷ all_again (behind_first (operands_of verbs.Permit)) (behind slots) }) (sym given)
           ∙ seen_again verbs.Permit (contents.Profile n ∷ []) slots fits;
     }
 
@@ -334,12 +334,12 @@ names_class verbs.Permit slots fits whole = class_filled slots fits whole
 names_class v slots fits whole = tt
 
 -- what a text can spell is the view of a command
-pub formed : (g : Generic) → IsLawful g → (c : Form) × (form_of g ≡ Some c) × (generic_form c ≡ g)
+pub formed : (g : Generic) → IsLawful g → (c : CommandFields) × (form_of g ≡ Some c) × (generic_form c ≡ g)
 unfolding form_of
 formed g h = let v = formed_by g.verb g.positions g.slots h.fits_positions h.fits_operands (names_class g.verb g.slots h.fits_operands h.complete) in (v.form, v.read, v.view)
 
 pub no_form : (g : Generic) → IsLawful g → form_of g ≡ None → ⊥
 no_form g h none = let v = formed g h in let is : form_of g ≡ Some v.0 = v.1 in cc
 
-pub its_form : (g : Generic) (c : Form) → IsLawful g → form_of g ≡ Some c → generic_form c ≡ g
-its_form g c h is = let v = formed g h in let other : form_of g ≡ Some v.0 = v.1 in let view : generic_form v.0 ≡ g = v.2 in let same : v.0 ≡ c = cc in subst (λ (x : Form). generic_form x ≡ g) same view
+pub its_form : (g : Generic) (c : CommandFields) → IsLawful g → form_of g ≡ Some c → generic_form c ≡ g
+its_form g c h is = let v = formed g h in let other : form_of g ≡ Some v.0 = v.1 in let view : generic_form v.0 ≡ g = v.2 in let same : v.0 ≡ c = cc in subst (λ (x : CommandFields). generic_form x ≡ g) same view

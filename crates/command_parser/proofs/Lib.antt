@@ -1,3 +1,5 @@
+pub mod Tabled
+pub mod FieldsLawful
 pub mod Formed
 pub mod OneForm
 pub mod Spelled

@@ -1,23 +1,23 @@
 -- Commands that the table sees alike are one.
 use Rattle.std.proofs.Common.{◌≡◌, ℕ, List, Option, Some, Result, Ok, Err, sym, ap, ◌∙◌}
-use Rattle.command_grammar.specs.declared.faults.Syntax.{Syntax}
-use Rattle.command_grammar.specs.declared.faults.ParseFault.{ParseFault}
-use Rattle.command_grammar.specs.declared.faults.ParseFault.TheVariants as reasons
-use Rattle.command_parser.specs.declared.forms.Form.{Form}
+use Rattle.command_values.specs.declared.faults.Syntax.{Syntax}
+use Rattle.command_values.specs.declared.faults.ParseFault.{ParseFault}
+use Rattle.command_values.specs.declared.faults.ParseFault.TheVariants as reasons
+use Rattle.command_parser.specs.declared.fields.CommandFields.{CommandFields}
 use Rattle.command_grammar.specs.Reading.{Generic}
-use Rattle.command_grammar.specs.Results.{Gives}
+use Rattle.command_values.specs.Results.{Gives}
 use Rattle.command_grammar.specs.Canon.{spelled}
 use Rattle.command_parser.specs.Forms.{generic_form, given_by, Spells, IsUnlessMemory}
 use Rattle.command_parser.specs.FormOf.{form_of}
 use Rattle.command_parser.proofs.Formed.{form_of-generic}
 
-some_same : (c d : Form) → let one : Option Form = Some c in one ≡ Some d → c ≡ d
+some_same : (c d : CommandFields) → let one : Option CommandFields = Some c in one ≡ Some d → c ≡ d
 some_same c d h = cc
 
-pub generic_form-same : (c d : Form) → generic_form c ≡ generic_form d → c ≡ d
+pub generic_form-same : (c d : CommandFields) → generic_form c ≡ generic_form d → c ≡ d
 generic_form-same c d h = some_same c d (sym (form_of-generic c) ∙ ap form_of h ∙ form_of-generic d)
 
-pub only_found : (r : Result Form ParseFault) (issuer text : List ℕ) (c : Form) → Gives generic_form r (spelled (given_by issuer) text) → Spells issuer text c → IsUnlessMemory r c
+pub only_found : (r : Result CommandFields ParseFault) (issuer text : List ℕ) (c : CommandFields) → Gives generic_form r (spelled (given_by issuer) text) → Spells issuer text c → IsUnlessMemory r c
 only_found (Ok d) issuer text c h spells = generic_form-same d c (ok-same (generic_form d) (generic_form c) (sym h ∙ spells))
   where
     ok-same : (x y : Generic) → let read : Result Generic Syntax = Ok x in read ≡ Ok y → x ≡ y

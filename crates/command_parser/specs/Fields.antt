@@ -1,5 +1,5 @@
--- The commands on users and groups, each field read from the slot of its operand.
-use Rattle.std.specs.Prelude.{ℕ, zero, suc, List, [], ◌∷◌, Bool, Option, None, Some, is_some}
+-- The commands on users and groups, each field read from the operand of its name.
+use Rattle.std.specs.Prelude.{ℕ, List, [], ◌∷◌, Bool, if◌then◌else◌, Option, None, Some, is_some}
 use Rattle.access_levels.specs.declared.authorities.GroupAuthority.{GroupAuthority}
 use Rattle.access_levels.specs.declared.levels.Level.{Level}
 use Rattle.access_levels.specs.declared.entries.Who.{Who}
@@ -7,15 +7,22 @@ use Rattle.access_levels.specs.declared.entries.Condition.{Condition}
 use Rattle.generic_names.specs.Spelled.{Spelled}
 use Rattle.racf_profiles.specs.declared.profiles.AuditRule.{AuditRule}
 use Rattle.racf_profiles.specs.declared.profiles.Member.{Member}
-use Rattle.command_grammar.specs.declared.values.Content.{Content}
-use Rattle.command_grammar.specs.declared.values.Content.TheVariants as contents
-use Rattle.command_grammar.specs.declared.values.Reset.{Reset}
-use Rattle.command_parser.specs.declared.forms.AddUser.{AddUser}
-use Rattle.command_parser.specs.declared.forms.AltUser.{AltUser}
-use Rattle.command_parser.specs.declared.forms.AddGroup.{AddGroup}
-use Rattle.command_parser.specs.declared.forms.AltGroup.{AltGroup}
-use Rattle.command_parser.specs.declared.forms.Connect.{Connect}
-use Rattle.command_parser.specs.declared.forms.Remove.{Remove}
+use Rattle.command_values.specs.declared.values.Content.{Content}
+use Rattle.command_values.specs.declared.values.Content.TheVariants as contents
+use Rattle.command_values.specs.declared.values.Reset.{Reset}
+use Rattle.command_parser.specs.declared.fields.AddUser.{AddUser}
+use Rattle.command_parser.specs.declared.fields.AltUser.{AltUser}
+use Rattle.command_parser.specs.declared.fields.AddGroup.{AddGroup}
+use Rattle.command_parser.specs.declared.fields.AltGroup.{AltGroup}
+use Rattle.command_parser.specs.declared.fields.Connect.{Connect}
+use Rattle.command_parser.specs.declared.fields.Remove.{Remove}
+use Rattle.command_values.specs.declared.operand_words.Word.{Word}
+use Rattle.command_values.specs.declared.operand_words.Word.TheVariants as words
+use Rattle.command_grammar.specs.declared.table.Verb.{Verb}
+use Rattle.command_grammar.specs.declared.table.Verb.TheVariants as verbs
+use Rattle.command_grammar.specs.declared.table.Operand.{Operand}
+use Rattle.command_values.specs.OperandWords.{same_word}
+use Rattle.command_grammar.specs.Table.{operands_of}
 use Rattle.command_grammar.specs.Reading.{Slots}
 
 -- the first slot, and those behind it
@@ -27,10 +34,13 @@ unfoldable pub behind : Slots → Slots
 behind [] = []
 behind (s ∷ ss) = ss
 
--- the slot at a place of the table, counted from 0
-abbrev pub slot : ℕ → Slots → Option Content
-slot zero slots = front slots
-slot (suc k) slots = slot k (behind slots)
+-- The slot of the operand with this word, where there is one for each operand.
+abbrev pub found : List Operand → Slots → Word → Option Content
+found [] slots w = None
+found (o ∷ os) slots w = if same_word o.word w then front slots else found os (behind slots) w
+
+abbrev pub found_for : Verb → Slots → Word → Option Content
+found_for v slots w = found (operands_of v) slots w
 
 -- what a slot holds of each kind of operand: whether one without a value was given, the value of one with a value, the
 -- elements of a list
@@ -96,79 +106,79 @@ class_and_profile others = None
 
 -- ADDUSER
 abbrev pub add_user_in : List ℕ → Slots → AddUser
-add_user_in user slots = record {
+add_user_in user slots = let operand = found_for verbs.AddUser slots in record {
   user = user;
-  name = name_in (slot 0 slots);
-  dfltgrp = id_in (slot 1 slots);
-  owner = id_in (slot 2 slots);
-  authority = authority_in (slot 3 slots);
-  special = flag_in (slot 4 slots);
-  nospecial = flag_in (slot 5 slots);
-  operations = flag_in (slot 6 slots);
-  nooperations = flag_in (slot 7 slots);
-  auditor = flag_in (slot 8 slots);
-  noauditor = flag_in (slot 9 slots);
-  restricted = flag_in (slot 10 slots);
-  norestricted = flag_in (slot 11 slots);
-  clauth = ids_in (slot 12 slots);
-  seclevel = id_in (slot 13 slots);
-  addcategory = ids_in (slot 14 slots);
-  seclabel = id_in (slot 15 slots);
+  name = name_in (operand words.Name);
+  dfltgrp = id_in (operand words.Dfltgrp);
+  owner = id_in (operand words.Owner);
+  authority = authority_in (operand words.Authority);
+  special = flag_in (operand words.Special);
+  nospecial = flag_in (operand words.Nospecial);
+  operations = flag_in (operand words.Operations);
+  nooperations = flag_in (operand words.Nooperations);
+  auditor = flag_in (operand words.Auditor);
+  noauditor = flag_in (operand words.Noauditor);
+  restricted = flag_in (operand words.Restricted);
+  norestricted = flag_in (operand words.Norestricted);
+  clauth = ids_in (operand words.Clauth);
+  seclevel = id_in (operand words.Seclevel);
+  addcategory = ids_in (operand words.Addcategory);
+  seclabel = id_in (operand words.Seclabel);
 }
 
 -- ALTUSER
 abbrev pub alt_user_in : List ℕ → Slots → AltUser
-alt_user_in user slots = record {
+alt_user_in user slots = let operand = found_for verbs.AltUser slots in record {
   user = user;
-  name = name_in (slot 0 slots);
-  dfltgrp = id_in (slot 1 slots);
-  owner = id_in (slot 2 slots);
-  special = flag_in (slot 3 slots);
-  nospecial = flag_in (slot 4 slots);
-  operations = flag_in (slot 5 slots);
-  nooperations = flag_in (slot 6 slots);
-  auditor = flag_in (slot 7 slots);
-  noauditor = flag_in (slot 8 slots);
-  restricted = flag_in (slot 9 slots);
-  norestricted = flag_in (slot 10 slots);
-  uaudit = flag_in (slot 11 slots);
-  nouaudit = flag_in (slot 12 slots);
-  revoke = flag_in (slot 13 slots);
-  resume = flag_in (slot 14 slots);
-  clauth = ids_in (slot 15 slots);
-  noclauth = ids_in (slot 16 slots);
-  seclevel = id_in (slot 17 slots);
-  noseclevel = flag_in (slot 18 slots);
-  addcategory = ids_in (slot 19 slots);
-  delcategory = ids_in (slot 20 slots);
-  seclabel = id_in (slot 21 slots);
-  noseclabel = flag_in (slot 22 slots);
+  name = name_in (operand words.Name);
+  dfltgrp = id_in (operand words.Dfltgrp);
+  owner = id_in (operand words.Owner);
+  special = flag_in (operand words.Special);
+  nospecial = flag_in (operand words.Nospecial);
+  operations = flag_in (operand words.Operations);
+  nooperations = flag_in (operand words.Nooperations);
+  auditor = flag_in (operand words.Auditor);
+  noauditor = flag_in (operand words.Noauditor);
+  restricted = flag_in (operand words.Restricted);
+  norestricted = flag_in (operand words.Norestricted);
+  uaudit = flag_in (operand words.Uaudit);
+  nouaudit = flag_in (operand words.Nouaudit);
+  revoke = flag_in (operand words.Revoke);
+  resume = flag_in (operand words.Resume);
+  clauth = ids_in (operand words.Clauth);
+  noclauth = ids_in (operand words.Noclauth);
+  seclevel = id_in (operand words.Seclevel);
+  noseclevel = flag_in (operand words.Noseclevel);
+  addcategory = ids_in (operand words.Addcategory);
+  delcategory = ids_in (operand words.Delcategory);
+  seclabel = id_in (operand words.Seclabel);
+  noseclabel = flag_in (operand words.Noseclabel);
 }
 
 -- ADDGROUP
 abbrev pub add_group_in : List ℕ → Slots → AddGroup
-add_group_in group slots = record { group = group; supgroup = id_in (slot 0 slots); owner = id_in (slot 1 slots) }
+add_group_in group slots = let operand = found_for verbs.AddGroup slots in record { group = group; supgroup = id_in (operand words.Supgroup); owner = id_in (operand words.Owner) }
 
 -- ALTGROUP
 abbrev pub alt_group_in : List ℕ → Slots → AltGroup
-alt_group_in group slots = record { group = group; supgroup = id_in (slot 0 slots); owner = id_in (slot 1 slots) }
+alt_group_in group slots = let operand = found_for verbs.AltGroup slots in record { group = group; supgroup = id_in (operand words.Supgroup); owner = id_in (operand words.Owner) }
 
 -- CONNECT
 abbrev pub connect_in : List ℕ → Slots → Connect
-connect_in user slots = record {
+connect_in user slots = let operand = found_for verbs.Connect slots in record {
   user = user;
-  group = id_in (slot 0 slots);
-  authority = authority_in (slot 1 slots);
-  special = flag_in (slot 2 slots);
-  nospecial = flag_in (slot 3 slots);
-  operations = flag_in (slot 4 slots);
-  nooperations = flag_in (slot 5 slots);
-  auditor = flag_in (slot 6 slots);
-  noauditor = flag_in (slot 7 slots);
-  revoke = flag_in (slot 8 slots);
-  resume = flag_in (slot 9 slots);
+  group = id_in (operand words.Group);
+  authority = authority_in (operand words.Authority);
+  special = flag_in (operand words.Special);
+  nospecial = flag_in (operand words.Nospecial);
+  operations = flag_in (operand words.Operations);
+  nooperations = flag_in (operand words.Nooperations);
+  auditor = flag_in (operand words.Auditor);
+  noauditor = flag_in (operand words.Noauditor);
+  revoke = flag_in (operand words.Revoke);
+  resume = flag_in (operand words.Resume);
 }
 
 -- REMOVE
 abbrev pub remove_in : List ℕ → Slots → Remove
-remove_in user slots = record { user = user; group = id_in (slot 0 slots) }
+remove_in user slots = let operand = found_for verbs.Remove slots in record { user = user; group = id_in (operand words.Group) }

@@ -2,15 +2,16 @@
 
 ghost use Rattle.std.specs.Prelude.{◌≡◌, ◌++◌, List, ℕ, IfOk, IfErr, OnOk, OnErr, IsTrue, IsErr, MatchOption, is_ok};
 ghost use Rattle.access_levels.specs.Spelling.{group_of};
-ghost use Rattle.command_parser.specs.declared.forms.Form.{Form};
-ghost use Rattle.command_grammar.specs.Results.{Gives};
+ghost use Rattle.command_parser.specs.declared.fields.CommandFields.{CommandFields};
+ghost use Rattle.command_values.specs.Results.{Gives};
 ghost use Rattle.command_grammar.specs.Canon.{spelled};
 ghost use Rattle.command_parser.specs.Forms.{generic_form, canonical, Spells, IsFault, IsUnlessMemory};
 
 use crate::convert::form;
-use crate::forms::Form;
+use crate::fields::CommandFields;
 use access_levels::Id;
-use command_grammar::{Context, LONGEST, ParseFault, Syntax, laws, printed, read};
+use command_grammar::{LONGEST, laws, printed, read};
+use command_values::{Context, ParseFault, Syntax};
 use std::alloc::{AllocError, Global};
 use std::marker::Model;
 
@@ -37,19 +38,21 @@ impl Issuer {
     }
 }
 
-/// A command with its canonical text, seen by contracts as its `Form`. The canonical text has at most 30,000 bytes, and
-/// spells the command for every issuer.
+/// A command with its canonical text, seen by contracts as its `CommandFields`. The canonical text has at most 30,000 bytes,
+/// and spells the command for every issuer.
 #[derive(Drop)]
 pub struct Command {
-    form: Form,
+    /// Which command it is, and its fields.
+    form: CommandFields,
+    /// Its canonical text.
     text: Vec<u8>,
 }
 
 impl Model for Command {
-    ghost use Rattle.command_parser.specs.declared.forms.Form.{Form};
+    ghost use Rattle.command_parser.specs.declared.fields.CommandFields.{CommandFields};
     ghost use Rattle.command_parser.specs.Forms.{IsWritten};
 
-    ghost Value = { Form };
+    ghost Value = { CommandFields };
 
     ghost view = { λ c. c.form };
 
@@ -58,7 +61,7 @@ impl Model for Command {
 
 impl Command {
     /// Which command it is, and its fields.
-    pub fn form(&self) -> &Form
+    pub fn fields(&self) -> &CommandFields
         ensures { result.now ≡ self.now }
     {
         &self.form
@@ -72,7 +75,7 @@ impl Command {
     }
 }
 
-// What the text spells.
+/// What the text spells.
 fn parse_exact(alloc: Global, at: &Context, text: &[u8]) -> Result<Command, ParseFault>
     ensures { Gives generic_form result (spelled at.now text.now) }
 {
@@ -100,7 +103,7 @@ pub fn parse(alloc: Global, issuer: Id, text: &[u8]) -> Result<Command, ParseFau
     ensures found { IfOk result (Spells issuer text.now) }
 
     // What is spelled so is read, unless memory runs out.
-    ensures only { (c : Form) → Spells issuer text.now c → IsUnlessMemory result c }
+    ensures only { (c : CommandFields) → Spells issuer text.now c → IsUnlessMemory result c }
 
     // Which fault it is.
     ensures fault { IfErr result (IsFault issuer text.now) }

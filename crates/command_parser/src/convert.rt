@@ -9,14 +9,15 @@ ghost use Rattle.command_parser.specs.Forms.{generic_form};
 
 use crate::convert_profiles::{add_sd, alt_sd, permit, r_alter, r_define};
 use crate::convert_users::{add_group, add_user, alt_group, alt_user, connect, remove};
-use crate::forms::{DelGroup, DelUser, Form};
-use crate::profile_forms::{DelSd, RDelete};
+use crate::fields::{CommandFields, DelGroup, DelUser};
+use crate::profile_fields::{DelSd, RDelete};
 use access_levels::Id;
-use command_grammar::{Content, Parts, Verb};
+use command_grammar::{Parts, Verb};
+use command_values::Content;
 use generic_names::Pattern;
 use std::alloc::Global;
 
-// The only positional word, where it is a name.
+/// The only positional word, where it is a name.
 fn only_id(words: &[Content]) -> Option<Id>
     ensures { result ≡ only_id_in words.now }
 {
@@ -26,7 +27,7 @@ fn only_id(words: &[Content]) -> Option<Id>
     }
 }
 
-// The only positional word, where it is a profile.
+/// The only positional word, where it is a profile.
 fn only_profile(words: &[Content]) -> Option<Pattern>
     ensures { result ≡ only_profile_in words.now }
 {
@@ -36,7 +37,7 @@ fn only_profile(words: &[Content]) -> Option<Pattern>
     }
 }
 
-// The two positional words, where they are a class and a profile.
+/// The two positional words, where they are a class and a profile.
 fn class_and_profile(words: &[Content]) -> Option<(Id, Pattern)>
     ensures { result ≡ class_and_profile_in words.now }
 {
@@ -46,9 +47,9 @@ fn class_and_profile(words: &[Content]) -> Option<(Id, Pattern)>
     }
 }
 
-// The command of which this is the table's view, if there is one.
+/// The command of which this is the table's view, if there is one.
 #[tactic(auto, unfolding(crate::specs::FormOf::form_of))]
-fn form_in(alloc: Global, parts: Parts) -> Option<Form>
+fn form_in(alloc: Global, parts: Parts) -> Option<CommandFields>
     ensures { result ≡ form_of (generic parts) }
 {
     let Parts {
@@ -58,35 +59,35 @@ fn form_in(alloc: Global, parts: Parts) -> Option<Form>
     } = parts;
     let words = positions.as_slice();
     Some(match verb {
-        Verb::AddUser => Form::AddUser(add_user(alloc, only_id(words)?, slots)),
-        Verb::AltUser => Form::AltUser(alt_user(alloc, only_id(words)?, slots)),
-        Verb::DelUser => Form::DelUser(DelUser {
+        Verb::AddUser => CommandFields::AddUser(add_user(alloc, only_id(words)?, slots)),
+        Verb::AltUser => CommandFields::AltUser(alt_user(alloc, only_id(words)?, slots)),
+        Verb::DelUser => CommandFields::DelUser(DelUser {
             user: only_id(words)?,
         }),
-        Verb::AddGroup => Form::AddGroup(add_group(only_id(words)?, slots)),
-        Verb::AltGroup => Form::AltGroup(alt_group(only_id(words)?, slots)),
-        Verb::DelGroup => Form::DelGroup(DelGroup {
+        Verb::AddGroup => CommandFields::AddGroup(add_group(only_id(words)?, slots)),
+        Verb::AltGroup => CommandFields::AltGroup(alt_group(only_id(words)?, slots)),
+        Verb::DelGroup => CommandFields::DelGroup(DelGroup {
             group: only_id(words)?,
         }),
-        Verb::Connect => Form::Connect(connect(only_id(words)?, slots)),
-        Verb::Remove => Form::Remove(remove(only_id(words)?, slots)),
-        Verb::AddSd => Form::AddSd(add_sd(alloc, only_profile(words)?, slots)),
-        Verb::AltSd => Form::AltSd(alt_sd(alloc, only_profile(words)?, slots)),
-        Verb::DelSd => Form::DelSd(DelSd {
+        Verb::Connect => CommandFields::Connect(connect(only_id(words)?, slots)),
+        Verb::Remove => CommandFields::Remove(remove(only_id(words)?, slots)),
+        Verb::AddSd => CommandFields::AddSd(add_sd(alloc, only_profile(words)?, slots)),
+        Verb::AltSd => CommandFields::AltSd(alt_sd(alloc, only_profile(words)?, slots)),
+        Verb::DelSd => CommandFields::DelSd(DelSd {
             profile: only_profile(words)?,
         }),
-        Verb::RDefine => Form::RDefine(r_define(alloc, class_and_profile(words)?, slots)),
-        Verb::RAlter => Form::RAlter(r_alter(alloc, class_and_profile(words)?, slots)),
+        Verb::RDefine => CommandFields::RDefine(r_define(alloc, class_and_profile(words)?, slots)),
+        Verb::RAlter => CommandFields::RAlter(r_alter(alloc, class_and_profile(words)?, slots)),
         Verb::RDelete => {
             let (class, profile) = class_and_profile(words)?;
-            Form::RDelete(RDelete { class, profile })
+            CommandFields::RDelete(RDelete { class, profile })
         }
-        Verb::Permit => Form::Permit(permit(alloc, only_profile(words)?, slots)?),
+        Verb::Permit => CommandFields::Permit(permit(alloc, only_profile(words)?, slots)?),
     })
 }
 
 /// The command of which this is the table's view.
-pub fn form(alloc: Global, parts: Parts) -> Form
+pub fn form(alloc: Global, parts: Parts) -> CommandFields
     requires { IsLawful (generic parts) }
     ensures { generic_form result ≡ generic parts }
 {

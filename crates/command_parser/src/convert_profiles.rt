@@ -2,13 +2,15 @@
 
 ghost use Rattle.std.specs.Prelude.{◌≡◌};
 ghost use Rattle.std.specs.Option.{option_map};
-ghost use Rattle.command_parser.specs.Fields.{front, id_in};
+ghost use Rattle.command_values.specs.declared.operand_words.Word.TheVariants as words;
+ghost use Rattle.command_grammar.specs.declared.table.Verb.TheVariants as verbs;
+ghost use Rattle.command_parser.specs.Fields.{found_for, id_in};
 ghost use Rattle.command_parser.specs.ProfileFields.{add_sd_in, alt_sd_in, r_define_in, r_alter_in, permit_in};
 
-use crate::profile_forms::{AddSd, AltSd, Permit, RAlter, RDefine};
+use crate::profile_fields::{AddSd, AltSd, Permit, RAlter, RDefine};
 use crate::slots::Slots;
 use access_levels::Id;
-use command_grammar::Content;
+use command_values::Content;
 use generic_names::Pattern;
 use std::alloc::Global;
 
@@ -101,7 +103,7 @@ pub fn r_alter(alloc: Global, names: (Id, Pattern), slots: Vec<Option<Content>>)
 
 /// PERMIT, of whose operands these are the values, where its class is among them.
 pub fn permit(alloc: Global, profile: Pattern, slots: Vec<Option<Content>>) -> Option<Permit>
-    ensures { result ≡ option_map (λ class. permit_in profile class slots.items) (id_in (front slots.items)) }
+    ensures { result ≡ option_map (λ class. permit_in profile class slots.items) (id_in (found_for verbs.Permit slots.items words.Class)) }
 {
     let mut slots = Slots::new(slots);
     let class = slots.id()?;

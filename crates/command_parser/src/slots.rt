@@ -4,7 +4,7 @@ ghost use Rattle.std.specs.Prelude.{◌≡◌};
 ghost use Rattle.command_parser.specs.Fields.{front, behind, flag_in, id_in, authority_in, name_in, ids_in, level_in, audit_in, reset_in, whos_in, when_in, members_in, member_names_in};
 
 use access_levels::{Condition, GroupAuthority, Id, Level, Text};
-use command_grammar::{Content, Ids, MemberNames, Reset, Whos};
+use command_values::{Content, Ids, MemberNames, Reset, Whos};
 use racf_profiles::{AuditRule, Members};
 use std::alloc::Global;
 use std::marker::Model;
@@ -13,13 +13,14 @@ use std::vec::IntoIter;
 /// The slots that are still to be taken, seen by contracts as a list.
 #[derive(Drop)]
 pub struct Slots {
+    /// Those that weren't taken yet.
     rest: IntoIter<Option<Content>>,
 }
 
 impl Model for Slots {
     ghost use Rattle.std.specs.Prelude.{List, Option};
     ghost use Rattle.std.specs.Vec.Iter.{into_iter_items};
-    ghost use Rattle.command_grammar.specs.declared.values.Content.{Content};
+    ghost use Rattle.command_values.specs.declared.values.Content.{Content};
 
     ghost Value = { List (Option Content) };
 
@@ -35,7 +36,7 @@ impl Slots {
         }
     }
 
-    // The next slot.
+    /// The next slot.
     #[tactic(auto, unfolding(crate::specs::Fields::front, crate::specs::Fields::behind))]
     fn take(&mut self) -> Option<Content>
         ensures value { result ≡ front self.old }

@@ -20,7 +20,7 @@ fn digit(byte: u8) -> Option<u8>
     }
 }
 
-// The byte that a text begins with, written or escaped, and how many bytes it takes.
+/// The byte that a text begins with, written or escaped, and how many bytes it takes.
 fn first_byte(text: &[u8]) -> Option<(u8, usize)>
     ensures { MatchOption result (text.now ≡ []) (λ found. (0 < found.1) × (found.1 ≤ length text.now)) }
 {

@@ -1,10 +1,10 @@
 use access_levels::Id;
-use command_parser::{AddUser, Form, Issuer, ParseFault, Syntax, parse, print};
+use command_parser::{AddUser, CommandFields, Issuer, ParseFault, Syntax, parse, print};
 use std::alloc::Global;
 use std::process::Abort;
 use std::test::Fail;
 
-// The length of the canonical text of a command of `length` bytes that adds categories, or none where it is too long.
+/// The length of the canonical text of a command of `length` bytes that adds categories, or none where it is too long.
 fn length_read(alloc: Global, start: &[u8], length: usize) -> Result<Option<usize>, Fail> {
     let mut text = Vec::from_slice(alloc, start)?;
     for i in 0..length {
@@ -54,8 +54,8 @@ fn tells_the_fields(rt: HostRuntime) -> Result<(), Fail> {
         out.as_slice(),
         b"ADDUSER U2 DFLTGRP(G) NOSPECIAL CLAUTH(USER TAPEVOL)".as_slice()
     );
-    match command.form() {
-        Form::AddUser(user) => assert_fields(&rt, user),
+    match command.fields() {
+        CommandFields::AddUser(user) => assert_fields(&rt, user),
         _ => assert!(rt; false),
     }
     Ok(())

@@ -2,3 +2,5 @@ pub mod Letters
 pub mod Skips
 pub mod Spelled
 mod TokenRows
+pub mod BeforeFirst
+pub mod LineWordLaws

@@ -2,9 +2,9 @@
 use Rattle.std.specs.Prelude.{◌≡◌, List, [], ◌∷◌, Option, MatchOption}
 use Rattle.command_words.specs.declared.tokens.Piece.{Piece}
 use Rattle.command_words.specs.declared.tokens.Piece.TheVariants as piece
-use Rattle.command_words.specs.declared.items.Item as item
-use Rattle.command_words.specs.declared.items.Item.TheVariants as found
-use Rattle.command_words.specs.Items.{Item, Bare, With, Unbounded, Odd}
+use Rattle.command_words.specs.declared.valued_words.ValuedWord as item
+use Rattle.command_words.specs.declared.valued_words.ValuedWord.TheVariants as found
+use Rattle.command_words.specs.ValuedWords.{ValuedWord, Alone, Valued, Unclosed, Parenthesis}
 use Rattle.command_words.specs.Tokens.{Unread, Token, Word, Group, Open, Close, tokens, IsInReach}
 
 abbrev pub seen : Piece → Token
@@ -17,8 +17,8 @@ seen (piece.Close p) = Close p
 abbrev pub PieceAt : Option (Piece × Unread) → List Token → Type 0
 PieceAt found ts = MatchOption found (ts ≡ []) (λ t. (ts ≡ seen t.0 ∷ tokens t.1) × IsInReach (seen t.0))
 
-abbrev pub seen_item : item.Item → Item
-seen_item (found.Bare p w) = Bare p w.now
-seen_item (found.With p w t) = With p w.now t
-seen_item (found.Unbounded p w place) = Unbounded p w.now place
-seen_item (found.Odd p) = Odd p
+abbrev pub seen_valued : item.ValuedWord → ValuedWord
+seen_valued (found.Alone p w) = Alone p w.now
+seen_valued (found.Valued p w t) = Valued p w.now t
+seen_valued (found.Unclosed p w place) = Unclosed p w.now place
+seen_valued (found.Parenthesis p) = Parenthesis p

@@ -9,7 +9,9 @@ use std::marker::Model;
 /// A word of at most `MOST` bytes, seen by contracts as its bytes.
 #[derive(Drop)]
 pub struct FoldedWord<const MOST: usize> {
+    /// The word's bytes, and zeros behind them.
     bytes: [u8; MOST],
+    /// How many bytes the word has.
     len: usize,
 }
 

@@ -13,9 +13,13 @@ use std::marker::Model;
 /// word, its place and its bytes.
 #[derive(Drop)]
 pub struct Tokens<'a> {
+    /// How quotes count at the front of its words.
     quoting: Quoting,
+    /// Whether nothing but blanks and tabs stands between the word before and this text.
     tied: bool,
+    /// The place of its first byte in the command's text, counted from 1.
     place: u32,
+    /// Its bytes.
     bytes: &'a [u8],
 }
 

@@ -1,4 +1,3 @@
 mod WorkedRows
 mod Steps
-mod Qualifiers
 mod Names

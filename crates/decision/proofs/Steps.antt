@@ -19,7 +19,9 @@ use Rattle.raclist_image.specs.Facts.{AreFacts}
 use Rattle.acee.specs.declared.acee.Acee.{Acee}
 use Rattle.decision.specs.declared.answer.Answer.{Answer}
 use Rattle.decision.specs.declared.outcome.Rule.TheVariants as rule
-use Rattle.decision.specs.Table.{case, with, never, first_answer, else_case, higher, considered, is_dataset, first_qualifier, allows_operations, operating_over, standing_of, answer_with_profile, user_entry, group_entry, star_entry}
+use Rattle.generic_names.specs.Spelled.{first_qualifier}
+use Rattle.racf_profiles.specs.ClassTable.{allows_operations}
+use Rattle.decision.specs.Table.{case, with, never, first_answer, else_case, higher, considered, is_dataset, operating_over, standing_of, answer_with_profile, user_entry, group_entry, star_entry}
 use Rattle.decision.specs.Steps.{listed, is_open, uacc_case, entry_case, standing_with, operations_cases, conditional_case}
 
 -- ---- a list of cases in parts
@@ -126,7 +128,7 @@ exit_last own entry conditional operations warning standing h e k o =
 -- ---- the table for a profile, by what the code asks
 module _ (rows : Rows) (acee : Acee) (class : List ℕ) (name : Spelled) (asked : Level) where
   abbrev pub own_case : Bool
-  own_case = is_dataset class && bytes_eq (first_qualifier name) acee.user
+  own_case = is_dataset class && bytes_eq (first_qualifier name.text) acee.user
 
   abbrev pub operations_answer : Found → Level → List ℕ → Option Answer
   operations_answer found uacc owner = first_answer (operations_cases (allows_operations class && is_open found) acee.attributes.operations (operating_over rows acee owner) (standing_with found acee.attributes.restricted uacc))

@@ -1,7 +1,6 @@
 -- The decision on a request: the first case of the table that fits.
-use Rattle.std.specs.Prelude.{ℕ, Bool, true, false, ◌==◌, ◌&&◌, not, List, [], ◌∷◌, find, Option, Some, None, is_some, option_map, option_and_then, unwrap_or, nat_lt, slice_get, codes, bytes_eq, if◌then◌else◌}
+use Rattle.std.specs.Prelude.{ℕ, Bool, true, false, ◌&&◌, not, List, [], ◌∷◌, find, Option, Some, None, is_some, option_map, option_and_then, unwrap_or, nat_lt, slice_get, codes, bytes_eq, if◌then◌else◌}
 use Rattle.std.specs.Option.{option_map_or}
-use Rattle.std.specs.List.{before_first}
 use Rattle.access_levels.specs.declared.levels.Level.{Level}
 use Rattle.access_levels.specs.declared.levels.Level.TheVariants.{NoAccess}
 use Rattle.access_levels.specs.declared.entries.Entry.{Entry}
@@ -9,13 +8,13 @@ use Rattle.access_levels.specs.declared.entries.CondEntry.{CondEntry}
 use Rattle.access_levels.specs.Level.{level_rank, suffices}
 use Rattle.access_lists.specs.declared.best.GroupEntry.{GroupEntry}
 use Rattle.access_lists.specs.Answers as lists
-use Rattle.generic_names.specs.Spelled.{Spelled, period}
+use Rattle.generic_names.specs.Spelled.{Spelled, first_qualifier}
 use Rattle.generic_names.specs.Best.{best}
 use Rattle.racf_profiles.specs.declared.profiles.Profile.{Profile}
 use Rattle.racf_profiles.specs.declared.options.Options.{Options}
 use Rattle.racf_profiles.specs.declared.rows.Rows.{Rows}
 use Rattle.racf_profiles.specs.Lookup.{class_of}
-use Rattle.racf_profiles.specs.ClassTable.{facts_of}
+use Rattle.racf_profiles.specs.ClassTable.{allows_operations}
 use Rattle.racf_profiles.specs.State.{State, effective}
 use Rattle.group_tree.specs.ScopeTest.{is_profile_in_scope}
 use Rattle.acee.specs.declared.acee.Acee.{Acee}
@@ -35,14 +34,6 @@ profile_for state class name = option_and_then (λ profiles. best (λ (profile :
 
 abbrev pub is_dataset : List ℕ → Bool
 is_dataset class = bytes_eq class (codes "DATASET")
-
--- Whether the class table lets OPERATIONS give access in the class.
-abbrev pub allows_operations : List ℕ → Bool
-allows_operations class = option_map_or (λ facts. facts.operations) (facts_of class) false
-
--- The first qualifier of a name is what stands before its first period.
-abbrev pub first_qualifier : Spelled → List ℕ
-first_qualifier name = before_first (λ byte. byte == period) name.text
 
 -- The considered groups are all groups of the ACEE while GRPLIST is on, else its current group alone.
 abbrev pub considered : Options → Acee → List (List ℕ)
@@ -142,7 +133,7 @@ module _ (rows : Rows) (acee : Acee) (class : List ℕ) (name : Spelled) (asked 
       -- 6 CLASSIFIED: the classification check fails. No level, category or label can be defined yet
       never
       -- 7 OWNDATA: the class is DATASET and the name's first qualifier is the user ID
-      ∷ case (is_dataset class && bytes_eq (first_qualifier name) acee.user) rule.OwnData 0 NoAccess
+      ∷ case (is_dataset class && bytes_eq (first_qualifier name.text) acee.user) rule.OwnData 0 NoAccess
       -- 8 USER: there is a user entry and it suffices
       ∷ with (user_entry acee p) (λ entry. case (suffices entry.level asked) rule.UserEntry 0 entry.level)
       -- 9 GROUP: there is no user entry, and the group entry suffices

@@ -15,14 +15,14 @@ pub struct Answer {
 }
 
 impl Answer {
-    // Access is given.
+    /// Access is given.
     pub(crate) fn allowed(rule: Rule, found: Level) -> Answer
         ensures { result ≡ else_case rule 0 found }
     {
         Answer { rule, rc: 0, found }
     }
 
-    // The decision on the profile of a name, or without one.
+    /// The decision on the profile of a name, or without one.
     pub(crate) fn decision(&self, profile: Option<Pattern>, generation: u64) -> Decision
         ensures { result ≡ decision_of generation profile self.now }
     {
@@ -37,7 +37,7 @@ impl Answer {
     }
 }
 
-// Whether the rule is that of a profile that only warns.
+/// Whether the rule is that of a profile that only warns.
 fn is_warning(rule: &Rule) -> bool
     ensures { result ≡ is_warning rule.now }
 {

@@ -1,10 +1,13 @@
 //! The decision on a request: the first case of the table that fits.
-ghost use Rattle.std.specs.Prelude.{◌≡◌, ◌==◌, ◌&&◌, bytes_eq, position, unwrap_or};
-ghost use Rattle.generic_names.specs.Spelled.{period};
+ghost use Rattle.std.specs.Prelude.{◌≡◌, ◌&&◌, ◌↔◌, ℕ, List, IsTrue, bytes_eq, unwrap_or};
+ghost use Rattle.generic_names.specs.Spelled.{first_qualifier};
+ghost use Rattle.racf_profiles.specs.ClassTable.{allows_operations};
 ghost use Rattle.racf_profiles.specs.declared.profiles.Profile.{Profile};
+ghost use Rattle.racf_profiles.specs.Scope.{InScopeProfile};
+ghost use Rattle.group_tree.specs.ScopeTest.{is_profile_in_scope};
 ghost use Rattle.raclist_image.specs.Facts.{AreFacts};
 ghost use Rattle.decision.specs.Steps.{is_open};
-ghost use Rattle.decision.specs.Table.{decided, cases_of_class, first_answer, case, else_case, first_qualifier, is_dataset, allows_operations, answer_with_profile, answer_without_profile};
+ghost use Rattle.decision.specs.Table.{decided, cases_of_class, first_answer, case, else_case, is_dataset, answer_with_profile, answer_without_profile};
 
 use crate::answer::Answer;
 use crate::entries::{conditional_case, entry_case, is_open, listed, standing};
@@ -14,8 +17,9 @@ use crate::request::Request;
 use access_levels::{Id, Level};
 use access_lists::Found;
 use acee::Acee;
-use generic_names::Resource;
-use racf_profiles::{FixedClass, Options};
+use generic_names::{Resource, first_qualifier};
+use group_tree::laws::scope_is_tested;
+use racf_profiles::{FixedClass, Options, allows_operations};
 use raclist_image::{Facts, Image};
 
 /// Whether the user of the ACEE may have the access that is asked for (z/OS Security Server RACF Security
@@ -24,8 +28,14 @@ use raclist_image::{Facts, Image};
 /// It looks for the profile once, asks each of its access lists once, and takes no memory.
 #[tactic(auto, unfolding(crate::specs::Table::decided))]
 pub fn auth(image: &Image, acee: &Acee, request: &Request) -> Decision
-    ensures { result ≡ decided image.now.state image.now.generation acee.now request.now.class request.now.name request.now.asked }
+    ensures decided { result ≡ decided image.now.state image.now.generation acee.now request.now.class request.now.name request.now.asked }
+
+    // Scope is asked by a test that can be computed; this says that it is scope by ways up.
+    ensures scope { (top owner : List ℕ) → IsTrue (is_profile_in_scope image.now.state.rows top owner) ↔ InScopeProfile image.now.state.rows top owner }
 {
+    // The groups are a tree, and there the test tells what is in scope.
+    let _users = image.user_count();
+    scope_is_tested();
     let generation = image.generation();
     if let Some(answer) = class_answer(image, request.class) {
         return answer.decision(None, generation);
@@ -43,7 +53,7 @@ pub fn auth(image: &Image, acee: &Acee, request: &Request) -> Decision
     }
 }
 
-// The answer that comes before a profile is asked.
+/// The answer that comes before a profile is asked.
 fn class_answer(image: &Image, class: Id) -> Option<Answer>
     ensures { result ≡ first_answer (cases_of_class image.now.state.rows class) }
 {
@@ -54,7 +64,7 @@ fn class_answer(image: &Image, class: Id) -> Option<Answer>
     }
 }
 
-// Nothing is decided.
+/// Nothing is decided.
 fn undecided(rule: Rule) -> Answer
     ensures { result ≡ else_case rule 4 Level.NoAccess }
 {
@@ -65,7 +75,7 @@ fn undecided(rule: Rule) -> Answer
     }
 }
 
-// The answer where no profile covers the name.
+/// The answer where no profile covers the name.
 fn without_profile(options: &Options, class: Id) -> Answer
     ensures { result ≡ answer_without_profile options.now class }
 {
@@ -80,7 +90,7 @@ fn without_profile(options: &Options, class: Id) -> Answer
     }
 }
 
-// The answer of the profile that covers the name.
+/// The answer of the profile that covers the name.
 fn with_profile(image: &Image, acee: &Acee, request: &Request, facts: &Facts<'_>) -> Answer
     ensures { (p : Profile) → AreFacts p facts.now → result ≡ answer_with_profile image.now.state.rows acee.now request.now.class request.now.name request.now.asked p }
 {
@@ -104,14 +114,14 @@ fn with_profile(image: &Image, acee: &Acee, request: &Request, facts: &Facts<'_>
     last_case(facts.warning, standing)
 }
 
-// Whether OPERATIONS may give access: the class allows it, and there is no entry for the user or his groups.
+/// Whether OPERATIONS may give access: the class allows it, and there is no entry for the user or his groups.
 fn may_operate(class: Id, found: &Found) -> bool
     ensures { result ≡ (allows_operations class && is_open found.now) }
 {
     allows_operations(class) && is_open(found)
 }
 
-// The answer where nothing gives access: a profile that only warns gives it then.
+/// The answer where nothing gives access: a profile that only warns gives it then.
 fn last_case(warning: bool, standing: Level) -> Answer
     ensures { result ≡ unwrap_or (case warning Rule.Warning 0 standing) (else_case Rule.Insufficient 8 standing) }
 {
@@ -126,37 +136,9 @@ fn last_case(warning: bool, standing: Level) -> Answer
     }
 }
 
-// Whether the class lets OPERATIONS give access.
-fn allows_operations(class: Id) -> bool
-    ensures { result ≡ allows_operations class }
-{
-    match racf_profiles::class_facts(class) {
-        Some(facts) => facts.operations,
-        None => false,
-    }
-}
-
-// Whether the request is for the user's own data.
+/// Whether the request is for the user's own data.
 fn is_own(acee: &Acee, class: Id, name: &Resource) -> bool
-    ensures { result ≡ (is_dataset class && bytes_eq (first_qualifier name.now) acee.now.user) }
+    ensures { result ≡ (is_dataset class && bytes_eq (first_qualifier name.now.text) acee.now.user) }
 {
-    class == FixedClass::Dataset.id() && first_qualifier(name) == acee.user.text()
-}
-
-// The first qualifier of a name.
-fn first_qualifier(name: &Resource) -> &[u8]
-    ensures { result.now ≡ first_qualifier name.now }
-{
-    let text = name.text();
-    match first_period(text) {
-        Some(end) => &text[..end],
-        None => text,
-    }
-}
-
-// The place of the first period.
-fn first_period(text: &[u8]) -> Option<usize>
-    ensures { result ≡ position (λ byte. byte == period) text.now }
-{
-    text.iter().position(|byte| *byte == b'.')
+    class == FixedClass::Dataset.id() && first_qualifier(name.text()) == acee.user.text()
 }

@@ -12,7 +12,7 @@ use access_lists::{Found, answer, answer_when};
 use acee::Acee;
 use racf_profiles::Options;
 
-// What a standard list gives to the user: by all his groups while GRPLIST is on, else by the current one alone.
+/// What a standard list gives to the user: by all his groups while GRPLIST is on, else by the current one alone.
 pub(crate) fn listed(options: &Options, acee: &Acee, list: &[Entry]) -> Found
     ensures { result ≡ lists.answered acee.now.user (considered options.now acee.now) acee.now.attributes.restricted list.now }
 {
@@ -24,14 +24,14 @@ pub(crate) fn listed(options: &Options, acee: &Acee, list: &[Entry]) -> Found
     }
 }
 
-// Whether neither the user nor one of his groups has an entry.
+/// Whether neither the user nor one of his groups has an entry.
 pub(crate) fn is_open(found: &Found) -> bool
     ensures { result ≡ is_open found.now }
 {
     matches!(found, Found::Star(_) | Found::Nothing)
 }
 
-// The answer of the standard list and of the universal access, where one of them suffices.
+/// The answer of the standard list and of the universal access, where one of them suffices.
 pub(crate) fn entry_case(
     found: &Found,
     restricted: bool,
@@ -55,7 +55,7 @@ pub(crate) fn entry_case(
     }
 }
 
-// The answer of the universal access, where it suffices.
+/// The answer of the universal access, where it suffices.
 fn uacc_case(restricted: bool, uacc: Level, asked: Level) -> Option<Answer>
     ensures { result ≡ uacc_case restricted uacc asked }
 {
@@ -66,7 +66,7 @@ fn uacc_case(restricted: bool, uacc: Level, asked: Level) -> Option<Answer>
     }
 }
 
-// The standing level: the entry's, and without one what everybody has.
+/// The standing level: the entry's, and without one what everybody has.
 pub(crate) fn standing(found: &Found, restricted: bool, uacc: Level) -> Level
     ensures { result ≡ standing_with found.now restricted uacc }
 {
@@ -77,14 +77,14 @@ pub(crate) fn standing(found: &Found, restricted: bool, uacc: Level) -> Level
     }
 }
 
-// The level, or NONE for a RESTRICTED user.
+/// The level, or NONE for a RESTRICTED user.
 fn unless_restricted(restricted: bool, level: Level) -> Level
     ensures { result ≡ (if restricted then Level.NoAccess else level) }
 {
     if restricted { Level::NoAccess } else { level }
 }
 
-// The higher of two levels.
+/// The higher of two levels.
 fn higher(level: Level, other: Level) -> Level
     ensures { result ≡ higher level other }
 {
@@ -95,7 +95,7 @@ fn higher(level: Level, other: Level) -> Level
     }
 }
 
-// The answer of the conditional list, where its entry suffices.
+/// The answer of the conditional list, where its entry suffices.
 pub(crate) fn conditional_case(
     options: &Options,
     acee: &Acee,
@@ -110,7 +110,7 @@ pub(crate) fn conditional_case(
     }
 }
 
-// The place of the conditional entry that counts for the user.
+/// The place of the conditional entry that counts for the user.
 fn place_that_counts(options: &Options, acee: &Acee, list: &[CondEntry]) -> Option<usize>
     ensures { result ≡ lists.answered_when acee.now.port acee.now.user (considered options.now acee.now) acee.now.attributes.restricted list.now }
 {
@@ -122,7 +122,7 @@ fn place_that_counts(options: &Options, acee: &Acee, list: &[CondEntry]) -> Opti
     }
 }
 
-// The answer of the conditional entry at a place, where it suffices.
+/// The answer of the conditional entry at a place, where it suffices.
 fn entry_at(list: &[CondEntry], place: usize, asked: Level) -> Option<Answer>
     ensures { result ≡ with (slice_get list.now place) (λ entry. case (suffices entry.level asked) (Rule.Conditional entry.condition) 0 entry.level) }
 {

@@ -1,7 +1,7 @@
 //! VERIFY: whether a user may come in.
 ghost use Rattle.std.specs.Prelude.{◌≡◌, codes};
 ghost use Rattle.generic_names.specs.declared.kind.NameKind.{NameKind};
-ghost use Rattle.class_profiles.specs.Lawful.{kind_in};
+ghost use Rattle.racf_profiles.specs.LawfulProfiles.{kind_in};
 ghost use Rattle.access_levels.specs.Level.{port_class_name};
 ghost use Rattle.decision.specs.Verify.{is_refused, is_port_refused, is_application_refused, entry_fault, IsVerified};
 
@@ -36,7 +36,7 @@ pub fn verify(alloc: Global, image: &Image, request: &VerifyRequest) -> Result<A
     }
 }
 
-// Why the user may not come in, once his connection is checked.
+/// Why the user may not come in, once his connection is checked.
 fn entry_fault(image: &Image, acee: &Acee) -> Option<VerifyFault>
     ensures { result ≡ entry_fault image.now.state image.now.generation acee.now }
 {
@@ -49,7 +49,7 @@ fn entry_fault(image: &Image, acee: &Acee) -> Option<VerifyFault>
     None
 }
 
-// Whether the port of entry is refused to the user.
+/// Whether the port of entry is refused to the user.
 fn is_port_refused(image: &Image, acee: &Acee) -> bool
     ensures { result ≡ is_port_refused image.now.state image.now.generation acee.now acee.now.port }
 {
@@ -59,7 +59,7 @@ fn is_port_refused(image: &Image, acee: &Acee) -> bool
     }
 }
 
-// Whether the application is refused to the user.
+/// Whether the application is refused to the user.
 fn is_application_refused(image: &Image, acee: &Acee) -> bool
     ensures { result ≡ is_application_refused image.now.state image.now.generation acee.now acee.now.application }
 {
@@ -69,7 +69,7 @@ fn is_application_refused(image: &Image, acee: &Acee) -> bool
     }
 }
 
-// The name of the class of ports.
+/// The name of the class of ports.
 fn port_class(class: PortClass) -> Id
     ensures class { result ≡ port_class_name class }
     ensures kind { kind_in result ≡ NameKind.General }
@@ -82,7 +82,7 @@ fn port_class(class: PortClass) -> Id
     }
 }
 
-// Whether a resource of a general class is refused to the user, who asks for READ.
+/// Whether a resource of a general class is refused to the user, who asks for READ.
 fn is_refused(image: &Image, acee: &Acee, class: Id, name: Id) -> bool
     requires { kind_in class ≡ NameKind.General }
     ensures { result ≡ is_refused image.now.state image.now.generation acee.now class name }
@@ -93,7 +93,7 @@ fn is_refused(image: &Image, acee: &Acee, class: Id, name: Id) -> bool
     }
 }
 
-// The general name that an identifier spells.
+/// The general name that an identifier spells.
 fn general_name(id: Id) -> Resource
     ensures { result ≡ record { kind = NameKind.General; text = id } }
 {

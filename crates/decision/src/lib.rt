@@ -13,6 +13,3 @@ pub use decide::auth;
 pub use entry::verify;
 pub use outcome::{Decision, Rule};
 pub use request::Request;
-
-#[cfg(test)]
-mod tests;

@@ -11,7 +11,7 @@ use acee::{Acee, AceeGroup};
 use racf_profiles::Options;
 use raclist_image::Image;
 
-// The answer of OPERATIONS, the user's or in a group, where it may give access.
+/// The answer of OPERATIONS, the user's or in a group, where it may give access.
 pub(crate) fn operations_case(
     image: &Image,
     acee: &Acee,
@@ -33,7 +33,7 @@ pub(crate) fn operations_case(
     }
 }
 
-// The first considered group with group-OPERATIONS in whose scope a profile of that owner is.
+/// The first considered group with group-OPERATIONS in whose scope a profile of that owner is.
 fn operating_over(image: &Image, acee: &Acee, owner: Id) -> Option<Id>
     ensures { result ≡ operating_over image.now.state.rows acee.now owner }
 {
@@ -48,7 +48,7 @@ fn operating_over(image: &Image, acee: &Acee, owner: Id) -> Option<Id>
     }
 }
 
-// Whether a group is considered, has group-OPERATIONS, and has a profile of that owner in its scope.
+/// Whether a group is considered, has group-OPERATIONS, and has a profile of that owner in its scope.
 fn operates_over(image: &Image, acee: &Acee, group: &AceeGroup, owner: Id) -> bool
     ensures { result ≡ (is_considered image.now.state.rows.options acee.now group.now && group.now.operations && is_profile_in_scope image.now.state.rows group.now.group owner) }
 {
@@ -57,15 +57,15 @@ fn operates_over(image: &Image, acee: &Acee, group: &AceeGroup, owner: Id) -> bo
         && is_in_scope(image, group.group, owner)
 }
 
-// Whether a group is considered.
+/// Whether a group is considered.
 fn is_considered(options: &Options, acee: &Acee, group: &AceeGroup) -> bool
     ensures { result ≡ is_considered options.now acee.now group.now }
 {
     options.grplist || group.group == acee.current
 }
 
-// Whether a profile of that owner is in scope of a group. The groups of every image are a tree, in which
-// the walk up tells it.
+/// Whether a profile of that owner is in scope of a group. The groups of every image are a tree, in which
+/// the walk up tells it.
 fn is_in_scope(image: &Image, top: Id, owner: Id) -> bool
     ensures { result ≡ is_profile_in_scope image.now.state.rows top owner }
 {

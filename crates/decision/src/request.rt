@@ -1,11 +1,11 @@
 //! A request for access.
 ghost use Rattle.std.specs.Prelude.{◌≡◌, IsTrue};
-ghost use Rattle.class_profiles.specs.Lawful.{kind_in};
+ghost use Rattle.racf_profiles.specs.LawfulProfiles.{kind_in};
 ghost use Rattle.decision.specs.Asked.{may_be_asked};
 
 use access_levels::{Id, Level};
-use generic_names::{NameKind, Resource};
-use racf_profiles::FixedClass;
+use generic_names::Resource;
+use racf_profiles::kind_in;
 
 /// A request for access to a resource.
 #[derive(Drop)]
@@ -37,18 +37,7 @@ impl Request {
     }
 }
 
-// The kind of the names of a class.
-fn kind_in(class: Id) -> NameKind
-    ensures { result ≡ kind_in class }
-{
-    if class == FixedClass::Dataset.id() {
-        NameKind::DataSet
-    } else {
-        NameKind::General
-    }
-}
-
-// Whether a level may be asked.
+/// Whether a level may be asked.
 fn may_be_asked(level: Level) -> bool
     ensures { result ≡ may_be_asked level }
 {

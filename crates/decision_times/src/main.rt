@@ -50,8 +50,8 @@ impl Bench {
         })
     }
 
-    /// Works a row.
-    fn work(&mut self, rt: &(impl Print + AllocGlobal), row: &str) -> Result<()> {
+    /// Does what a row asks for.
+    fn run_row(&mut self, rt: &(impl Print + AllocGlobal), row: &str) -> Result<()> {
         let (verb, rest) = parted(row);
         match verb {
             "C" => self.system.command(rt.alloc(), rest),
@@ -116,7 +116,7 @@ fn main(rt: HostRuntime) -> Result<()> {
     let mut bench = Bench::new(rt.alloc())?;
     for line in rt.lines(rt.alloc()) {
         let line = line?;
-        bench.work(&rt, line.as_str())?;
+        bench.run_row(&rt, line.as_str())?;
     }
     Ok(())
 }

@@ -304,6 +304,10 @@ met-start pattern name = record {
   reach = λ kind xs rest bytes ranked covered. record { left = xs; bytes = bytes; ranked = ranked; covered = covered };
 }
 
+-- before the first step the ranks are all still to come
+pub met-first : {pattern name : List ℕ} {begun : Bool} {count : ℕ} {these : List ℕ} → Met pattern name begun count these → count ≡ 0 → (r : ℕ) (rest : List ℕ) → these ≡ r ∷ rest → ranks (qualifiers pattern) ≡ r ∷ rest
+met-first {pattern} {name} {begun} {count} {these} m none r rest next = m.front ∙ ap (λ (n : ℕ). take n (ranks (qualifiers pattern)) ++ these) none ∙ next
+
 module _ {pattern name : List ℕ} {begun : Bool} {count : ℕ} {these : List ℕ} (m : Met pattern name begun count these) (r : ℕ) (rest : List ℕ) (next : these ≡ r ∷ rest) where
   longer : take (count + 1) (ranks (qualifiers pattern)) ≡ take count (ranks (qualifiers pattern)) ++ r ∷ []
   longer =

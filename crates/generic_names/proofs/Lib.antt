@@ -10,3 +10,5 @@ pub mod FirstLaws
 mod CompareLaws
 mod GapLaws
 pub mod BestLaws
+pub mod MostSpecific
+pub mod Apart

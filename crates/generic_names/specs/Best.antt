@@ -1,5 +1,5 @@
 -- The profile that decides on a name: the most specific of those that cover it.
-use Rattle.std.specs.Prelude.{◌≡◌, true, if◌then◌else◌, List, [], ◌∷◌, Option, Some, None, find, filter}
+use Rattle.std.specs.Prelude.{◌≡◌, ◌⊎◌, true, false, if◌then◌else◌, List, [], ◌∷◌, Option, Some, None, MatchOption, find, filter}
 use Rattle.std.specs.Option.{option_or}
 use Rattle.std.specs.List.{AllByRecursion}
 use Rattle.std.specs.Str.{bytes_eq}
@@ -44,3 +44,20 @@ module _ {A : Type 0} (name_of : A → Spelled) where
   BestIsFirst =
       (profiles : List A) (name : Spelled) → IsResource name → AreNamed profiles → AreOfKind name.kind profiles → IsInOrder profiles
       → best profiles name ≡ find (λ p. covers (name_of p) name) profiles
+
+  -- one of the profiles
+  abbrev pub IsAmong : A → List A → Type 0
+  IsAmong x [] = ⊥
+  IsAmong x (y ∷ ys) = (x ≡ y) ⊎ IsAmong x ys
+
+  -- It is one of the profiles, it covers the name, and no profile that covers the name is before it.
+  pub record IsMostSpecific (profiles : List A) (name : Spelled) (x : A) : Type 0 where
+    pub among : IsAmong x profiles
+    pub covering : covers (name_of x) name ≡ true
+    pub first : AllByRecursion (λ y. covers (name_of y) name ≡ true → before (name_of y) (name_of x) ≡ false) profiles
+
+  -- the best is the most specific that covers the name, and there is none only where none covers it
+  abbrev pub BestIsMostSpecific : Type 0
+  BestIsMostSpecific =
+      (profiles : List A) (name : Spelled) → IsResource name → AreNamed profiles → AreOfKind name.kind profiles
+      → MatchOption (best profiles name) (AllByRecursion (λ y. covers (name_of y) name ≡ false) profiles) (IsMostSpecific profiles name)

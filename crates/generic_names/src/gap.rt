@@ -1,9 +1,9 @@
-ghost use Rattle.std.specs.Prelude.{◌≡◌, ℕ, ◌+◌, ◌<◌, ◌≤◌, false, true, length, slice_index, IfSome};
+ghost use Rattle.std.specs.Prelude.{◌≡◌, ℕ, ◌+◌, ◌<◌, ◌≤◌, false, true, length, slice_index, IfSome, IsSome};
 ghost use Rattle.std.specs.Ordering.{nat_cmp, is_lt};
 ghost use Rattle.std.specs.Cmp.Lexicographic.{slice_cmp};
 ghost use Rattle.generic_names.specs.Spelled.{qualifiers};
 ghost use Rattle.generic_names.specs.Before.{ranks};
-ghost use Rattle.generic_names.specs.Gap.{is_below, NoneCovers};
+ghost use Rattle.generic_names.specs.Gap.{is_below, begin_apart, NoneCovers};
 ghost use Rattle.generic_names.specs.Reading.{rest_at};
 ghost use Rattle.generic_names.specs.Follows.{may_follow};
 
@@ -37,6 +37,7 @@ impl<'a> Gap<'a> {
     pub(crate) fn behind(pattern: &'a [u8], name: &Resource) -> Option<Gap<'a>>
         ensures none { IfSome result (λ gap. NoneCovers (record { kind = name.now.kind; text = pattern.now }) gap name.now) }
         ensures onward { IfSome result (λ gap. is_below (record { kind = name.now.kind; text = pattern.now }) gap ≡ true) }
+        ensures comes { begin_apart pattern.now name.now.text ≡ true → IsSome result }
     {
         let text = name.text();
         let mut these = Ranks::of(pattern);
@@ -81,6 +82,7 @@ fn least_that_follows(name: &[u8], begun: bool, at: usize, rank: u16) -> u16
     ensures from { rank ≤ result }
     ensures none { (c : ℕ) → rank ≤ c → c < result → may_follow begun (rest_at name.now at) c ≡ false }
     ensures byte { result ≡ rank → rank < 257 → at < length name.now × (slice_index name.now at ≡ 46 → ⊥) }
+    ensures same { result ≡ rank → rank < 256 → at < length name.now × (slice_index name.now at ≡ rank) }
     ensures end { result ≡ rank → rank ≡ 257 → at ≤ length name.now × (at < length name.now → slice_index name.now at ≡ 46) }
 {
     if at > name.len() {

@@ -2,7 +2,7 @@
 
 ghost use Rattle.generic_names.specs.Laws.{OneIsBefore, NotBoth, PassedOn, TiesAreEqual, EqualsTie, VeryNameIsFirst, CoversItself, ReadsBack, ResourceIsPattern};
 ghost use Rattle.generic_names.specs.Spelled.{Spelled};
-ghost use Rattle.generic_names.specs.Best.{BestIsFirst};
+ghost use Rattle.generic_names.specs.Best.{BestIsFirst, BestIsMostSpecific};
 ghost use Rattle.generic_names.specs.Gap.{GapIsClosed};
 
 /// Among the patterns of one kind the order of specificity is total, and two tie only if they are equal.
@@ -35,4 +35,10 @@ pub fn gap_is_closed()
 /// Of profiles in the order of specificity the best one is the first that covers the name, whatever a profile is.
 pub fn best_is_first<T>()
     ensures { (name_of : T → Spelled) → BestIsFirst name_of }
+{}
+
+/// The best profile is one of the profiles, it covers the name, and none that covers the name is before it; there is none
+/// exactly where no profile covers the name. In whatever order the profiles stand, and whatever a profile is.
+pub fn best_is_most_specific<T>()
+    ensures { (name_of : T → Spelled) → BestIsMostSpecific name_of }
 {}

@@ -1,4 +1,17 @@
-//! Names of resources and of profiles.
+//! Names of resources and of profiles: what spells one, which resources a profile covers, and which of two profiles is the
+//! more specific one.
+//!
+//! A [`Resource`] is the name of one data set or general resource. A [`Pattern`] is the name of a profile, which may be
+//! generic: `%`, `*` and `**` stand for bytes and qualifiers. A [`MemberName`] is the name of a member of the global access
+//! table, in which a qualifier may stand for the user or his group. All three lie in arrays of a fixed size, so nothing here
+//! takes memory. `profile_index` keeps patterns in order and finds the one that decides.
+//!
+//! ```
+//! let profile = Pattern::read(NameKind::DataSet, b"SYS1.PARM*")?;
+//! let name = Resource::read(NameKind::DataSet, b"SYS1.PARMLIB")?;
+//! let covered = profile.covers(&name);        // true
+//! let first = profile.before(&Pattern::read(NameKind::DataSet, b"SYS1.**")?);     // true
+//! ```
 #![tactic(auto)]
 
 mod covering;
@@ -20,6 +33,7 @@ pub use gap::Gap;
 pub use kind::NameKind;
 pub use member::MemberName;
 pub use pattern::Pattern;
+pub use qualifiers::first_qualifier;
 pub use resource::Resource;
 
 #[cfg(test)]

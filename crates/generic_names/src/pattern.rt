@@ -1,9 +1,9 @@
-ghost use Rattle.std.specs.Prelude.{◌≡◌, true, Ok, IfOk, IfSome};
+ghost use Rattle.std.specs.Prelude.{◌≡◌, true, Ok, IfOk, IfSome, IsSome};
 ghost use Rattle.std.specs.Result.{result_ok};
 ghost use Rattle.generic_names.specs.Faults.{pattern_of};
 ghost use Rattle.generic_names.specs.Covers.{is_generic, covers};
 ghost use Rattle.generic_names.specs.Before.{before, order};
-ghost use Rattle.generic_names.specs.Gap.{is_below, NoneCovers};
+ghost use Rattle.generic_names.specs.Gap.{is_below, begin_apart, NoneCovers};
 
 use crate::covering::covers_text;
 use crate::fault::NameFault;
@@ -130,11 +130,13 @@ impl Pattern {
 
     /// Behind a pattern that doesn't cover a name, how far no other pattern does either, so that a search
     /// through patterns in order can pass over those. None where the two differ behind a `*` or `**` only,
-    /// or not at all. It takes about as many steps as the name has bytes.
+    /// or not at all; one comes at least where the two differ by their first bytes. It takes about as many
+    /// steps as the name has bytes.
     pub fn gap<'a>(&'a self, name: &Resource) -> Option<Gap<'a>>
         requires { self.now.kind ≡ name.now.kind }
         ensures none { IfSome result (λ gap. NoneCovers self.now gap name.now) }
         ensures onward { IfSome result (λ gap. is_below self.now gap ≡ true) }
+        ensures comes { begin_apart self.now.text name.now.text ≡ true → IsSome result }
     {
         Gap::behind(self.name.text(), name)
     }

@@ -1,5 +1,6 @@
-ghost use Rattle.std.specs.Prelude.{◌≡◌, ℕ, ◌+◌, ◌<◌, ◌≤◌, ◌∷◌, length, slice_index};
+ghost use Rattle.std.specs.Prelude.{◌≡◌, ◌==◌, ℕ, ◌+◌, ◌<◌, ◌≤◌, ◌∷◌, length, slice_index, position};
 ghost use Rattle.std.specs.List.{slice_range};
+ghost use Rattle.generic_names.specs.Spelled.{period, first_qualifier};
 ghost use Rattle.generic_names.specs.Reading.{rest_at};
 
 /// Where the qualifier that begins at this place ends: at the next period, or with the text.
@@ -24,4 +25,21 @@ fn until_period(text: &[u8]) -> usize
         }
     }
     text.len()
+}
+
+/// The first qualifier of a name's text: what stands before its first period, or the whole text where it has none.
+pub fn first_qualifier(text: &[u8]) -> &[u8]
+    ensures { result.now ≡ first_qualifier text.now }
+{
+    match first_period(text) {
+        Some(end) => &text[..end],
+        None => text,
+    }
+}
+
+/// The place of the first period.
+fn first_period(text: &[u8]) -> Option<usize>
+    ensures { result ≡ position (λ byte. byte == period) text.now }
+{
+    text.iter().position(|byte| *byte == b'.')
 }

@@ -5,10 +5,10 @@ use Rattle.racf_profiles.specs.declared.groups.Group.{Group}
 use Rattle.group_tree.specs.declared.climb.Climb.{Climb}
 use Rattle.group_tree.specs.declared.climb.Climb.TheVariants.{BySuperiors, ByOwners}
 use Rattle.racf_profiles.specs.NewDatabase.{sys1}
-use Rattle.group_tree.specs.Groups.{find_group, IsGroup}
-use Rattle.group_tree.specs.Scope.{IsWay, IsUnder}
+use Rattle.racf_profiles.specs.Lookup.{find_group, IsGroup}
+use Rattle.racf_profiles.specs.Scope.{IsWay, IsUnder}
 use Rattle.group_tree.specs.Climb.{above, IsLinkedBy, LeadsUp}
-use Rattle.group_tree.specs.Lawful.{IsTree}
+use Rattle.racf_profiles.specs.Tree.{IsTree}
 use Rattle.group_tree.proofs.Rows.{same, itself, value_of, holds_of}
 use Rattle.group_tree.proofs.Ways.{way-first, length-way_le}
 

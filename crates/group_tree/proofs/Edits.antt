@@ -9,11 +9,11 @@ use Rattle.std.proofs.lemmas.List.{length-map, map-append}
 use Rattle.std.proofs.lemmas.Map.Keys.{IsDistinct-push, IsDistinct-head, IsDistinct-tail, IsDistinct-cons}
 use Rattle.racf_profiles.specs.declared.groups.Group.{Group}
 use Rattle.racf_profiles.specs.NewDatabase.{sys1}
-use Rattle.group_tree.specs.Groups.{find_group, IsGroup, first_absent, first_subgroup, with_group, at_group, with_superior, with_owner}
-use Rattle.racf_profiles.specs.Lookup.{is_group}
+use Rattle.group_tree.specs.Groups.{first_absent, first_subgroup, with_group, at_group, with_superior, with_owner}
+use Rattle.racf_profiles.specs.Lookup.{find_group, IsGroup, is_group}
 use Rattle.racf_profiles.specs.Edits.{drop_row}
-use Rattle.group_tree.specs.Scope.{IsWay, IsUnder, IsWithin}
-use Rattle.group_tree.specs.Lawful.{IsTree}
+use Rattle.racf_profiles.specs.Scope.{IsWay, IsUnder, IsWithin}
+use Rattle.racf_profiles.specs.Tree.{IsTree}
 use Rattle.group_tree.specs.Answers.{CanAdd, CanMove, CanRemove}
 use Rattle.group_tree.proofs.Rows.{same, itself, apart, value_of, holds_of, some_of, id-find_group, find_group-push_other, find_group-push_here, find_group-push_cases, find_group-map, names-map, find_group-drop_other, find_group-drop_gone}
 use Rattle.group_tree.proofs.Ways.{way-kept, is_member-names}

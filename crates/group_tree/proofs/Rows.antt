@@ -10,9 +10,8 @@ use Rattle.std.proofs.lemmas.List.Folds.{find-append}
 use Rattle.std.proofs.lemmas.Slice.Eq.{bytes_eq-Decides}
 use Rattle.std.proofs.lemmas.Map.Keys.{IsDistinct-head, IsDistinct-tail}
 use Rattle.racf_profiles.specs.declared.groups.Group.{Group}
-use Rattle.racf_profiles.specs.Lookup.{is_group}
+use Rattle.racf_profiles.specs.Lookup.{is_group, find_group}
 use Rattle.racf_profiles.specs.Edits.{drop_row}
-use Rattle.group_tree.specs.Groups.{find_group}
 
 -- ---- names
 pub same : (x y : List ℕ) → bytes_eq x y ≡ true → x ≡ y

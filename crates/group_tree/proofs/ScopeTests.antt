@@ -6,13 +6,12 @@ use Rattle.std.proofs.lemmas.Bool.{or_cases}
 use Rattle.racf_profiles.specs.declared.groups.Group.{Group}
 use Rattle.racf_profiles.specs.declared.users.User.{User}
 use Rattle.racf_profiles.specs.declared.rows.Rows.{Rows}
-use Rattle.racf_profiles.specs.Lookup.{user_of}
+use Rattle.racf_profiles.specs.Lookup.{user_of, find_group}
 use Rattle.group_tree.specs.declared.climb.Climb.TheVariants.{ByOwners}
-use Rattle.group_tree.specs.Groups.{find_group}
-use Rattle.group_tree.specs.Scope.{InScopeGroup, InScopeProfile}
+use Rattle.racf_profiles.specs.Scope.{InScopeGroup, InScopeProfile}
 use Rattle.group_tree.specs.ScopeTest.{owning_superior, is_in_reach, is_group_in_scope, is_profile_in_scope}
 use Rattle.group_tree.specs.Climb.{LeadsUp}
-use Rattle.group_tree.specs.Lawful.{IsTree}
+use Rattle.racf_profiles.specs.Tree.{IsTree}
 use Rattle.group_tree.proofs.Rows.{same, unlike, value_of, holds_of}
 use Rattle.group_tree.proofs.Climbs.{leads_none, leads_here, leads_stuck, leads_from_next, leads_to_next, HasSteps, steps_first, steps_next, steps_all}
 

@@ -5,8 +5,8 @@ use Rattle.std.specs.List.{IsDistinct, AllByRecursion}
 use Rattle.std.proofs.lemmas.List.{map-append}
 use Rattle.std.proofs.lemmas.Map.Keys.{IsDistinct-head, IsDistinct-tail}
 use Rattle.racf_profiles.specs.declared.groups.Group.{Group}
-use Rattle.group_tree.specs.Groups.{find_group, at_group}
-use Rattle.racf_profiles.specs.Lookup.{is_group}
+use Rattle.group_tree.specs.Groups.{at_group}
+use Rattle.racf_profiles.specs.Lookup.{find_group, is_group}
 use Rattle.racf_profiles.specs.Edits.{drop_row}
 use Rattle.group_tree.proofs.Rows.{same, turned, lookup_named}
 use Rattle.group_tree.proofs.Edits.{names-at_group}

@@ -10,9 +10,9 @@ use Rattle.std.proofs.lemmas.Map.Made.{length-le_from_is_member}
 use Rattle.std.proofs.lemmas.List.{length-map}
 use Rattle.racf_profiles.specs.declared.groups.Group.{Group}
 use Rattle.racf_profiles.specs.NewDatabase.{sys1}
-use Rattle.group_tree.specs.Groups.{find_group, IsGroup}
-use Rattle.group_tree.specs.Scope.{IsWay, IsUnder, IsWithin}
-use Rattle.group_tree.specs.Lawful.{IsTree, IsBelow}
+use Rattle.racf_profiles.specs.Lookup.{find_group, IsGroup}
+use Rattle.racf_profiles.specs.Scope.{IsWay, IsUnder, IsWithin}
+use Rattle.racf_profiles.specs.Tree.{IsTree, IsBelow}
 use Rattle.group_tree.proofs.Rows.{same, turned, apart, value_of, holds_of, some_of}
 
 -- ---- ways of any link

@@ -4,9 +4,10 @@ use Rattle.std.specs.Prelude.{◌≡◌, ℕ, ◌<◌, List, [], ◌∷◌, leng
 use Rattle.racf_profiles.specs.declared.groups.Group.{Group}
 use Rattle.group_tree.specs.declared.faults.TreeFault.{TreeFault}
 use Rattle.group_tree.specs.declared.faults.TreeFault.TheVariants.{NoGroup, Exists, Cycle, HasSubgroup, Full, NoMemory}
-use Rattle.group_tree.specs.Groups.{GroupTree, find_group, IsGroup, first_absent, first_subgroup}
-use Rattle.group_tree.specs.Scope.{IsWithin}
-use Rattle.group_tree.specs.Lawful.{most_groups}
+use Rattle.group_tree.specs.Groups.{GroupTree, first_absent, first_subgroup}
+use Rattle.racf_profiles.specs.Lookup.{find_group, IsGroup}
+use Rattle.racf_profiles.specs.Scope.{IsWithin}
+use Rattle.racf_profiles.specs.Limits.{most_groups}
 
 -- `add`: the superior group is there, the new name is free, and the tree isn't full.
 pub record CanAdd (groups : List Group) (group superior : List ℕ) : Type 0 where

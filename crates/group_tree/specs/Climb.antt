@@ -4,7 +4,7 @@ use Rattle.std.specs.Option.{option_eq}
 use Rattle.racf_profiles.specs.declared.groups.Group.{Group}
 use Rattle.group_tree.specs.declared.climb.Climb.{Climb}
 use Rattle.group_tree.specs.declared.climb.Climb.TheVariants.{BySuperiors, ByOwners}
-use Rattle.group_tree.specs.Scope.{IsUnder, IsUnderOwner, IsWay}
+use Rattle.racf_profiles.specs.Scope.{IsUnder, IsUnderOwner, IsWay}
 
 -- The next group up, if the walk goes on.
 abbrev pub above : Climb → Group → Option (List ℕ)

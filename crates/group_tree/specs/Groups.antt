@@ -2,20 +2,13 @@
 use Rattle.std.specs.Prelude.{ℕ, List, [], ◌∷◌, ◌++◌, map, find, not, if◌then◌else◌, Option, Some, IsSome, is_some, bytes_eq}
 use Rattle.std.specs.Option.{option_eq}
 use Rattle.racf_profiles.specs.declared.groups.Group.{Group}
-use Rattle.racf_profiles.specs.Lookup.{is_group}
+use Rattle.racf_profiles.specs.Lookup.{is_group, find_group}
 
 -- What contracts see of a tree: its groups in order of definition, and how many can still be added
 -- without memory.
 pub record GroupTree : Type 0 where
   pub groups : List Group
   pub spare : ℕ
-
--- The group of that name.
-abbrev pub find_group : List Group → List ℕ → Option Group
-find_group groups id = find (is_group id) groups
-
-abbrev pub IsGroup : List Group → List ℕ → Type 0
-IsGroup groups id = IsSome (find_group groups id)
 
 -- The first of these names that no group has.
 abbrev pub first_absent : List Group → List (List ℕ) → Option (List ℕ)

@@ -3,7 +3,7 @@ use Rattle.std.specs.Prelude.{◌≡◌, ◌≤◌, map}
 use Rattle.indexmap.specs.IndexMap.{keys, values, spare}
 use Rattle.group_tree.specs.declared.tree.Tree.TheInside.{Inside}
 use Rattle.group_tree.specs.Groups.{GroupTree}
-use Rattle.group_tree.specs.Lawful.{IsTree}
+use Rattle.racf_profiles.specs.Tree.{IsTree}
 
 abbrev pub stored : Inside → GroupTree
 stored tree = record { groups = values tree.groups; spare = tree.spare }

@@ -4,14 +4,14 @@ use Rattle.std.specs.Option.{option_eq, option_map_or}
 use Rattle.racf_profiles.specs.declared.groups.Group.{Group}
 use Rattle.racf_profiles.specs.declared.users.User.{User}
 use Rattle.racf_profiles.specs.declared.rows.Rows.{Rows}
-use Rattle.racf_profiles.specs.Lookup.{user_of}
-use Rattle.group_tree.specs.Groups.{find_group}
+use Rattle.racf_profiles.specs.Lookup.{user_of, find_group}
 
 -- The superior group, where it owns the group.
 abbrev pub owning_superior : Group → Option (List ℕ)
 owning_superior group = if option_eq bytes_eq group.superior (Some group.owner) then group.superior else None
 
--- A group is in scope of `top` when it is `top`, or when its owner is its superior group and that one is in scope: within so many steps up.
+-- A group is in scope of `top` when it is `top`, or when its owner is its superior group and that one is in scope:
+-- within so many steps up.
 abbrev pub is_in_reach : ℕ → List Group → (top group : List ℕ) → Bool
 is_in_reach zero groups top id = false
 is_in_reach (suc steps) groups top id = option_map_or (λ group. bytes_eq id top || option_map_or (λ superior. is_in_reach steps groups top superior) (owning_superior group) false) (find_group groups id) false

@@ -16,7 +16,7 @@ pub(crate) enum Climb {
 }
 
 impl Climb {
-    // The next group up.
+    /// The next group up.
     fn above(self, group: &Group) -> Option<Id>
         ensures { result ≡ above self group.now }
     {
@@ -34,7 +34,7 @@ impl Climb {
 }
 
 impl Tree {
-    // Whether a walk up from one group meets another.
+    /// Whether a walk up from one group meets another.
     pub(crate) fn leads_up(&self, climb: Climb, from: Id, to: Id) -> bool
         ensures { IsTrue result ↔ LeadsUp climb self.now.groups from to }
     {

@@ -2,9 +2,9 @@
 ghost use Rattle.std.specs.Prelude.{ℕ, ◌↔◌, List, IsTrue};
 ghost use Rattle.racf_profiles.specs.declared.groups.Group.{Group};
 ghost use Rattle.racf_profiles.specs.declared.rows.Rows.{Rows};
-ghost use Rattle.group_tree.specs.Scope.{InScopeGroup, InScopeProfile};
+ghost use Rattle.racf_profiles.specs.Scope.{InScopeGroup, InScopeProfile};
 ghost use Rattle.group_tree.specs.ScopeTest.{is_group_in_scope, is_profile_in_scope};
-ghost use Rattle.group_tree.specs.Lawful.{IsTree};
+ghost use Rattle.racf_profiles.specs.Tree.{IsTree};
 
 /// In a tree the test that tries the way up step by step tells what is in scope.
 pub fn scope_is_tested()

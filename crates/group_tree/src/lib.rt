@@ -1,4 +1,13 @@
-//! The tree of groups: each group's superior group and owner, and what is in scope of a group.
+//! The tree of groups, [`Tree`]: each group's superior group and owner, and what is in scope of a group.
+//!
+//! The rows of groups are those of `racf_profiles`, and so are the definitions of scope and of what every tree keeps.
+//! The tables of a database and images hold a tree each.
+//!
+//! ```
+//! let mut tree = Tree::new(alloc)?;
+//! tree.add(payroll, sys1(), ibmuser())?;
+//! let is_below = tree.in_scope_group(sys1(), payroll); // only where SYS1 owns it
+//! ```
 #![tactic(auto)]
 
 mod climb;

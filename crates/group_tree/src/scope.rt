@@ -1,6 +1,6 @@
 //! What is in scope of a group: the walk up by the groups' owners.
 ghost use Rattle.std.specs.Prelude.{◌≡◌, ◌↔◌, IsTrue};
-ghost use Rattle.group_tree.specs.Scope.{IsWithin, InScopeGroup, InScopeUser, InScopeProfile};
+ghost use Rattle.racf_profiles.specs.Scope.{IsWithin, InScopeGroup, InScopeUser, InScopeProfile};
 
 use crate::climb::Climb;
 use crate::tree::Tree;

@@ -8,7 +8,8 @@ use racf_profiles::{Classes, Connects, Group, Profile, User, View};
 use std::alloc::Global;
 use std::test::Fail;
 
-// SYS1, and below it D1, D2, D3 and D4, each below the one before. The user ADM owns D3; the superior group owns each other.
+/// SYS1, and below it D1, D2, D3 and D4, each below the one before. The user ADM owns D3; the superior group owns
+/// each other.
 const THREE_LEVELS: [(&[u8], &[u8], &[u8]); 4] = [
     (b"D1", b"SYS1", b"SYS1"),
     (b"D2", b"D1", b"D1"),
@@ -19,7 +20,7 @@ const THREE_LEVELS: [(&[u8], &[u8], &[u8]); 4] = [
 fn three_levels(alloc: Global) -> Result<Tree, Fail> {
     let mut tree = Tree::new(alloc)?;
     for (group, superior, owner) in THREE_LEVELS {
-        tree.reserve()?;
+        tree.reserve(1)?;
         tree.add(Id::read(group)?, Id::read(superior)?, Id::read(owner)?)?;
     }
     Ok(tree)
@@ -48,7 +49,7 @@ fn scope(rt: HostRuntime) -> Result<(), Fail> {
     Ok(())
 }
 
-// A view of the groups of a tree and of one user.
+/// A view of the groups of a tree and of one user.
 #[derive(Drop)]
 struct OneUser<'a> {
     tree: &'a Tree,
@@ -88,7 +89,7 @@ fn scope_of_profiles(rt: HostRuntime) -> Result<(), Fail> {
             items: Vec::new(rt.alloc()),
         },
         level: 0,
-        categories: Categories::NONE,
+        categories: Categories::none(),
         label: None,
         connects: Connects {
             items: Vec::new(rt.alloc()),
@@ -110,7 +111,7 @@ fn scope_of_profiles(rt: HostRuntime) -> Result<(), Fail> {
     Ok(())
 }
 
-// The tree of the same groups, made anew.
+/// The tree of the same groups, made anew.
 fn made_anew(alloc: Global, tree: &Tree) -> Result<Tree, Fail> {
     let mut groups = Vec::new(alloc);
     for place in 0..tree.len() {
@@ -154,7 +155,7 @@ enum Answer {
     HasSubgroup,
 }
 
-// Makes a call that isn't about SYS1.
+/// Makes a call that isn't about SYS1.
 fn change(tree: &mut Tree, call: Call, group: Id, other: Id) -> Result<(), TreeFault> {
     let Ok(root) = Id::read(b"SYS1") else {
         return Err(TreeFault::NoMemory);

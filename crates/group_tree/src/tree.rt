@@ -4,8 +4,9 @@ ghost use Rattle.std.specs.Prelude.{◌≡◌, ℕ, ◌+◌, ◌<◌, ◌≤◌,
 ghost use Rattle.std.specs.Option.{option_copied, option_map};
 ghost use Rattle.indexmap.specs.IndexMap.{get, spare, IsUnchanged};
 ghost use Rattle.racf_profiles.specs.NewDatabase.{sys1};
-ghost use Rattle.group_tree.specs.Groups.{find_group, first_subgroup};
-ghost use Rattle.group_tree.specs.Lawful.{IsTree, IsBelow};
+ghost use Rattle.group_tree.specs.Groups.{first_subgroup};
+ghost use Rattle.racf_profiles.specs.Lookup.{find_group};
+ghost use Rattle.racf_profiles.specs.Tree.{IsTree, IsBelow};
 
 mod changes;
 
@@ -116,7 +117,7 @@ impl Tree {
     }
 }
 
-// Puts a group that isn't there behind the others, under its name.
+/// Puts a group that isn't there behind the others, under its name.
 fn put_last(groups: &mut IndexMap<Id, Group>, group: Group) -> Result<(), TreeFault>
     requires { get bytes_eq groups.old group.id ≡ None }
     ensures last { OnOk result (groups.new.entries ≡ groups.old.entries ++ (group.id, group) ∷ []) }
@@ -130,7 +131,7 @@ fn put_last(groups: &mut IndexMap<Id, Group>, group: Group) -> Result<(), TreeFa
     }
 }
 
-// The identifier that a text spells.
+/// The identifier that a text spells.
 fn spelled(text: &[u8]) -> Id
     requires { id_of text.now ≡ Ok text.now }
     ensures { result ≡ text.now }

@@ -32,7 +32,7 @@ fn cover(rt: &impl Print, row: &str) -> Result<()> {
     Ok(())
 }
 
-fn work(rt: &impl Print, names: &mut Names, row: &str) -> Result<()> {
+fn run_row(rt: &impl Print, names: &mut Names, row: &str) -> Result<()> {
     let (verb, rest) = parted(row)?;
     match verb {
         "P" => Ok(names.add(rest.as_bytes())?),
@@ -46,7 +46,7 @@ fn main(rt: HostRuntime) -> Result<()> {
     let mut names = Names::new(rt.alloc())?;
     for line in rt.lines(rt.alloc()) {
         let line = line?;
-        work(&rt, &mut names, line.as_str())?;
+        run_row(&rt, &mut names, line.as_str())?;
     }
     Ok(())
 }

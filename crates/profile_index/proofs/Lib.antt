@@ -1,3 +1,3 @@
 mod OrderedLaws
 mod PlaceLaws
-mod ShelfLaws
+mod SlotLaws

@@ -1,3 +1,3 @@
 pub mod Indexed
 pub mod Places
-pub mod Shelf
+pub mod EntrySlots

@@ -4,8 +4,8 @@ ghost use Rattle.generic_names.specs.Best.{best, IsInOrder, AreNamed};
 ghost use Rattle.std.specs.List.{slice_get};
 
 use crate::entry::Entry;
+use crate::entry_slots::EntrySlots;
 use crate::search::{end_of_those_before, first_that_covers, place_named, place_of};
-use crate::shelf::Shelf;
 use crate::steps::Steps;
 use generic_names::{Pattern, Resource};
 use std::alloc::{AllocError, Global};
@@ -18,7 +18,7 @@ pub type NoMemory = AllocError;
 /// Entries in the order of specificity of their names, which are of one kind.
 #[derive(Drop)]
 pub struct Index<T> {
-    shelf: Shelf<T>,
+    slots: EntrySlots<T>,
 }
 
 impl<T> Model for Index<T> {
@@ -27,9 +27,9 @@ impl<T> Model for Index<T> {
 
     ghost Value = { Indexed T };
 
-    ghost view = { λ x. x.shelf };
+    ghost view = { λ x. x.slots };
 
-    ghost invariant = { λ x. IsInOrder name_of x.shelf.entries × AreNamed name_of x.shelf.entries };
+    ghost invariant = { λ x. IsInOrder name_of x.slots.entries × AreNamed name_of x.slots.entries };
 }
 
 impl<T> Index<T> {
@@ -42,7 +42,7 @@ impl<T> Index<T> {
         ensures none_spare { IfOk result (λ index. index.spare ≡ 0) }
     {
         Ok(Index {
-            shelf: Shelf::new(alloc),
+            slots: EntrySlots::new(alloc),
         })
     }
 
@@ -53,7 +53,7 @@ impl<T> Index<T> {
         ensures err { OnErr result (self.new.spare ≡ self.old.spare) }
         ensures enough { n ≤ self.old.spare → IsOk result }
     {
-        self.shelf.reserve(n)
+        self.slots.reserve(n)
     }
 
     /// How many entries there are. They stand in the order of specificity, so no name comes twice.
@@ -62,14 +62,14 @@ impl<T> Index<T> {
         ensures ordered { IsInOrder name_of self.now.entries }
         ensures named { AreNamed name_of self.now.entries }
     {
-        self.shelf.len()
+        self.slots.len()
     }
 
     /// How many entries can be inserted before the next `reserve`.
     pub fn spare(&self) -> usize
         ensures { result ≡ self.now.spare }
     {
-        self.shelf.spare()
+        self.slots.spare()
     }
 
     /// The name and the item at a place.
@@ -77,7 +77,7 @@ impl<T> Index<T> {
         requires { place < length self.now.entries }
         ensures { slice_get self.now.entries place ≡ Some (record { name = result.0.now; item = result.1.now }) }
     {
-        let entry = self.shelf.entry(place);
+        let entry = self.slots.entry(place);
         (&entry.name, &entry.item)
     }
 
@@ -89,7 +89,7 @@ impl<T> Index<T> {
         requires { AreOf name.now.kind self.now.entries }
         ensures { IsPlaceOf self.now.entries (best name_of self.now.entries name.now) result }
     {
-        first_that_covers(&self.shelf, name)
+        first_that_covers(&self.slots, name)
     }
 
     /// The entry of the very name, in as many comparisons as the number of entries has binary digits.
@@ -99,7 +99,7 @@ impl<T> Index<T> {
         ensures onward { steps.old ≤ steps.new }
         ensures cost { 2 ^ (steps.new - steps.old) ≤ 2 * length self.now.entries + 1 }
     {
-        place_of(&self.shelf, name, steps)
+        place_of(&self.slots, name, steps)
     }
 
     /// The entry of a pattern's name, generic or not.
@@ -107,7 +107,7 @@ impl<T> Index<T> {
         requires { AreOf name.now.kind self.now.entries }
         ensures { IsPlaceOf self.now.entries (find (has_name name.now) self.now.entries) result }
     {
-        place_named(&self.shelf, name)
+        place_named(&self.slots, name)
     }
 
     /// Adds an entry at its place in the order. It takes no memory. Behind it only the numbers
@@ -122,8 +122,8 @@ impl<T> Index<T> {
     {
         // That the text is a pattern's is what the laws of the order rest on.
         let _ = name.text();
-        let place = end_of_those_before(&self.shelf, &name);
-        self.shelf.insert(place, Entry { name, item });
+        let place = end_of_those_before(&self.slots, &name);
+        self.slots.insert(place, Entry { name, item });
     }
 
     /// Takes the entry of a name out, if there is one.
@@ -134,10 +134,10 @@ impl<T> Index<T> {
         ensures kinds { AreOf name.now.kind self.new.entries }
         ensures spare { self.new.spare ≡ self.old.spare + (if is_some result then 1 else 0) }
     {
-        let Some(place) = place_named(&self.shelf, name) else {
+        let Some(place) = place_named(&self.slots, name) else {
             return None;
         };
-        let Entry { name: _, item } = self.shelf.remove(place);
+        let Entry { name: _, item } = self.slots.remove(place);
         Some(item)
     }
 }

@@ -1,10 +1,22 @@
-//! Profiles in the order of specificity.
+//! Profiles in the order of specificity, and the one that decides on a name.
+//!
+//! An [`Index`] keeps an item under each name, and finds the most specific name that covers a resource without looking at
+//! all of them; `class_profiles` keeps the profiles of a class in one. An entry comes in without memory where `reserve` made
+//! room before. [`Steps`] counts the comparisons of the search for a very name, of which there are as many as the number of
+//! entries has binary digits.
+//!
+//! ```
+//! let mut index = Index::new(alloc)?;
+//! index.reserve(1)?;
+//! index.insert(Pattern::read(NameKind::General, b"BPX.**")?, "the services of z/OS UNIX");
+//! let place = index.find(&Resource::read(NameKind::General, b"BPX.SUPERUSER")?);  // Some(0)
+//! ```
 #![tactic(auto)]
 
 mod entry;
+mod entry_slots;
 mod index;
 mod search;
-mod shelf;
 mod steps;
 
 pub use entry::Entry;

@@ -10,25 +10,25 @@ ghost use Rattle.profile_index.specs.Indexed.{name_of, has_name, AreOf};
 ghost use Rattle.profile_index.specs.Places.{IsFirst, IsOnly};
 ghost use Rattle.profile_index.specs.declared.entry.Entry.{Entry};
 
-use crate::shelf::Shelf;
+use crate::entry_slots::EntrySlots;
 use crate::steps::Steps;
 use generic_names::{Gap, Pattern, Resource};
 use std::cmp::Ordering;
 use std::sync::ledger::Ledger;
 
 /// Where the entries that are before a name end.
-pub(crate) fn end_of_those_before<T>(shelf: &Shelf<T>, name: &Pattern) -> usize
-    requires ordered { IsInOrder name_of shelf.now.entries }
-    requires kinds { AreOf name.now.kind shelf.now.entries }
-    ensures within { result ≤ length shelf.now.entries }
-    ensures below { AllWithin (λ e. before e.name name.now ≡ true) shelf.now.entries 0 result }
-    ensures above { AllWithin (λ e. before e.name name.now ≡ false) shelf.now.entries result (length shelf.now.entries) }
+pub(crate) fn end_of_those_before<T>(slots: &EntrySlots<T>, name: &Pattern) -> usize
+    requires ordered { IsInOrder name_of slots.now.entries }
+    requires kinds { AreOf name.now.kind slots.now.entries }
+    ensures within { result ≤ length slots.now.entries }
+    ensures below { AllWithin (λ e. before e.name name.now ≡ true) slots.now.entries 0 result }
+    ensures above { AllWithin (λ e. before e.name name.now ≡ false) slots.now.entries result (length slots.now.entries) }
 {
     let mut low = 0;
-    let mut high = shelf.len();
+    let mut high = slots.len();
     while low < high {
         let middle = low + (high - low) / 2;
-        if shelf.entry(middle).name.before(name) {
+        if slots.entry(middle).name.before(name) {
             low = middle + 1;
         } else {
             high = middle;
@@ -38,19 +38,19 @@ pub(crate) fn end_of_those_before<T>(shelf: &Shelf<T>, name: &Pattern) -> usize
 }
 
 /// Where the entries end that lie before the end of a gap, from a place on at which one does.
-fn end_of_gap<T>(shelf: &Shelf<T>, from: usize, gap: &Gap) -> usize
-    requires ordered { IsInOrder name_of shelf.now.entries }
-    requires within { from < length shelf.now.entries }
-    requires begun { (d : Entry T) → is_below (get_or shelf.now.entries from d).name gap.now ≡ true }
+fn end_of_gap<T>(slots: &EntrySlots<T>, from: usize, gap: &Gap) -> usize
+    requires ordered { IsInOrder name_of slots.now.entries }
+    requires within { from < length slots.now.entries }
+    requires begun { (d : Entry T) → is_below (get_or slots.now.entries from d).name gap.now ≡ true }
     ensures onward { from < result }
-    ensures within { result ≤ length shelf.now.entries }
-    ensures below { AllWithin (λ e. is_below e.name gap.now ≡ true) shelf.now.entries from result }
+    ensures within { result ≤ length slots.now.entries }
+    ensures below { AllWithin (λ e. is_below e.name gap.now ≡ true) slots.now.entries from result }
 {
-    let mut high = shelf.len();
+    let mut high = slots.len();
     let mut low = from + 1;
     while low < high {
         let middle = low + (high - low) / 2;
-        if shelf.entry(middle).name.is_below(gap) {
+        if slots.entry(middle).name.is_below(gap) {
             low = middle + 1;
         } else {
             high = middle;
@@ -61,23 +61,23 @@ fn end_of_gap<T>(shelf: &Shelf<T>, from: usize, gap: &Gap) -> usize
 
 /// The first entry that covers a name. Entries before the very name don't, and behind one that doesn't
 /// those that can't for the same reason are passed over.
-pub(crate) fn first_that_covers<T>(shelf: &Shelf<T>, name: &Resource) -> Option<usize>
-    requires ordered { IsInOrder name_of shelf.now.entries }
-    requires named { AreNamed name_of shelf.now.entries }
-    requires kinds { AreOf name.now.kind shelf.now.entries }
+pub(crate) fn first_that_covers<T>(slots: &EntrySlots<T>, name: &Resource) -> Option<usize>
+    requires ordered { IsInOrder name_of slots.now.entries }
+    requires named { AreNamed name_of slots.now.entries }
+    requires kinds { AreOf name.now.kind slots.now.entries }
     ensures resource { IsResource name.now }
-    ensures first { IsFirst (λ e. covers e.name name.now) shelf.now.entries result }
+    ensures first { IsFirst (λ e. covers e.name name.now) slots.now.entries result }
 {
     // That the text is a resource's name is what the laws of the order rest on.
     let _ = name.text();
-    let mut place = end_of_those_before(shelf, &Pattern::discrete(name));
-    while place < shelf.len() {
-        let pattern = &shelf.entry(place).name;
+    let mut place = end_of_those_before(slots, &Pattern::discrete(name));
+    while place < slots.len() {
+        let pattern = &slots.entry(place).name;
         if pattern.covers(name) {
             return Some(place);
         }
         place = match pattern.gap(name) {
-            Some(gap) => end_of_gap(shelf, place, &gap),
+            Some(gap) => end_of_gap(slots, place, &gap),
             None => place + 1,
         };
     }
@@ -86,24 +86,24 @@ pub(crate) fn first_that_covers<T>(shelf: &Shelf<T>, name: &Resource) -> Option<
 
 /// The place of a resource's very name, by halving. Each comparison is counted.
 pub(crate) fn place_of<T, L: Ledger>(
-    shelf: &Shelf<T>,
+    slots: &EntrySlots<T>,
     name: &Resource,
     steps: &mut Steps<L>,
 ) -> Option<usize>
-    requires ordered { IsInOrder name_of shelf.now.entries }
-    requires named { AreNamed name_of shelf.now.entries }
-    requires kinds { AreOf name.now.kind shelf.now.entries }
-    ensures first { IsFirst (has_name name.now) shelf.now.entries result }
+    requires ordered { IsInOrder name_of slots.now.entries }
+    requires named { AreNamed name_of slots.now.entries }
+    requires kinds { AreOf name.now.kind slots.now.entries }
+    ensures first { IsFirst (has_name name.now) slots.now.entries result }
     ensures onward { steps.old ≤ steps.new }
-    ensures cost { 2 ^ (steps.new - steps.old) ≤ 2 * length shelf.now.entries + 1 }
+    ensures cost { 2 ^ (steps.new - steps.old) ≤ 2 * length slots.now.entries + 1 }
 {
     let _ = name.text();
     let mut low = 0;
-    let mut size = shelf.len();
+    let mut size = slots.len();
     while size > 0 {
         let half = size / 2;
         let middle = low + half;
-        match counted(&shelf.entry(middle).name, name, steps) {
+        match counted(&slots.entry(middle).name, name, steps) {
             Ordering::Equal => return Some(middle),
             Ordering::Less => {
                 low = middle + 1;
@@ -126,17 +126,17 @@ fn counted<L: Ledger>(pattern: &Pattern, name: &Resource, steps: &mut Steps<L>) 
 }
 
 /// The place of a pattern's name.
-pub(crate) fn place_named<T>(shelf: &Shelf<T>, name: &Pattern) -> Option<usize>
-    requires ordered { IsInOrder name_of shelf.now.entries }
-    requires kinds { AreOf name.now.kind shelf.now.entries }
-    ensures first { IsFirst (has_name name.now) shelf.now.entries result }
-    ensures alone { IsOnly (has_name name.now) shelf.now.entries result }
+pub(crate) fn place_named<T>(slots: &EntrySlots<T>, name: &Pattern) -> Option<usize>
+    requires ordered { IsInOrder name_of slots.now.entries }
+    requires kinds { AreOf name.now.kind slots.now.entries }
+    ensures first { IsFirst (has_name name.now) slots.now.entries result }
+    ensures alone { IsOnly (has_name name.now) slots.now.entries result }
 {
-    let place = end_of_those_before(shelf, name);
-    if place == shelf.len() {
+    let place = end_of_those_before(slots, name);
+    if place == slots.len() {
         return None;
     }
-    if !have_one_text(&shelf.entry(place).name, name) {
+    if !have_one_text(&slots.entry(place).name, name) {
         return None;
     }
     Some(place)

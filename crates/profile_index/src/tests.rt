@@ -1,10 +1,12 @@
-ghost use Rattle.std.specs.Prelude.{◌<◌, IfOk};
+ghost use Rattle.std.specs.Prelude.{◌≡◌, ◌<◌, IfOk};
 ghost use Rattle.generic_names.specs.declared.kind.NameKind.TheVariants.{General};
 ghost use Rattle.profile_index.specs.Indexed.{AreOf};
 
-use crate::{Index, NoMemory};
+use crate::{Index, NoMemory, Steps};
 use generic_names::{NameKind, Pattern, Resource};
 use std::alloc::Global;
+use std::marker::Brand;
+use std::sync::ledger::{Blank, Ledger};
 use std::test::Fail;
 
 /// Random numbers, the same in each run.
@@ -132,6 +134,55 @@ fn finds_what_a_scan_finds(rt: HostRuntime) -> Result<(), Fail> {
         }
         assert_eq!(rt; count_alike(rt.alloc(), &mut numbers, &index, 40)?, 40);
     }
+    Ok(())
+}
+
+/// How many of these names are found as very names, by a counter of comparisons over a ledger of its own.
+fn count_named<L: Ledger>(index: &Index<u32>, blank: Blank, names: &[&[u8]]) -> u32
+    requires name { blank.name ≡ L.name }
+    requires parts { blank.parts ≡ L.parts }
+    requires some { 0 < blank.parts }
+    requires kinds { AreOf General index.now.entries }
+{
+    let (book, share) = blank.open::<L>();
+    let mut steps = Steps::new(book, share);
+    let mut found = 0u32;
+    for name in names {
+        if is_named(index, &mut steps, name) {
+            found = found.wrapping_add(1);
+        }
+    }
+    found
+}
+
+/// Whether a name is found as the very name of an entry.
+fn is_named<L: Ledger>(index: &Index<u32>, steps: &mut Steps<L>, name: &[u8]) -> bool
+    requires { AreOf General index.now.entries }
+{
+    match Resource::read(NameKind::General, name) {
+        Ok(name) => index.find_discrete(&name, steps).is_some(),
+        Err(_) => false,
+    }
+}
+
+/// The same, over a ledger that only this call has.
+fn count_with_a_ledger(index: &Index<u32>, names: &[&[u8]]) -> u32
+    requires { AreOf General index.now.entries }
+{
+    count_named::<Brand>(index, Blank::new(1), names)
+}
+
+#[test]
+fn finds_very_names(rt: HostRuntime) -> Result<(), Fail> {
+    let mut index = Index::new(rt.alloc())?;
+    let patterns = [b"A.B".as_slice(), b"A.*", b"B", b"A.%", b"C.D", b"**", b"A"];
+    for text in patterns {
+        let _ = add(&mut index, text, 0)?;
+    }
+    let there = [b"A".as_slice(), b"A.B", b"B", b"C.D"];
+    let absent = [b"A.C".as_slice(), b"C", b"D", b"AA"];
+    assert_eq!(rt; count_with_a_ledger(&index, &there), 4);
+    assert_eq!(rt; count_with_a_ledger(&index, &absent), 0);
     Ok(())
 }
 

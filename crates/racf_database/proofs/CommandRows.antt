@@ -3,14 +3,14 @@ use Rattle.std.proofs.Common.{◌≡◌, ℕ, true, false, List, [], ◌∷◌, 
 use Rattle.racf_profiles.specs.declared.rows.Rows.{Rows}
 use Rattle.racf_profiles.specs.NewDatabase.{new_rows}
 use Rattle.command_conflicts.specs.declared.conflict.Conflict.{Conflict}
-use Rattle.command_conflicts.specs.declared.conflict.Conflict.TheVariants.{Root, InUse, Cycle, DefaultGroup}
+use Rattle.command_conflicts.specs.declared.conflict.Conflict.TheVariants.{NotBuilt, Root, InUse, Cycle, DefaultGroup}
 use Rattle.command_conflicts.specs.declared.conflict.Holder.TheVariants.{Subgroup, Connected}
 use Rattle.command_parser.specs.declared.commands.Issuer.{Issuer}
-use Rattle.command_parser.specs.declared.forms.AddUser.{AddUser}
-use Rattle.command_parser.specs.declared.forms.AltUser.{AltUser}
-use Rattle.command_parser.specs.declared.forms.Connect.{Connect}
-use Rattle.command_parser.specs.declared.forms.Form.{Form}
-use Rattle.command_parser.specs.declared.forms.Form.TheVariants as form
+use Rattle.command_parser.specs.declared.fields.AddUser.{AddUser}
+use Rattle.command_parser.specs.declared.fields.AltUser.{AltUser}
+use Rattle.command_parser.specs.declared.fields.Connect.{Connect}
+use Rattle.command_parser.specs.declared.fields.CommandFields.{CommandFields}
+use Rattle.command_parser.specs.declared.fields.CommandFields.TheVariants as form
 use Rattle.command_effects.specs.Effects.{step}
 use Rattle.command_conflicts.specs.Conflicts.{conflict_of, no_user, no_owner, no_group, no_named_group, no_class, name_taken, not_connected, default_not_connected, has_subgroup, has_connected, has_profile, cycle, owner_not_superior, default_group, last_special, unknown_level, unknown_category, never_category, unknown_label, is_root, meets, users_full, groups_full, connections_full, user_full, add_user_conflicts, alt_user_conflicts, del_user_conflicts, add_group_conflicts, alt_group_conflicts, del_group_conflicts, connect_conflicts, remove_conflicts}
 
@@ -21,15 +21,15 @@ abbrev ibm : Issuer
 ibm = record { id = codes "IBMUSER"; group = codes "SYS1"; group_spelled = refl }
 
 -- What each command is refused for, if it is, over the rows that the ones before it leave.
-abbrev left : Option Conflict → Form → Rows → Rows
+abbrev left : Option Conflict → CommandFields → Rows → Rows
 left None c rows = step ibm c rows
 left (Some conflict) c rows = rows
 
-abbrev outcomes : List Form → Rows → List (Option Conflict)
+abbrev outcomes : List CommandFields → Rows → List (Option Conflict)
 outcomes [] rows = []
 outcomes (c ∷ cs) rows = conflict_of ibm c rows ∷ outcomes cs (left (conflict_of ibm c rows) c rows)
 
-abbrev rows_after : List Form → Rows → Rows
+abbrev rows_after : List CommandFields → Rows → Rows
 rows_after [] rows = rows
 rows_after (c ∷ cs) rows = rows_after cs (left (conflict_of ibm c rows) c rows)
 
@@ -43,25 +43,25 @@ alt_user user = record { user = user; name = None; dfltgrp = None; owner = None;
 abbrev connect : List ℕ → Option (List ℕ) → Connect
 connect user group = record { user = user; group = group; authority = None; special = false; nospecial = false; operations = false; nooperations = false; auditor = false; noauditor = false; revoke = false; resume = false }
 
-abbrev au : List ℕ → Form
+abbrev au : List ℕ → CommandFields
 au user = form.AddUser (add_user user)
 
-abbrev au_in : List ℕ → List ℕ → Form
+abbrev au_in : List ℕ → List ℕ → CommandFields
 au_in user group = form.AddUser (record (add_user user) { dfltgrp = Some group })
 
-abbrev du : List ℕ → Form
+abbrev du : List ℕ → CommandFields
 du user = form.DelUser (record { user = user })
 
-abbrev ag : List ℕ → Option (List ℕ) → Option (List ℕ) → Form
+abbrev ag : List ℕ → Option (List ℕ) → Option (List ℕ) → CommandFields
 ag group superior owner = form.AddGroup (record { group = group; supgroup = superior; owner = owner })
 
-abbrev alg : List ℕ → Option (List ℕ) → Option (List ℕ) → Form
+abbrev alg : List ℕ → Option (List ℕ) → Option (List ℕ) → CommandFields
 alg group superior owner = form.AltGroup (record { group = group; supgroup = superior; owner = owner })
 
-abbrev dg : List ℕ → Form
+abbrev dg : List ℕ → CommandFields
 dg group = form.DelGroup (record { group = group })
 
-abbrev re : List ℕ → List ℕ → Form
+abbrev re : List ℕ → List ℕ → CommandFields
 re user group = form.Remove (record { user = user; group = Some group })
 
 -- AG A OWNER(SYS1) | AG B SUPGROUP(A) OWNER(A) | ALG A SUPGROUP(B) OWNER(B) | DG A | AU JOE DFLTGRP(B) | DG B | RE JOE GROUP(B) | DU JOE | DG B | DG SYS1
@@ -69,3 +69,7 @@ groups_come_and_go : outcomes (ag (codes "A") None (Some (codes "SYS1")) ∷ ag 
     ≡ None ∷ None ∷ Some (Cycle (codes "A")) ∷ Some (InUse (Subgroup (codes "B"))) ∷ None ∷ Some (InUse (Connected (codes "JOE"))) ∷ Some (DefaultGroup (codes "B")) ∷ None ∷ None ∷ Some Root ∷ []
 unfolding no_user no_owner no_group no_named_group no_class name_taken not_connected default_not_connected has_subgroup has_connected has_profile cycle owner_not_superior default_group last_special unknown_level unknown_category never_category unknown_label is_root meets users_full groups_full connections_full user_full add_user_conflicts alt_user_conflicts del_user_conflicts add_group_conflicts alt_group_conflicts del_group_conflicts connect_conflicts remove_conflicts
 groups_come_and_go = refl
+
+-- AU SYS1 SECLEVEL(TOP): what isn't built comes before all else
+not_built : conflict_of ibm (form.AddUser (record (add_user (codes "SYS1")) { seclevel = Some (codes "TOP") })) start ≡ Some NotBuilt
+not_built = refl

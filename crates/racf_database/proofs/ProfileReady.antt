@@ -1,85 +1,77 @@
--- When a profile can be put into a class without memory.
-use Rattle.std.proofs.Common.{◌≡◌, ℕ, ◌+◌, ◌<◌, ◌≤◌, Bool, true, false, cond, List, [], ◌∷◌, length, Option, None, Some, IsSome, is_some, bytes_eq, refl, sym, ap, subst, ◌∙◌, arith}
-use Rattle.std.specs.Prelude.{find, sum_by}
-use Rattle.std.specs.List.{AllByRecursion}
-use Rattle.std.specs.Option.{option_map_or, option_and_then}
-use Rattle.std.proofs.lemmas.List.Sums.{sum_by-cons}
+-- What a command on profiles makes can be made without memory, where the rows after it are lawful and room was taken.
+use Rattle.std.proofs.Common.{◌≡◌, ℕ, ◌<◌, ◌≤◌, true, false, ◌||◌, List, [], ◌∷◌, ◌++◌, length, Option, None, Some, is_some, bytes_eq, refl, sym, ap, subst, ◌∙◌, arith}
+use Rattle.std.specs.Prelude.{find, IfSome}
+use Rattle.std.specs.List.{AllByRecursion, list_any}
 use Rattle.generic_names.specs.Spelled.{Spelled}
-use Rattle.generic_names.specs.declared.kind.NameKind.{NameKind}
-use Rattle.generic_names.specs.Laws.{IsPattern}
+use Rattle.generic_names.specs.Laws.{OneIsBefore, PassedOn}
 use Rattle.racf_profiles.specs.declared.profiles.Profile.{Profile}
+use Rattle.racf_profiles.specs.declared.profiles.Member.{Member}
 use Rattle.racf_profiles.specs.declared.class_rows.ClassRow.{ClassRow}
-use Rattle.racf_profiles.specs.Lookup.{is_class, is_profile}
-use Rattle.class_profiles.specs.Lawful.{AreProfiles, AreClasses, kind_in, most_profiles}
-use Rattle.class_profiles.specs.Classes.{ClassList, CanPutIn, IsRoomFor, entries_in, profile_count, entry_count, most_entries, room_in, profile_in}
-use Rattle.group_tree.proofs.Rows.{same, find-passes}
-use Rattle.command_effects.specs.ProfileEffects.{dataset}
-use Rattle.command_effects.proofs.AfterLaws.{is_some-find-map}
+use Rattle.racf_profiles.specs.declared.options.Options.{Options}
+use Rattle.racf_profiles.specs.declared.rows.Rows.{Rows}
+use Rattle.racf_profiles.specs.declared.edits.Edit.{Edit}
+use Rattle.racf_profiles.specs.declared.edits.Edit.TheVariants.{PutProfile}
+use Rattle.racf_profiles.specs.Edits.{changed, put_profile, at_class, with_profile}
+use Rattle.racf_profiles.specs.Counts.{profile_count, entry_count}
+use Rattle.racf_profiles.specs.Limits.{most_class_profiles, most_profiles, most_entries_in_all}
+use Rattle.racf_profiles.specs.Lookup.{is_class, class_of, profile_of}
+use Rattle.racf_profiles.specs.LawfulProfiles.{AreClasses, AreProfiles, kind_in}
+use Rattle.racf_profiles.specs.Lawful.{AreLawful}
+use Rattle.group_tree.proofs.Rows.{itself}
+use Rattle.row_tables.specs.Tables.{Tables, classes_in}
+use Rattle.row_tables.specs.Applying.{CanApply, HasRoom, puts_into}
+use Rattle.class_profiles.specs.Classes.{room_in, CanPutIn}
+use Rattle.command_effects.specs.Edits.{put_changed, put_options}
+use Rattle.lawful_commands.proofs.RowLists.{all-found}
+use Rattle.lawful_commands.proofs.ProfileRows.{PutsAreCounted, class-named, found-at_class, found-profile, new-kind}
 
--- what holds of all holds of what is found
-all-found : {X : Type 0} (P : X → Type 0) (it : X → Bool) (xs : List X) (x : X) → AllByRecursion P xs → find it xs ≡ Some x → P x
-all-found P it [] x all found = cc
-all-found P it (y ∷ ys) x all found = by (it y) found (all-found P it ys x all.1)
-  where
-    by : (b : Bool) → cond b (Some y) (find it ys) ≡ Some x → (find it ys ≡ Some x → P x) → P x
-    by true here rest = let it_is : y ≡ x = cc in subst P it_is all.0
-    by false here rest = rest here
+-- What holds behind a profile that is put, where the rows after the whole change are lawful.
+pub record IsPlaced (members : List Member) (options : Options) (rows : Rows) : Type 0 where
+  pub classes : AreClasses rows.classes
+  pub few_profiles : profile_count rows.classes ≤ most_profiles
+  pub few_entries : entry_count rows.classes ≤ most_entries_in_all
+  pub rest : (tables : Tables) → CanApply tables (put_options members options)
 
--- the data sets have their class
-pub dataset-there : (classes : List ClassRow) → AreClasses classes → IsSome (find (is_class dataset) classes)
-dataset-there classes lawful =
-    sym (is_some-find-map (λ (row : ClassRow). row.name) (λ name. bytes_eq name dataset) classes)
-    ∙ ap (λ names. is_some (find (λ name. bytes_eq name dataset) names)) lawful.fixed
+placed : (members : List Member) (options : Options) (rows : Rows) → AreLawful (changed (put_options members options) rows) → IsPlaced members options rows
+placed [] options rows after = record { classes = after.classes; few_profiles = after.few_profiles; few_entries = after.few_entries; rest = λ tables. tt }
+placed (member ∷ members) options rows after = record { classes = after.classes; few_profiles = after.few_profiles; few_entries = after.few_entries; rest = λ tables. (after.categories.few, tt) }
 
--- what is proved of the tables of profiles: when the counts allow a put, and that the profiles of a class are lawful
-abbrev pub CountsAreEnough : Type 0
-CountsAreEnough = (list : ClassList) (class : List ℕ) (row : ClassRow) (profile : Profile) → AreClasses list.classes → profile_count list.classes ≤ most_profiles → find (is_class class) list.classes ≡ Some row
-    → profile.name.kind ≡ kind_in class → (profile_in class profile.name list.classes ≡ None → IsRoomFor list class row)
-    → entry_count list.classes + entries_in profile ≤ most_entries + option_map_or entries_in (profile_in class profile.name list.classes) 0 → CanPutIn list class profile
+module _ (tables : Tables) where
+  -- ---- a profile is put into a class that is there
+  pub profile-ready : (class : List ℕ) (profile : Profile) (members : List Member) (options : Options) (row : ClassRow) → class_of class tables.rows ≡ Some row → profile.name.kind ≡ kind_in class
+      → HasRoom tables (PutProfile class profile ∷ put_options members options) → AreLawful (changed (PutProfile class profile ∷ put_options members options) tables.rows)
+      → CanApply tables (PutProfile class profile ∷ put_options members options)
+  profile-ready class profile members options row here kind room after =
+      let is = placed members options (record tables.rows { classes = at_class class (with_profile profile) tables.rows.classes }) after in
+      let found = found-at_class class (with_profile profile) (λ r. refl) row tables.rows.classes here in
+      let few : length (put_profile profile row.profiles) ≤ most_class_profiles =
+      (all-found (λ (r : ClassRow). AreProfiles (kind_in r.name) r.profiles) (is_class class) (at_class class (with_profile profile) tables.rows.classes) (with_profile profile row) is.classes.lawful found).few in
+      let free : length (PutProfile class profile ∷ put_options members options) ≤ room_in class (classes_in tables) =
+      room.profiles class (ap (λ b. b || list_any (puts_into class) (put_options members options)) (itself class)) (ap is_some here) in (
+        record {
+          kind = kind;
+          room = λ none. omega (arith, free);
+          few_in_class = subst (λ (o : Option ClassRow). IfSome o (λ (r : ClassRow). length (put_profile profile r.profiles) ≤ most_class_profiles)) (sym here) few;
+          few = is.few_profiles;
+          few_entries = is.few_entries;
+        },
+        is.rest _,
+      )
 
-abbrev pub FoundIsLawful : Type 0
-FoundIsLawful = (class : List ℕ) (row : ClassRow) (classes : List ClassRow) → AreClasses classes → find (is_class class) classes ≡ Some row → AreProfiles (kind_in class) row.profiles
+  -- ---- a profile that is there is changed, and keeps its name
+  module _ (one : OneIsBefore) (puts : PutsAreCounted) (passed_on : PassedOn) (lawful : AreLawful tables.rows) (class : List ℕ) (name : Spelled) (change : Profile → Profile) (keeps : (p : Profile) → (change p).name ≡ p.name) where
+    one-ready : (members : List Member) (options : Options) (old : Profile) → profile_of class name tables.rows ≡ Some old → HasRoom tables (PutProfile class (change old) ∷ put_options members options)
+        → AreLawful (changed (PutProfile class (change old) ∷ put_options members options) tables.rows) → CanApply tables (PutProfile class (change old) ∷ put_options members options)
+    one-ready members options old found room after =
+        let there = found-profile one puts passed_on class name tables.rows old found in
+        profile-ready class (change old) members options there.0 there.1
+        (new-kind one puts passed_on tables.rows lawful class name there.0 there.1 old (change old) there.2 (keeps old) ∙ ap kind_in (class-named class tables.rows.classes there.0 there.1)) room after
 
-abbrev IsOf : NameKind → Profile → Type 0
-IsOf kind p = IsPattern p.name × (p.name.kind ≡ kind)
+    pub changed-ready : (members : List Member) (options : Options) (o : Option Profile) → profile_of class name tables.rows ≡ o → HasRoom tables (put_changed class change o ++ put_options members options)
+        → AreLawful (changed (put_changed class change o ++ put_options members options) tables.rows) → CanApply tables (put_changed class change o ++ put_options members options)
+    changed-ready members options None none room after = (placed members options tables.rows after).rest tables
+    changed-ready members options (Some old) found room after = one-ready members options old found room after
 
-module _ (enough : CountsAreEnough) (lawful_in : FoundIsLawful) (tables : ClassList) (lawful : AreClasses tables.classes)
-    (few : profile_count tables.classes ≤ 100000) (few_entries : entry_count tables.classes ≤ 1000000)
-    (class : List ℕ) (row : ClassRow) (there : find (is_class class) tables.classes ≡ Some row) where
-  -- a new profile without entries
-  pub can_add : (new : Profile) → new.name.kind ≡ kind_in class → entries_in new ≡ 0 → length row.profiles + 1 ≤ 50000 → profile_count tables.classes + 1 ≤ 100000 → 0 < room_in class tables → CanPutIn tables class new
-  can_add new kind none fits count room =
-      enough tables class row new lawful few there kind
-      (λ n. record { room = room; few_in_class = omega (arith, fits); few = omega (arith, count) })
-      (omega (arith, none, few_entries))
-
-  -- a profile in place of the one of its name
-  pub can_replace : (name : Spelled) (old new : Profile) → find (is_profile name) row.profiles ≡ Some old → new.name ≡ old.name
-      → entry_count tables.classes + entries_in new ≤ 1000000 + entries_in old → CanPutIn tables class new
-  can_replace name old new found named entries =
-      let kind : new.name.kind ≡ kind_in class =
-      ap (λ (s : Spelled). s.kind) named ∙ (all-found (IsOf (kind_in class)) (is_profile name) row.profiles old (lawful_in class row tables.classes lawful there).named found).1 in
-      let text : new.name.text ≡ name.text = ap (λ (s : Spelled). s.text) named ∙ same old.name.text name.text (find-passes (is_profile name) row.profiles old found) in
-      let at : profile_in class new.name tables.classes ≡ Some old =
-      ap (option_and_then (λ (r : ClassRow). find (is_profile new.name) r.profiles)) there ∙ ap (λ t. find (λ (p : Profile). bytes_eq p.name.text t) row.profiles) text ∙ found in
-      let counted : option_map_or entries_in (profile_in class new.name tables.classes) 0 ≡ entries_in old = ap (λ o. option_map_or entries_in o 0) at in
-      enough tables class row new lawful few there kind (λ none. cc) (omega (arith, entries, counted))
-
--- the class and the profile in it
-pub class-of-profile : (class : List ℕ) (name : Spelled) (classes : List ClassRow) (profile : Profile) → profile_in class name classes ≡ Some profile
-    → (row : ClassRow) × (find (is_class class) classes ≡ Some row) × (find (is_profile name) row.profiles ≡ Some profile)
-class-of-profile class name classes profile found = by (find (is_class class) classes) refl found
-  where
-    by : (o : Option ClassRow) → find (is_class class) classes ≡ o → option_and_then (λ (row : ClassRow). find (is_profile name) row.profiles) o ≡ Some profile
-        → (row : ClassRow) × (find (is_class class) classes ≡ Some row) × (find (is_profile name) row.profiles ≡ Some profile)
-    by None is at = cc
-    by (Some row) is at = (row, is, at)
-
--- what is found counts no more than the whole
-pub found-le : {X : Type 0} (it : X → Bool) (weight : X → ℕ) (xs : List X) (x : X) → find it xs ≡ Some x → weight x ≤ sum_by weight xs
-found-le it weight [] x found = cc
-found-le it weight (y ∷ ys) x found = by (it y) found (found-le it weight ys x)
-  where
-    by : (b : Bool) → cond b (Some y) (find it ys) ≡ Some x → (find it ys ≡ Some x → weight x ≤ sum_by weight ys) → weight x ≤ sum_by weight (y ∷ ys)
-    by true here rest = let same_one : y ≡ x = cc in omega (arith, ap weight same_one, sum_by-cons weight y ys)
-    by false here rest = omega (arith, rest here, sum_by-cons weight y ys)
+    pub alone-ready : (o : Option Profile) → profile_of class name tables.rows ≡ o → HasRoom tables (put_changed class change o) → AreLawful (changed (put_changed class change o) tables.rows) → CanApply tables (put_changed class change o)
+    alone-ready None none room after = tt
+    alone-ready (Some old) found room after = one-ready [] tables.rows.options old found room after

@@ -12,14 +12,14 @@ use Rattle.racf_profiles.specs.declared.profiles.Profile.{Profile}
 use Rattle.racf_profiles.specs.declared.profiles.Member.TheVariants as member
 use Rattle.racf_profiles.specs.declared.rows.Rows.{Rows}
 use Rattle.racf_profiles.specs.NewDatabase.{new_rows}
-use Rattle.command_grammar.specs.declared.values.Reset.TheVariants as reset
+use Rattle.command_values.specs.declared.values.Reset.TheVariants as reset
 use Rattle.command_parser.specs.declared.commands.Issuer.{Issuer}
-use Rattle.command_parser.specs.declared.profile_forms.AddSd.{AddSd}
-use Rattle.command_parser.specs.declared.profile_forms.AltSd.{AltSd}
-use Rattle.command_parser.specs.declared.profile_forms.RDefine.{RDefine}
-use Rattle.command_parser.specs.declared.profile_forms.RAlter.{RAlter}
-use Rattle.command_parser.specs.declared.profile_forms.RDelete.{RDelete}
-use Rattle.command_parser.specs.declared.profile_forms.Permit.{Permit}
+use Rattle.command_parser.specs.declared.profile_fields.AddSd.{AddSd}
+use Rattle.command_parser.specs.declared.profile_fields.AltSd.{AltSd}
+use Rattle.command_parser.specs.declared.profile_fields.RDefine.{RDefine}
+use Rattle.command_parser.specs.declared.profile_fields.RAlter.{RAlter}
+use Rattle.command_parser.specs.declared.profile_fields.RDelete.{RDelete}
+use Rattle.command_parser.specs.declared.profile_fields.Permit.{Permit}
 use Rattle.command_conflicts.specs.declared.conflict.Conflict.TheVariants.{NoUser, NoProfile, NoClass, Exists, InUse, NotGeneric, UnknownName}
 use Rattle.command_conflicts.specs.declared.conflict.Named.TheVariants as named
 use Rattle.command_conflicts.specs.declared.conflict.Holder.TheVariants as holder
@@ -27,7 +27,7 @@ use Rattle.command_effects.specs.ProfileEffects.{dataset, new_data_set, altered_
 use Rattle.command_effects.specs.PermitEffects.{permitted_profile}
 use Rattle.command_conflicts.specs.Required.{first_met, no_owner, unknown_level, unknown_category, never_category, unknown_label}
 use Rattle.command_conflicts.specs.Conflicts.{has_profile}
-use Rattle.command_conflicts.specs.ProfileConflicts.{profiles_in, no_first_qualifier, no_permitted, no_such_class, no_resource_class, no_global_class, no_profile, profile_taken, not_generic, class_profiles_full, profiles_full, standard_full, conditional_full, entries_full, members_full, altered_members_full, categories_full, add_sd_conflicts, alt_sd_conflicts, r_define_conflicts, r_alter_conflicts, r_delete_conflicts, permit_conflicts}
+use Rattle.command_conflicts.specs.ProfileConflicts.{profiles_in, no_first_qualifier, no_permitted, no_such_class, no_resource_class, no_resource_profile, no_global_class, no_profile, profile_taken, not_generic, class_profiles_full, profiles_full, standard_full, conditional_full, entries_full, members_full, categories_full, add_sd_conflicts, add_sd_requirements, add_sd_limits, alt_sd_conflicts, r_define_conflicts, r_define_requirements, r_define_limits, r_alter_conflicts, r_delete_conflicts, permit_conflicts}
 
 abbrev start : Rows
 start = new_rows (λ _. true)
@@ -68,10 +68,10 @@ names_of : map (λ (p : Profile). p.name.text) (profiles_in dataset some_profile
 names_of = refl
 
 -- AD 'JOE.A' | AD 'SYS1.A' OWNER(JOE) | AD 'SYS1.A' SECLEVEL(TOP) | AD 'SYS1.B' SECLABEL(SYSLOW)
-add_sd_rows : map (λ (c : AddSd). first_met (add_sd_conflicts c some_profiles))
+add_sd_rows : map (λ (c : AddSd). first_met (add_sd_conflicts ibm c some_profiles))
     (add_sd (codes "JOE.A") ∷ record (add_sd (codes "SYS1.A")) { owner = Some (codes "JOE") } ∷ record (add_sd (codes "SYS1.A")) { seclevel = Some (codes "TOP") } ∷ record (add_sd (codes "SYS1.B")) { seclevel = Some (codes "TOP") } ∷ record (add_sd (codes "SYS1.B")) { seclabel = Some (codes "SYSLOW") } ∷ [])
     ≡ Some (NoUser (codes "JOE")) ∷ Some (NoUser (codes "JOE")) ∷ Some (Exists (named.Profile (data_set (codes "SYS1.A")))) ∷ Some (UnknownName (codes "TOP")) ∷ None ∷ []
-unfolding no_owner unknown_level unknown_category unknown_label no_first_qualifier profile_taken class_profiles_full profiles_full add_sd_conflicts
+unfolding no_owner unknown_level unknown_category unknown_label no_first_qualifier profile_taken class_profiles_full profiles_full add_sd_requirements add_sd_limits
 add_sd_rows = refl
 
 -- ALD 'SYS1.A' OWNER(JOE) | ALD 'SYS1.B' | ALD 'SYS1.A' DELCATEGORY(RED) | ALD 'SYS1.A'
@@ -82,27 +82,27 @@ unfolding no_owner unknown_level unknown_category never_category unknown_label n
 alt_sd_rows = refl
 
 -- RDEF NONE A | RDEF DATASET A | RDEF GLOBAL NONE | RDEF GLOBAL FACILITY | RDEF FACILITY A.* | RDEF SECLABEL A* | RDEF FACILITY B
-r_define_rows : map (λ (c : RDefine). first_met (r_define_conflicts c some_profiles))
+r_define_rows : map (λ (c : RDefine). first_met (r_define_conflicts ibm c some_profiles))
     (r_define (codes "NONE") (codes "A") ∷ r_define dataset (codes "A") ∷ r_define (codes "GLOBAL") (codes "NONE") ∷ r_define (codes "GLOBAL") (codes "FACILITY") ∷ r_define (codes "FACILITY") (codes "A.*") ∷ r_define (codes "SECLABEL") (codes "A*") ∷ r_define (codes "FACILITY") (codes "B") ∷ [])
     ≡ Some (NoClass (codes "NONE")) ∷ Some (NoClass dataset) ∷ Some (NoClass (codes "NONE")) ∷ None ∷ Some (Exists (named.Profile (general (codes "A.*")))) ∷ Some (NotGeneric (codes "SECLABEL")) ∷ None ∷ []
-unfolding no_owner unknown_level unknown_category unknown_label no_resource_class no_global_class profile_taken not_generic class_profiles_full profiles_full members_full categories_full r_define_conflicts
+unfolding no_owner unknown_level unknown_category unknown_label no_resource_class no_global_class profile_taken not_generic class_profiles_full profiles_full members_full categories_full r_define_requirements r_define_limits
 r_define_rows = refl
 
 -- RALT DATASET A | RALT FACILITY B | RALT FACILITY A.*; RDEL FACILITY B | RDEL NONE B
-r_alter_rows : map (λ (c : RAlter). first_met (r_alter_conflicts c some_profiles))
+r_alter_rows : map (λ (c : RAlter). first_met (r_alter_conflicts ibm c some_profiles))
     (r_alter dataset (codes "A") ∷ r_alter (codes "FACILITY") (codes "B") ∷ r_alter (codes "FACILITY") (codes "A.*") ∷ [])
     ≡ Some (NoClass dataset) ∷ Some (NoProfile (codes "FACILITY") (general (codes "B"))) ∷ None ∷ []
-unfolding no_owner unknown_level unknown_category never_category unknown_label no_resource_class no_profile members_full altered_members_full categories_full r_alter_conflicts
+unfolding no_owner unknown_level unknown_category never_category unknown_label no_resource_class no_resource_profile no_profile members_full categories_full r_alter_conflicts
 r_alter_rows = refl
 
 r_delete_rows : map (λ (c : RDelete). first_met (r_delete_conflicts c some_profiles))
     (record { class = codes "FACILITY"; profile = general (codes "B") } ∷ record { class = codes "NONE"; profile = general (codes "B") } ∷ [])
     ≡ Some (NoProfile (codes "FACILITY") (general (codes "B"))) ∷ Some (NoClass (codes "NONE")) ∷ []
-unfolding no_resource_class no_profile r_delete_conflicts
+unfolding no_resource_class no_resource_profile no_profile r_delete_conflicts
 r_delete_rows = refl
 
 -- PE 'SYS1.A' ID(JOE ANN) | PE 'SYS1.B' ID(*) | PE 'SYS1.A' ID(* IBMUSER SYS1); with DELETE nobody has to be there
-permit_rows : map (λ (c : Permit). first_met (permit_conflicts c some_profiles))
+permit_rows : map (λ (c : Permit). first_met (permit_conflicts ibm c some_profiles))
     (permit (codes "SYS1.A") (Named (codes "SYS1") ∷ Named (codes "JOE") ∷ Named (codes "ANN") ∷ []) ∷ permit (codes "SYS1.B") (Star ∷ []) ∷ permit (codes "SYS1.A") (Named (codes "IBMUSER") ∷ Named (codes "SYS1") ∷ []) ∷ record (permit (codes "SYS1.A") (Named (codes "JOE") ∷ [])) { delete = true } ∷ record (permit (codes "SYS1.A") (Star ∷ [])) { class = codes "NONE" } ∷ [])
     ≡ Some (NoUser (codes "JOE")) ∷ Some (NoProfile dataset (data_set (codes "SYS1.B"))) ∷ None ∷ None ∷ Some (NoClass (codes "NONE")) ∷ []
 unfolding no_permitted no_such_class no_profile standard_full conditional_full entries_full permit_conflicts

@@ -8,13 +8,13 @@ use Rattle.racf_profiles.specs.Lookup.{user_of, group_of, is_user, is_group}
 use Rattle.racf_profiles.specs.Edits.{put_row, changed}
 use Rattle.group_tree.proofs.Rows.{same, find-passes}
 use Rattle.command_parser.specs.declared.commands.Issuer.{Issuer}
-use Rattle.command_parser.specs.declared.forms.AddUser.{AddUser}
-use Rattle.command_parser.specs.declared.forms.AddGroup.{AddGroup}
-use Rattle.command_parser.specs.declared.forms.Form.{Form}
-use Rattle.command_parser.specs.declared.forms.Form.TheVariants as form
+use Rattle.command_parser.specs.declared.fields.AddUser.{AddUser}
+use Rattle.command_parser.specs.declared.fields.AddGroup.{AddGroup}
+use Rattle.command_parser.specs.declared.fields.CommandFields.{CommandFields}
+use Rattle.command_parser.specs.declared.fields.CommandFields.TheVariants as form
 use Rattle.command_effects.specs.Effects.{at_row, step, new_user, altered_user, new_group, altered_group, connected_user, removed_user}
 use Rattle.command_effects.specs.Edits.{edits_of, put_user, put_group}
-use Rattle.command_conflicts.specs.Conflicts.{conflict_of, add_user_conflicts, add_group_conflicts}
+use Rattle.command_conflicts.specs.Conflicts.{first_met, conflicts, add_user_conflicts, add_group_conflicts}
 use Rattle.command_effects.specs.ProfileEffects.{dataset, altered_data_set}
 use Rattle.command_effects.specs.PermitEffects.{permitted_profile}
 use Rattle.command_effects.proofs.ProfileSteps.{changed-put_changed, changed-r_define, changed-r_alter}
@@ -23,7 +23,7 @@ use Rattle.command_effects.proofs.AfterLaws.{at_row-absent}
 use Rattle.command_conflicts.proofs.Unmet.{each_unmet, name_free}
 
 -- ---- a row that is there
-pub put_user-at : (change : User → User) → ((user : User) → (change user).id ≡ user.id) → (id : List ℕ) (users : List User) (user : User) → find (is_user id) users ≡ Some user
+put_user-at : (change : User → User) → ((user : User) → (change user).id ≡ user.id) → (id : List ℕ) (users : List User) (user : User) → find (is_user id) users ≡ Some user
     → put_row (is_user (change user).id) (change user) users ≡ at_row (is_user id) change users
 put_user-at change keeps id users user found =
     ap (λ n. put_row (is_user n) (change user) users) (keeps user ∙ same user.id id (find-passes (is_user id) users user found))
@@ -48,16 +48,16 @@ changed-groups change keeps id rows = by (group_of id rows) refl
         ∙ ap (λ (gs : List Group). record rows { groups = gs }) (put_row-at_row (is_group id) change group rows.groups found)
 
 -- ---- the name of what ADDUSER and ADDGROUP define is free
-pub add_user-free : (issuer : Issuer) (c : AddUser) (rows : Rows) → conflict_of issuer (form.AddUser c) rows ≡ None → (user_of c.user rows ≡ None) × (group_of c.user rows ≡ None)
+add_user-free : (issuer : Issuer) (c : AddUser) (rows : Rows) → first_met (add_user_conflicts issuer c rows) ≡ None → (user_of c.user rows ≡ None) × (group_of c.user rows ≡ None)
 unfolding add_user_conflicts
 add_user-free issuer c rows h = name_free c.user rows (each_unmet (add_user_conflicts issuer c rows) h).1.1.1.0
 
-pub add_group-free : (issuer : Issuer) (c : AddGroup) (rows : Rows) → conflict_of issuer (form.AddGroup c) rows ≡ None → (user_of c.group rows ≡ None) × (group_of c.group rows ≡ None)
+add_group-free : (issuer : Issuer) (c : AddGroup) (rows : Rows) → first_met (add_group_conflicts issuer c rows) ≡ None → (user_of c.group rows ≡ None) × (group_of c.group rows ≡ None)
 unfolding add_group_conflicts
 add_group-free issuer c rows h = name_free c.group rows (each_unmet (add_group_conflicts issuer c rows) h).1.1.0
 
 -- ---- each command
-pub changed-edits_of : (issuer : Issuer) (command : Form) (rows : Rows) → conflict_of issuer command rows ≡ None → changed (edits_of issuer command rows) rows ≡ step issuer command rows
+pub changed-edits_of : (issuer : Issuer) (command : CommandFields) (rows : Rows) → first_met (conflicts issuer command rows) ≡ None → changed (edits_of issuer command rows) rows ≡ step issuer command rows
 changed-edits_of issuer (form.AddUser c) rows h = ap (λ (us : List User). record rows { users = us }) (put_row-new (is_user c.user) (new_user issuer c rows) rows.users (add_user-free issuer c rows h).0)
 changed-edits_of issuer (form.AltUser c) rows h = changed-users (altered_user c rows) (λ user. refl) c.user rows
 changed-edits_of issuer (form.DelUser c) rows h = refl

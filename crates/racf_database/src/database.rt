@@ -2,29 +2,31 @@
 ghost use Rattle.std.specs.Prelude.{◌≡◌, None, Some, IfOk};
 ghost use Rattle.std.specs.Result.{result_err};
 ghost use Rattle.racf_profiles.specs.Edits.{changed};
-ghost use Rattle.group_tree.specs.Lawful.{IsTree};
-ghost use Rattle.class_profiles.specs.Lawful.{AreUsers, AreClasses};
+ghost use Rattle.racf_profiles.specs.Lawful.{AreLawful};
 ghost use Rattle.row_tables.specs.Tables.{first_rows};
-ghost use Rattle.command_conflicts.specs.Conflicts.{conflict_of};
+ghost use Rattle.command_conflicts.specs.Conflicts.{conflict_of, first_conflict_of};
 
 use access_levels::Id;
-use command_conflicts::{Conflict, check_command};
+use command_conflicts::{Conflict, check_command, check_first_command};
 use command_parser::{Command, Issuer};
 use generic_names::Pattern;
 use group_tree::Tree;
+use lawful_commands::new_rows_are_lawful;
 use racf_profiles::{Change, Group, NoMemory, Profile, Rows, User, View};
 use row_tables::RowTables;
 use std::alloc::Global;
 use std::marker::Model;
 
-/// The users, groups, connections and profiles of a database. Users and groups are found by name in one look-up, whatever
-/// their number, and a profile by a search in the order of its class's. Every class is active, and the options are off but
-/// for the names of categories: no command changes them yet.
+/// The users, groups, connections and profiles of a database, which are lawful at any time. Users and groups are
+/// found by name in one look-up, whatever their number, and a profile by a search in the order of its class's. Every
+/// class is active, and the options are off but for the names of categories: no command changes them yet.
 ///
 /// A command is judged by `check`, then `prepare` takes all memory and answers its edits, and `apply` makes them.
 #[derive(Drop)]
 pub struct Database {
+    /// The rows. What holds of the rows of every database holds of them.
     pub(crate) tables: RowTables,
+    /// The change that was prepared last and isn't applied. It can be applied without memory, and leaves lawful rows.
     pub(crate) prepared: Option<Change>,
 }
 
@@ -33,11 +35,11 @@ impl Model for Database {
 
     ghost Value = { Contents };
 
-    ghost use Rattle.racf_database.specs.Kept.{contents_of, IsReady};
+    ghost use Rattle.racf_database.specs.Kept.{contents_of, IsKept};
 
     ghost view = { contents_of };
 
-    ghost invariant = { IsReady };
+    ghost invariant = { IsKept };
 }
 
 impl Database {
@@ -47,16 +49,17 @@ impl Database {
         ensures nothing_prepared { IfOk result (λ database. database.prepared ≡ None) }
     {
         let tables = RowTables::new(alloc)?;
+        new_rows_are_lawful();
         Ok(Database {
             tables,
             prepared: None,
         })
     }
 
-    /// Whether the rows allow the command. It takes no memory. A command takes a look-up for each name in it. DELGROUP also
-    /// looks at every group, where a user may be connected at every user, and where a data set profile may have its name, as
-    /// DELUSER does, at every data set profile. PERMIT compares each ID with those before it and with the entries of the list,
-    /// and ADDMEM each member with those before it and with the others.
+    /// Whether the rows allow the command. It takes no memory. A command takes a look-up for each name in it.
+    /// DELGROUP also looks at every group, where a user may be connected at every user, and where a data set profile
+    /// may have its name, as DELUSER does, at every data set profile. PERMIT compares each ID with those before it
+    /// and with the entries of the list, and ADDMEM each member with those before it and with the others.
     ///
     /// # Errors
     ///
@@ -67,9 +70,21 @@ impl Database {
         check_command(&self.tables, issuer, command)
     }
 
-    /// Makes the change that was prepared last. It takes no memory. A user or a group that goes takes time that grows with
-    /// the users or the groups, and a profile that comes or goes moves those behind it in its class; any other row that is
-    /// put takes a look-up.
+    /// What is told of the command before the issuer's authority is judged: of the conflicts that `check` tells,
+    /// those that come before `Root`. It takes no memory, and as long as `check`.
+    ///
+    /// # Errors
+    ///
+    /// The first conflict that is met of these.
+    pub fn check_first(&self, issuer: &Issuer, command: &Command) -> Result<(), Conflict>
+        ensures { result_err result ≡ first_conflict_of issuer.now command.now self.now.rows }
+    {
+        check_first_command(&self.tables, issuer, command)
+    }
+
+    /// Makes the change that was prepared last. It takes no memory. A user or a group that goes takes time that grows
+    /// with the users or the groups, and a profile that comes or goes moves those behind it in its class; any other
+    /// row that is put takes a look-up.
     pub fn apply(&mut self, change: Change)
         requires { self.old.prepared ≡ Some change }
         ensures rows { self.new.rows ≡ changed change.edits self.old.rows }
@@ -89,9 +104,7 @@ impl Database {
     /// All rows, copied.
     pub fn to_rows(&self, alloc: Global) -> Result<Rows, NoMemory>
         ensures rows { IfOk result (λ rows. rows ≡ self.now.rows) }
-        ensures users { AreUsers self.now.rows.users }
-        ensures groups { IsTree self.now.rows.groups }
-        ensures classes { AreClasses self.now.rows.classes }
+        ensures lawful { AreLawful self.now.rows }
     {
         self.tables.to_rows(alloc)
     }

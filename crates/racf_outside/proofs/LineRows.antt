@@ -30,7 +30,8 @@ only_a_return = refl
 whole : whole_lines (codes "A\nB\nC") ≡ Text (codes "A") ∷ Text (codes "B") ∷ []
 whole = refl
 
--- 4,096 bytes are a line and 4,097 are too long, the carriage return counted; the rest of a line that is too long is skipped
+-- 4,096 bytes are a line and 4,097 are too long, the carriage return counted; the rest of a line that is too long is
+-- skipped
 longest : lines (replicate 4096 65) ≡ Text (replicate 4096 65) ∷ []
 longest = refl
 

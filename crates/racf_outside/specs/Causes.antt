@@ -5,7 +5,8 @@ use Rattle.std.specs.Prelude.{ℕ, ◌-◌, ◌^◌, ◌<◌, ◌≤◌, ◌≡�
 abbrev pub Rose : ℕ → ℕ → Type 0
 Rose before now = (before < now) ⊎ (2 ^ 64 - 1 ≤ now)
 
--- A call that began with the count `before` and ended with `now`: no count fell, and it failed only where the count rose.
+-- A call that began with the count `before` and ended with `now`: no count fell, and it failed only where the count
+-- rose.
 pub record HasCause {T E : Type 0} (before now : ℕ) (result : Result T E) : Type 0 where
   pub no_fewer : before ≤ now
   pub cause : OnErr result (Rose before now)

@@ -8,8 +8,8 @@ pub data Line : Type 0 where
   Text : List ℕ → Line
   TooLong : Line
 
--- The line whose bytes, without its line feed, are these: over 4,096 of them are too long; else one carriage return (13)
--- at their end is no part of the text.
+-- The line whose bytes, without its line feed, are these: over 4,096 of them are too long; else one carriage return
+-- (13) at their end is no part of the text.
 abbrev pub line_of : List ℕ → Line
 line_of raw = if nat_lt 4096 (length raw) then TooLong else Text (strip_last 13 raw)
 

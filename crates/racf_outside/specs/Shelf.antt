@@ -1,5 +1,10 @@
 -- What the calls of a shelf leave as it was, and what they change: maps from names to what is told of each.
-use Rattle.std.specs.Prelude.{ℕ, ◌≡◌, ◌≢◌, Bool, true, false, List, Option}
+use Rattle.std.specs.Prelude.{ℕ, ◌≡◌, ◌≢◌, Bool, true, false, List, Option, None, Some}
+
+-- what a shelf tells of an output that has these bytes: the bytes, where it tells any
+abbrev pub told : Bool → List ℕ → Option (List ℕ)
+told true bytes = Some bytes
+told false bytes = None
 
 -- every name tells what it told
 abbrev pub SameBytes : (List ℕ → Option (List ℕ)) → (List ℕ → Option (List ℕ)) → Type 0

@@ -14,9 +14,13 @@ const BLOCK: usize = 65_536;
 
 /// A source, and the part of its newest block that hasn't been passed yet.
 pub(crate) struct Blocks<S: Source> {
+    /// Where the blocks come from.
     source: S,
+    /// The newest block.
     block: Vec<u8>,
+    /// Where the bytes begin that haven't been passed.
     from: usize,
+    /// Where the block's bytes end.
     to: usize,
 }
 

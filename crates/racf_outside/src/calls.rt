@@ -8,13 +8,18 @@ use crate::faults::Faults;
 use crate::streams::Failed;
 use std::marker::Model;
 
-/// Which calls of an object are to fail, how many came, and how many faults were counted. Both numbers stay at
-/// 2^64 - 1 once they are there.
+/// Which calls of an object are to fail, how many came, how many faults were counted, and how many of these for want of
+/// memory. The numbers stay at 2^64 - 1 once they are there.
 #[derive(Drop)]
 pub(crate) struct Calls {
+    /// The numbers, from 1, of the calls that are to fail.
     failing: Vec<u64>,
+    /// How many calls came.
     made: u64,
+    /// How many faults were counted.
     faults: Faults,
+    /// How many calls failed for want of memory.
+    refusals: Faults,
 }
 
 impl Model for Calls {
@@ -22,7 +27,7 @@ impl Model for Calls {
 
     ghost Value = { CallsMade };
 
-    ghost view = { λ a. record { failing = a.failing.items; made = a.made; faults = a.faults } };
+    ghost view = { λ a. record { failing = a.failing.items; made = a.made; faults = a.faults; refusals = a.refusals } };
 }
 
 impl Calls {
@@ -34,6 +39,7 @@ impl Calls {
             failing,
             made: 0,
             faults: Faults::new(),
+            refusals: Faults::new(),
         }
     }
 
@@ -43,6 +49,7 @@ impl Calls {
         ensures failed { is_err result ≡ is_to_fail self.old.failing self.new.made }
         ensures cause { HasCause self.old.faults self.new.faults result }
         ensures faultless { OnOk result (self.new.faults ≡ self.old.faults) }
+        ensures refusals { self.new.refusals ≡ self.old.refusals }
     {
         self.made = self.made.saturating_add(1);
         if self.failing.contains(&self.made) {
@@ -57,7 +64,21 @@ impl Calls {
         ensures no_fewer { self.old.faults ≤ self.new.faults }
         ensures failing { self.new.failing ≡ self.old.failing }
         ensures made { self.new.made ≡ self.old.made }
+        ensures refusals { self.new.refusals ≡ self.old.refusals }
     {
+        self.faults.count()
+    }
+
+    /// Counts a fault that want of memory caused.
+    pub(crate) fn refusal(&mut self) -> Failed
+        ensures rose { Rose self.old.faults self.new.faults }
+        ensures no_fewer { self.old.faults ≤ self.new.faults }
+        ensures failing { self.new.failing ≡ self.old.failing }
+        ensures made { self.new.made ≡ self.old.made }
+        ensures refused { Rose self.old.refusals self.new.refusals }
+        ensures no_fewer_refusals { self.old.refusals ≤ self.new.refusals }
+    {
+        self.refusals.count();
         self.faults.count()
     }
 
@@ -73,6 +94,7 @@ impl Calls {
         ensures faults { TakesOver handed self.old.faults self.new.faults }
         ensures failing { self.new.failing ≡ self.old.failing }
         ensures made { self.new.made ≡ self.old.made }
+        ensures refusals { self.new.refusals ≡ self.old.refusals }
     {
         self.faults.take_over(handed);
     }

@@ -9,6 +9,7 @@ use std::marker::Model;
 /// A count of faults, which stays at 2^64 - 1 once it is there.
 #[derive(Drop)]
 pub(crate) struct Faults {
+    /// How many faults.
     number: u64,
 }
 

@@ -1,21 +1,27 @@
 //! The real shelf: files, standard input and standard output. It tells no content.
 
-ghost use Rattle.std.specs.Prelude.{◌≡◌, ◌≤◌, length, None, IfOk};
+ghost use Rattle.std.specs.Prelude.{◌≡◌, ◌≤◌, length, Bool, false, None, IfOk};
 ghost use Rattle.racf_outside.specs.Slots.{is_lent};
 
 use crate::faults::Faults;
+use crate::file_identity::{FileIdentity, OpenInputs, identity_of};
 use crate::outputs::Outputs;
 use crate::shelf::Shelf;
 use crate::streams::{Failed, Sink, Source};
 use std::alloc::Global;
-use std::fs::File;
-use std::io;
+use std::fs::{File, OpenFile, OpenOptions};
 use std::io::{Read, Write};
 use std::marker::Model;
 use std::rt::Files;
+use std::{fs, io};
 
 /// The name that means standard input as an input, and standard output as an output.
 const STANDARD: &str = "-";
+
+/// The paths of the files that standard input and standard output are, where the system has such paths.
+const STANDARD_INPUT: &str = "/dev/stdin";
+
+const STANDARD_OUTPUT: &str = "/dev/stdout";
 
 /// Where bytes come from.
 #[derive(Drop)]
@@ -38,7 +44,11 @@ impl<R: Files + Input> Origin<R> {
 /// A file or standard input, open for reading. Each read is one call of the system.
 #[derive(Drop)]
 pub struct FileSource<R: Files + Input> {
+    /// What is read.
     origin: Origin<R>,
+    /// Which file that is, where it is one that could be lost.
+    identity: Option<FileIdentity>,
+    /// The reads that failed.
     faults: Faults,
 }
 
@@ -93,7 +103,9 @@ impl<R: Files + Print + Drop> Target<R> {
 /// A file or standard output, open for writing. Each write is one call of the system, and nothing is held back.
 #[derive(Drop)]
 pub struct FileSink<R: Files + Print + Drop> {
+    /// What is written to.
     target: Target<R>,
+    /// The writes that failed.
     faults: Faults,
 }
 
@@ -129,12 +141,22 @@ impl<R: Files + Print + Drop> Sink for FileSink<R> {
 
 /// The shelf of the files that a path names, a relative one from the folder that the program runs in. The name `-` is
 /// standard input or standard output.
+///
+/// No input is emptied while it is open, whatever other name it has: an output that is the same file as an open input
+/// isn't opened, which is a fault. Only then is what the output's file held before cut away.
 #[derive(Drop)]
 pub struct FileShelf<R: Files + Input + Print + Clone + Drop> {
+    /// Where the memory for names and identities is from.
     alloc: Global,
+    /// The files and the standard streams.
     runtime: R,
+    /// Which inputs are open.
+    inputs: OpenInputs,
+    /// Which outputs are open.
     outputs: Outputs,
+    /// The openings and sources that failed.
     source_faults: Faults,
+    /// The openings and sinks that failed.
     sink_faults: Faults,
 }
 
@@ -147,6 +169,7 @@ impl<R: Files + Input + Print + Clone + Drop> FileShelf<R> {
         FileShelf {
             alloc,
             runtime,
+            inputs: OpenInputs::new(alloc),
             outputs: Outputs::new(alloc),
             source_faults: Faults::new(),
             sink_faults: Faults::new(),
@@ -154,19 +177,49 @@ impl<R: Files + Input + Print + Clone + Drop> FileShelf<R> {
     }
 
     /// Opens what bytes come from.
-    fn origin(&self, name: &str) -> io::Result<Origin<R>> {
+    fn open_input(&self, name: &str) -> io::Result<FileSource<R>>
+        ensures { IfOk result (λ source. source ≡ 0) }
+    {
         if name == STANDARD {
-            return Ok(Origin::Standard(self.runtime.reader()));
+            return Ok(FileSource {
+                origin: Origin::Standard(self.runtime.reader()),
+                identity: self.identity_at(STANDARD_INPUT),
+                faults: Faults::new(),
+            });
         }
-        Ok(Origin::File(File::open(&self.runtime, name)?))
+        let file = File::open(&self.runtime, name)?;
+        let identity = identity_of(&file.metadata()?);
+        Ok(FileSource {
+            origin: Origin::File(file),
+            identity,
+            faults: Faults::new(),
+        })
     }
 
-    /// Opens what bytes go to.
-    fn target(&self, name: &str) -> io::Result<Target<R>> {
+    /// Opens what bytes go to, empty. A file is cut only once it is known that it is no open input.
+    fn open_output(&self, name: &str) -> io::Result<Target<R>> {
         if name == STANDARD {
+            self.inputs.refuse(self.identity_at(STANDARD_OUTPUT))?;
             return Ok(Target::Standard(self.runtime.clone()?));
         }
-        Ok(Target::File(File::create(&self.runtime, name)?))
+        let file = OpenOptions::new()
+            .write(true)
+            .create(true)
+            .open(&self.runtime, name)?;
+        let metadata = file.metadata()?;
+        self.inputs.refuse(identity_of(&metadata))?;
+        if metadata.is_file() {
+            file.set_len(0)?;
+        }
+        Ok(Target::File(file))
+    }
+
+    /// Which file this path names, where that can be told.
+    fn identity_at(&self, path: &str) -> Option<FileIdentity> {
+        match fs::metadata(&self.runtime, path) {
+            Ok(metadata) => identity_of(&metadata),
+            Err(_) => None,
+        }
     }
 }
 
@@ -174,6 +227,8 @@ impl<R: Files + Input + Print + Clone + Drop> Shelf for FileShelf<R> {
     type In = FileSource<R>;
 
     type Out = FileSink<R>;
+
+    ghost tells = { false };
 
     ghost input = { λ _ _. None };
 
@@ -185,18 +240,26 @@ impl<R: Files + Input + Print + Clone + Drop> Shelf for FileShelf<R> {
 
     ghost sink_faults = { λ shelf. shelf.sink_faults };
 
+    ghost source_gives = { λ _ _ _ _. Unit {0} };
+
+    ghost sink_gives = { λ _ _ _ _. Unit {0} };
+
+    ghost give_back_gives = { λ _ _ _ _. Unit {0} };
+
+    ghost take_back_gives = { λ _ _ _ _. Unit {0} };
+
     fn source(&mut self, name: &str) -> Result<FileSource<R>, Failed> {
-        match self.origin(name) {
-            Ok(origin) => Ok(FileSource {
-                origin,
-                faults: Faults::new(),
-            }),
+        let Ok(source) = self.open_input(name) else {
+            return Err(self.source_faults.count());
+        };
+        match self.inputs.add(source.identity) {
+            Ok(()) => Ok(source),
             Err(_) => Err(self.source_faults.count()),
         }
     }
 
     fn sink(&mut self, name: &str) -> Result<FileSink<R>, Failed> {
-        let Ok(target) = self.target(name) else {
+        let Ok(target) = self.open_output(name) else {
             return Err(self.sink_faults.count());
         };
         match self.outputs.lend(self.alloc, name) {
@@ -215,5 +278,6 @@ impl<R: Files + Input + Print + Clone + Drop> Shelf for FileShelf<R> {
 
     fn take_back(&mut self, _name: &str, source: FileSource<R>) {
         self.source_faults.take_over(source.faults());
+        self.inputs.remove(source.identity);
     }
 }

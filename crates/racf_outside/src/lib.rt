@@ -1,11 +1,22 @@
-//! The outside of the security manager: sources that bytes come from, sinks that bytes go to, the shelf of named
-//! inputs and outputs, and the lines of an input. Each object counts its faults, and a call fails only where the count of
-//! its object rose.
+//! The outside of the security manager: sources that bytes come from, sinks that bytes go to, the shelf of named inputs
+//! and outputs, and the lines of an input. Each object counts its faults, and a call fails only where the count of its
+//! object rose.
+//!
+//! The principal type is `Shelf`: `FileShelf` is that of real files, `MemoryShelf` that of an embedder or a test, which
+//! tells what was written. `racf_run` works a stream between an input and an output of either.
+//!
+//! ```text
+//! let mut shelf = MemoryShelf::new(alloc, failing);
+//! shelf.put("IN", bytes, Vec::new(alloc))?;
+//! let status = racf(alloc, &words, &mut shelf);
+//! let written = shelf.output("OUT");
+//! ```
 #![tactic(auto)]
 
 mod blocks;
 mod calls;
 mod faults;
+mod file_identity;
 mod files;
 mod line_buffer;
 mod lines;

@@ -11,7 +11,9 @@ pub(crate) const LONGEST: usize = 4_096;
 /// A line that has begun, of which the first `LONGEST` bytes are kept.
 #[derive(Drop)]
 pub(crate) struct LineBuffer {
+    /// The first bytes.
     text: Vec<u8>,
+    /// How many bytes have come.
     size: usize,
 }
 

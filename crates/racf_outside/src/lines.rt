@@ -36,7 +36,9 @@ pub enum LineFault {
 
 /// A reader of the lines of a source.
 pub struct Lines<S: Source> {
+    /// The input.
     scanner: Scanner<S>,
+    /// The newest line.
     line: LineBuffer,
 }
 
@@ -52,8 +54,8 @@ impl<S: Source> Lines<S> {
     ghost use Rattle.racf_outside.specs.Next.{Nexts};
     ghost use Rattle.racf_outside.specs.contracts.lines.Lines.{the_row};
 
-    /// The lines of what a source has left. Takes the memory for a block and for a line; where it is short, the source is
-    /// given back.
+    /// The lines of what a source has left. Takes the memory for a block and for a line; where it is short, the source
+    /// is given back.
     pub fn new(alloc: Global, source: S) -> Result<Lines<S>, S>
         ensures start { IfOk result (λ lines. lines ≡ at_start (S.left source) (S.faults source)) }
         ensures back { IfErr result (λ back. back ≡ source) }

@@ -1,19 +1,21 @@
 //! Sources and sinks in memory, whose calls may be told to fail, and those that never fail.
 
-ghost use Rattle.std.specs.Prelude.{ℕ, ◌≡◌, ◌<◌, ◌≤◌, List, [], ◌++◌, Option, None, Some, length, take, drop, min, is_err, IfOk, OnErr};
+ghost use Rattle.std.specs.Prelude.{ℕ, ◌≡◌, ◌<◌, ◌≤◌, List, [], ◌++◌, Option, None, Some, false, length, take, drop, min, is_err, IfOk, OnErr};
 ghost use Rattle.std.specs.Io.KnownBytes.{prepend_known, append_known, IsAtEnd};
-ghost use Rattle.racf_outside.specs.Calls.{CountsCall, no_calls, is_to_fail};
+ghost use Rattle.racf_outside.specs.Calls.{CountsCall, FailsAsTold, no_calls, is_to_fail};
 ghost use Rattle.racf_outside.specs.Causes.{HasCause};
 
 use crate::calls::Calls;
 use crate::streams::{Failed, Sink, Source};
-use std::alloc::Global;
+use std::alloc::{AllocError, Global};
 use std::marker::Model;
 
 /// Bytes that are read from the front.
 #[derive(Drop)]
 struct Remaining {
+    /// All bytes.
     bytes: Vec<u8>,
+    /// How many of them were read.
     at: usize,
 }
 
@@ -44,7 +46,9 @@ impl Remaining {
 /// A source of bytes in memory.
 #[derive(Drop)]
 pub struct MemorySource {
+    /// What is left to read.
     remaining: Remaining,
+    /// The reads.
     calls: Calls,
 }
 
@@ -101,7 +105,9 @@ impl Source for MemorySource {
 /// A sink that keeps its bytes in memory.
 #[derive(Drop)]
 pub struct MemorySink {
+    /// What was taken.
     bytes: Vec<u8>,
+    /// The writes.
     calls: Calls,
 }
 
@@ -161,14 +167,14 @@ impl Sink for MemorySink {
         ensures kept { OnErr result (Some self.new.taken ≡ Some self.old.taken) }
         ensures cause { HasCause self.old.calls.faults self.new.calls.faults result }
 
-        // It takes the whole piece.
+        // It takes the whole piece, and fails only where it is told to, or for want of memory.
         ensures takes { IfOk result (λ n. n ≡ length bytes.now) }
-        ensures counted { CountsCall self.old.calls self.new.calls }
+        ensures failed { FailsAsTold false self.old.calls self.new.calls (is_err result) }
     {
         self.calls.call()?;
         match self.bytes.extend_from_slice(bytes) {
             Ok(()) => Ok(bytes.len()),
-            Err(_) => Err(self.calls.fault()),
+            Err(AllocError) => Err(self.calls.refusal()),
         }
     }
 }
@@ -176,6 +182,7 @@ impl Sink for MemorySink {
 /// A source of bytes in memory that never fails.
 #[derive(Drop)]
 pub struct NeverSource {
+    /// What is left to read.
     remaining: Remaining,
 }
 

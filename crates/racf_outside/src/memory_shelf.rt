@@ -1,11 +1,12 @@
 //! A shelf in memory.
 
-ghost use Rattle.std.specs.Prelude.{ℕ, ◌≡◌, ◌≢◌, true, None, Some, find, List, ◌∷◌, IfSome, OnOk, OnErr};
+ghost use Rattle.std.specs.Prelude.{ℕ, ◌≡◌, ◌≢◌, true, None, Some, find, is_none, List, ◌∷◌, IfSome, IfOk, OnOk, OnErr};
 ghost use Rattle.std.specs.Option.{option_copied};
 ghost use Rattle.racf_outside.specs.Calls.{no_calls};
+ghost use Rattle.racf_outside.specs.MemoryShelf.{OpensInput, OpensOutput, GivesBack, TakesBack};
 ghost use Rattle.racf_outside.specs.Shelf.{SameBytes, SameOthers};
 ghost use Rattle.racf_outside.specs.Slots.{output_of, is_lent};
-ghost use Rattle.racf_outside.specs.Stored.{input_of, is_stored_as};
+ghost use Rattle.racf_outside.specs.Stored.{input_of, failing_of, is_stored_as};
 
 use crate::calls::Calls;
 use crate::memory::{MemorySink, MemorySource};
@@ -13,6 +14,7 @@ use crate::outputs::Outputs;
 use crate::shelf::Shelf;
 use crate::streams::Failed;
 use std::alloc::{AllocError, Global};
+use std::marker::Model;
 
 /// Which calls of a shelf in memory are to fail, by their numbers from 1.
 #[derive(Drop)]
@@ -28,14 +30,30 @@ pub struct Failing {
 /// An input: its name, its bytes, and which reads of them are to fail.
 #[derive(Drop)]
 pub(crate) struct Stored {
+    /// The name that it was put under.
     pub(crate) name: String,
+    /// Its bytes.
     pub(crate) bytes: Vec<u8>,
+    /// The numbers, from 1, of the reads that are to fail.
     pub(crate) failing: Vec<u64>,
+}
+
+impl Stored {
+    /// A source of its bytes. Takes the memory for them.
+    fn open(&self, alloc: Global) -> Result<MemorySource, AllocError>
+        ensures bytes { IfOk result (λ source. source.left ≡ self.now.bytes.items) }
+        ensures calls { IfOk result (λ source. source.calls ≡ no_calls self.now.failing.items) }
+    {
+        let bytes = Vec::from_slice(alloc, &self.bytes)?;
+        let failing = Vec::from_slice(alloc, &self.failing)?;
+        Ok(MemorySource::new(bytes, failing))
+    }
 }
 
 /// The inputs by their names. The newest of a name counts; they are searched one by one.
 #[derive(Drop)]
 pub(crate) struct Inputs {
+    /// The newest first.
     pub(crate) stored: Vec<Stored>,
 }
 
@@ -49,19 +67,16 @@ impl Inputs {
         Ok(())
     }
 
-    /// A source of the input of this name, where there is one and memory for its bytes.
-    fn open(&self, alloc: Global, name: &str) -> Option<MemorySource>
-        ensures bytes { IfSome result (λ source. Some source.left ≡ input_of self.now name.now) }
-        ensures new { IfSome result (λ source. source.calls.faults ≡ 0) }
+    /// A source of the input of this name, where there is one. Takes the memory for its bytes.
+    fn open(&self, alloc: Global, name: &str) -> Option<Result<MemorySource, AllocError>>
+        ensures absent { is_none result ≡ is_none (input_of self.now name.now) }
+        ensures bytes { IfSome result (λ opened. IfOk opened (λ source. Some source.left ≡ input_of self.now name.now)) }
+        ensures calls { IfSome result (λ opened. IfOk opened (λ source. source.calls ≡ no_calls (failing_of self.now name.now))) }
     {
-        let stored = self.find(name)?;
-        let Ok(bytes) = Vec::from_slice(alloc, &stored.bytes) else {
-            return None;
-        };
-        let Ok(failing) = Vec::from_slice(alloc, &stored.failing) else {
-            return None;
-        };
-        Some(MemorySource::new(bytes, failing))
+        match self.find(name) {
+            Some(stored) => Some(stored.open(alloc)),
+            None => None,
+        }
     }
 
     /// The newest input of this name.
@@ -74,16 +89,36 @@ impl Inputs {
     }
 }
 
-/// A shelf whose inputs and outputs are kept in memory. A source or a sink that can't be opened, for want of memory too,
-/// is a fault, and so is a source of a name that no input has.
+/// A shelf whose inputs and outputs are kept in memory. A source or a sink that can't be opened, for want of memory
+/// too, is a fault, and so is a source of a name that no input has.
 #[derive(Drop)]
 pub struct MemoryShelf {
+    /// Where its memory is from.
     alloc: Global,
+    /// What was put.
     inputs: Inputs,
+    /// What was opened as an output, and given back.
     outputs: Outputs,
+    /// Which writes to each output are to fail.
     failing_writes: Vec<u64>,
+    /// The openings of inputs.
     sources: Calls,
+    /// The openings of outputs.
     sinks: Calls,
+}
+
+impl Model for MemoryShelf {
+    ghost use Rattle.racf_outside.specs.MemoryShelf.{ShelfInMemory};
+
+    ghost Value = { ShelfInMemory };
+
+    ghost view = { λ a. record {
+      inputs = a.inputs;
+      outputs = a.outputs;
+      failing_writes = a.failing_writes.items;
+      sources = a.sources;
+      sinks = a.sinks;
+    } };
 }
 
 impl MemoryShelf {
@@ -91,8 +126,9 @@ impl MemoryShelf {
     pub fn new(alloc: Global, failing: Failing) -> MemoryShelf
         ensures inputs { (name : List ℕ) → ⟦<MemoryShelf as Shelf>⟧.input result name ≡ None }
         ensures outputs { (name : List ℕ) → ⟦<MemoryShelf as Shelf>⟧.output result name ≡ None }
-        ensures source_faults { ⟦<MemoryShelf as Shelf>⟧.source_faults result ≡ 0 }
-        ensures sink_faults { ⟦<MemoryShelf as Shelf>⟧.sink_faults result ≡ 0 }
+        ensures sources { result.sources ≡ no_calls failing.sources.items }
+        ensures sinks { result.sinks ≡ no_calls failing.sinks.items }
+        ensures writes { result.failing_writes ≡ failing.writes.items }
     {
         let Failing {
             sources,
@@ -119,8 +155,13 @@ impl MemoryShelf {
             (⟦<MemoryShelf as Shelf>⟧.input self.old) (⟦<MemoryShelf as Shelf>⟧.input self.new) }
         ensures err { OnErr result (SameBytes
             (⟦<MemoryShelf as Shelf>⟧.input self.old) (⟦<MemoryShelf as Shelf>⟧.input self.new)) }
-        ensures outputs { SameBytes
-            (⟦<MemoryShelf as Shelf>⟧.output self.old) (⟦<MemoryShelf as Shelf>⟧.output self.new) }
+        ensures failing { OnOk result (failing_of self.new.inputs name.now ≡ failing.items) }
+        ensures outputs { self.new.outputs ≡ self.old.outputs }
+        ensures failing_writes { self.new.failing_writes ≡ self.old.failing_writes }
+
+        // It counts no opening and no fault.
+        ensures sources { self.new.sources ≡ self.old.sources }
+        ensures sinks { self.new.sinks ≡ self.old.sinks }
     {
         let name = String::from_str(self.alloc, name)?;
         self.inputs.put(Stored {
@@ -143,6 +184,8 @@ impl Shelf for MemoryShelf {
 
     type Out = MemorySink;
 
+    ghost tells = { true };
+
     ghost input = { λ shelf. input_of shelf.inputs };
 
     ghost output = { λ shelf. output_of shelf.outputs };
@@ -153,10 +196,19 @@ impl Shelf for MemoryShelf {
 
     ghost sink_faults = { λ shelf. shelf.sinks.faults };
 
+    ghost source_gives = { OpensInput };
+
+    ghost sink_gives = { OpensOutput };
+
+    ghost give_back_gives = { λ old _ _ new. GivesBack old new };
+
+    ghost take_back_gives = { λ old _ _ new. TakesBack old new };
+
     fn source(&mut self, name: &str) -> Result<MemorySource, Failed> {
         self.sources.call()?;
         match self.inputs.open(self.alloc, name) {
-            Some(source) => Ok(source),
+            Some(Ok(source)) => Ok(source),
+            Some(Err(AllocError)) => Err(self.sources.refusal()),
             None => Err(self.sources.fault()),
         }
     }
@@ -164,11 +216,11 @@ impl Shelf for MemoryShelf {
     fn sink(&mut self, name: &str) -> Result<MemorySink, Failed> {
         self.sinks.call()?;
         let Ok(failing) = Vec::from_slice(self.alloc, &self.failing_writes) else {
-            return Err(self.sinks.fault());
+            return Err(self.sinks.refusal());
         };
         match self.outputs.lend(self.alloc, name) {
             Ok(()) => Ok(MemorySink::new(self.alloc, failing)),
-            Err(_) => Err(self.sinks.fault()),
+            Err(AllocError) => Err(self.sinks.refusal()),
         }
     }
 

@@ -10,8 +10,11 @@ use std::alloc::{AllocError, Global};
 /// An output: its name, whether it is lent, and the bytes that were given back, where they are kept.
 #[derive(Drop)]
 pub(crate) struct Slot {
+    /// The name that it was opened under.
     pub(crate) name: String,
+    /// It is open, and not given back yet.
     pub(crate) lent: bool,
+    /// What was given back, where it is kept.
     pub(crate) bytes: Option<Vec<u8>>,
 }
 
@@ -30,6 +33,7 @@ impl Slot {
 /// The outputs by their names. The newest of a name counts; they are searched one by one.
 #[derive(Drop)]
 pub(crate) struct Outputs {
+    /// The newest first.
     pub(crate) slots: Vec<Slot>,
 }
 

@@ -40,8 +40,11 @@ pub(crate) enum Found {
 
 /// An input, how many of its bytes were taken, and whether it has ended.
 pub(crate) struct Scanner<S: Source> {
+    /// The bytes of the input.
     blocks: Blocks<S>,
+    /// How many of them were taken.
     passed: u64,
+    /// The input has ended.
     ended: bool,
 }
 

@@ -1,15 +1,15 @@
 //! Tables of inputs and their lines, and each form once.
 
 use crate::{
-    Failed, Failing, FileShelf, Line, LineFault, Lines, MemoryShelf, MemorySink, MemorySource,
-    NeverSink, NeverSource, Shelf, Sink, Source,
+    Failed, Failing, FileShelf, Line, LineFault, Lines, MemoryShelf, MemorySource, NeverSink,
+    NeverSource, Shelf, Sink, Source,
 };
 use std::alloc::{AllocError, Global};
 use std::fs;
 use std::test::Fail;
 
-/// The lines that a source gives, each with a bar behind it: its text, or a question mark where it is too long. Stops at
-/// the first fault, which is a star.
+/// The lines that a source gives, each with a bar behind it: its text, or a question mark where it is too long. Stops
+/// at the first fault, which is a star.
 fn told<S: Source>(alloc: Global, lines: &mut Lines<S>) -> Result<Vec<u8>, AllocError> {
     let mut told = Vec::new(alloc);
     for _ in 0..u64::MAX {
@@ -66,7 +66,8 @@ fn lines_are_those_of_the_input(rt: HostRuntime) -> Result<(), Fail> {
         assert_eq!(rt; told.as_slice(), wanted);
     }
 
-    // 4,096 bytes are a line, a carriage return counted, and one more is too many; a line that crosses a block is whole.
+    // 4,096 bytes are a line, a carriage return counted, and one more is too many; a line that crosses a block is
+    // whole.
     let long = letters(alloc, 4_096, b"\nB")?;
     assert_eq!(rt; lines_of(alloc, &long)?.len(), 4_099);
     let longer = letters(alloc, 4_097, b"\nB")?;
@@ -93,14 +94,6 @@ fn faults_are_counted(rt: HostRuntime) -> Result<(), Fail> {
     assert_eq!(rt; lines.next(), Ok(Line::End));
     assert_eq!(rt; lines.next(), Ok(Line::End));
     assert_eq!(rt; lines.into_source().faults(), 1);
-
-    // The second write fails and takes nothing.
-    let mut sink = MemorySink::new(alloc, Vec::from_slice(alloc, &[2])?);
-    assert_eq!(rt; sink.write(b"one "), Ok(4));
-    assert_eq!(rt; sink.write(b"two "), Err(Failed));
-    assert_eq!(rt; sink.write(b"three"), Ok(5));
-    assert_eq!(rt; sink.bytes(), b"one three".as_slice());
-    assert_eq!(rt; sink.faults(), 1);
     assert_eq!(rt; NeverSink.write(b"four"), Ok(4));
     Ok(())
 }
@@ -124,32 +117,83 @@ fn copies<F: Shelf>(shelf: &mut F, from: &str, to: &str) -> bool {
     copied
 }
 
-#[test]
-fn shelves_keep_their_outputs(rt: HostRuntime) -> Result<(), Fail> {
-    let alloc = rt.alloc();
+/// A shelf in memory whose second source, third sink and second writes are to fail, with an input and one that can't be
+/// read.
+fn failing_shelf(alloc: Global) -> Result<MemoryShelf, AllocError> {
     let failing = Failing {
-        sources: Vec::from_slice(alloc, &[3])?,
-        sinks: Vec::new(alloc),
-        writes: Vec::new(alloc),
+        sources: Vec::from_slice(alloc, &[2])?,
+        sinks: Vec::from_slice(alloc, &[3])?,
+        writes: Vec::from_slice(alloc, &[2])?,
     };
     let mut shelf = MemoryShelf::new(alloc, failing);
     shelf.put("in", Vec::from_slice(alloc, b"text")?, Vec::new(alloc))?;
-    assert!(rt; copies(&mut shelf, "in", "out"));
-    assert_eq!(rt; shelf.output("out"), Some(b"text".as_slice()));
-    assert_eq!(rt; shelf.output("in"), None);
-    assert!(rt; !copies(&mut shelf, "no such input", "out"));
-    assert!(rt; !copies(&mut shelf, "in", "out"), "the third opening fails");
-    assert!(rt; copies(&mut shelf, "in", "out"));
+    let reads = Vec::from_slice(alloc, &[1])?;
+    shelf.put("bad", Vec::from_slice(alloc, b"text")?, reads)?;
+    Ok(shelf)
+}
 
-    // The real shelf: standard streams, files of the folder that the test runs in, and a folder, which can't be written.
-    let mut files = FileShelf::new(alloc, rt.clone()?);
-    assert!(rt; copies(&mut files, "-", "-"));
+/// Whether the output of a shelf is this text.
+fn tells(shelf: &MemoryShelf, text: &str) -> bool {
+    shelf.output("out") == Some(text.as_bytes())
+}
+
+#[test]
+fn openings_fail_as_told(rt: HostRuntime) -> Result<(), Fail> {
+    let mut shelf = failing_shelf(rt.alloc())?;
+    for (input, copied, told) in [
+        ("in", true, "text"),
+        ("in", false, "text"),
+        ("bad", false, ""),
+        ("in", false, ""),
+        ("none", false, ""),
+        ("in", true, "text"),
+    ] {
+        assert_eq!(rt; copies(&mut shelf, input, "out"), copied);
+        assert!(rt; tells(&shelf, told));
+    }
+    Ok(())
+}
+
+#[test]
+fn writes_fail_as_told(rt: HostRuntime) -> Result<(), Fail> {
+    let mut shelf = failing_shelf(rt.alloc())?;
+    let Ok(mut sink) = shelf.sink("out") else {
+        return Err(Fail::from(AllocError));
+    };
+    assert_eq!(rt; sink.write(b"one "), Ok(4));
+    assert_eq!(rt; sink.write(b"two "), Err(Failed));
+    assert_eq!(rt; sink.bytes(), b"one ".as_slice());
+    assert_eq!(rt; sink.faults(), 1);
+    assert_eq!(rt; shelf.output("out"), None);
+    shelf.give_back("out", sink);
+    assert_eq!(rt; shelf.output("out"), Some(b"one ".as_slice()));
+    Ok(())
+}
+
+#[test]
+fn files_are_not_lost(rt: HostRuntime) -> Result<(), Fail> {
+    let mut files = FileShelf::new(rt.alloc(), rt.clone()?);
     fs::write(&rt, "shelf.in", "text")?;
-    assert!(rt; copies(&mut files, "shelf.in", "shelf.out"));
+    fs::hard_link(&rt, "shelf.in", "shelf.link")?;
+    for (input, output, copied) in [
+        ("-", "-", true),
+        ("shelf.in", "shelf.out", true),
+        ("shelf.out", "./shelf.out", false),
+        ("shelf.in", "shelf.link", false),
+        ("shelf.none", "shelf.out", false),
+        ("shelf.in", ".", false),
+    ] {
+        assert_eq!(rt; copies(&mut files, input, output), copied);
+    }
+    assert_eq!(rt; fs::read_to_string(&rt, "shelf.in")?.as_str(), "text");
     assert_eq!(rt; fs::read_to_string(&rt, "shelf.out")?.as_str(), "text");
-    assert!(rt; !copies(&mut files, "shelf.in", "."));
-    assert!(rt; !copies(&mut files, "shelf.none", "shelf.out"));
+
+    // Once it is closed, an input is a file like any other.
+    fs::write(&rt, "shelf.in", "longer text")?;
+    assert!(rt; copies(&mut files, "shelf.out", "shelf.link"));
+    assert_eq!(rt; fs::read_to_string(&rt, "shelf.in")?.as_str(), "text");
     fs::remove_file(&rt, "shelf.in")?;
+    fs::remove_file(&rt, "shelf.link")?;
     fs::remove_file(&rt, "shelf.out")?;
     Ok(())
 }

@@ -9,7 +9,6 @@ use Rattle.racf_profiles.specs.declared.profiles.Profile.{Profile}
 use Rattle.racf_profiles.specs.declared.class_rows.ClassRow.{ClassRow}
 use Rattle.racf_profiles.specs.Lookup.{is_class, is_profile}
 use Rattle.racf_profiles.specs.Edits.{put_row, drop_row, at_class, without_profile}
-use Rattle.racf_profiles.specs.State.{live_copy, copy_at, effective_in}
 use Rattle.racf_profiles.proofs.Found.{find-hit, find-miss}
 
 -- A row that isn't there isn't dropped.
@@ -41,15 +40,6 @@ at_class-without_absent class name (row ∷ classes) absent = ⊎_elim
     ∙ ap (λ rest. row ∷ rest) (at_class-without_absent class name classes (sym (ap (λ o. option_and_then (λ (r : ClassRow). find (is_profile name) r.profiles) o) (find-miss (is_class class) row classes miss)) ∙ absent)))
     (cases_Bool (is_class class row))
 
-pub copy_at-absent : (name : List ℕ) (copy : ClassRow → List Profile) (classes : List ClassRow) (copies : List (List Profile)) → find (is_class name) classes ≡ None → copy_at name copy classes copies ≡ copies
-copy_at-absent name copy [] copies absent = refl
-copy_at-absent name copy (class ∷ classes) [] absent = refl
-copy_at-absent name copy (class ∷ classes) (old ∷ copies) absent = ⊎_elim
-    (λ (hit : is_class name class ≡ true). let found : Some class ≡ None = sym (find-hit (is_class name) class classes hit) ∙ absent in cc)
-    (λ (miss : is_class name class ≡ false). ap (λ b. cond b (copy class ∷ copies) (old ∷ copy_at name copy classes copies)) miss
-    ∙ ap (λ rest. old ∷ rest) (copy_at-absent name copy classes copies (sym (find-miss (is_class name) class classes miss) ∙ absent)))
-    (cases_Bool (is_class name class))
-
 -- What is put is found.
 pub put_row-found : {X : Type 0} (p : X → Bool) (x : X) (xs : List X) → p x ≡ true → find p (put_row p x xs) ≡ Some x
 put_row-found p x [] is = find-hit p x [] is
@@ -72,17 +62,3 @@ same_name name = (bytes_eq-Decides name name).1 refl
 -- Who has the one name hasn't the other.
 pub other_name : (name one other : List ℕ) → bytes_eq one other ≡ false → bytes_eq name one ≡ true → bytes_eq name other ≡ false
 other_name name one other differ same = ap (λ n. bytes_eq n other) ((bytes_eq-Decides name one).0 same) ∙ differ
-
--- The listed copies of a restart are the live profiles.
-live : (listed : Bool) (profiles : List Profile) → cond listed (cond listed profiles []) profiles ≡ profiles
-live true profiles = refl
-live false profiles = refl
-
-pub effective_in-live : (name : List ℕ) (classes : List ClassRow) → effective_in name classes (map live_copy classes) ≡ option_map (λ (class : ClassRow). class.profiles) (find (is_class name) classes)
-effective_in-live name [] = refl
-effective_in-live name (class ∷ classes) = ⊎_elim
-    (λ (hit : is_class name class ≡ true). ap (λ b. cond b (Some (cond class.listed (live_copy class) class.profiles)) (effective_in name classes (map live_copy classes))) hit ∙ ap Some (live class.listed class.profiles)
-    ∙ sym (ap (λ o. option_map (λ (row : ClassRow). row.profiles) o) (find-hit (is_class name) class classes hit)))
-    (λ (miss : is_class name class ≡ false). ap (λ b. cond b (Some (cond class.listed (live_copy class) class.profiles)) (effective_in name classes (map live_copy classes))) miss ∙ effective_in-live name classes
-    ∙ sym (ap (λ o. option_map (λ (row : ClassRow). row.profiles) o) (find-miss (is_class name) class classes miss)))
-    (cases_Bool (is_class name class))

@@ -2,3 +2,4 @@ pub mod Found
 pub mod Tables
 pub mod EditLaws
 pub mod OrderedProfiles
+pub mod States

@@ -11,8 +11,7 @@ use Rattle.generic_names.specs.declared.kind.NameKind.{NameKind}
 use Rattle.racf_profiles.specs.declared.profiles.Profile.{Profile}
 use Rattle.racf_profiles.specs.declared.class_rows.ClassRow.{ClassRow}
 use Rattle.racf_profiles.specs.Lookup.{is_profile, is_class}
-use Rattle.racf_profiles.specs.Edits.{put_profile, comes_first, is_in_order, AreNamed, at_class, with_listed, with_profile}
-use Rattle.racf_profiles.specs.State.{copy_at, effective_in}
+use Rattle.racf_profiles.specs.Edits.{put_profile, comes_first, is_in_order, AreNamed, at_class, with_profile}
 use Rattle.racf_profiles.proofs.Found.{find-hit, find-miss, all_head, all_tail}
 use Rattle.racf_profiles.proofs.EditLaws.{same_name}
 
@@ -79,24 +78,6 @@ put_profile-in_order total kind x (y ∷ ys) lawful is named ordered = ⊎_elim
     (put_profile-in_order total kind x ys lawful is named.1 (all_tail _ _ ordered)))
     (cases_Bool (before x.name y.name)))
     (cases_Bool (is_profile x.name y))
-
--- A class that is listed has its live profiles as its copy.
-pub effective_in-listed : (name : List ℕ) (row : ClassRow) (classes : List ClassRow) (copies : List (List Profile)) → find (is_class name) classes ≡ Some row → length copies ≡ length classes
-    → effective_in name (at_class name (with_listed true) classes) (copy_at name (λ (class : ClassRow). class.profiles) classes copies) ≡ Some row.profiles
-effective_in-listed name row [] copies found long = cc
-effective_in-listed name row (class ∷ classes) [] found long = cc
-effective_in-listed name row (class ∷ classes) (old ∷ copies) found long = ⊎_elim
-    (λ (hit : is_class name class ≡ true).
-    let some : Some class ≡ Some row = sym (find-hit (is_class name) class classes hit) ∙ found in
-    let same : class ≡ row = cc in
-    ap (λ b. effective_in name (cond b (with_listed true class ∷ classes) (class ∷ at_class name (with_listed true) classes)) (cond b (class.profiles ∷ copies) (old ∷ copy_at name (λ (c : ClassRow). c.profiles) classes copies))) hit
-    ∙ ap (λ b. cond b (Some class.profiles) (effective_in name classes copies)) hit ∙ ap (λ (c : ClassRow). Some c.profiles) same)
-    (λ (miss : is_class name class ≡ false).
-    let others : length copies ≡ length classes = cc in
-    ap (λ b. effective_in name (cond b (with_listed true class ∷ classes) (class ∷ at_class name (with_listed true) classes)) (cond b (class.profiles ∷ copies) (old ∷ copy_at name (λ (c : ClassRow). c.profiles) classes copies))) miss
-    ∙ ap (λ b. cond b (Some (cond class.listed old class.profiles)) (effective_in name (at_class name (with_listed true) classes) (copy_at name (λ (c : ClassRow). c.profiles) classes copies))) miss
-    ∙ effective_in-listed name row classes copies (sym (find-miss (is_class name) class classes miss) ∙ found) others)
-    (cases_Bool (is_class name class))
 
 -- A profile that is put into a class is found there.
 pub profile-put : (class : List ℕ) (x : Profile) (row : ClassRow) (classes : List ClassRow) → find (is_class class) classes ≡ Some row

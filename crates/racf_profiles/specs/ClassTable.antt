@@ -2,6 +2,7 @@
 use Rattle.std.specs.Prelude.{ℕ, Bool, true, false, ◌||◌, ◌&&◌, not, List, [], ◌∷◌, Option, option_map, codes, map}
 use Rattle.std.specs.Str.{bytes_eq}
 use Rattle.std.specs.List.{find}
+use Rattle.std.specs.Option.{option_map_or}
 use Rattle.racf_profiles.specs.declared.fixed_classes.FixedClass.{FixedClass}
 use Rattle.racf_profiles.specs.declared.fixed_classes.FixedClass.TheVariants.{Dataset, Facility, Terminal, Console, Jesinput, Appcport, Appl, Opercmds, Surrogat, Tapevol, Dasdvol, Secdata, Seclabel, Global}
 use Rattle.racf_profiles.specs.declared.fixed_classes.NameForm.{NameForm}
@@ -31,7 +32,8 @@ fixed_classes = Dataset ∷ Facility ∷ Terminal ∷ Console ∷ Jesinput ∷ A
 abbrev pub fixed_class : List ℕ → Option FixedClass
 fixed_class name = find (λ class. bytes_eq (class_name class) name) fixed_classes
 
--- A class, the form of its profiles' names, whether OPERATIONS counts, whether profiles may be generic, and whether it may be RACLISTed.
+-- A class, the form of its profiles' names, whether OPERATIONS counts, whether profiles may be generic, and whether
+-- it may be RACLISTed.
 abbrev pub allows : FixedClass → NameForm → Bool → Bool → Bool → ClassFacts
 allows class form operations generic raclist = record { class = class; names = form; operations = operations; generic = generic; raclist = raclist }
 
@@ -64,8 +66,12 @@ class_table = map facts_of_class fixed_classes
 abbrev pub facts_of : List ℕ → Option ClassFacts
 facts_of name = option_map facts_of_class (fixed_class name)
 
--- What holds of each class: only data sets and general resources have generic profiles, only classes with generic profiles heed OPERATIONS,
--- and names of data sets stand in DATASET alone.
+-- Whether the class table lets OPERATIONS give access in the class.
+abbrev pub allows_operations : List ℕ → Bool
+allows_operations name = option_map_or (λ (facts : ClassFacts). facts.operations) (facts_of name) false
+
+-- What holds of each class: only data sets and general resources have generic profiles, only classes with generic
+-- profiles heed OPERATIONS, and names of data sets stand in DATASET alone.
 abbrev pub has_wide_names : NameForm → Bool
 has_wide_names names.DataSet = true
 has_wide_names names.General = true

@@ -1,5 +1,13 @@
 pub mod ClassTable
+pub mod Limits
 pub mod Lookup
+pub mod Names
+pub mod Counts
 pub mod NewDatabase
 pub mod Edits
+pub mod Scope
+pub mod Tree
+pub mod LawfulUsers
+pub mod LawfulProfiles
+pub mod Lawful
 pub mod State

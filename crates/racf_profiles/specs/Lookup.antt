@@ -1,5 +1,5 @@
 -- Rows by their names.
-use Rattle.std.specs.Prelude.{ℕ, Bool, List, Option, option_and_then}
+use Rattle.std.specs.Prelude.{ℕ, Bool, List, Option, IsSome, option_and_then}
 use Rattle.std.specs.Str.{bytes_eq}
 use Rattle.std.specs.List.{find}
 use Rattle.generic_names.specs.Spelled.{Spelled}
@@ -9,7 +9,8 @@ use Rattle.racf_profiles.specs.declared.profiles.Profile.{Profile}
 use Rattle.racf_profiles.specs.declared.class_rows.ClassRow.{ClassRow}
 use Rattle.racf_profiles.specs.declared.rows.Rows.{Rows}
 
--- Whether a row has the name that is sought. The profiles of a class have names of one kind, so their texts tell them apart.
+-- Whether a row has the name that is sought. The profiles of a class have names of one kind, so their texts tell them
+-- apart.
 abbrev pub is_user : List ℕ → User → Bool
 is_user id user = bytes_eq user.id id
 
@@ -21,6 +22,13 @@ is_class name class = bytes_eq class.name name
 
 abbrev pub is_profile : Spelled → Profile → Bool
 is_profile name profile = bytes_eq profile.name.text name.text
+
+-- The group of that name in a list of groups.
+abbrev pub find_group : List Group → List ℕ → Option Group
+find_group groups id = find (is_group id) groups
+
+abbrev pub IsGroup : List Group → List ℕ → Type 0
+IsGroup groups id = IsSome (find_group groups id)
 
 -- The row of a name, where there is one.
 abbrev pub user_of : List ℕ → Rows → Option User

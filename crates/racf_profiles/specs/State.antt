@@ -1,36 +1,46 @@
 -- A state is the rows and, for each RACLISTed class, its listed copy.
-use Rattle.std.specs.Prelude.{ℕ, if◌then◌else◌, List, [], ◌∷◌, map, Option, Some, None}
+use Rattle.std.specs.Prelude.{ℕ, Bool, true, false, List, [], ◌∷◌, map, Option, option_map, bytes_eq, if◌then◌else◌}
+use Rattle.std.specs.List.{find, filter}
+use Rattle.std.specs.Option.{option_map_or}
 use Rattle.racf_profiles.specs.declared.profiles.Profile.{Profile}
 use Rattle.racf_profiles.specs.declared.class_rows.ClassRow.{ClassRow}
 use Rattle.racf_profiles.specs.declared.rows.Rows.{Rows}
 use Rattle.racf_profiles.specs.declared.edits.Edit.{Edit}
 use Rattle.racf_profiles.specs.declared.edits.Edit.TheVariants.{List as ListCopy, Unlist}
-use Rattle.racf_profiles.specs.Lookup.{is_class}
-use Rattle.racf_profiles.specs.Edits.{edited}
+use Rattle.racf_profiles.specs.Lookup.{class_of}
+use Rattle.racf_profiles.specs.Edits.{edited, put_row, drop_row}
 
--- The copies stand in the order of the classes; that of a class which isn't RACLISTed is empty.
+-- The copy of a class's profiles, by the class.
+pub record ListedCopy : Type 0 where
+  pub class : List ℕ
+  pub profiles : List Profile
+
 pub record State : Type 0 where
   pub rows : Rows
-  pub copies : List (List Profile)
+  pub copies : List ListedCopy
 
--- What a class's copy is made of.
-abbrev pub live_copy : ClassRow → List Profile
-live_copy class = if class.listed then class.profiles else []
+abbrev pub is_copy_of : List ℕ → ListedCopy → Bool
+is_copy_of name copy = bytes_eq copy.class name
+
+-- What is copied of a class: its live profiles.
+abbrev pub copy_of_class : ClassRow → ListedCopy
+copy_of_class class = record { class = class.name; profiles = class.profiles }
 
 -- The state in which each listed copy is equal to the live profiles.
 abbrev pub restart : Rows → State
-restart rows = record { rows = rows; copies = map live_copy rows.classes }
+restart rows = record { rows = rows; copies = map copy_of_class (filter (λ (class : ClassRow). class.listed) rows.classes) }
 
--- The copies with that of one class made anew.
-abbrev pub copy_at : List ℕ → (ClassRow → List Profile) → List ClassRow → List (List Profile) → List (List Profile)
-copy_at name copy [] copies = copies
-copy_at name copy (class ∷ classes) [] = []
-copy_at name copy (class ∷ classes) (old ∷ copies) = if is_class name class then copy class ∷ copies else old ∷ copy_at name copy classes copies
-
-abbrev pub copies_after : Edit → State → List (List Profile)
-copies_after (ListCopy class) state = copy_at class (λ row. row.profiles) state.rows.classes state.copies
-copies_after (Unlist class) state = copy_at class (λ row. []) state.rows.classes state.copies
+-- Where the class is there, listing it makes its copy anew, and unlisting it drops the copy; no other edit touches one.
+abbrev pub copies_after : Edit → State → List ListedCopy
+copies_after (ListCopy name) state = option_map_or (λ (class : ClassRow). put_row (is_copy_of name) (copy_of_class class) state.copies) (class_of name state.rows) state.copies
+copies_after (Unlist name) state = option_map_or (λ (class : ClassRow). drop_row (is_copy_of name) state.copies) (class_of name state.rows) state.copies
 copies_after _ state = state.copies
+
+-- Whether an edit lists or unlists a class.
+abbrev pub is_of_copies : Edit → Bool
+is_of_copies (ListCopy name) = true
+is_of_copies (Unlist name) = true
+is_of_copies edit = false
 
 -- The state after an edit, and after edits in their order.
 abbrev pub edited_state : Edit → State → State
@@ -40,11 +50,14 @@ abbrev pub changed_state : List Edit → State → State
 changed_state [] state = state
 changed_state (edit ∷ edits) state = changed_state edits (edited_state edit state)
 
--- The effective profiles of a class: its listed copy where it is RACLISTed, else its live profiles.
-abbrev pub effective_in : List ℕ → List ClassRow → List (List Profile) → Option (List Profile)
-effective_in name [] copies = None
-effective_in name (class ∷ classes) [] = None
-effective_in name (class ∷ classes) (copy ∷ copies) = if is_class name class then Some (if class.listed then copy else class.profiles) else effective_in name classes copies
+-- The profiles of the listed copy of a class.
+abbrev pub copy_of : List ℕ → List ListedCopy → List Profile
+copy_of name copies = option_map_or (λ (copy : ListedCopy). copy.profiles) (find (is_copy_of name) copies) []
 
+-- Whether a class is RACLISTed.
+abbrev pub is_listed : List ℕ → Rows → Bool
+is_listed name rows = option_map_or (λ (class : ClassRow). class.listed) (class_of name rows) false
+
+-- The effective profiles of a class: its listed copy where it is RACLISTed, else its live profiles.
 abbrev pub effective : List ℕ → State → Option (List Profile)
-effective name state = effective_in name state.rows.classes state.copies
+effective name state = option_map (λ (class : ClassRow). if class.listed then copy_of name state.copies else class.profiles) (class_of name state.rows)

@@ -1,10 +1,12 @@
 //! The fixed classes and what each of them allows.
 ghost use Rattle.std.specs.Prelude.{◌≡◌, Ok, option_copied};
 ghost use Rattle.access_levels.specs.Spelling.{id_of};
-ghost use Rattle.racf_profiles.specs.ClassTable.{class_name, fixed_class, facts_of_class, class_table, facts_of};
+ghost use Rattle.racf_profiles.specs.LawfulProfiles.{kind_in};
+ghost use Rattle.racf_profiles.specs.ClassTable.{class_name, fixed_class, facts_of_class, class_table, facts_of, allows_operations};
 
 use crate::known::known_id;
 use access_levels::Id;
+use generic_names::NameKind;
 
 /// The fixed classes, in the order of the table (this product's own).
 #[derive(Clone, Copy, Debug, PartialEq, Eq)]
@@ -236,5 +238,26 @@ pub fn class_facts(name: Id) -> Option<&'static ClassFacts>
     match FixedClass::of(name) {
         Some(class) => Some(class.facts()),
         None => None,
+    }
+}
+
+/// The kind of the names of a class's profiles.
+pub fn kind_in(class: Id) -> NameKind
+    ensures { result ≡ kind_in class }
+{
+    if class == FixedClass::Dataset.id() {
+        NameKind::DataSet
+    } else {
+        NameKind::General
+    }
+}
+
+/// Whether the class lets OPERATIONS give access.
+pub fn allows_operations(class: Id) -> bool
+    ensures { result ≡ allows_operations class }
+{
+    match class_facts(class) {
+        Some(facts) => facts.operations,
+        None => false,
     }
 }

@@ -18,7 +18,7 @@ pub fn sys1() -> Id
     known_id(b"SYS1")
 }
 
-// The identifier of a text that is known to spell one.
+/// The identifier of a text that is known to spell one.
 pub(crate) fn known_id(text: &[u8]) -> Id
     requires { id_of text.now ≡ Ok text.now }
     ensures { result ≡ text.now }

@@ -1,5 +1,6 @@
 //! Laws of the definitions that other crates' contracts cite: of the class table, of edits, and of states.
-ghost use Rattle.std.specs.Prelude.{◌≡◌, ℕ, false, List, length, Some, None, option_map, IsTrue};
+ghost use Rattle.std.specs.Prelude.{◌≡◌, ◌↔◌, ℕ, Bool, false, not, List, Some, None, option_map, IsTrue, IsSome};
+ghost use Rattle.std.specs.List.{list_all};
 ghost use Rattle.std.specs.Str.{bytes_eq};
 ghost use Rattle.generic_names.specs.Spelled.{Spelled};
 ghost use Rattle.generic_names.specs.Laws.{IsPattern};
@@ -7,7 +8,7 @@ ghost use Rattle.generic_names.specs.declared.kind.NameKind.{NameKind};
 ghost use Rattle.racf_profiles.specs.ClassTable.{class_name, facts_of_class, facts_of, is_consistent};
 ghost use Rattle.racf_profiles.specs.Lookup.{user_of, group_of, class_of, profile_of};
 ghost use Rattle.racf_profiles.specs.Edits.{edited, put_profile, is_in_order, AreNamed};
-ghost use Rattle.racf_profiles.specs.State.{State, restart, effective, edited_state};
+ghost use Rattle.racf_profiles.specs.State.{State, restart, effective, edited_state, changed_state, is_listed, is_of_copies};
 ghost use Rattle.racf_profiles.specs.declared.fixed_classes.FixedClass.{FixedClass};
 ghost use Rattle.racf_profiles.specs.declared.fixed_classes.ClassFacts.{ClassFacts};
 ghost use Rattle.racf_profiles.specs.declared.users.User.{User};
@@ -16,8 +17,8 @@ ghost use Rattle.racf_profiles.specs.declared.profiles.Profile.{Profile};
 ghost use Rattle.racf_profiles.specs.declared.class_rows.ClassRow.{ClassRow};
 ghost use Rattle.racf_profiles.specs.declared.class_rows.LogOption.{LogOption};
 ghost use Rattle.racf_profiles.specs.declared.rows.Rows.{Rows};
+ghost use Rattle.racf_profiles.specs.declared.edits.Edit.{Edit};
 ghost use Rattle.racf_profiles.specs.declared.edits.Edit.TheVariants as edit;
-ghost use Rattle.std.specs.Prelude.{Bool};
 
 /// Each class of the table is found by its name, and has what holds of each class.
 pub fn class_table_rules()
@@ -54,10 +55,21 @@ pub fn puts_keep_the_order()
 
 /// A class that is listed has its live profiles as its effective ones.
 pub fn listed_is_live()
-    ensures { (name : List ℕ) (row : ClassRow) (state : State) → class_of name state.rows ≡ Some row → length state.copies ≡ length state.rows.classes → effective name (edited_state (edit.List name) state) ≡ Some row.profiles }
+    ensures { (name : List ℕ) (row : ClassRow) (state : State) → class_of name state.rows ≡ Some row → effective name (edited_state (edit.List name) state) ≡ Some row.profiles }
 {}
 
 /// After a restart the effective profiles of each class are its live ones.
 pub fn restart_is_live()
     ensures { (name : List ℕ) (rows : Rows) → effective name (restart rows) ≡ option_map (λ (class : ClassRow). class.profiles) (class_of name rows) }
+{}
+
+/// Edits other than listing and unlisting leave the effective profiles of a listed class as they were, also where
+/// they change its live profiles.
+pub fn other_edits_leave_listed_copies()
+    ensures { (name : List ℕ) (edits : List Edit) (state : State) → IsTrue (is_listed name state.rows) → IsTrue (list_all (λ (edit : Edit). not (is_of_copies edit)) edits) → effective name (changed_state edits state) ≡ effective name state }
+{}
+
+/// A class that is there has effective profiles, in every state.
+pub fn known_classes_have_effective_profiles()
+    ensures { (name : List ℕ) (state : State) → IsSome (effective name state) ↔ IsSome (class_of name state.rows) }
 {}

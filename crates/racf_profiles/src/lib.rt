@@ -1,5 +1,15 @@
-//! The rows of a database: users, groups, profiles, classes and options, what an edit does to them, and
+//! The rows of a database, [`Rows`]: users, groups, profiles, classes and options, what an [`Edit`] does to them, and
 //! the table of the fixed classes.
+//!
+//! The definitions that tell what holds of the rows of every database, and what a state with listed copies is, stand
+//! here for all crates above. IDs, levels and access list entries are those of `access_levels`, names of profiles
+//! those of `generic_names`. Below `row_tables` rows are plain lists, and questions of them go through [`View`].
+//!
+//! ```
+//! let rows = Rows::new_database(alloc)?;
+//! let user = rows.user(ibmuser());
+//! let kind = kind_in(FixedClass::Facility.id()); // NameKind::General
+//! ```
 #![tactic(auto)]
 
 mod class_rows;
@@ -16,7 +26,10 @@ mod view;
 
 pub use class_rows::{ClassRow, ClassRows, LogOption};
 pub use edits::{Change, Edit, Edits};
-pub use fixed_classes::{CLASS_TABLE, ClassFacts, FixedClass, NameForm, class_facts, class_table};
+pub use fixed_classes::{
+    CLASS_TABLE, ClassFacts, FixedClass, NameForm, allows_operations, class_facts, class_table,
+    kind_in,
+};
 pub use groups::{Group, Groups};
 pub use known::{ibmuser, sys1};
 pub use options::{CategoryNames, Options};

@@ -40,7 +40,7 @@ pub enum Member {
     /// Of a GLOBAL profile: resources, and the access that everyone has to them.
     Access(MemberName, Level),
     /// Of SECDATA's SECLEVEL: a name of a security level, and its number.
-    Grade(Id, u8),
+    SecurityLevel(Id, u8),
     /// Of SECDATA's CATEGORY: a name of a category.
     Category(Id),
 }

@@ -56,7 +56,7 @@ impl Rows {
     }
 }
 
-// IBMUSER, as a new database has it.
+/// IBMUSER, as a new database has it.
 fn first_user(alloc: Global) -> Result<User, NoMemory>
     ensures { IfOk result (λ user. user ≡ ibmuser) }
 {
@@ -86,13 +86,13 @@ fn first_user(alloc: Global) -> Result<User, NoMemory>
             items: Vec::new(alloc),
         },
         level: 0,
-        categories: Categories::NONE,
+        categories: Categories::none(),
         label: None,
         connects: Connects { items: connects },
     })
 }
 
-// A class without profiles.
+/// A class without profiles.
 fn empty_class(alloc: Global, active: bool, class: FixedClass) -> ClassRow
     ensures { result ≡ empty_class active class }
 {
@@ -108,7 +108,7 @@ fn empty_class(alloc: Global, active: bool, class: FixedClass) -> ClassRow
     }
 }
 
-// The fixed classes, DATASET alone active.
+/// The fixed classes, DATASET alone active.
 fn empty_classes(alloc: Global) -> Result<ClassRows, NoMemory>
     ensures { IfOk result (λ classes. classes ≡ new_classes is_dataset) }
 {

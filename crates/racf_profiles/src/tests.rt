@@ -1,9 +1,9 @@
 //! A new database and copies with ample memory, and the class table against its source.
 use crate::{
     AuditRule, CondEntries, Entries, FixedClass, Member, Members, NameForm, Profile, Rows, View,
-    class_facts, ibmuser, sys1,
+    class_facts, ibmuser, kind_in, sys1,
 };
-use access_levels::{Categories, Level};
+use access_levels::{Categories, Entry, Level, Who};
 use generic_names::{NameKind, Pattern};
 use std::alloc::Global;
 use std::test::Fail;
@@ -25,7 +25,7 @@ fn plain_profile(alloc: Global, name: Pattern) -> Profile {
             items: Vec::new(alloc),
         },
         level: 7,
-        categories: Categories::NONE,
+        categories: Categories::none(),
         label: None,
         audit,
         global_audit: audit,
@@ -37,13 +37,16 @@ fn plain_profile(alloc: Global, name: Pattern) -> Profile {
 
 #[test]
 fn new_database(rt: HostRuntime) -> Result<(), Fail> {
-    let rows = Rows::new_database(rt.alloc())?;
+    let mut rows = Rows::new_database(rt.alloc())?;
     let user = rows.user(ibmuser()).ok_or("no IBMUSER")?;
     assert!(rt; user.attributes.special && user.connects.items.len() == 1);
-    assert!(rt; user.copy(rt.alloc())?.id == ibmuser());
+    let copy = user.copy(rt.alloc())?;
+    assert!(rt; copy.id == ibmuser() && copy.connects.items.len() == 1);
     assert!(rt; rows.group(sys1()).is_some() && rows.group(ibmuser()).is_none());
     assert_eq!(rt; rows.classes.items.len(), 14);
-    assert!(rt; !rows.options.copy(rt.alloc())?.mls);
+    rows.options.categories.items.push(sys1())?;
+    let options = rows.options.copy(rt.alloc())?;
+    assert!(rt; !options.mls && options.categories.items.len() == 1);
     Ok(())
 }
 
@@ -53,8 +56,15 @@ fn profile_copies(rt: HostRuntime) -> Result<(), Fail> {
     let name = name.ok().ok_or("a lawful name")?;
     let mut profile = plain_profile(rt.alloc(), name);
     profile.members.items.push(Member::Category(sys1()))?;
+    for _ in 0..1000 {
+        profile.standard.items.push(Entry {
+            who: Who::Named(sys1()),
+            level: Level::Read,
+        })?;
+    }
     let copy = profile.copy(rt.alloc())?;
     assert_eq!(rt; copy.members.items.len(), 1);
+    assert_eq!(rt; copy.standard.items.len(), 1000);
     Ok(())
 }
 
@@ -64,5 +74,7 @@ fn class_table(rt: HostRuntime) -> Result<(), Fail> {
     assert_eq!(rt; tapes.names, NameForm::General);
     assert!(rt; tapes.operations && tapes.generic && tapes.raclist);
     assert!(rt; class_facts(sys1()).is_none());
+    assert_eq!(rt; kind_in(FixedClass::Dataset.id()), NameKind::DataSet);
+    assert_eq!(rt; kind_in(FixedClass::Global.id()), NameKind::General);
     Ok(())
 }

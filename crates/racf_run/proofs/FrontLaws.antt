@@ -4,15 +4,15 @@ use Rattle.std.specs.Prelude.{Option}
 use Rattle.std.specs.Option.{option_to_list}
 use Rattle.racf_outside.specs.Lines.{line_of, lines, whole_lines, NoFeed}
 use Rattle.racf_outside.proofs.LineLaws as laws
-use Rattle.racf_run.specs.declared.item.Item.{Item}
+use Rattle.racf_run.specs.declared.statement.Statement.{Statement}
 use Rattle.racf_run.specs.declared.joining.LineRole.TheVariants.{Whole, GoesOn}
 use Rattle.racf_run.specs.Fronts.{Front}
 use Rattle.racf_run.specs.Joining.{role_of, ending, going, items_behind, last_command, not_begun}
-use Rattle.racf_run.specs.NextItem.{IsWalked}
+use Rattle.racf_run.specs.NextStatement.{IsWalked}
 use Rattle.racf_run.specs.Script.{stream}
 
--- The bytes end with the front of a command, or in no command, and no item ends in them: whatever comes next, the items
--- are those of what comes behind that front.
+-- The bytes end with the front of a command, or in no command, and no statement ends in them: whatever comes next, the
+-- statements are those of what comes behind that front.
 pub record IsFront (bytes : List ℕ) (begun : Option Front) : Type 0 where
   pub whole : (more : List ℕ) → stream.whole_items (bytes ++ more) ≡ items_behind not_begun begun (whole_lines more)
   pub all : (more : List ℕ) → stream.items (bytes ++ more) ≡ items_behind last_command begun (lines more)
@@ -42,7 +42,7 @@ IsFront-more bytes raw begun front w h e =
     }
 
 -- the line ends what was begun
-pub IsFront-walked : (bytes raw : List ℕ) (begun : Option Front) (item : Option Item) → IsFront bytes begun → NoFeed raw → role_of begun (line_of raw) ≡ Whole item → IsWalked stream (bytes ++ (raw ++ 10 ∷ [])) (option_to_list item)
+pub IsFront-walked : (bytes raw : List ℕ) (begun : Option Front) (item : Option Statement) → IsFront bytes begun → NoFeed raw → role_of begun (line_of raw) ≡ Whole item → IsWalked stream (bytes ++ (raw ++ 10 ∷ [])) (option_to_list item)
 unfolding stream
 IsFront-walked bytes raw begun item w h e =
     record {
@@ -57,7 +57,7 @@ last_behind bytes raw begun w h some = w.all raw ∙ ap (items_behind last_comma
 pub IsFront-last_front : (bytes raw : List ℕ) (begun : Option Front) (front : Front) → IsFront bytes begun → NoFeed raw → 0 < length raw → role_of begun (line_of raw) ≡ GoesOn front → stream.items (bytes ++ raw) ≡ last_command (Some front)
 IsFront-last_front bytes raw begun front w h some e = rw e at (last_behind bytes raw begun w h some)
 
-pub IsFront-last : (bytes raw : List ℕ) (begun : Option Front) (item : Option Item) → IsFront bytes begun → NoFeed raw → 0 < length raw → role_of begun (line_of raw) ≡ Whole item → stream.items (bytes ++ raw) ≡ option_to_list item
+pub IsFront-last : (bytes raw : List ℕ) (begun : Option Front) (item : Option Statement) → IsFront bytes begun → NoFeed raw → 0 < length raw → role_of begun (line_of raw) ≡ Whole item → stream.items (bytes ++ raw) ≡ option_to_list item
 IsFront-last bytes raw begun item w h some e =
     let all : stream.items (bytes ++ raw) ≡ option_to_list item ++ [] = rw e at (last_behind bytes raw begun w h some) in
     all ∙ append-nil (option_to_list item)
@@ -66,7 +66,7 @@ IsFront-last bytes raw begun item w h some e =
 pub IsFront-end : (bytes : List ℕ) (begun : Option Front) → IsFront bytes begun → stream.items bytes ≡ last_command begun
 IsFront-end bytes begun w = ap stream.items (sym (append-nil bytes)) ∙ w.all []
 
--- No item ends in a front and the front of a line.
+-- No statement ends in a front and the front of a line.
 pub IsFront-none_whole : (bytes raw : List ℕ) (begun : Option Front) → IsFront bytes begun → NoFeed raw → stream.whole_items (bytes ++ raw) ≡ []
 IsFront-none_whole bytes raw begun w h = w.whole raw ∙ ap (items_behind not_begun begun) (laws.whole_lines-front raw h)
 

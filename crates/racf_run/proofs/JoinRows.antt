@@ -1,15 +1,15 @@
 -- Worked rows of lines that are joined, computed on the definitions.
 use Rattle.std.proofs.Common.{◌≡◌, ℕ, List, [], ◌∷◌, refl}
 use Rattle.std.specs.Prelude.{codes}
-use Rattle.racf_run.specs.declared.item.Item.{Item}
-use Rattle.racf_run.specs.declared.item.Item.TheVariants.{Command, Request, NotBuilt}
-use Rattle.racf_run.specs.Items.{request_of, is_request}
+use Rattle.racf_run.specs.declared.statement.Statement.{Statement}
+use Rattle.racf_run.specs.declared.statement.Statement.TheVariants.{Command, Request, NotBuilt}
+use Rattle.racf_run.specs.Statements.{request_of, is_request}
 use Rattle.racf_run.specs.Script.{stream}
 
-abbrev items : List ℕ → List Item
+abbrev items : List ℕ → List Statement
 items bytes = stream.items bytes
 
-abbrev whole_items : List ℕ → List Item
+abbrev whole_items : List ℕ → List Statement
 whole_items bytes = stream.whole_items bytes
 
 -- The mark and the blanks behind it go, those before it stay; behind `+` the next line's go too.

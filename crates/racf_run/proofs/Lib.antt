@@ -2,11 +2,13 @@ mod Rows
 mod JoinRows
 pub mod Folds
 pub mod Walk
-pub mod WordLaws
 pub mod MarkLaws
 pub mod Forms
 pub mod FrontLaws
-pub mod ItemLaws
+pub mod StatementLaws
 pub mod Pieces
-pub mod Works
+pub mod Processing
 pub mod StreamWalk
+pub mod PrintedLaws
+pub mod OutputLaws
+pub mod DecidedLaws

@@ -5,26 +5,26 @@ use Rattle.std.specs.List.{list_all}
 use Rattle.std.proofs.lemmas.List.{take_all, take_more}
 use Rattle.racf_run.specs.declared.mark.Mark.{Mark}
 use Rattle.racf_run.specs.Fronts.{marked, behind}
-use Rattle.racf_run.specs.Items.{is_blank}
+use Rattle.command_words.specs.Bytes.{is_blank_byte}
 use Rattle.racf_run.specs.Joining.{mark_of, going_on}
 
-all_behind : (bytes : List ℕ) (last : ℕ) → is_blank last ≡ true → list_all is_blank (bytes ++ last ∷ []) ≡ list_all is_blank bytes
+all_behind : (bytes : List ℕ) (last : ℕ) → is_blank_byte last ≡ true → list_all is_blank_byte (bytes ++ last ∷ []) ≡ list_all is_blank_byte bytes
 all_behind [] last h = rw h refl
-all_behind (b ∷ bytes) last h = ap (λ rest. is_blank b && rest) (all_behind bytes last h)
+all_behind (b ∷ bytes) last h = ap (λ rest. is_blank_byte b && rest) (all_behind bytes last h)
 
-none_behind : (bytes : List ℕ) (last : ℕ) → is_blank last ≡ false → list_all is_blank (bytes ++ last ∷ []) ≡ false
+none_behind : (bytes : List ℕ) (last : ℕ) → is_blank_byte last ≡ false → list_all is_blank_byte (bytes ++ last ∷ []) ≡ false
 none_behind [] last h = rw h refl
-none_behind (b ∷ bytes) last h = ap (λ rest. is_blank b && rest) (none_behind bytes last h) ∙ and_false (is_blank b)
+none_behind (b ∷ bytes) last h = ap (λ rest. is_blank_byte b && rest) (none_behind bytes last h) ∙ and_false (is_blank_byte b)
   where
     and_false : (b : Bool) → (b && false) ≡ false
     and_false true = refl
     and_false false = refl
 
-no_mark : (byte : ℕ) → is_blank byte ≡ true → mark_of byte ≡ None
+no_mark : (byte : ℕ) → is_blank_byte byte ≡ true → mark_of byte ≡ None
 no_mark byte h = grind arith
 
 -- A blank or a tab at the end changes nothing.
-pub going_on-blank : (bytes : List ℕ) (last : ℕ) → is_blank last ≡ true → going_on (bytes ++ last ∷ []) ≡ going_on bytes
+pub going_on-blank : (bytes : List ℕ) (last : ℕ) → is_blank_byte last ≡ true → going_on (bytes ++ last ∷ []) ≡ going_on bytes
 going_on-blank [] last h = ap (option_map (marked [])) (no_mark last h)
 going_on-blank (b ∷ bytes) last h = rw (all_behind bytes last h, going_on-blank bytes last h) refl
 
@@ -33,7 +33,7 @@ option_map-twice : (m : Option Mark) (b : ℕ) (text : List ℕ) → option_map 
 option_map-twice None b text = refl
 option_map-twice (Some m) b text = refl
 
-pub going_on-last : (bytes : List ℕ) (last : ℕ) → is_blank last ≡ false → going_on (bytes ++ last ∷ []) ≡ option_map (marked bytes) (mark_of last)
+pub going_on-last : (bytes : List ℕ) (last : ℕ) → is_blank_byte last ≡ false → going_on (bytes ++ last ∷ []) ≡ option_map (marked bytes) (mark_of last)
 going_on-last [] last h = refl
 going_on-last (b ∷ bytes) last h = rw (none_behind bytes last h, going_on-last bytes last h) (option_map-twice (mark_of last) b bytes)
 
@@ -42,11 +42,11 @@ front_last : (rest : List ℕ) → 1 ≤ length rest → take (length rest - 1) 
 front_last rest h =
     sym (take_more rest (length rest - 1) 0 (omega arith)) ∙ take_all (length rest - 1 + 1) rest (omega arith)
 
-pub looks_on : (rest text : List ℕ) (blank : Bool) → 1 ≤ length rest → blank ≡ is_blank (get_or rest (length rest - 1) 0) → blank ≡ true → going_on rest ≡ going_on text → going_on (take (length rest - 1) rest) ≡ going_on text
+pub looks_on : (rest text : List ℕ) (blank : Bool) → 1 ≤ length rest → blank ≡ is_blank_byte (get_or rest (length rest - 1) 0) → blank ≡ true → going_on rest ≡ going_on text → going_on (take (length rest - 1) rest) ≡ going_on text
 looks_on rest text blank some is h same =
     sym (going_on-blank (take (length rest - 1) rest) (get_or rest (length rest - 1) 0) (sym is ∙ h)) ∙ ap going_on (front_last rest some) ∙ same
 
-pub found : (rest text : List ℕ) (blank : Bool) (mark : Option Mark) → 1 ≤ length rest → blank ≡ is_blank (get_or rest (length rest - 1) 0) → blank ≡ false → mark ≡ mark_of (get_or rest (length rest - 1) 0) → going_on rest ≡ going_on text → option_map (marked (take (length rest - 1) rest)) mark ≡ going_on text
+pub found : (rest text : List ℕ) (blank : Bool) (mark : Option Mark) → 1 ≤ length rest → blank ≡ is_blank_byte (get_or rest (length rest - 1) 0) → blank ≡ false → mark ≡ mark_of (get_or rest (length rest - 1) 0) → going_on rest ≡ going_on text → option_map (marked (take (length rest - 1) rest)) mark ≡ going_on text
 found rest text blank mark some is h e same =
     ap (option_map (marked (take (length rest - 1) rest))) e
     ∙ sym (going_on-last (take (length rest - 1) rest) (get_or rest (length rest - 1) 0) (sym is ∙ h))

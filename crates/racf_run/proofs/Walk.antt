@@ -7,7 +7,7 @@ use Rattle.racf_outside.specs.Reader.{Reader, at_start}
 use Rattle.racf_outside.specs.Next.{TakesEnd}
 use Rattle.racf_run.specs.declared.status.Status.TheVariants.{Done, Refusals, ReadFault, WriteFault, NoMemory, InputTooLong}
 use Rattle.racf_run.specs.Runs.{Machine, after, output, BeginsWith, Ran, WroteAll}
-use Rattle.racf_run.specs.NextItem.{IsWalked, IsLast, TakesItems, TakesFront, TakesTooMuch}
+use Rattle.racf_run.specs.NextStatement.{IsWalked, IsLast, TakesStatements, TakesFront, TakesTooMuch}
 use Rattle.racf_run.proofs.Folds.{after-append, output-append, append_known-append, append_known-nil, prepend_known-append, prepend_known-nil}
 
 -- The reader has given the items `done`, the machine stands at s, and the sink, which held `before`, holds `now`.
@@ -47,7 +47,7 @@ IsWalked-last m read bytes done items unread w v =
     record { all = w.all bytes ∙ ap (λ is. done ++ is) v.all; at_end = v.at_end }
 
 -- more bytes were taken, which are these items, and they were worked
-pub Walk-items : {S I : Type 0} (m : Machine S I) (items : List I) (bytes : List ℕ) (source : Option (List ℕ)) (old new : Reader) (s t : S) (before now then : Option (List ℕ)) → Walk m source old s before now → TakesItems m items bytes old new → t ≡ after m items s → then ≡ append_known now (output m items s) → Walk m source new t before then
+pub Walk-items : {S I : Type 0} (m : Machine S I) (items : List I) (bytes : List ℕ) (source : Option (List ℕ)) (old new : Reader) (s t : S) (before now then : Option (List ℕ)) → Walk m source old s before now → TakesStatements m items bytes old new → t ≡ after m items s → then ≡ append_known now (output m items s) → Walk m source new t before then
 Walk-items m items bytes source old new s t before now then w taken worked wrote =
     record {
       read = w.read ++ bytes;
@@ -176,7 +176,7 @@ Walk-no_memory m source left reader s before now w =
     }
 
 -- a write failed in an item's text
-pub Walk-write_fault : {S I : Type 0} (m : Machine S I) (item : I) (count : ℕ) (bytes : List ℕ) (source left : Option (List ℕ)) (old new : Reader) (s : S) (before now then : Option (List ℕ)) → Walk m source old s before now → TakesItems m (item ∷ []) bytes old new → then ≡ append_known now (take count (m.text item s)) → Ran m WriteFault source left before then
+pub Walk-write_fault : {S I : Type 0} (m : Machine S I) (item : I) (count : ℕ) (bytes : List ℕ) (source left : Option (List ℕ)) (old new : Reader) (s : S) (before now then : Option (List ℕ)) → Walk m source old s before now → TakesStatements m (item ∷ []) bytes old new → then ≡ append_known now (take count (m.text item s)) → Ran m WriteFault source left before then
 unfolding Walk-items
 Walk-write_fault m item count bytes source left old new s before now then w taken wrote =
     let next : Walk m source new (m.step item s) before (append_known now (output m (item ∷ []) s)) =

@@ -8,7 +8,7 @@ use Rattle.racf_run.specs.declared.joining.LineRole.TheVariants.{Whole}
 use Rattle.racf_run.specs.declared.input.Stop.{Stop}
 use Rattle.racf_run.specs.declared.input.Stop.TheVariants.{End, ReadFault, InputTooLong, NoMemory}
 use Rattle.racf_run.specs.Fronts.{Front}
-use Rattle.racf_run.specs.declared.item.Item.TheVariants.{Command}
+use Rattle.racf_run.specs.declared.statement.Statement.TheVariants.{Command}
 use Rattle.racf_run.specs.Joining.{role_of}
 
 -- The end of the input ends the command that is begun.

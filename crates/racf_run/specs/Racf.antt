@@ -1,10 +1,10 @@
 -- The words of the command line, and what the program does to the shelf.
-use Rattle.std.specs.Prelude.{◌≡◌, ◌⊎◌, ℕ, Bool, true, ◌||◌, ◌&&◌, not, Option, Some, None, IfSome, List, [], ◌∷◌, codes, if◌then◌else◌}
+use Rattle.std.specs.Prelude.{◌≡◌, ◌⊎◌, ℕ, Bool, true, ◌||◌, ◌&&◌, not, Option, Some, None, IfSome, Result, Ok, Err, List, [], ◌∷◌, codes, if◌then◌else◌}
 use Rattle.std.specs.Str.{bytes_eq}
-use Rattle.std.specs.Io.KnownBytes.{IsAtEnd}
-use Rattle.racf_outside.specs.Shelf.{SameBytes, SameOthers}
+use Rattle.racf_outside.specs.declared.streams.Failed.{Failed}
+use Rattle.racf_outside.specs.Shelf.{told, SameBytes, SameOthers}
 use Rattle.racf_run.specs.declared.status.Status.{Status}
-use Rattle.racf_run.specs.declared.status.Status.TheVariants.{Done, Refusals, Usage, ReadFault, WriteFault, NoMemory, InputTooLong}
+use Rattle.racf_run.specs.declared.status.Status.TheVariants.{ReadFault, WriteFault}
 use Rattle.racf_run.specs.Runs.{Ran}
 use Rattle.racf_run.specs.Script.{stream, script_output, script_status}
 
@@ -20,29 +20,59 @@ script_files (verb ∷ input ∷ output ∷ []) =
     then Some (record { input = input; output = output }) else None
 script_files others = None
 
--- The stream was worked from the input `input` of a shelf to its output of the name `name`, which was new and empty, and is
--- given back: the outputs told `old` before, and tell `new` now.
-pub record RanTo (status : Status) (input : Option (List ℕ)) (name : List ℕ) (old new : List ℕ → Option (List ℕ)) : Type 0 where
+-- The stream was worked from the input `input` of a shelf to its output of the name `name`, which was new and empty,
+-- and is given back: the outputs told `old` before, and tell `new` now.
+pub record RanTo (tells : Bool) (status : Status) (input : Option (List ℕ)) (name : List ℕ) (old new : List ℕ → Option (List ℕ)) : Type 0 where
   pub left : Option (List ℕ)
-  pub empty : Option (List ℕ)
-  pub is_empty : IsAtEnd empty
-  pub ran : Ran stream status input left empty (new name)
+  pub ran : Ran stream status input left (told tells []) (new name)
   pub others : SameOthers name old new
 
--- What the outputs tell when the call has ended with a status. An input that couldn't be opened leaves them as they were,
--- and an output that couldn't be opened all others.
-abbrev pub Leaves : Status → Option (List ℕ) → List ℕ → (List ℕ → Option (List ℕ)) → (List ℕ → Option (List ℕ)) → Type 0
-Leaves Done input name old new = RanTo Done input name old new
-Leaves Refusals input name old new = RanTo Refusals input name old new
-Leaves Usage input name old new = ⊥
-Leaves ReadFault input name old new = SameBytes old new ⊎ RanTo ReadFault input name old new
-Leaves WriteFault input name old new = SameOthers name old new ⊎ RanTo WriteFault input name old new
-Leaves NoMemory input name old new = RanTo NoMemory input name old new
-Leaves InputTooLong input name old new = RanTo InputTooLong input name old new
+-- The calls that the program makes of a shelf of the kind S, whose inputs are of the kind I and whose outputs of the
+-- kind O: `source` and the other three say that a call was made. `output` is what the outputs of a shelf tell.
+module _ {S I O : Type 0} (source : S → List ℕ → Result I Failed → S → Type 0) (sink : S → List ℕ → Result O Failed → S → Type 0) (take_back : S → List ℕ → I → S → Type 0) (give_back : S → List ℕ → O → S → Type 0) (tells : Bool) (output : S → List ℕ → Option (List ℕ)) where
+  -- The input couldn't be opened, and nothing else was called.
+  pub record OpensNothing (status : Status) (files : Files) (old new : S) : Type 0 where
+    pub is_status : status ≡ ReadFault
+    pub failed : Failed
+    pub input_asked : source old files.input (Err failed) new
+    pub outputs : SameBytes (output old) (output new)
 
--- The output tells the whole output of the input's bytes, where both are told, and the status is theirs.
-pub record IsWholeOutput (status : Status) (input output : Option (List ℕ)) : Type 0 where
-  pub written : IfSome input (λ bytes. IfSome output (λ text. text ≡ script_output bytes))
+  -- The input was opened, the output then couldn't be, and the input was taken back.
+  pub record OpensNoOutput (status : Status) (files : Files) (old new : S) : Type 0 where
+    pub is_status : status ≡ WriteFault
+    pub opened : I
+    pub failed : Failed
+    pub first : S
+    pub second : S
+    pub input_asked : source old files.input (Ok opened) first
+    pub output_asked : sink first files.output (Err failed) second
+    pub input_back : take_back second files.input opened new
+    pub others : SameOthers files.output (output old) (output new)
+
+  -- The input was opened, and then the output; the stream was worked from the one to the other, and both were handed
+  -- back.
+  pub record OpensBoth (status : Status) (bytes : Option (List ℕ)) (files : Files) (old new : S) : Type 0 where
+    pub opened : I
+    pub opened_output : O
+    pub first : S
+    pub second : S
+    pub input_asked : source old files.input (Ok opened) first
+    pub output_asked : sink first files.output (Ok opened_output) second
+    pub third : S
+    pub worked : I
+    pub worked_output : O
+    pub input_back : take_back second files.input worked third
+    pub output_back : give_back third files.output worked_output new
+    pub ran : RanTo tells status bytes files.output (output old) (output new)
+
+  -- how the program ends, and what it leaves
+  abbrev pub RunsOnShelf : Status → Option (List ℕ) → Files → S → S → Type 0
+  RunsOnShelf status bytes files old new =
+      OpensNothing status files old new ⊎ (OpensNoOutput status files old new ⊎ OpensBoth status bytes files old new)
+
+-- The output is the whole output of the input's bytes, where the shelf tells both, and the status is theirs.
+pub record IsWholeOutput (tells : Bool) (status : Status) (input output : Option (List ℕ)) : Type 0 where
+  pub written : IfSome input (λ bytes. output ≡ told tells (script_output bytes))
   pub ended : IfSome input (λ bytes. status ≡ script_status bytes)
 
 -- Each output that is open now was open before: what the call opened was given back.

@@ -2,17 +2,17 @@
 use Rattle.std.specs.Prelude.{ℕ, List, ◌++◌, codes, decimal}
 use Rattle.racf_run.specs.declared.reply.Refusal.{Refusal}
 use Rattle.racf_run.specs.declared.reply.Refusal.TheVariants as refusal
-use Rattle.command_grammar.specs.declared.faults.Syntax.{Syntax}
-use Rattle.command_grammar.specs.declared.faults.Syntax.TheVariants as syntax
-use Rattle.command_grammar.specs.Words.{spelling_of}
+use Rattle.command_values.specs.declared.faults.Syntax.{Syntax}
+use Rattle.command_values.specs.declared.faults.Syntax.TheVariants as syntax
+use Rattle.command_values.specs.OperandWords.{spelling_of}
 use Rattle.command_conflicts.specs.declared.conflict.Conflict.{Conflict}
 use Rattle.command_conflicts.specs.declared.conflict.Conflict.TheVariants as conflict
 use Rattle.command_conflicts.specs.declared.conflict.Named.{Named}
 use Rattle.command_conflicts.specs.declared.conflict.Named.TheVariants as named
 use Rattle.command_conflicts.specs.declared.conflict.Holder.{Holder}
 use Rattle.command_conflicts.specs.declared.conflict.Holder.TheVariants as holder
-use Rattle.command_conflicts.specs.declared.conflict.Kind.{Kind}
-use Rattle.command_conflicts.specs.declared.conflict.Kind.TheVariants as kind
+use Rattle.command_conflicts.specs.declared.conflict.Limit.{Limit}
+use Rattle.command_conflicts.specs.declared.conflict.Limit.TheVariants as kind
 use Rattle.racf_run.specs.declared.reply.Reply.{Reply}
 use Rattle.racf_run.specs.declared.reply.Reply.TheVariants.{Accepted, Refused}
 
@@ -40,7 +40,7 @@ holder_words (holder.Connected id) = codes "CONNECTED " ++ id
 holder_words (holder.Profile profile) = codes "PROFILE " ++ profile.text
 
 -- what is limited in number
-abbrev pub kind_words : Kind → List ℕ
+abbrev pub kind_words : Limit → List ℕ
 kind_words kind.Users = codes "USERS"
 kind_words kind.Groups = codes "GROUPS"
 kind_words kind.Connections = codes "CONNECTIONS"
@@ -54,6 +54,7 @@ kind_words kind.Categories = codes "CATEGORIES"
 
 -- what a command conflicts with
 abbrev pub conflict_words : Conflict → List ℕ
+conflict_words conflict.NotBuilt = codes "NOTBUILT"
 conflict_words (conflict.NoUser id) = codes "NOUSER " ++ id
 conflict_words (conflict.NoGroup id) = codes "NOGROUP " ++ id
 conflict_words (conflict.NoProfile class profile) = codes "NOPROFILE " ++ class ++ codes " " ++ profile.text
@@ -77,7 +78,7 @@ abbrev pub refusal_words : Refusal → List ℕ
 refusal_words (refusal.Syntax fault) = codes "SYNTAX " ++ syntax_words fault
 refusal_words (refusal.Conflict conflict) = conflict_words conflict
 refusal_words refusal.NumberSpent = codes "NUMBERSPENT"
-refusal_words refusal.NotBuilt = codes "NOTBUILT"
+refusal_words refusal.NotBuilt = conflict_words conflict.NotBuilt
 refusal_words refusal.LineTooLong = codes "LINETOOLONG"
 
 abbrev pub reply_words : Reply → List ℕ

@@ -3,7 +3,7 @@ use Rattle.std.specs.Prelude.{ℕ, Bool, false, true, is_some, Result, Ok, Err, 
 use Rattle.request_files.specs.declared.line.LineRefusal.{LineRefusal}
 use Rattle.request_files.specs.declared.line.LineRefusal.TheVariants.{BadLine, NoAcee, AceeExists, AceesFull, BadName, LineTooLong}
 use Rattle.request_files.specs.Grammar.{Line, Verify, Auth, Fastauth, Delete, After, Skip}
-use Rattle.racf_run.specs.Items.{is_fastauth}
+use Rattle.racf_run.specs.Statements.{is_fastauth}
 
 abbrev pub is_unbuilt_request : Line → Bool
 is_unbuilt_request (Verify acee request) = is_some request.label

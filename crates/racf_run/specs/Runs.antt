@@ -44,7 +44,8 @@ pub record BeginsWith {S Item : Type 0} (m : Machine S Item) (read : List ℕ) (
   pub others : List Item
   pub in_order : m.items (read ++ rest) ≡ items ++ others
 
--- The input was read to its end, no more than the longest, and all of its output was written. Some line was refused, or none.
+-- The input was read to its end, no more than the longest, and all of its output was written. Some line was refused, or
+-- none.
 pub record WroteAll {S Item : Type 0} (m : Machine S Item) (refused : Bool) (read : List ℕ) (more : Option (List ℕ)) (written : List ℕ) : Type 0 where
   pub ended : IsAtEnd more
   pub fits : length read ≤ longest_input
@@ -75,7 +76,8 @@ pub record WroteToWriteFault {S Item : Type 0} (m : Machine S Item) (read : List
   pub first : BeginsWith m read more (done ++ last ∷ [])
   pub front : written ≡ output m done m.start ++ take count (m.text last (after m done m.start))
 
--- What was written when a run stopped with a status: `read` was taken of the input, `more` was to come, and the source has `left`.
+-- What was written when a run stopped with a status: `read` was taken of the input, `more` was to come, and the source
+-- has `left`.
 abbrev pub Wrote : {S Item : Type 0} → Machine S Item → Status → List ℕ → Option (List ℕ) → Option (List ℕ) → List ℕ → Type 0
 Wrote m Done read more left written = WroteAll m false read more written
 Wrote m Refusals read more left written = WroteAll m true read more written
@@ -85,7 +87,8 @@ Wrote m NoMemory read more left written = WroteToItem m read more written
 Wrote m WriteFault read more left written = WroteToWriteFault m read more written
 Wrote m Usage read more left written = ⊥
 
--- A run from a source to a sink. The source had `source` to give and has `left` now; the sink held `before` and holds `now`.
+-- A run from a source to a sink. The source had `source` to give and has `left` now; the sink held `before` and holds
+-- `now`.
 pub record Ran {S Item : Type 0} (m : Machine S Item) (status : Status) (source left before now : Option (List ℕ)) : Type 0 where
   pub read : List ℕ
   pub more : Option (List ℕ)

@@ -1,15 +1,15 @@
--- The stream of the words `script IN OUT`: its items, its output, and the status that it ends with.
+-- The stream of the words `script IN OUT`: its statements, its output, and the status that it ends with.
 use Rattle.std.specs.Prelude.{Bool, true, false, List, ℕ, if◌then◌else◌}
 use Rattle.racf_outside.specs.Lines.{lines, whole_lines}
-use Rattle.racf_run.specs.declared.item.Item.{Item}
+use Rattle.racf_run.specs.declared.statement.Statement.{Statement}
 use Rattle.racf_run.specs.declared.status.Status.{Status}
 use Rattle.racf_run.specs.declared.status.Status.TheVariants.{Done, Refusals}
 use Rattle.racf_run.specs.Joining.{items_of, whole_items_of}
 use Rattle.racf_run.specs.Stream.{State, new_stream, step, text}
 use Rattle.racf_run.specs.Runs.{Machine, after, output}
 
--- the stream's items are those of its lines
-unfoldable pub stream : Machine State Item
+-- the stream's statements are those of its lines
+unfoldable pub stream : Machine State Statement
 stream = record {
   items = λ bytes. items_of (lines bytes);
   whole_items = λ bytes. whole_items_of (whole_lines bytes);

@@ -1,11 +1,11 @@
--- The stream: what stands between two lines, and the answer to each item.
+-- The stream: what stands between two lines, and the answer to each statement.
 use Rattle.std.specs.Prelude.{◌≡◌, ℕ, ◌+◌, Bool, true, false, ◌||◌, Option, Some, None, Result, Ok, Err, List, [], ◌++◌, if◌then◌else◌}
-use Rattle.racf_run.specs.declared.item.Item.{Item}
-use Rattle.racf_run.specs.declared.item.Item.TheVariants as item
+use Rattle.racf_run.specs.declared.statement.Statement.{Statement}
+use Rattle.racf_run.specs.declared.statement.Statement.TheVariants as item
 use Rattle.racf_run.specs.declared.reply.Refusal.{Refusal}
 use Rattle.racf_run.specs.declared.reply.Refusal.TheVariants as refusal
 use Rattle.racf_run.specs.declared.reply.Reply.TheVariants.{Accepted, Refused}
-use Rattle.command_parser.specs.declared.forms.Form.{Form}
+use Rattle.command_parser.specs.declared.fields.CommandFields.{CommandFields}
 use Rattle.racf_profiles.specs.declared.rows.Rows.{Rows}
 use Rattle.racf_profiles.specs.State.{restart}
 use Rattle.row_tables.specs.Tables.{first_rows}
@@ -19,8 +19,8 @@ use Rattle.racf_run.specs.Replies.{reply_line}
 use Rattle.racf_run.specs.Commands.{issuer, refusal_of, read_command}
 use Rattle.racf_run.specs.Requests.{is_unbuilt_line}
 
--- The number counts the accepted commands. The rows are the database's; beside them stand the ACEEs in use, each under its
--- name.
+-- The number counts the accepted commands. The rows are the database's; beside them stand the ACEEs in use, each under
+-- its name.
 pub record State : Type 0 where
   pub number : ℕ
   pub has_refused : Bool
@@ -30,7 +30,7 @@ pub record State : Type 0 where
 unfoldable pub new_stream : State
 new_stream = record { number = 0; has_refused = false; rows = first_rows; acees = [] }
 
--- An item is answered by a text, and leaves a state.
+-- A statement is answered by a text, and leaves a state.
 pub record Answer : Type 0 where
   pub state : State
   pub text : List ℕ
@@ -44,8 +44,8 @@ pub record DoesAs (a : Answer) (state : State) (old new : List ℕ) : Type 0 whe
 abbrev pub refuse : Refusal → State → Answer
 refuse why s = record { state = record s { has_refused = true }; text = reply_line s.number (Refused why) }
 
--- What a request is answered by: the image of the rows as they stand, with the number of commands that were accepted so far.
--- The copy of every listed class is equal to its live profiles there.
+-- What a request is answered by: the image of the rows as they stand, with the number of commands that were accepted so
+-- far. The copy of every listed class is equal to its live profiles there.
 abbrev pub imaged : ℕ → Rows → Imaged
 imaged number rows = record { state = restart rows; generation = number }
 
@@ -65,34 +65,34 @@ request text s = if is_unbuilt_line text (read text) then refuse refusal.NotBuil
 
 -- A command is refused, or it is accepted: then it is counted, and the rows are as it leaves them. The number that is
 -- printed is the one behind the command.
-abbrev pub accept : Form → State → Answer
+abbrev pub accept : CommandFields → State → Answer
 accept form s = record { state = record s { number = s.number + 1; rows = Effects.step issuer form s.rows }; text = reply_line (s.number + 1) Accepted }
 
-abbrev pub unless_refused : Option Refusal → Form → State → Answer
+abbrev pub unless_refused : Option Refusal → CommandFields → State → Answer
 unless_refused (Some why) form s = refuse why s
 unless_refused None form s = accept form s
 
-abbrev pub work_form : Form → State → Answer
-work_form form s = unless_refused (refusal_of form s.number s.rows) form s
+abbrev pub process_command : CommandFields → State → Answer
+process_command form s = unless_refused (refusal_of form s.number s.rows) form s
 
-abbrev pub work_read : Result Form Refusal → State → Answer
-work_read (Err why) s = refuse why s
-work_read (Ok form) s = work_form form s
+abbrev pub process_read : Result CommandFields Refusal → State → Answer
+process_read (Err why) s = refuse why s
+process_read (Ok form) s = process_command form s
 
 unfoldable pub command : List ℕ → State → Answer
-command text s = work_read (read_command text) s
+command text s = process_read (read_command text) s
 
--- the answer to each item
-abbrev pub answer : Item → State → Answer
+-- the answer to each statement
+abbrev pub answer : Statement → State → Answer
 answer (item.Command text) s = command text s
 answer (item.Request text) s = request text s
 answer item.NotBuilt s = refuse refusal.NotBuilt s
 answer item.LineTooLong s = refuse refusal.LineTooLong s
 
--- what stands after an item
-unfoldable pub step : Item → State → State
+-- what stands after a statement
+unfoldable pub step : Statement → State → State
 step item s = (answer item s).state
 
 -- what is printed for it
-unfoldable pub text : Item → State → List ℕ
+unfoldable pub text : Statement → State → List ℕ
 text item s = (answer item s).text

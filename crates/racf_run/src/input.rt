@@ -1,15 +1,15 @@
-//! The items of an input, one after another.
+//! The statements of an input, one after another.
 
 ghost use Rattle.std.specs.Prelude.{◌≤◌, ◌^◌};
-ghost use Rattle.racf_run.specs.NextItem.{NextsItem};
+ghost use Rattle.racf_run.specs.NextStatement.{NextsStatement};
 ghost use Rattle.racf_run.specs.NextRole.{NextsRole, ReadsRole, ReadsEnd};
 
-use crate::item::Item;
 use crate::joining::{Begun, LineRole, role_of};
+use crate::statement::Statement;
 use racf_outside::{Line, LineFault, Lines, Source};
 use std::alloc::Global;
 
-/// Why no item comes.
+/// Why no statement comes.
 #[derive(Clone, Copy)]
 pub(crate) enum Stop {
     /// The input has ended.
@@ -22,12 +22,12 @@ pub(crate) enum Stop {
     NoMemory,
 }
 
-/// The next item; `None` where the next line is skipped. The lines of a command are joined.
-pub(crate) fn next_item<S: Source>(
+/// The next statement; `None` where the next line is skipped. The lines of a command are joined.
+pub(crate) fn next_statement<S: Source>(
     alloc: Global,
     lines: &mut Lines<S>,
-) -> Result<Option<Item>, Stop>
-    ensures item { NextsItem result lines.old lines.new }
+) -> Result<Option<Statement>, Stop>
+    ensures item { NextsStatement result lines.old lines.new }
     ensures faults { lines.old.faults ≤ lines.new.faults }
     ensures limit { lines.new.passed ≤ 2 ^ 28 }
 {
@@ -53,7 +53,7 @@ fn next_role<S: Source>(
 {
     match lines.next() {
         Ok(Line::Text(text)) => read_role(alloc, begun, text),
-        Ok(Line::TooLong) => Ok(LineRole::Whole(Some(Item::LineTooLong))),
+        Ok(Line::TooLong) => Ok(LineRole::Whole(Some(Statement::LineTooLong))),
         Ok(Line::End) => read_end(begun),
         Err(LineFault::ReadFault) => Err(Stop::ReadFault),
         Err(LineFault::InputTooLong) => Err(Stop::InputTooLong),

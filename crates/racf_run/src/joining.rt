@@ -1,4 +1,4 @@
-//! Lines, joined to items (z/OS TSO/E Command Language: continuing a command in the next line).
+//! Lines, joined to statements (z/OS TSO/E Command Language: continuing a command in the next line).
 
 ghost use Rattle.std.specs.Prelude.{◌≡◌, IfOk, None, Option, List, ℕ};
 ghost use Rattle.std.specs.Option.{option_map};
@@ -6,15 +6,19 @@ ghost use Rattle.racf_outside.specs.Lines.{Text};
 ghost use Rattle.racf_run.specs.Fronts.{Front};
 ghost use Rattle.racf_run.specs.Joining.{going_on, added, joined, fresh_role, role_of};
 
-use crate::item::{Item, LineText, is_blank, is_request, is_skipped, past_blanks};
 use crate::mark::Mark;
+use crate::statement::{LineText, Statement, is_request, is_skipped};
+use command_words::{Parting, is_blank};
 use std::alloc::{AllocError, Global};
 use std::marker::Model;
 
-/// The front of a command that goes on: its text so far, without the mark, and the mark. It is kept whole, however long.
+/// The front of a command that goes on: its text so far, without the mark, and the mark. It is kept whole, however
+/// long.
 #[derive(Drop)]
 pub struct Begun {
+    /// The lines so far, joined, without the last mark.
     text: Vec<u8>,
+    /// That mark.
     mark: Mark,
 }
 
@@ -29,8 +33,8 @@ impl Model for Begun {
 /// What a line is.
 #[derive(Drop)]
 pub enum LineRole {
-    /// An item ends with it, or it is skipped.
-    Whole(Option<Item>),
+    /// A statement ends with it, or it is skipped.
+    Whole(Option<Statement>),
     /// A command goes on behind it.
     GoesOn(Begun),
 }
@@ -57,7 +61,7 @@ fn fresh_role(alloc: Global, text: &[u8]) -> Result<LineRole, AllocError>
         return Ok(LineRole::Whole(None));
     }
     if is_request(text) {
-        return Ok(LineRole::Whole(Some(Item::request(alloc, text)?)));
+        return Ok(LineRole::Whole(Some(Statement::request(alloc, text)?)));
     }
     joined(Vec::new(alloc), text)
 }
@@ -70,7 +74,7 @@ fn joined(before: Vec<u8>, text: &[u8]) -> Result<LineRole, AllocError>
     match going_on(text) {
         None => {
             whole.extend_from_slice(text)?;
-            Ok(LineRole::Whole(Some(Item::Command(LineText::new(whole)))))
+            Ok(LineRole::Whole(Some(Statement::Command(LineText::new(whole)))))
         }
         Some((front, mark)) => {
             whole.extend_from_slice(front)?;
@@ -80,7 +84,7 @@ fn joined(before: Vec<u8>, text: &[u8]) -> Result<LineRole, AllocError>
 }
 
 impl Begun {
-    ghost use Rattle.racf_run.specs.declared.item.Item.TheVariants.{Command};
+    ghost use Rattle.racf_run.specs.declared.statement.Statement.TheVariants.{Command};
     ghost use Rattle.std.specs.Prelude.{Some};
 
     /// What a line of text is behind this front.
@@ -92,11 +96,11 @@ impl Begun {
     }
 
     /// The command, where the input ends behind this front.
-    pub(crate) fn end(self) -> Item
+    pub(crate) fn end(self) -> Statement
         ensures { result ≡ Command self.text }
     {
         let Begun { text, mark: _ } = self;
-        Item::Command(LineText::new(text))
+        Statement::Command(LineText::new(text))
     }
 }
 
@@ -106,7 +110,7 @@ fn added(mark: Mark, text: &[u8]) -> &[u8]
 {
     match mark {
         Mark::Hyphen => text,
-        Mark::Plus => past_blanks(text),
+        Mark::Plus => Parting::Line.past(text),
     }
 }
 

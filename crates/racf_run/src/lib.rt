@@ -1,22 +1,31 @@
-//! The stream: lines of commands and requests in, replies and answers out, from a source to a sink; and the top call of the
-//! program, over a shelf of named inputs and outputs.
+//! The stream: lines of commands and requests in, replies and answers out, from a source to a sink; and the top call of
+//! the program, over a shelf of named inputs and outputs.
+//!
+//! The principal functions are `racf`, the top call over a shelf of `racf_outside`, and `script` between one source and
+//! one sink; both answer with a `Status`. The commands are worked by `racf_database`, the requests by `request_files`.
+//! `laws` is for a reader of an output.
+//!
+//! ```text
+//! let (status, source) = script(alloc, source, &mut sink);
+//! std::process::exit(status.code())
+//! ```
 #![tactic(auto)]
 
 mod commands;
 mod input;
-mod item;
 mod joining;
+pub mod laws;
 mod mark;
+mod refusal_words;
 mod reply;
 mod requests;
 mod scripts;
+mod statement;
 mod status;
 mod stream;
 #[cfg(test)]
 mod tests;
 mod top;
-mod unbuilt;
-mod words;
 
 pub use scripts::script;
 pub use status::Status;

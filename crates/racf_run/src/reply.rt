@@ -3,7 +3,7 @@
 ghost use Rattle.std.specs.Prelude.{◌≡◌, ◌++◌, OnOk};
 ghost use Rattle.racf_run.specs.Replies.{refusal_words, reply_words, reply_line};
 
-use crate::words::{write_conflict, write_syntax};
+use crate::refusal_words::{write_conflict, write_syntax};
 use command_parser::Syntax;
 use itoa::Buffer;
 use racf_database::Conflict;
@@ -45,7 +45,7 @@ impl Refusal {
             }
             Refusal::Conflict(conflict) => write_conflict(conflict, out),
             Refusal::NumberSpent => out.extend_from_slice(b"NUMBERSPENT"),
-            Refusal::NotBuilt => out.extend_from_slice(b"NOTBUILT"),
+            Refusal::NotBuilt => write_conflict(&Conflict::NotBuilt, out),
             Refusal::LineTooLong => out.extend_from_slice(b"LINETOOLONG"),
         }
     }

@@ -5,7 +5,7 @@ ghost use Rattle.request_files.specs.Seen.{line_read};
 ghost use Rattle.request_files.specs.Grammar.{line_of};
 ghost use Rattle.racf_run.specs.Requests.{is_unbuilt_line, is_unbuilt_request, hides_fault};
 
-use crate::item::is_fastauth;
+use crate::statement::is_fastauth;
 use request_files::{LineRefusal, RequestLine};
 
 /// A line of FASTAUTH whose words fit, or one of VERIFY that names a security label.

@@ -6,28 +6,28 @@ ghost use Rattle.racf_outside.specs.Causes.{Rose, HasCause};
 ghost use Rattle.racf_outside.specs.Reader.{at_start};
 ghost use Rattle.racf_run.specs.Runs.{Ran, longest_input};
 ghost use Rattle.racf_run.specs.Script.{stream, is_whole, script_output, script_status};
-ghost use Rattle.racf_run.specs.Work.{Works, stop_status, fault_status};
+ghost use Rattle.racf_run.specs.Processing.{Processes, stop_status, fault_status};
 
-use crate::input::{Stop, next_item};
-use crate::item::Item;
+use crate::input::{Stop, next_statement};
+use crate::statement::Statement;
 use crate::status::Status;
 use crate::stream::Stream;
 use racf_outside::{Failed, Lines, Sink, Source};
 use std::alloc::Global;
 
-/// Why an item was not answered.
+/// Why a statement was not answered.
 #[derive(Clone, Copy)]
-pub(crate) enum WorkFault {
+pub(crate) enum ProcessFault {
     /// Memory ran out before anything was changed or written.
     NoMemory,
     /// Writing the text failed.
     WriteFault,
 }
 
-/// Works the lines of a source, and writes the text of each to the sink; skipped lines have none. The status tells how it
-/// ended, and the source is given back with what it has left. Each text stands whole in memory before it is written. Time
-/// grows with the input's length, and for each line with what the database takes to work its command. The first request
-/// behind an accepted command takes a copy of the whole database, in time and memory.
+/// Works the lines of a source, and writes the text of each to the sink; skipped lines have none. The status tells how
+/// it ended, and the source is given back with what it has left. Each text stands whole in memory before it is written.
+/// Time grows with the input's length, and for each line with what the database takes to work its command. The first
+/// request behind an accepted command takes a copy of the whole database, in time and memory.
 pub fn script<S: Source, O: Sink>(alloc: Global, source: S, sink: &mut O) -> (Status, S)
     // Which bytes were read, and what was written for them, wherever it stopped.
     ensures ran { Ran stream result.0 (S.left source) (S.left result.1) (O.taken sink.old) (O.taken sink.new) }
@@ -69,40 +69,40 @@ fn run<S: Source, O: Sink>(alloc: Global, lines: &mut Lines<S>, sink: &mut O) ->
     };
     let mut out = Vec::new(alloc);
     loop {
-        let item = match next_item(alloc, lines) {
+        let item = match next_statement(alloc, lines) {
             Ok(item) => item,
             Err(stop) => return stop_status(stop, stream.has_refused()),
         };
-        match work_item(alloc, &mut stream, item, &mut out, sink) {
+        match process_statement(alloc, &mut stream, item, &mut out, sink) {
             Ok(()) => {}
             Err(fault) => return fault_status(fault),
         }
     }
 }
 
-/// Works an item, where there is one, and writes its text.
-fn work_item<O: Sink>(
+/// Processes a statement, where there is one, and writes its text.
+fn process_statement<O: Sink>(
     alloc: Global,
     stream: &mut Stream,
-    item: Option<Item>,
+    item: Option<Statement>,
     out: &mut Vec<u8>,
     sink: &mut O,
-) -> Result<(), WorkFault>
-    ensures works { Works result item stream.old stream.new (O.taken sink.old) (O.taken sink.new) }
-    ensures write_fault { result ≡ Err WorkFault.WriteFault → Rose (O.faults sink.old) (O.faults sink.new) }
+) -> Result<(), ProcessFault>
+    ensures processed { Processes result item stream.old stream.new (O.taken sink.old) (O.taken sink.new) }
+    ensures write_fault { result ≡ Err ProcessFault.WriteFault → Rose (O.faults sink.old) (O.faults sink.new) }
     ensures sink_faults { O.faults sink.old ≤ O.faults sink.new }
 {
     let Some(item) = item else {
         return Ok(());
     };
     out.clear();
-    match stream.work(alloc, &item, out) {
+    match stream.process(alloc, &item, out) {
         Ok(()) => {}
-        Err(_) => return Err(WorkFault::NoMemory),
+        Err(_) => return Err(ProcessFault::NoMemory),
     }
     match write_all(sink, out.as_slice()) {
         Ok(()) => Ok(()),
-        Err(Failed) => Err(WorkFault::WriteFault),
+        Err(Failed) => Err(ProcessFault::WriteFault),
     }
 }
 
@@ -119,7 +119,7 @@ fn write_all<O: Sink>(sink: &mut O, bytes: &[u8]) -> Result<(), Failed>
     Ok(())
 }
 
-/// The status of a run that ends because no item comes.
+/// The status of a run that ends because no statement comes.
 fn stop_status(stop: Stop, has_refused: bool) -> Status
     ensures { result ≡ stop_status stop has_refused }
 {
@@ -132,12 +132,12 @@ fn stop_status(stop: Stop, has_refused: bool) -> Status
     }
 }
 
-/// The status of a run that ends because an item was not answered.
-fn fault_status(fault: WorkFault) -> Status
+/// The status of a run that ends because a statement was not answered.
+fn fault_status(fault: ProcessFault) -> Status
     ensures { result ≡ fault_status fault }
 {
     match fault {
-        WorkFault::NoMemory => Status::NoMemory,
-        WorkFault::WriteFault => Status::WriteFault,
+        ProcessFault::NoMemory => Status::NoMemory,
+        ProcessFault::WriteFault => Status::WriteFault,
     }
 }

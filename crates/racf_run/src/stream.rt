@@ -1,4 +1,4 @@
-//! The state between two lines of a stream, and what each item does to it.
+//! The state between two lines of a stream, and what each statement does to it.
 
 ghost use Rattle.std.specs.Prelude.{◌≡◌, ◌++◌, ◌≤◌, OnOk, OnErr, IfOk};
 ghost use Rattle.std.specs.Arc.{arc_value};
@@ -6,14 +6,14 @@ ghost use Rattle.racf_run.specs.Stream.{imaged};
 ghost use Rattle.racf_run.specs.Commands.{issuer as the_issuer};
 
 use crate::commands::read_command;
-use crate::item::{Item, LineText};
 use crate::reply::{Refusal, Reply};
 use crate::requests::is_unbuilt_line;
+use crate::statement::{LineText, Statement};
 use command_parser::{Command, Issuer};
 use racf_database::Database;
 use racf_profiles::{ibmuser, sys1};
 use raclist_image::Image;
-use request_files::{AceeTable, LineRefusal, RequestLine, read_line, work};
+use request_files::{AceeTable, LineRefusal, RequestLine, read_line, respond};
 use std::alloc::{AllocError, Global};
 use std::marker::Model;
 use std::sync::Arc;
@@ -21,15 +21,20 @@ use std::sync::Arc;
 /// The last number that a command gets (this product's own limit).
 const MOST_NUMBER: u64 = 1 << 62;
 
-/// The state of a stream. Requests are answered on an image of the rows, which is made at the first request behind an accepted
-/// command: it takes a copy of the whole database, in time and memory. The requests behind it, up to the next accepted
-/// command, take none.
+/// The state of a stream. Requests are answered on an image of the rows, which is made at the first request behind an
+/// accepted command: it takes a copy of the whole database, in time and memory. The requests behind it, up to the next
+/// accepted command, take none.
 #[derive(Drop)]
 pub(crate) struct Stream {
+    /// How many commands were accepted.
     number: u64,
+    /// Some line was refused.
     has_refused: bool,
+    /// The rows.
     database: Database,
+    /// The image of the rows, where one was made since the last accepted command.
     image: Option<Arc<Image>>,
+    /// The ACEEs in use.
     acees: AceeTable,
 }
 
@@ -49,7 +54,7 @@ impl Model for Stream {
 
 impl Stream {
     ghost use Rattle.request_files.specs.Seen.{line_read};
-    ghost use Rattle.racf_run.specs.Stream.{new_stream, answer, answer_line, request, refuse, command, work_form, image_of, DoesAs};
+    ghost use Rattle.racf_run.specs.Stream.{new_stream, answer, answer_line, request, refuse, command, process_command, image_of, DoesAs};
     ghost use Rattle.racf_run.specs.Commands.{refusal_of};
 
     /// The state before the first line.
@@ -75,21 +80,21 @@ impl Stream {
         self.has_refused
     }
 
-    /// Works an item, and writes its text at the end of `out`. Where memory is short, nothing has changed.
-    pub(crate) fn work(
+    /// Processes a statement, and writes its text at the end of `out`. Where memory is short, nothing has changed.
+    pub(crate) fn process(
         &mut self,
         alloc: Global,
-        item: &Item,
+        item: &Statement,
         out: &mut Vec<u8>,
     ) -> Result<(), AllocError>
         ensures ok { OnOk result (DoesAs (answer item.now self.old) self.new out.old.items out.new.items) }
         ensures err { OnErr result (self.new ≡ self.old) }
     {
         match item {
-            Item::Command(text) => self.command(alloc, text, out),
-            Item::Request(text) => self.request(alloc, text, out),
-            Item::NotBuilt => self.refuse(Refusal::NotBuilt, out),
-            Item::LineTooLong => self.refuse(Refusal::LineTooLong, out),
+            Statement::Command(text) => self.command(alloc, text, out),
+            Statement::Request(text) => self.request(alloc, text, out),
+            Statement::NotBuilt => self.refuse(Refusal::NotBuilt, out),
+            Statement::LineTooLong => self.refuse(Refusal::LineTooLong, out),
         }
     }
 
@@ -105,19 +110,19 @@ impl Stream {
         ensures err { OnErr result (self.new ≡ self.old) }
     {
         match read_command(alloc, text.as_slice())? {
-            Ok(command) => self.work_form(alloc, &command, out),
+            Ok(command) => self.process_command(alloc, &command, out),
             Err(why) => self.refuse(why, out),
         }
     }
 
     /// A command that the text spelled. All memory is taken, and the text stands whole, before the rows change.
-    fn work_form(
+    fn process_command(
         &mut self,
         alloc: Global,
         command: &Command,
         out: &mut Vec<u8>,
     ) -> Result<(), AllocError>
-        ensures ok { OnOk result (DoesAs (work_form command.now self.old) self.new out.old.items out.new.items) }
+        ensures ok { OnOk result (DoesAs (process_command command.now self.old) self.new out.old.items out.new.items) }
         ensures err { OnErr result (self.new ≡ self.old) }
     {
         let issuer = issuer();
@@ -173,7 +178,7 @@ impl Stream {
         ensures err { OnErr result (self.new ≡ self.old) }
     {
         let image = self.image(alloc)?;
-        let refused = work(alloc, line, &image, &mut self.acees, out)?;
+        let refused = respond(alloc, line, &image, &mut self.acees, out)?;
         self.has_refused = self.has_refused || refused;
         Ok(())
     }

@@ -1,7 +1,11 @@
+ghost use Rattle.std.specs.Prelude.{◌≡◌, map, Some, IfSome, IsTrue, string_bytes};
+ghost use Rattle.racf_run.specs.Racf.{script_files};
+ghost use Rattle.racf_run.specs.Script.{script_output, is_whole};
+
 use crate::scripts::script;
 use crate::status::Status;
 use crate::top::racf;
-use racf_outside::{Failing, MemoryShelf, MemorySink, MemorySource};
+use racf_outside::{Failing, FileShelf, MemoryShelf, MemorySink, MemorySource, Shelf};
 use std::alloc::{AllocError, Global};
 use std::test::Fail;
 
@@ -340,13 +344,23 @@ fn comment(alloc: Global, length: usize) -> Result<Vec<u8>, AllocError> {
     Ok(bytes)
 }
 
-/// The words `script IN OUT`.
-fn words(alloc: Global) -> Result<Vec<String>, AllocError> {
+/// The words `script INPUT OUTPUT`.
+fn words(alloc: Global, input: &str, output: &str) -> Result<Vec<String>, AllocError> {
     let mut words = Vec::new(alloc);
-    for word in ["script", "IN", "OUT"] {
+    for word in ["script", input, output] {
         words.push(String::from_str(alloc, word)?)?;
     }
     Ok(words)
+}
+
+/// The program over a shelf in memory. What an embedder knows then: where the input was read to its end, the output is
+/// exactly that of the input's bytes.
+fn racf_in_memory(alloc: Global, words: &[String], shelf: &mut MemoryShelf) -> Status
+    ensures { IsTrue (is_whole result) → IfSome (script_files (map string_bytes words.now)) (λ files.
+        IfSome (⟦<MemoryShelf as Shelf>⟧.input shelf.old files.input) (λ bytes.
+        ⟦<MemoryShelf as Shelf>⟧.output shelf.new files.output ≡ Some (script_output bytes))) }
+{
+    racf(alloc, words, shelf)
 }
 
 /// The status and the output of a stream, of which these reads and writes are to fail.
@@ -368,7 +382,7 @@ fn worked(
 #[test]
 fn works_the_shelf(rt: HostRuntime) -> Result<(), Fail> {
     let alloc = rt.alloc();
-    let words = words(alloc)?;
+    let words = words(alloc, "IN", "OUT")?;
     for (input, output, status) in [
         (FIRST_STREAM, FIRST_OUTPUT, Status::Refusals),
         (GROUPS, GROUPS_OUTPUT, Status::Refusals),
@@ -393,10 +407,85 @@ fn works_the_shelf(rt: HostRuntime) -> Result<(), Fail> {
             Vec::from_slice(alloc, input.as_bytes())?,
             Vec::new(alloc),
         )?;
-        assert_eq!(rt; racf(alloc, words.as_slice(), &mut shelf), status);
+        assert_eq!(rt; racf_in_memory(alloc, words.as_slice(), &mut shelf), status);
         assert_eq!(rt; shelf.output("OUT"), Some(output.as_bytes()));
-        assert_eq!(rt; racf(alloc, &words[..2], &mut shelf), Status::Usage);
+        assert_eq!(rt; racf(alloc, &[], &mut shelf), Status::Usage);
     }
+    Ok(())
+}
+
+/// The number alone, or none where it is 0.
+fn numbers(alloc: Global, number: u64) -> Result<Vec<u64>, AllocError> {
+    let mut numbers = Vec::new(alloc);
+    if number > 0 {
+        numbers.push(number)?;
+    }
+    Ok(numbers)
+}
+
+/// Which calls are to fail, by their numbers: the opening of an input and of an output, a read and a write.
+#[derive(Clone, Copy)]
+struct Calls {
+    source: u64,
+    sink: u64,
+    read: u64,
+    write: u64,
+}
+
+/// A shelf with an input of two requests, of which these calls are to fail.
+fn failing_shelf(alloc: Global, calls: Calls) -> Result<MemoryShelf, AllocError> {
+    let failing = Failing {
+        sources: numbers(alloc, calls.source)?,
+        sinks: numbers(alloc, calls.sink)?,
+        writes: numbers(alloc, calls.write)?,
+    };
+    let mut shelf = MemoryShelf::new(alloc, failing);
+    let bytes = Vec::from_slice(alloc, b"VERIFY A IBMUSER\nVERIFY B IBMUSER")?;
+    shelf.put("IN", bytes, numbers(alloc, calls.read)?)?;
+    Ok(shelf)
+}
+
+#[test]
+fn stops_at_each_fault(rt: HostRuntime) -> Result<(), Fail> {
+    let alloc = rt.alloc();
+    let words = words(alloc, "IN", "OUT")?;
+    for (source, sink, read, write, status, output) in [
+        (1, 0, 0, 0, Status::ReadFault, None),
+        (0, 1, 0, 0, Status::WriteFault, None),
+        (0, 0, 1, 0, Status::ReadFault, Some("")),
+        (0, 0, 2, 0, Status::ReadFault, Some("0 0 VERIFIED\n")),
+        (0, 0, 0, 2, Status::WriteFault, Some("0 0 VERIFIED\n")),
+        (
+            2,
+            2,
+            0,
+            3,
+            Status::Done,
+            Some("0 0 VERIFIED\n0 0 VERIFIED\n"),
+        ),
+    ] {
+        let calls = Calls {
+            source,
+            sink,
+            read,
+            write,
+        };
+        let mut shelf = failing_shelf(alloc, calls)?;
+        assert_eq!(rt; racf(alloc, words.as_slice(), &mut shelf), status);
+        assert_eq!(rt; shelf.output("OUT"), output.map(|text| text.as_bytes()));
+    }
+    Ok(())
+}
+
+#[test]
+fn stops_at_the_longest_input(rt: HostRuntime) -> Result<(), Fail> {
+    let alloc = rt.alloc();
+    let words = words(alloc, "/dev/zero", "/dev/null")?;
+    let mut shelf = FileShelf::new(alloc, rt.clone()?);
+    assert_eq!(rt;
+        racf(alloc, words.as_slice(), &mut shelf),
+        Status::InputTooLong
+    );
     Ok(())
 }
 

@@ -4,7 +4,7 @@ ghost use Rattle.std.specs.Prelude.{◌≡◌, ◌↔◌, ◌≤◌, ◌<◌, ma
 ghost use Rattle.std.specs.Option.{option_map};
 ghost use Rattle.racf_outside.specs.Causes.{Rose};
 ghost use Rattle.racf_outside.specs.Shelf.{SameBytes};
-ghost use Rattle.racf_run.specs.Racf.{script_files, Leaves, IsWholeOutput, OpensNone};
+ghost use Rattle.racf_run.specs.Racf.{script_files, RunsOnShelf, IsWholeOutput, OpensNone};
 ghost use Rattle.racf_run.specs.Runs.{longest_input};
 ghost use Rattle.racf_run.specs.Script.{is_whole};
 
@@ -16,23 +16,27 @@ use std::alloc::Global;
 /// What the words `script IN OUT` name.
 #[derive(Clone, Copy)]
 struct Files<'a> {
+    /// IN.
     input: &'a str,
+    /// OUT.
     output: &'a str,
 }
 
-/// The program: works what the words ask for, over the inputs and outputs of a shelf. The words `script IN OUT` work the
-/// stream of the input IN, and write to the output OUT; IN and OUT differ or are both `-`. Other words are `Usage`. (The
-/// words are this product's own.)
+/// The program: works what the words ask for, over the inputs and outputs of a shelf. The words `script IN OUT` work
+/// the stream of the input IN, and write to the output OUT; IN and OUT differ or are both `-`. Other words are `Usage`.
+/// (The words are this product's own.)
 ///
 /// The input is opened first, then the output; each that was opened is handed back, under its name.
 pub fn racf<F: Shelf>(alloc: Global, words: &[String], shelf: &mut F) -> Status
-    // What the outputs tell afterwards, wherever the stream stopped.
-    ensures leaves { IfSome (script_files (map string_bytes words.now)) (λ files.
-        Leaves result (F.input shelf.old files.input) files.output (F.output shelf.old) (F.output shelf.new)) }
+    // Which calls it makes of the shelf, in which order, and what the outputs tell afterwards, wherever the stream
+    // stopped.
+    ensures runs { IfSome (script_files (map string_bytes words.now)) (λ files.
+        RunsOnShelf F.source_gives F.sink_gives F.take_back_gives F.give_back_gives F.tells F.output
+        result (F.input shelf.old files.input) files shelf.old shelf.new) }
 
     // Where the input was read to its end, all of its output was written, and nothing else.
     ensures whole { IsTrue (is_whole result) → IfSome (script_files (map string_bytes words.now)) (λ files.
-        IsWholeOutput result (F.input shelf.old files.input) (F.output shelf.new files.output)) }
+        IsWholeOutput F.tells result (F.input shelf.old files.input) (F.output shelf.new files.output)) }
 
     // Why it stopped.
     ensures usage { (result ≡ Status.Usage) ↔ IsNone (script_files (map string_bytes words.now)) }
@@ -58,8 +62,9 @@ pub fn racf<F: Shelf>(alloc: Global, words: &[String], shelf: &mut F) -> Status
 
 /// Works a stream from an input of a shelf to an output.
 fn script_between<F: Shelf>(alloc: Global, input: &str, output: &str, shelf: &mut F) -> Status
-    ensures leaves { Leaves result (F.input shelf.old input.now) output.now (F.output shelf.old) (F.output shelf.new) }
-    ensures whole { IsTrue (is_whole result) → IsWholeOutput result (F.input shelf.old input.now) (F.output shelf.new output.now) }
+    ensures runs { RunsOnShelf F.source_gives F.sink_gives F.take_back_gives F.give_back_gives F.tells F.output
+        result (F.input shelf.old input.now) (record { input = input.now; output = output.now }) shelf.old shelf.new }
+    ensures whole { IsTrue (is_whole result) → IsWholeOutput F.tells result (F.input shelf.old input.now) (F.output shelf.new output.now) }
     ensures read_fault { result ≡ Status.ReadFault → Rose (F.source_faults shelf.old) (F.source_faults shelf.new) }
     ensures write_fault { result ≡ Status.WriteFault → Rose (F.sink_faults shelf.old) (F.sink_faults shelf.new) }
     ensures too_long { result ≡ Status.InputTooLong → IfSome (F.input shelf.old input.now) (λ bytes. longest_input < length bytes) }
@@ -69,8 +74,9 @@ fn script_between<F: Shelf>(alloc: Global, input: &str, output: &str, shelf: &mu
     ensures source_faults { F.source_faults shelf.old ≤ F.source_faults shelf.new }
     ensures sink_faults { F.sink_faults shelf.old ≤ F.sink_faults shelf.new }
 {
-    let Ok(source) = shelf.source(input) else {
-        return Status::ReadFault;
+    let source = match shelf.source(input) {
+        Ok(source) => source,
+        Err(Failed) => return Status::ReadFault,
     };
     let mut sink = match shelf.sink(output) {
         Ok(sink) => sink,

@@ -1,19 +1,14 @@
 -- The flags of a class.
-use Rattle.std.specs.Prelude.{ℕ, Bool, false, List, Option, option_map}
-use Rattle.std.specs.Option.{option_map_or}
+use Rattle.std.specs.Prelude.{ℕ, List, Option, option_map}
 use Rattle.racf_profiles.specs.declared.class_rows.ClassRow.{ClassRow}
-use Rattle.racf_profiles.specs.ClassTable.{facts_of}
+use Rattle.racf_profiles.specs.ClassTable.{allows_operations}
 use Rattle.racf_profiles.specs.Lookup.{class_of}
 use Rattle.racf_profiles.specs.State.{State}
 use Rattle.raclist_image.specs.declared.flags.ClassFlags.{ClassFlags}
 
--- Whether the attribute OPERATIONS gives access in a class, by the class table.
-abbrev pub heeds_operations : List ℕ → Bool
-heeds_operations class = option_map_or (λ facts. facts.operations) (facts_of class) false
-
 -- The flags of a class: those of its row, and OPERATIONS by the class table.
 abbrev pub flags_of_row : ClassRow → ClassFlags
-flags_of_row row = record { active = row.active; listed = row.listed; global = row.global; operations = heeds_operations row.name; log = row.log }
+flags_of_row row = record { active = row.active; listed = row.listed; global = row.global; operations = allows_operations row.name; log = row.log }
 
 -- The flags of the class of that name, where there is one.
 abbrev pub flags_of : List ℕ → State → Option ClassFlags

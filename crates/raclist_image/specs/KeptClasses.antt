@@ -1,8 +1,8 @@
 -- How a class is kept: its name, its flags and its profiles.
 use Rattle.std.specs.Prelude.{◌≡◌}
 use Rattle.racf_profiles.specs.declared.class_rows.ClassRow.{ClassRow}
-use Rattle.class_profiles.specs.Lawful.{kind_in}
-use Rattle.raclist_image.specs.Flags.{heeds_operations}
+use Rattle.racf_profiles.specs.LawfulProfiles.{kind_in}
+use Rattle.racf_profiles.specs.ClassTable.{allows_operations}
 use Rattle.raclist_image.specs.declared.classes.ClassEntry.TheInside.{Inside}
 
 abbrev pub row_of : Inside → ClassRow
@@ -17,5 +17,5 @@ row_of class = record {
 
 -- OPERATIONS counts as the class table says, and the names of its profiles have the kind of the class.
 pub record IsKept (class : Inside) : Type 0 where
-  pub operations : class.flags.operations ≡ heeds_operations class.name
+  pub operations : class.flags.operations ≡ allows_operations class.name
   pub kind : class.profiles.kind ≡ kind_in class.name

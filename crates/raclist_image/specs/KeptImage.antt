@@ -1,7 +1,8 @@
 -- How an image is kept. Each listed copy is equal to the live profiles, so the profiles are kept once.
 use Rattle.racf_profiles.specs.State.{restart}
 use Rattle.raclist_image.specs.declared.image.Image.TheInside.{Inside}
-use Rattle.raclist_image.specs.Imaged.{Imaged, AreLawful}
+use Rattle.raclist_image.specs.Imaged.{Imaged}
+use Rattle.racf_profiles.specs.Lawful.{AreLawful}
 
 abbrev pub imaged : Inside → Imaged
 imaged image = record {

@@ -2,7 +2,7 @@
 use Rattle.std.specs.Prelude.{◌≡◌, List, map}
 use Rattle.indexmap.specs.IndexMap.{keys, values}
 use Rattle.racf_profiles.specs.declared.users.User.{User}
-use Rattle.class_profiles.specs.Lawful.{AreUsers}
+use Rattle.racf_profiles.specs.LawfulUsers.{AreUsers}
 use Rattle.raclist_image.specs.declared.users.UserMap.TheInside.{Inside}
 
 abbrev pub users_in : Inside → List User

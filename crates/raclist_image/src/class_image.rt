@@ -2,7 +2,7 @@
 ghost use Rattle.std.specs.Prelude.{◌≡◌, ◌<◌, length, Some, IfOk, IsSomeAnd, option_map};
 ghost use Rattle.std.specs.List.{slice_get};
 ghost use Rattle.racf_profiles.specs.declared.profiles.Profile.{Profile};
-ghost use Rattle.class_profiles.specs.Lawful.{AreProfiles};
+ghost use Rattle.racf_profiles.specs.LawfulProfiles.{AreProfiles};
 ghost use Rattle.class_profiles.specs.Table.{best_profile, IsPlaceOf};
 ghost use Rattle.raclist_image.specs.Facts.{AreFacts};
 
@@ -74,7 +74,7 @@ impl ClassImage {
     }
 }
 
-// What a decision reads of this profile.
+/// What a decision reads of this profile.
 fn facts_of(profile: &Profile) -> Facts<'_>
     ensures { AreFacts profile.now result }
 {

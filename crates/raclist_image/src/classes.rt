@@ -2,22 +2,24 @@
 ghost use Rattle.std.specs.Prelude.{◌≡◌, find, IfOk, IfSome};
 ghost use Rattle.std.specs.Option.{option_copied};
 ghost use Rattle.racf_profiles.specs.Lookup.{is_class};
-ghost use Rattle.class_profiles.specs.Lawful.{AreProfiles, AreClasses, kind_in};
-ghost use Rattle.raclist_image.specs.Flags.{heeds_operations, flags_of_row};
+ghost use Rattle.racf_profiles.specs.LawfulProfiles.{AreProfiles, AreClasses, kind_in};
+ghost use Rattle.raclist_image.specs.Flags.{flags_of_row};
 
 use crate::class_image::ClassImage;
 use crate::flags::ClassFlags;
 use access_levels::Id;
-use generic_names::NameKind;
-use racf_profiles::{ClassRow, FixedClass, NoMemory};
+use racf_profiles::{ClassRow, NoMemory, allows_operations, kind_in};
 use std::alloc::Global;
 use std::marker::Model;
 
 /// A class with its profiles.
 #[derive(Drop)]
 pub(crate) struct ClassEntry {
+    /// Its name.
     name: Id,
+    /// Its flags, and what the class table says of OPERATIONS.
     flags: ClassFlags,
+    /// Its profiles, by name and by what they cover.
     profiles: ClassImage,
 }
 
@@ -64,18 +66,7 @@ impl ClassEntry {
     }
 }
 
-/// The kind of the names of a class's profiles.
-pub(crate) fn kind_in(class: Id) -> NameKind
-    ensures { result ≡ kind_in class }
-{
-    if class == FixedClass::Dataset.id() {
-        NameKind::DataSet
-    } else {
-        NameKind::General
-    }
-}
-
-// The flags of this class.
+/// The flags of this class.
 fn flags_of_row(row: &ClassRow) -> ClassFlags
     ensures { result ≡ flags_of_row row.now }
 {
@@ -83,24 +74,15 @@ fn flags_of_row(row: &ClassRow) -> ClassFlags
         active: row.active,
         listed: row.listed,
         global: row.global,
-        operations: heeds_operations(row.name),
+        operations: allows_operations(row.name),
         log: row.log,
-    }
-}
-
-// Whether the attribute OPERATIONS gives access in a class.
-fn heeds_operations(class: Id) -> bool
-    ensures { result ≡ heeds_operations class }
-{
-    match racf_profiles::class_facts(class) {
-        Some(facts) => facts.operations,
-        None => false,
     }
 }
 
 /// The classes in their order.
 #[derive(Drop)]
 pub(crate) struct ClassList {
+    /// The fourteen classes.
     classes: Vec<ClassEntry>,
 }
 
@@ -110,7 +92,7 @@ impl Model for ClassList {
 
     ghost Value = { List ClassRow };
 
-    ghost use Rattle.class_profiles.specs.Lawful.{AreClasses};
+    ghost use Rattle.racf_profiles.specs.LawfulProfiles.{AreClasses};
 
     ghost view = { λ list. list.classes.items };
 

@@ -4,10 +4,10 @@ ghost use Rattle.std.specs.Arc.{arc_value};
 ghost use Rattle.std.specs.Option.{option_copied};
 ghost use Rattle.racf_profiles.specs.Lookup.{user_of, group_of, class_of};
 ghost use Rattle.racf_profiles.specs.State.{restart, effective};
-ghost use Rattle.group_tree.specs.Lawful.{IsTree};
-ghost use Rattle.group_tree.specs.Scope.{InScopeProfile};
-ghost use Rattle.class_profiles.specs.Lawful.{AreUsers, AreClasses, kind_in};
-ghost use Rattle.raclist_image.specs.Imaged.{AreLawful};
+ghost use Rattle.racf_profiles.specs.Tree.{IsTree};
+ghost use Rattle.racf_profiles.specs.Scope.{InScopeProfile};
+ghost use Rattle.racf_profiles.specs.LawfulProfiles.{kind_in};
+ghost use Rattle.racf_profiles.specs.Lawful.{AreLawful};
 ghost use Rattle.raclist_image.specs.Flags.{flags_of};
 
 use crate::class_image::ClassImage;
@@ -25,10 +25,15 @@ use std::sync::Arc;
 /// It never changes, and no call that reads it takes memory.
 #[derive(Drop)]
 pub struct Image {
+    /// The users by their IDs, in order of definition.
     users: UserMap,
+    /// The groups, and scope.
     groups: Tree,
+    /// The classes in their order, with their profiles.
     classes: ClassList,
+    /// The options of the whole system.
     options: Options,
+    /// How many commands were accepted before this state.
     generation: u64,
 }
 
@@ -48,9 +53,7 @@ impl Image {
     /// The image of these rows, copied, in which each listed copy is equal to the live profiles. It takes time that
     /// grows with the rows.
     pub fn of(alloc: Global, rows: &Rows, generation: u64) -> Result<Arc<Image>, NoMemory>
-        requires users { AreUsers rows.now.users }
-        requires groups { IsTree rows.now.groups }
-        requires classes { AreClasses rows.now.classes }
+        requires { AreLawful rows.now }
         ensures { IfOk result (λ image. arc_value image ≡ record { state = restart rows.now; generation = generation }) }
     {
         let users = UserMap::of(alloc, rows.users.items.as_slice())?;
@@ -150,7 +153,7 @@ impl Image {
     }
 }
 
-// The tree of these groups.
+/// The tree of these groups.
 fn tree_of(alloc: Global, groups: &[Group]) -> Result<Tree, NoMemory>
     requires { IsTree groups.now }
     ensures { IfOk result (λ tree. tree.groups ≡ groups.now) }

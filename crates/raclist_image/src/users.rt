@@ -2,7 +2,7 @@
 ghost use Rattle.std.specs.Prelude.{◌≡◌, ◌<◌, length, find, slice_get, Some, IfOk};
 ghost use Rattle.std.specs.Option.{option_copied};
 ghost use Rattle.racf_profiles.specs.Lookup.{is_user};
-ghost use Rattle.class_profiles.specs.Lawful.{AreUsers};
+ghost use Rattle.racf_profiles.specs.LawfulUsers.{AreUsers};
 
 use access_levels::Id;
 use indexmap::IndexMap;

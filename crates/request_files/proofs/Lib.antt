@@ -1,6 +1,4 @@
-mod WordRows
 mod LineRows
 mod RequestRows
-pub mod WordLaws
 pub mod NumberLaws
 pub mod RowLaws

@@ -5,7 +5,7 @@ use Rattle.access_levels.specs.declared.entries.PortClass.TheVariants.{Terminal}
 use Rattle.generic_names.specs.declared.kind.NameKind.TheVariants.{DataSet, General}
 use Rattle.generic_names.specs.declared.fault.NameFault.TheVariants.{EmptyQualifier}
 use Rattle.request_files.specs.declared.line.LineRefusal.TheVariants.{BadLine, BadName}
-use Rattle.request_files.specs.Words.{words_at}
+use Rattle.command_words.specs.LineWords.{words_at}
 use Rattle.request_files.specs.Grammar.{Verify, Auth, Fastauth, Delete, After, Skip, next, deleted, number_after, asked_by, verified_by, requested, read}
 
 -- lines that ask for nothing

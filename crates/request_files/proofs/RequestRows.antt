@@ -7,7 +7,7 @@ use Rattle.acee.specs.Verify.{acee_of}
 use Rattle.decision.specs.Table.{decided}
 use Rattle.decision.specs.Verify.{verified}
 use Rattle.request_files.specs.declared.acees.NamedAcee.{NamedAcee}
-use Rattle.request_files.specs.Words.{words_at}
+use Rattle.command_words.specs.LineWords.{words_at}
 use Rattle.request_files.specs.Grammar.{next, deleted, number_after, asked_by, verified_by, requested, read}
 use Rattle.request_files.specs.Answers.{answer_line, numbered, never_line}
 use Rattle.request_files.specs.Worked.{worked}

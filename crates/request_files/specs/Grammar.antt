@@ -4,7 +4,7 @@ use Rattle.std.specs.List.{starts_with}
 use Rattle.access_levels.specs.declared.levels.Level.{Level}
 use Rattle.generic_names.specs.Spelled.{Spelled}
 use Rattle.generic_names.specs.declared.fault.NameFault.{NameFault}
-use Rattle.class_profiles.specs.Lawful.{kind_in}
+use Rattle.racf_profiles.specs.LawfulProfiles.{kind_in}
 use Rattle.acee.specs.declared.request.VerifyRequest.{VerifyRequest}
 use Rattle.decision.specs.declared.request.Request.{Request}
 use Rattle.request_files.specs.declared.line.RequestLine.{RequestLine}
@@ -14,7 +14,7 @@ use Rattle.request_files.specs.declared.line.LineRefusal.TheVariants.{BadLine, B
 use Rattle.request_files.specs.declared.operands.Operand.{Operand}
 use Rattle.request_files.specs.declared.operands.Operand.TheVariants as operand
 use Rattle.request_files.specs.declared.reading.Verified.{Verified}
-use Rattle.request_files.specs.Words.{Word, Unread, unread_at}
+use Rattle.command_words.specs.LineWords.{LineWord, UnreadLine, line_at}
 use Rattle.request_files.specs.Spellings.{folded, id_word, name_word, level_word, number_word, operand_word}
 
 -- ---- what is asked for
@@ -58,30 +58,30 @@ fits (Some x) place = Ok x
 fits None place = Err place
 
 -- What the next word says, with what is left behind it. Where no word is left, one lacks at the line's end.
-abbrev pub next_of : {X : Type 0} → (List ℕ → Option X) → List Word → ℕ → Result (X × Unread) ℕ
+abbrev pub next_of : {X : Type 0} → (List ℕ → Option X) → List LineWord → ℕ → Result (X × UnreadLine) ℕ
 next_of read [] end = Err end
 next_of read (word ∷ words) end = do
   said ← fits (read word.text) word.place
   Ok (said, record { words = words; end = end })
 
-unfoldable pub next : {X : Type 0} → (List ℕ → Option X) → Unread → Result (X × Unread) ℕ
+unfoldable pub next : {X : Type 0} → (List ℕ → Option X) → UnreadLine → Result (X × UnreadLine) ℕ
 next read unread = next_of read unread.words unread.end
 
 -- No word may be left.
-abbrev pub ended : {X : Type 0} → List Word → X → Result X ℕ
+abbrev pub ended : {X : Type 0} → List LineWord → X → Result X ℕ
 ended [] said = Ok said
 ended (word ∷ words) said = Err word.place
 
 -- ---- the lines
 
 -- DELETE: an ACEE
-unfoldable pub deleted : Unread → Result (List ℕ) ℕ
+unfoldable pub deleted : UnreadLine → Result (List ℕ) ℕ
 deleted unread = do
   acee ← next id_word unread
   ended acee.1.words acee.0
 
 -- *AFTER: a number
-unfoldable pub number_after : Unread → Result ℕ ℕ
+unfoldable pub number_after : UnreadLine → Result ℕ ℕ
 number_after unread = do
   number ← next number_word unread
   ended number.1.words number.0
@@ -96,7 +96,7 @@ abbrev pub access_to : List ℕ → Level → Result Spelled NameFault → Resul
 access_to class level (Ok name) = Ok record { class = class; name = name; asked = level }
 access_to class level (Err fault) = Err fault
 
-unfoldable pub asked_by : Unread → Result Asked ℕ
+unfoldable pub asked_by : UnreadLine → Result Asked ℕ
 asked_by unread = do
   acee ← next id_word unread
   class ← next id_word acee.1
@@ -114,14 +114,14 @@ with_operand request (operand.Port port) = if is_none request.port then Some rec
 with_operand request (operand.Application name) = if is_none request.application then Some record request { application = Some name } else None
 with_operand request (operand.Label label) = if is_none request.label then Some record request { label = Some label } else None
 
-abbrev pub with_word : VerifyRequest → Word → Result VerifyRequest ℕ
+abbrev pub with_word : VerifyRequest → LineWord → Result VerifyRequest ℕ
 with_word request word = fits (option_and_then (with_operand request) (operand_word word.text)) word.place
 
-abbrev pub with_words : VerifyRequest → List Word → Result VerifyRequest ℕ
+abbrev pub with_words : VerifyRequest → List LineWord → Result VerifyRequest ℕ
 with_words request [] = Ok request
 with_words request (word ∷ words) = with_word request word >>= λ longer. with_words longer words
 
-unfoldable pub verified_by : Unread → Result Verified ℕ
+unfoldable pub verified_by : UnreadLine → Result Verified ℕ
 verified_by unread = do
   acee ← next id_word unread
   user ← next id_word acee.1
@@ -146,7 +146,7 @@ abbrev pub verify_line : Verified → Line
 verify_line verified = Verify verified.acee verified.request
 
 -- The first word says what the line asks for; no other word fits there.
-abbrev pub request_by : List ℕ → ℕ → Unread → Result Line LineRefusal
+abbrev pub request_by : List ℕ → ℕ → UnreadLine → Result Line LineRefusal
 request_by verb place unread =
     if bytes_eq verb (codes "VERIFY") then made verify_line (verified_by unread)
     else if bytes_eq verb (codes "AUTH") then accessed Auth (asked_by unread)
@@ -156,11 +156,11 @@ request_by verb place unread =
     else Err (BadLine place)
 
 -- A line without a word is skipped.
-abbrev pub request_of : List Word → ℕ → Result Line LineRefusal
+abbrev pub request_of : List LineWord → ℕ → Result Line LineRefusal
 request_of [] end = Ok Skip
 request_of (verb ∷ words) end = request_by (folded verb.text) verb.place record { words = words; end = end }
 
-unfoldable pub requested : Unread → Result Line LineRefusal
+unfoldable pub requested : UnreadLine → Result Line LineRefusal
 requested unread = request_of unread.words unread.end
 
 -- So is one that begins with `/*`. Too long is tested before all else.
@@ -171,4 +171,11 @@ unfoldable pub read : List ℕ → Result Line LineRefusal
 read bytes =
     if nat_lt longest_line (length bytes) then Err LineTooLong
     else if starts_with nat_eq bytes (codes "/*") then Ok Skip
-    else requested (unread_at 1 bytes)
+    else requested (line_at 1 bytes)
+
+-- what a line by itself can be refused for
+abbrev pub IsOfTheLine : LineRefusal → Type 0
+IsOfTheLine LineTooLong = Unit {0}
+IsOfTheLine (BadLine place) = Unit {0}
+IsOfTheLine (BadName acee fault) = Unit {0}
+IsOfTheLine others = ⊥

@@ -1,5 +1,3 @@
-pub mod Words
-pub mod Taking
 pub mod Spellings
 pub mod Grammar
 pub mod Seen

@@ -3,11 +3,9 @@ use Rattle.std.specs.Prelude.{ℕ, ◌+◌, ◌-◌, ◌*◌, ◌^◌, ◌==◌,
 use Rattle.std.specs.List.{list_all, before_first, after_first}
 use Rattle.std.specs.Result.{result_ok}
 use Rattle.std.specs.Io.BufRead.{ends_with_byte}
-use Rattle.access_levels.specs.Spelling.{id_of, group_of, level_of}
-use Rattle.access_levels.specs.Level.{port_class_name}
+use Rattle.access_levels.specs.Spelling.{id_of, group_of, level_of, port_class_of}
 use Rattle.access_levels.specs.declared.levels.Level.{Level}
 use Rattle.access_levels.specs.declared.entries.PortClass.{PortClass}
-use Rattle.access_levels.specs.declared.entries.PortClass.TheVariants.{Terminal, Console, Jesinput, Appcport}
 use Rattle.command_words.specs.Bytes.{upper}
 use Rattle.generic_names.specs.Spelled.{Spelled}
 use Rattle.generic_names.specs.Faults.{is_digit, resource_of}
@@ -73,10 +71,7 @@ closed rest = if ends_with_byte 41 rest then Some (take (length rest - 1) rest) 
 abbrev pub value_of : List ℕ → Option (List ℕ)
 value_of text = closed (after_first opens text)
 
--- the class of the ports of entry that a key names
-abbrev pub port_class : List ℕ → Option PortClass
-port_class key = find (λ class. bytes_eq (port_class_name class) key) (Terminal ∷ Console ∷ Jesinput ∷ Appcport ∷ [])
-
+-- a port of entry, by its class
 abbrev pub port_at : List ℕ → PortClass → Option Operand
 port_at value class = option_map (λ name. operand.Port record { class = class; name = name }) (id_word value)
 
@@ -86,7 +81,7 @@ keyed key value =
     if bytes_eq key (codes "GROUP") then option_map operand.Group (group_word value)
     else if bytes_eq key (codes "APPL") then option_map operand.Application (id_word value)
     else if bytes_eq key (codes "SECLABEL") then option_map operand.Label (id_word value)
-    else option_and_then (port_at value) (port_class key)
+    else option_and_then (port_at value) (port_class_of key)
 
 abbrev pub operand_word : List ℕ → Option Operand
 operand_word text = option_and_then (keyed (key_of text)) (value_of text)

@@ -112,14 +112,14 @@ impl AceeTable {
         self.entries.len()
     }
 
-    // The entry of that name.
+    /// The entry of that name.
     fn entry(&self, name: Id) -> Option<&NamedAcee>
         ensures { option_copied result ≡ find (is_named name) self.now }
     {
         self.entries.iter().find(|entry| entry.name == name)
     }
 
-    // The place of the entry of that name.
+    /// The place of the entry of that name.
     fn position(&self, name: Id) -> Option<usize>
         ensures { result ≡ position (is_named name) self.now }
     {

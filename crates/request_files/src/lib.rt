@@ -9,13 +9,12 @@ mod numbers;
 mod operands;
 mod reading;
 mod spellings;
-mod words;
 mod working;
 
 pub use acees::{AceeTable, NamedAcee};
 pub use answers::answer_text;
 pub use line::{LineRefusal, RequestLine, read_line};
-pub use working::work;
+pub use working::respond;
 
 #[cfg(test)]
 mod tests;

@@ -1,15 +1,14 @@
 //! What a line asks for, and why it is refused.
 
-ghost use Rattle.std.specs.Prelude.{◌≡◌};
-ghost use Rattle.request_files.specs.Grammar.{Auth, Fastauth, Delete, After, verify_line, made, accessed, request_by, requested, read, verified_by, asked_by, deleted, number_after};
+ghost use Rattle.std.specs.Prelude.{◌≡◌, IfErr};
+ghost use Rattle.request_files.specs.Grammar.{Auth, Fastauth, Delete, After, verify_line, made, accessed, request_by, requested, read, IsOfTheLine, verified_by, asked_by, deleted, number_after};
 ghost use Rattle.request_files.specs.Spellings.{folded};
 ghost use Rattle.request_files.specs.Seen.{line_read};
 
 use crate::reading::{Asked, asked_by, deleted, number_after, verified_by};
-use crate::words::{Word, Words};
 use access_levels::Id;
 use acee::VerifyRequest;
-use command_words::is_spelled;
+use command_words::{LineWord, LineWords, is_spelled};
 use decision::Request;
 use generic_names::NameFault;
 
@@ -61,7 +60,8 @@ const LONGEST: usize = 4096;
 /// doesn't fit, or the one behind the line where a word lacks; and `BadName`, where the words fit.
 #[tactic(auto, unfolding(crate::specs::Grammar::read))]
 pub fn read_line(line: &[u8]) -> Result<RequestLine, LineRefusal>
-    ensures { line_read result ≡ read line.now }
+    ensures line { line_read result ≡ read line.now }
+    ensures refusals { IfErr result IsOfTheLine }
 {
     if line.len() > LONGEST {
         return Err(LineRefusal::LineTooLong);
@@ -69,13 +69,14 @@ pub fn read_line(line: &[u8]) -> Result<RequestLine, LineRefusal>
     if line.starts_with(b"/*") {
         return Ok(RequestLine::Skip);
     }
-    requested(&Words::of(line))
+    requested(&LineWords::of(line))
 }
 
 /// What the words of a line ask for.
 #[tactic(auto, unfolding(crate::specs::Grammar::requested))]
-fn requested(words: &Words) -> Result<RequestLine, LineRefusal>
-    ensures { line_read result ≡ requested words.now }
+fn requested(words: &LineWords) -> Result<RequestLine, LineRefusal>
+    ensures line { line_read result ≡ requested words.now }
+    ensures refusals { IfErr result IsOfTheLine }
 {
     match words.split_first() {
         Some((verb, rest)) => request_by(verb, &rest),
@@ -84,8 +85,9 @@ fn requested(words: &Words) -> Result<RequestLine, LineRefusal>
 }
 
 /// What a line asks for that begins with this word, before the others.
-fn request_by(verb: Word, words: &Words) -> Result<RequestLine, LineRefusal>
-    ensures { line_read result ≡ request_by (folded verb.entry.text.now) verb.entry.place words.now }
+fn request_by(verb: LineWord, words: &LineWords) -> Result<RequestLine, LineRefusal>
+    ensures line { line_read result ≡ request_by (folded verb.entry.text.now) verb.entry.place words.now }
+    ensures refusals { IfErr result IsOfTheLine }
 {
     if is_spelled(verb.text, b"VERIFY") {
         return verify_line(words);
@@ -105,8 +107,9 @@ fn request_by(verb: Word, words: &Words) -> Result<RequestLine, LineRefusal>
     Err(LineRefusal::BadLine(verb.place))
 }
 
-fn verify_line(words: &Words) -> Result<RequestLine, LineRefusal>
-    ensures { line_read result ≡ made verify_line (verified_by words.now) }
+fn verify_line(words: &LineWords) -> Result<RequestLine, LineRefusal>
+    ensures line { line_read result ≡ made verify_line (verified_by words.now) }
+    ensures refusals { IfErr result IsOfTheLine }
 {
     match verified_by(words) {
         Ok(verified) => Ok(RequestLine::Verify(verified.acee, verified.request)),
@@ -114,8 +117,9 @@ fn verify_line(words: &Words) -> Result<RequestLine, LineRefusal>
     }
 }
 
-fn auth_line(words: &Words) -> Result<RequestLine, LineRefusal>
-    ensures { line_read result ≡ accessed Auth (asked_by words.now) }
+fn auth_line(words: &LineWords) -> Result<RequestLine, LineRefusal>
+    ensures line { line_read result ≡ accessed Auth (asked_by words.now) }
+    ensures refusals { IfErr result IsOfTheLine }
 {
     let asked = match asked_by(words) {
         Ok(asked) => asked,
@@ -128,8 +132,9 @@ fn auth_line(words: &Words) -> Result<RequestLine, LineRefusal>
     }
 }
 
-fn fastauth_line(words: &Words) -> Result<RequestLine, LineRefusal>
-    ensures { line_read result ≡ accessed Fastauth (asked_by words.now) }
+fn fastauth_line(words: &LineWords) -> Result<RequestLine, LineRefusal>
+    ensures line { line_read result ≡ accessed Fastauth (asked_by words.now) }
+    ensures refusals { IfErr result IsOfTheLine }
 {
     let asked = match asked_by(words) {
         Ok(asked) => asked,
@@ -142,8 +147,9 @@ fn fastauth_line(words: &Words) -> Result<RequestLine, LineRefusal>
     }
 }
 
-fn delete_line(words: &Words) -> Result<RequestLine, LineRefusal>
-    ensures { line_read result ≡ made Delete (deleted words.now) }
+fn delete_line(words: &LineWords) -> Result<RequestLine, LineRefusal>
+    ensures line { line_read result ≡ made Delete (deleted words.now) }
+    ensures refusals { IfErr result IsOfTheLine }
 {
     match deleted(words) {
         Ok(acee) => Ok(RequestLine::Delete(acee)),
@@ -151,8 +157,9 @@ fn delete_line(words: &Words) -> Result<RequestLine, LineRefusal>
     }
 }
 
-fn after_line(words: &Words) -> Result<RequestLine, LineRefusal>
-    ensures { line_read result ≡ made After (number_after words.now) }
+fn after_line(words: &LineWords) -> Result<RequestLine, LineRefusal>
+    ensures line { line_read result ≡ made After (number_after words.now) }
+    ensures refusals { IfErr result IsOfTheLine }
 {
     match number_after(words) {
         Ok(number) => Ok(RequestLine::After(number)),

@@ -8,13 +8,13 @@ ghost use Rattle.request_files.specs.Grammar.{next, ended};
 
 use crate::numbers::number_word;
 use crate::spellings::{id_word, level_word, name_word};
-use crate::words::Words;
 use access_levels::{Id, Level};
+use command_words::LineWords;
 use generic_names::{NameFault, NameKind, Resource};
 
 /// An ID, and the words behind it.
 #[tactic(auto, unfolding(crate::specs::Grammar::next))]
-pub(crate) fn next_id<'a>(words: &Words<'a>) -> Result<(Id, Words<'a>), u32>
+pub(crate) fn next_id<'a>(words: &LineWords<'a>) -> Result<(Id, LineWords<'a>), u32>
     ensures { result ≡ next id_in words.now }
 {
     let Some((word, rest)) = words.split_first() else {
@@ -28,7 +28,7 @@ pub(crate) fn next_id<'a>(words: &Words<'a>) -> Result<(Id, Words<'a>), u32>
 
 /// A number, and the words behind it.
 #[tactic(auto, unfolding(crate::specs::Grammar::next))]
-pub(crate) fn next_number<'a>(words: &Words<'a>) -> Result<(u64, Words<'a>), u32>
+pub(crate) fn next_number<'a>(words: &LineWords<'a>) -> Result<(u64, LineWords<'a>), u32>
     ensures { result ≡ next number_of words.now }
 {
     let Some((word, rest)) = words.split_first() else {
@@ -44,8 +44,8 @@ pub(crate) fn next_number<'a>(words: &Words<'a>) -> Result<(u64, Words<'a>), u32
 #[tactic(auto, unfolding(crate::specs::Grammar::next))]
 pub(crate) fn next_name<'a>(
     kind: NameKind,
-    words: &Words<'a>,
-) -> Result<(Result<Resource, NameFault>, Words<'a>), u32>
+    words: &LineWords<'a>,
+) -> Result<(Result<Resource, NameFault>, LineWords<'a>), u32>
     ensures name { result ≡ next (name_in kind) words.now }
     ensures kind { IfOk result (λ t. IfOk t.0 (λ name. name.kind ≡ kind)) }
 {
@@ -57,7 +57,7 @@ pub(crate) fn next_name<'a>(
 
 /// A level that may be asked for, and the words behind it.
 #[tactic(auto, unfolding(crate::specs::Grammar::next))]
-pub(crate) fn next_level<'a>(words: &Words<'a>) -> Result<(Level, Words<'a>), u32>
+pub(crate) fn next_level<'a>(words: &LineWords<'a>) -> Result<(Level, LineWords<'a>), u32>
     ensures level { result ≡ next level_in words.now }
     ensures asked { IfOk result (λ t. IsTrue (may_be_asked t.0)) }
 {
@@ -71,7 +71,7 @@ pub(crate) fn next_level<'a>(words: &Words<'a>) -> Result<(Level, Words<'a>), u3
 }
 
 /// What was said, unless a word is left.
-pub(crate) fn ended<T: Drop>(words: &Words, said: T) -> Result<T, u32>
+pub(crate) fn ended<T: Drop>(words: &LineWords, said: T) -> Result<T, u32>
     ensures { result ≡ ended words.now.words said }
 {
     match words.split_first() {

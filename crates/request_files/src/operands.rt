@@ -3,7 +3,8 @@
 ghost use Rattle.std.specs.Prelude.{◌≡◌, position, bytes_eq, option_map, option_and_then};
 ghost use Rattle.std.specs.List.{before_first, after_first};
 ghost use Rattle.std.specs.Option.{option_copied};
-ghost use Rattle.request_files.specs.Spellings.{folded, operand_word, keyed, opens, closed, port_class, port_at};
+ghost use Rattle.access_levels.specs.Spelling.{port_class_of};
+ghost use Rattle.request_files.specs.Spellings.{folded, operand_word, keyed, opens, closed, port_at};
 ghost use Rattle.request_files.specs.Grammar.{with_operand};
 ghost use Rattle.request_files.specs.declared.operands.Operand.TheVariants as operand;
 
@@ -24,14 +25,6 @@ pub(crate) enum Operand {
     /// The security label.
     Label(Id),
 }
-
-/// The classes of the ports of entry.
-const PORTS: [PortClass; 4] = [
-    PortClass::Terminal,
-    PortClass::Console,
-    PortClass::Jesinput,
-    PortClass::Appcport,
-];
 
 /// The operand that a word spells.
 pub(crate) fn operand_word(word: &[u8]) -> Option<Operand>
@@ -88,9 +81,9 @@ fn keyed(key: &[u8], value: &[u8]) -> Option<Operand>
 
 /// The class of the ports of entry that a key names.
 fn port_class(key: &[u8]) -> Option<PortClass>
-    ensures { result ≡ port_class (folded key.now) }
+    ensures { result ≡ port_class_of (folded key.now) }
 {
-    PORTS
+    PortClass::ALL
         .iter()
         .copied()
         .find(|class| is_spelled(key, class.name()))

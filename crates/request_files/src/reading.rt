@@ -1,19 +1,20 @@
 //! The words behind the first one of a line, read for each kind of line.
 
 ghost use Rattle.std.specs.Prelude.{◌≡◌, IfOk, IsTrue};
-ghost use Rattle.class_profiles.specs.Lawful.{kind_in};
+ghost use Rattle.racf_profiles.specs.LawfulProfiles.{kind_in};
 ghost use Rattle.decision.specs.Asked.{may_be_asked};
-ghost use Rattle.request_files.specs.Taking.{seen};
+ghost use Rattle.command_words.specs.TakingWords.{seen};
 ghost use Rattle.request_files.specs.Grammar.{with_word as with_one, with_words as with_all, user_alone, deleted, number_after, verified_by, asked_by, access_to};
 ghost use Rattle.request_files.specs.Seen.{access_seen, asked_seen};
 
 use crate::next_words::{ended, next_id, next_level, next_name, next_number};
 use crate::operands::{operand_word, with_operand};
-use crate::words::{Word, Words};
 use access_levels::{Id, Level};
 use acee::VerifyRequest;
+use command_words::{LineWord, LineWords};
 use decision::Request;
-use generic_names::{NameFault, NameKind, Resource};
+use generic_names::{NameFault, Resource};
+use racf_profiles::kind_in;
 
 /// What the words of VERIFY say.
 #[derive(Clone, Copy)]
@@ -31,7 +32,7 @@ pub(crate) struct Asked {
 
 /// DELETE: the name of an ACEE.
 #[tactic(auto, unfolding(crate::specs::Grammar::deleted))]
-pub(crate) fn deleted(words: &Words) -> Result<Id, u32>
+pub(crate) fn deleted(words: &LineWords) -> Result<Id, u32>
     ensures { result ≡ deleted words.now }
 {
     let (acee, rest) = next_id(words)?;
@@ -40,7 +41,7 @@ pub(crate) fn deleted(words: &Words) -> Result<Id, u32>
 
 /// `*AFTER`: a number.
 #[tactic(auto, unfolding(crate::specs::Grammar::number_after))]
-pub(crate) fn number_after(words: &Words) -> Result<u64, u32>
+pub(crate) fn number_after(words: &LineWords) -> Result<u64, u32>
     ensures { result ≡ number_after words.now }
 {
     let (number, rest) = next_number(words)?;
@@ -49,7 +50,7 @@ pub(crate) fn number_after(words: &Words) -> Result<u64, u32>
 
 /// VERIFY: the name of an ACEE, a user, and operands.
 #[tactic(auto, unfolding(crate::specs::Grammar::verified_by))]
-pub(crate) fn verified_by(words: &Words) -> Result<Verified, u32>
+pub(crate) fn verified_by(words: &LineWords) -> Result<Verified, u32>
     ensures { result ≡ verified_by words.now }
 {
     let (acee, rest) = next_id(words)?;
@@ -72,7 +73,7 @@ fn user_alone(user: Id) -> VerifyRequest
 }
 
 /// The request with the operands that these words spell.
-fn with_words(request: VerifyRequest, words: Words) -> Result<VerifyRequest, u32>
+fn with_words(request: VerifyRequest, words: LineWords) -> Result<VerifyRequest, u32>
     ensures { result ≡ with_all request words.entry.words }
 {
     let mut request = request;
@@ -85,7 +86,7 @@ fn with_words(request: VerifyRequest, words: Words) -> Result<VerifyRequest, u32
 }
 
 /// The request with the operand that a word spells.
-fn with_word(request: &VerifyRequest, word: Word) -> Result<VerifyRequest, u32>
+fn with_word(request: &VerifyRequest, word: LineWord) -> Result<VerifyRequest, u32>
     ensures { result ≡ with_one request.now (seen word.entry) }
 {
     let Some(operand) = operand_word(word.text) else {
@@ -99,7 +100,7 @@ fn with_word(request: &VerifyRequest, word: Word) -> Result<VerifyRequest, u32>
 
 /// AUTH and FASTAUTH: the name of an ACEE, a class, the name of a resource, and a level.
 #[tactic(auto, unfolding(crate::specs::Grammar::asked_by))]
-pub(crate) fn asked_by(words: &Words) -> Result<Asked, u32>
+pub(crate) fn asked_by(words: &LineWords) -> Result<Asked, u32>
     ensures { asked_seen result ≡ asked_by words.now }
 {
     let (acee, rest) = next_id(words)?;
@@ -123,16 +124,5 @@ fn request_to(
     match name {
         Ok(name) => Ok(Request { class, name, asked }),
         Err(fault) => Err(fault),
-    }
-}
-
-/// The kind of the names in a class.
-fn kind_in(class: Id) -> NameKind
-    ensures { result ≡ kind_in class }
-{
-    if class.text() == b"DATASET".as_slice() {
-        NameKind::DataSet
-    } else {
-        NameKind::General
     }
 }

@@ -18,14 +18,14 @@ use decision::{Request, auth, verify};
 use raclist_image::Image;
 use std::alloc::{AllocError, Global};
 
-/// Works a line that was read: writes its text at the end of `out`, and tells whether it was refused. VERIFY verifies a
+/// Answers a line that was read: writes its text at the end of `out`, and tells whether it was refused. VERIFY verifies a
 /// user and puts his ACEE, AUTH decides on the image, DELETE takes an ACEE out, and `*AFTER` prints only where its number
 /// isn't reached. FASTAUTH, and a label on VERIFY, aren't built: such lines are refused as NOTBUILT.
 ///
 /// # Errors
 ///
 /// `AllocError` alone, after which `acees` and `out` are as they were.
-pub fn work(
+pub fn respond(
     alloc: Global,
     line: &Result<RequestLine, LineRefusal>,
     image: &Image,
@@ -36,7 +36,7 @@ pub fn work(
     ensures kept { OnErr result (Untouched out.old.items out.new.items acees.old acees.new) }
 {
     match line {
-        Ok(line) => work_line(alloc, line, image, acees, out),
+        Ok(line) => respond_to_line(alloc, line, image, acees, out),
         Err(refusal) => {
             let refusal = told(refusal, acees);
             refuse(&refusal, image.generation(), out)
@@ -61,7 +61,7 @@ fn told(refusal: &LineRefusal, acees: &AceeTable) -> LineRefusal
 }
 
 /// Works what a line asks for.
-fn work_line(
+fn respond_to_line(
     alloc: Global,
     line: &RequestLine,
     image: &Image,
@@ -72,17 +72,19 @@ fn work_line(
     ensures kept { OnErr result (Untouched out.old.items out.new.items acees.old acees.new) }
 {
     match line {
-        RequestLine::Verify(name, request) => work_verify(alloc, *name, request, image, acees, out),
-        RequestLine::Auth(name, request) => work_auth(*name, request, image, acees, out),
+        RequestLine::Verify(name, request) => respond_to_verify(
+            alloc, *name, request, image, acees, out,
+        ),
+        RequestLine::Auth(name, request) => respond_to_auth(*name, request, image, acees, out),
         RequestLine::Fastauth(_, _) => not_built(image.generation(), out),
-        RequestLine::Delete(name) => work_delete(*name, image.generation(), acees, out),
-        RequestLine::After(number) => work_after(*number, image.generation(), out),
+        RequestLine::Delete(name) => respond_to_delete(*name, image.generation(), acees, out),
+        RequestLine::After(number) => respond_to_after(*number, image.generation(), out),
         RequestLine::Skip => Ok(false),
     }
 }
 
 /// VERIFY. It asks whether an ACEE can be put before it verifies.
-fn work_verify(
+fn respond_to_verify(
     alloc: Global,
     name: Id,
     request: &VerifyRequest,
@@ -98,12 +100,12 @@ fn work_verify(
     }
     match acees.refusal(name) {
         Some(refusal) => refuse(&refusal, image.generation(), out),
-        None => work_user(alloc, name, request, image, acees, out),
+        None => respond_for_user(alloc, name, request, image, acees, out),
     }
 }
 
 /// VERIFY where an ACEE can be put.
-fn work_user(
+fn respond_for_user(
     alloc: Global,
     name: Id,
     request: &VerifyRequest,
@@ -144,7 +146,7 @@ fn put(
 }
 
 /// AUTH.
-fn work_auth(
+fn respond_to_auth(
     name: Id,
     request: &Request,
     image: &Image,
@@ -165,7 +167,7 @@ fn work_auth(
 }
 
 /// DELETE.
-fn work_delete(
+fn respond_to_delete(
     name: Id,
     number: u64,
     acees: &mut AceeTable,
@@ -183,7 +185,7 @@ fn work_delete(
 }
 
 /// `*AFTER`, on an image of that number.
-fn work_after(wanted: u64, number: u64, out: &mut Vec<u8>) -> Result<bool, AllocError>
+fn respond_to_after(wanted: u64, number: u64, out: &mut Vec<u8>) -> Result<bool, AllocError>
     ensures refused { IfOk result (λ refused. refused ≡ not (nat_le wanted number)) }
     ensures text { OnOk result (out.new.items ≡ out.old.items ++ (if nat_le wanted number then [] else never_line number)) }
     ensures kept { OnErr result (out.new.items ≡ out.old.items) }

@@ -5,11 +5,11 @@ use Rattle.std.specs.List.{IsDistinct, AllByRecursion}
 use Rattle.std.specs.Option.{option_eq, option_map}
 use Rattle.std.proofs.lemmas.Map.Keys.{IsDistinct-head, IsDistinct-tail}
 use Rattle.racf_profiles.specs.declared.groups.Group.{Group}
-use Rattle.racf_profiles.specs.Lookup.{is_group}
+use Rattle.racf_profiles.specs.Lookup.{is_group, find_group}
 use Rattle.racf_profiles.specs.Edits.{put_row}
 use Rattle.group_tree.specs.declared.faults.TreeFault.{TreeFault}
 use Rattle.group_tree.specs.declared.faults.TreeFault.TheVariants.{NoGroup, Exists, Cycle, HasSubgroup, Full, NoMemory}
-use Rattle.group_tree.specs.Groups.{GroupTree, find_group, at_group}
+use Rattle.group_tree.specs.Groups.{GroupTree, at_group}
 use Rattle.group_tree.specs.Answers.{CanAdd, AddRefused, CanMove, MoveRefused, OwnerRefused, CanRemove, RemoveRefused}
 use Rattle.group_tree.proofs.Rows.{same, itself, turned}
 use Rattle.group_tree.proofs.Edits.{one_there}

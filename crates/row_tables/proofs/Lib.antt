@@ -3,4 +3,4 @@ pub mod Keyed
 pub mod Counts
 pub mod GroupLaws
 pub mod Places
-pub mod EditLaws
+pub mod Room

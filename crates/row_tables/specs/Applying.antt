@@ -1,16 +1,20 @@
 -- When edits can be made without memory.
-use Rattle.std.specs.Prelude.{◌≡◌, ◌≢◌, ◌⊎◌, ℕ, ◌<◌, ◌≤◌, length, List, [], ◌∷◌, Some, MatchOption, IsSome, find}
+use Rattle.std.specs.Prelude.{◌≡◌, ◌≢◌, ◌⊎◌, ℕ, ◌-◌, ◌<◌, ◌≤◌, Bool, true, false, if◌then◌else◌, length, List, [], ◌∷◌, Some, MatchOption, IsSome, IsTrue, find}
+use Rattle.std.specs.List.{list_any}
+use Rattle.std.specs.Str.{bytes_eq}
 use Rattle.racf_profiles.specs.declared.groups.Group.{Group}
+use Rattle.racf_profiles.specs.declared.class_rows.ClassRow.{ClassRow}
 use Rattle.racf_profiles.specs.declared.options.Options.{Options}
 use Rattle.racf_profiles.specs.declared.edits.Edit.{Edit}
 use Rattle.racf_profiles.specs.declared.edits.Edit.TheVariants.{PutUser, DropUser, PutGroup, DropGroup, PutProfile, DropProfile, PutOptions, PutClass, List as ListCopy, Unlist}
 use Rattle.racf_profiles.specs.NewDatabase.{sys1}
-use Rattle.racf_profiles.specs.Lookup.{is_class}
-use Rattle.group_tree.specs.Groups.{GroupTree, find_group}
+use Rattle.racf_profiles.specs.Lookup.{is_class, find_group}
+use Rattle.racf_profiles.specs.Edits.{edited}
+use Rattle.racf_profiles.specs.Limits.{most_categories}
+use Rattle.group_tree.specs.Groups.{GroupTree}
 use Rattle.group_tree.specs.Answers.{CanAdd, CanMove, CanRemove}
-use Rattle.class_profiles.specs.Classes.{ClassList, CanPutIn, room_in}
-use Rattle.row_tables.specs.Limits.{most_categories}
-use Rattle.row_tables.specs.UserList.{UserList, CanPut}
+use Rattle.class_profiles.specs.Classes.{CanPutIn, room_in}
+use Rattle.row_tables.specs.UserList.{CanPut}
 use Rattle.row_tables.specs.Tables.{Tables, users_in, groups_in, classes_in}
 
 -- A group that isn't there can be added without memory.
@@ -20,74 +24,83 @@ pub record CanAddGroup (tree : GroupTree) (group : Group) : Type 0 where
   pub room : 0 < tree.spare
 
 -- A group that is there can get another superior group.
-pub record CanMoveGroup (tree : GroupTree) (group : Group) : Type 0 where
+pub record CanMoveGroup (groups : List Group) (group : Group) : Type 0 where
   pub below : IsSome group.superior
-  pub can : (superior : List ℕ) → group.superior ≡ Some superior → CanMove tree.groups group.id superior
+  pub can : (superior : List ℕ) → group.superior ≡ Some superior → CanMove groups group.id superior
   pub no_root : group.id ≢ sys1.id
 
 -- A group can be put: it is new and can be added, or it is there and stays where it is, or can move.
 abbrev pub CanPutGroup : GroupTree → Group → Type 0
-CanPutGroup tree group = MatchOption (find_group tree.groups group.id) (CanAddGroup tree group) (λ (old : Group). (old.superior ≡ group.superior) ⊎ CanMoveGroup tree group)
+CanPutGroup tree group = MatchOption (find_group tree.groups group.id) (CanAddGroup tree group) (λ (old : Group). (old.superior ≡ group.superior) ⊎ CanMoveGroup tree.groups group)
 
 -- A group can be taken away.
-pub record CanDropGroup (tree : GroupTree) (id : List ℕ) : Type 0 where
-  pub can : CanRemove tree.groups id
+pub record CanDropGroup (groups : List Group) (id : List ℕ) : Type 0 where
+  pub can : CanRemove groups id
   pub no_root : id ≢ sys1.id
 
 -- The options name no more categories than there may be.
 abbrev pub HasFewCategories : Options → Type 0
 HasFewCategories options = length options.categories ≤ most_categories
 
--- The edit can be made without memory.
-abbrev pub CanMake : UserList → GroupTree → ClassList → Edit → Type 0
-CanMake users tree classes (PutUser user) = CanPut users user
-CanMake users tree classes (DropUser id) = Unit {0}
-CanMake users tree classes (PutGroup group) = CanPutGroup tree group
-CanMake users tree classes (DropGroup id) = CanDropGroup tree id
-CanMake users tree classes (PutProfile class profile) = CanPutIn classes class profile
-CanMake users tree classes (DropProfile class name) = Unit {0}
-CanMake users tree classes (PutOptions options) = HasFewCategories options
-CanMake users tree classes (PutClass class active global log) = ⊥
-CanMake users tree classes (ListCopy class) = ⊥
-CanMake users tree classes (Unlist class) = ⊥
+-- One edit can be made without memory.
+abbrev pub CanMake : Tables → Edit → Type 0
+CanMake tables (PutUser user) = CanPut (users_in tables) user
+CanMake tables (DropUser id) = Unit {0}
+CanMake tables (PutGroup group) = CanPutGroup (groups_in tables) group
+CanMake tables (DropGroup id) = CanDropGroup tables.rows.groups id
+CanMake tables (PutProfile class profile) = CanPutIn (classes_in tables) class profile
+CanMake tables (DropProfile class name) = Unit {0}
+CanMake tables (PutOptions options) = HasFewCategories options
+CanMake tables (PutClass class active global log) = Unit {0}
+CanMake tables (ListCopy class) = Unit {0}
+CanMake tables (Unlist class) = Unit {0}
 
--- An edit that can be made after any other.
-abbrev pub CanFollow : Edit → Type 0
-CanFollow (PutUser user) = ⊥
-CanFollow (DropUser id) = ⊥
-CanFollow (PutGroup group) = ⊥
-CanFollow (DropGroup id) = ⊥
-CanFollow (PutProfile class profile) = ⊥
-CanFollow (DropProfile class name) = ⊥
-CanFollow (PutOptions options) = HasFewCategories options
-CanFollow (PutClass class active global log) = ⊥
-CanFollow (ListCopy class) = ⊥
-CanFollow (Unlist class) = ⊥
+-- ---- what an edit puts takes the room for one
+abbrev pub puts_user : Edit → Bool
+puts_user (PutUser user) = true
+puts_user edit = false
 
--- There is room for the profile that an edit puts into a class, where there is such a class.
-abbrev pub HasRoomFor : ClassList → Edit → Type 0
-HasRoomFor classes (PutUser user) = Unit {0}
-HasRoomFor classes (DropUser id) = Unit {0}
-HasRoomFor classes (PutGroup group) = Unit {0}
-HasRoomFor classes (DropGroup id) = Unit {0}
-HasRoomFor classes (PutProfile class profile) = IsSome (find (is_class class) classes.classes) → 0 < room_in class classes
-HasRoomFor classes (DropProfile class name) = Unit {0}
-HasRoomFor classes (PutOptions options) = Unit {0}
-HasRoomFor classes (PutClass class active global log) = Unit {0}
-HasRoomFor classes (ListCopy class) = Unit {0}
-HasRoomFor classes (Unlist class) = Unit {0}
+abbrev pub puts_group : Edit → Bool
+puts_group (PutGroup group) = true
+puts_group edit = false
 
-abbrev pub HasRoom : ClassList → List Edit → Type 0
-HasRoom classes [] = Unit {0}
-HasRoom classes (edit ∷ edits) = HasRoomFor classes edit
+abbrev pub puts_into : List ℕ → Edit → Bool
+puts_into name (PutProfile class profile) = bytes_eq class name
+puts_into name edit = false
 
--- A change has one edit, and at most one of the options behind it.
-abbrev pub CanApply : UserList → GroupTree → ClassList → List Edit → Type 0
-CanApply users tree classes [] = Unit {0}
-CanApply users tree classes (edit ∷ []) = CanMake users tree classes edit
-CanApply users tree classes (edit ∷ other ∷ []) = CanMake users tree classes edit × CanFollow other
-CanApply users tree classes (edit ∷ other ∷ third ∷ edits) = ⊥
+abbrev pub one_less : Bool → ℕ → ℕ
+one_less puts room = if puts then room - 1 else room
 
--- The edits can be made to these tables without memory.
-abbrev pub CanApplyTo : Tables → List Edit → Type 0
-CanApplyTo tables edits = CanApply (users_in tables) (groups_in tables) (classes_in tables) edits
+-- the room in each class, by an edit
+abbrev pub less_room : Edit → List ClassRow → List ℕ → List ℕ
+less_room edit [] spare = spare
+less_room edit (class ∷ classes) [] = []
+less_room edit (class ∷ classes) (n ∷ spare) = one_less (puts_into class.name edit) n ∷ less_room edit classes spare
+
+-- The tables after an edit: the rows that it makes, and the room that is left at least.
+abbrev pub tables_after : Edit → Tables → Tables
+tables_after edit tables = record {
+  rows = edited edit tables.rows;
+  spare_users = one_less (puts_user edit) tables.spare_users;
+  spare_groups = one_less (puts_group edit) tables.spare_groups;
+  spare_profiles = less_room edit tables.rows.classes tables.spare_profiles;
+}
+
+-- The same rows, and no less room.
+pub record HasAtLeast (least tables : Tables) : Type 0 where
+  pub rows : tables.rows ≡ least.rows
+  pub users : least.spare_users ≤ tables.spare_users
+  pub groups : least.spare_groups ≤ tables.spare_groups
+  pub profiles : (class : List ℕ) → room_in class (classes_in least) ≤ room_in class (classes_in tables)
+
+-- Edits can be made in their order without memory: each to what the ones before it leave.
+abbrev pub CanApply : Tables → List Edit → Type 0
+CanApply tables [] = Unit {0}
+CanApply tables (edit ∷ edits) = CanMake tables edit × CanApply (tables_after edit tables) edits
+
+-- There is room for as many more users and groups as there are edits, and for as many profiles in each class that one
+-- of them puts a profile into.
+pub record HasRoom (tables : Tables) (edits : List Edit) : Type 0 where
+  pub users : length edits ≤ tables.spare_users
+  pub groups : length edits ≤ tables.spare_groups
+  pub profiles : (class : List ℕ) → IsTrue (list_any (puts_into class) edits) → IsSome (find (is_class class) tables.rows.classes) → length edits ≤ room_in class (classes_in tables)

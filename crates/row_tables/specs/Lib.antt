@@ -1,9 +1,6 @@
-pub mod Limits
-pub mod Names
 pub mod ChangedRow
 pub mod UserList
 pub mod KeptUsers
 pub mod Tables
 pub mod Applying
 pub mod KeptTables
-pub mod Lawful

@@ -3,8 +3,8 @@ use Rattle.std.specs.Prelude.{◌≡◌, ℕ, ◌<◌, ◌≤◌, List, length, 
 use Rattle.racf_profiles.specs.declared.users.User.{User}
 use Rattle.racf_profiles.specs.Lookup.{is_user}
 use Rattle.racf_profiles.specs.Edits.{put_row}
-use Rattle.row_tables.specs.Names.{connections}
-use Rattle.row_tables.specs.Limits.{most_users, most_connections_in_all}
+use Rattle.racf_profiles.specs.Names.{connections}
+use Rattle.racf_profiles.specs.Limits.{most_users, most_connections_in_all}
 
 -- The users in order of definition, and how many can be added without memory.
 pub record UserList : Type 0 where

@@ -1,4 +1,14 @@
-//! The rows of a database in tables: users, groups and profiles by name, the options, and the edits made to them.
+//! The rows of a database in tables, [`RowTables`]: users, groups and profiles by name, the options, and the edits
+//! made to them.
+//!
+//! Groups stand in the tree of `group_tree`, profiles in the tables of `class_profiles`. What a command makes of the
+//! rows is told by `command_effects`, as a list of edits.
+//!
+//! ```
+//! let mut tables = RowTables::new(alloc)?;
+//! tables.reserve(&edits)?; // wants memory
+//! tables.apply(edits);     // takes none
+//! ```
 #![tactic(auto)]
 
 mod apply;
@@ -11,4 +21,6 @@ pub use limits::{
     MOST_USERS,
 };
 pub use tables::RowTables;
-pub use user_table::{UserTable, connections_with, growth, is_administrator, is_connected_to};
+pub use user_table::{
+    UserTable, connections_added, connections_with, is_connected_to, is_special_user,
+};

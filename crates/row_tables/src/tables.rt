@@ -1,12 +1,17 @@
 //! The tables: the rows of a database, by name.
-ghost use Rattle.std.specs.Prelude.{◌≡◌, ◌<◌, ◌≤◌, length, IfOk, OnOk};
+ghost use Rattle.std.specs.Prelude.{◌≡◌, ℕ, ◌≤◌, List, length, find, IsTrue, IsSome, IfOk, OnOk};
+ghost use Rattle.std.specs.List.{list_any};
 ghost use Rattle.racf_profiles.specs.NewDatabase.{no_options};
-ghost use Rattle.group_tree.specs.Lawful.{IsTree};
-ghost use Rattle.class_profiles.specs.Lawful.{AreUsers, AreClasses};
-ghost use Rattle.row_tables.specs.Limits.{most_categories};
-ghost use Rattle.row_tables.specs.Tables.{first_rows, classes_in};
-ghost use Rattle.row_tables.specs.Applying.{HasRoom};
-ghost use Rattle.row_tables.specs.Lawful.{AreLawful};
+ghost use Rattle.racf_profiles.specs.Lookup.{is_class};
+ghost use Rattle.racf_profiles.specs.Names.{connections};
+ghost use Rattle.racf_profiles.specs.Counts.{profile_count, entry_count};
+ghost use Rattle.racf_profiles.specs.Tree.{IsTree};
+ghost use Rattle.racf_profiles.specs.LawfulUsers.{AreUsers};
+ghost use Rattle.racf_profiles.specs.LawfulProfiles.{AreClasses};
+ghost use Rattle.racf_profiles.specs.Limits.{most_connections_in_all, most_profiles, most_entries_in_all, most_categories};
+ghost use Rattle.class_profiles.specs.Classes.{room_in};
+ghost use Rattle.row_tables.specs.Tables.{first_rows};
+ghost use Rattle.row_tables.specs.Applying.{HasRoom, puts_into};
 
 use crate::user_table::UserTable;
 use access_levels::Id;
@@ -19,9 +24,9 @@ use racf_profiles::{
 use std::alloc::{AllocError, Global};
 use std::marker::Model;
 
-/// The users, groups, connections and profiles of a database. Users and groups are found by name in one look-up, whatever
-/// their number, and a profile by a search in the order of its class's. Every class is active, and the options are off but
-/// for the names of categories: no command changes them yet.
+/// The users, groups, connections and profiles of a database. Users and groups are found by name in one look-up,
+/// whatever their number, and a profile by a search in the order of its class's. Every class is active, and the
+/// options are off but for the names of categories: no command changes them yet.
 #[derive(Drop)]
 pub struct RowTables {
     pub(crate) users: UserTable,
@@ -88,9 +93,15 @@ impl RowTables {
         &self.options
     }
 
-    /// What holds of the rows of every database. It does nothing: its contract is what it is for.
-    pub fn are_lawful(&self)
-        ensures { AreLawful self.now.rows }
+    /// What the tables keep by themselves, whatever edits are made. It does nothing: its contract is what it is for.
+    pub fn what_is_kept(&self)
+        ensures users { AreUsers self.now.rows.users }
+        ensures connections { connections self.now.rows.users ≤ most_connections_in_all }
+        ensures groups { IsTree self.now.rows.groups }
+        ensures classes { AreClasses self.now.rows.classes }
+        ensures profiles { profile_count self.now.rows.classes ≤ most_profiles }
+        ensures entries { entry_count self.now.rows.classes ≤ most_entries_in_all }
+        ensures categories { length self.now.rows.options.categories ≤ most_categories }
     {
         let _users = self.users.len();
         let _connections = self.users.connections();
@@ -101,14 +112,8 @@ impl RowTables {
 
     /// All rows, copied.
     pub fn to_rows(&self, alloc: Global) -> Result<Rows, NoMemory>
-        ensures rows { IfOk result (λ rows. rows ≡ self.now.rows) }
-        ensures users { AreUsers self.now.rows.users }
-        ensures groups { IsTree self.now.rows.groups }
-        ensures classes { AreClasses self.now.rows.classes }
+        ensures { IfOk result (λ rows. rows ≡ self.now.rows) }
     {
-        let _users = self.users.len();
-        let _groups = self.tree.len();
-        let _profiles = self.classes.count();
         let users = self.users.rows(alloc)?;
         let groups = group_rows(alloc, &self.tree)?;
         let classes = self.classes.rows(alloc)?;
@@ -121,22 +126,21 @@ impl RowTables {
         })
     }
 
-    /// Makes room for one more user, one more group, and the profile that the first of these edits puts.
+    /// Makes room for as many more users and groups as there are edits, and for as many profiles in each class that
+    /// one of them puts a profile into.
     ///
     /// # Errors
     ///
     /// Want of memory: the rows are as they were.
     pub fn reserve(&mut self, edits: &[Edit]) -> Result<(), NoMemory>
         ensures rows { self.new.rows ≡ self.old.rows }
-        ensures users { OnOk result (0 < self.new.spare_users) }
-        ensures groups { OnOk result (0 < self.new.spare_groups) }
-        ensures profiles { OnOk result (HasRoom (classes_in self.new) edits.now) }
+        ensures room { OnOk result (HasRoom self.new edits.now) }
     {
-        self.users.reserve()?;
-        let Ok(()) = self.tree.reserve() else {
+        self.users.reserve(edits.len())?;
+        let Ok(()) = self.tree.reserve(edits.len()) else {
             return Err(AllocError);
         };
-        reserve_profile(&mut self.classes, edits)
+        reserve_profiles(&mut self.classes, edits)
     }
 }
 
@@ -156,18 +160,31 @@ impl View for RowTables {
     }
 }
 
-// Makes room for the profile that the first edit puts.
-fn reserve_profile(classes: &mut ClassTables, edits: &[Edit]) -> Result<(), NoMemory>
+/// Makes room for the profiles that edits put.
+fn reserve_profiles(classes: &mut ClassTables, edits: &[Edit]) -> Result<(), NoMemory>
     ensures classes { classes.new.classes ≡ classes.old.classes }
-    ensures room { OnOk result (HasRoom classes.new edits.now) }
+    ensures room { OnOk result ((class : List ℕ) → IsTrue (list_any (puts_into class) edits.now) → IsSome (find (is_class class) classes.old.classes) → length edits.now ≤ room_in class classes.new) }
 {
-    match edits.first() {
-        Some(Edit::PutProfile(class, _)) => classes.reserve(*class),
+    let more = edits.len();
+    for edit in edits {
+        reserve_in(classes, edit, more)?;
+    }
+    Ok(())
+}
+
+/// Makes room for this many profiles in the class that the edit puts one into, if it does.
+fn reserve_in(classes: &mut ClassTables, edit: &Edit, more: usize) -> Result<(), NoMemory>
+    ensures classes { classes.new.classes ≡ classes.old.classes }
+    ensures room { OnOk result ((class : List ℕ) → IsTrue (puts_into class edit.now) → IsSome (find (is_class class) classes.old.classes) → more ≤ room_in class classes.new) }
+    ensures kept { (class : List ℕ) → room_in class classes.old ≤ room_in class classes.new }
+{
+    match edit {
+        Edit::PutProfile(class, _) => classes.reserve(*class, more),
         _ => Ok(()),
     }
 }
 
-// The groups, copied.
+/// The groups, copied.
 fn group_rows(alloc: Global, tree: &Tree) -> Result<Groups, NoMemory>
     ensures { IfOk result (λ groups. groups ≡ tree.now.groups) }
 {
@@ -180,7 +197,7 @@ fn group_rows(alloc: Global, tree: &Tree) -> Result<Groups, NoMemory>
     Ok(Groups { items })
 }
 
-// The users of a new database.
+/// The users of a new database.
 fn first_users(alloc: Global) -> Result<UserTable, NoMemory>
     ensures { IfOk result (λ table. table.users ≡ first_rows.users) }
 {
@@ -188,13 +205,13 @@ fn first_users(alloc: Global) -> Result<UserTable, NoMemory>
     let mut items = rows.users.items;
     let mut table = UserTable::new(alloc);
     if let Some(user) = items.pop() {
-        table.reserve()?;
+        table.reserve(1)?;
         table.put(user);
     }
     Ok(table)
 }
 
-// The tree of a new database.
+/// The tree of a new database.
 fn first_tree(alloc: Global) -> Result<Tree, NoMemory>
     ensures { IfOk result (λ tree. tree.groups ≡ first_rows.groups) }
 {
@@ -204,7 +221,7 @@ fn first_tree(alloc: Global) -> Result<Tree, NoMemory>
     }
 }
 
-// The options of a new database.
+/// The options of a new database.
 fn first_options(alloc: Global) -> Options
     ensures { result ≡ no_options }
 {

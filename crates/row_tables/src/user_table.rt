@@ -3,9 +3,9 @@ ghost use Rattle.std.specs.Prelude.{◌≡◌, ℕ, ◌+◌, ◌<◌, ◌≤◌,
 ghost use Rattle.std.specs.Option.{option_copied, option_map_or};
 ghost use Rattle.racf_profiles.specs.Lookup.{is_user};
 ghost use Rattle.racf_profiles.specs.Edits.{put_row, drop_row};
-ghost use Rattle.row_tables.specs.Names.{connections, administrators, is_administrator, administering, connected_to, is_connected_to, growth};
-ghost use Rattle.row_tables.specs.Limits.{most_users, most_connections_in_all};
-ghost use Rattle.class_profiles.specs.Lawful.{AreUsers};
+ghost use Rattle.racf_profiles.specs.Names.{connections, special_users, is_special_user, special_user_count, connected_to, is_connected_to, connections_added};
+ghost use Rattle.racf_profiles.specs.Limits.{most_users, most_connections_in_all};
+ghost use Rattle.racf_profiles.specs.LawfulUsers.{AreUsers};
 ghost use Rattle.row_tables.specs.UserList.{CanPut};
 
 use access_levels::Id;
@@ -20,11 +20,11 @@ use std::marker::Model;
 pub struct UserTable {
     users: IndexMap<Id, User>,
     connections: usize,
-    administrators: usize,
+    special_users: usize,
 }
 
 impl Model for UserTable {
-    ghost use Rattle.class_profiles.specs.Lawful.{AreUsers};
+    ghost use Rattle.racf_profiles.specs.LawfulUsers.{AreUsers};
     ghost use Rattle.row_tables.specs.UserList.{UserList};
 
     ghost Value = { UserList };
@@ -44,7 +44,7 @@ impl UserTable {
         UserTable {
             users: IndexMap::new(alloc),
             connections: 0,
-            administrators: 0,
+            special_users: 0,
         }
     }
 
@@ -73,10 +73,10 @@ impl UserTable {
     }
 
     /// How many users other than that one have SPECIAL and aren't revoked.
-    pub fn administrators_beside(&self, id: Id) -> usize
-        ensures { result ≡ administrators (drop_row (is_user id) self.now.users) }
+    pub fn special_users_beside(&self, id: Id) -> usize
+        ensures { result ≡ special_users (drop_row (is_user id) self.now.users) }
     {
-        self.administrators - self.share_of(id).administrators
+        self.special_users - self.share_of(id).special_users
     }
 
     /// The first user who is connected to the group. It goes through the users.
@@ -99,7 +99,7 @@ impl UserTable {
         Ok(Users { items })
     }
 
-    // The user at that place, from 0.
+    /// The user at that place, from 0.
     fn at(&self, place: usize) -> &User
         requires { place < length self.now.users }
         ensures { slice_get self.now.users place ≡ Some result.now }
@@ -107,27 +107,26 @@ impl UserTable {
         &self.users[place]
     }
 
-    /// Makes room for one more user.
-    pub fn reserve(&mut self) -> Result<(), NoMemory>
+    /// Makes room for this many users more.
+    pub fn reserve(&mut self, more: usize) -> Result<(), NoMemory>
         ensures users { self.new.users ≡ self.old.users }
-        ensures spare { OnOk result (0 < self.new.spare) }
+        ensures spare { OnOk result (more ≤ self.new.spare) }
         ensures kept { self.old.spare ≤ self.new.spare }
-        ensures few_users { length self.new.users ≤ most_users }
-        ensures few_connections { connections self.new.users ≤ most_connections_in_all }
     {
-        self.users.reserve(1)
+        self.users.reserve(more)
     }
 
     /// Puts a user in the place of the one of his ID, or else last. It takes no memory.
     pub fn put(&mut self, user: User)
         requires { CanPut self.old user }
-        ensures { self.new.users ≡ put_row (is_user user.id) user self.old.users }
+        ensures users { self.new.users ≡ put_row (is_user user.id) user self.old.users }
+        ensures spare { self.old.spare ≤ self.new.spare + 1 }
     {
         let id = user.id;
         let before = self.share_of(id);
         let after = share_of_user(&user);
         self.connections = self.connections - before.connections + after.connections;
-        self.administrators = self.administrators - before.administrators + after.administrators;
+        self.special_users = self.special_users - before.special_users + after.special_users;
         let Ok(_replaced) = self.users.insert(id, user) else {
             unreachable!()
         };
@@ -140,46 +139,46 @@ impl UserTable {
     {
         let share = self.share_of(id);
         self.connections -= share.connections;
-        self.administrators -= share.administrators;
+        self.special_users -= share.special_users;
         self.users.shift_remove(&id);
     }
 
-    // What the user of that ID adds to the counts.
+    /// What the user of that ID adds to the counts.
     fn share_of(&self, id: Id) -> Share
         ensures connections { result.connections ≡ option_map_or connected_to (find (is_user id) self.now.users) 0 }
-        ensures administrators { result.administrators ≡ option_map_or administering (find (is_user id) self.now.users) 0 }
+        ensures special_users { result.special_users ≡ option_map_or special_user_count (find (is_user id) self.now.users) 0 }
     {
         match self.get(id) {
             None => Share {
                 connections: 0,
-                administrators: 0,
+                special_users: 0,
             },
             Some(user) => share_of_user(user),
         }
     }
 }
 
-// What one user adds to the counts.
+/// What one user adds to the counts.
 #[derive(Clone, Copy)]
 struct Share {
     connections: usize,
-    administrators: usize,
+    special_users: usize,
 }
 
-// What this user adds to the counts.
+/// What this user adds to the counts.
 fn share_of_user(user: &User) -> Share
     ensures connections { result.connections ≡ connected_to user.now }
-    ensures administrators { result.administrators ≡ administering user.now }
+    ensures special_users { result.special_users ≡ special_user_count user.now }
 {
     Share {
         connections: user.connects.items.len(),
-        administrators: usize::from(is_administrator(user)),
+        special_users: usize::from(is_special_user(user)),
     }
 }
 
 /// Whether the user has SPECIAL and isn't revoked.
-pub fn is_administrator(user: &User) -> bool
-    ensures { result ≡ is_administrator user.now }
+pub fn is_special_user(user: &User) -> bool
+    ensures { result ≡ is_special_user user.now }
 {
     user.attributes.special && !user.attributes.revoked
 }
@@ -195,15 +194,15 @@ pub fn is_connected_to(user: &User, group: Id) -> bool
 }
 
 /// How many connections a user gets, once he is connected to the group: none where he is.
-pub fn growth(user: &User, group: Id) -> usize
-    ensures { result ≡ growth group user.now.connects }
+pub fn connections_added(user: &User, group: Id) -> usize
+    ensures { result ≡ connections_added group user.now.connects }
 {
     if is_connected_to(user, group) { 0 } else { 1 }
 }
 
 /// How many connections a user has, once he is connected to the group.
 pub fn connections_with(user: &User, group: Id) -> usize
-    ensures { result ≡ connected_to user.now + growth group user.now.connects }
+    ensures { result ≡ connected_to user.now + connections_added group user.now.connects }
 {
-    user.connects.items.len() + growth(user, group)
+    user.connects.items.len() + connections_added(user, group)
 }

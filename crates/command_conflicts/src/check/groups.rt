@@ -2,12 +2,12 @@
 ghost use Rattle.std.specs.Prelude.{◌≡◌, ◌&&◌, Some, is_some};
 ghost use Rattle.std.specs.Option.{option_map};
 ghost use Rattle.std.specs.Result.{result_err};
-ghost use Rattle.command_parser.specs.declared.forms.Form.TheVariants as form;
+ghost use Rattle.command_parser.specs.declared.fields.CommandFields.TheVariants as form;
 ghost use Rattle.racf_profiles.specs.Lookup.{group_of};
 ghost use Rattle.command_effects.specs.Effects.{new_group, altered_group};
 ghost use Rattle.command_conflicts.specs.Conflicts.{if_met, is_root, has_subgroup, cycle, owner_not_superior, owner_apart, groups_full, meets};
 
-use crate::conflict::{Conflict, Holder, Kind};
+use crate::conflict::{Conflict, Holder, Limit};
 use crate::limits::check_count;
 use access_levels::Id;
 use command_effects::{altered_group, new_group};
@@ -47,14 +47,13 @@ pub(super) fn check_cycle(
     }
 }
 
-// Whether the walk up from one group meets another.
+/// Whether the walk up from one group meets another.
 fn meets(tables: &RowTables, from: Id, group: Id) -> bool
     ensures { result ≡ meets group from tables.now.rows.groups }
 {
-    // That it says of the groups that they are a tree is what makes the two answers one.
-    let tree = tables.tree();
-    let _count = tree.len();
-    tree.is_within(group, from)
+    // That the groups are a tree makes the two answers one.
+    tables.what_is_kept();
+    tables.tree().is_within(group, from)
 }
 
 /// A group that would own the new group is its superior group.
@@ -83,7 +82,7 @@ pub(super) fn check_altered_owner(tables: &RowTables, command: &AltGroup) -> Res
     }
 }
 
-// The same, of a group as it is after the command.
+/// The same, of a group as it is after the command.
 #[tactic(auto, unfolding(crate::specs::Conflicts::owner_not_superior))]
 fn check_owner_superior(
     tables: &RowTables,
@@ -99,7 +98,7 @@ fn check_owner_superior(
     check_owner_apart(tables, group)
 }
 
-// An owner that is a group is the superior group.
+/// An owner that is a group is the superior group.
 fn check_owner_apart(tables: &RowTables, group: &Group) -> Result<(), Conflict>
     ensures { result_err result ≡ owner_apart group.now tables.now.rows }
 {
@@ -124,7 +123,7 @@ pub(super) fn check_group_fits(
 ) -> Result<(), Conflict>
     ensures { result_err result ≡ groups_full issuer.now (form.AddGroup command.now) tables.now.rows }
 {
-    check_count(Kind::Groups, MOST_GROUPS, tables.tree().len() + 1)
+    check_count(Limit::Groups, MOST_GROUPS, tables.tree().len() + 1)
 }
 
 /// SYS1 gets no superior group.
@@ -149,7 +148,7 @@ pub(super) fn check_root_gone(command: &DelGroup) -> Result<(), Conflict>
     }
 }
 
-// Whether the group is SYS1.
+/// Whether the group is SYS1.
 #[tactic(auto, unfolding(crate::specs::Conflicts::is_root))]
 fn is_root(group: Id) -> bool
     ensures { result ≡ is_root group }

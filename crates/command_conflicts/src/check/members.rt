@@ -1,25 +1,31 @@
 //! How many members a profile may have, and how many categories there may be.
-ghost use Rattle.std.specs.Prelude.{◌≡◌, ℕ, List, [], length};
+ghost use Rattle.std.specs.Prelude.{◌≡◌, [], length};
 ghost use Rattle.std.specs.Result.{result_err};
-ghost use Rattle.command_effects.specs.Members.{members_after};
-ghost use Rattle.command_conflicts.specs.ProfileConflicts.{members_full, altered_members_full, categories_full};
+ghost use Rattle.racf_profiles.specs.Limits.{most_members, most_categories};
+ghost use Rattle.command_parser.specs.declared.fields.CommandFields.TheVariants as fields;
+ghost use Rattle.command_effects.specs.Members.{members_after, categories_defined};
+ghost use Rattle.command_conflicts.specs.Required.{over};
+ghost use Rattle.command_conflicts.specs.ProfileConflicts.{members_full};
 
-use crate::conflict::{Conflict, Kind};
+use crate::conflict::{Conflict, Limit};
 use crate::limits::check_count;
 use command_effects::{categories_count, members_count};
-use command_parser::{RAlter, RDefine};
+use command_parser::{Issuer, RAlter, RDefine};
 use racf_profiles::{Members, View};
 use row_tables::{MOST_CATEGORIES, MOST_MEMBERS, RowTables};
 
 /// The profile's members are within the limit after RALTER.
-#[tactic(auto, unfolding(crate::specs::ProfileConflicts::altered_members_full, crate::specs::ProfileConflicts::members_full))]
-pub(super) fn check_members_fit(tables: &RowTables, command: &RAlter) -> Result<(), Conflict>
-    ensures { result_err result ≡ altered_members_full command.now tables.now.rows }
+pub(super) fn check_members_fit(
+    tables: &RowTables,
+    issuer: &Issuer,
+    command: &RAlter,
+) -> Result<(), Conflict>
+    ensures { result_err result ≡ members_full issuer.now (fields.RAlter command.now) command.now.class command.now.profile tables.now.rows }
 {
     match tables.profile(command.class, &command.profile) {
         None => Ok(()),
         Some(old) => check_count(
-            Kind::Members,
+            Limit::Members,
             MOST_MEMBERS,
             members_count(
                 command.addmem.items.as_slice(),
@@ -30,13 +36,12 @@ pub(super) fn check_members_fit(tables: &RowTables, command: &RAlter) -> Result<
     }
 }
 
-/// The categories ever defined are within the limit after the command.
-#[tactic(auto, unfolding(crate::specs::ProfileConflicts::categories_full))]
+/// The categories ever defined are within the limit, once these members were added.
 pub(super) fn check_categories_fit(tables: &RowTables, added: &Members) -> Result<(), Conflict>
-    ensures { result_err result ≡ categories_full added.now tables.now.rows }
+    ensures { result_err result ≡ over Limit.Categories most_categories (length (categories_defined added.now tables.now.rows.options.categories)) }
 {
     check_count(
-        Kind::Categories,
+        Limit::Categories,
         MOST_CATEGORIES,
         categories_count(
             added.items.as_slice(),
@@ -46,12 +51,11 @@ pub(super) fn check_categories_fit(tables: &RowTables, added: &Members) -> Resul
 }
 
 /// The members of a new profile are within the limit.
-#[tactic(auto, unfolding(crate::specs::ProfileConflicts::members_full))]
 pub(super) fn check_new_members_fit(command: &RDefine) -> Result<(), Conflict>
-    ensures { result_err result ≡ members_full (members_after command.now.addmem [] []) }
+    ensures { result_err result ≡ over Limit.Members most_members (length (members_after command.now.addmem [] [])) }
 {
     check_count(
-        Kind::Members,
+        Limit::Members,
         MOST_MEMBERS,
         members_count(command.addmem.items.as_slice(), &[], &[]),
     )

@@ -2,7 +2,7 @@
 ghost use Rattle.std.specs.Prelude.{◌≡◌, is_some, codes, bytes_eq};
 ghost use Rattle.racf_profiles.specs.Lookup.{class_of};
 ghost use Rattle.std.specs.Result.{result_err};
-ghost use Rattle.row_tables.specs.Names.{is_taken, is_class_word};
+ghost use Rattle.racf_profiles.specs.Names.{is_taken, is_class_word};
 ghost use Rattle.command_conflicts.specs.Conflicts.{no_user, no_group, no_owner, no_named_group, no_class, name_taken, not_connected, default_not_connected, default_group, has_profile, has_connected};
 
 use crate::conflict::{Conflict, Holder, Named};
@@ -168,7 +168,7 @@ pub(super) fn is_taken(tables: &RowTables, id: Id) -> bool
     tables.group(id).is_some()
 }
 
-// Whether CLAUTH takes the name.
+/// Whether CLAUTH takes the name.
 fn is_class_word(tables: &RowTables, name: Id) -> bool
     ensures { result ≡ is_class_word tables.now.rows name }
 {
@@ -185,7 +185,7 @@ pub(super) fn has_class(tables: &RowTables, name: Id) -> bool
     }
 }
 
-// Whether the name is the word USER.
+/// Whether the name is the word USER.
 fn is_user_word(name: Id) -> bool
     ensures { result ≡ bytes_eq name (codes "USER") }
 {

@@ -1,17 +1,17 @@
 //! Whom PERMIT names, and how many entries there may be after it.
 ghost use Rattle.std.specs.Prelude.{◌≡◌, find, option_and_then};
 ghost use Rattle.std.specs.Result.{result_err};
-ghost use Rattle.class_profiles.specs.Classes.{entries_in};
+ghost use Rattle.racf_profiles.specs.Counts.{entries_in};
 ghost use Rattle.command_conflicts.specs.ProfileConflicts.{is_unknown, named_unknown, no_permitted, standard_full, conditional_full, entries_full};
 
 use super::names::is_taken;
-use crate::conflict::{Conflict, Kind};
+use crate::conflict::{Conflict, Limit};
 use crate::limits::{check_count, check_sum};
 use access_levels::Who;
 use access_lists::MOST_ENTRIES;
-use class_profiles::MOST_ENTRIES as MOST_ENTRIES_IN_ALL;
+use class_profiles::MOST_ENTRIES_IN_ALL;
 use command_effects::{conditional_count, standard_count};
-use command_parser::Permit;
+use command_parser::{Issuer, Permit};
 use racf_profiles::{Profile, View};
 use row_tables::RowTables;
 
@@ -26,7 +26,7 @@ pub(super) fn check_permitted(tables: &RowTables, command: &Permit) -> Result<()
     check_whos(tables, command.id.items.as_slice())
 }
 
-// The same of each of them.
+/// The same of each of them.
 fn check_whos(tables: &RowTables, whos: &[Who]) -> Result<(), Conflict>
     ensures { result_err result ≡ option_and_then named_unknown (find (is_unknown tables.now.rows) whos.now) }
 {
@@ -36,14 +36,14 @@ fn check_whos(tables: &RowTables, whos: &[Who]) -> Result<(), Conflict>
     }
 }
 
-// The first that is neither `*`, a user nor a group.
+/// The first that is neither `*`, a user nor a group.
 fn first_unknown(tables: &RowTables, whos: &[Who]) -> Option<Who>
     ensures { result ≡ find (is_unknown tables.now.rows) whos.now }
 {
     whos.iter().copied().find(|who| is_unknown(tables, who))
 }
 
-// Whether it is an ID that neither a user nor a group has.
+/// Whether it is an ID that neither a user nor a group has.
 fn is_unknown(tables: &RowTables, who: &Who) -> bool
     ensures { result ≡ is_unknown tables.now.rows who.now }
 {
@@ -54,9 +54,12 @@ fn is_unknown(tables: &RowTables, who: &Who) -> bool
 }
 
 /// The profile's standard list is within the limit after PERMIT.
-#[tactic(auto, unfolding(crate::specs::ProfileConflicts::standard_full))]
-pub(super) fn check_standard_fits(tables: &RowTables, command: &Permit) -> Result<(), Conflict>
-    ensures { result_err result ≡ standard_full command.now tables.now.rows }
+pub(super) fn check_standard_fits(
+    tables: &RowTables,
+    issuer: &Issuer,
+    command: &Permit,
+) -> Result<(), Conflict>
+    ensures { result_err result ≡ standard_full issuer.now command.now tables.now.rows }
 {
     if command.delete {
         return Ok(());
@@ -64,7 +67,7 @@ pub(super) fn check_standard_fits(tables: &RowTables, command: &Permit) -> Resul
     match tables.profile(command.class, &command.profile) {
         None => Ok(()),
         Some(old) => check_count(
-            Kind::Entries,
+            Limit::Entries,
             MOST_ENTRIES,
             standard_count(command, old.standard.items.as_slice()),
         ),
@@ -72,9 +75,12 @@ pub(super) fn check_standard_fits(tables: &RowTables, command: &Permit) -> Resul
 }
 
 /// The profile's conditional list is within the limit after PERMIT.
-#[tactic(auto, unfolding(crate::specs::ProfileConflicts::conditional_full))]
-pub(super) fn check_conditional_fits(tables: &RowTables, command: &Permit) -> Result<(), Conflict>
-    ensures { result_err result ≡ conditional_full command.now tables.now.rows }
+pub(super) fn check_conditional_fits(
+    tables: &RowTables,
+    issuer: &Issuer,
+    command: &Permit,
+) -> Result<(), Conflict>
+    ensures { result_err result ≡ conditional_full issuer.now command.now tables.now.rows }
 {
     if command.delete {
         return Ok(());
@@ -82,7 +88,7 @@ pub(super) fn check_conditional_fits(tables: &RowTables, command: &Permit) -> Re
     match tables.profile(command.class, &command.profile) {
         None => Ok(()),
         Some(old) => check_count(
-            Kind::Entries,
+            Limit::Entries,
             MOST_ENTRIES,
             conditional_count(command, old.conditional.items.as_slice()),
         ),
@@ -90,17 +96,22 @@ pub(super) fn check_conditional_fits(tables: &RowTables, command: &Permit) -> Re
 }
 
 /// The entries of all lists are within the limit after PERMIT.
-#[tactic(auto, unfolding(crate::specs::ProfileConflicts::entries_full))]
-pub(super) fn check_entries_fit(tables: &RowTables, command: &Permit) -> Result<(), Conflict>
-    ensures { result_err result ≡ entries_full command.now tables.now.rows }
+pub(super) fn check_entries_fit(
+    tables: &RowTables,
+    issuer: &Issuer,
+    command: &Permit,
+) -> Result<(), Conflict>
+    ensures { result_err result ≡ entries_full issuer.now command.now tables.now.rows }
 {
     if command.delete {
         return Ok(());
     }
+    tables.what_is_kept();
+    class_profiles::laws::puts_are_counted();
     match tables.profile(command.class, &command.profile) {
         None => Ok(()),
         Some(old) => check_sum(
-            Kind::AllEntries,
+            Limit::AllEntries,
             MOST_ENTRIES_IN_ALL,
             tables.classes().entries().saturating_sub(entries_in(old)),
             standard_count(command, old.standard.items.as_slice()),
@@ -109,7 +120,7 @@ pub(super) fn check_entries_fit(tables: &RowTables, command: &Permit) -> Result<
     }
 }
 
-// An ID that is refused.
+/// An ID that is refused.
 fn check_named(who: Who) -> Result<(), Conflict>
     ensures { result_err result ≡ named_unknown who }
 {
@@ -119,7 +130,7 @@ fn check_named(who: Who) -> Result<(), Conflict>
     }
 }
 
-// How many entries a profile has.
+/// How many entries a profile has.
 fn entries_in(profile: &Profile) -> usize
     ensures { result ≡ entries_in profile.now }
 {

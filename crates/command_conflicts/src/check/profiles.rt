@@ -1,15 +1,17 @@
 //! Which profiles and classes have to be there, or not, and how many there may be.
-ghost use Rattle.std.specs.Prelude.{◌≡◌, ◌≤◌, ◌==◌, position, length, codes, bytes_eq};
+ghost use Rattle.std.specs.Prelude.{◌≡◌, ◌+◌, ◌≤◌, ◌==◌, position, length, is_some, codes, bytes_eq};
 ghost use Rattle.std.specs.Result.{result_err, result_ok};
 ghost use Rattle.access_levels.specs.Spelling.{id_of};
-ghost use Rattle.class_profiles.specs.Classes.{first_qualifier};
-ghost use Rattle.class_profiles.specs.Lawful.{most_class_profiles};
-ghost use Rattle.generic_names.specs.Spelled.{period};
+ghost use Rattle.generic_names.specs.Spelled.{first_qualifier, period};
+ghost use Rattle.racf_profiles.specs.Limits.{most_class_profiles, most_profiles};
+ghost use Rattle.racf_profiles.specs.Counts.{profile_count};
+ghost use Rattle.racf_profiles.specs.Lookup.{profile_of};
 ghost use Rattle.command_effects.specs.ProfileEffects.{dataset};
-ghost use Rattle.command_conflicts.specs.ProfileConflicts.{no_first_qualifier, no_such_class, no_resource_class, no_global_class, classless, no_profile, profile_taken, has_generic, not_generic, profiles_in, class_profiles_full, profiles_full};
+ghost use Rattle.command_conflicts.specs.ProfileConflicts.{no_first_qualifier, no_such_class, no_resource_class, no_global_class, classless, no_profile, no_resource_profile, profile_taken, has_generic, not_generic, profiles_in};
+ghost use Rattle.command_conflicts.specs.Required.{over};
 
 use super::names::{check_owner, has_class};
-use crate::conflict::{Conflict, Kind, Named};
+use crate::conflict::{Conflict, Limit, Named};
 use crate::limits::check_count;
 use access_levels::Id;
 use class_profiles::{MOST_CLASS_PROFILES, MOST_PROFILES};
@@ -61,7 +63,7 @@ pub(super) fn check_global_class(
     check_classless(tables, is_global(class), Id::read(name.text()).ok())
 }
 
-// The same, of a name that is spelled as an ID.
+/// The same, of a name that is spelled as an ID.
 fn check_classless(tables: &RowTables, global: bool, name: Option<Id>) -> Result<(), Conflict>
     ensures { result_err result ≡ classless global name tables.now.rows }
 {
@@ -76,14 +78,39 @@ fn check_classless(tables: &RowTables, global: bool, name: Option<Id>) -> Result
     }
 }
 
-/// There is a profile of that name.
+/// A class that is there has a profile of that name.
 #[tactic(auto, unfolding(crate::specs::ProfileConflicts::no_profile))]
 pub(super) fn check_profile(tables: &RowTables, class: Id, name: &Pattern) -> Result<(), Conflict>
     ensures { result_err result ≡ no_profile class name.now tables.now.rows }
 {
+    if has_class(tables, class) && !has_profile(tables, class, name) {
+        return Err(Conflict::NoProfile(class, *name));
+    }
+    Ok(())
+}
+
+/// The same of a class of resources.
+#[tactic(auto, unfolding(crate::specs::ProfileConflicts::no_resource_profile))]
+pub(super) fn check_resource_profile(
+    tables: &RowTables,
+    class: Id,
+    name: &Pattern,
+) -> Result<(), Conflict>
+    ensures { result_err result ≡ no_resource_profile class name.now tables.now.rows }
+{
+    if class == dataset() {
+        return Ok(());
+    }
+    check_profile(tables, class, name)
+}
+
+/// Whether the class has a profile of that name.
+fn has_profile(tables: &RowTables, class: Id, name: &Pattern) -> bool
+    ensures { result ≡ is_some (profile_of class name.now tables.now.rows) }
+{
     match tables.profile(class, name) {
-        Some(_) => Ok(()),
-        None => Err(Conflict::NoProfile(class, *name)),
+        Some(_) => true,
+        None => false,
     }
 }
 
@@ -103,15 +130,21 @@ pub(super) fn check_profile_free(
 }
 
 /// One more profile is within the limit of its class.
-#[tactic(auto, unfolding(crate::specs::ProfileConflicts::class_profiles_full))]
 pub(super) fn check_class_profiles_fit(tables: &RowTables, class: Id) -> Result<(), Conflict>
-    ensures { result_err result ≡ class_profiles_full class tables.now.rows }
+    ensures { result_err result ≡ over Limit.ClassProfiles most_class_profiles (length (profiles_in class tables.now.rows) + 1) }
 {
     let count = profiles_in(tables, class) + 1;
-    check_count(Kind::ClassProfiles, MOST_CLASS_PROFILES, count)
+    check_count(Limit::ClassProfiles, MOST_CLASS_PROFILES, count)
 }
 
-// How many profiles the class has.
+/// One more profile is within the limit of all classes.
+pub(super) fn check_profiles_fit(tables: &RowTables) -> Result<(), Conflict>
+    ensures { result_err result ≡ over Limit.Profiles most_profiles (profile_count tables.now.rows.classes + 1) }
+{
+    check_count(Limit::Profiles, MOST_PROFILES, tables.classes().count() + 1)
+}
+
+/// How many profiles the class has.
 fn profiles_in(tables: &RowTables, class: Id) -> usize
     ensures count { result ≡ length (profiles_in class tables.now.rows) }
     ensures few { result ≤ most_class_profiles }
@@ -120,14 +153,6 @@ fn profiles_in(tables: &RowTables, class: Id) -> usize
         Some(table) => table.profiles().len(),
         None => 0,
     }
-}
-
-/// One more profile is within the limit of all classes.
-#[tactic(auto, unfolding(crate::specs::ProfileConflicts::profiles_full))]
-pub(super) fn check_profiles_fit(tables: &RowTables) -> Result<(), Conflict>
-    ensures { result_err result ≡ profiles_full tables.now.rows }
-{
-    check_count(Kind::Profiles, MOST_PROFILES, tables.classes().count() + 1)
 }
 
 /// A generic name stands only in a class that has generic profiles.
@@ -141,7 +166,7 @@ pub(super) fn check_generic(class: Id, name: &Pattern) -> Result<(), Conflict>
     Ok(())
 }
 
-// Whether the class has generic profiles.
+/// Whether the class has generic profiles.
 fn has_generic(class: Id) -> bool
     ensures { result ≡ has_generic class }
 {
@@ -151,21 +176,21 @@ fn has_generic(class: Id) -> bool
     }
 }
 
-// Whether it is the class of the global access table.
+/// Whether it is the class of the global access table.
 fn is_global(class: Id) -> bool
     ensures { result ≡ bytes_eq class (codes "GLOBAL") }
 {
     class == FixedClass::Global.id()
 }
 
-// The first qualifier of a name, where it is spelled as an ID.
+/// The first qualifier of a name, where it is spelled as an ID.
 fn first_qualifier(name: &Pattern) -> Option<Id>
     ensures { result ≡ result_ok (id_of (first_qualifier name.now.text)) }
 {
     Id::read(up_to_period(name.text())).ok()
 }
 
-// The bytes before the first period.
+/// The bytes before the first period.
 fn up_to_period(text: &[u8]) -> &[u8]
     ensures { result.now ≡ first_qualifier text.now }
 {
@@ -175,7 +200,7 @@ fn up_to_period(text: &[u8]) -> &[u8]
     }
 }
 
-// The place of the first period.
+/// The place of the first period.
 fn first_period(text: &[u8]) -> Option<usize>
     ensures { result ≡ position (λ byte. byte == period) text.now }
 {

@@ -35,7 +35,7 @@ pub(super) fn check_categories(tables: &RowTables, categories: &Ids) -> Result<(
     }
 }
 
-// The first of these names that is no category.
+/// The first of these names that is no category.
 fn first_no_category(tables: &RowTables, names: &[Id]) -> Option<Id>
     ensures { result ≡ find (λ name. not (is_category tables.now.rows name)) names.now }
 {

@@ -1,22 +1,23 @@
 //! What has to hold of the users after the command: the limits, and that someone can still administer everything.
 ghost use Rattle.std.specs.Prelude.{◌≡◌, false};
 ghost use Rattle.std.specs.Result.{result_err};
-ghost use Rattle.command_parser.specs.declared.forms.Form.TheVariants as form;
+ghost use Rattle.command_parser.specs.declared.fields.CommandFields.TheVariants as form;
 ghost use Rattle.std.specs.Option.{option_map_or};
 ghost use Rattle.racf_profiles.specs.Lookup.{user_of};
 ghost use Rattle.racf_profiles.specs.declared.users.User.{User};
-ghost use Rattle.row_tables.specs.Names.{connects_of, is_administrator};
+ghost use Rattle.racf_profiles.specs.Names.{connects_of, is_special_user};
 ghost use Rattle.command_effects.specs.Effects.{connects_after, altered_user, group_or_current};
 ghost use Rattle.command_conflicts.specs.Conflicts.{users_full, connections_full, user_full, last_special};
 
-use crate::conflict::{Conflict, Kind};
+use crate::conflict::{Conflict, Limit};
 use crate::limits::check_count;
 use access_levels::Id;
 use command_effects::attributes_after;
 use command_parser::{AddUser, AltUser, Connect, DelUser, Issuer};
 use racf_profiles::View;
 use row_tables::{
-    MOST_CONNECTIONS, MOST_CONNECTIONS_IN_ALL, MOST_USERS, RowTables, connections_with, growth,
+    MOST_CONNECTIONS, MOST_CONNECTIONS_IN_ALL, MOST_USERS, RowTables, connections_added,
+    connections_with,
 };
 
 /// One more user is within the limit.
@@ -28,7 +29,7 @@ pub(super) fn check_user_fits(
 ) -> Result<(), Conflict>
     ensures { result_err result ≡ users_full issuer.now (form.AddUser command.now) tables.now.rows }
 {
-    check_count(Kind::Users, MOST_USERS, tables.users().len() + 1)
+    check_count(Limit::Users, MOST_USERS, tables.users().len() + 1)
 }
 
 /// One more connection, that of a new user, is within the limit of all.
@@ -41,7 +42,7 @@ pub(super) fn check_new_connection_fits(
     ensures { result_err result ≡ connections_full issuer.now (form.AddUser command.now) tables.now.rows }
 {
     check_count(
-        Kind::AllConnections,
+        Limit::AllConnections,
         MOST_CONNECTIONS_IN_ALL,
         tables.users().connections() + 1,
     )
@@ -59,7 +60,7 @@ pub(super) fn check_connects_of_user(
     match tables.user(command.user) {
         None => Ok(()),
         Some(user) => check_count(
-            Kind::Connections,
+            Limit::Connections,
             MOST_CONNECTIONS,
             connections_with(user, group),
         ),
@@ -79,28 +80,28 @@ pub(super) fn check_connection_fits(
 {
     let count = tables.users().connections();
     match tables.user(command.user) {
-        None => check_count(Kind::AllConnections, MOST_CONNECTIONS_IN_ALL, count),
+        None => check_count(Limit::AllConnections, MOST_CONNECTIONS_IN_ALL, count),
         Some(user) => check_count(
-            Kind::AllConnections,
+            Limit::AllConnections,
             MOST_CONNECTIONS_IN_ALL,
-            count + growth(user, group),
+            count + connections_added(user, group),
         ),
     }
 }
 
 /// After ALTUSER a user who isn't revoked has SPECIAL.
 #[tactic(auto, unfolding(crate::specs::Conflicts::last_special))]
-pub(super) fn check_administrator_altered(
+pub(super) fn check_special_user_altered(
     tables: &RowTables,
     issuer: &Issuer,
     command: &AltUser,
 ) -> Result<(), Conflict>
     ensures { result_err result ≡ last_special issuer.now (form.AltUser command.now) command.now.user tables.now.rows }
 {
-    if administers_after(tables, command) {
+    if is_special_after(tables, command) {
         return Ok(());
     }
-    if tables.users().administrators_beside(command.user) == 0 {
+    if tables.users().special_users_beside(command.user) == 0 {
         return Err(Conflict::LastSpecial(command.user));
     }
     Ok(())
@@ -108,22 +109,22 @@ pub(super) fn check_administrator_altered(
 
 /// After DELUSER a user who isn't revoked has SPECIAL.
 #[tactic(auto, unfolding(crate::specs::Conflicts::last_special))]
-pub(super) fn check_administrator_gone(
+pub(super) fn check_special_user_gone(
     tables: &RowTables,
     issuer: &Issuer,
     command: &DelUser,
 ) -> Result<(), Conflict>
     ensures { result_err result ≡ last_special issuer.now (form.DelUser command.now) command.now.user tables.now.rows }
 {
-    if tables.users().administrators_beside(command.user) == 0 {
+    if tables.users().special_users_beside(command.user) == 0 {
         return Err(Conflict::LastSpecial(command.user));
     }
     Ok(())
 }
 
-// Whether the user has SPECIAL and isn't revoked, after ALTUSER.
-fn administers_after(tables: &RowTables, command: &AltUser) -> bool
-    ensures { result ≡ option_map_or (λ (user : User). is_administrator (altered_user command.now tables.now.rows user)) (user_of command.now.user tables.now.rows) false }
+/// Whether the user has SPECIAL and isn't revoked, after ALTUSER.
+fn is_special_after(tables: &RowTables, command: &AltUser) -> bool
+    ensures { result ≡ option_map_or (λ (user : User). is_special_user (altered_user command.now tables.now.rows user)) (user_of command.now.user tables.now.rows) false }
 {
     match tables.user(command.user) {
         None => false,

@@ -68,7 +68,7 @@ pub(super) fn edits_of_r_alter(
     with_options(alloc, tables, &command.addmem, edits)
 }
 
-// The edit of the profile that RALTER changes.
+/// The edit of the profile that RALTER changes.
 fn put_altered_resource(
     alloc: Global,
     tables: &RowTables,
@@ -102,7 +102,7 @@ pub(super) fn edits_of_permit(
     }
 }
 
-// Edits, and behind them the one of the options, where members are added.
+/// Edits, and behind them the one of the options, where members are added.
 fn with_options(
     alloc: Global,
     tables: &RowTables,
@@ -119,7 +119,7 @@ fn with_options(
     Ok(edits)
 }
 
-// The options with the categories that are new.
+/// The options with the categories that are new.
 fn options_after(alloc: Global, tables: &RowTables, added: &Members) -> Result<Options, NoMemory>
     ensures { IfOk result (λ options. options ≡ options_after added.now tables.now.rows.options) }
 {

@@ -43,7 +43,7 @@ pub(super) fn add_class(classes: &mut Vec<Id>, name: Id) -> Result<(), NoMemory>
     Ok(())
 }
 
-// The classes without those that go.
+/// The classes without those that go.
 fn without_classes(alloc: Global, classes: &[Id], gone: &[Id]) -> Result<Vec<Id>, NoMemory>
     ensures { IfOk result (λ left. left.items ≡ without_classes gone.now classes.now) }
 {

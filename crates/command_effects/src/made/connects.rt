@@ -2,7 +2,7 @@
 ghost use Rattle.std.specs.Prelude.{◌≡◌, [], ◌∷◌, unwrap_or, IfOk};
 ghost use Rattle.access_levels.specs.declared.authorities.GroupAuthority.TheVariants.{MayUse};
 ghost use Rattle.racf_profiles.specs.Edits.{drop_row};
-ghost use Rattle.row_tables.specs.Names.{is_to};
+ghost use Rattle.racf_profiles.specs.Names.{is_to};
 ghost use Rattle.command_effects.specs.Effects.{new_connection, altered_connection, connects_after};
 
 use super::switched;

@@ -11,7 +11,8 @@ use generic_names::MemberName;
 use racf_profiles::{Member, NoMemory};
 use std::alloc::Global;
 
-/// The members without those of DELMEM, and then with those of ADDMEM, each in place of the one of its name or else last.
+/// The members without those of DELMEM, and then with those of ADDMEM, each in place of the one of its name or else
+/// last.
 pub(crate) fn members_after(
     members: Vec<Member>,
     added: &[Member],
@@ -27,7 +28,7 @@ pub(crate) fn members_after(
     Ok(members)
 }
 
-// Takes the members of DELMEM away.
+/// Takes the members of DELMEM away.
 fn drop_members(members: &mut Vec<Member>, gone: &[MemberName])
     ensures { members.new.items ≡ without_members gone.now members.old.items }
 {
@@ -49,7 +50,7 @@ pub(crate) fn member_name(member: &Member) -> &[u8]
 {
     match member {
         Member::Access(name, _) => name.text(),
-        Member::Grade(name, _) => name.text(),
+        Member::SecurityLevel(name, _) => name.text(),
         Member::Category(name) => name.text(),
     }
 }
@@ -61,7 +62,7 @@ pub(crate) fn is_member_named(name: &[u8], member: &Member) -> bool
     member_name(member) == name
 }
 
-// A member in place of the one of its name, or else last.
+/// A member in place of the one of its name, or else last.
 fn put_member(members: &mut Vec<Member>, member: Member) -> Result<(), NoMemory>
     ensures { OnOk result (members.new.items ≡ with_member members.old.items member) }
 {
@@ -77,7 +78,7 @@ fn put_member(members: &mut Vec<Member>, member: Member) -> Result<(), NoMemory>
     }
 }
 
-// The place of the member of that name.
+/// The place of the member of that name.
 fn place_of(members: &[Member], name: &[u8]) -> Option<usize>
     ensures { result ≡ position (is_member_named name.now) members.now }
 {
@@ -101,7 +102,7 @@ pub(crate) fn categories_defined(
     Ok(names)
 }
 
-// The name of a category that is new, behind the others.
+/// The name of a category that is new, behind the others.
 fn define_category(names: &mut Vec<Id>, member: &Member) -> Result<(), NoMemory>
     ensures { OnOk result (names.new.items ≡ with_category_name names.old.items member.now) }
 {
@@ -122,14 +123,14 @@ pub fn members_count(added: &[Member], gone: &[MemberName], old: &[Member]) -> u
     count
 }
 
-// How many members go.
+/// How many members go.
 fn count_gone(gone: &[MemberName], old: &[Member]) -> usize
     ensures { result + length (without_members gone.now old.now) ≡ length old.now }
 {
     count_named_in(gone, old)
 }
 
-// How many members have one of these names.
+/// How many members have one of these names.
 fn count_named_in(names: &[MemberName], members: &[Member]) -> usize
     ensures { result ≡ count_by (is_named_in names.now) members.now }
 {
@@ -139,7 +140,7 @@ fn count_named_in(names: &[MemberName], members: &[Member]) -> usize
         .count()
 }
 
-// 1 for a member that adds none, since one of its name stays or was added before it, else 0.
+/// 1 for a member that adds none, since one of its name stays or was added before it, else 0.
 fn repeats(member: &Member, before: &[Member], gone: &[MemberName], old: &[Member]) -> usize
     ensures { result ≡ (if list_any (is_member_named (member_name member.now)) (without_members gone.now old.now) || list_any (is_member_named (member_name member.now)) before.now then 1 else 0) }
 {
@@ -151,35 +152,36 @@ fn repeats(member: &Member, before: &[Member], gone: &[MemberName], old: &[Membe
     }
 }
 
-// Whether one of these members has that name.
+/// Whether one of these members has that name.
 fn is_among(name: &[u8], members: &[Member]) -> bool
     ensures { result ≡ list_any (is_member_named name.now) members.now }
 {
     members.iter().any(|other| is_member_named(name, other))
 }
 
-// Whether a member of that name stays.
+/// Whether a member of that name stays.
 fn stays(name: &[u8], gone: &[MemberName], old: &[Member]) -> bool
     ensures { result ≡ list_any (is_member_named name.now) (without_members gone.now old.now) }
 {
     any_stays(name, gone, old)
 }
 
-// The same, by a walk over the old members.
+/// The same, by a walk over the old members.
 fn any_stays(name: &[u8], gone: &[MemberName], old: &[Member]) -> bool
     ensures { result ≡ list_any (λ member. is_member_named name.now member && not (is_named_in gone.now member)) old.now }
 {
     old.iter().any(|member| is_kept(name, gone, member))
 }
 
-// Whether it has that name, and stays.
+/// Whether it has that name, and stays.
 fn is_kept(name: &[u8], gone: &[MemberName], member: &Member) -> bool
     ensures { result ≡ (is_member_named name.now member.now && not (is_named_in gone.now member.now)) }
 {
     is_member_named(name, member) && !is_named_in(gone, member)
 }
 
-/// How many categories were ever defined then. Each one that is added is compared with those before it and with the old ones.
+/// How many categories were ever defined then. Each one that is added is compared with those before it and with the
+/// old ones.
 pub fn categories_count(added: &[Member], old: &[Id]) -> usize
     ensures { result ≡ length (categories_defined added.now old.now) }
 {
@@ -190,7 +192,7 @@ pub fn categories_count(added: &[Member], old: &[Id]) -> usize
     count
 }
 
-// 1 for a member that defines no category anew, else 0.
+/// 1 for a member that defines no category anew, else 0.
 fn category_repeats(member: &Member, before: &[Member], old: &[Id]) -> usize
     ensures { result ≡ category_repeats member.now before.now old.now }
 {
@@ -200,7 +202,7 @@ fn category_repeats(member: &Member, before: &[Member], old: &[Id]) -> usize
     }
 }
 
-// The same of a category's name.
+/// The same of a category's name.
 fn name_repeats(name: Id, before: &[Member], old: &[Id]) -> usize
     ensures { result ≡ (if list_any (λ other. bytes_eq other name) old.now || list_any (is_category_member name) before.now then 1 else 0) }
 {
@@ -211,14 +213,14 @@ fn name_repeats(name: Id, before: &[Member], old: &[Id]) -> usize
     }
 }
 
-// Whether it is one of these names.
+/// Whether it is one of these names.
 fn is_one_of(name: Id, names: &[Id]) -> bool
     ensures { result ≡ list_any (λ other. bytes_eq other name) names.now }
 {
     names.iter().any(|other| *other == name)
 }
 
-// Whether one of these members is the category of that name.
+/// Whether one of these members is the category of that name.
 fn is_category_among(name: Id, members: &[Member]) -> bool
     ensures { result ≡ list_any (is_category_member name) members.now }
 {

@@ -1,7 +1,8 @@
 //! Access lists as PERMIT makes them.
 ghost use Rattle.std.specs.Prelude.{◌≡◌, ◌≤◌, ◌||◌, false, fold, length, IfOk, OnOk, if◌then◌else◌};
 ghost use Rattle.std.specs.List.{list_any};
-ghost use Rattle.access_lists.specs.Lists.{is_same_who, is_same_port, is_for, is_for_under, most_entries};
+ghost use Rattle.access_lists.specs.Lists.{is_for, is_for_under, most_entries};
+ghost use Rattle.access_levels.specs.Entries.{is_same_who, is_same_port};
 ghost use Rattle.command_effects.specs.PermitEffects.{standard_reset, conditional_reset, level_of, with_entry, with_conditional, standard_after, conditional_after, permitted_profile};
 
 use access_levels::{CondEntry, Condition, Entry, Id, Level, Who};
@@ -39,7 +40,7 @@ pub(crate) fn permitted_profile(
     })
 }
 
-// A standard list after PERMIT.
+/// A standard list after PERMIT.
 fn standard_after(alloc: Global, command: &Permit, old: &[Entry]) -> Result<Vec<Entry>, NoMemory>
     requires { command.now.delete ≡ false → length (standard_after command.now old.now) ≤ most_entries }
     ensures { IfOk result (λ list. list.items ≡ standard_after command.now old.now) }
@@ -51,7 +52,7 @@ fn standard_after(alloc: Global, command: &Permit, old: &[Entry]) -> Result<Vec<
     }
 }
 
-// A conditional list after PERMIT.
+/// A conditional list after PERMIT.
 fn conditional_after(
     alloc: Global,
     command: &Permit,
@@ -89,7 +90,7 @@ pub(crate) fn conditional_reset(reset: Option<Reset>, list: &[CondEntry]) -> &[C
     }
 }
 
-// The list with the entries of all IDs, or without them.
+/// The list with the entries of all IDs, or without them.
 fn with_entries(command: &Permit, list: Vec<Entry>, whos: &[Who]) -> Result<Vec<Entry>, NoMemory>
     requires { command.now.delete ≡ false → length (fold (with_entry command.now) list.items whos.now) ≤ most_entries }
     ensures { IfOk result (λ after. after.items ≡ fold (with_entry command.now) list.items whos.now) }
@@ -101,7 +102,7 @@ fn with_entries(command: &Permit, list: Vec<Entry>, whos: &[Who]) -> Result<Vec<
     Ok(list)
 }
 
-// The same of a conditional list.
+/// The same of a conditional list.
 fn with_conditionals(
     command: &Permit,
     condition: &Condition,
@@ -118,7 +119,7 @@ fn with_conditionals(
     Ok(list)
 }
 
-// Gives one ID its entry, or takes it away.
+/// Gives one ID its entry, or takes it away.
 fn put_entry(command: &Permit, list: &mut Vec<Entry>, who: Who) -> Result<(), NoMemory>
     requires { command.now.delete ≡ false → length (with_entry command.now list.old.items who) ≤ most_entries }
     ensures { OnOk result (list.new.items ≡ with_entry command.now list.old.items who) }
@@ -135,7 +136,7 @@ fn put_entry(command: &Permit, list: &mut Vec<Entry>, who: Who) -> Result<(), No
     }
 }
 
-// The same of a conditional list.
+/// The same of a conditional list.
 fn put_conditional(
     command: &Permit,
     condition: &Condition,
@@ -157,7 +158,7 @@ fn put_conditional(
     }
 }
 
-// An entry under a condition.
+/// An entry under a condition.
 fn conditional_entry(condition: &Condition, who: Who, level: Level) -> CondEntry
     ensures { result ≡ record { condition = condition.now; who = who; level = level } }
 {
@@ -168,15 +169,15 @@ fn conditional_entry(condition: &Condition, who: Who, level: Level) -> CondEntry
     }
 }
 
-// The level that PERMIT gives.
+/// The level that PERMIT gives.
 fn level_of(command: &Permit) -> Level
     ensures { result ≡ level_of command.now }
 {
     command.access.unwrap_or(Level::Read)
 }
 
-/// How many entries a standard list has after PERMIT with an access. Each ID is compared with those before it and with the
-/// list.
+/// How many entries a standard list has after PERMIT with an access. Each ID is compared with those before it and
+/// with the list.
 pub fn standard_count(command: &Permit, old: &[Entry]) -> usize
     requires { command.now.delete ≡ false }
     ensures { result ≡ length (standard_after command.now old.now) }
@@ -202,7 +203,7 @@ pub fn conditional_count(command: &Permit, old: &[CondEntry]) -> usize
     }
 }
 
-// How many entries there are once each ID has one.
+/// How many entries there are once each ID has one.
 fn count_with(command: &Permit, list: &[Entry], whos: &[Who]) -> usize
     requires { command.now.delete ≡ false }
     ensures { result ≡ length (fold (with_entry command.now) list.now whos.now) }
@@ -215,7 +216,7 @@ fn count_with(command: &Permit, list: &[Entry], whos: &[Who]) -> usize
     count
 }
 
-// The same of a conditional list.
+/// The same of a conditional list.
 fn count_with_conditional(
     command: &Permit,
     condition: &Condition,
@@ -233,7 +234,7 @@ fn count_with_conditional(
     count
 }
 
-// 1 for an ID that adds no entry, since it has one or was named before, else 0.
+/// 1 for an ID that adds no entry, since it has one or was named before, else 0.
 fn repeats(who: &Who, before: &[Who], list: &[Entry]) -> usize
     ensures { result ≡ (if list_any (is_for who.now) list.now || list_any (λ other. is_same_who other who.now) before.now then 1 else 0) }
 {
@@ -244,7 +245,7 @@ fn repeats(who: &Who, before: &[Who], list: &[Entry]) -> usize
     }
 }
 
-// The same under a condition.
+/// The same under a condition.
 fn repeats_under(who: &Who, before: &[Who], condition: &Condition, list: &[CondEntry]) -> usize
     ensures { result ≡ (if list_any (is_for_under condition.now who.now) list.now || list_any (λ other. is_same_who other who.now) before.now then 1 else 0) }
 {
@@ -255,35 +256,35 @@ fn repeats_under(who: &Who, before: &[Who], condition: &Condition, list: &[CondE
     }
 }
 
-// Whether an ID has an entry.
+/// Whether an ID has an entry.
 fn is_listed(who: &Who, list: &[Entry]) -> bool
     ensures { result ≡ list_any (is_for who.now) list.now }
 {
     list.iter().any(|entry| is_same_who(&entry.who, who))
 }
 
-// Whether an ID has an entry under a condition.
+/// Whether an ID has an entry under a condition.
 fn is_listed_under(who: &Who, condition: &Condition, list: &[CondEntry]) -> bool
     ensures { result ≡ list_any (is_for_under condition.now who.now) list.now }
 {
     list.iter().any(|entry| is_for_under(entry, condition, who))
 }
 
-// Whether it is one of these.
+/// Whether it is one of these.
 fn is_among(who: &Who, whos: &[Who]) -> bool
     ensures { result ≡ list_any (λ other. is_same_who other who.now) whos.now }
 {
     whos.iter().any(|other| is_same_who(other, who))
 }
 
-// Whether a conditional entry is for an ID under a condition.
+/// Whether a conditional entry is for an ID under a condition.
 fn is_for_under(entry: &CondEntry, condition: &Condition, who: &Who) -> bool
     ensures { result ≡ is_for_under condition.now who.now entry.now }
 {
     is_same_port(&entry.condition, condition) && is_same_who(&entry.who, who)
 }
 
-// Whether both are `*`, or both one ID.
+/// Whether both are `*`, or both one ID.
 fn is_same_who(who: &Who, other: &Who) -> bool
     ensures { result ≡ is_same_who who.now other.now }
 {
@@ -293,7 +294,7 @@ fn is_same_who(who: &Who, other: &Who) -> bool
     }
 }
 
-// Whether it is that ID.
+/// Whether it is that ID.
 fn is_named(who: &Who, id: Id) -> bool
     ensures { result ≡ is_same_who (Who.Named id) who.now }
 {
@@ -303,7 +304,7 @@ fn is_named(who: &Who, id: Id) -> bool
     }
 }
 
-// Whether both name one port.
+/// Whether both name one port.
 fn is_same_port(port: &Condition, other: &Condition) -> bool
     ensures { result ≡ is_same_port port.now other.now }
 {

@@ -79,7 +79,7 @@ pub(crate) fn altered_resource(
     )
 }
 
-// The profile that a command defines, before its operands change it.
+/// The profile that a command defines, before its operands change it.
 fn first_profile(alloc: Global, name: Pattern, owner: Id) -> Profile
     ensures { result ≡ first_profile name owner }
 {
@@ -91,7 +91,7 @@ fn first_profile(alloc: Global, name: Pattern, owner: Id) -> Profile
         standard: no_entries(alloc),
         conditional: no_conditional_entries(alloc),
         level: 0,
-        categories: Categories::NONE,
+        categories: Categories::none(),
         label: None,
         audit: FAILURES_FROM_READ,
         global_audit: NO_AUDIT,
@@ -99,7 +99,7 @@ fn first_profile(alloc: Global, name: Pattern, owner: Id) -> Profile
     }
 }
 
-// The profile without the members of DELMEM, and then with those of ADDMEM.
+/// The profile without the members of DELMEM, and then with those of ADDMEM.
 fn with_members(
     profile: Profile,
     added: &[Member],
@@ -114,13 +114,13 @@ fn with_members(
     })
 }
 
-// What a new profile logs without AUDIT: failures from READ on.
+/// What a new profile logs without AUDIT: failures from READ on.
 const FAILURES_FROM_READ: AuditRule = AuditRule {
     success: None,
     failures: Some(Level::Read),
 };
 
-// Global auditing that logs nothing.
+/// Global auditing that logs nothing.
 const NO_AUDIT: AuditRule = AuditRule {
     success: None,
     failures: None,
@@ -133,7 +133,7 @@ pub fn dataset() -> Id
     FixedClass::Dataset.id()
 }
 
-// No entry.
+/// No entry.
 fn no_entries(alloc: Global) -> Entries
     ensures { result ≡ [] }
 {
@@ -142,7 +142,7 @@ fn no_entries(alloc: Global) -> Entries
     }
 }
 
-// No conditional entry.
+/// No conditional entry.
 fn no_conditional_entries(alloc: Global) -> CondEntries
     ensures { result ≡ [] }
 {
@@ -151,7 +151,7 @@ fn no_conditional_entries(alloc: Global) -> CondEntries
     }
 }
 
-// No member.
+/// No member.
 fn no_members(alloc: Global) -> Members
     ensures { result ≡ [] }
 {

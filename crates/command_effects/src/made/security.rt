@@ -2,7 +2,7 @@
 ghost use Rattle.std.specs.Prelude.{◌≡◌, ◌<◌, ◌||◌, [], length, IfSome, List, ℕ, fold, position, unwrap_or, option_and_then, is_some, codes, bytes_eq};
 ghost use Rattle.std.specs.Option.{option_copied, option_map_or, option_or};
 ghost use Rattle.racf_profiles.specs.Lookup.{profile_of};
-ghost use Rattle.command_effects.specs.Security.{general_name, secdata_members, grade_of, first_grade, level_number, is_category_member, is_category, category_number, is_label, with_category, without_category};
+ghost use Rattle.command_effects.specs.Security.{general_name, secdata_members, security_level_of, first_security_level, level_number, is_category_member, is_category, category_number, is_label, with_category, without_category};
 ghost use Rattle.command_effects.specs.ProfileEffects.{level_given, label_given};
 
 use access_levels::{Categories, Id};
@@ -20,7 +20,7 @@ pub(crate) fn level_given(tables: &RowTables, name: Option<Id>, off: bool, old: 
     level_or(tables, name, old)
 }
 
-// The number of the security level, where one is named.
+/// The number of the security level, where one is named.
 fn level_or(tables: &RowTables, name: Option<Id>, otherwise: u8) -> u8
     ensures { result ≡ unwrap_or (option_and_then (level_number tables.now.rows) name) otherwise }
 {
@@ -34,7 +34,7 @@ fn level_or(tables: &RowTables, name: Option<Id>, otherwise: u8) -> u8
 pub fn level_number(tables: &RowTables, name: Id) -> Option<u8>
     ensures { result ≡ level_number tables.now.rows name }
 {
-    first_grade(name, secdata_members(tables, &seclevel_name()))
+    first_security_level(name, secdata_members(tables, &seclevel_name()))
 }
 
 /// Whether it is a category that can be given now. It goes through the categories.
@@ -110,7 +110,7 @@ fn without_category(tables: &RowTables, set: Categories, name: Id) -> Categories
     }
 }
 
-// Whether a profile of class SECLABEL has that name.
+/// Whether a profile of class SECLABEL has that name.
 fn has_label(tables: &RowTables, name: Id) -> bool
     ensures { result ≡ is_some (profile_of (codes "SECLABEL") (general_name name) tables.now.rows) }
 {
@@ -118,7 +118,7 @@ fn has_label(tables: &RowTables, name: Id) -> bool
     tables.profile(FixedClass::Seclabel.id(), &name).is_some()
 }
 
-// The members of a profile of class SECDATA.
+/// The members of a profile of class SECDATA.
 fn secdata_members<'a>(tables: &'a RowTables, name: &Pattern) -> &'a [Member]
     ensures { result.now ≡ option_map_or (λ (profile : Profile). profile.members) (profile_of (codes "SECDATA") name.now tables.now.rows) [] }
 {
@@ -138,7 +138,7 @@ pub(crate) fn label_given(name: Option<Id>, off: bool, old: Option<Id>) -> Optio
     name.or(old)
 }
 
-// The place of a name among these.
+/// The place of a name among these.
 fn place_of(name: Id, names: &[Id]) -> Option<usize>
     ensures place { result ≡ position (λ other. bytes_eq other name) names.now }
     ensures within { IfSome result (λ place. place < length names.now) }
@@ -146,24 +146,24 @@ fn place_of(name: Id, names: &[Id]) -> Option<usize>
     names.iter().position(|other| *other == name)
 }
 
-// The number of the first security level of that name.
-fn first_grade(name: Id, members: &[Member]) -> Option<u8>
-    ensures { result ≡ first_grade name members.now }
+/// The number of the first security level of that name.
+fn first_security_level(name: Id, members: &[Member]) -> Option<u8>
+    ensures { result ≡ first_security_level name members.now }
 {
     for member in members {
-        if let Some(number) = grade_of(name, member) {
+        if let Some(number) = security_level_of(name, member) {
             return Some(number);
         }
     }
     None
 }
 
-// The number of the security level that a member defines, where it has that name.
-fn grade_of(name: Id, member: &Member) -> Option<u8>
-    ensures { result ≡ grade_of name member.now }
+/// The number of the security level that a member defines, where it has that name.
+fn security_level_of(name: Id, member: &Member) -> Option<u8>
+    ensures { result ≡ security_level_of name member.now }
 {
     match member {
-        Member::Grade(other, number) if *other == name => Some(*number),
+        Member::SecurityLevel(other, number) if *other == name => Some(*number),
         _ => None,
     }
 }
@@ -178,14 +178,14 @@ pub(super) fn is_category_member(name: Id, member: &Member) -> bool
     }
 }
 
-// Whether it is a label that every database has.
+/// Whether it is a label that every database has.
 fn is_own_label(name: Id) -> bool
     ensures { result ≡ (bytes_eq name (codes "SYSHIGH") || bytes_eq name (codes "SYSLOW")) }
 {
     name.text() == b"SYSHIGH".as_slice() || name.text() == b"SYSLOW".as_slice()
 }
 
-// The profile of SECDATA whose members are the security levels.
+/// The profile of SECDATA whose members are the security levels.
 fn seclevel_name() -> Pattern
     ensures { result ≡ general_name (codes "SECLEVEL") }
 {
@@ -195,7 +195,7 @@ fn seclevel_name() -> Pattern
     }
 }
 
-// The profile of SECDATA whose members are the categories.
+/// The profile of SECDATA whose members are the categories.
 fn category_name() -> Pattern
     ensures { result ≡ general_name (codes "CATEGORY") }
 {
@@ -205,7 +205,7 @@ fn category_name() -> Pattern
     }
 }
 
-// The general name that an ID spells.
+/// The general name that an ID spells.
 fn general_name(id: Id) -> Pattern
     ensures { result ≡ general_name id }
 {

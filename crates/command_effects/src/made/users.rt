@@ -35,7 +35,7 @@ pub(crate) fn new_user(
         level: level_given(tables, command.seclevel, false, 0),
         categories: with_categories(
             tables,
-            Categories::NONE,
+            Categories::none(),
             command.addcategory.items.as_slice(),
         ),
         label: command.seclabel,
@@ -103,7 +103,7 @@ pub(crate) fn removed_user(
     with_connects(alloc, old, Connects { items })
 }
 
-// A user with other connections.
+/// A user with other connections.
 fn with_connects(alloc: Global, old: &User, connects: Connects) -> Result<User, NoMemory>
     ensures { IfOk result (λ user. user ≡ record old.now { connects = connects }) }
 {
@@ -121,7 +121,7 @@ fn with_connects(alloc: Global, old: &User, connects: Connects) -> Result<User, 
     })
 }
 
-// The attributes of a new user.
+/// The attributes of a new user.
 fn first_attributes(command: &AddUser) -> Attributes
     ensures { result ≡ first_attributes command.now }
 {
@@ -149,7 +149,7 @@ pub fn attributes_after(command: &AltUser, old: Attributes) -> Attributes
     }
 }
 
-// The name that is given, or else this one.
+/// The name that is given, or else this one.
 fn name_or(alloc: Global, given: &Option<Text>, otherwise: &[u8]) -> Result<Text, NoMemory>
     ensures { IfOk result (λ name. name ≡ unwrap_or given.now otherwise.now) }
 {

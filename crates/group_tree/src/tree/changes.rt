@@ -1,9 +1,9 @@
 //! The calls that change a tree. One that is refused leaves it as it was.
-ghost use Rattle.std.specs.Prelude.{◌≡◌, ◌≢◌, ◌-◌, max, is_some, IsNone, IsSome, IfErr, OnOk, OnErr};
-ghost use Rattle.racf_profiles.specs.Lookup.{is_group};
+ghost use Rattle.std.specs.Prelude.{◌≡◌, ◌≢◌, ◌-◌, ◌<◌, max, is_some, IsNone, IsSome, IfErr, OnOk, OnErr};
+ghost use Rattle.racf_profiles.specs.Lookup.{is_group, find_group};
 ghost use Rattle.racf_profiles.specs.Edits.{drop_row};
 ghost use Rattle.racf_profiles.specs.NewDatabase.{sys1};
-ghost use Rattle.group_tree.specs.Groups.{find_group, with_group, at_group, with_superior, with_owner};
+ghost use Rattle.group_tree.specs.Groups.{with_group, at_group, with_superior, with_owner};
 ghost use Rattle.group_tree.specs.Answers.{CanAdd, AddRefused, CanMove, MoveRefused, OwnerRefused, CanRemove, RemoveRefused};
 
 use super::{MOST_GROUPS, Tree, put_last};
@@ -118,38 +118,38 @@ impl Tree {
         }
     }
 
-    /// Makes memory spare for one more group, if none is.
+    /// Makes memory spare for this many groups more.
     ///
     /// # Errors
     ///
-    /// `NoMemory` alone, where none was spare.
-    pub fn reserve(&mut self) -> Result<(), TreeFault>
+    /// `NoMemory` alone, where less was spare.
+    pub fn reserve(&mut self, more: usize) -> Result<(), TreeFault>
         ensures groups { self.new.groups ≡ self.old.groups }
-        ensures spare { OnOk result (self.new.spare ≡ max self.old.spare 1) }
+        ensures spare { OnOk result (self.new.spare ≡ max self.old.spare more) }
 
-        ensures refused { IfErr result (λ fault. (fault ≡ TreeFault.NoMemory) × (self.old.spare ≡ 0)) }
+        ensures refused { IfErr result (λ fault. (fault ≡ TreeFault.NoMemory) × (self.old.spare < more)) }
         ensures kept { OnErr result (self.new ≡ self.old) }
     {
-        if self.spare > 0 {
+        if self.spare >= more {
             return Ok(());
         }
-        match self.groups.reserve(1) {
+        match self.groups.reserve(more) {
             Ok(()) => {
-                self.spare = 1;
+                self.spare = more;
                 Ok(())
             }
             Err(_) => Err(TreeFault::NoMemory),
         }
     }
 
-    // Whether there is a group of that name.
+    /// Whether there is a group of that name.
     fn contains(&self, id: Id) -> bool
         ensures { result ≡ is_some (find_group self.now.groups id) }
     {
         self.groups.contains_key(&id)
     }
 
-    // Refuses a name that no group has.
+    /// Refuses a name that no group has.
     fn check_there(&self, id: Id) -> Result<(), TreeFault>
         ensures there { OnOk result (IsSome (find_group self.now.groups id)) }
         ensures absent { IfErr result (λ fault. (fault ≡ TreeFault.NoGroup id) × IsNone (find_group self.now.groups id)) }

@@ -1,7 +1,7 @@
 use Rattle.std.proofs.Common.{length, sym, ap, ◌∙◌}
 use Rattle.std.specs.List.{position}
 use Rattle.access_lists.specs.Lists.{is_for, has_no_room}
-use Rattle.access_lists.proofs.PutLaws.{set_at_position, room_at_position, room_when_new, full_if, not_full, added_is_put}
+use Rattle.access_lists.proofs.PutLaws.{set_at_position, room_at_position, room_when_new, full_if, not_full, added_is_put, absent_at_none}
 use Rattle.access_lists.proofs.edits.permit.Goals as goal
 
 pub returns-in-Some-clause-list : goal.returns-in-Some-clause-list
@@ -15,3 +15,6 @@ returns-in-None-clause-list c = added_is_put (is_for c.args.entry.who) c.args.li
 
 pub returns-in-None-clause-full : goal.returns-in-None-clause-full
 returns-in-None-clause-full c = full_if (has_no_room (is_for c.args.entry.who) c.args.list.now.items) (length c.args.list.now.items) (room_when_new (is_for c.args.entry.who) c.args.list.now.items c.args.entry (sym (c.in-None.ensures ∙ ap (position (is_for c.args.entry.who)) c.as_slice.ensures.value))) c.add.ensures.full
+
+pub returns-in-None-clause-memory : goal.returns-in-None-clause-memory
+returns-in-None-clause-memory c wanting = absent_at_none (is_for c.args.entry.who) c.args.list.now.items c.args.entry (sym (c.in-None.ensures ∙ ap (position (is_for c.args.entry.who)) c.as_slice.ensures.value))

@@ -2,7 +2,7 @@
 use Rattle.std.proofs.Common.{◌∙◌, ◌<◌, ◌≤◌, sym, ap, subst, arith, length, max}
 use Rattle.generic_names.specs.Spelled.{Spelled}
 use Rattle.racf_profiles.specs.Edits.{put_profile}
-use Rattle.class_profiles.specs.Lawful.{most_class_profiles}
+use Rattle.racf_profiles.specs.Limits.{most_class_profiles}
 use Rattle.class_profiles.specs.Table.{ProfileList}
 use Rattle.class_profiles.proofs.tests.put.Goals as goal
 

@@ -6,8 +6,10 @@ use Rattle.std.specs.Option.{option_map_or}
 use Rattle.generic_names.specs.Spelled.{Spelled}
 use Rattle.racf_profiles.specs.declared.class_rows.ClassRow.{ClassRow}
 use Rattle.racf_profiles.specs.Lookup.{is_class}
-use Rattle.class_profiles.specs.Lawful.{AreClasses, kind_in, most_profiles, most_class_profiles}
-use Rattle.class_profiles.specs.Classes.{profile_count, entry_count, entries_in, most_entries, profile_in}
+use Rattle.racf_profiles.specs.LawfulProfiles.{AreClasses, kind_in}
+use Rattle.racf_profiles.specs.Limits.{most_profiles, most_class_profiles, most_entries_in_all}
+use Rattle.class_profiles.specs.Classes.{profile_in}
+use Rattle.racf_profiles.specs.Counts.{profile_count, entry_count, entries_in}
 use Rattle.class_profiles.proofs.Places.{name-found}
 use Rattle.class_profiles.proofs.tests.put_in.Goals as goal
 
@@ -24,7 +26,7 @@ put-requires c =
     let there : IsSome (find (is_class class) old.classes) = subst (λ (o : Option ClassRow). IsSome o) (sym found) refl in
     let in_class : length row.profiles < most_class_profiles = omega (arith, c.len.ensures.count, ap length c.profiles-2.ensures.profiles) in
     let in_all : profile_count new.classes < most_profiles = omega (arith, c.count.ensures.count, ap profile_count same) in
-    let fits : entry_count new.classes + entries_in p ≤ most_entries + option_map_or entries_in (profile_in class p.name new.classes) 0 =
+    let fits : entry_count new.classes + entries_in p ≤ most_entries_in_all + option_map_or entries_in (profile_in class p.name new.classes) 0 =
     omega (arith, c.entries.ensures.count, ap entry_count same, c.in-Ok-profile.ensures.one) in
     c.counts_are_enough.ensures new class row p (subst AreClasses (sym same) c.count.ensures.lawful) (omega (arith, in_all)) (ap (find (is_class class)) same ∙ found) kind
     (λ _. record { room = c.in-Ok-reserve.ensures.room there; few_in_class = in_class; few = in_all }) fits

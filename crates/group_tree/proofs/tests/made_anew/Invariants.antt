@@ -1,5 +1,5 @@
 use Rattle.std.proofs.Common.{◌≡◌, take, length}
-use Rattle.group_tree.specs.Lawful.{IsTree}
+use Rattle.racf_profiles.specs.Tree.{IsTree}
 use Rattle.group_tree.proofs.tests.made_anew.Given as goal
 
 -- the groups so far

@@ -8,7 +8,7 @@ use Rattle.profile_index.proofs.search.end_of_gap.Goals as goal
 
 pub loop-low-preserved-then-is_below : goal.loop-low-preserved-then-is_below
 loop-low-preserved-then-is_below g c =
-    let below = all-below name_of c.args.shelf.now.entries c.requires.ordered _ c.entry.result.now (omega arith)
+    let below = all-below name_of c.args.slots.now.entries c.requires.ordered _ c.entry.result.now (omega arith)
     (λ n. is_below n c.args.gap.now ≡ true) (λ a b. gap_closed a b c.args.gap.now) (subst (λ (x : Entry _). is_below x.name c.args.gap.now ≡ true) c.entry.ensures.value (sym c.is_below.ensures ∙ c.if-is_below.true)) in
     record {
       onward = omega arith;

@@ -7,8 +7,8 @@ abbrev pub invariant-loop-low : goal.invariant-loop-low
 invariant-loop-low g l = record {
   onward : l.from < l.low;
   middle : l.low ≤ l.high;
-  within : l.high ≤ length l.shelf.entries;
-  below : AllWithin (λ e. is_below e.name l.gap ≡ true) l.shelf.entries l.from l.low;
+  within : l.high ≤ length l.slots.entries;
+  below : AllWithin (λ e. is_below e.name l.gap ≡ true) l.slots.entries l.from l.low;
 }
 
 abbrev pub decreases-loop-low : goal.decreases-loop-low

@@ -6,9 +6,9 @@ use Rattle.profile_index.proofs.search.end_of_those_before.Given as goal
 abbrev pub invariant-loop-low : goal.invariant-loop-low
 invariant-loop-low g l = record {
   middle : l.low ≤ l.high;
-  within : l.high ≤ length l.shelf.entries;
-  below : AllWithin (λ e. before e.name l.name ≡ true) l.shelf.entries 0 l.low;
-  above : AllWithin (λ e. before e.name l.name ≡ false) l.shelf.entries l.high (length l.shelf.entries);
+  within : l.high ≤ length l.slots.entries;
+  below : AllWithin (λ e. before e.name l.name ≡ true) l.slots.entries 0 l.low;
+  above : AllWithin (λ e. before e.name l.name ≡ false) l.slots.entries l.high (length l.slots.entries);
 }
 
 abbrev pub decreases-loop-low : goal.decreases-loop-low

@@ -1,13 +1,14 @@
 -- By induction on the rows.
 use Rattle.std.proofs.Common.{◌≡◌, true, false, List, [], ◌∙◌, ap}
+use Rattle.std.specs.Option.{option_map_or}
 use Rattle.racf_profiles.specs.Lookup.{is_user, is_group}
-use Rattle.racf_profiles.specs.Edits.{with_profile, with_flags, with_listed}
-use Rattle.racf_profiles.specs.State.{State}
+use Rattle.racf_profiles.specs.Edits.{put_row, drop_row, with_profile, with_flags, with_listed}
+use Rattle.racf_profiles.specs.State.{State, ListedCopy, is_copy_of, copy_of_class}
 use Rattle.racf_profiles.specs.declared.users.User.{User}
 use Rattle.racf_profiles.specs.declared.groups.Group.{Group}
 use Rattle.racf_profiles.specs.declared.profiles.Profile.{Profile}
 use Rattle.racf_profiles.specs.declared.class_rows.ClassRow.{ClassRow}
-use Rattle.racf_profiles.proofs.EditLaws.{drop_row-absent, at_class-absent, at_class-without_absent, copy_at-absent}
+use Rattle.racf_profiles.proofs.EditLaws.{drop_row-absent, at_class-absent, at_class-without_absent}
 use Rattle.racf_profiles.proofs.laws.absent_changes_nothing.Goals as goal
 
 pub returns-clause-user : goal.returns-clause-user
@@ -26,14 +27,16 @@ pub returns-clause-put_class : goal.returns-clause-put_class
 returns-clause-put_class c = λ class active global log rows absent. ap (λ (classes : List ClassRow). record rows { classes = classes }) (at_class-absent class (with_flags active global log) rows.classes absent)
 
 -- A state whose classes and copies stay is the same state.
-same_state : (state : State) (classes : List ClassRow) (copies : List (List Profile)) → classes ≡ state.rows.classes → copies ≡ state.copies
+same_state : (state : State) (classes : List ClassRow) (copies : List ListedCopy) → classes ≡ state.rows.classes → copies ≡ state.copies
     → let made : State = record { rows = record state.rows { classes = classes }; copies = copies } in made ≡ state
 same_state state classes copies e f =
     ap (λ (cs : List ClassRow). let made : State = record { rows = record state.rows { classes = cs }; copies = copies } in made) e
-    ∙ ap (λ (ps : List (List Profile)). let made : State = record { rows = state.rows; copies = ps } in made) f
+    ∙ ap (λ (ps : List ListedCopy). let made : State = record { rows = state.rows; copies = ps } in made) f
 
 pub returns-clause-list : goal.returns-clause-list
-returns-clause-list c = λ class state absent. same_state state _ _ (at_class-absent class (with_listed true) state.rows.classes absent) (copy_at-absent class (λ row. row.profiles) state.rows.classes state.copies absent)
+returns-clause-list c = λ class state absent. same_state state _ _ (at_class-absent class (with_listed true) state.rows.classes absent)
+    (ap (λ o. option_map_or (λ (row : ClassRow). put_row (is_copy_of class) (copy_of_class row) state.copies) o state.copies) absent)
 
 pub returns-clause-unlist : goal.returns-clause-unlist
-returns-clause-unlist c = λ class state absent. same_state state _ _ (at_class-absent class (with_listed false) state.rows.classes absent) (copy_at-absent class (λ row. []) state.rows.classes state.copies absent)
+returns-clause-unlist c = λ class state absent. same_state state _ _ (at_class-absent class (with_listed false) state.rows.classes absent)
+    (ap (λ o. option_map_or (λ (row : ClassRow). drop_row (is_copy_of class) state.copies) o state.copies) absent)

@@ -1,5 +1,5 @@
 -- By induction on the classes.
-use Rattle.racf_profiles.proofs.EditLaws.{effective_in-live}
+use Rattle.racf_profiles.proofs.States.{effective_in-live}
 use Rattle.racf_profiles.proofs.laws.restart_is_live.Goals as goal
 
 pub returns : goal.returns

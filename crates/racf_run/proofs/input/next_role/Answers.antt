@@ -1,5 +1,5 @@
 use Rattle.std.proofs.Common.{Ok, Err, ◌∙◌, ap}
-use Rattle.racf_run.proofs.ItemLaws.{from_text, from_too_long, from_end, from_read_fault, from_too_much}
+use Rattle.racf_run.proofs.StatementLaws.{from_text, from_too_long, from_end, from_read_fault, from_too_much}
 use Rattle.racf_run.proofs.input.next_role.Goals as goal
 
 pub returns-in-Ok-Text-clause-role : goal.returns-in-Ok-Text-clause-role

@@ -15,24 +15,24 @@ loop-item-init g c =
 
 pub returns-in-Err-clause-ran : goal.returns-in-Err-clause-ran
 returns-in-Err-clause-ran g c =
-    stopped c.in-Err.stop c.has_refused.result c.stop_status.result _ c.loop-item.lines c.next_item.new.lines c.loop-item.stream _ _
-    c.loop-item.invariant.walk c.in-Err.ensures.item c.next_item.ensures.limit c.has_refused.ensures c.stop_status.ensures
+    stopped c.in-Err.stop c.has_refused.result c.stop_status.result _ c.loop-item.lines c.next_statement.new.lines c.loop-item.stream _ _
+    c.loop-item.invariant.walk c.in-Err.ensures.item c.next_statement.ensures.limit c.has_refused.ensures c.stop_status.ensures
 
 pub loop-item-preserved : goal.loop-item-preserved
 loop-item-preserved g c =
     record {
       walk =
-          Walk-items stream _ c.in-Ok-next_item.ensures.item.0 _ c.loop-item.lines c.next_item.new.lines c.loop-item.stream c.work_item.new.stream _ _ _
-          c.loop-item.invariant.walk c.in-Ok-next_item.ensures.item.1 c.in-Ok-work_item.ensures.works.0 c.in-Ok-work_item.ensures.works.1;
-      most = c.next_item.ensures.limit;
-      source_faults = omega (arith, c.loop-item.invariant.source_faults, c.next_item.ensures.faults);
-      sink_faults = omega (arith, c.loop-item.invariant.sink_faults, c.work_item.ensures.sink_faults);
+          Walk-items stream _ c.in-Ok-next_statement.ensures.item.0 _ c.loop-item.lines c.next_statement.new.lines c.loop-item.stream c.process_statement.new.stream _ _ _
+          c.loop-item.invariant.walk c.in-Ok-next_statement.ensures.item.1 c.in-Ok-process_statement.ensures.processed.0 c.in-Ok-process_statement.ensures.processed.1;
+      most = c.next_statement.ensures.limit;
+      source_faults = omega (arith, c.loop-item.invariant.source_faults, c.next_statement.ensures.faults);
+      sink_faults = omega (arith, c.loop-item.invariant.sink_faults, c.process_statement.ensures.sink_faults);
     }
 
-pub returns-in-Err-work_item-clause-ran : goal.returns-in-Err-work_item-clause-ran
-returns-in-Err-work_item-clause-ran g c =
-    unanswered c.in-Err-work_item.fault c.fault_status.result c.in-Ok-next_item.item _ c.next_item.new.lines.left c.loop-item.lines c.next_item.new.lines
-    c.loop-item.stream c.work_item.new.stream _ _ _ c.loop-item.invariant.walk c.in-Ok-next_item.ensures.item c.in-Err-work_item.ensures.works c.fault_status.ensures
+pub returns-in-Err-process_statement-clause-ran : goal.returns-in-Err-process_statement-clause-ran
+returns-in-Err-process_statement-clause-ran g c =
+    unanswered c.in-Err-process_statement.fault c.fault_status.result c.in-Ok-next_statement.item _ c.next_statement.new.lines.left c.loop-item.lines c.next_statement.new.lines
+    c.loop-item.stream c.process_statement.new.stream _ _ _ c.loop-item.invariant.walk c.in-Ok-next_statement.ensures.item c.in-Err-process_statement.ensures.processed c.fault_status.ensures
 
 pub returns-in_default-clause-ran : goal.returns-in_default-clause-ran
 returns-in_default-clause-ran g c = no_start c.args.lines.now _

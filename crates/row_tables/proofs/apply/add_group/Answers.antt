@@ -3,8 +3,8 @@ use Rattle.racf_profiles.specs.Lookup.{is_group}
 use Rattle.row_tables.proofs.RowLaws.{put_row-new}
 use Rattle.row_tables.proofs.apply.add_group.Goals as goal
 
-pub returns : goal.returns
-returns c =
+pub returns-clause-groups : goal.returns-clause-groups
+returns-clause-groups c =
     let groups = c.args.tree.now.groups in
     let group = c.args.group.now in
     c.in-Ok.ensures.groups

@@ -7,11 +7,11 @@ use Rattle.group_tree.proofs.Rows.{id-find_group}
 use Rattle.row_tables.proofs.GroupLaws.{at_group-put_row}
 use Rattle.row_tables.proofs.apply.own_group.Goals as goal
 
-pub returns : goal.returns
-returns c =
+pub returns-clause-groups : goal.returns-clause-groups
+returns-clause-groups c =
     let group = c.args.group.now in
     let moved : Group = record c.args.old.now { superior = group.superior } in
     let name = id-find_group c.args.tree.now.groups group.id moved c.requires in
     c.in-Ok.ensures.groups
-    ∙ at_group-put_row group.id (with_owner group.owner) c.args.tree.now.groups moved c.len-count.ensures.lawful.distinct c.requires
+    ∙ at_group-put_row group.id (with_owner group.owner) c.args.tree.now.groups moved c.names_are_distinct.ensures.distinct c.requires
     ∙ ap (λ n. put_row (is_group group.id) (record { id = n; superior = group.superior; owner = group.owner }) c.args.tree.now.groups) name

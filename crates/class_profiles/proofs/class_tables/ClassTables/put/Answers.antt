@@ -1,5 +1,5 @@
 -- The class at the place gets the profile, and the counts change by its own.
-use Rattle.std.proofs.Common.{◌∙◌, ℕ, sym, ap, subst, arith}
+use Rattle.std.proofs.Common.{◌≡◌, ◌∙◌, ℕ, ◌+◌, ◌≤◌, Bool, true, false, cond, sym, ap, subst, arith}
 use Rattle.std.specs.List.{find}
 use Rattle.std.specs.Option.{option_map_or}
 use Rattle.std.specs.Str.{bytes_eq}
@@ -7,10 +7,15 @@ use Rattle.racf_profiles.specs.declared.profiles.Profile.{Profile}
 use Rattle.racf_profiles.specs.declared.class_rows.ClassRow.{ClassRow}
 use Rattle.racf_profiles.specs.Lookup.{is_class}
 use Rattle.racf_profiles.specs.Edits.{at_class, with_profile}
-use Rattle.class_profiles.specs.Classes.{ClassList, profile_count, profile_in, entries_in, room_in, CanPutIn}
-use Rattle.class_profiles.proofs.Places.{placed, unplaced, read-at, at_class-absent, room-other, name-at, got-at}
+use Rattle.class_profiles.specs.Classes.{ClassList, profile_in, room_in, CanPutIn}
+use Rattle.racf_profiles.specs.Counts.{profile_count, entries_in}
+use Rattle.class_profiles.proofs.Places.{placed, unplaced, read-at, at_class-absent, room-other, room-at, room-set, name-at, got-at}
 use Rattle.class_profiles.proofs.Changes.{can-put, put-few, put-rows, put-lawful, put-counted, put-entries_counted, put-few_profiles, put-few_entries}
 use Rattle.class_profiles.proofs.class_tables.ClassTables.put.Goals as goal
+
+at_most_one : (before after : ℕ) (b : Bool) → after + cond b 0 1 ≡ before → before ≤ after + 1
+at_most_one before after true is = omega arith
+at_most_one before after false is = omega arith
 
 pub returns-in_default-clause-classes : goal.returns-in_default-clause-classes
 returns-in_default-clause-classes c =
@@ -84,3 +89,21 @@ returns-clause-others c =
     let got = read-at class items k old at c.index_mut.ensures.value in
     λ other differs. room-other other items k old c.put.new.self got (ap (λ (r : ClassRow). r.name) c.put.ensures.row) (ap (λ n. bytes_eq n other) (name-at class items k old at got) ∙ differs)
     ∙ ap (λ (v : ClassList). room_in other v) c.self.view_is
+
+pub returns-in_default-clause-own : goal.returns-in_default-clause-own
+returns-in_default-clause-own c = omega arith
+
+-- One less where the profile is new.
+pub returns-clause-own : goal.returns-clause-own
+returns-clause-own c =
+    let items = c.self.inside.classes.items in
+    let class = c.args.class in
+    let k = c.in-Some.place in
+    let old = c.index_mut.result.now in
+    let new = c.put.new.self in
+    let at = placed class items c.deref.result.now k c.deref.ensures.value c.in-Some.ensures in
+    let got = read-at class items k old at c.index_mut.ensures.value in
+    let before : room_in class c.args.self.now ≡ old.spare = ap (λ (v : ClassList). room_in class v) (sym c.self.view_is) ∙ room-at class items k old at got in
+    let after = room-set class items k old new at got (ap (λ (r : ClassRow). r.name) c.put.ensures.row) in
+    let less = at_most_one old.spare new.spare _ c.put.ensures.spare in
+    omega (arith, before, after, less)

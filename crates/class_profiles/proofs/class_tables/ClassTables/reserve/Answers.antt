@@ -3,8 +3,9 @@ use Rattle.std.proofs.Common.{◌<◌, ◌≤◌, ◌∙◌, ℕ, sym, ap, subst
 use Rattle.std.specs.List.{find}
 use Rattle.racf_profiles.specs.declared.class_rows.ClassRow.{ClassRow}
 use Rattle.racf_profiles.specs.Lookup.{is_class}
-use Rattle.class_profiles.specs.Lawful.{AreClasses}
-use Rattle.class_profiles.specs.Classes.{ClassList, profile_count, entry_count, room_in}
+use Rattle.racf_profiles.specs.LawfulProfiles.{AreClasses}
+use Rattle.class_profiles.specs.Classes.{ClassList, room_in}
+use Rattle.racf_profiles.specs.Counts.{profile_count, entry_count}
 use Rattle.class_profiles.specs.Summed.{rows_in}
 use Rattle.class_profiles.proofs.Places.{spares, placed, unplaced, read-at, rows-kept, room-set, room-kept, on_ok, none-some}
 use Rattle.class_profiles.proofs.class_tables.ClassTables.reserve.Goals as goal
@@ -36,7 +37,7 @@ returns-in-Some-clause-room c =
     let at = placed c.args.class items c.deref.result.now c.in-Some.place c.deref.ensures.value c.in-Some.ensures in
     let got = read-at c.args.class items c.in-Some.place c.index_mut.result.now at c.index_mut.ensures.value in
     let room = room-set c.args.class items c.in-Some.place c.index_mut.result.now c.reserve.new.self at got (ap (λ (r : ClassRow). r.name) c.reserve.ensures.row) in
-    on_ok c.reserve.result c.reserve.ensures.spare (λ more _. subst (λ (n : ℕ). 0 < n) (sym room) more)
+    on_ok c.reserve.result c.reserve.ensures.spare (λ more _. subst (λ (n : ℕ). c.args.more ≤ n) (sym room) more)
 
 pub returns-in-Some-clause-kept : goal.returns-in-Some-clause-kept
 returns-in-Some-clause-kept c =

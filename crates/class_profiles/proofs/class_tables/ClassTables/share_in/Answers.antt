@@ -2,7 +2,7 @@
 use Rattle.std.proofs.Common.{ℕ, Option, ap, arith}
 use Rattle.std.specs.Option.{option_map_or}
 use Rattle.racf_profiles.specs.declared.profiles.Profile.{Profile}
-use Rattle.class_profiles.specs.Classes.{entries_in}
+use Rattle.racf_profiles.specs.Counts.{entries_in}
 use Rattle.class_profiles.proofs.Changes.{profiles-le, entries-le}
 use Rattle.class_profiles.proofs.class_tables.ClassTables.share_in.Goals as goal
 

@@ -4,7 +4,7 @@ use Rattle.std.specs.List.{find}
 use Rattle.profile_index.specs.Indexed.{AreOf, IsAbsent}
 use Rattle.racf_profiles.specs.Lookup.{is_profile}
 use Rattle.racf_profiles.specs.Edits.{put_profile}
-use Rattle.class_profiles.specs.Lawful.{most_class_profiles}
+use Rattle.racf_profiles.specs.Limits.{most_class_profiles}
 use Rattle.class_profiles.specs.Paired.{entry_of, items_of}
 use Rattle.class_profiles.proofs.Pairs.{kinds-paired, absent-paired, added-items, added-paired, added-lawful}
 use Rattle.class_profiles.proofs.table.ProfileTable.add.Goals as goal

@@ -3,7 +3,7 @@ use Rattle.std.proofs.Common.{◌≤◌, ◌∙◌, List, ap, sym, subst, length
 use Rattle.racf_profiles.specs.declared.profiles.Profile.{Profile}
 use Rattle.racf_profiles.specs.Lookup.{is_profile}
 use Rattle.racf_profiles.specs.Edits.{put_profile}
-use Rattle.class_profiles.specs.Lawful.{most_class_profiles}
+use Rattle.racf_profiles.specs.Limits.{most_class_profiles}
 use Rattle.class_profiles.proofs.Order.{put-dropped, spared}
 use Rattle.class_profiles.proofs.table.ProfileTable.put.Goals as goal
 

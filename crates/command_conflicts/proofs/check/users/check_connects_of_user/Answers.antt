@@ -1,7 +1,7 @@
 use Rattle.std.proofs.Common.{◌∙◌, [], ap, sym, length}
 use Rattle.std.specs.Option.{option_map_or}
 use Rattle.racf_profiles.specs.declared.users.User.{User}
-use Rattle.command_conflicts.specs.declared.conflict.Kind.TheVariants.{Connections}
+use Rattle.command_conflicts.specs.declared.conflict.Limit.TheVariants.{Connections}
 use Rattle.command_effects.specs.Effects.{connects_after}
 use Rattle.command_conflicts.specs.Conflicts.{user_full, over}
 use Rattle.command_effects.proofs.AfterLaws.{length-connects_after}

@@ -1,6 +1,6 @@
 use Rattle.std.proofs.Common.{◌≡◌, ◌++◌, drop}
 use Rattle.racf_profiles.specs.Edits.{drop_row}
-use Rattle.row_tables.specs.Names.{is_to}
+use Rattle.racf_profiles.specs.Names.{is_to}
 use Rattle.command_effects.proofs.ConnectLaws.{rest_without}
 use Rattle.command_effects.proofs.made.connects.without_connect.Given as goal
 

@@ -3,7 +3,8 @@ use Rattle.std.proofs.Common.{◌≡◌, ◌∙◌, ◌+◌, ◌-◌, ◌<◌, �
 use Rattle.std.specs.List.{list_any}
 use Rattle.std.proofs.lemmas.List.Sums.{fold_more}
 use Rattle.access_levels.specs.declared.entries.CondEntry.{CondEntry}
-use Rattle.access_lists.specs.Lists.{is_for_under, is_same_who}
+use Rattle.access_lists.specs.Lists.{is_for_under}
+use Rattle.access_levels.specs.Entries.{is_same_who}
 use Rattle.command_effects.specs.PermitEffects.{with_conditional}
 use Rattle.command_effects.proofs.ListCounts.{conditionals-more}
 use Rattle.command_effects.proofs.Growth.{one_less, at_least}

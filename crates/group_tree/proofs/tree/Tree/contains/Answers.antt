@@ -1,5 +1,5 @@
 use Rattle.std.proofs.Common.{◌∙◌, ap, is_some}
-use Rattle.group_tree.specs.Groups.{find_group}
+use Rattle.racf_profiles.specs.Lookup.{find_group}
 use Rattle.group_tree.proofs.Rows.{lookup_named}
 use Rattle.group_tree.proofs.tree.Tree.contains.Goals as goal
 

@@ -1,5 +1,5 @@
 use Rattle.std.proofs.Common.{◌≡◌, ◌≤◌, length, Some, None, refl, sym, ◌∙◌, arith}
-use Rattle.group_tree.specs.Groups.{find_group}
+use Rattle.racf_profiles.specs.Lookup.{find_group}
 use Rattle.group_tree.specs.Climb.{above}
 use Rattle.group_tree.proofs.Rows.{same, unlike}
 use Rattle.group_tree.proofs.Climbs.{leads_none, leads_here, leads_stuck, leads_from_next, leads_to_next, steps_first, steps_next, steps_all}

@@ -1,6 +1,6 @@
 use Rattle.std.proofs.Common.{◌≡◌, length}
 use Rattle.group_tree.specs.Climb.{LeadsUp}
-use Rattle.group_tree.specs.Lawful.{IsTree}
+use Rattle.racf_profiles.specs.Tree.{IsTree}
 use Rattle.group_tree.proofs.Climbs.{HasSteps}
 use Rattle.group_tree.proofs.tree.Tree.leads_up.Given as goal
 

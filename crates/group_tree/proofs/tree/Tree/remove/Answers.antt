@@ -3,7 +3,7 @@ use Rattle.indexmap.specs.IndexMap.{values}
 use Rattle.group_tree.specs.Groups.{first_subgroup}
 use Rattle.racf_profiles.specs.Lookup.{is_group}
 use Rattle.racf_profiles.specs.Edits.{drop_row}
-use Rattle.group_tree.specs.Lawful.{IsTree}
+use Rattle.racf_profiles.specs.Tree.{IsTree}
 use Rattle.group_tree.specs.Answers.{CanRemove}
 use Rattle.group_tree.proofs.Edits.{tree-drop, one_there, none_from_map}
 use Rattle.group_tree.proofs.Stored.{taken}

@@ -1,7 +1,7 @@
 use Rattle.std.proofs.Common.{◌∙◌, ap, sym, subst, refl, is_some, arith}
 use Rattle.indexmap.specs.IndexMap.{values}
 use Rattle.group_tree.specs.Groups.{at_group, with_owner}
-use Rattle.group_tree.specs.Lawful.{IsTree}
+use Rattle.racf_profiles.specs.Tree.{IsTree}
 use Rattle.group_tree.proofs.Edits.{tree-with_owner, absent_one}
 use Rattle.group_tree.proofs.Stored.{found, written}
 use Rattle.group_tree.proofs.tree.Tree.set_owner.Goals as goal

@@ -1,7 +1,7 @@
 use Rattle.std.proofs.Common.{◌∙◌, ap, sym, subst, refl, true≢false, is_some, arith}
 use Rattle.indexmap.specs.IndexMap.{values}
 use Rattle.group_tree.specs.Groups.{at_group, with_superior}
-use Rattle.group_tree.specs.Lawful.{IsTree}
+use Rattle.racf_profiles.specs.Tree.{IsTree}
 use Rattle.group_tree.specs.Answers.{CanMove}
 use Rattle.group_tree.proofs.Edits.{tree-with_superior, both_there}
 use Rattle.group_tree.proofs.Stored.{found, written}

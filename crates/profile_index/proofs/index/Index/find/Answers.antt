@@ -9,7 +9,7 @@ use Rattle.profile_index.proofs.index.Index.find.Goals as goal
 pub returns : goal.returns
 returns g c =
     let name = c.args.name.now in
-    let items = c.self.inside.shelf.entries in
+    let items = c.self.inside.slots.entries in
     let view = ap (λ x. x.entries) c.self.view_is in
     let kinds = subst (λ xs. AreOf name.kind xs) (sym view) c.requires in
     let placed = place-from-first (λ e. covers e.name name) items c.first_that_covers.result c.first_that_covers.ensures.first in

@@ -6,4 +6,4 @@ use Rattle.profile_index.proofs.index.Index.find_named.Goals as goal
 pub returns : goal.returns
 returns g c =
     let view = ap (λ x. x.entries) c.self.view_is in
-    subst (λ xs. IsPlaceOf xs (find (has_name c.args.name.now) xs) c.place_named.result) view (place-from-first (has_name c.args.name.now) c.self.inside.shelf.entries c.place_named.result c.place_named.ensures.first)
+    subst (λ xs. IsPlaceOf xs (find (has_name c.args.name.now) xs) c.place_named.result) view (place-from-first (has_name c.args.name.now) c.self.inside.slots.entries c.place_named.result c.place_named.ensures.first)

@@ -11,7 +11,7 @@ use Rattle.profile_index.proofs.index.Index.insert.Goals as goal
 pub invariant_of-self : goal.invariant_of-self
 invariant_of-self g c =
     let name = c.args.name in
-    let items = c.self.inside.shelf.entries in
+    let items = c.self.inside.slots.entries in
     let place = c.end_of_those_before-place.result in
     let view = ap (λ x. x.entries) c.self.view_is in
     let inserted = c.insert.ensures.entries in
@@ -30,7 +30,7 @@ invariant_of-self g c =
 pub returns-clause-entries : goal.returns-clause-entries
 returns-clause-entries g c =
     let name = c.args.name in
-    let items = c.self.inside.shelf.entries in
+    let items = c.self.inside.slots.entries in
     let place = c.end_of_those_before-place.result in
     let view = ap (λ x. x.entries) c.self.view_is in
     let inserted = c.insert.ensures.entries in
@@ -45,4 +45,4 @@ returns-clause-kinds g c =
     let view = ap (λ x. x.entries) c.self.view_is in
     let inserted = c.insert.ensures.entries in
     let kinds = subst (λ xs. AreOf name.kind xs) (sym view) c.requires.kind in
-    subst (λ xs. AreOf name.kind xs) (sym inserted) (all-insert (λ e. e.name.kind ≡ name.kind) c.self.inside.shelf.entries c.end_of_those_before-place.result _ kinds refl)
+    subst (λ xs. AreOf name.kind xs) (sym inserted) (all-insert (λ e. e.name.kind ≡ name.kind) c.self.inside.slots.entries c.end_of_those_before-place.result _ kinds refl)

@@ -12,19 +12,19 @@ pub returns-in_default-clause-item : goal.returns-in_default-clause-item
 returns-in_default-clause-item g c =
     let test = has_name c.args.name.now in
     let view = ap (λ x. x.entries) c.self.view_is in
-    let none = subst (λ (a : Option ℕ). IsFirst test c.self.inside.shelf.entries a) c.in_default.is c.place_named.ensures.first in
-    ap (λ o. option_map (λ e. e.item) o) (sym (ap (λ xs. find test xs) (sym view) ∙ find-none test c.self.inside.shelf.entries none))
+    let none = subst (λ (a : Option ℕ). IsFirst test c.self.inside.slots.entries a) c.in_default.is c.place_named.ensures.first in
+    ap (λ o. option_map (λ e. e.item) o) (sym (ap (λ xs. find test xs) (sym view) ∙ find-none test c.self.inside.slots.entries none))
 
 pub returns-in_default-clause-entries : goal.returns-in_default-clause-entries
 returns-in_default-clause-entries g c =
     let test = has_name c.args.name.now in
     let view = ap (λ x. x.entries) c.self.view_is in
-    let none = subst (λ (a : Option ℕ). IsFirst test c.self.inside.shelf.entries a) c.in_default.is c.place_named.ensures.first in
-    sym view ∙ sym (filter-none test c.self.inside.shelf.entries none) ∙ ap (λ xs. without c.args.name.now xs) view
+    let none = subst (λ (a : Option ℕ). IsFirst test c.self.inside.slots.entries a) c.in_default.is c.place_named.ensures.first in
+    sym view ∙ sym (filter-none test c.self.inside.slots.entries none) ∙ ap (λ xs. without c.args.name.now xs) view
 
 pub invariant_of-self : goal.invariant_of-self
 invariant_of-self g c =
-    let items = c.self.inside.shelf.entries in
+    let items = c.self.inside.slots.entries in
     let place = c.in-Some.place in (
       subst (λ xs. IsInOrder name_of xs) (sym c.remove-item.ensures.entries) (order-remove name_of items place c.self.invariant.0),
       subst (λ xs. AreNamed name_of xs) (sym c.remove-item.ensures.entries) (all-remove (λ e. IsPattern e.name) items place c.self.invariant.1),
@@ -33,7 +33,7 @@ invariant_of-self g c =
 pub returns-clause-item : goal.returns-clause-item
 returns-clause-item g c =
     let test = has_name c.args.name.now in
-    let items = c.self.inside.shelf.entries in
+    let items = c.self.inside.slots.entries in
     let place = c.in-Some.place in
     let taken = c.remove-item.result in
     let view = ap (λ x. x.entries) c.self.view_is in
@@ -44,7 +44,7 @@ returns-clause-item g c =
 pub returns-clause-entries : goal.returns-clause-entries
 returns-clause-entries g c =
     let test = has_name c.args.name.now in
-    let items = c.self.inside.shelf.entries in
+    let items = c.self.inside.slots.entries in
     let place = c.in-Some.place in
     let view = ap (λ x. x.entries) c.self.view_is in
     let first = subst (λ (a : Option ℕ). IsFirst test items a) c.in-Some.is c.place_named.ensures.first in

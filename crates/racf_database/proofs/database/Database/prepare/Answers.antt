@@ -1,41 +1,75 @@
 use Rattle.std.proofs.Common.{◌≡◌, ◌∙◌, List, None, ap, sym, subst}
 use Rattle.racf_profiles.specs.declared.edits.Edit.{Edit}
 use Rattle.racf_profiles.specs.Edits.{changed}
-use Rattle.row_tables.specs.Tables.{users_in, groups_in, classes_in}
-use Rattle.row_tables.specs.Applying.{CanApplyTo, HasRoom}
+use Rattle.racf_profiles.specs.Lawful.{AreLawful}
+use Rattle.row_tables.specs.Applying.{CanApply, HasRoom}
 use Rattle.command_parser.specs.Forms.{canonical}
+use Rattle.command_parser.specs.LawfulFields.{AreLawfulFields}
+use Rattle.command_parser.specs.declared.fields.CommandFields.{CommandFields}
+use Rattle.command_parser.specs.declared.fields.CommandFields.TheVariants as command
+use Rattle.command_effects.specs.Effects.{step}
 use Rattle.command_effects.specs.Edits.{edits_of}
-use Rattle.command_conflicts.specs.Conflicts.{conflict_of}
+use Rattle.command_conflicts.specs.Unbuilt.{is_unbuilt}
+use Rattle.command_conflicts.specs.Conflicts.{conflict_of, conflicts, first_met}
+use Rattle.lawful_commands.proofs.ProfileRows.{PutsAreCounted}
+use Rattle.lawful_commands.proofs.EachCommand.{behind}
 use Rattle.racf_database.proofs.StepLaws.{changed-edits_of}
-use Rattle.racf_database.proofs.NewNames.{kind-spelled}
-use Rattle.racf_database.proofs.Ready.{can_apply-edits_of}
-use Rattle.racf_database.proofs.PermitFits.{permit-fits}
+use Rattle.racf_database.proofs.EachReady.{can_apply-edits_of, permit-fits}
 use Rattle.racf_database.proofs.database.Database.prepare.Goals as goal
 
--- what meets no conflict can be made
+-- PERMIT leaves lists that fit
 pub edits_of-requires : goal.edits_of-requires
-edits_of-requires c = permit-fits c.args.issuer.now c.args.command.now c.self.inside.tables.rows (ap (λ v. conflict_of c.args.issuer.now c.args.command.now v.rows) c.self.view_is ∙ c.requires)
+edits_of-requires c permit is =
+    let issuer = c.args.issuer.now in
+    let rows = c.self.inside.tables.rows in
+    let order = c.order_is_total.ensures in
+    let puts : PutsAreCounted = record { length = c.puts_are_counted.ensures.length; profiles = c.puts_are_counted.ensures.profiles; entries = c.puts_are_counted.ensures.entries } in
+    let free : conflict_of issuer c.args.command.now rows ≡ None = ap (λ v. conflict_of issuer c.args.command.now v.rows) c.self.view_is ∙ c.requires in
+    let met : first_met (conflicts issuer (command.Permit permit) rows) ≡ None =
+    subst (λ (fields : CommandFields). first_met (conflicts issuer fields rows) ≡ None) is (behind (is_unbuilt c.args.command.now) (conflicts issuer c.args.command.now rows) free) in
+    permit-fits order.either puts order.passed_on c.text_reads_back.ensures.pattern issuer permit rows c.self.invariant.lawful met
 
--- the rows are as they were, so what was made of them can be applied
+-- the rows are as they were, so what was made of them can be applied, and leaves lawful rows
 pub invariant_of-self-2 : goal.invariant_of-self-2
 invariant_of-self-2 c =
     let issuer = c.args.issuer.now in
-    let command = c.args.command.now in
+    let fields = c.args.command.now in
     let tables = c.reserve.new.self in
-    let same : tables.rows ≡ c.args.self.now.rows = c.in_ok-reserve.ensures.rows ∙ ap (λ v. v.rows) c.self.view_is in
-    let free : conflict_of issuer command tables.rows ≡ None = ap (conflict_of issuer command) same ∙ c.requires in
-    let of_rows : c.in_ok-edits.edits.items ≡ edits_of issuer command tables.rows =
-    c.in_ok-edits.ensures ∙ ap (λ v. edits_of issuer command v.rows) c.self.view_is ∙ sym (ap (edits_of issuer command) same) in
-    let made : c.in_ok-kept.kept.items ≡ edits_of issuer command tables.rows = c.in_ok-kept.ensures ∙ c.as_slice.ensures.value ∙ of_rows in
-    let kind = kind-spelled c.what_is_read_is_lawful.ensures issuer.id (canonical command) command (c.printed_is_read.ensures issuer.id) in
-    let class_room : HasRoom (classes_in tables) (edits_of issuer command tables.rows) =
-    subst (HasRoom (classes_in tables)) (c.as_slice-2.ensures.value ∙ of_rows) c.in_ok-reserve.ensures.profiles in
-    let lawful = c.are_lawful.ensures in
-    subst (CanApplyTo tables) (sym made)
-    (can_apply-edits_of (users_in tables) (groups_in tables) (classes_in tables) tables.rows.options lawful.groups lawful.users.few lawful.few_connections c.in_ok-reserve.ensures.users c.in_ok-reserve.ensures.groups
-    c.counts_are_enough.ensures c.found_is_lawful.ensures lawful.classes lawful.few_profiles lawful.few_entries issuer command kind class_room free)
+    let order = c.order_is_total.ensures in
+    let puts : PutsAreCounted = record { length = c.puts_are_counted.ensures.length; profiles = c.puts_are_counted.ensures.profiles; entries = c.puts_are_counted.ensures.entries } in
+    let same : tables.rows ≡ c.self.inside.tables.rows = c.in_ok-reserve.ensures.rows in
+    let lawful : AreLawful tables.rows = subst AreLawful (sym same) c.self.invariant.lawful in
+    let free : conflict_of issuer fields tables.rows ≡ None = ap (conflict_of issuer fields) (same ∙ ap (λ v. v.rows) c.self.view_is) ∙ c.requires in
+    let met : first_met (conflicts issuer fields tables.rows) ≡ None = behind (is_unbuilt fields) (conflicts issuer fields tables.rows) free in
+    let of_rows : c.in_ok-edits.edits.items ≡ edits_of issuer fields tables.rows = c.in_ok-edits.ensures ∙ sym (ap (edits_of issuer fields) same) in
+    let made : c.in_ok-kept.kept.items ≡ edits_of issuer fields tables.rows = c.in_ok-kept.ensures ∙ c.as_slice.ensures.value ∙ of_rows in
+    let own : AreLawfulFields fields = c.fields_of_a_text_are_lawful.ensures issuer.id (canonical fields) fields (c.printed_is_read.ensures issuer.id) in
+    let room : HasRoom tables (edits_of issuer fields tables.rows) = subst (HasRoom tables) (c.as_slice-2.ensures.value ∙ of_rows) c.in_ok-reserve.ensures.room in
+    let after : AreLawful (changed (edits_of issuer fields tables.rows) tables.rows) =
+    subst AreLawful (sym (changed-edits_of issuer fields tables.rows met)) (c.commands_leave_lawful_rows.ensures issuer fields tables.rows lawful own free) in
+    record {
+      lawful = lawful;
+      ready = record {
+        can = subst (CanApply tables) (sym made) (can_apply-edits_of order.either puts order.passed_on c.text_reads_back.ensures.pattern tables lawful issuer fields own met room after);
+        lawful = subst (λ (edits : List Edit). AreLawful (changed edits tables.rows)) (sym made) after;
+      };
+    }
 
 pub returns-clause-step : goal.returns-clause-step
 returns-clause-step c =
-    ap (λ (es : List Edit). changed es c.args.self.now.rows) (c.in_ok-edits.ensures ∙ ap (λ v. edits_of c.args.issuer.now c.args.command.now v.rows) c.self.view_is)
-    ∙ changed-edits_of c.args.issuer.now c.args.command.now c.args.self.now.rows c.requires
+    let issuer = c.args.issuer.now in
+    let fields = c.args.command.now in
+    let rows = c.args.self.now.rows in
+    ap (λ (es : List Edit). changed es rows) (c.in_ok-edits.ensures ∙ ap (λ v. edits_of issuer fields v.rows) c.self.view_is)
+    ∙ changed-edits_of issuer fields rows (behind (is_unbuilt fields) (conflicts issuer fields rows) c.requires)
+
+pub returns-clause-lawful : goal.returns-clause-lawful
+returns-clause-lawful c =
+    let issuer = c.args.issuer.now in
+    let fields = c.args.command.now in
+    let rows = c.args.self.now.rows in
+    let lawful : AreLawful rows = subst AreLawful (ap (λ v. v.rows) c.self.view_is) c.self.invariant.lawful in
+    let own : AreLawfulFields fields = c.fields_of_a_text_are_lawful.ensures issuer.id (canonical fields) fields (c.printed_is_read.ensures issuer.id) in
+    let after : AreLawful (changed (edits_of issuer fields rows) rows) =
+    subst AreLawful (sym (changed-edits_of issuer fields rows (behind (is_unbuilt fields) (conflicts issuer fields rows) c.requires))) (c.commands_leave_lawful_rows.ensures issuer fields rows lawful own c.requires) in
+    subst (λ (es : List Edit). AreLawful (changed es rows)) (sym (c.in_ok-edits.ensures ∙ ap (λ v. edits_of issuer fields v.rows) c.self.view_is)) after

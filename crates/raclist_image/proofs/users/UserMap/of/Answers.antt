@@ -4,7 +4,7 @@ use Rattle.std.proofs.lemmas.List.{map_more, take_all}
 use Rattle.racf_profiles.specs.declared.users.User.{User}
 use Rattle.indexmap.specs.IndexMap.{get}
 use Rattle.indexmap.proofs.CallerLemmas.{insert_entry-new}
-use Rattle.class_profiles.specs.Lawful.{AreUsers}
+use Rattle.racf_profiles.specs.LawfulUsers.{AreUsers}
 use Rattle.raclist_image.proofs.Named.{entry_of, values-entries, keys-entries, next_absent}
 use Rattle.raclist_image.proofs.users.UserMap.of.Goals as goal
 

@@ -1,6 +1,6 @@
 use Rattle.std.proofs.Common.{subst, bytes_eq}
 use Rattle.std.specs.List.{IsDistinct}
-use Rattle.class_profiles.specs.Lawful.{AreUsers}
+use Rattle.racf_profiles.specs.LawfulUsers.{AreUsers}
 use Rattle.row_tables.proofs.user_table.UserTable.len.Goals as goal
 
 -- each user stands under his ID, and the map has no ID twice

@@ -5,7 +5,7 @@ use Rattle.indexmap.specs.IndexMap.{values, spare}
 use Rattle.racf_profiles.specs.declared.users.User.{User}
 use Rattle.racf_profiles.specs.Lookup.{is_user}
 use Rattle.racf_profiles.specs.Edits.{put_row}
-use Rattle.row_tables.specs.Names.{connections, administrators, connected_to, administering, is_administrator}
+use Rattle.racf_profiles.specs.Names.{connections, special_users, connected_to, special_user_count, is_special_user}
 use Rattle.row_tables.proofs.Keyed.{lookup-named, values-insert_entry, named-insert_entry, IsNamed}
 use Rattle.row_tables.proofs.Counts.{part-le, put}
 use Rattle.row_tables.proofs.user_table.UserTable.put.Goals as goal
@@ -14,16 +14,16 @@ pub overflow_sub-self : goal.overflow_sub-self
 overflow_sub-self c = part-le connected_to _ _ c.args.user.id _ _ (ap (λ v. v.users) c.self.view_is) c.self.invariant.connections_counted c.share_of-before.ensures.connections
 
 pub overflow_sub-self-2 : goal.overflow_sub-self-2
-overflow_sub-self-2 c = part-le administering _ _ c.args.user.id _ _ (ap (λ v. v.users) c.self.view_is) c.self.invariant.administrators_counted c.share_of-before.ensures.administrators
+overflow_sub-self-2 c = part-le special_user_count _ _ c.args.user.id _ _ (ap (λ v. v.users) c.self.view_is) c.self.invariant.special_users_counted c.share_of-before.ensures.special_users
 
--- no more administrators than users
+-- no more special_users than users
 pub overflow_add-self-2 : goal.overflow_add-self-2
 overflow_add-self-2 c =
     let old = values c.self.inside.users in
     let now = put_row (is_user c.args.user.id) c.args.user old in
-    let count = put administering old _ c.args.user.id _ _ (ap (λ v. v.users) c.self.view_is) c.self.invariant.administrators_counted c.share_of-before.ensures.administrators c.args.user _ c.share_of_user-after.ensures.administrators in
+    let count = put special_user_count old _ c.args.user.id _ _ (ap (λ v. v.users) c.self.view_is) c.self.invariant.special_users_counted c.share_of-before.ensures.special_users c.args.user _ c.share_of_user-after.ensures.special_users in
     let few : length now ≤ 20000 = subst (λ v. length (put_row (is_user c.args.user.id) c.args.user v.users) ≤ 20000) (sym c.self.view_is) c.requires.few_users in
-    omega (arith, count, count_by-le-length is_administrator now, few)
+    omega (arith, count, count_by-le-length is_special_user now, few)
 
 pub unreachable-requires : goal.unreachable-requires
 unreachable-requires c =
@@ -46,12 +46,12 @@ invariant_of-self c =
     record {
       named = subst (IsNamed (λ (user : User). user.id)) (sym c.in-Ok.ensures.entries) (named-insert_entry (λ (user : User). user.id) c.args.user old.entries c.self.invariant.named);
       connections_counted = count ∙ ap connections (sym now);
-      administrators_counted = put administering (values old) _ c.args.user.id _ _ (ap (λ v. v.users) c.self.view_is) c.self.invariant.administrators_counted c.share_of-before.ensures.administrators c.args.user _ c.share_of_user-after.ensures.administrators ∙ ap administrators (sym now);
+      special_users_counted = put special_user_count (values old) _ c.args.user.id _ _ (ap (λ v. v.users) c.self.view_is) c.self.invariant.special_users_counted c.share_of-before.ensures.special_users c.args.user _ c.share_of_user-after.ensures.special_users ∙ ap special_users (sym now);
       few_users = omega (arith, ap (λ (us : List User). length us) now, few_users);
       few_connections = omega (arith, count, few_connections);
     }
 
-pub returns : goal.returns
-returns c =
+pub returns-clause-users : goal.returns-clause-users
+returns-clause-users c =
     ap (λ (es : List (List ℕ × User)). values_of es) c.in-Ok.ensures.entries ∙ values-insert_entry (λ (user : User). user.id) c.args.user c.self.inside.users.entries c.self.invariant.named
     ∙ ap (λ v. put_row (is_user c.args.user.id) c.args.user v.users) c.self.view_is

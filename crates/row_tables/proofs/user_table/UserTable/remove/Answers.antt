@@ -4,7 +4,7 @@ use Rattle.indexmap.specs.IndexMap.{values}
 use Rattle.racf_profiles.specs.declared.users.User.{User}
 use Rattle.racf_profiles.specs.Lookup.{is_user}
 use Rattle.racf_profiles.specs.Edits.{drop_row}
-use Rattle.row_tables.specs.Names.{connections, administrators, connected_to, administering}
+use Rattle.racf_profiles.specs.Names.{connections, special_users, connected_to, special_user_count}
 use Rattle.row_tables.proofs.Keyed.{values-remove_entry, named-remove_entry, IsNamed}
 use Rattle.row_tables.proofs.RowLaws.{length-drop_row-le}
 use Rattle.row_tables.proofs.Counts.{part-le, dropped}
@@ -14,7 +14,7 @@ pub overflow_sub-self : goal.overflow_sub-self
 overflow_sub-self c = part-le connected_to _ _ c.args.id _ _ (ap (λ v. v.users) c.self.view_is) c.self.invariant.connections_counted c.share_of-share.ensures.connections
 
 pub overflow_sub-self-2 : goal.overflow_sub-self-2
-overflow_sub-self-2 c = part-le administering _ _ c.args.id _ _ (ap (λ v. v.users) c.self.view_is) c.self.invariant.administrators_counted c.share_of-share.ensures.administrators
+overflow_sub-self-2 c = part-le special_user_count _ _ c.args.id _ _ (ap (λ v. v.users) c.self.view_is) c.self.invariant.special_users_counted c.share_of-share.ensures.special_users
 
 pub invariant_of-self : goal.invariant_of-self
 invariant_of-self c =
@@ -24,7 +24,7 @@ invariant_of-self c =
     record {
       named = subst (IsNamed (λ (user : User). user.id)) (sym c.shift_remove.ensures.entries) (named-remove_entry (λ (user : User). user.id) c.args.id old.entries c.self.invariant.named);
       connections_counted = dropped connected_to _ _ c.args.id _ _ (ap (λ v. v.users) c.self.view_is) c.self.invariant.connections_counted c.share_of-share.ensures.connections ∙ ap connections (sym now);
-      administrators_counted = dropped administering _ _ c.args.id _ _ (ap (λ v. v.users) c.self.view_is) c.self.invariant.administrators_counted c.share_of-share.ensures.administrators ∙ ap administrators (sym now);
+      special_users_counted = dropped special_user_count _ _ c.args.id _ _ (ap (λ v. v.users) c.self.view_is) c.self.invariant.special_users_counted c.share_of-share.ensures.special_users ∙ ap special_users (sym now);
       few_users = omega (arith, ap (λ (us : List User). length us) now, length-drop_row-le (is_user c.args.id) (values old), c.self.invariant.few_users);
       few_connections = omega (arith, c.self.invariant.few_connections);
     }

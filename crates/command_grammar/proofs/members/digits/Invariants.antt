@@ -1,9 +1,0 @@
-use Rattle.std.proofs.Common.{◌≡◌, ◌<◌, drop}
-use Rattle.command_grammar.specs.Members.{number_behind}
-use Rattle.command_grammar.proofs.members.digits.Given as goal
-
-abbrev pub invariant-loop-byte : goal.invariant-loop-byte
-invariant-loop-byte l = record {
-  same : number_behind l.number (drop l.byte-index l.word) ≡ number_behind 0 l.word;
-  low : l.number < 20000;
-}

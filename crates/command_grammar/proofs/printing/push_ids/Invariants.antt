@@ -1,6 +1,0 @@
-use Rattle.std.proofs.Common.{◌≡◌, ◌++◌, drop}
-use Rattle.command_grammar.specs.Values.{more_text}
-use Rattle.command_grammar.proofs.printing.push_ids.Given as goal
-
-abbrev pub invariant-loop-id : goal.invariant-loop-id
-invariant-loop-id l = l.out.items ++ more_text (drop l.id-index l.rest) ≡ l.initial.out.items ++ more_text l.rest

@@ -1,7 +1,0 @@
-use Rattle.std.proofs.Common.{◌≡◌, ◌++◌, drop, map}
-use Rattle.command_grammar.specs.Values.{more_text}
-use Rattle.command_grammar.specs.ProfileNames.{profile_text}
-use Rattle.command_grammar.proofs.printing.push_member_names.Given as goal
-
-abbrev pub invariant-loop-name : goal.invariant-loop-name
-invariant-loop-name l = l.out.items ++ more_text (map profile_text (drop l.name-index l.rest)) ≡ l.initial.out.items ++ more_text (map profile_text l.rest)

@@ -1,6 +1,0 @@
-use Rattle.std.proofs.Common.{◌≡◌, ◌++◌, drop}
-use Rattle.command_grammar.specs.Entries.{more_whos_text}
-use Rattle.command_grammar.proofs.printing.push_whos.Given as goal
-
-abbrev pub invariant-loop-who : goal.invariant-loop-who
-invariant-loop-who l = l.out.items ++ more_whos_text (drop l.who-index l.rest) ≡ l.initial.out.items ++ more_whos_text l.rest

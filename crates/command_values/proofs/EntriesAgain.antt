@@ -1,0 +1,121 @@
+-- Users and groups, and ports of entry, are read again from how they are written.
+use Rattle.std.proofs.Common.{◌≡◌, ℕ, suc, ◌+◌, List, [], ◌∷◌, ◌++◌, length, map, true, false, None, Some, Ok, refl, ap, ◌∙◌, arith, append_assoc, length-append}
+use Rattle.std.specs.List.{list_all}
+use Rattle.std.specs.Result.{result_ok}
+use Rattle.access_levels.specs.declared.entries.Who.{Who}
+use Rattle.access_levels.specs.declared.entries.Who.TheVariants.{Star, Named}
+use Rattle.access_levels.specs.declared.entries.PortClass.{PortClass}
+use Rattle.access_levels.specs.declared.entries.PortClass.TheVariants.{Terminal, Console, Jesinput, Appcport}
+use Rattle.access_levels.specs.declared.entries.Condition.{Condition}
+use Rattle.access_levels.specs.Level.{port_class_name}
+use Rattle.access_levels.specs.Spelling.{id_of}
+use Rattle.command_words.specs.declared.quoting.Quoting.TheVariants.{Ignored, Outside}
+use Rattle.command_words.specs.Bytes.{upper}
+use Rattle.command_words.specs.Tokens.{Word, within, group_end, tokens, tokens_from}
+use Rattle.command_words.specs.ValuedWords.{Valued, valued_words, faulty_at}
+use Rattle.command_words.proofs.Letters.{is_letter, Outside-steady}
+use Rattle.command_words.proofs.Spelled.{is_calm, letter-calm, word_token, word_alone, group_token, group_end-calm, group_end-nested}
+use Rattle.command_values.specs.declared.value_kinds.ValueKind.TheVariants as kinds
+use Rattle.command_values.specs.Results.{◌>>=◌}
+use Rattle.command_values.specs.WordsOfValues.{unless_stray}
+use Rattle.command_values.specs.Entries.{more_whos_text, whos_text, port_class_of, port_name, port, port_text}
+use Rattle.command_values.specs.Values.{name_of, more_text, ids_text}
+use Rattle.command_values.specs.LawfulValues.{AreNames, AreNamed, AreWhos}
+use Rattle.command_values.proofs.Names.{name-plain, all_of}
+
+all_calm : (w : List ℕ) → list_all is_letter w ≡ true → list_all is_calm w ≡ true
+all_calm w h = all_of is_letter is_calm letter-calm w h
+
+-- the names of users and groups
+pub ids_of : List Who → List (List ℕ)
+ids_of [] = []
+ids_of (Star ∷ ws) = ids_of ws
+ids_of (Named x ∷ ws) = x ∷ ids_of ws
+
+named_ids : (ws : List Who) → AreNamed ws → map Named (ids_of ws) ≡ ws
+unfolding ids_of
+named_ids [] h = refl
+named_ids (Star ∷ ws) h = absurd h
+named_ids (Named x ∷ ws) h = ap (λ us. Named x ∷ us) (named_ids ws h.1)
+
+names_named : (ws : List Who) → AreNamed ws → AreNames kinds.Ids (ids_of ws)
+unfolding ids_of
+names_named [] h = tt
+names_named (Star ∷ ws) h = absurd h
+names_named (Named x ∷ ws) h = (h.0, names_named ws h.1)
+
+more_named : (ws : List Who) → AreNamed ws → more_whos_text ws ≡ more_text (ids_of ws)
+unfolding ids_of
+more_named [] h = refl
+more_named (Star ∷ ws) h = absurd h
+more_named (Named x ∷ ws) h = ap (λ bs. 32 ∷ (x ++ bs)) (more_named ws h.1)
+
+-- users and groups as names
+pub record AreListed (x : List ℕ) (ws : List Who) : Type 0 where
+  pub others : List (List ℕ)
+  pub whole : map Named (x ∷ others) ≡ Named x ∷ ws
+  pub text : whos_text (Named x ∷ ws) ≡ ids_text (x ∷ others)
+  pub named : AreNames kinds.Ids (x ∷ others)
+
+pub listed : (x : List ℕ) (ws : List Who) → AreWhos (Named x ∷ ws) → AreListed x ws
+listed x ws h =
+    record {
+      others = ids_of ws;
+      whole = ap (λ us. Named x ∷ us) (named_ids ws h.1);
+      text = ap (λ bs. x ++ bs) (more_named ws h.1);
+      named = (h.0, names_named ws h.1);
+    }
+
+-- ports of entry
+port_calm : (c : PortClass) → list_all is_calm (port_class_name c) ≡ true
+port_calm Terminal = refl
+port_calm Console = refl
+port_calm Jesinput = refl
+port_calm Appcport = refl
+
+port_items : (q b : ℕ) (w inside : List ℕ) → list_all is_letter (b ∷ w) ≡ true → list_all is_calm inside ≡ true
+    → valued_words (tokens_from Outside false 0 (suc q) (b ∷ (w ++ (40 ∷ (inside ++ 41 ∷ []))))) ≡ Valued (suc q) (b ∷ w) (within (suc q + length (b ∷ w)) inside) ∷ []
+port_items q b w inside letters calm =
+    ap valued_words (word_token Outside Outside-steady false (suc q) b w (40 ∷ (inside ++ 41 ∷ [])) letters refl
+    ∙ ap (λ ts. Word (suc q) (b ∷ w) ∷ ts) (group_token Outside true (suc q + length (b ∷ w)) inside []
+    (group_end-calm (suc q + length (b ∷ w)) (suc (suc q + length (b ∷ w))) inside [] calm)))
+
+port_name-again : (p n : ℕ) (x : List ℕ) → name_of kinds.Id x ≡ Some x → port_name p (valued_words (tokens (within n x))) ≡ Ok x
+unfolding tokens
+port_name-again p n [] h = let no : id_of [] ≡ Ok [] = (name-plain kinds.Id [] [] h).spelled in cc
+port_name-again p n (b ∷ w) h =
+    let plain = name-plain kinds.Id (b ∷ w) (b ∷ w) h in
+    let sound : faulty_at Ignored (suc n) (b ∷ w) ≡ None = plain.sound (suc n) in
+    let named : result_ok (id_of (map upper (b ∷ w))) ≡ Some (b ∷ w) = h in
+    ap (λ ts. port_name p (valued_words ts)) (word_alone Outside Outside-steady false (suc n) b w plain.letters) ∙ rw (sound, named) refl
+
+port_one : (p q n : ℕ) (name : List ℕ) (c : PortClass) (x : List ℕ) → name_of kinds.Id x ≡ Some x → faulty_at Ignored (suc q) name ≡ None → port_class_of (map upper name) ≡ Some c
+    → port p (Valued (suc q) name (within n x) ∷ []) ≡ Ok (record { class = c; name = x })
+port_one p q n name c x h sound class =
+    rw (sound, class) (ap (λ r. (r >>= λ y. Ok (record { class = c; name = y })) >>= λ d. unless_stray None d) (port_name-again (suc q) n x h))
+
+port-again : (p q : ℕ) (c : PortClass) (x : List ℕ) → name_of kinds.Id x ≡ Some x → port p (valued_words (tokens (within q (port_text (record { class = c; name = x }))))) ≡ Ok (record { class = c; name = x })
+unfolding tokens
+port-again p q Terminal x h =
+    ap (port p) (port_items q 84 (69 ∷ 82 ∷ 77 ∷ 73 ∷ 78 ∷ 65 ∷ 76 ∷ []) x refl (all_calm x (name-plain kinds.Id x x h).letters))
+    ∙ port_one p q (suc q + 8) (port_class_name Terminal) Terminal x h refl refl
+port-again p q Console x h =
+    ap (port p) (port_items q 67 (79 ∷ 78 ∷ 83 ∷ 79 ∷ 76 ∷ 69 ∷ []) x refl (all_calm x (name-plain kinds.Id x x h).letters))
+    ∙ port_one p q (suc q + 7) (port_class_name Console) Console x h refl refl
+port-again p q Jesinput x h =
+    ap (port p) (port_items q 74 (69 ∷ 83 ∷ 73 ∷ 78 ∷ 80 ∷ 85 ∷ 84 ∷ []) x refl (all_calm x (name-plain kinds.Id x x h).letters))
+    ∙ port_one p q (suc q + 8) (port_class_name Jesinput) Jesinput x h refl refl
+port-again p q Appcport x h =
+    ap (port p) (port_items q 65 (80 ∷ 80 ∷ 67 ∷ 80 ∷ 79 ∷ 82 ∷ 84 ∷ []) x refl (all_calm x (name-plain kinds.Id x x h).letters))
+    ∙ port_one p q (suc q + 8) (port_class_name Appcport) Appcport x h refl refl
+
+pub port_again : (p q : ℕ) (c : Condition) → name_of kinds.Id c.name ≡ Some c.name → port p (valued_words (tokens (within q (port_text c)))) ≡ Ok c
+port_again p q c h = port-again p q c.class c.name h
+
+pub port_ends : (outer p : ℕ) (c : Condition) (rest : List ℕ) → name_of kinds.Id c.name ≡ Some c.name → group_end outer Outside 0 p (port_text c ++ 41 ∷ rest) ≡ Ok (p + length (port_text c))
+port_ends outer p c rest h =
+    let name : List ℕ = port_class_name c.class in
+    let count : p + length name + length c.name + 2 ≡ p + length (port_text c) = omega (arith, length-append name (40 ∷ (c.name ++ 41 ∷ [])), length-append c.name (41 ∷ [])) in
+    ap (λ bs. group_end outer Outside 0 p bs) (append_assoc name (40 ∷ (c.name ++ 41 ∷ [])) (41 ∷ rest) ∙ ap (λ bs. name ++ (40 ∷ bs)) (append_assoc c.name (41 ∷ []) (41 ∷ rest)))
+    ∙ group_end-nested outer p name c.name (41 ∷ rest) (port_calm c.class) (all_calm c.name (name-plain kinds.Id c.name c.name h).letters)
+    ∙ ap Ok count

@@ -1,0 +1,13 @@
+pub mod Names
+pub mod NameBytes
+pub mod Patterns
+pub mod AuditAgain
+pub mod EntriesAgain
+pub mod MemberParts
+pub mod WordItems
+pub mod MembersAgain
+pub mod ValueAgain
+pub mod Outcomes
+pub mod AuditLawful
+pub mod MembersLawful
+pub mod ValueLawful

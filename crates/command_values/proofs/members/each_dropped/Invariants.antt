@@ -1,0 +1,11 @@
+use Rattle.std.proofs.Common.{◌≡◌, [], length}
+use Rattle.command_words.specs.Tokens.{tokens}
+use Rattle.command_words.specs.ValuedWords.{valued_words}
+use Rattle.command_values.specs.Members.{dropped_in, each_of}
+use Rattle.command_values.proofs.members.each_dropped.Given as goal
+
+abbrev pub invariant-loop-item : goal.invariant-loop-item
+invariant-loop-item l = each_of (dropped_in l.form) l.names.items (valued_words (tokens l.left)) ≡ each_of (dropped_in l.form) [] (valued_words (tokens l.fn.inner))
+
+abbrev pub decreases-loop-item : goal.decreases-loop-item
+decreases-loop-item l = length (valued_words (tokens l.left))

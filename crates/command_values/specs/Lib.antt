@@ -1,0 +1,9 @@
+pub mod OperandWords
+pub mod Results
+pub mod WordsOfValues
+pub mod ProfileNames
+pub mod Audits
+pub mod Entries
+pub mod Members
+pub mod Values
+pub mod LawfulValues

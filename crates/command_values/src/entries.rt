@@ -1,0 +1,111 @@
+//! Whose entries PERMIT means, and at which port of entry.
+
+ghost use Rattle.std.specs.Prelude.{◌≡◌, ◌∷◌, [], IfOk, map};
+ghost use Rattle.std.specs.Result.{result_ok};
+ghost use Rattle.std.specs.Str.{bytes_eq};
+ghost use Rattle.std.specs.Prelude.{codes};
+ghost use Rattle.access_levels.specs.Spelling.{id_of};
+ghost use Rattle.access_levels.specs.declared.entries.Who.TheVariants.{Named};
+ghost use Rattle.command_words.specs.Bytes.{upper};
+ghost use Rattle.command_words.specs.Tokens.{tokens};
+ghost use Rattle.command_words.specs.ValuedWords.{valued_words, IsValuedInReach};
+ghost use Rattle.command_words.specs.Pieces.{seen_valued};
+ghost use Rattle.command_values.specs.Results.{Gives, Finds};
+ghost use Rattle.command_values.specs.Entries.{star_alone, port_class_of, port_name as name_in, port_of as port_in_item, port as port_in};
+ghost use Rattle.command_values.specs.Values.{whos as whos_in};
+
+use crate::faults::{ParseFault, Syntax};
+use crate::value_kinds::ValueKind;
+use crate::value_reading::{id_named, names};
+use crate::value_words::{clean, held, refused_at, stray, unless_stray, word_of};
+use crate::values::{PORT_CLASSES, Whos};
+use access_levels::{Condition, Id, PortClass, Who};
+use command_words::{Quoting, Tokens, ValuedWord, is_spelled};
+use std::alloc::{AllocError, Global};
+
+fn port_class_named(word: &[u8]) -> Option<PortClass>
+    ensures { result ≡ port_class_of (map upper word.now) }
+{
+    PORT_CLASSES
+        .iter()
+        .copied()
+        .find(|class| is_spelled(word, class.name()))
+}
+
+/// The name of the port, in the parentheses behind its class at `place`.
+fn port_name(place: u32, inner: Tokens<'_>) -> Result<Id, Syntax>
+    ensures { Finds (λ x. x) result (name_in place (valued_words (tokens inner.entry))) }
+{
+    let (place, word, stray) = held(Quoting::Ignored, place, inner)?;
+    let name = id_named(word).ok_or(Syntax::BadValue(place))?;
+    unless_stray(stray, name)
+}
+
+fn port_of(item: ValuedWord<'_>) -> Result<Condition, Syntax>
+    requires { IsValuedInReach (seen_valued item) }
+    ensures { Finds (λ c. c) result (port_in_item (seen_valued item.entry)) }
+{
+    match item {
+        ValuedWord::Valued(place, word, inner) => {
+            let word = clean(Quoting::Ignored, place, word)?;
+            let class = port_class_named(word).ok_or(Syntax::BadValue(place))?;
+            let name = port_name(place, inner)?;
+            Ok(Condition { class, name })
+        }
+        other => Err(Syntax::BadValue(refused_at(Quoting::Ignored, other))),
+    }
+}
+
+/// The port of entry in the parentheses of an operand at `place`.
+pub fn port(place: u32, inner: Tokens<'_>) -> Result<Condition, Syntax>
+    ensures { Finds (λ c. c) result (port_in place (valued_words (tokens inner.entry))) }
+{
+    let Some((item, rest)) = inner.split_valued() else {
+        return Err(Syntax::BadValue(place));
+    };
+    let condition = port_of(item)?;
+    unless_stray(stray(Quoting::Ignored, &rest), condition)
+}
+
+/// The users and groups of these names.
+fn named(alloc: Global, ids: &[Id]) -> Result<Whos, AllocError>
+    ensures { IfOk result (λ whos. whos ≡ map Named ids.now) }
+{
+    let mut items = Vec::with_capacity(alloc, ids.len())?;
+    for id in ids {
+        items.push(Who::Named(*id))?;
+    }
+    Ok(Whos { items })
+}
+
+fn only_star(alloc: Global) -> Result<Whos, AllocError>
+    ensures { IfOk result (λ whos. whos ≡ star_alone) }
+{
+    let mut items = Vec::with_capacity(alloc, 1)?;
+    items.push(Who::Star)?;
+    Ok(Whos { items })
+}
+
+fn is_star(word: &[u8]) -> bool
+    ensures { result ≡ bytes_eq word.now (codes "*") }
+{
+    word == b"*".as_slice()
+}
+
+/// Users and groups, or `*` alone, in the parentheses of an operand at `place`.
+pub fn whos(alloc: Global, place: u32, inner: Tokens<'_>) -> Result<Whos, ParseFault>
+    ensures { Gives (λ ws. ws) result (whos_in place (valued_words (tokens inner.entry))) }
+{
+    let Some((item, rest)) = inner.split_valued() else {
+        return Err(ParseFault::Syntax(Syntax::BadValue(place)));
+    };
+    let (_, word) = word_of(Quoting::Ignored, item)?;
+    if !is_star(word) {
+        let ids = names(alloc, ValueKind::Ids, inner)?;
+        return Ok(named(alloc, &ids.items)?);
+    }
+    match stray(Quoting::Ignored, &rest) {
+        Some(place) => Err(ParseFault::Syntax(Syntax::BadValue(place))),
+        None => Ok(only_star(alloc)?),
+    }
+}

@@ -1,0 +1,290 @@
+//! The reading of values: the word or words in an operand's parentheses, and of a positional word.
+
+ghost use Rattle.std.specs.Prelude.{◌≡◌, [], false, length, map, IfOk};
+ghost use Rattle.std.specs.List.{list_all};
+ghost use Rattle.std.specs.Option.{option_map};
+ghost use Rattle.std.specs.Result.{result_ok};
+ghost use Rattle.access_levels.specs.Spelling.{id_of, group_of, authority_of, level_of};
+ghost use Rattle.command_words.specs.Bytes.{upper};
+ghost use Rattle.command_words.specs.Tokens.{tokens};
+ghost use Rattle.command_words.specs.ValuedWords.{valued_words};
+ghost use Rattle.command_values.specs.Results.{Gives, Finds};
+ghost use Rattle.command_values.specs.Values.{unless_dataset, name_of as name_in, name_text, is_name as names_user, is_printable, unquoted as text_between, reset_of, one as one_of, quotes_of as quoting_of, single as single_of, names as names_of, several as several_of, value as value_of, generic_at as generic_in, bare as bare_of};
+
+use crate::audits::audit_rule;
+use crate::entries::{port, whos};
+use crate::faults::{ParseFault, Syntax};
+use crate::members::{added, dropped, member_form};
+use crate::profile_names::{class_profile, dataset_named};
+use crate::value_kinds::ValueKind;
+use crate::value_words::{held, unless_stray, word_of};
+use crate::values::{Content, Ids, RESETS, Reset, Scope};
+use access_levels::{GroupAuthority, Id, Level, Text};
+use command_words::{Quoting, ShortWord, Tokens, is_spelled};
+use generic_names::Pattern;
+use std::alloc::{AllocError, Global};
+
+/// The name with an ID's spelling that a word is.
+pub fn id_named(word: &[u8]) -> Option<Id>
+    ensures { result ≡ result_ok (id_of (map upper word.now)) }
+{
+    let short = ShortWord::of(word)?;
+    Id::read(short.as_slice()).ok()
+}
+
+fn group_named(word: &[u8]) -> Option<Id>
+    ensures { result ≡ result_ok (group_of (map upper word.now)) }
+{
+    let short = ShortWord::of(word)?;
+    Id::read_group(short.as_slice()).ok()
+}
+
+fn class_named(word: &[u8]) -> Option<Id>
+    ensures { result ≡ unless_dataset (result_ok (id_of (map upper word.now))) }
+{
+    let id = id_named(word)?;
+    if id.text() == b"DATASET".as_slice() {
+        None
+    } else {
+        Some(id)
+    }
+}
+
+fn authority_named(word: &[u8]) -> Option<GroupAuthority>
+    ensures { result ≡ authority_of (map upper word.now) }
+{
+    let short = ShortWord::of(word)?;
+    GroupAuthority::read(short.as_slice())
+}
+
+/// The name that a word spells where a name of this kind stands.
+fn name_of(kind: ValueKind, word: &[u8]) -> Option<Id>
+    ensures { result ≡ name_in kind word.now }
+{
+    match kind {
+        ValueKind::Id => id_named(word),
+        ValueKind::Ids => id_named(word),
+        ValueKind::Group => group_named(word),
+        ValueKind::Classes => class_named(word),
+        ValueKind::Class => id_named(word),
+        _ => None,
+    }
+}
+
+/// How quotes count in a value of this kind.
+fn quotes_of(kind: ValueKind) -> Quoting
+    ensures { result ≡ quoting_of kind }
+{
+    match kind {
+        ValueKind::Name => Quoting::Outside,
+        _ => Quoting::Ignored,
+    }
+}
+
+/// GENERIC at `place`, with a profile's name if that is known.
+fn generic_at(profile: Option<Pattern>, place: u32) -> Result<Content, Syntax>
+    ensures { Finds (λ v. v) result (generic_in profile place) }
+{
+    match profile {
+        Some(name) if !name.is_generic() => Err(Syntax::BadValue(place)),
+        _ => Ok(Content::Generic(place)),
+    }
+}
+
+/// An operand alone, without a value.
+pub fn bare(at: &Scope, kind: ValueKind, place: u32) -> Result<Content, Syntax>
+    ensures { Finds (λ v. v) result (bare_of at.now kind place) }
+{
+    match kind {
+        ValueKind::Flag => Ok(Content::Flag),
+        ValueKind::Reset => Ok(Content::Reset(Reset::All)),
+        ValueKind::Generic => generic_at(at.known.profile, place),
+        _ => Err(Syntax::BadValue(place)),
+    }
+}
+
+/// The text between quotes, behind whose opening one `bytes` stands, where the word ends with the closing one.
+fn unquoted(alloc: Global, bytes: &[u8]) -> Result<Option<Vec<u8>>, AllocError>
+    ensures { IfOk result (λ text. option_map (λ t. t.items) text ≡ text_between false [] bytes.now) }
+{
+    let mut text = Vec::new(alloc);
+    let mut met = false;
+    let mut rest = bytes;
+    while let Some((byte, behind)) = rest.split_first() {
+        rest = behind;
+        if *byte == b'\'' {
+            if met {
+                text.push(b'\'')?;
+            }
+            met = !met;
+        } else if met {
+            return Ok(None);
+        } else {
+            text.push(*byte)?;
+        }
+    }
+    Ok(if met { Some(text) } else { None })
+}
+
+fn is_printable(byte: u8) -> bool
+    ensures { result ≡ is_printable byte }
+{
+    byte >= 0x20 && byte <= 0x7e
+}
+
+fn are_printable(text: &[u8]) -> bool
+    ensures { result ≡ list_all is_printable text.now }
+{
+    text.iter().all(|byte| is_printable(*byte))
+}
+
+fn is_name(text: &[u8]) -> bool
+    ensures { result ≡ names_user text.now }
+{
+    text.len() >= 1 && text.len() <= 20 && are_printable(text)
+}
+
+/// The text of a user's name, which a word in quotes is.
+fn name_named(alloc: Global, word: &[u8]) -> Result<Option<Text>, AllocError>
+    ensures { IfOk result (λ text. text ≡ name_text word.now) }
+{
+    let Some((byte, rest)) = word.split_first() else {
+        return Ok(None);
+    };
+    if *byte != b'\'' {
+        return Ok(None);
+    }
+    let Some(text) = unquoted(alloc, rest)? else {
+        return Ok(None);
+    };
+    if !is_name(text.as_slice()) {
+        return Ok(None);
+    }
+    Ok(Some(Text::of(alloc, text.as_slice())?))
+}
+
+/// The access level that a word is.
+pub fn level_named(word: &[u8]) -> Option<Level>
+    ensures { result ≡ level_of (map upper word.now) }
+{
+    let short = ShortWord::of(word)?;
+    Level::read(short.as_slice())
+}
+
+fn reset_named(word: &[u8]) -> Option<Reset>
+    ensures { result ≡ reset_of (map upper word.now) }
+{
+    RESETS
+        .iter()
+        .copied()
+        .find(|reset| is_spelled(word, reset.name()))
+}
+
+/// The value that a word is.
+pub fn one(
+    alloc: Global,
+    at: &Scope,
+    kind: ValueKind,
+    place: u32,
+    word: &[u8],
+) -> Result<Content, ParseFault>
+    ensures { Gives (λ v. v) result (one_of at.now kind place word.now) }
+{
+    let bad = Syntax::BadValue(place);
+    match kind {
+        ValueKind::Id => Ok(Content::Id(name_of(kind, word).ok_or(bad)?)),
+        ValueKind::Group => Ok(Content::Id(name_of(kind, word).ok_or(bad)?)),
+        ValueKind::Class => Ok(Content::Id(name_of(kind, word).ok_or(bad)?)),
+        ValueKind::Authority => Ok(Content::Authority(authority_named(word).ok_or(bad)?)),
+        ValueKind::Name => Ok(Content::Name(name_named(alloc, word)?.ok_or(bad)?)),
+        ValueKind::Level => Ok(Content::Level(level_named(word).ok_or(bad)?)),
+        ValueKind::DataSetProfile => {
+            Ok(Content::Profile(dataset_named(alloc, at.issuer, word)?.ok_or(bad)?))
+        }
+        ValueKind::ClassProfile => {
+            Ok(Content::Profile(class_profile(alloc, at.known.class, word)?.ok_or(bad)?))
+        }
+        ValueKind::Reset => Ok(Content::Reset(reset_named(word).ok_or(bad)?)),
+        _ => Err(ParseFault::Syntax(bad)),
+    }
+}
+
+/// A value of one word. Where there is no word it is refused at `place`.
+pub fn single(
+    alloc: Global,
+    at: &Scope,
+    kind: ValueKind,
+    place: u32,
+    inner: Tokens<'_>,
+) -> Result<Content, ParseFault>
+    ensures { Gives (λ v. v) result (single_of at.now kind place (valued_words (tokens inner.entry))) }
+{
+    let (place, word, stray) = held(quotes_of(kind), place, inner)?;
+    let content = one(alloc, at, kind, place, word)?;
+    Ok(unless_stray(stray, content)?)
+}
+
+/// The names of a list.
+pub fn names(alloc: Global, kind: ValueKind, inner: Tokens<'_>) -> Result<Ids, ParseFault>
+    ensures { Gives (λ xs. xs) result (names_of kind [] (valued_words (tokens inner.entry))) }
+{
+    let mut ids = Vec::new(alloc);
+    let mut left = inner;
+    while let Some((item, rest)) = left.split_valued() {
+        let (place, word) = word_of(Quoting::Ignored, item)?;
+        let id = name_of(kind, word).ok_or(Syntax::BadValue(place))?;
+        ids.push(id)?;
+        left = rest;
+    }
+    Ok(Ids { items: ids })
+}
+
+/// A list of one name or more. Where there is none it is refused at `place`.
+fn several(
+    alloc: Global,
+    kind: ValueKind,
+    place: u32,
+    inner: Tokens<'_>,
+) -> Result<Content, ParseFault>
+    ensures { Gives (λ v. v) result (several_of kind place (valued_words (tokens inner.entry))) }
+{
+    if inner.split_valued().is_none() {
+        return Err(ParseFault::Syntax(Syntax::BadValue(place)));
+    }
+    Ok(Content::Ids(names(alloc, kind, inner)?))
+}
+
+/// The value in the parentheses behind an operand at `place`.
+pub fn value(
+    alloc: Global,
+    at: &Scope,
+    kind: ValueKind,
+    place: u32,
+    inner: Tokens<'_>,
+) -> Result<Content, ParseFault>
+    ensures { Gives (λ v. v) result (value_of at.now kind place (valued_words (tokens inner.entry))) }
+{
+    match kind {
+        ValueKind::Ids => several(alloc, kind, place, inner),
+        ValueKind::Classes => several(alloc, kind, place, inner),
+        ValueKind::Id => single(alloc, at, kind, place, inner),
+        ValueKind::Group => single(alloc, at, kind, place, inner),
+        ValueKind::Class => single(alloc, at, kind, place, inner),
+        ValueKind::Authority => single(alloc, at, kind, place, inner),
+        ValueKind::Name => single(alloc, at, kind, place, inner),
+        ValueKind::Level => single(alloc, at, kind, place, inner),
+        ValueKind::Reset => single(alloc, at, kind, place, inner),
+        ValueKind::Audit => Ok(Content::Audit(audit_rule(place, inner)?)),
+        ValueKind::Whos => Ok(Content::Whos(whos(alloc, place, inner)?)),
+        ValueKind::When => Ok(Content::When(port(place, inner)?)),
+        ValueKind::AddedMembers => {
+            let form = member_form(&at.known);
+            Ok(Content::Members(added(alloc, form, place, inner)?))
+        }
+        ValueKind::DroppedMembers => {
+            let form = member_form(&at.known);
+            Ok(Content::MemberNames(dropped(alloc, form, place, inner)?))
+        }
+        _ => Err(ParseFault::Syntax(Syntax::BadValue(place))),
+    }
+}

@@ -1,0 +1,142 @@
+//! The values of positional words and operands.
+
+use access_levels::{Condition, GroupAuthority, Id, Level, PortClass, Text, Who};
+use generic_names::{MemberName, Pattern};
+use racf_profiles::{AuditRule, Members};
+use std::marker::Model;
+
+/// Names in the order in which they were given.
+#[derive(Debug, Drop)]
+pub struct Ids {
+    pub items: Vec<Id>,
+}
+
+impl Model for Ids {
+    ghost use Rattle.std.specs.Prelude.{List, ℕ};
+
+    ghost Value = { List (List ℕ) };
+
+    ghost view = { λ ids. ids.items.items };
+}
+
+/// Users and groups in the order in which they were given, or `*` alone.
+#[derive(Debug, Drop)]
+pub struct Whos {
+    pub items: Vec<Who>,
+}
+
+impl Model for Whos {
+    ghost use Rattle.std.specs.Prelude.{List};
+    ghost use Rattle.access_levels.specs.declared.entries.Who.{Who};
+
+    ghost Value = { List Who };
+
+    ghost view = { λ whos. whos.items.items };
+}
+
+/// Names of members in the order in which they were given.
+#[derive(Drop)]
+pub struct MemberNames {
+    pub items: Vec<MemberName>,
+}
+
+impl Model for MemberNames {
+    ghost use Rattle.std.specs.Prelude.{List};
+    ghost use Rattle.generic_names.specs.Spelled.{Spelled};
+
+    ghost Value = { List Spelled };
+
+    ghost view = { λ names. names.items.items };
+}
+
+/// Which access lists PERMIT empties.
+#[derive(Clone, Copy, Debug, PartialEq, Eq)]
+pub enum Reset {
+    /// Both.
+    All,
+    Standard,
+    /// The conditional one.
+    When,
+}
+
+/// The classes of the ports of entry.
+pub const PORT_CLASSES: [PortClass; 4] = [
+    PortClass::Terminal,
+    PortClass::Console,
+    PortClass::Jesinput,
+    PortClass::Appcport,
+];
+
+/// The words of RESET.
+pub const RESETS: [Reset; 3] = [Reset::All, Reset::Standard, Reset::When];
+
+impl Reset {
+    ghost use Rattle.std.specs.Prelude.{◌≡◌};
+    ghost use Rattle.command_values.specs.Values.{reset_name};
+
+    /// The word that spells it.
+    pub fn name(self) -> &'static [u8]
+        ensures { result.now ≡ reset_name self }
+    {
+        match self {
+            Reset::All => b"ALL".as_slice(),
+            Reset::Standard => b"STANDARD".as_slice(),
+            Reset::When => b"WHEN".as_slice(),
+        }
+    }
+}
+
+/// The value of a positional word or an operand.
+#[derive(Drop)]
+pub enum Content {
+    /// The operand stands, and takes no value.
+    Flag,
+    /// A user, a group, a class, a level, a label.
+    Id(Id),
+    /// A group authority.
+    Authority(GroupAuthority),
+    /// The text of a user's name, without its quotes.
+    Name(Text),
+    /// A list of names.
+    Ids(Ids),
+    /// An access level.
+    Level(Level),
+    /// Which accesses are logged.
+    Audit(AuditRule),
+    /// The name of a profile.
+    Profile(Pattern),
+    /// Which access lists are emptied.
+    Reset(Reset),
+    /// Users and groups, or `*`.
+    Whos(Whos),
+    /// A port of entry.
+    When(Condition),
+    /// Members of a profile.
+    Members(Members),
+    /// Names of members of a profile.
+    MemberNames(MemberNames),
+    /// GENERIC, at its place. No command that was read has it.
+    Generic(u32),
+}
+
+/// What the reading of a command depends on beside its text.
+#[derive(Clone, Copy, Debug)]
+pub struct Context {
+    /// Who gives the command.
+    pub issuer: Id,
+}
+
+/// What the positional words in front tell of the words behind them.
+#[derive(Clone, Copy)]
+pub struct Known {
+    pub class: Option<Id>,
+    pub profile: Option<Pattern>,
+}
+
+/// What the reading of a value may depend on beside its text.
+#[derive(Clone, Copy)]
+pub struct Scope {
+    /// Who gives the command.
+    pub issuer: Id,
+    pub known: Known,
+}

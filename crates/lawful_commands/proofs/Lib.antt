@@ -1,0 +1,15 @@
+pub mod RowLists
+pub mod Kept
+pub mod UserRows
+pub mod UserParts
+pub mod UserCommands
+pub mod GroupCommands
+pub mod ProfileRows
+pub mod MemberLists
+pub mod EntryLists
+pub mod ProfileNames
+pub mod ProfileCommands
+pub mod FieldFacts
+pub mod EachCommand
+pub mod NewRows
+pub mod Switches

@@ -1,0 +1,72 @@
+use Rattle.std.proofs.Common.{◌≡◌, ◌+◌, ◌-◌, ◌<◌, ℕ, List, length, map, take, drop, get_or, ap, sym, subst, ◌∙◌, arith}
+use Rattle.std.specs.List.{remove}
+use Rattle.std.proofs.lemmas.List.{take_at, length-map, get_or_default}
+use Rattle.profile_index.specs.EntrySlots.{in_slots, renamed, IsKept}
+use Rattle.profile_index.proofs.SlotLaws.{length-in_slots, remove-kept, remove-slots, removed-slot, removed-entry}
+use Rattle.profile_index.proofs.entry_slots.EntrySlots.remove.Goals as goal
+
+pub remove-slot-requires : goal.remove-slot-requires
+remove-slot-requires g c =
+    let size = length-in_slots c.self.inside.slots.items c.self.inside.order.items c.self.invariant.0.there in
+    let view = ap (λ x. length x.entries) c.self.view_is in
+    omega (arith, size, view, c.self.inside.order.ok.0, c.requires)
+
+pub invariant_of-self : goal.invariant_of-self
+invariant_of-self g c =
+    let slots = c.self.inside.slots.items in
+    let order = c.self.inside.order.items in
+    let others = c.swap_remove-entry.new.self.items in
+    let slot = c.remove-slot.result in
+    let size = length-in_slots slots order c.self.invariant.0.there in
+    let view = ap (λ x. length x.entries) c.self.view_is in
+    let within : c.args.place < length order = omega (arith, size, view, c.requires) in
+    let fewer : length others + 1 ≡ length slots = omega (arith, c.swap_remove-entry.ensures.len, c.swap_remove-entry.new.self.ok.0, c.self.inside.slots.ok.0) in
+    let is_slot = removed-slot order c.args.place slot within c.remove-slot.ensures.value in
+    let left = c.remove-slot.new.self.items in
+    let count : c.len.result ≡ length others = c.len.ensures ∙ c.swap_remove-entry.new.self.ok.0 in
+    let new = c.rename.ensures ∙ ap (λ xs. map (λ s. renamed c.len.result slot s) xs) c.deref_mut.ensures.value in
+    let new_size : length c.rename.new.order ≡ c.remove-slot.new.self.len = ap (λ (xs : List ℕ). length xs) new ∙ length-map left (λ s. renamed c.len.result slot s) ∙ sym c.remove-slot.new.self.ok.0 in
+    let written = take_at c.rename.new.order (drop (length c.rename.new.order) left) c.remove-slot.new.self.len new_size ∙ new
+    ∙ ap (λ n. map (λ s. renamed n slot s) left) count ∙ ap (λ xs. map (λ s. renamed (length others) slot s) xs) c.remove-slot.ensures.items in
+    let old_len = c.self.inside.slots.ok.0 in (
+      subst (λ xs. IsKept others xs) (sym written)
+          (remove-kept slots others order c.self.invariant.0 c.args.place within slot is_slot fewer
+          (λ d h. c.swap_remove-entry.ensures.by_index.0 d (omega (arith, h, old_len)) ∙ ap (λ n. get_or slots (n - 1) d) old_len)
+          (λ k d other h. c.swap_remove-entry.ensures.by_index.1 k d other (omega (arith, h, old_len)))),
+      omega (arith, c.swap_remove-entry.ensures.len, c.swap_remove-entry.ensures.capacity, c.self.invariant.1),
+      omega (arith, c.remove-slot.ensures.len, c.remove-slot.ensures.capacity, c.self.invariant.2),
+    )
+
+pub returns-clause-entry : goal.returns-clause-entry
+returns-clause-entry g c =
+    let slots = c.self.inside.slots.items in
+    let order = c.self.inside.order.items in
+    let size = length-in_slots slots order c.self.invariant.0.there in
+    let view = ap (λ x. length x.entries) c.self.view_is in
+    let within : c.args.place < length order = omega (arith, size, view, c.requires) in
+    removed-entry slots order c.self.invariant.0 c.args.place c.remove-slot.result c.swap_remove-entry.result within c.remove-slot.ensures.value c.swap_remove-entry.ensures.value
+    ∙ ap (λ x. get_or x.entries c.args.place c.swap_remove-entry.result) c.self.view_is
+
+pub returns-clause-entries : goal.returns-clause-entries
+returns-clause-entries g c =
+    let slots = c.self.inside.slots.items in
+    let order = c.self.inside.order.items in
+    let others = c.swap_remove-entry.new.self.items in
+    let slot = c.remove-slot.result in
+    let size = length-in_slots slots order c.self.invariant.0.there in
+    let view = ap (λ x. length x.entries) c.self.view_is in
+    let within : c.args.place < length order = omega (arith, size, view, c.requires) in
+    let fewer : length others + 1 ≡ length slots = omega (arith, c.swap_remove-entry.ensures.len, c.swap_remove-entry.new.self.ok.0, c.self.inside.slots.ok.0) in
+    let is_slot = removed-slot order c.args.place slot within c.remove-slot.ensures.value in
+    let left = c.remove-slot.new.self.items in
+    let count : c.len.result ≡ length others = c.len.ensures ∙ c.swap_remove-entry.new.self.ok.0 in
+    let new = c.rename.ensures ∙ ap (λ xs. map (λ s. renamed c.len.result slot s) xs) c.deref_mut.ensures.value in
+    let new_size : length c.rename.new.order ≡ c.remove-slot.new.self.len = ap (λ (xs : List ℕ). length xs) new ∙ length-map left (λ s. renamed c.len.result slot s) ∙ sym c.remove-slot.new.self.ok.0 in
+    let written = take_at c.rename.new.order (drop (length c.rename.new.order) left) c.remove-slot.new.self.len new_size ∙ new
+    ∙ ap (λ n. map (λ s. renamed n slot s) left) count ∙ ap (λ xs. map (λ s. renamed (length others) slot s) xs) c.remove-slot.ensures.items in
+    let old_len = c.self.inside.slots.ok.0 in
+    ap (λ xs. in_slots others xs) written
+    ∙ remove-slots slots others order c.self.invariant.0 c.args.place within slot is_slot fewer
+    (λ d h. c.swap_remove-entry.ensures.by_index.0 d (omega (arith, h, old_len)) ∙ ap (λ n. get_or slots (n - 1) d) old_len)
+    (λ k d other h. c.swap_remove-entry.ensures.by_index.1 k d other (omega (arith, h, old_len)))
+    ∙ ap (λ x. remove x.entries c.args.place) c.self.view_is

@@ -1,0 +1,117 @@
+ghost use Rattle.std.specs.Prelude.{◌≡◌, ℕ, ◌+◌, ◌<◌, ◌≤◌, [], length, map, max, get_or, IsOk, OnOk, OnErr, Some};
+ghost use Rattle.std.specs.List.{slice_get, insert, remove};
+ghost use Rattle.profile_index.specs.EntrySlots.{renamed};
+
+use crate::entry::Entry;
+use std::alloc::{AllocError, Global};
+use std::marker::Model;
+
+/// Entries by their places. They stand in slots of no order, and the numbers of the slots in the order of
+/// the entries, so that an entry goes in or out without moving the others.
+#[derive(Drop)]
+pub(crate) struct EntrySlots<T> {
+    slots: Vec<Entry<T>>,
+    order: Vec<usize>,
+    spare: usize,
+}
+
+impl<T> Model for EntrySlots<T> {
+    ghost use Rattle.std.specs.Prelude.{ℕ, ◌+◌, ◌≤◌, vec_len};
+    ghost use Rattle.std.specs.Vec.{vec_capacity};
+    ghost use Rattle.profile_index.specs.Indexed.{Indexed};
+    ghost use Rattle.profile_index.specs.EntrySlots.{in_slots, IsKept};
+
+    ghost Value = { Indexed T };
+
+    ghost view = { λ s. record { entries = in_slots s.slots.items s.order.items; spare = s.spare } };
+
+    ghost invariant = { λ s. IsKept s.slots.items s.order.items × (vec_len s.slots + s.spare ≤ vec_capacity s.slots) × (vec_len s.order + s.spare ≤ vec_capacity s.order) };
+}
+
+impl<T> EntrySlots<T> {
+    /// Without entries. It takes no memory yet.
+    pub(crate) fn new(alloc: Global) -> EntrySlots<T>
+        ensures empty { result.entries ≡ [] }
+        ensures none_spare { result.spare ≡ 0 }
+    {
+        EntrySlots {
+            slots: Vec::new(alloc),
+            order: Vec::new(alloc),
+            spare: 0,
+        }
+    }
+
+    /// Makes room for at least this many entries more.
+    pub(crate) fn reserve(&mut self, n: usize) -> Result<(), AllocError>
+        ensures spare { OnOk result (self.new.spare ≡ max self.old.spare n) }
+        ensures entries { self.new.entries ≡ self.old.entries }
+        ensures err { OnErr result (self.new.spare ≡ self.old.spare) }
+        ensures enough { n ≤ self.old.spare → IsOk result }
+    {
+        if self.spare < n {
+            self.slots.reserve(n)?;
+            self.order.reserve(n)?;
+            self.spare = n;
+        }
+        Ok(())
+    }
+
+    pub(crate) fn len(&self) -> usize
+        ensures { result ≡ length self.now.entries }
+    {
+        self.order.len()
+    }
+
+    pub(crate) fn spare(&self) -> usize
+        ensures { result ≡ self.now.spare }
+    {
+        self.spare
+    }
+
+    /// The entry at a place.
+    pub(crate) fn entry(&self, place: usize) -> &Entry<T>
+        requires { place < length self.now.entries }
+        ensures there { slice_get self.now.entries place ≡ Some result.now }
+        ensures value { result.now ≡ get_or self.now.entries place result.now }
+    {
+        &self.slots[self.order[place]]
+    }
+
+    /// Puts an entry in at a place.
+    pub(crate) fn insert(&mut self, place: usize, entry: Entry<T>)
+        requires room { 0 < self.old.spare }
+        requires place { place ≤ length self.old.entries }
+        ensures entries { self.new.entries ≡ insert self.old.entries place entry }
+        ensures spare { self.new.spare + 1 ≡ self.old.spare }
+    {
+        let slot = self.slots.len();
+        self.slots.push(entry).unwrap();
+        self.order.insert(place, slot).unwrap();
+        self.spare -= 1;
+    }
+
+    /// Takes the entry at a place out.
+    pub(crate) fn remove(&mut self, place: usize) -> Entry<T>
+        requires { place < length self.old.entries }
+        ensures entry { result ≡ get_or self.old.entries place result }
+        ensures entries { self.new.entries ≡ remove self.old.entries place }
+        ensures spare { self.new.spare ≡ self.old.spare + 1 }
+    {
+        let slot = self.order.remove(place);
+        let entry = self.slots.swap_remove(slot);
+        rename(&mut self.order, self.slots.len(), slot);
+        self.spare += 1;
+        entry
+    }
+}
+
+/// Gives a slot another number.
+fn rename(order: &mut [usize], from: usize, to: usize)
+    ensures { order.new ≡ map (λ slot. renamed from to slot) order.old }
+{
+    for k in 0..order.len() {
+        if order[k] == from {
+            order[k] = to;
+        }
+    }
+}

@@ -1,0 +1,254 @@
+-- What each statement prints, and what the printed line says of it.
+use Rattle.std.proofs.Common.{◌≡◌, ℕ, zero, suc, ◌+◌, ◌<◌, ◌≤◌, ◌/◌, ◌%◌, Bool, true, false, ◌||◌, List, [], ◌∷◌, ◌++◌, None, Some, Ok, Err, refl, sym, ◌∙◌, ap, inl, inr, arith, append_assoc}
+use Rattle.std.specs.Prelude.{◌⊎◌, ◌==◌, nat_eq, nat_le, Option, Result, codes, decimal, is_some, if◌then◌else◌}
+use Rattle.std.specs.Fmt.{digits, digits_onto, digit_glyph}
+use Rattle.std.specs.List.{starts_with}
+use Rattle.std.proofs.Math.Nat.{mod-lt}
+use Rattle.std.proofs.lemmas.Bool.{ne_eqb}
+use Rattle.std.proofs.lemmas.Bool.Decides.{nat_tests}
+use Rattle.acee.specs.declared.acee.Acee.{Acee}
+use Rattle.acee.specs.declared.request.VerifyRequest.{VerifyRequest}
+use Rattle.acee.specs.declared.request.VerifyFault.{VerifyFault}
+use Rattle.acee.specs.declared.request.VerifyFault.TheVariants as verify
+use Rattle.raclist_image.specs.Imaged.{Imaged}
+use Rattle.decision.specs.declared.outcome.Decision.{Decision}
+use Rattle.decision.specs.Table.{decided}
+use Rattle.decision.specs.Verify.{verified}
+use Rattle.request_files.specs.declared.acees.NamedAcee.{NamedAcee}
+use Rattle.request_files.specs.declared.line.LineRefusal.{LineRefusal}
+use Rattle.request_files.specs.declared.line.LineRefusal.TheVariants as fault
+use Rattle.request_files.specs.Answers as words
+use Rattle.request_files.specs.Answers.{numbered, refused_words, unbuilt_words, verified_words, verify_fault_words, deleted_words, rule_words, decision_words, answer_line, never_line}
+use Rattle.request_files.specs.Acees.{acee_named, put_refusal}
+use Rattle.request_files.specs.Grammar.{Access, Line, Verify, Auth, Fastauth, Delete, After, Skip, read}
+use Rattle.request_files.specs.Worked as request
+use Rattle.command_parser.specs.declared.fields.CommandFields.{CommandFields}
+use Rattle.racf_run.specs.declared.statement.Statement.{Statement}
+use Rattle.racf_run.specs.declared.statement.Statement.TheVariants as item
+use Rattle.racf_run.specs.declared.reply.Refusal.{Refusal}
+use Rattle.racf_run.specs.declared.reply.Refusal.TheVariants as refusal
+use Rattle.racf_run.specs.Replies.{refusal_words, reply_line}
+use Rattle.racf_run.specs.Commands.{refusal_of, read_command}
+use Rattle.racf_run.specs.Requests.{is_unbuilt_line}
+use Rattle.racf_run.specs.Stream as s
+use Rattle.racf_run.specs.Stream.{State, Answer}
+use Rattle.racf_run.specs.Printed.{Turn, printed, behind, PrintsOneLine, behind_blank, says_refused}
+
+-- ---- decimal numbers
+
+abbrev AllDigits : List ℕ → Type 0
+AllDigits [] = Unit {0}
+AllDigits (b ∷ bs) = (48 ≤ b) × (b < 58) × AllDigits bs
+
+glyph_least : (d : ℕ) → d < 10 → 48 ≤ digit_glyph false d
+glyph_least d h = grind (arith, nat_tests)
+
+glyph_most : (d : ℕ) → d < 10 → digit_glyph false d < 58
+glyph_most d h = grind (arith, nat_tests)
+
+either_digits : (b : Bool) (xs ys : List ℕ) → AllDigits xs → AllDigits ys → AllDigits (if b then xs else ys)
+either_digits true xs ys p q = p
+either_digits false xs ys p q = q
+
+one_more : (n : ℕ) (acc : List ℕ) → AllDigits acc → AllDigits (digit_glyph false (n % 10) ∷ acc)
+one_more n acc h =
+    let within : n % 10 < 10 = mod-lt n (omega arith) in
+    (glyph_least (n % 10) within, glyph_most (n % 10) within, h)
+
+digits_onto-AllDigits : (k n : ℕ) (acc : List ℕ) → AllDigits acc → AllDigits (digits_onto k 10 false n acc)
+digits_onto-AllDigits zero n acc h = h
+digits_onto-AllDigits (suc k) n acc h =
+    either_digits (n / 10 == 0) _ _ (one_more n acc h) (digits_onto-AllDigits k (n / 10) (digit_glyph false (n % 10) ∷ acc) (one_more n acc h))
+
+decimal-AllDigits : (n : ℕ) → AllDigits (decimal n)
+unfolding digits
+decimal-AllDigits n = digits_onto-AllDigits 64 n [] tt
+
+no_blank : (d : ℕ) → 48 ≤ d → (d == 32) ≡ false
+no_blank d h = ne_eqb d 32 (λ e. omega arith)
+
+behind_digits : (ds rest : List ℕ) → AllDigits ds → behind_blank (ds ++ 32 ∷ rest) ≡ rest
+behind_digits [] rest h = refl
+behind_digits (d ∷ ds) rest h = rw (no_blank d h.0) (behind_digits ds rest h.2)
+
+never_other : (d : ℕ) → d < 58 → nat_eq 78 d ≡ false
+never_other d h = ne_eqb 78 d (λ e. omega arith)
+
+refused_other : (d : ℕ) → d < 58 → nat_eq 82 d ≡ false
+refused_other d h = ne_eqb 82 d (λ e. omega arith)
+
+digits_not_never : (ds rest : List ℕ) → AllDigits ds → starts_with nat_eq (ds ++ 32 ∷ rest) (codes "NEVER ") ≡ false
+digits_not_never [] rest h = refl
+digits_not_never (d ∷ ds) rest h = rw (never_other d h.1) refl
+
+digits_not_refused : (ds rest : List ℕ) → AllDigits ds → starts_with nat_eq (ds ++ 32 ∷ rest) (codes "REFUSED ") ≡ false
+digits_not_refused [] rest h = refl
+digits_not_refused (d ∷ ds) rest h = rw (refused_other d h.1) refl
+
+-- ---- what a line says, by its words
+
+numbered_parts : (n : ℕ) (words : List ℕ) → numbered n words ≡ decimal n ++ 32 ∷ (words ++ codes "\n")
+numbered_parts n words =
+    append_assoc (decimal n ++ codes " ") words (codes "\n") ∙ append_assoc (decimal n) (codes " ") (words ++ codes "\n")
+
+by_words : (ds rest : List ℕ) → AllDigits ds → says_refused (ds ++ 32 ∷ rest) ≡ starts_with nat_eq rest (codes "REFUSED ")
+by_words ds rest h = rw (digits_not_never ds rest h, behind_digits ds rest h) refl
+
+numbered_says : (n : ℕ) (words : List ℕ) → says_refused (numbered n words) ≡ starts_with nat_eq (words ++ codes "\n") (codes "REFUSED ")
+numbered_says n words = ap says_refused (numbered_parts n words) ∙ by_words (decimal n) (words ++ codes "\n") (decimal-AllDigits n)
+
+refused_says : (n : ℕ) (words : List ℕ) → says_refused (numbered n (codes "REFUSED " ++ words)) ≡ true
+refused_says n words = numbered_says n (codes "REFUSED " ++ words)
+
+decision_starts : (rc : ℕ) (words : List ℕ) → starts_with nat_eq (((decimal rc ++ codes " ") ++ words) ++ codes "\n") (codes "REFUSED ") ≡ false
+decision_starts rc words =
+    ap (λ line. starts_with nat_eq line (codes "REFUSED ")) (numbered_parts rc words)
+    ∙ digits_not_refused (decimal rc) (words ++ codes "\n") (decimal-AllDigits rc)
+
+decision_says : (n : ℕ) (d : Decision) → false ≡ says_refused (answer_line n d)
+unfolding answer_line
+decision_says n d = sym (numbered_says n (decision_words d) ∙ decision_starts d.rc (rule_words d.rule d))
+
+-- ---- requests
+
+-- an outcome's text says whether it refuses, and is one line or none
+record Tells (number : ℕ) (o : request.Outcome) : Type 0 where
+  says : o.refused ≡ says_refused o.text
+  line : (o.text ≡ []) ⊎ (((words : List ℕ) × (o.text ≡ numbered number words)) ⊎ (o.text ≡ never_line number))
+
+tells_words : (number : ℕ) (o : request.Outcome) (words : List ℕ) → o.text ≡ numbered number words → o.refused ≡ says_refused o.text → Tells number o
+tells_words number o words is says = record { says = says; line = inr (inl (words, is)) }
+
+tells_either : (number : ℕ) (b : Bool) (x y : request.Outcome) → Tells number x → Tells number y → Tells number (if b then x else y)
+tells_either number true x y p q = p
+tells_either number false x y p q = q
+
+module _ (image : Imaged) (acees : List NamedAcee) where
+  tells_refused : (why : LineRefusal) → Tells image.generation (request.refused image acees why)
+  tells_refused why = tells_words image.generation _ (refused_words why) refl (sym (refused_says image.generation (words.refusal_words why)))
+
+  tells_unbuilt : Tells image.generation (request.unbuilt image acees)
+  tells_unbuilt = tells_words image.generation _ unbuilt_words refl (sym (numbered_says image.generation unbuilt_words))
+
+  fault_says : (cause : VerifyFault) → false ≡ starts_with nat_eq (verify_fault_words cause ++ codes "\n") (codes "REFUSED ")
+  fault_says verify.NotDefined = refl
+  fault_says verify.NotConnected = refl
+  fault_says verify.Revoked = refl
+  fault_says verify.ConnectRevoked = refl
+  fault_says verify.Port = refl
+  fault_says verify.Application = refl
+  fault_says verify.Label = refl
+  fault_says verify.NoMemory = refl
+
+  tells_verify_told : (name : List ℕ) (result : Result Acee VerifyFault) → Tells image.generation (request.verify_told image acees name result)
+  tells_verify_told name (Ok acee) = tells_words image.generation _ verified_words refl (sym (numbered_says image.generation verified_words))
+  tells_verify_told name (Err cause) =
+      tells_words image.generation _ (verify_fault_words cause) refl (fault_says cause ∙ sym (numbered_says image.generation (verify_fault_words cause)))
+
+  tells_verify_unless : (name : List ℕ) (asked : VerifyRequest) (why : Option LineRefusal) → Tells image.generation (request.verify_unless image acees name asked why)
+  tells_verify_unless name asked (Some why) = tells_refused why
+  tells_verify_unless name asked None = tells_verify_told name (verified image.state image.generation asked)
+
+  tells_auth : (name : List ℕ) (access : Access) (acee : Option Acee) → Tells image.generation (request.auth_for image acees name access acee)
+  unfolding answer_line
+  tells_auth name access None = tells_refused (fault.NoAcee name)
+  tells_auth name access (Some acee) =
+      let decision = decided image.state image.generation acee access.class access.name access.asked in
+      tells_words image.generation _ (decision_words decision) refl (decision_says image.generation decision)
+
+  tells_delete : (name : List ℕ) (acee : Option Acee) → Tells image.generation (request.delete_for image acees name acee)
+  tells_delete name None = tells_refused (fault.NoAcee name)
+  tells_delete name (Some acee) = tells_words image.generation _ deleted_words refl (sym (numbered_says image.generation deleted_words))
+
+  tells_nothing : Tells image.generation (request.answered image acees [])
+  tells_nothing = record { says = refl; line = inl refl }
+
+  tells_line : (line : Line) → Tells image.generation (request.line_worked image acees line)
+  tells_line (Verify name asked) =
+      tells_either image.generation (is_some asked.label) (request.unbuilt image acees) (request.verify_unless image acees name asked (put_refusal name acees)) tells_unbuilt (tells_verify_unless name asked (put_refusal name acees))
+  tells_line (Auth name access) = tells_auth name access (acee_named name acees)
+  tells_line (Fastauth name access) = tells_unbuilt
+  tells_line (Delete name) = tells_delete name (acee_named name acees)
+  tells_line (After number) =
+      tells_either image.generation (nat_le number image.generation) (request.answered image acees []) (request.refused_with image acees (never_line image.generation)) tells_nothing (record { says = refl; line = inr (inr refl) })
+  tells_line Skip = tells_nothing
+
+  tells_worked : (line : Result Line LineRefusal) → Tells image.generation (request.worked image acees line)
+  tells_worked (Ok line) = tells_line line
+  tells_worked (Err why) = tells_refused (request.told acees why)
+
+-- ---- answers to statements
+
+-- An answer's text says whether it refuses, and is one line or none.
+record Says (before : State) (a : Answer) : Type 0 where
+  says : a.state.has_refused ≡ (before.has_refused || says_refused a.text)
+  line : (a.text ≡ []) ⊎ (((words : List ℕ) × (a.text ≡ numbered a.state.number words)) ⊎ (a.text ≡ never_line a.state.number))
+
+or_true : (b : Bool) → true ≡ (b || true)
+or_true true = refl
+or_true false = refl
+
+or_false : (b : Bool) → b ≡ (b || false)
+or_false true = refl
+or_false false = refl
+
+says_either : (before : State) (b : Bool) (x y : Answer) → Says before x → Says before y → Says before (if b then x else y)
+says_either before true x y p q = p
+says_either before false x y p q = q
+
+says_refuse : (why : Refusal) (before : State) → Says before (s.refuse why before)
+unfolding reply_line
+says_refuse why before =
+    record {
+      says = or_true before.has_refused ∙ ap (λ b. before.has_refused || b) (sym (refused_says before.number (refusal_words why)));
+      line = inr (inl (codes "REFUSED " ++ refusal_words why, refl));
+    }
+
+says_accept : (form : CommandFields) (before : State) → Says before (s.accept form before)
+unfolding reply_line
+says_accept form before =
+    record {
+      says = or_false before.has_refused ∙ ap (λ b. before.has_refused || b) (sym (numbered_says (before.number + 1) (codes "ACCEPTED")));
+      line = inr (inl (codes "ACCEPTED", refl));
+    }
+
+says_unless : (why : Option Refusal) (form : CommandFields) (before : State) → Says before (s.unless_refused why form before)
+says_unless (Some why) form before = says_refuse why before
+says_unless None form before = says_accept form before
+
+says_read : (read : Result CommandFields Refusal) (before : State) → Says before (s.process_read read before)
+says_read (Err why) before = says_refuse why before
+says_read (Ok form) before = says_unless (refusal_of form before.number before.rows) form before
+
+says_command : (text : List ℕ) (before : State) → Says before (s.command text before)
+unfolding s.command
+says_command text before = says_read (read_command text) before
+
+says_with : (o : request.Outcome) (before : State) → Tells before.number o → Says before (s.answer_with o before)
+says_with o before t =
+    record { says = ap (λ b. before.has_refused || b) t.says; line = t.line }
+
+says_request : (text : List ℕ) (before : State) → Says before (s.request text before)
+unfolding s.request
+says_request text before =
+    says_either before (is_unbuilt_line text (read text)) (s.refuse refusal.NotBuilt before) (s.answer_line (read text) before) (says_refuse refusal.NotBuilt before) (says_with (request.worked (s.image_of before) before.acees (read text)) before (tells_worked (s.image_of before) before.acees (read text)))
+
+says_answer : (i : Statement) (before : State) → Says before (s.answer i before)
+says_answer (item.Command text) before = says_command text before
+says_answer (item.Request text) before = says_request text before
+says_answer item.NotBuilt before = says_refuse refusal.NotBuilt before
+says_answer item.LineTooLong before = says_refuse refusal.LineTooLong before
+
+pub item_says : (i : Statement) (before : State) → (s.step i before).has_refused ≡ (before.has_refused || says_refused (s.text i before))
+unfolding s.step s.text
+item_says i before = (says_answer i before).says
+
+line_by : (turn : Turn) → ((printed turn ≡ []) ⊎ (((words : List ℕ) × (printed turn ≡ numbered (behind turn).number words)) ⊎ (printed turn ≡ never_line (behind turn).number))) → PrintsOneLine turn
+line_by turn (inl none) = inl none
+line_by turn (inr (inl line)) = inr (inl (record { words = line.0; is_line = line.1 }))
+line_by turn (inr (inr never)) = inr (inr never)
+
+-- a statement prints one line or none
+pub item_line : (turn : Turn) → PrintsOneLine turn
+unfolding s.step s.text
+item_line turn = line_by turn (says_answer turn.item turn.before).line

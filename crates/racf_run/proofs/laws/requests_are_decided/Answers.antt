@@ -1,0 +1,12 @@
+use Rattle.std.proofs.Common.{◌∙◌, ap}
+use Rattle.racf_run.specs.Stream.{text}
+use Rattle.racf_run.proofs.DecidedLaws.{auth_text, verify_text}
+use Rattle.racf_run.proofs.laws.requests_are_decided.Goals as goal
+
+pub returns-clause-auth : goal.returns-clause-auth
+returns-clause-auth c =
+    λ turn line acee access user is reads found. ap (λ item. text item turn.before) is ∙ auth_text line acee access user turn.before reads found
+
+pub returns-clause-verify : goal.returns-clause-verify
+returns-clause-verify c =
+    λ turn line acee asked is reads none free. ap (λ item. text item turn.before) is ∙ verify_text line acee asked turn.before reads none free

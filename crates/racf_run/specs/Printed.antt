@@ -1,0 +1,46 @@
+-- What a reader of an output finds there: a line for each statement that prints, in the order of the statements.
+use Rattle.std.specs.Prelude.{◌≡◌, ◌⊎◌, ℕ, ◌==◌, nat_eq, Bool, ◌||◌, List, [], ◌∷◌, ◌++◌, codes, if◌then◌else◌}
+use Rattle.std.specs.List.{starts_with}
+use Rattle.request_files.specs.Answers.{numbered, never_line}
+use Rattle.racf_run.specs.declared.statement.Statement.{Statement}
+use Rattle.racf_run.specs.Stream.{State, step, text}
+use Rattle.racf_run.specs.Script.{stream}
+
+-- A statement at its turn: what stands before it.
+pub record Turn : Type 0 where
+  pub item : Statement
+  pub before : State
+
+-- the turns of these statements, from a state on
+abbrev pub turns : List Statement → State → List Turn
+turns [] s = []
+turns (item ∷ items) s = record { item = item; before = s } ∷ turns items (step item s)
+
+-- the turns of a whole input
+abbrev pub input_turns : List ℕ → List Turn
+input_turns bytes = turns (stream.items bytes) stream.start
+
+-- what is printed at a turn, and what stands behind it
+abbrev pub printed : Turn → List ℕ
+printed turn = text turn.item turn.before
+
+abbrev pub behind : Turn → State
+behind turn = step turn.item turn.before
+
+-- What is printed at a turn: nothing; or one line, whose words stand behind the number of the commands that have been
+-- accepted, this one counted; or that this number is never reached.
+pub record PrintsWords (turn : Turn) : Type 0 where
+  pub words : List ℕ
+  pub is_line : printed turn ≡ numbered (behind turn).number words
+
+abbrev pub PrintsOneLine : Turn → Type 0
+PrintsOneLine turn = (printed turn ≡ []) ⊎ (PrintsWords turn ⊎ (printed turn ≡ never_line (behind turn).number))
+
+-- what stands behind the first blank
+abbrev pub behind_blank : List ℕ → List ℕ
+behind_blank [] = []
+behind_blank (byte ∷ bytes) = if byte == 32 then bytes else behind_blank bytes
+
+-- A line says that a line of the input was refused: REFUSED stands behind its number, or NEVER in front.
+abbrev pub says_refused : List ℕ → Bool
+says_refused line = starts_with nat_eq line (codes "NEVER ") || starts_with nat_eq (behind_blank line) (codes "REFUSED ")

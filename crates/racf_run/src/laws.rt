@@ -1,0 +1,49 @@
+//! Laws of the definitions, for a reader of an output. The functions do nothing: their contracts are what is proved.
+
+ghost use Rattle.std.specs.Prelude.{◌≡◌, ℕ, List, ◌∷◌, ◌++◌, map, None, Some, Ok, if◌then◌else◌};
+ghost use Rattle.std.specs.List.{concat, list_any};
+ghost use Rattle.decision.specs.Table.{decided};
+ghost use Rattle.decision.specs.Verify.{verified};
+ghost use Rattle.racf_profiles.specs.State.{restart};
+ghost use Rattle.acee.specs.declared.acee.Acee.{Acee};
+ghost use Rattle.acee.specs.declared.request.VerifyRequest.{VerifyRequest};
+ghost use Rattle.request_files.specs.Acees.{acee_named, put_refusal};
+ghost use Rattle.request_files.specs.Answers.{answer_line};
+ghost use Rattle.request_files.specs.Grammar.{Access, Auth, Verify, read};
+ghost use Rattle.request_files.specs.Worked.{verify_told};
+ghost use Rattle.racf_run.specs.declared.statement.Statement.{Statement};
+ghost use Rattle.racf_run.specs.declared.statement.Statement.TheVariants.{Request};
+ghost use Rattle.racf_run.specs.declared.status.Status.TheVariants.{Done, Refusals};
+ghost use Rattle.racf_run.specs.Runs.{after};
+ghost use Rattle.racf_run.specs.Script.{stream, script_output, script_status};
+ghost use Rattle.racf_run.specs.Stream.{image_of, step};
+ghost use Rattle.racf_run.specs.Printed.{Turn, input_turns, turns, printed, PrintsOneLine, says_refused};
+
+/// The output of a whole input is what its statements print at their turns, in order; each prints one line or nothing.
+/// The state at a statement's turn is that behind the statements before it.
+pub fn an_item_prints_one_line()
+    ensures whole { (bytes : List ℕ) → script_output bytes ≡ concat (map printed (input_turns bytes)) }
+    ensures line { (turn : Turn) → PrintsOneLine turn }
+    ensures state { (bytes : List ℕ) (done more : List Statement) (item : Statement) → stream.items bytes ≡ done ++ item ∷ more →
+        let before = after stream done stream.start in
+        input_turns bytes ≡ turns done stream.start ++ record { item = item; before = before } ∷ turns more (step item before) }
+{}
+
+/// The line of an AUTH whose ACEE is in use is the decision that the table gives for that ACEE on the rows of its turn,
+/// with the number of the commands before it; that of a VERIFY that can put an ACEE is what `verified` gives there.
+pub fn requests_are_decided()
+    ensures auth { (turn : Turn) (line acee : List ℕ) (access : Access) (user : Acee) → turn.item ≡ Request line →
+        read line ≡ Ok (Auth acee access) → acee_named acee turn.before.acees ≡ Some user →
+        printed turn ≡ answer_line turn.before.number
+        (decided (restart turn.before.rows) turn.before.number user access.class access.name access.asked) }
+    ensures verify { (turn : Turn) (line acee : List ℕ) (asked : VerifyRequest) → turn.item ≡ Request line →
+        read line ≡ Ok (Verify acee asked) → asked.label ≡ None → put_refusal acee turn.before.acees ≡ None →
+        printed turn ≡ (verify_told (image_of turn.before) turn.before.acees acee
+        (verified (restart turn.before.rows) turn.before.number asked)).text }
+{}
+
+/// A run over a whole input ends with the status of refusals exactly where a line of its output says REFUSED or NEVER.
+pub fn the_status_is_what_the_lines_say()
+    ensures { (bytes : List ℕ) → script_status bytes ≡
+        (if list_any says_refused (map printed (input_turns bytes)) then Refusals else Done) }
+{}

@@ -11,6 +11,7 @@ const WORDS: usize = 4;
 /// A set of the category numbers 0 to 255.
 #[derive(Clone, Copy, Debug)]
 pub struct Categories {
+    /// A bit for each of the numbers 0 to 255, 64 in a word.
     words: [u64; 4],
 }
 

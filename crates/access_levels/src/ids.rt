@@ -29,7 +29,9 @@ pub enum IdFault {
 /// its spelling. Two identifiers are compared as texts. Lower case is folded by those who read it.
 #[derive(Clone, Copy, Debug)]
 pub struct Id {
+    /// Its bytes, and zeros behind them.
     bytes: [u8; 8],
+    /// How many bytes it has, 1 to 8.
     len: u8,
 }
 

@@ -2,50 +2,29 @@
 use crate::{Categories, GroupAuthority, Id, IdFault, Level, PortClass, Text};
 use std::test::Fail;
 
+/// The refusal of a byte at that place, from 1.
+fn bad_byte(place: u32) -> Option<IdFault> {
+    Some(IdFault::BadByte(place))
+}
+
 #[test]
 fn spellings(rt: HostRuntime) {
+    let empty = Some(IdFault::Empty);
+    let too_long = Some(IdFault::TooLong);
     let rows = [
-        (b"".as_slice(), Some(IdFault::Empty), Some(IdFault::Empty)),
+        (b"".as_slice(), empty, empty),
         (b"A".as_slice(), None, None),
         (b"IBMUSER".as_slice(), None, None),
         (b"A2345678".as_slice(), None, None),
         (b"#$@09AZ".as_slice(), None, None),
-        (
-            b"A23456789".as_slice(),
-            Some(IdFault::TooLong),
-            Some(IdFault::TooLong),
-        ),
-        (
-            b"9a3456789".as_slice(),
-            Some(IdFault::TooLong),
-            Some(IdFault::TooLong),
-        ),
-        (
-            b"a".as_slice(),
-            Some(IdFault::BadByte(1)),
-            Some(IdFault::BadByte(1)),
-        ),
-        (
-            b"A-B".as_slice(),
-            Some(IdFault::BadByte(2)),
-            Some(IdFault::BadByte(2)),
-        ),
-        (
-            b"ABCDEFG ".as_slice(),
-            Some(IdFault::BadByte(8)),
-            Some(IdFault::BadByte(8)),
-        ),
-        (
-            b"A\xc1".as_slice(),
-            Some(IdFault::BadByte(2)),
-            Some(IdFault::BadByte(2)),
-        ),
-        (b"9A".as_slice(), None, Some(IdFault::BadByte(1))),
-        (
-            b"9a".as_slice(),
-            Some(IdFault::BadByte(2)),
-            Some(IdFault::BadByte(1)),
-        ),
+        (b"A23456789".as_slice(), too_long, too_long),
+        (b"9a3456789".as_slice(), too_long, too_long),
+        (b"a".as_slice(), bad_byte(1), bad_byte(1)),
+        (b"A-B".as_slice(), bad_byte(2), bad_byte(2)),
+        (b"ABCDEFG ".as_slice(), bad_byte(8), bad_byte(8)),
+        (b"A\xc1".as_slice(), bad_byte(2), bad_byte(2)),
+        (b"9A".as_slice(), None, bad_byte(1)),
+        (b"9a".as_slice(), bad_byte(2), bad_byte(1)),
     ];
     for (text, id_fault, group_fault) in rows {
         assert_eq!(rt; Id::read(text).err(), id_fault);

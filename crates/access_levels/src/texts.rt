@@ -12,6 +12,7 @@ pub type NoMemory = AllocError;
 /// An owned list of bytes.
 #[derive(Debug, Drop)]
 pub struct Text {
+    /// The bytes as they were given.
     bytes: Vec<u8>,
 }
 

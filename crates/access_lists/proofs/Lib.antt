@@ -1,4 +1,4 @@
-mod PutLaws
+pub mod PutLaws
 mod BestLaws
 mod PlaceLaws
 mod StartLaws

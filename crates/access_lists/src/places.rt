@@ -18,7 +18,9 @@ pub(crate) type Starts = [u16; SLOTS];
 /// Contracts see them as their list.
 #[derive(Drop)]
 pub(crate) struct Places<'a> {
+    /// The groups that are looked for.
     groups: &'a [Id],
+    /// Where the look-up of each slot begins; none where all groups are compared.
     starts: Option<&'a Starts>,
 }
 

@@ -219,64 +219,41 @@ fn place_for_joe(list: &[CondEntry], class: PortClass, restricted: bool) -> Resu
     }
 }
 
+/// Puts an entry into the list, where those that come by this port find it.
+fn admit(
+    list: &mut Vec<CondEntry>,
+    class: PortClass,
+    who: Who,
+    level: Level,
+) -> Result<(), Fail> {
+    permit_when(list, conditional(class, who, level)?)
+        .ok()
+        .ok_or("room")?;
+    Ok(())
+}
+
 #[test]
 fn answers_by_port(rt: HostRuntime) -> Result<(), Fail> {
     let mut list = Vec::new(rt.alloc());
-    let (joe, g1, g2) = (
-        Who::Named(id(b"JOE")?),
-        Who::Named(id(b"G1")?),
-        Who::Named(id(b"G2")?),
-    );
-    permit_when(
-        &mut list,
-        conditional(PortClass::Console, joe, Level::Read)?,
-    )
-    .ok()
-    .ok_or("room")?;
-    permit_when(
-        &mut list,
-        conditional(PortClass::Terminal, Who::Star, Level::Alter)?,
-    )
-    .ok()
-    .ok_or("room")?;
-    assert_eq!(rt;
-        place_for_joe(list.as_slice(), PortClass::Console, true)?,
-        0
-    );
-    assert_eq!(rt;
-        place_for_joe(list.as_slice(), PortClass::Terminal, false)?,
-        1
-    );
-    assert_eq!(rt;
-        place_for_joe(list.as_slice(), PortClass::Terminal, true)?,
-        99
-    );
-    assert_eq!(rt;
-        place_for_joe(list.as_slice(), PortClass::Jesinput, false)?,
-        99
-    );
-    permit_when(
-        &mut list,
-        conditional(PortClass::Terminal, g2, Level::Read)?,
-    )
-    .ok()
-    .ok_or("room")?;
-    permit_when(
-        &mut list,
-        conditional(PortClass::Terminal, g1, Level::Read)?,
-    )
-    .ok()
-    .ok_or("room")?;
+    let joe = Who::Named(id(b"JOE")?);
+    let (g1, g2) = (Who::Named(id(b"G1")?), Who::Named(id(b"G2")?));
+    admit(&mut list, PortClass::Console, joe, Level::Read)?;
+    admit(&mut list, PortClass::Terminal, Who::Star, Level::Alter)?;
+    for (class, restricted, place) in [
+        (PortClass::Console, true, 0),
+        (PortClass::Terminal, false, 1),
+        (PortClass::Terminal, true, 99),
+        (PortClass::Jesinput, false, 99),
+    ] {
+        assert_eq!(rt; place_for_joe(list.as_slice(), class, restricted)?, place);
+    }
+    admit(&mut list, PortClass::Terminal, g2, Level::Read)?;
+    admit(&mut list, PortClass::Terminal, g1, Level::Read)?;
     assert_eq!(rt;
         place_for_joe(list.as_slice(), PortClass::Terminal, true)?,
         3
     );
-    permit_when(
-        &mut list,
-        conditional(PortClass::Terminal, joe, Level::NoAccess)?,
-    )
-    .ok()
-    .ok_or("room")?;
+    admit(&mut list, PortClass::Terminal, joe, Level::NoAccess)?;
     assert_eq!(rt;
         place_for_joe(list.as_slice(), PortClass::Terminal, true)?,
         4

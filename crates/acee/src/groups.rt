@@ -19,7 +19,9 @@ pub struct AceeGroup {
 /// asked without taking memory.
 #[derive(Debug, Drop)]
 pub struct AceeGroups {
+    /// The groups, each with what its connection gives.
     items: Vec<AceeGroup>,
+    /// Their names alone, in the same order, by which access lists are asked.
     names: Vec<Id>,
 }
 

@@ -1,7 +1,7 @@
 //! A class with its profiles.
-ghost use Rattle.std.specs.Prelude.{◌≡◌, ◌+◌, ◌<◌, ◌≤◌, ◌==◌, length, position, is_some, OnOk, IfOk, if◌then◌else◌};
+ghost use Rattle.std.specs.Prelude.{◌≡◌, ◌+◌, ◌<◌, ◌≤◌, length, is_some, OnOk, IfOk, if◌then◌else◌};
 ghost use Rattle.std.specs.List.{find};
-ghost use Rattle.generic_names.specs.Spelled.{period, first_qualifier};
+ghost use Rattle.generic_names.specs.Spelled.{first_qualifier};
 ghost use Rattle.racf_profiles.specs.NewDatabase.{empty_class};
 ghost use Rattle.racf_profiles.specs.Lookup.{is_profile};
 ghost use Rattle.racf_profiles.specs.Edits.{put_profile, with_profile, without_profile, with_flags, with_listed};
@@ -13,7 +13,7 @@ ghost use Rattle.std.specs.Str.{bytes_eq};
 
 use crate::table::ProfileTable;
 use access_levels::Id;
-use generic_names::Pattern;
+use generic_names::{Pattern, first_qualifier};
 use racf_profiles::{ClassRow, FixedClass, LogOption, NoMemory, Profile, kind_in};
 use std::alloc::Global;
 use std::marker::Model;
@@ -21,11 +21,17 @@ use std::marker::Model;
 /// A class: its flags and its profiles, whose names are of the kind that the class has.
 #[derive(Drop)]
 pub struct ClassTable {
+    /// Its name, which no other class has.
     name: Id,
+    /// Whether it is active.
     active: bool,
+    /// Whether it is RACLISTed.
     listed: bool,
+    /// Whether the global access table counts for it.
     global: bool,
+    /// What is logged of it, whatever its profiles say.
     log: LogOption,
+    /// Its profiles.
     profiles: ProfileTable,
 }
 
@@ -60,6 +66,7 @@ impl ClassTable {
         })
     }
 
+    /// Its name.
     pub fn name(&self) -> Id
         ensures { result ≡ self.now.row.name }
     {
@@ -87,12 +94,14 @@ impl ClassTable {
         self.global
     }
 
+    /// What is logged of it, whatever its profiles say.
     pub fn log(&self) -> LogOption
         ensures { result ≡ self.now.row.log }
     {
         self.log
     }
 
+    /// Its profiles.
     pub fn profiles(&self) -> &ProfileTable
         ensures kind { result.now.kind ≡ kind_in self.now.row.name }
         ensures profiles { result.now.profiles ≡ self.now.row.profiles }
@@ -180,21 +189,4 @@ fn is_under(name: &Pattern, qualifier: Id) -> bool
     ensures { result ≡ bytes_eq (first_qualifier name.now.text) qualifier }
 {
     first_qualifier(name.text()) == qualifier.text()
-}
-
-/// What stands before the first period.
-fn first_qualifier(text: &[u8]) -> &[u8]
-    ensures { result.now ≡ first_qualifier text.now }
-{
-    match first_period(text) {
-        Some(end) => &text[..end],
-        None => text,
-    }
-}
-
-/// The place of the first period.
-fn first_period(text: &[u8]) -> Option<usize>
-    ensures { result ≡ position (λ byte. byte == period) text.now }
-{
-    text.iter().position(|byte| *byte == b'.')
 }

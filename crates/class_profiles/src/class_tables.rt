@@ -24,8 +24,11 @@ use std::marker::Model;
 /// many entries their access lists have, is kept beside them, so that neither is counted anew for a command.
 #[derive(Drop)]
 pub struct ClassTables {
+    /// The fixed classes in their order.
     classes: Vec<ClassTable>,
+    /// How many profiles they have in all.
     count: usize,
+    /// How many entries the access lists of these profiles have.
     entries: usize,
 }
 
@@ -176,8 +179,18 @@ impl ClassTables {
         ensures rows { IfOk result (λ rows. rows ≡ self.now.classes) }
         ensures lawful { AreClasses self.now.classes }
     {
-        let _count = self.count;
+        self.what_is_kept();
         rows_of(alloc, &self.classes)
+    }
+
+    /// What the type keeps. It does nothing: its contract is what it is for.
+    fn what_is_kept(&self)
+        ensures classes { AreClasses self.now.classes }
+        ensures profiles { profile_count self.now.classes ≤ most_profiles }
+        ensures entries { entry_count self.now.classes ≤ most_entries_in_all }
+    {
+        let _count = self.count();
+        let _entries = self.entries();
     }
 
     /// What the profile of that name in a class adds to the counts.
@@ -187,7 +200,7 @@ impl ClassTables {
         ensures few { result.profiles ≤ profile_count self.now.classes }
         ensures few_entries { result.entries ≤ entry_count self.now.classes }
     {
-        let _entries = self.entries();
+        self.what_is_kept();
         match self.profile(class, name) {
             None => Share {
                 profiles: 0,
@@ -219,7 +232,9 @@ fn rows_of(alloc: Global, classes: &[ClassTable]) -> Result<ClassRows, NoMemory>
 /// What a profile adds to the counts.
 #[derive(Clone, Copy)]
 struct Share {
+    /// 1 for a profile that is there, else 0.
     profiles: usize,
+    /// The entries of its access lists.
     entries: usize,
 }
 

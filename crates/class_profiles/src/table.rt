@@ -4,6 +4,7 @@ ghost use Rattle.std.specs.List.{find, slice_get};
 ghost use Rattle.std.specs.Option.{option_copied};
 ghost use Rattle.std.specs.Result.{result_ok};
 ghost use Rattle.generic_names.specs.Faults.{pattern_of};
+ghost use Rattle.generic_names.specs.Laws.{IsPattern};
 ghost use Rattle.racf_profiles.specs.Lookup.{is_profile};
 ghost use Rattle.racf_profiles.specs.Edits.{put_profile, drop_row};
 ghost use Rattle.racf_profiles.specs.LawfulProfiles.{AreProfiles};
@@ -19,7 +20,9 @@ use std::marker::Model;
 /// The profiles of one class in the order of specificity, each name but once, all names of one kind.
 #[derive(Drop)]
 pub struct ProfileTable {
+    /// The kind of all the names.
     kind: NameKind,
+    /// The profiles by their names.
     profiles: Index<Profile>,
 }
 
@@ -99,6 +102,13 @@ impl ProfileTable {
         self.profiles.len()
     }
 
+    /// What the type keeps of its profiles. It does nothing: its contract is what it is for.
+    fn what_is_kept(&self)
+        ensures { AreProfiles self.now.kind self.now.profiles }
+    {
+        let _profiles = self.len();
+    }
+
     /// The profile at that place, from 0, in order of specificity.
     pub fn at(&self, place: usize) -> &Profile
         requires { place < length self.now.profiles }
@@ -143,7 +153,7 @@ impl ProfileTable {
         ensures lawful { AreProfiles self.new.kind self.new.profiles }
     {
         generic_names::laws::order_is_total();
-        let _lawful = self.len();
+        self.what_is_kept();
         let name = profile.name;
         self.take(&name);
         self.add(profile);
@@ -199,7 +209,7 @@ impl ProfileTable {
         generic_names::laws::order_is_total();
         racf_profiles::laws::puts_keep_the_order();
         let name = profile.name;
-        let _ = name.text();
+        is_spelled(&name);
         self.profiles.insert(name, profile);
     }
 
@@ -213,6 +223,13 @@ impl ProfileTable {
             None => None,
         }
     }
+}
+
+/// That its text spells it is what the laws of the order rest on. It does nothing: its contract is what it is for.
+fn is_spelled(name: &Pattern)
+    ensures { IsPattern name.now }
+{
+    let _text = name.text();
 }
 
 /// The name of that kind with the same text, if there is one.

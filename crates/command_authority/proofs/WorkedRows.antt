@@ -35,7 +35,7 @@ connection group = record { group = group; authority = MayUse; special = false; 
 abbrev user : List ℕ → (owner : List ℕ) → List Connection → User
 user id owner connects = record {
   id = id;
-  default_group = codes "D1";
+  default_group = codes "DIV";
   owner = owner;
   name = [];
   attributes = record { special = false; operations = false; auditor = false; restricted = false; revoked = false; uaudit = false };
@@ -70,18 +70,18 @@ is_for id = record { who = Named id; level = Alter }
 abbrev everyone : Entry
 everyone = record { who = Star; level = Alter }
 
--- D1 below SYS1, D2 below D1 and D3 below D2. D2 is owned as it says, each other group by its superior group. ADM is a
--- RESTRICTED user with group-SPECIAL in D1. SUE is owned by D3, and TOM by ADM.
+-- DIV below SYS1, DEPT below DIV and TEAM below DEPT. DEPT is owned as it says, each other group by its superior group. ADM is a
+-- RESTRICTED user with group-SPECIAL in DIV. SUE is owned by TEAM, and TOM by ADM.
 abbrev adm : User
-adm = let row = user (codes "ADM") (codes "SYS1") (record (connection (codes "D1")) { special = true } ∷ []) in
+adm = let row = user (codes "ADM") (codes "SYS1") (record (connection (codes "DIV")) { special = true } ∷ []) in
     record row { attributes = record row.attributes { restricted = true } }
 
 abbrev groups : (owner : List ℕ) → List Group
-groups owner = sys1 ∷ group (codes "D1") (codes "SYS1") (codes "SYS1") ∷ group (codes "D2") (codes "D1") owner ∷ group (codes "D3") (codes "D2") (codes "D2") ∷ []
+groups owner = sys1 ∷ group (codes "DIV") (codes "SYS1") (codes "SYS1") ∷ group (codes "DEPT") (codes "DIV") owner ∷ group (codes "TEAM") (codes "DEPT") (codes "DEPT") ∷ []
 
 abbrev some_rows : (owner : List ℕ) → List User → Rows
 some_rows owner more = record {
-  users = ibmuser ∷ user (codes "SUE") (codes "D3") [] ∷ user (codes "TOM") (codes "ADM") [] ∷ more;
+  users = ibmuser ∷ user (codes "SUE") (codes "TEAM") [] ∷ user (codes "TOM") (codes "ADM") [] ∷ more;
   groups = groups owner;
   classes =
       class_row (codes "DATASET") (
@@ -95,7 +95,7 @@ some_rows owner more = record {
 }
 
 abbrev issued_by : List ℕ → Issuer
-issued_by id = record { id = id; group = codes "D1"; group_spelled = refl }
+issued_by id = record { id = id; group = codes "DIV"; group_spelled = refl }
 
 -- what an issuer lacks for a command
 abbrev lacks : Rows → List ℕ → CommandFields → Option (List Need)
@@ -123,12 +123,12 @@ permit class name = form.Permit (record { profile = name; class = class; reset =
 abbrev over_user : List Need
 over_user = Special ∷ Owner ∷ GroupSpecial ∷ []
 
--- ---- group-SPECIAL in D1
--- ALU SUE NAME('Sue'), SUE owned by D3: D2 owned by D1, and then by IBMUSER; DU TOM, whom ADM owns
+-- ---- group-SPECIAL in DIV
+-- ALU SUE NAME('Sue'), SUE owned by TEAM: DEPT owned by DIV, and then by IBMUSER; DU TOM, whom ADM owns
 abbrev named_sue : CommandFields
 named_sue = form.AltUser (record (alt_user (codes "SUE")) { name = Some (codes "Sue") })
 
-scope_of_group_special : map (λ owner. lacks (some_rows owner (adm ∷ [])) (codes "ADM") named_sue) (codes "D1" ∷ codes "IBMUSER" ∷ []) ≡ None ∷ Some over_user ∷ []
+scope_of_group_special : map (λ owner. lacks (some_rows owner (adm ∷ [])) (codes "ADM") named_sue) (codes "DIV" ∷ codes "IBMUSER" ∷ []) ≡ None ∷ Some over_user ∷ []
 unfolding need is_met alt_user_requirements
 scope_of_group_special = refl
 
@@ -137,12 +137,12 @@ unfolding need is_met del_user_requirements
 owned_user = refl
 
 -- a revoked connection counts for nothing
-revoked_connection : lacks (some_rows (codes "D1") (record adm { connects = record (connection (codes "D1")) { special = true; revoked = true } ∷ [] } ∷ [])) (codes "ADM") named_sue ≡ Some over_user
+revoked_connection : lacks (some_rows (codes "DIV") (record adm { connects = record (connection (codes "DIV")) { special = true; revoked = true } ∷ [] } ∷ [])) (codes "ADM") named_sue ≡ Some over_user
 unfolding need is_met alt_user_requirements
 revoked_connection = refl
 
 -- an issuer who isn't a user
-no_issuer : lacks (some_rows (codes "D1") []) (codes "ADM") (form.DelUser (record { user = codes "TOM" })) ≡ Some over_user
+no_issuer : lacks (some_rows (codes "DIV") []) (codes "ADM") (form.DelUser (record { user = codes "TOM" })) ≡ Some over_user
 unfolding need is_met del_user_requirements
 no_issuer = refl
 
@@ -193,8 +193,8 @@ group_rows : map (λ c. lacks (with_ann MayJoin []) (codes "ANN") c)
 unfolding need is_met add_group_requirements alt_group_requirements del_group_requirements
 group_rows = refl
 
--- ALG D3 SUPGROUP(SYS1), by ADM who has group-SPECIAL in D1
-moved_out_of_scope : lacks (some_rows (codes "D1") (adm ∷ [])) (codes "ADM") (form.AltGroup (record { group = codes "D3"; supgroup = Some (codes "SYS1"); owner = None })) ≡ Some (Special ∷ Join (codes "SYS1") ∷ Owner ∷ GroupSpecial ∷ [])
+-- ALG TEAM SUPGROUP(SYS1), by ADM who has group-SPECIAL in DIV
+moved_out_of_scope : lacks (some_rows (codes "DIV") (adm ∷ [])) (codes "ADM") (form.AltGroup (record { group = codes "TEAM"; supgroup = Some (codes "SYS1"); owner = None })) ≡ Some (Special ∷ Join (codes "SYS1") ∷ Owner ∷ GroupSpecial ∷ [])
 unfolding need is_met alt_group_requirements
 moved_out_of_scope = refl
 
@@ -204,7 +204,7 @@ abbrev with_two : Rows
 with_two =
     let spe = user (codes "SPE") (codes "SYS1") [] in
     let aud = user (codes "AUD") (codes "SYS1") [] in
-    some_rows (codes "D1") (record spe { attributes = record spe.attributes { special = true } } ∷ record aud { attributes = record aud.attributes { auditor = true } } ∷ [])
+    some_rows (codes "DIV") (record spe { attributes = record spe.attributes { special = true } } ∷ record aud { attributes = record aud.attributes { auditor = true } } ∷ [])
 
 -- ALU SUE UAUDIT, ALU SUE NOUAUDIT NAME('Sue'), ALU SUE
 abbrev audited : List AltUser
@@ -233,7 +233,7 @@ global_audit_and_owner = refl
 -- ---- profiles
 -- PERMIT of SYS1.A, in which BOB and everyone have ALTER, by BOB and by CAT; of SYS1.**, in which BOB has it, by BOB
 abbrev readers : Rows
-readers = some_rows (codes "D1") (user (codes "BOB") (codes "SYS1") [] ∷ user (codes "CAT") (codes "SYS1") [] ∷ [])
+readers = some_rows (codes "DIV") (user (codes "BOB") (codes "SYS1") [] ∷ user (codes "CAT") (codes "SYS1") [] ∷ [])
 
 by_entry : map (λ who. lacks readers who (permit (codes "DATASET") (data_set (codes "SYS1.A")))) (codes "BOB" ∷ codes "CAT" ∷ []) ≡ None ∷ Some (Special ∷ Owner ∷ GroupSpecial ∷ OwnData ∷ AlterEntry ∷ []) ∷ []
 unfolding need is_met permit_requirements
@@ -245,14 +245,14 @@ generic_by_entry = refl
 
 -- PERMIT of F.A, in which G1 has ALTER, by JIM: connected to G1, and by a revoked connection
 abbrev with_jim : Bool → Rows
-with_jim revoked = some_rows (codes "D1") (user (codes "JIM") (codes "SYS1") (connection (codes "D3") ∷ record (connection (codes "G1")) { revoked = revoked } ∷ []) ∷ [])
+with_jim revoked = some_rows (codes "DIV") (user (codes "JIM") (codes "SYS1") (connection (codes "TEAM") ∷ record (connection (codes "G1")) { revoked = revoked } ∷ []) ∷ [])
 
 by_group_entry : map (λ revoked. lacks (with_jim revoked) (codes "JIM") (permit (codes "FACILITY") (general (codes "F.A")))) (false ∷ true ∷ []) ≡ None ∷ Some (Special ∷ Owner ∷ GroupSpecial ∷ AlterEntry ∷ []) ∷ []
 unfolding need is_met permit_requirements
 by_group_entry = refl
 
 -- PERMIT of SUE.A by SUE, whose own data it is; by ADM, in whose scope its owner SUE is; and by TOM
-own_data : map (λ who. lacks (some_rows (codes "D1") (adm ∷ [])) who (permit (codes "DATASET") (data_set (codes "SUE.A")))) (codes "SUE" ∷ codes "ADM" ∷ codes "TOM" ∷ []) ≡ None ∷ None ∷ Some (Special ∷ Owner ∷ GroupSpecial ∷ OwnData ∷ AlterEntry ∷ []) ∷ []
+own_data : map (λ who. lacks (some_rows (codes "DIV") (adm ∷ [])) who (permit (codes "DATASET") (data_set (codes "SUE.A")))) (codes "SUE" ∷ codes "ADM" ∷ codes "TOM" ∷ []) ≡ None ∷ None ∷ Some (Special ∷ Owner ∷ GroupSpecial ∷ OwnData ∷ AlterEntry ∷ []) ∷ []
 unfolding need is_met permit_requirements
 own_data = refl
 

@@ -18,6 +18,7 @@ pub(crate) fn group_or_current(issuer: &Issuer, given: Option<Id>) -> Id
     given.unwrap_or(issuer.group)
 }
 
+/// What ADDGROUP requires.
 #[tactic(auto, unfolding(crate::specs::Requirements::add_group_requirements))]
 pub(crate) fn add_group(issuer: &Issuer, command: &AddGroup) -> [Requirement; 1]
     ensures { result ≡ add_group_requirements issuer.now command.now }
@@ -26,6 +27,7 @@ pub(crate) fn add_group(issuer: &Issuer, command: &AddGroup) -> [Requirement; 1]
     [over(Target::Group(superior), below(superior))]
 }
 
+/// What ALTGROUP requires.
 #[tactic(auto, unfolding(crate::specs::Requirements::alt_group_requirements))]
 pub(crate) fn alt_group(command: &AltGroup) -> [Requirement; 2]
     ensures { result ≡ alt_group_requirements command.now }
@@ -41,6 +43,7 @@ pub(crate) fn alt_group(command: &AltGroup) -> [Requirement; 2]
     ]
 }
 
+/// What DELGROUP requires.
 #[tactic(auto, unfolding(crate::specs::Requirements::del_group_requirements))]
 pub(crate) fn del_group<V: View>(view: &V, command: &DelGroup) -> [Requirement; 1]
     ensures { result ≡ del_group_requirements (V.rows view.now) command.now }
@@ -81,6 +84,7 @@ fn leaving(superior: Option<Id>) -> Needs
     }
 }
 
+/// What CONNECT requires.
 #[tactic(auto, unfolding(crate::specs::Requirements::connect_requirements))]
 pub(crate) fn connect(issuer: &Issuer, command: &Connect) -> [Requirement; 3]
     ensures { result ≡ connect_requirements issuer.now command.now }
@@ -101,6 +105,7 @@ pub(crate) fn connect(issuer: &Issuer, command: &Connect) -> [Requirement; 3]
     ]
 }
 
+/// What REMOVE requires.
 #[tactic(auto, unfolding(crate::specs::Requirements::remove_requirements))]
 pub(crate) fn remove(issuer: &Issuer, command: &Remove) -> [Requirement; 1]
     ensures { result ≡ remove_requirements issuer.now command.now }

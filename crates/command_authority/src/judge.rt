@@ -11,7 +11,9 @@ use crate::held::{has_authority, has_class};
 use crate::needs::{Need, Needs};
 use crate::profiles::{add_sd, alt_sd, del_sd, permit, r_alter, r_define, r_delete};
 use crate::requirement::{Requirement, Target};
-use crate::targets::{has_alter_entry, has_authority_in, has_group_special, is_own_data, is_owner};
+use crate::targets::{
+    groups_are_a_tree, has_alter_entry, has_authority_in, has_group_special, is_own_data, is_owner,
+};
 use crate::users::{add_user, alt_user, del_user};
 use access_levels::GroupAuthority;
 use command_parser::{Command, CommandFields, Issuer};
@@ -41,50 +43,29 @@ pub fn authorised<V: View>(
     ensures group_in_scope { (top group : List ℕ) → IsTrue (is_group_in_scope (V.rows view.now).groups top group) ↔ InScopeGroup (V.rows view.now).groups top group }
     ensures profile_in_scope { (top owner : List ℕ) → IsTrue (is_profile_in_scope (V.rows view.now) top owner) ↔ InScopeProfile (V.rows view.now) top owner }
 {
-    // The groups are a tree, and there the tests tell what is in scope.
-    let _groups = tree.len();
+    groups_are_a_tree(tree);
     scope_is_tested();
     match command.fields() {
-        CommandFields::AddUser(command) => first_unmet(
-            view,
-            tree,
-            issuer,
-            &add_user(issuer, command),
-        ),
-        CommandFields::AltUser(command) => first_unmet(view, tree, issuer, &alt_user(command)),
-        CommandFields::DelUser(command) => first_unmet(view, tree, issuer, &del_user(command)),
-        CommandFields::AddGroup(command) => first_unmet(
-            view,
-            tree,
-            issuer,
-            &add_group(issuer, command),
-        ),
-        CommandFields::AltGroup(command) => first_unmet(view, tree, issuer, &alt_group(command)),
-        CommandFields::DelGroup(command) => first_unmet(
-            view,
-            tree,
-            issuer,
-            &del_group(view, command),
-        ),
-        CommandFields::Connect(command) => first_unmet(
-            view,
-            tree,
-            issuer,
-            &connect(issuer, command),
-        ),
-        CommandFields::Remove(command) => first_unmet(view, tree, issuer, &remove(issuer, command)),
-        CommandFields::AddSd(command) => first_unmet(view, tree, issuer, &add_sd(command)),
-        CommandFields::AltSd(command) => first_unmet(view, tree, issuer, &alt_sd(command)),
-        CommandFields::DelSd(command) => first_unmet(view, tree, issuer, &del_sd(command)),
-        CommandFields::RDefine(command) => first_unmet(view, tree, issuer, &r_define(command)),
-        CommandFields::RAlter(command) => first_unmet(view, tree, issuer, &r_alter(command)),
-        CommandFields::RDelete(command) => first_unmet(view, tree, issuer, &r_delete(command)),
-        CommandFields::Permit(command) => first_unmet(view, tree, issuer, &permit(command)),
+        CommandFields::AddUser(command) => unmet(view, tree, issuer, &add_user(issuer, command)),
+        CommandFields::AltUser(command) => unmet(view, tree, issuer, &alt_user(command)),
+        CommandFields::DelUser(command) => unmet(view, tree, issuer, &del_user(command)),
+        CommandFields::AddGroup(command) => unmet(view, tree, issuer, &add_group(issuer, command)),
+        CommandFields::AltGroup(command) => unmet(view, tree, issuer, &alt_group(command)),
+        CommandFields::DelGroup(command) => unmet(view, tree, issuer, &del_group(view, command)),
+        CommandFields::Connect(command) => unmet(view, tree, issuer, &connect(issuer, command)),
+        CommandFields::Remove(command) => unmet(view, tree, issuer, &remove(issuer, command)),
+        CommandFields::AddSd(command) => unmet(view, tree, issuer, &add_sd(command)),
+        CommandFields::AltSd(command) => unmet(view, tree, issuer, &alt_sd(command)),
+        CommandFields::DelSd(command) => unmet(view, tree, issuer, &del_sd(command)),
+        CommandFields::RDefine(command) => unmet(view, tree, issuer, &r_define(command)),
+        CommandFields::RAlter(command) => unmet(view, tree, issuer, &r_alter(command)),
+        CommandFields::RDelete(command) => unmet(view, tree, issuer, &r_delete(command)),
+        CommandFields::Permit(command) => unmet(view, tree, issuer, &permit(command)),
     }
 }
 
 /// The needs of the first requirement that isn't met.
-fn first_unmet<V: View>(
+fn unmet<V: View>(
     view: &V,
     tree: &Tree,
     issuer: &Issuer,

@@ -44,7 +44,9 @@ pub enum Need {
 /// Needs in their order, at most 6. They take no memory.
 #[derive(Debug, Drop)]
 pub struct Needs {
+    /// The needs, and behind them what means nothing.
     items: [Need; MOST],
+    /// How many needs there are.
     count: usize,
 }
 

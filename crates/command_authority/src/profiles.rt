@@ -13,6 +13,7 @@ use command_parser::{AddSd, AltSd, DelSd, Permit, RAlter, RDefine, RDelete};
 use generic_names::{Pattern, first_qualifier};
 use racf_profiles::FixedClass;
 
+/// What ADDSD requires.
 #[tactic(auto, unfolding(crate::specs::Requirements::add_sd_requirements))]
 pub(crate) fn add_sd(command: &AddSd) -> [Requirement; 1]
     ensures { result ≡ add_sd_requirements command.now }
@@ -39,6 +40,7 @@ fn over_new_data_set(qualifier: Option<Id>) -> Requirement
     }
 }
 
+/// What RDEFINE requires.
 #[tactic(auto, unfolding(crate::specs::Requirements::r_define_requirements))]
 pub(crate) fn r_define(command: &RDefine) -> [Requirement; 1]
     ensures { result ≡ r_define_requirements command.now }
@@ -47,6 +49,7 @@ pub(crate) fn r_define(command: &RDefine) -> [Requirement; 1]
     [over(Target::Nothing, needs)]
 }
 
+/// What ALTSD requires.
 #[tactic(auto, unfolding(crate::specs::Requirements::alt_sd_requirements))]
 pub(crate) fn alt_sd(command: &AltSd) -> [Requirement; 2]
     ensures { result ≡ alt_sd_requirements command.now }
@@ -57,6 +60,7 @@ pub(crate) fn alt_sd(command: &AltSd) -> [Requirement; 2]
     ]
 }
 
+/// What DELSD requires.
 #[tactic(auto, unfolding(crate::specs::Requirements::del_sd_requirements))]
 pub(crate) fn del_sd(command: &DelSd) -> [Requirement; 1]
     ensures { result ≡ del_sd_requirements command.now }
@@ -64,6 +68,7 @@ pub(crate) fn del_sd(command: &DelSd) -> [Requirement; 1]
     [over_profile(true, dataset(), &command.profile)]
 }
 
+/// What RALTER requires.
 #[tactic(auto, unfolding(crate::specs::Requirements::r_alter_requirements))]
 pub(crate) fn r_alter(command: &RAlter) -> [Requirement; 2]
     ensures { result ≡ r_alter_requirements command.now }
@@ -78,6 +83,7 @@ pub(crate) fn r_alter(command: &RAlter) -> [Requirement; 2]
     ]
 }
 
+/// What RDELETE requires.
 #[tactic(auto, unfolding(crate::specs::Requirements::r_delete_requirements))]
 pub(crate) fn r_delete(command: &RDelete) -> [Requirement; 1]
     ensures { result ≡ r_delete_requirements command.now }
@@ -85,6 +91,7 @@ pub(crate) fn r_delete(command: &RDelete) -> [Requirement; 1]
     [over_profile(true, command.class, &command.profile)]
 }
 
+/// What PERMIT requires.
 #[tactic(auto, unfolding(crate::specs::Requirements::permit_requirements))]
 pub(crate) fn permit(command: &Permit) -> [Requirement; 1]
     ensures { result ≡ permit_requirements command.now }

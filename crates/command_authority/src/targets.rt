@@ -1,5 +1,6 @@
 //! Authority over what a command is about.
 ghost use Rattle.std.specs.Prelude.{◌≡◌, ◌&&◌, bytes_eq};
+ghost use Rattle.racf_profiles.specs.Tree.{IsTree};
 ghost use Rattle.group_tree.specs.ScopeTest.{is_group_in_scope, is_profile_in_scope};
 ghost use Rattle.command_authority.specs.Targets.{owner_of, is_in_scope, is_owner, has_group_special, is_own_data, has_alter_entry, has_authority_in};
 
@@ -8,6 +9,7 @@ use crate::requirement::Target;
 use access_levels::{GroupAuthority, Id};
 use generic_names::{Pattern, first_qualifier};
 use group_tree::Tree;
+use group_tree::laws::scope_is_tested;
 use racf_profiles::{Connect, User, View};
 
 /// Whether the user owns the target.
@@ -78,12 +80,19 @@ fn is_in_scope<V: View>(view: &V, tree: &Tree, top: Id, target: &Target) -> bool
     }
 }
 
+/// The groups are a tree, where the tests tell what is in scope. It does nothing: its contract is what it is for.
+pub(crate) fn groups_are_a_tree(tree: &Tree)
+    ensures { IsTree tree.now.groups }
+{
+    let _groups = tree.len();
+}
+
 /// Whether the group is in scope of another. The walk up tells it in a tree.
 fn is_group_in_scope(tree: &Tree, top: Id, group: Id) -> bool
     ensures { result ≡ is_group_in_scope tree.now.groups top group }
 {
-    group_tree::laws::scope_is_tested();
-    let _groups = tree.len();
+    groups_are_a_tree(tree);
+    scope_is_tested();
     tree.in_scope_group(top, group)
 }
 
@@ -92,8 +101,8 @@ fn is_profile_in_scope<V: View>(view: &V, tree: &Tree, top: Id, owner: Id) -> bo
     requires { tree.now.groups ≡ (V.rows view.now).groups }
     ensures { result ≡ is_profile_in_scope (V.rows view.now) top owner }
 {
-    group_tree::laws::scope_is_tested();
-    let _groups = tree.len();
+    groups_are_a_tree(tree);
+    scope_is_tested();
     tree.in_scope_profile(view, top, owner)
 }
 

@@ -35,13 +35,13 @@ impl View for Seen<'_> {
     }
 }
 
-/// SYS1, and below it D1, D2 and D3, each below the one before, and G1. Each is owned by its superior group, D2 by the owner given.
+/// SYS1, and below it DIV, DEPT and TEAM, each below the one before, and G1. Each is owned by its superior group, DEPT by the owner given.
 fn tree(alloc: Global, owner: &[u8]) -> Result<Tree, Fail> {
     let mut tree = Tree::new(alloc)?;
     for (group, superior, owner) in [
-        (b"D1".as_slice(), b"SYS1".as_slice(), b"SYS1".as_slice()),
-        (b"D2".as_slice(), b"D1".as_slice(), owner),
-        (b"D3".as_slice(), b"D2".as_slice(), b"D2".as_slice()),
+        (b"DIV".as_slice(), b"SYS1".as_slice(), b"SYS1".as_slice()),
+        (b"DEPT".as_slice(), b"DIV".as_slice(), owner),
+        (b"TEAM".as_slice(), b"DEPT".as_slice(), b"DEPT".as_slice()),
         (b"G1".as_slice(), b"SYS1".as_slice(), b"SYS1".as_slice()),
     ] {
         tree.reserve(1)?;
@@ -62,7 +62,7 @@ struct Known {
     administrator: bool,
 }
 
-/// ADM has group-SPECIAL in D1, ANN has CONNECT in G1, and D3 owns SUE.
+/// ADM has group-SPECIAL in DIV, ANN has CONNECT in G1, and TEAM owns SUE.
 const USERS: [Known; 4] = [
     Known {
         id: b"IBMUSER",
@@ -75,7 +75,7 @@ const USERS: [Known; 4] = [
     Known {
         id: b"ADM",
         owner: b"SYS1",
-        group: b"D1",
+        group: b"DIV",
         authority: GroupAuthority::MayUse,
         special: true,
         administrator: false,
@@ -90,8 +90,8 @@ const USERS: [Known; 4] = [
     },
     Known {
         id: b"SUE",
-        owner: b"D3",
-        group: b"D3",
+        owner: b"TEAM",
+        group: b"TEAM",
         authority: GroupAuthority::MayUse,
         special: false,
         administrator: false,
@@ -298,7 +298,7 @@ const ADMINISTRATOR: [Row; 6] = [
 
 #[test]
 fn commands_of_an_administrator(rt: HostRuntime) -> Result<(), Fail> {
-    let tree = tree(rt.alloc(), b"D1")?;
+    let tree = tree(rt.alloc(), b"DIV")?;
     let rows = rows(rt.alloc())?;
     let seen = Seen { tree: &tree, rows };
     for row in &ADMINISTRATOR {
@@ -307,7 +307,7 @@ fn commands_of_an_administrator(rt: HostRuntime) -> Result<(), Fail> {
     Ok(())
 }
 
-/// ADM, who has group-SPECIAL in D1.
+/// ADM, who has group-SPECIAL in DIV.
 const GROUP_ADMINISTRATOR: [Row; 9] = [
     Row {
         text: b"ALU SUE NAME('Sue')",
@@ -326,19 +326,19 @@ const GROUP_ADMINISTRATOR: [Row; 9] = [
         lacks: b"SPECIAL OWNER GROUPSPECIAL ",
     },
     Row {
-        text: b"AG D4 SUPGROUP(D3)",
+        text: b"AG UNIT SUPGROUP(TEAM)",
         lacks: b"",
     },
     Row {
-        text: b"ALG D3 SUPGROUP(SYS1)",
+        text: b"ALG TEAM SUPGROUP(SYS1)",
         lacks: b"SPECIAL JOIN(SYS1) OWNER GROUPSPECIAL ",
     },
     Row {
-        text: b"DG D3",
+        text: b"DG TEAM",
         lacks: b"",
     },
     Row {
-        text: b"CO ANN GROUP(D2) SPECIAL",
+        text: b"CO ANN GROUP(DEPT) SPECIAL",
         lacks: b"",
     },
     Row {
@@ -349,11 +349,11 @@ const GROUP_ADMINISTRATOR: [Row; 9] = [
 
 #[test]
 fn commands_of_a_group_administrator(rt: HostRuntime) -> Result<(), Fail> {
-    let tree = tree(rt.alloc(), b"D1")?;
+    let tree = tree(rt.alloc(), b"DIV")?;
     let rows = rows(rt.alloc())?;
     let seen = Seen { tree: &tree, rows };
     for row in &GROUP_ADMINISTRATOR {
-        assert!(rt; lacks_so(rt.alloc(), &seen, b"ADM", b"D1", row)?);
+        assert!(rt; lacks_so(rt.alloc(), &seen, b"ADM", b"DIV", row)?);
     }
     Ok(())
 }
@@ -377,8 +377,8 @@ const MEMBER: [Row; 14] = [
         lacks: b"SPECIAL GROUPSPECIAL ",
     },
     Row {
-        text: b"RE SUE GROUP(D3)",
-        lacks: b"SPECIAL CONNECT(D3) OWNER GROUPSPECIAL ",
+        text: b"RE SUE GROUP(TEAM)",
+        lacks: b"SPECIAL CONNECT(TEAM) OWNER GROUPSPECIAL ",
     },
     Row {
         text: b"AD B",
@@ -389,8 +389,8 @@ const MEMBER: [Row; 14] = [
         lacks: b"",
     },
     Row {
-        text: b"AD 'D1.B'",
-        lacks: b"SPECIAL OWNDATA CREATE(D1) GROUPSPECIAL ",
+        text: b"AD 'DIV.B'",
+        lacks: b"SPECIAL OWNDATA CREATE(DIV) GROUPSPECIAL ",
     },
     Row {
         text: b"RDEF FACILITY F.A",
@@ -420,7 +420,7 @@ const MEMBER: [Row; 14] = [
 
 #[test]
 fn commands_of_a_member(rt: HostRuntime) -> Result<(), Fail> {
-    let tree = tree(rt.alloc(), b"D1")?;
+    let tree = tree(rt.alloc(), b"DIV")?;
     let rows = rows(rt.alloc())?;
     let seen = Seen { tree: &tree, rows };
     for row in &MEMBER {
@@ -429,7 +429,7 @@ fn commands_of_a_member(rt: HostRuntime) -> Result<(), Fail> {
     Ok(())
 }
 
-/// A user owns D2.
+/// A user owns DEPT.
 const PAST_A_USER: Row = Row {
     text: b"ALU SUE REVOKE",
     lacks: b"SPECIAL OWNER GROUPSPECIAL ",
@@ -440,6 +440,6 @@ fn scope_ends_at_a_group_that_a_user_owns(rt: HostRuntime) -> Result<(), Fail> {
     let tree = tree(rt.alloc(), b"IBMUSER")?;
     let rows = rows(rt.alloc())?;
     let seen = Seen { tree: &tree, rows };
-    assert!(rt; lacks_so(rt.alloc(), &seen, b"ADM", b"D1", &PAST_A_USER)?);
+    assert!(rt; lacks_so(rt.alloc(), &seen, b"ADM", b"DIV", &PAST_A_USER)?);
     Ok(())
 }

@@ -8,6 +8,7 @@ use crate::operands::{alters_attribute, alters_uaudit, alters_uaudit_alone, give
 use crate::requirement::{Requirement, Target, over, over_where};
 use command_parser::{AddUser, AltUser, DelUser, Issuer};
 
+/// What ADDUSER requires.
 #[tactic(auto, unfolding(crate::specs::Requirements::add_user_requirements))]
 pub(crate) fn add_user(issuer: &Issuer, command: &AddUser) -> [Requirement; 2]
     ensures { result ≡ add_user_requirements issuer.now command.now }
@@ -29,6 +30,7 @@ pub(crate) fn add_user(issuer: &Issuer, command: &AddUser) -> [Requirement; 2]
     ]
 }
 
+/// What ALTUSER requires.
 #[tactic(auto, unfolding(crate::specs::Requirements::alt_user_requirements))]
 pub(crate) fn alt_user(command: &AltUser) -> [Requirement; 3]
     ensures { result ≡ alt_user_requirements command.now }
@@ -52,6 +54,7 @@ pub(crate) fn alt_user(command: &AltUser) -> [Requirement; 3]
     ]
 }
 
+/// What DELUSER requires.
 #[tactic(auto, unfolding(crate::specs::Requirements::del_user_requirements))]
 pub(crate) fn del_user(command: &DelUser) -> [Requirement; 1]
     ensures { result ≡ del_user_requirements command.now }

@@ -172,10 +172,3 @@ module _ (class : List ℕ) (name : Spelled) (change : Profile → Profile) (kee
 -- ---- what is within a limit doesn't pass it
 pub not_over : (limit : Limit) (most count : ℕ) → count ≤ most → over limit most count ≡ None
 not_over limit most count few = let less : nat_lt most count ≡ false = grind (arith, nat_tests) in ap (λ b. if_met b (Full limit most)) less
-
--- ---- with DELETE nothing is asked
-pub no_limit : (delete : Bool) (test : Option Conflict) → delete ≡ true → None ≡ cond delete None test
-no_limit delete test is = sym (ap (λ b. cond b None test) is)
-
-pub some_limit : (delete : Bool) (test told : Option Conflict) → delete ≡ false → told ≡ test → told ≡ cond delete None test
-some_limit delete test told is same = same ∙ sym (ap (λ b. cond b None test) is)

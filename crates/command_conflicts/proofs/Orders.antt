@@ -240,15 +240,15 @@ profiles-number issuer command rows = over-number _ _ _
 
 standard-number : (issuer : Issuer) (c : Permit) (rows : Rows) → HasNumber 17 (standard_full issuer c rows)
 unfolding standard_full
-standard-number issuer c rows = number-unless 17 c.delete _ (number-then 17 _ (λ (p : Profile). over-number Entries most_list_entries (length p.standard)) (profile_of c.class c.profile (step issuer (form.Permit c) rows)))
+standard-number issuer c rows = number-then 17 _ (λ (p : Profile). over-number Entries most_list_entries (length p.standard)) (profile_of c.class c.profile (step issuer (form.Permit c) rows))
 
 conditional-number : (issuer : Issuer) (c : Permit) (rows : Rows) → HasNumber 17 (conditional_full issuer c rows)
 unfolding conditional_full
-conditional-number issuer c rows = number-unless 17 c.delete _ (number-then 17 _ (λ (p : Profile). over-number Entries most_list_entries (length p.conditional)) (profile_of c.class c.profile (step issuer (form.Permit c) rows)))
+conditional-number issuer c rows = number-then 17 _ (λ (p : Profile). over-number Entries most_list_entries (length p.conditional)) (profile_of c.class c.profile (step issuer (form.Permit c) rows))
 
 entries-number : (issuer : Issuer) (c : Permit) (rows : Rows) → HasNumber 17 (entries_full issuer c rows)
 unfolding entries_full
-entries-number issuer c rows = number-unless 17 c.delete _ (over-number _ _ _)
+entries-number issuer c rows = over-number _ _ _
 
 members-number : (issuer : Issuer) (command : CommandFields) (class : List ℕ) (name : Spelled) (rows : Rows) → HasNumber 17 (members_full issuer command class name rows)
 unfolding members_full

@@ -97,19 +97,18 @@ class_profiles_full issuer command class rows = over ClassProfiles most_class_pr
 unfoldable pub profiles_full : Issuer → CommandFields → Rows → Option Conflict
 profiles_full issuer command rows = over Profiles most_profiles (profile_count (step issuer command rows).classes)
 
--- of the profile that PERMIT changes: either list, and all lists. With DELETE no entry is added, so that no limit is
--- passed.
+-- of the profile that PERMIT changes: either list, and all lists
 abbrev pub list_full : (Profile → ℕ) → Option Profile → Option Conflict
 list_full entries profile = option_and_then (λ (p : Profile). over Entries most_list_entries (entries p)) profile
 
 unfoldable pub standard_full : Issuer → Permit → Rows → Option Conflict
-standard_full issuer c rows = if c.delete then None else list_full (λ p. length p.standard) (profile_of c.class c.profile (step issuer (fields.Permit c) rows))
+standard_full issuer c rows = list_full (λ p. length p.standard) (profile_of c.class c.profile (step issuer (fields.Permit c) rows))
 
 unfoldable pub conditional_full : Issuer → Permit → Rows → Option Conflict
-conditional_full issuer c rows = if c.delete then None else list_full (λ p. length p.conditional) (profile_of c.class c.profile (step issuer (fields.Permit c) rows))
+conditional_full issuer c rows = list_full (λ p. length p.conditional) (profile_of c.class c.profile (step issuer (fields.Permit c) rows))
 
 unfoldable pub entries_full : Issuer → Permit → Rows → Option Conflict
-entries_full issuer c rows = if c.delete then None else over AllEntries most_entries_in_all (entry_count (step issuer (fields.Permit c) rows).classes)
+entries_full issuer c rows = over AllEntries most_entries_in_all (entry_count (step issuer (fields.Permit c) rows).classes)
 
 -- of the profile that RDEFINE makes, or that RALTER changes; and the names of categories
 unfoldable pub members_full : Issuer → CommandFields → List ℕ → Spelled → Rows → Option Conflict

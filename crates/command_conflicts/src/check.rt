@@ -127,6 +127,7 @@ fn check_fields(tables: &RowTables, issuer: &Issuer, fields: &CommandFields) -> 
     }
 }
 
+/// The tests of ADDUSER, in their order.
 #[tactic(auto, unfolding(crate::specs::Conflicts::add_user_conflicts, crate::specs::Conflicts::user_full))]
 fn check_add_user(tables: &RowTables, issuer: &Issuer, command: &AddUser) -> Result<(), Conflict>
     ensures { result_err result ≡ first_met (add_user_conflicts issuer.now command.now tables.now.rows) }
@@ -144,6 +145,7 @@ fn check_add_user(tables: &RowTables, issuer: &Issuer, command: &AddUser) -> Res
     ]
 }
 
+/// The tests of ALTUSER, in their order.
 #[tactic(auto, unfolding(crate::specs::Conflicts::alt_user_conflicts))]
 fn check_alt_user(tables: &RowTables, issuer: &Issuer, command: &AltUser) -> Result<(), Conflict>
     ensures { result_err result ≡ first_met (alt_user_conflicts issuer.now command.now tables.now.rows) }
@@ -163,6 +165,7 @@ fn check_alt_user(tables: &RowTables, issuer: &Issuer, command: &AltUser) -> Res
     ]
 }
 
+/// The tests of DELUSER, in their order.
 #[tactic(auto, unfolding(crate::specs::Conflicts::del_user_conflicts))]
 fn check_del_user(tables: &RowTables, issuer: &Issuer, command: &DelUser) -> Result<(), Conflict>
     ensures { result_err result ≡ first_met (del_user_conflicts issuer.now command.now tables.now.rows) }
@@ -174,6 +177,7 @@ fn check_del_user(tables: &RowTables, issuer: &Issuer, command: &DelUser) -> Res
     ]
 }
 
+/// The tests of ADDGROUP, in their order.
 #[tactic(auto, unfolding(crate::specs::Conflicts::add_group_conflicts))]
 fn check_add_group(tables: &RowTables, issuer: &Issuer, command: &AddGroup) -> Result<(), Conflict>
     ensures { result_err result ≡ first_met (add_group_conflicts issuer.now command.now tables.now.rows) }
@@ -187,6 +191,7 @@ fn check_add_group(tables: &RowTables, issuer: &Issuer, command: &AddGroup) -> R
     ]
 }
 
+/// The tests of ALTGROUP, in their order.
 #[tactic(auto, unfolding(crate::specs::Conflicts::alt_group_conflicts))]
 fn check_alt_group(tables: &RowTables, command: &AltGroup) -> Result<(), Conflict>
     ensures { result_err result ≡ first_met (alt_group_conflicts command.now tables.now.rows) }
@@ -201,6 +206,7 @@ fn check_alt_group(tables: &RowTables, command: &AltGroup) -> Result<(), Conflic
     ]
 }
 
+/// The tests of DELGROUP, in their order.
 #[tactic(auto, unfolding(crate::specs::Conflicts::del_group_conflicts))]
 fn check_del_group(tables: &RowTables, command: &DelGroup) -> Result<(), Conflict>
     ensures { result_err result ≡ first_met (del_group_conflicts command.now tables.now.rows) }
@@ -214,6 +220,7 @@ fn check_del_group(tables: &RowTables, command: &DelGroup) -> Result<(), Conflic
     ]
 }
 
+/// The tests of CONNECT, in their order.
 #[tactic(auto, unfolding(crate::specs::Conflicts::connect_conflicts))]
 fn check_connect(tables: &RowTables, issuer: &Issuer, command: &Connect) -> Result<(), Conflict>
     ensures { result_err result ≡ first_met (connect_conflicts issuer.now command.now tables.now.rows) }
@@ -227,6 +234,7 @@ fn check_connect(tables: &RowTables, issuer: &Issuer, command: &Connect) -> Resu
     ]
 }
 
+/// The tests of REMOVE, in their order.
 #[tactic(auto, unfolding(crate::specs::Conflicts::remove_conflicts))]
 fn check_remove(tables: &RowTables, issuer: &Issuer, command: &Remove) -> Result<(), Conflict>
     ensures { result_err result ≡ first_met (remove_conflicts issuer.now command.now tables.now.rows) }
@@ -240,6 +248,7 @@ fn check_remove(tables: &RowTables, issuer: &Issuer, command: &Remove) -> Result
     ]
 }
 
+/// The tests of ADDSD, in their order.
 fn check_add_sd(tables: &RowTables, issuer: &Issuer, command: &AddSd) -> Result<(), Conflict>
     ensures { result_err result ≡ first_met (add_sd_conflicts issuer.now command.now tables.now.rows) }
 {
@@ -260,6 +269,7 @@ fn check_data_set_fits(tables: &RowTables) -> Result<(), Conflict>
     ]
 }
 
+/// The tests of a data set profile that is to be defined.
 #[tactic(auto, unfolding(crate::specs::ProfileConflicts::add_sd_requirements))]
 fn check_new_data_set(tables: &RowTables, command: &AddSd) -> Result<(), Conflict>
     ensures { result_err result ≡ first_met (add_sd_requirements command.now tables.now.rows) }
@@ -274,6 +284,7 @@ fn check_new_data_set(tables: &RowTables, command: &AddSd) -> Result<(), Conflic
     ]
 }
 
+/// The tests of ALTSD, in their order.
 #[tactic(auto, unfolding(crate::specs::ProfileConflicts::alt_sd_conflicts))]
 fn check_alt_sd(tables: &RowTables, command: &AltSd) -> Result<(), Conflict>
     ensures { result_err result ≡ first_met (alt_sd_conflicts command.now tables.now.rows) }
@@ -288,6 +299,7 @@ fn check_alt_sd(tables: &RowTables, command: &AltSd) -> Result<(), Conflict>
     ]
 }
 
+/// The tests of DELSD, in their order.
 #[tactic(auto, unfolding(crate::specs::ProfileConflicts::del_sd_conflicts))]
 fn check_del_sd(tables: &RowTables, command: &DelSd) -> Result<(), Conflict>
     ensures { result_err result ≡ first_met (del_sd_conflicts command.now tables.now.rows) }
@@ -295,6 +307,7 @@ fn check_del_sd(tables: &RowTables, command: &DelSd) -> Result<(), Conflict>
     check_profile(tables, dataset(), &command.profile)
 }
 
+/// The tests of RDEFINE, in their order.
 fn check_r_define(tables: &RowTables, issuer: &Issuer, command: &RDefine) -> Result<(), Conflict>
     ensures { result_err result ≡ first_met (r_define_conflicts issuer.now command.now tables.now.rows) }
 {
@@ -304,6 +317,7 @@ fn check_r_define(tables: &RowTables, issuer: &Issuer, command: &RDefine) -> Res
     check_resource_fits(tables, command)
 }
 
+/// The tests of a general resource profile that is to be defined.
 #[tactic(auto, unfolding(crate::specs::ProfileConflicts::r_define_requirements))]
 fn check_new_resource(tables: &RowTables, command: &RDefine) -> Result<(), Conflict>
     ensures { result_err result ≡ first_met (r_define_requirements command.now tables.now.rows) }
@@ -332,6 +346,7 @@ fn check_resource_fits(tables: &RowTables, command: &RDefine) -> Result<(), Conf
     ]
 }
 
+/// The tests of RALTER, in their order.
 #[tactic(auto, unfolding(crate::specs::ProfileConflicts::r_alter_conflicts, crate::specs::ProfileConflicts::categories_full))]
 fn check_r_alter(tables: &RowTables, issuer: &Issuer, command: &RAlter) -> Result<(), Conflict>
     ensures { result_err result ≡ first_met (r_alter_conflicts issuer.now command.now tables.now.rows) }
@@ -349,6 +364,7 @@ fn check_r_alter(tables: &RowTables, issuer: &Issuer, command: &RAlter) -> Resul
     ]
 }
 
+/// The tests of RDELETE, in their order.
 #[tactic(auto, unfolding(crate::specs::ProfileConflicts::r_delete_conflicts))]
 fn check_r_delete(tables: &RowTables, command: &RDelete) -> Result<(), Conflict>
     ensures { result_err result ≡ first_met (r_delete_conflicts command.now tables.now.rows) }
@@ -359,6 +375,7 @@ fn check_r_delete(tables: &RowTables, command: &RDelete) -> Result<(), Conflict>
     ]
 }
 
+/// The tests of PERMIT, in their order.
 #[tactic(auto, unfolding(crate::specs::ProfileConflicts::permit_conflicts))]
 fn check_permit(tables: &RowTables, issuer: &Issuer, command: &Permit) -> Result<(), Conflict>
     ensures { result_err result ≡ first_met (permit_conflicts issuer.now command.now tables.now.rows) }

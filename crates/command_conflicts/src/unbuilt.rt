@@ -34,12 +34,14 @@ pub fn is_unbuilt(fields: &CommandFields) -> bool
     }
 }
 
+/// Whether ADDUSER asks for what is not built.
 fn is_unbuilt_add_user(command: &AddUser) -> bool
     ensures { result ≡ is_unbuilt (form.AddUser command.now) }
 {
     command.seclevel.is_some() || names_any(&command.addcategory) || command.seclabel.is_some()
 }
 
+/// Whether ALTUSER asks for what is not built.
 fn is_unbuilt_alt_user(command: &AltUser) -> bool
     ensures { result ≡ is_unbuilt (form.AltUser command.now) }
 {
@@ -51,12 +53,14 @@ fn is_unbuilt_alt_user(command: &AltUser) -> bool
         || command.noseclabel
 }
 
+/// Whether ADDSD asks for what is not built.
 fn is_unbuilt_add_sd(command: &AddSd) -> bool
     ensures { result ≡ is_unbuilt (form.AddSd command.now) }
 {
     command.seclevel.is_some() || names_any(&command.addcategory) || command.seclabel.is_some()
 }
 
+/// Whether ALTSD asks for what is not built.
 fn is_unbuilt_alt_sd(command: &AltSd) -> bool
     ensures { result ≡ is_unbuilt (form.AltSd command.now) }
 {
@@ -68,6 +72,7 @@ fn is_unbuilt_alt_sd(command: &AltSd) -> bool
         || command.noseclabel
 }
 
+/// Whether RDEFINE asks for what is not built.
 fn is_unbuilt_rdefine(command: &RDefine) -> bool
     ensures { result ≡ is_unbuilt (form.RDefine command.now) }
 {
@@ -78,6 +83,7 @@ fn is_unbuilt_rdefine(command: &RDefine) -> bool
         || has_members(&command.addmem)
 }
 
+/// Whether RALTER asks for what is not built.
 fn is_unbuilt_ralter(command: &RAlter) -> bool
     ensures { result ≡ is_unbuilt (form.RAlter command.now) }
 {
@@ -100,18 +106,21 @@ fn is_unbuilt_class(class: Id) -> bool
     name == b"SECDATA".as_slice() || name == b"SECLABEL".as_slice() || name == b"GLOBAL".as_slice()
 }
 
+/// Whether the list names anything.
 fn names_any(names: &Ids) -> bool
     ensures { result ≡ names_any names.now }
 {
     names.items.first().is_some()
 }
 
+/// Whether there are members in the list.
 fn has_members(members: &Members) -> bool
     ensures { result ≡ names_any members.now }
 {
     members.items.first().is_some()
 }
 
+/// Whether the list names a member.
 fn has_member_names(names: &MemberNames) -> bool
     ensures { result ≡ names_any names.now }
 {

@@ -212,3 +212,40 @@ category_repeats-le (Category c) ms names = either (has_name c names || list_any
 -- those that pass and those that don't
 pub count-filter : {X : Type 0} (p : X → Bool) (xs : List X) → count_by p xs + length (filter (λ x. not (p x)) xs) ≡ length xs
 count-filter p xs = omega (arith, length-filter p xs, length-filter_both p (λ x. not (p x)) (λ x. refl) xs)
+
+-- ---- what is left once the IDs are taken away
+module _ {X W : Type 0} (hits : W → X → Bool) where
+  missed : List W → X → Bool
+  missed ws x = not (list_any (λ w. hits w x) ws)
+
+  missed-one : (w : W) (ws : List W) (xs : List X) → filter (missed (w ∷ ws)) xs ≡ filter (missed ws) (filter (λ x. not (hits w x)) xs)
+  missed-one w ws [] = refl
+  missed-one w ws (x ∷ xs) = by (hits w x) (missed-one w ws xs)
+    where
+      by : (b : Bool) → filter (missed (w ∷ ws)) xs ≡ filter (missed ws) (filter (λ x. not (hits w x)) xs)
+          → cond (not (b || list_any (λ v. hits v x) ws)) (x ∷ filter (missed (w ∷ ws)) xs) (filter (missed (w ∷ ws)) xs)
+          ≡ filter (missed ws) (cond (not b) (x ∷ filter (λ x. not (hits w x)) xs) (filter (λ x. not (hits w x)) xs))
+      by true rest = rest
+      by false rest = ap (λ ys. cond (missed ws x) (x ∷ ys) ys) rest
+
+  missed-none : (xs : List X) → filter (missed []) xs ≡ xs
+  missed-none [] = refl
+  missed-none (x ∷ xs) = ap (λ ys. x ∷ ys) (missed-none xs)
+
+  filtered : (ws : List W) (xs : List X) → filter (missed ws) xs ≡ fold (λ ys w. filter (λ x. not (hits w x)) ys) xs ws
+  filtered [] xs = missed-none xs
+  filtered (w ∷ ws) xs = missed-one w ws xs ∙ filtered ws (filter (λ x. not (hits w x)) xs)
+
+  left : (ws : List W) (xs : List X) → count_by (λ x. not (list_any (λ w. hits w x) ws)) xs ≡ length (fold (λ ys w. filter (λ x. not (hits w x)) ys) xs ws)
+  left ws xs = sym (length-filter (missed ws) xs) ∙ ap (λ (ys : List X). length ys) (filtered ws xs)
+
+pub entries-left : (c : Permit) → c.delete ≡ true → (list : List Entry) (whos : List Who) → count_by (λ entry. not (list_any (λ who. is_for who entry) whos)) list ≡ length (fold (with_entry c) list whos)
+entries-left c deletes list whos =
+    left is_for whos list
+    ∙ ap (λ b. length (fold (λ entries who. cond b (withdrawn who entries) (permitted (record { who = who; level = level_of c }) entries)) list whos)) (sym deletes)
+
+pub conditionals-left : (c : Permit) (condition : Condition) → c.delete ≡ true → (list : List CondEntry) (whos : List Who)
+    → count_by (λ entry. not (list_any (λ who. is_for_under condition who entry) whos)) list ≡ length (fold (with_conditional c condition) list whos)
+conditionals-left c condition deletes list whos =
+    left (is_for_under condition) whos list
+    ∙ ap (λ b. length (fold (λ entries who. cond b (withdrawn_when condition who entries) (permitted_when (record { condition = condition; who = who; level = level_of c }) entries)) list whos)) (sym deletes)

@@ -61,6 +61,7 @@ pub fn edits_of(
     }
 }
 
+/// The edits of ALTUSER.
 fn edits_of_alt_user(
     alloc: Global,
     tables: &RowTables,
@@ -77,6 +78,7 @@ fn edits_of_alt_user(
     }
 }
 
+/// The edits of CONNECT.
 fn edits_of_connect(
     alloc: Global,
     tables: &RowTables,
@@ -94,6 +96,7 @@ fn edits_of_connect(
     }
 }
 
+/// The edits of REMOVE.
 fn edits_of_remove(
     alloc: Global,
     tables: &RowTables,
@@ -111,6 +114,7 @@ fn edits_of_remove(
     }
 }
 
+/// The edits of ALTGROUP.
 fn edits_of_alt_group(
     alloc: Global,
     tables: &RowTables,

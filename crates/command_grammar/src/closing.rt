@@ -52,6 +52,7 @@ fn clash(verb: Verb, slots: &[Option<Content>]) -> Option<(Word, Word)>
         && stands(verb, slots, pair.1))
 }
 
+/// Whether it is the kind of GENERIC, which leaves nothing in the fields.
 fn is_generic_kind(kind: ValueKind) -> bool
     ensures { result ≡ leaves_nothing kind }
 {
@@ -61,6 +62,7 @@ fn is_generic_kind(kind: ValueKind) -> bool
     }
 }
 
+/// The place of GENERIC among the operands.
 fn generic_place(rows: &[Operand]) -> Option<usize>
     ensures value { result ≡ place_of_generic rows.now }
     ensures within { IfSome result (λ k. k < length rows.now) }
@@ -102,6 +104,7 @@ fn permits(slots: &[Option<Content>], word: Word) -> bool
     stands(Verb::Permit, slots, word)
 }
 
+/// Fills in the class that is meant where PERMIT names none.
 fn fill_class(slots: &mut Slots)
     ensures { slots.new.items ≡ class_filled slots.old.items }
 {
@@ -118,6 +121,7 @@ fn means_read(slots: &[Option<Content>]) -> bool
     permits(slots, Word::Id) && !(permits(slots, Word::Access) || permits(slots, Word::Delete))
 }
 
+/// Fills in the access that is meant where PERMIT names none.
 fn fill_access(slots: &mut Slots)
     ensures { slots.new.items ≡ access_filled slots.old.items }
 {
@@ -131,6 +135,7 @@ fn fill_access(slots: &mut Slots)
     }
 }
 
+/// Whether values of the kind are judged behind all the others.
 fn is_late_kind(kind: ValueKind) -> bool
     ensures { result ≡ is_judged_late kind }
 {
@@ -168,6 +173,7 @@ fn needs_id(slots: &[Option<Content>]) -> bool
     permits(slots, Word::Access) || permits(slots, Word::Delete) || permits(slots, Word::When)
 }
 
+/// Whether PERMIT lacks an ID that it asks for.
 fn lacks_id(slots: &[Option<Content>]) -> bool
     ensures { result ≡ id_lacks slots.now }
 {

@@ -13,6 +13,7 @@ use command_values::{Content, ParseFault, Scope, Syntax, bare, clean, value};
 use command_words::{Quoting, Tokens, ValuedWord, is_cut, is_spelled};
 use std::alloc::{AllocError, Global};
 
+/// The first operand that the word spells.
 fn first_spelled(rows: &[Operand], word: &[u8]) -> Option<usize>
     ensures value { result ≡ position (is_spelling (map upper word.now)) rows.now }
     ensures within { IfSome result (λ k. k < length rows.now) }
@@ -21,6 +22,7 @@ fn first_spelled(rows: &[Operand], word: &[u8]) -> Option<usize>
         .position(|row| is_spelled(word, row.word.spelling()))
 }
 
+/// The first operand whose spelling the word begins.
 fn first_begun(rows: &[Operand], word: &[u8]) -> Option<usize>
     ensures value { result ≡ position (is_beginning (map upper word.now)) rows.now }
     ensures within { IfSome result (λ k. k < length rows.now) }
@@ -29,6 +31,7 @@ fn first_begun(rows: &[Operand], word: &[u8]) -> Option<usize>
         .position(|row| is_cut(word, row.word.spelling()))
 }
 
+/// How many operands have a spelling that the word begins.
 fn count_begun(rows: &[Operand], word: &[u8]) -> usize
     ensures { result ≡ count_by (is_beginning (map upper word.now)) rows.now }
 {

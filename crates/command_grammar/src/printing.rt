@@ -23,6 +23,7 @@ fn push_value(out: &mut Vec<u8>, content: &Content) -> Result<(), AllocError>
     Ok(())
 }
 
+/// Writes the positional words, each behind a blank.
 fn push_positions(out: &mut Vec<u8>, positions: &[Content]) -> Result<(), AllocError>
     ensures { OnOk result (out.new.items ≡ out.old.items ++ positions_text positions.now) }
 {
@@ -33,6 +34,7 @@ fn push_positions(out: &mut Vec<u8>, positions: &[Content]) -> Result<(), AllocE
     Ok(())
 }
 
+/// Writes an operand with its value, behind a blank.
 fn push_operand(out: &mut Vec<u8>, row: Operand, content: &Content) -> Result<(), AllocError>
     ensures { OnOk result (out.new.items ≡ out.old.items ++ (32 ∷ (spelling_of row.word ++ value_text content.now))) }
 {
@@ -41,6 +43,7 @@ fn push_operand(out: &mut Vec<u8>, row: Operand, content: &Content) -> Result<()
     push_value(out, content)
 }
 
+/// Writes the operands that were given, in the order of the table.
 fn push_operands(
     out: &mut Vec<u8>,
     rows: &[Operand],

@@ -28,6 +28,7 @@ impl Model for Slots {
 }
 
 impl Slots {
+    /// The values, from the first on.
     pub fn new(slots: Vec<Option<Content>>) -> Slots
         ensures { result ≡ slots.items }
     {
@@ -53,6 +54,7 @@ impl Slots {
         self.take().is_some()
     }
 
+    /// The ID that is in front.
     pub fn id(&mut self) -> Option<Id>
         ensures value { result ≡ id_in (front self.old) }
         ensures rest { self.new ≡ behind self.old }
@@ -63,6 +65,7 @@ impl Slots {
         }
     }
 
+    /// The group authority that is in front.
     pub fn authority(&mut self) -> Option<GroupAuthority>
         ensures value { result ≡ authority_in (front self.old) }
         ensures rest { self.new ≡ behind self.old }
@@ -73,6 +76,7 @@ impl Slots {
         }
     }
 
+    /// The user's name that is in front.
     pub fn name(&mut self) -> Option<Text>
         ensures value { result ≡ name_in (front self.old) }
         ensures rest { self.new ≡ behind self.old }
@@ -83,6 +87,7 @@ impl Slots {
         }
     }
 
+    /// The IDs in front; none where there is no list.
     pub fn ids(&mut self, alloc: Global) -> Ids
         ensures value { result ≡ ids_in (front self.old) }
         ensures rest { self.new ≡ behind self.old }
@@ -95,6 +100,7 @@ impl Slots {
         }
     }
 
+    /// The access level that is in front.
     pub fn level(&mut self) -> Option<Level>
         ensures value { result ≡ level_in (front self.old) }
         ensures rest { self.new ≡ behind self.old }
@@ -105,6 +111,7 @@ impl Slots {
         }
     }
 
+    /// The audit rule that is in front.
     pub fn audit(&mut self) -> Option<AuditRule>
         ensures value { result ≡ audit_in (front self.old) }
         ensures rest { self.new ≡ behind self.old }
@@ -115,6 +122,7 @@ impl Slots {
         }
     }
 
+    /// The value of RESET that is in front.
     pub fn reset(&mut self) -> Option<Reset>
         ensures value { result ≡ reset_in (front self.old) }
         ensures rest { self.new ≡ behind self.old }
@@ -125,6 +133,7 @@ impl Slots {
         }
     }
 
+    /// The port of entry that is in front.
     pub fn when(&mut self) -> Option<Condition>
         ensures value { result ≡ when_in (front self.old) }
         ensures rest { self.new ≡ behind self.old }
@@ -135,6 +144,7 @@ impl Slots {
         }
     }
 
+    /// The users and groups in front; none where there is no list.
     pub fn whos(&mut self, alloc: Global) -> Whos
         ensures value { result ≡ whos_in (front self.old) }
         ensures rest { self.new ≡ behind self.old }
@@ -147,6 +157,7 @@ impl Slots {
         }
     }
 
+    /// The members in front; none where there is no list.
     pub fn members(&mut self, alloc: Global) -> Members
         ensures value { result ≡ members_in (front self.old) }
         ensures rest { self.new ≡ behind self.old }
@@ -159,6 +170,7 @@ impl Slots {
         }
     }
 
+    /// The names of members in front; none where there is no list.
     pub fn member_names(&mut self, alloc: Global) -> MemberNames
         ensures value { result ≡ member_names_in (front self.old) }
         ensures rest { self.new ≡ behind self.old }

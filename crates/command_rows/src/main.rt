@@ -10,6 +10,7 @@ use command_parser::{ParseFault, Syntax, Word, parse};
 use std::alloc::{AllocError, Global};
 use std::str;
 
+/// The value of a hexadecimal digit.
 fn digit(byte: u8) -> Option<u8>
     ensures { IfSome result (λ d. d < 16) }
 {
@@ -33,6 +34,7 @@ fn first_byte(text: &[u8]) -> Option<(u8, usize)>
     Some((*byte, 1))
 }
 
+/// The text with each `\\xHH` replaced by its byte.
 fn unescaped(alloc: Global, text: &[u8]) -> Result<Vec<u8>, AllocError> {
     let mut bytes = Vec::new(alloc);
     let mut left = text;
@@ -43,10 +45,12 @@ fn unescaped(alloc: Global, text: &[u8]) -> Result<Vec<u8>, AllocError> {
     Ok(bytes)
 }
 
+/// The spelling of an operand.
 fn spelling(word: Word) -> &'static str {
     str::from_utf8(word.spelling()).unwrap_or("?")
 }
 
+/// Prints the first fault of a text.
 fn print_fault(rt: &impl Print, fault: Syntax) -> Result<()> {
     match fault {
         Syntax::UnknownCommand => println!(rt; "! UNKNOWNCOMMAND")?,
@@ -66,6 +70,7 @@ fn print_fault(rt: &impl Print, fault: Syntax) -> Result<()> {
     Ok(())
 }
 
+/// Prints what a text spells for that issuer.
 fn print_row(rt: &(impl Print + AllocGlobal), issuer: &str, text: &str) -> Result<()> {
     let issuer = Id::read(issuer.as_bytes()).map_err(|_| anyhow!("the issuer is no ID"))?;
     let text = unescaped(rt.alloc(), text.as_bytes())?;
@@ -77,6 +82,7 @@ fn print_row(rt: &(impl Print + AllocGlobal), issuer: &str, text: &str) -> Resul
     Ok(())
 }
 
+/// Prints what each row spells.
 fn main(rt: HostRuntime) -> Result<()> {
     for line in rt.lines(rt.alloc()) {
         let line = line?;

@@ -8,7 +8,7 @@ use Rattle.access_levels.specs.declared.entries.PortClass.{PortClass}
 use Rattle.access_levels.specs.declared.entries.PortClass.TheVariants.{Terminal, Console, Jesinput, Appcport}
 use Rattle.access_levels.specs.declared.entries.Condition.{Condition}
 use Rattle.access_levels.specs.Level.{port_class_name}
-use Rattle.access_levels.specs.Spelling.{id_of}
+use Rattle.access_levels.specs.Spelling.{id_of, port_class_of}
 use Rattle.command_words.specs.declared.quoting.Quoting.TheVariants.{Ignored, Outside}
 use Rattle.command_words.specs.Bytes.{upper}
 use Rattle.command_words.specs.Tokens.{Word, within, group_end, tokens, tokens_from}
@@ -18,7 +18,7 @@ use Rattle.command_words.proofs.Spelled.{is_calm, letter-calm, word_token, word_
 use Rattle.command_values.specs.declared.value_kinds.ValueKind.TheVariants as kinds
 use Rattle.command_values.specs.Results.{◌>>=◌}
 use Rattle.command_values.specs.WordsOfValues.{unless_stray}
-use Rattle.command_values.specs.Entries.{more_whos_text, whos_text, port_class_of, port_name, port, port_text}
+use Rattle.command_values.specs.Entries.{more_whos_text, whos_text, port_name, port, port_text}
 use Rattle.command_values.specs.Values.{name_of, more_text, ids_text}
 use Rattle.command_values.specs.LawfulValues.{AreNames, AreNamed, AreWhos}
 use Rattle.command_values.proofs.Names.{name-plain, all_of}

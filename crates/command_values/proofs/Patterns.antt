@@ -9,7 +9,7 @@ use Rattle.std.proofs.Math.Seq.{take-append_seam}
 use Rattle.access_levels.specs.Spelling.{id_of}
 use Rattle.generic_names.specs.declared.kind.NameKind.{NameKind}
 use Rattle.generic_names.specs.declared.kind.NameKind.TheVariants.{DataSet, General}
-use Rattle.generic_names.specs.Spelled.{Spelled}
+use Rattle.generic_names.specs.Spelled.{Spelled, first_qualifier}
 use Rattle.generic_names.specs.Faults.{pattern_of, member_of, is_letter as is_name_letter, is_digit}
 use Rattle.generic_names.specs.Covers.{is_generic}
 use Rattle.command_values.proofs.NameBytes.{is_name_byte, pattern-read, member-read}
@@ -19,7 +19,7 @@ use Rattle.command_words.specs.declared.quoting.Quoting.TheVariants.{Ignored}
 use Rattle.command_words.specs.Bytes.{is_faulty_byte, upper}
 use Rattle.command_words.specs.ValuedWords.{faulty_at}
 use Rattle.command_words.proofs.Letters.{is_letter, letter-quote, both_first, both_second}
-use Rattle.command_values.specs.ProfileNames.{first_qualifier, dataset_profile, general_profile, if_label, is_level_or_category, profile_in, form_in, general_form, class_profile, in_quotes, dataset_named}
+use Rattle.command_values.specs.ProfileNames.{dataset_profile, general_profile, if_label, is_level_or_category, profile_in, form_in, general_form, class_profile, in_quotes, dataset_named}
 
 -- a byte that stands as itself in a command: of a word, no quote, lawful and in upper case
 abbrev pub is_sound_byte : ℕ → Bool

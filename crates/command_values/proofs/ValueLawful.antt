@@ -2,7 +2,7 @@
 use Rattle.std.proofs.Common.{◌≡◌, ℕ, List, [], ◌∷◌, ◌++◌, map, Bool, true, false, cond, Option, None, Some, Ok, refl, ap, subst, ◌∙◌}
 use Rattle.std.specs.Prelude.{◌==◌, bytes_eq, codes}
 use Rattle.std.specs.Result.{result_ok}
-use Rattle.access_levels.specs.Spelling.{id_of, authority_of, level_of}
+use Rattle.access_levels.specs.Spelling.{id_of, authority_of, level_of, port_class_of}
 use Rattle.access_levels.specs.declared.entries.Who.{Who}
 use Rattle.access_levels.specs.declared.entries.Who.TheVariants.{Star, Named}
 use Rattle.access_levels.specs.declared.entries.Condition.{Condition}
@@ -22,7 +22,7 @@ use Rattle.command_values.specs.Results.{◌>>=◌, or_fault}
 use Rattle.command_values.specs.WordsOfValues.{clean, word_of, stray, held, unless_stray}
 use Rattle.command_values.specs.ProfileNames.{dataset_profile, class_profile, dataset_text, profile_of_text, dataset_named}
 use Rattle.command_values.specs.Members.{member_form, added, dropped}
-use Rattle.command_values.specs.Entries.{port_class_of, port_name, port_of, port}
+use Rattle.command_values.specs.Entries.{port_name, port_of, port}
 use Rattle.command_values.specs.Audits.{audit_rule}
 use Rattle.command_values.specs.Values.{name_of, is_name, if_name, unquoted, name_text, reset_of, star_or, whos, one, quotes_of, single, names, several, value}
 use Rattle.command_values.specs.LawfulValues.{AreNames, IsNonEmpty, Fits, AreNamed, AreWhos, Suits}

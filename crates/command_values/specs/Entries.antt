@@ -3,11 +3,9 @@ use Rattle.std.specs.Prelude.{ℕ, List, [], ◌∷◌, ◌++◌, map, find, cod
 use Rattle.std.specs.Result.{result_ok}
 use Rattle.access_levels.specs.declared.entries.Who.{Who}
 use Rattle.access_levels.specs.declared.entries.Who.TheVariants.{Star, Named}
-use Rattle.access_levels.specs.declared.entries.PortClass.{PortClass}
-use Rattle.access_levels.specs.declared.entries.PortClass.TheVariants.{Terminal, Console, Jesinput, Appcport}
 use Rattle.access_levels.specs.declared.entries.Condition.{Condition}
 use Rattle.access_levels.specs.Level.{port_class_name}
-use Rattle.access_levels.specs.Spelling.{id_of}
+use Rattle.access_levels.specs.Spelling.{id_of, port_class_of}
 use Rattle.command_words.specs.declared.quoting.Quoting.TheVariants.{Ignored}
 use Rattle.command_words.specs.Bytes.{upper}
 use Rattle.command_words.specs.Tokens.{tokens}
@@ -32,13 +30,6 @@ more_whos_text (w ∷ ws) = 32 ∷ (who_text w ++ more_whos_text ws)
 abbrev pub whos_text : List Who → List ℕ
 whos_text [] = []
 whos_text (w ∷ ws) = who_text w ++ more_whos_text ws
-
--- the classes of ports of entry, and the one that a word in upper case names
-abbrev pub port_classes : List PortClass
-port_classes = Terminal ∷ Console ∷ Jesinput ∷ Appcport ∷ []
-
-abbrev pub port_class_of : List ℕ → Option PortClass
-port_class_of w = find (λ c. bytes_eq w (port_class_name c)) port_classes
 
 -- the name of the port, in the parentheses behind the class at place p
 abbrev pub port_name : ℕ → List ValuedWord → Result (List ℕ) Syntax

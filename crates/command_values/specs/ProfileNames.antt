@@ -5,7 +5,7 @@ use Rattle.std.specs.Result.{result_ok}
 use Rattle.access_levels.specs.Spelling.{id_of}
 use Rattle.generic_names.specs.declared.kind.NameKind.{NameKind}
 use Rattle.generic_names.specs.declared.kind.NameKind.TheVariants.{DataSet, General}
-use Rattle.generic_names.specs.Spelled.{Spelled}
+use Rattle.generic_names.specs.Spelled.{Spelled, first_qualifier}
 use Rattle.generic_names.specs.Faults.{pattern_of}
 use Rattle.generic_names.specs.Covers.{is_generic}
 use Rattle.racf_profiles.specs.declared.fixed_classes.NameForm.{NameForm}
@@ -13,14 +13,6 @@ use Rattle.racf_profiles.specs.declared.fixed_classes.NameForm.TheVariants as fo
 use Rattle.racf_profiles.specs.declared.fixed_classes.ClassFacts.{ClassFacts}
 use Rattle.racf_profiles.specs.ClassTable.{facts_of}
 use Rattle.command_words.specs.Bytes.{upper}
-
--- what stands in front of the first period
-abbrev pub until : Option ℕ → List ℕ → List ℕ
-until None t = t
-until (Some k) t = take k t
-
-abbrev pub first_qualifier : List ℕ → List ℕ
-first_qualifier t = until (position (λ b. b == 46) t) t
 
 -- The first qualifier of a data set profile has an ID's spelling.
 abbrev pub dataset_profile : List ℕ → Option Spelled

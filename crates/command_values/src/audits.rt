@@ -49,6 +49,7 @@ impl AuditWord {
     }
 }
 
+/// The audit word that a word spells.
 fn audit_word_named(word: &[u8]) -> Option<AuditWord>
     ensures { result ≡ audit_word_of (map upper word.now) }
 {
@@ -72,6 +73,7 @@ fn may_follow(rule: Option<AuditRule>, word: AuditWord) -> bool
     }
 }
 
+/// The rule that was read so far; nothing is logged before the first word.
 fn so_far(rule: Option<AuditRule>) -> AuditRule
     ensures { result ≡ rule_so_far rule }
 {
@@ -81,12 +83,14 @@ fn so_far(rule: Option<AuditRule>) -> AuditRule
     }
 }
 
+/// The rule that logs from these levels on.
 fn logged(success: Option<Level>, failures: Option<Level>) -> AuditRule
     ensures { result ≡ record { success = success; failures = failures } }
 {
     AuditRule { success, failures }
 }
 
+/// The rule with what a word says from that level on.
 fn with_word(rule: AuditRule, word: AuditWord, level: Level) -> AuditRule
     ensures { result ≡ rule_with rule word level }
 {
@@ -127,6 +131,7 @@ fn audit_word(rule: Option<AuditRule>, place: u32, word: &[u8]) -> Result<AuditW
     }
 }
 
+/// The rule with what a word says from the level in its parentheses on.
 fn with_level(
     rule: AuditRule,
     word: AuditWord,

@@ -11,25 +11,25 @@ ghost use Rattle.command_words.specs.Tokens.{tokens};
 ghost use Rattle.command_words.specs.ValuedWords.{valued_words, IsValuedInReach};
 ghost use Rattle.command_words.specs.Pieces.{seen_valued};
 ghost use Rattle.command_values.specs.Results.{Gives, Finds};
-ghost use Rattle.command_values.specs.Entries.{star_alone, port_class_of, port_name as name_in, port_of as port_in_item, port as port_in};
+ghost use Rattle.access_levels.specs.Spelling.{port_class_of};
+ghost use Rattle.command_values.specs.Entries.{star_alone, port_name as name_in, port_of as port_in_item, port as port_in};
 ghost use Rattle.command_values.specs.Values.{whos as whos_in};
 
 use crate::faults::{ParseFault, Syntax};
 use crate::value_kinds::ValueKind;
 use crate::value_reading::{id_named, names};
 use crate::value_words::{clean, held, refused_at, stray, unless_stray, word_of};
-use crate::values::{PORT_CLASSES, Whos};
+use crate::values::Whos;
 use access_levels::{Condition, Id, PortClass, Who};
-use command_words::{Quoting, Tokens, ValuedWord, is_spelled};
+use command_words::{Quoting, ShortWord, Tokens, ValuedWord};
 use std::alloc::{AllocError, Global};
 
-fn port_class_named(word: &[u8]) -> Option<PortClass>
+/// The class of ports of entry that the word names.
+fn port_class(word: &[u8]) -> Option<PortClass>
     ensures { result ≡ port_class_of (map upper word.now) }
 {
-    PORT_CLASSES
-        .iter()
-        .copied()
-        .find(|class| is_spelled(word, class.name()))
+    let short = ShortWord::of(word)?;
+    PortClass::read(short.as_slice())
 }
 
 /// The name of the port, in the parentheses behind its class at `place`.
@@ -41,6 +41,7 @@ fn port_name(place: u32, inner: Tokens<'_>) -> Result<Id, Syntax>
     unless_stray(stray, name)
 }
 
+/// The port of entry that an item names.
 fn port_of(item: ValuedWord<'_>) -> Result<Condition, Syntax>
     requires { IsValuedInReach (seen_valued item) }
     ensures { Finds (λ c. c) result (port_in_item (seen_valued item.entry)) }
@@ -48,7 +49,7 @@ fn port_of(item: ValuedWord<'_>) -> Result<Condition, Syntax>
     match item {
         ValuedWord::Valued(place, word, inner) => {
             let word = clean(Quoting::Ignored, place, word)?;
-            let class = port_class_named(word).ok_or(Syntax::BadValue(place))?;
+            let class = port_class(word).ok_or(Syntax::BadValue(place))?;
             let name = port_name(place, inner)?;
             Ok(Condition { class, name })
         }
@@ -78,6 +79,7 @@ fn named(alloc: Global, ids: &[Id]) -> Result<Whos, AllocError>
     Ok(Whos { items })
 }
 
+/// Everyone, and nobody by name.
 fn only_star(alloc: Global) -> Result<Whos, AllocError>
     ensures { IfOk result (λ whos. whos ≡ star_alone) }
 {
@@ -86,6 +88,7 @@ fn only_star(alloc: Global) -> Result<Whos, AllocError>
     Ok(Whos { items })
 }
 
+/// Whether the word stands for everyone.
 fn is_star(word: &[u8]) -> bool
     ensures { result ≡ bytes_eq word.now (codes "*") }
 {

@@ -32,6 +32,7 @@ pub enum MemberForm {
     Category,
 }
 
+/// The form of members of a profile of GLOBAL.
 fn access_form(profile: &[u8]) -> MemberForm
     ensures { result ≡ form_of_access profile.now }
 {
@@ -42,6 +43,7 @@ fn access_form(profile: &[u8]) -> MemberForm
     }
 }
 
+/// The form of members of a profile of SECDATA.
 fn secdata_form(profile: &[u8]) -> MemberForm
     ensures { result ≡ form_of_secdata profile.now }
 {
@@ -52,6 +54,7 @@ fn secdata_form(profile: &[u8]) -> MemberForm
     }
 }
 
+/// The form of members of that profile of the class.
 fn form_by_class(class: &[u8], profile: &[u8]) -> Option<MemberForm>
     ensures { result ≡ form_in_class class.now profile.now }
 {
@@ -91,6 +94,7 @@ fn whole_text(alloc: Global, word: &[u8]) -> Result<Option<Vec<u8>>, AllocError>
     Ok(Some(folded_word(alloc, word)?))
 }
 
+/// The name of a member, of that kind, that a word spells.
 fn member_named(
     alloc: Global,
     kind: NameKind,
@@ -132,6 +136,7 @@ fn digits(word: &[u8]) -> Option<u32>
     Some(number)
 }
 
+/// The number, where it can be that of a security level.
 fn ranged(number: u32) -> Option<u8>
     ensures { result ≡ in_range (Some number) }
 {
@@ -153,6 +158,7 @@ fn number(word: &[u8]) -> Option<u8>
     ranged(digits(word)?)
 }
 
+/// The name with an access level that a word spells.
 fn access_member(alloc: Global, kind: NameKind, word: &[u8]) -> Result<Option<Member>, AllocError>
     ensures { IfOk result (λ member. member ≡ access_of kind (parts_of word.now)) }
 {
@@ -168,6 +174,7 @@ fn access_member(alloc: Global, kind: NameKind, word: &[u8]) -> Result<Option<Me
     }
 }
 
+/// The security level with its number that a word spells.
 fn security_level_member(word: &[u8]) -> Option<Member>
     ensures { result ≡ security_level_of (parts_of word.now) }
 {
@@ -177,6 +184,7 @@ fn security_level_member(word: &[u8]) -> Option<Member>
     Some(Member::SecurityLevel(name, level))
 }
 
+/// The category that a word spells.
 fn category_member(word: &[u8]) -> Option<Member>
     ensures { result ≡ category_of (result_ok (id_of (map upper word.now))) }
 {
@@ -184,6 +192,7 @@ fn category_member(word: &[u8]) -> Option<Member>
     Some(Member::Category(name))
 }
 
+/// The member of that form that a word spells.
 fn member_in(alloc: Global, form: MemberForm, word: &[u8]) -> Result<Option<Member>, AllocError>
     ensures { IfOk result (λ member. member ≡ member_read form word.now) }
 {
@@ -194,6 +203,7 @@ fn member_in(alloc: Global, form: MemberForm, word: &[u8]) -> Result<Option<Memb
     }
 }
 
+/// The name of a member that is spelled as an ID.
 fn id_name(text: &[u8]) -> Option<MemberName>
     ensures { result ≡ name_of_id text.now }
 {
@@ -204,6 +214,7 @@ fn id_name(text: &[u8]) -> Option<MemberName>
     }
 }
 
+/// The name by which DELMEM drops a member of that form.
 fn dropped_in(
     alloc: Global,
     form: MemberForm,
@@ -218,6 +229,7 @@ fn dropped_in(
     Ok(id_name(&text))
 }
 
+/// The members in the parentheses, each of that form.
 fn each_member(alloc: Global, form: MemberForm, inner: Tokens<'_>) -> Result<Members, ParseFault>
     ensures { Gives (λ ms. ms) result (each_of (member_read form) [] (valued_words (tokens inner.entry))) }
 {
@@ -232,6 +244,7 @@ fn each_member(alloc: Global, form: MemberForm, inner: Tokens<'_>) -> Result<Mem
     Ok(Members { items: members })
 }
 
+/// The names of members in the parentheses, as DELMEM has them.
 fn each_dropped(
     alloc: Global,
     form: MemberForm,

@@ -4,36 +4,22 @@ ghost use Rattle.std.specs.Prelude.{◌≡◌, ◌==◌, ◌++◌, ◌∷◌, �
 ghost use Rattle.std.specs.List.{list_any};
 ghost use Rattle.access_levels.specs.Spelling.{id_of};
 ghost use Rattle.command_words.specs.Bytes.{upper};
-ghost use Rattle.command_values.specs.ProfileNames.{first_qualifier as qualifier_first, dataset_profile as profile_of_dataset, general_profile as profile_general, if_label, is_level_or_category as names_level_or_category, profile_in as profile_by_form, form_in as names_in, general_form as form_general, class_profile as profile_of_class, in_quotes as text_in_quotes, dataset_text as text_of_dataset, dataset_named as dataset_by_word, is_unclosed as begins_unclosed, named_by_form as profile_by_word, any_named as profile_of_any};
+ghost use Rattle.command_values.specs.ProfileNames.{dataset_profile as profile_of_dataset, general_profile as profile_general, if_label, is_level_or_category as names_level_or_category, profile_in as profile_by_form, form_in as names_in, general_form as form_general, class_profile as profile_of_class, in_quotes as text_in_quotes, dataset_text as text_of_dataset, dataset_named as dataset_by_word, is_unclosed as begins_unclosed, named_by_form as profile_by_word, any_named as profile_of_any};
 
 use access_levels::Id;
 use command_words::folded;
-use generic_names::{NameKind, Pattern};
+use generic_names::{NameKind, Pattern, first_qualifier};
 use racf_profiles::{NameForm, class_facts};
 use std::alloc::{AllocError, Global};
 
-fn first_period(text: &[u8]) -> Option<usize>
-    ensures value { result ≡ position (λ b. b == 46) text.now }
-    ensures within { IfSome result (λ k. k < length text.now) }
-{
-    text.iter().position(|byte| *byte == b'.')
-}
-
-fn first_qualifier(text: &[u8]) -> &[u8]
-    ensures { result.now ≡ qualifier_first text.now }
-{
-    match first_period(text) {
-        Some(end) => text.split_at(end).0,
-        None => text,
-    }
-}
-
+/// Whether the text spells an ID.
 fn is_id(text: &[u8]) -> bool
     ensures { result ≡ is_ok (id_of text.now) }
 {
     Id::read(text).is_ok()
 }
 
+/// The name of a data set profile that a text spells.
 fn dataset_profile(text: &[u8]) -> Option<Pattern>
     ensures { result ≡ profile_of_dataset text.now }
 {
@@ -43,12 +29,14 @@ fn dataset_profile(text: &[u8]) -> Option<Pattern>
     Pattern::read(NameKind::DataSet, text).ok()
 }
 
+/// The name of a general resource profile that a text spells.
 fn general_profile(text: &[u8]) -> Option<Pattern>
     ensures { result ≡ profile_general text.now }
 {
     Pattern::read(NameKind::General, text).ok()
 }
 
+/// The name of a profile of SECLABEL that a text spells.
 fn label_profile(text: &[u8]) -> Option<Pattern>
     ensures { result ≡ if_label (profile_general text.now) }
 {
@@ -60,12 +48,14 @@ fn label_profile(text: &[u8]) -> Option<Pattern>
     }
 }
 
+/// Whether it is one of the two profiles of SECDATA.
 fn is_level_or_category(text: &[u8]) -> bool
     ensures { result ≡ names_level_or_category text.now }
 {
     text == b"SECLEVEL".as_slice() || text == b"CATEGORY".as_slice()
 }
 
+/// The name of a profile of SECDATA that a text spells.
 fn level_or_category_profile(text: &[u8]) -> Option<Pattern>
     ensures { result ≡ (if names_level_or_category text.now then profile_general text.now else None) }
 {
@@ -76,6 +66,7 @@ fn level_or_category_profile(text: &[u8]) -> Option<Pattern>
     }
 }
 
+/// The name of a profile of GLOBAL that a text spells.
 fn global_profile(text: &[u8]) -> Option<Pattern>
     ensures { result ≡ (if is_ok (id_of text.now) then profile_general text.now else None) }
 {
@@ -86,6 +77,7 @@ fn global_profile(text: &[u8]) -> Option<Pattern>
     }
 }
 
+/// The name of a profile of that form that a text spells.
 fn profile_in(form: NameForm, text: &[u8]) -> Option<Pattern>
     ensures { result ≡ profile_by_form form text.now }
 {
@@ -98,6 +90,7 @@ fn profile_in(form: NameForm, text: &[u8]) -> Option<Pattern>
     }
 }
 
+/// The form of the names of profiles in a class.
 #[tactic(auto, unfolding(crate::specs::ProfileNames::form_in))]
 fn form_in(class: Id) -> NameForm
     ensures { result ≡ names_in class }
@@ -152,6 +145,7 @@ pub fn class_profile(
     Ok(profile_in(general_form(form_in(class)), &text))
 }
 
+/// The place of the first quote.
 fn first_quote(text: &[u8]) -> Option<usize>
     ensures value { result ≡ position (λ b. b == 39) text.now }
     ensures within { IfSome result (λ k. k < length text.now) }
@@ -159,6 +153,7 @@ fn first_quote(text: &[u8]) -> Option<usize>
     text.iter().position(|byte| *byte == b'\'')
 }
 
+/// Whether there is a quote in the text.
 fn has_quote(text: &[u8]) -> bool
     ensures { result ≡ list_any (λ b. b == 39) text.now }
 {

@@ -27,6 +27,7 @@ fn push_doubled(out: &mut Vec<u8>, text: &[u8]) -> Result<(), AllocError>
     Ok(())
 }
 
+/// Writes a user's name in quotes.
 fn push_name(out: &mut Vec<u8>, text: &Text) -> Result<(), AllocError>
     ensures { OnOk result (out.new.items ≡ out.old.items ++ (39 ∷ (doubled text.now ++ 39 ∷ []))) }
 {
@@ -77,6 +78,7 @@ fn push_half(out: &mut Vec<u8>, word: &[u8], level: Level) -> Result<(), AllocEr
     Ok(())
 }
 
+/// Writes the words of an audit rule.
 fn push_audit(out: &mut Vec<u8>, rule: AuditRule) -> Result<(), AllocError>
     ensures { OnOk result (out.new.items ≡ out.old.items ++ audit_text rule) }
 {
@@ -92,6 +94,7 @@ fn push_audit(out: &mut Vec<u8>, rule: AuditRule) -> Result<(), AllocError>
     }
 }
 
+/// Writes a user or a group, or `*` for everyone.
 fn push_who(out: &mut Vec<u8>, who: Who) -> Result<(), AllocError>
     ensures { OnOk result (out.new.items ≡ out.old.items ++ who_text who) }
 {
@@ -116,6 +119,7 @@ fn push_whos(out: &mut Vec<u8>, whos: &[Who]) -> Result<(), AllocError>
     Ok(())
 }
 
+/// Writes a port of entry.
 fn push_port(out: &mut Vec<u8>, port: &Condition) -> Result<(), AllocError>
     ensures { OnOk result (out.new.items ≡ out.old.items ++ port_text port.now) }
 {
@@ -126,6 +130,7 @@ fn push_port(out: &mut Vec<u8>, port: &Condition) -> Result<(), AllocError>
     Ok(())
 }
 
+/// Writes a number.
 fn push_number(out: &mut Vec<u8>, number: u8) -> Result<(), AllocError>
     ensures { OnOk result (out.new.items ≡ out.old.items ++ number_text number) }
 {
@@ -157,6 +162,7 @@ fn push_member_name(out: &mut Vec<u8>, name: &MemberName) -> Result<(), AllocErr
     }
 }
 
+/// Writes a member as ADDMEM has it.
 fn push_member(out: &mut Vec<u8>, member: &Member) -> Result<(), AllocError>
     ensures { OnOk result (out.new.items ≡ out.old.items ++ member_text member.now) }
 {
@@ -190,6 +196,7 @@ fn push_members(out: &mut Vec<u8>, members: &[Member]) -> Result<(), AllocError>
     Ok(())
 }
 
+/// Writes the names of members as DELMEM has them.
 fn push_member_names(out: &mut Vec<u8>, names: &[MemberName]) -> Result<(), AllocError>
     ensures { OnOk result (out.new.items ≡ out.old.items ++ ids_text (map profile_text names.now)) }
 {

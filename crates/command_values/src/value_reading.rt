@@ -32,6 +32,7 @@ pub fn id_named(word: &[u8]) -> Option<Id>
     Id::read(short.as_slice()).ok()
 }
 
+/// The group's name that a word spells.
 fn group_named(word: &[u8]) -> Option<Id>
     ensures { result ≡ result_ok (group_of (map upper word.now)) }
 {
@@ -39,6 +40,7 @@ fn group_named(word: &[u8]) -> Option<Id>
     Id::read_group(short.as_slice()).ok()
 }
 
+/// The class that a word names, other than DATASET.
 fn class_named(word: &[u8]) -> Option<Id>
     ensures { result ≡ unless_dataset (result_ok (id_of (map upper word.now))) }
 {
@@ -50,6 +52,7 @@ fn class_named(word: &[u8]) -> Option<Id>
     }
 }
 
+/// The group authority that a word names.
 fn authority_named(word: &[u8]) -> Option<GroupAuthority>
     ensures { result ≡ authority_of (map upper word.now) }
 {
@@ -126,18 +129,21 @@ fn unquoted(alloc: Global, bytes: &[u8]) -> Result<Option<Vec<u8>>, AllocError>
     Ok(if met { Some(text) } else { None })
 }
 
+/// Whether a byte may stand in a user's name.
 fn is_printable(byte: u8) -> bool
     ensures { result ≡ is_printable byte }
 {
     byte >= 0x20 && byte <= 0x7e
 }
 
+/// Whether all bytes may stand in a user's name.
 fn are_printable(text: &[u8]) -> bool
     ensures { result ≡ list_all is_printable text.now }
 {
     text.iter().all(|byte| is_printable(*byte))
 }
 
+/// Whether a text may be a user's name.
 fn is_name(text: &[u8]) -> bool
     ensures { result ≡ names_user text.now }
 {
@@ -171,6 +177,7 @@ pub fn level_named(word: &[u8]) -> Option<Level>
     Level::read(short.as_slice())
 }
 
+/// The value of RESET that a word spells.
 fn reset_named(word: &[u8]) -> Option<Reset>
     ensures { result ≡ reset_of (map upper word.now) }
 {

@@ -1,6 +1,6 @@
 //! The values of positional words and operands.
 
-use access_levels::{Condition, GroupAuthority, Id, Level, PortClass, Text, Who};
+use access_levels::{Condition, GroupAuthority, Id, Level, Text, Who};
 use generic_names::{MemberName, Pattern};
 use racf_profiles::{AuditRule, Members};
 use std::marker::Model;
@@ -58,14 +58,6 @@ pub enum Reset {
     /// The conditional one.
     When,
 }
-
-/// The classes of the ports of entry.
-pub const PORT_CLASSES: [PortClass; 4] = [
-    PortClass::Terminal,
-    PortClass::Console,
-    PortClass::Jesinput,
-    PortClass::Appcport,
-];
 
 /// The words of RESET.
 pub const RESETS: [Reset; 3] = [Reset::All, Reset::Standard, Reset::When];

@@ -66,6 +66,7 @@ impl<'a> Tokens<'a> {
         Tokens::from_start(Quoting::BeforeName, bytes)
     }
 
+    /// All of the bytes, whose first place is 1.
     fn from_start(quoting: Quoting, bytes: &'a [u8]) -> Tokens<'a>
         requires { length bytes.now < 2 ^ 29 }
         ensures { result ≡ record { quoting = quoting; tied = false; place = 1; bytes = bytes.now } }

@@ -11,7 +11,7 @@ ghost use Rattle.decision.specs.Table.{decided, cases_of_class, first_answer, ca
 
 use crate::answer::Answer;
 use crate::entries::{conditional_case, entry_case, is_open, listed, standing};
-use crate::operations::operations_case;
+use crate::operations::{groups_are_a_tree, operations_case};
 use crate::outcome::{Decision, Rule};
 use crate::request::Request;
 use access_levels::{Id, Level};
@@ -33,8 +33,7 @@ pub fn auth(image: &Image, acee: &Acee, request: &Request) -> Decision
     // Scope is asked by a test that can be computed; this says that it is scope by ways up.
     ensures scope { (top owner : List ℕ) → IsTrue (is_profile_in_scope image.now.state.rows top owner) ↔ InScopeProfile image.now.state.rows top owner }
 {
-    // The groups are a tree, and there the test tells what is in scope.
-    let _users = image.user_count();
+    groups_are_a_tree(image);
     scope_is_tested();
     let generation = image.generation();
     if let Some(answer) = class_answer(image, request.class) {

@@ -1,4 +1,14 @@
 //! Decisions: whether a user may access a resource, and whether a user is verified.
+//!
+//! [`auth`] answers a [`Request`] with a [`Decision`]: the return code, and the rule by which it came. It is a table of
+//! cases, of which the first that fits decides. [`verify`] makes all checks of VERIFY and answers the user's ACEE. Both
+//! read an image of `raclist_image`; ACEEs are those of `acee`, and `request_files` prints the answers.
+//!
+//! ```
+//! let acee = verify(alloc, &image, &who)?;
+//! let request = Request::new(FixedClass::Facility.id(), name, Level::Read)?;
+//! let decision = auth(&image, &acee, &request);       // decision.rc is 0, 4 or 8
+//! ```
 #![tactic(auto)]
 
 mod answer;

@@ -1,5 +1,6 @@
 //! The cases of the attribute OPERATIONS.
 ghost use Rattle.std.specs.Prelude.{◌≡◌, ◌&&◌};
+ghost use Rattle.racf_profiles.specs.Tree.{IsTree};
 ghost use Rattle.group_tree.specs.ScopeTest.{is_profile_in_scope};
 ghost use Rattle.decision.specs.Table.{is_considered, operating_over, first_answer};
 ghost use Rattle.decision.specs.Steps.{operations_cases};
@@ -8,6 +9,7 @@ use crate::answer::Answer;
 use crate::outcome::Rule;
 use access_levels::{Id, Level};
 use acee::{Acee, AceeGroup};
+use group_tree::laws::scope_is_tested;
 use racf_profiles::Options;
 use raclist_image::Image;
 
@@ -64,12 +66,20 @@ fn is_considered(options: &Options, acee: &Acee, group: &AceeGroup) -> bool
     options.grplist || group.group == acee.current
 }
 
+/// The groups of an image are a tree, where the test tells what is in scope. It does nothing: its contract is what it is
+/// for.
+pub(crate) fn groups_are_a_tree(image: &Image)
+    ensures { IsTree image.now.state.rows.groups }
+{
+    let _users = image.user_count();
+}
+
 /// Whether a profile of that owner is in scope of a group. The groups of every image are a tree, in which
 /// the walk up tells it.
 fn is_in_scope(image: &Image, top: Id, owner: Id) -> bool
     ensures { result ≡ is_profile_in_scope image.now.state.rows top owner }
 {
-    group_tree::laws::scope_is_tested();
-    let _users = image.user_count();
+    groups_are_a_tree(image);
+    scope_is_tested();
     image.in_scope(top, owner)
 }

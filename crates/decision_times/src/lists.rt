@@ -8,7 +8,9 @@ use std::alloc::Global;
 /// An access list, and the groups of those who ask it.
 #[derive(Drop)]
 pub(crate) struct List {
+    /// The entries of the list.
     entries: Vec<Entry>,
+    /// The groups by which it is asked.
     groups: Vec<Id>,
 }
 

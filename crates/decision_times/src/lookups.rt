@@ -1,6 +1,6 @@
 //! Look-ups in an image.
 
-use crate::words::{id, request};
+use crate::row_words::{id, request};
 use access_levels::{Id, Level};
 use anyhow::Result;
 use decision::Request;

@@ -23,20 +23,23 @@ mod lists;
 mod lookups;
 mod questions;
 mod system;
-mod words;
+mod row_words;
 
 use anyhow::{Result, anyhow};
 use lists::List;
 use questions::Questions;
 use std::alloc::Global;
 use system::System;
-use words::{id, level, parted, request, times};
+use row_words::{id, level, parted, request, times};
 
 /// What the rows have made.
 #[derive(Drop)]
 struct Bench {
+    /// The database, and its image.
     system: System,
+    /// The questions that rows have added.
     questions: Questions,
+    /// The access list that rows have made.
     list: List,
 }
 
@@ -112,6 +115,7 @@ impl Bench {
     }
 }
 
+/// Works the rows of standard input.
 fn main(rt: HostRuntime) -> Result<()> {
     let mut bench = Bench::new(rt.alloc())?;
     for line in rt.lines(rt.alloc()) {

@@ -11,14 +11,18 @@ use std::str;
 /// Whether the user of the ACEE at that place may have this access.
 #[derive(Drop)]
 struct Question {
+    /// Where the ACEE stands of the user who asks.
     place: usize,
+    /// The access that is asked for.
     request: Request,
 }
 
 /// Questions, and the ACEEs of those who ask them.
 #[derive(Drop)]
 pub(crate) struct Questions {
+    /// The ACEEs, which are known by their places.
     acees: Vec<Acee>,
+    /// The questions, as they were added.
     items: Vec<Question>,
 }
 

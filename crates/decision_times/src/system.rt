@@ -11,7 +11,9 @@ use std::sync::Arc;
 /// A database and the image that was made of it last.
 #[derive(Drop)]
 pub(crate) struct System {
+    /// The database, as the commands have left it.
     database: Database,
+    /// The image that was made last; none before the first.
     image: Option<Arc<Image>>,
 }
 

@@ -94,6 +94,7 @@ fn walk(kind: NameKind, pattern: &[u8], mut at: usize, name: &[u8], mut from: us
     covered(from > name.len())
 }
 
+/// The end of the walk, where that tells it.
 fn covered(yes: bool) -> WalkEnd
     ensures { result ≡ (if yes then WalkEnd.Covered else WalkEnd.Refused) }
 {

@@ -15,8 +15,11 @@ use std::marker::Model;
 /// pattern does and go on with a certain rank or a higher one.
 #[derive(Drop)]
 pub struct Gap<'a> {
+    /// The pattern with whose ranks those begin that are passed over.
     text: &'a [u8],
+    /// With how many of its ranks they begin.
     count: usize,
+    /// The least rank with which they go on.
     least: u16,
 }
 

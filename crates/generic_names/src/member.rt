@@ -15,6 +15,7 @@ use std::marker::Model;
 /// or `&RACGPID`, which stand for the user and its current group.
 #[derive(Clone, Copy)]
 pub struct MemberName {
+    /// Its text, with the kind of the names that it covers.
     name: Spelling,
 }
 

@@ -17,8 +17,11 @@ const END_OF_NAME: u16 = 259;
 /// The ranks of a name from some place on.
 #[derive(Drop)]
 pub(crate) struct Ranks<'a> {
+    /// The text of the name.
     text: &'a [u8],
+    /// The place from which ranks are left.
     at: usize,
+    /// Whether a qualifier begins at that place.
     begins: bool,
 }
 
@@ -61,8 +64,11 @@ impl<'a> Ranks<'a> {
 /// A rank, and the place behind it, which may be where a qualifier begins.
 #[derive(Clone, Copy)]
 struct Step {
+    /// The rank.
     rank: u16,
+    /// Whether a qualifier begins behind it.
     begins: bool,
+    /// The place behind it.
     at: usize,
 }
 

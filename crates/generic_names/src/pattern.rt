@@ -23,6 +23,7 @@ use std::marker::Model;
 /// (After RACF's enhanced generic naming, always on; in detail this product's own rules.)
 #[derive(Clone, Copy)]
 pub struct Pattern {
+    /// Its text, with its kind.
     name: Spelling,
 }
 

@@ -166,6 +166,7 @@ fn is_letter_like(byte: u8) -> bool
     matches!(byte, b'A'..=b'Z' | b'#' | b'$' | b'@')
 }
 
+/// Whether it is a digit.
 fn is_digit_byte(byte: u8) -> bool
     ensures { result ≡ is_digit byte }
 {

@@ -11,6 +11,7 @@ use std::marker::Model;
 /// The name of a resource, as a request asks for it: no generic character.
 #[derive(Clone, Copy)]
 pub struct Resource {
+    /// Its text, with its kind.
     name: Spelling,
 }
 

@@ -10,8 +10,11 @@ const LONGEST: usize = 246;
 /// The text of a name with its kind, in an array of fixed size. Zeros stand behind the text.
 #[derive(Clone, Copy)]
 pub(crate) struct Spelling {
+    /// Whether it names data sets or general resources.
     kind: NameKind,
+    /// How many bytes the text has.
     length: usize,
+    /// The text, and zeros behind it.
     bytes: [u8; LONGEST],
 }
 
@@ -58,12 +61,14 @@ impl Spelling {
         Some(())
     }
 
+    /// The kind of the name.
     pub(crate) fn kind(&self) -> NameKind
         ensures { result ≡ self.now.kind }
     {
         self.kind
     }
 
+    /// The text of the name.
     pub(crate) fn text(&self) -> &[u8]
         ensures text { result.now ≡ self.now.text }
         ensures fits { length result.now ≤ 246 }

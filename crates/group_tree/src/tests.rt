@@ -8,13 +8,13 @@ use racf_profiles::{Classes, Connects, Group, Profile, User, View};
 use std::alloc::Global;
 use std::test::Fail;
 
-/// SYS1, and below it D1, D2, D3 and D4, each below the one before. The user ADM owns D3; the superior group owns
+/// SYS1, and below it DIV, DEPT, TEAM and UNIT, each below the one before. The user ADM owns TEAM; the superior group owns
 /// each other.
 const THREE_LEVELS: [(&[u8], &[u8], &[u8]); 4] = [
-    (b"D1", b"SYS1", b"SYS1"),
-    (b"D2", b"D1", b"D1"),
-    (b"D3", b"D2", b"ADM"),
-    (b"D4", b"D3", b"D3"),
+    (b"DIV", b"SYS1", b"SYS1"),
+    (b"DEPT", b"DIV", b"DIV"),
+    (b"TEAM", b"DEPT", b"ADM"),
+    (b"UNIT", b"TEAM", b"TEAM"),
 ];
 
 fn three_levels(alloc: Global) -> Result<Tree, Fail> {
@@ -31,14 +31,14 @@ fn scope(rt: HostRuntime) -> Result<(), Fail> {
     let tree = three_levels(rt.alloc())?;
     let rows = [
         (b"SYS1".as_slice(), b"SYS1".as_slice(), true),
-        (b"SYS1".as_slice(), b"D2".as_slice(), true),
-        (b"D1".as_slice(), b"D2".as_slice(), true),
-        (b"D2".as_slice(), b"D1".as_slice(), false),
-        (b"D2".as_slice(), b"D3".as_slice(), false),
-        (b"SYS1".as_slice(), b"D4".as_slice(), false),
-        (b"D3".as_slice(), b"D4".as_slice(), true),
-        (b"D3".as_slice(), b"ADM".as_slice(), false),
-        (b"ADM".as_slice(), b"D3".as_slice(), false),
+        (b"SYS1".as_slice(), b"DEPT".as_slice(), true),
+        (b"DIV".as_slice(), b"DEPT".as_slice(), true),
+        (b"DEPT".as_slice(), b"DIV".as_slice(), false),
+        (b"DEPT".as_slice(), b"TEAM".as_slice(), false),
+        (b"SYS1".as_slice(), b"UNIT".as_slice(), false),
+        (b"TEAM".as_slice(), b"UNIT".as_slice(), true),
+        (b"TEAM".as_slice(), b"ADM".as_slice(), false),
+        (b"ADM".as_slice(), b"TEAM".as_slice(), false),
         (b"GONE".as_slice(), b"GONE".as_slice(), false),
     ];
     for (top, owner, within) in rows {
@@ -81,8 +81,8 @@ fn scope_of_profiles(rt: HostRuntime) -> Result<(), Fail> {
     let tree = three_levels(rt.alloc())?;
     let user = User {
         id: Id::read(b"SUE")?,
-        default_group: Id::read(b"D2")?,
-        owner: Id::read(b"D2")?,
+        default_group: Id::read(b"DEPT")?,
+        owner: Id::read(b"DEPT")?,
         name: Text::of(rt.alloc(), b"")?,
         attributes: Attributes::default(),
         classes: Classes {
@@ -97,11 +97,11 @@ fn scope_of_profiles(rt: HostRuntime) -> Result<(), Fail> {
     };
     let view = OneUser { tree: &tree, user };
     for (top, owner, within) in [
-        (b"D1".as_slice(), b"D2".as_slice(), true),
-        (b"D1".as_slice(), b"SUE".as_slice(), true),
-        (b"D3".as_slice(), b"SUE".as_slice(), false),
-        (b"D1".as_slice(), b"D3".as_slice(), false),
-        (b"D1".as_slice(), b"BOB".as_slice(), false),
+        (b"DIV".as_slice(), b"DEPT".as_slice(), true),
+        (b"DIV".as_slice(), b"SUE".as_slice(), true),
+        (b"TEAM".as_slice(), b"SUE".as_slice(), false),
+        (b"DIV".as_slice(), b"TEAM".as_slice(), false),
+        (b"DIV".as_slice(), b"BOB".as_slice(), false),
     ] {
         assert_eq!(rt;
             tree.in_scope_profile(&view, Id::read(top)?, Id::read(owner)?),
@@ -126,15 +126,15 @@ fn of_groups(rt: HostRuntime) -> Result<(), Fail> {
     assert_eq!(rt; tree.len(), 5);
     for (name, owner) in [
         (b"SYS1".as_slice(), b"IBMUSER".as_slice()),
-        (b"D1".as_slice(), b"SYS1".as_slice()),
-        (b"D3".as_slice(), b"ADM".as_slice()),
-        (b"D4".as_slice(), b"D3".as_slice()),
+        (b"DIV".as_slice(), b"SYS1".as_slice()),
+        (b"TEAM".as_slice(), b"ADM".as_slice()),
+        (b"UNIT".as_slice(), b"TEAM".as_slice()),
     ] {
         let found = tree.get(Id::read(name)?).map(|group| group.owner);
         assert_eq!(rt; found, Some(Id::read(owner)?));
     }
-    assert!(rt; tree.is_within(Id::read(b"D1")?, Id::read(b"D4")?));
-    assert!(rt; tree.get(Id::read(b"D5")?).is_none());
+    assert!(rt; tree.is_within(Id::read(b"DIV")?, Id::read(b"UNIT")?));
+    assert!(rt; tree.get(Id::read(b"DESK")?).is_none());
     Ok(())
 }
 
@@ -184,107 +184,29 @@ fn expected(answer: Answer, id: Id) -> Result<(), TreeFault> {
 #[test]
 fn faults(rt: HostRuntime) -> Result<(), Fail> {
     let mut tree = three_levels(rt.alloc())?;
-    let rows = [
-        (
-            Call::Add,
-            b"D1".as_slice(),
-            b"GONE".as_slice(),
-            Answer::NoGroup,
-            b"GONE".as_slice(),
-        ),
-        (
-            Call::Add,
-            b"D1".as_slice(),
-            b"D2".as_slice(),
-            Answer::Exists,
-            b"D1".as_slice(),
-        ),
-        (
-            Call::SetSuperior,
-            b"GONE".as_slice(),
-            b"GONE2".as_slice(),
-            Answer::NoGroup,
-            b"GONE".as_slice(),
-        ),
-        (
-            Call::SetSuperior,
-            b"D2".as_slice(),
-            b"GONE2".as_slice(),
-            Answer::NoGroup,
-            b"GONE2".as_slice(),
-        ),
-        (
-            Call::SetSuperior,
-            b"D2".as_slice(),
-            b"D4".as_slice(),
-            Answer::Cycle,
-            b"D2".as_slice(),
-        ),
-        (
-            Call::SetSuperior,
-            b"D2".as_slice(),
-            b"D2".as_slice(),
-            Answer::Cycle,
-            b"D2".as_slice(),
-        ),
-        (
-            Call::SetOwner,
-            b"GONE".as_slice(),
-            b"D1".as_slice(),
-            Answer::NoGroup,
-            b"GONE".as_slice(),
-        ),
-        (
-            Call::Remove,
-            b"GONE".as_slice(),
-            b"D1".as_slice(),
-            Answer::NoGroup,
-            b"GONE".as_slice(),
-        ),
-        (
-            Call::Remove,
-            b"D2".as_slice(),
-            b"D1".as_slice(),
-            Answer::HasSubgroup,
-            b"D3".as_slice(),
-        ),
-        (
-            Call::SetSuperior,
-            b"D4".as_slice(),
-            b"D1".as_slice(),
-            Answer::Done,
-            b"D4".as_slice(),
-        ),
-        (
-            Call::SetOwner,
-            b"D4".as_slice(),
-            b"D1".as_slice(),
-            Answer::Done,
-            b"D4".as_slice(),
-        ),
-        (
-            Call::Remove,
-            b"D3".as_slice(),
-            b"D1".as_slice(),
-            Answer::Done,
-            b"D3".as_slice(),
-        ),
-        (
-            Call::SetOwner,
-            b"D3".as_slice(),
-            b"D1".as_slice(),
-            Answer::NoGroup,
-            b"D3".as_slice(),
-        ),
-    ];
-    for (call, group, other, answer, named) in rows {
-        let answered = change(&mut tree, call, Id::read(group)?, Id::read(other)?);
-        assert_eq!(rt; answered, expected(answer, Id::read(named)?));
+    for (call, group, other, answer, named) in [
+        (Call::Add, "DIV", "GONE", Answer::NoGroup, "GONE"),
+        (Call::Add, "DIV", "DEPT", Answer::Exists, "DIV"),
+        (Call::SetSuperior, "GONE", "LOST", Answer::NoGroup, "GONE"),
+        (Call::SetSuperior, "DEPT", "LOST", Answer::NoGroup, "LOST"),
+        (Call::SetSuperior, "DEPT", "UNIT", Answer::Cycle, "DEPT"),
+        (Call::SetSuperior, "DEPT", "DEPT", Answer::Cycle, "DEPT"),
+        (Call::SetOwner, "GONE", "DIV", Answer::NoGroup, "GONE"),
+        (Call::Remove, "GONE", "DIV", Answer::NoGroup, "GONE"),
+        (Call::Remove, "DEPT", "DIV", Answer::HasSubgroup, "TEAM"),
+        (Call::SetSuperior, "UNIT", "DIV", Answer::Done, "UNIT"),
+        (Call::SetOwner, "UNIT", "DIV", Answer::Done, "UNIT"),
+        (Call::Remove, "TEAM", "DIV", Answer::Done, "TEAM"),
+        (Call::SetOwner, "TEAM", "DIV", Answer::NoGroup, "TEAM"),
+    ] {
+        let (group, other) = (Id::read(group.as_bytes())?, Id::read(other.as_bytes())?);
+        let answered = change(&mut tree, call, group, other);
+        assert_eq!(rt; answered, expected(answer, Id::read(named.as_bytes())?));
     }
-    let (root, moved) = (Id::read(b"SYS1")?, Id::read(b"D4")?);
+    let (root, moved) = (Id::read(b"SYS1")?, Id::read(b"UNIT")?);
     assert!(rt; tree.in_scope_group(root, moved));
     assert!(rt; tree.is_within(root, moved));
-    assert_eq!(rt; tree.first_subgroup(root), Some(Id::read(b"D1")?));
+    assert_eq!(rt; tree.first_subgroup(root), Some(Id::read(b"DIV")?));
     assert_eq!(rt; tree.len(), 4);
     Ok(())
 }

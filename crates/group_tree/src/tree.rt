@@ -24,7 +24,9 @@ const MOST_GROUPS: usize = 8000;
 /// of scope walks up from group to group, with one look-up by name a step.
 #[derive(Drop)]
 pub struct Tree {
+    /// The groups by name, in order of definition.
     groups: IndexMap<Id, Group>,
+    /// How many groups can be added without memory.
     spare: usize,
 }
 

@@ -97,55 +97,6 @@ distinct-conditional c list d = by c.when
     by None = distinct-reset_when c.reset list d
     by (Some condition) = distinct-conditionals c condition c.id (conditional_reset c.reset list) (distinct-reset_when c.reset list d)
 
--- ---- with DELETE a list gets no longer
-length-filter-le : {X : Type 0} (stays : X → Bool) (xs : List X) → length (filter stays xs) ≤ length xs
-length-filter-le stays [] = omega arith
-length-filter-le stays (x ∷ xs) = by (stays x) (length-filter-le stays xs)
-  where
-    by : (b : Bool) → length (filter stays xs) ≤ length xs → length (cond b (x ∷ filter stays xs) (filter stays xs)) ≤ length (x ∷ xs)
-    by true rest = omega (arith, rest)
-    by false rest = omega (arith, rest)
-
-module _ (c : Permit) (deletes : c.delete ≡ true) where
-  entries-shorter : (whos : List Who) (list : List Entry) → length (fold (with_entry c) list whos) ≤ length list
-  entries-shorter [] list = omega arith
-  entries-shorter (who ∷ whos) list =
-      let less : length (with_entry c list who) ≤ length list = omega (arith, ap (λ b. length (cond b (filter (λ entry. not (is_for who entry)) list) (entry_put (is_for who) (record { who = who; level = level_of c }) list))) deletes, length-filter-le (λ entry. not (is_for who entry)) list) in
-      omega (arith, entries-shorter whos (with_entry c list who), less)
-
-  reset-shorter : (given : Option Reset) (list : List Entry) → length (standard_reset given list) ≤ length list
-  reset-shorter None list = omega arith
-  reset-shorter (Some reset.All) list = omega arith
-  reset-shorter (Some reset.Standard) list = omega arith
-  reset-shorter (Some reset.When) list = omega arith
-
-  pub standard-shorter : (list : List Entry) → length (standard_after c list) ≤ length list
-  standard-shorter list = by c.when
-    where
-      by : (o : Option Condition) → length (standard_entries c o (standard_reset c.reset list)) ≤ length list
-      by None = omega (arith, entries-shorter c.id (standard_reset c.reset list), reset-shorter c.reset list)
-      by (Some condition) = reset-shorter c.reset list
-
-  conditionals-shorter : (condition : Condition) (whos : List Who) (list : List CondEntry) → length (fold (with_conditional c condition) list whos) ≤ length list
-  conditionals-shorter condition [] list = omega arith
-  conditionals-shorter condition (who ∷ whos) list =
-      let less : length (with_conditional c condition list who) ≤ length list =
-      omega (arith, ap (λ b. length (cond b (filter (λ entry. not (is_for_under condition who entry)) list) (entry_put (is_for_under condition who) (record { condition = condition; who = who; level = level_of c }) list))) deletes, length-filter-le (λ entry. not (is_for_under condition who entry)) list) in
-      omega (arith, conditionals-shorter condition whos (with_conditional c condition list who), less)
-
-  reset_when-shorter : (given : Option Reset) (list : List CondEntry) → length (conditional_reset given list) ≤ length list
-  reset_when-shorter None list = omega arith
-  reset_when-shorter (Some reset.All) list = omega arith
-  reset_when-shorter (Some reset.Standard) list = omega arith
-  reset_when-shorter (Some reset.When) list = omega arith
-
-  pub conditional-shorter : (list : List CondEntry) → length (conditional_after c list) ≤ length list
-  conditional-shorter list = by c.when
-    where
-      by : (o : Option Condition) → length (conditional_entries c o (conditional_reset c.reset list)) ≤ length list
-      by None = reset_when-shorter c.reset list
-      by (Some condition) = omega (arith, conditionals-shorter condition c.id (conditional_reset c.reset list), reset_when-shorter c.reset list)
-
 -- ---- both
 pub entries-permitted : (c : Permit) (old : Profile) → AreEntries old → length (standard_after c old.standard) ≤ most_list_entries → length (conditional_after c old.conditional) ≤ most_list_entries → AreEntries (permitted_profile c old)
 entries-permitted c old are few few_when = record {

@@ -1,6 +1,6 @@
 -- What the spelling of a command's fields says of the rows that the command leaves.
 use Rattle.std.proofs.Common.{◌≡◌, ℕ, zero, suc, take, length, Bool, true, false, cond, not, ◌&&◌, ◌||◌, List, [], ◌∷◌, Option, None, Some, Result, Ok, Err, is_ok, bytes_eq, codes, refl, sym, ap, subst, ◌∙◌, true≢false}
-use Rattle.std.specs.Prelude.{◌==◌, nat_le, position, IfSome}
+use Rattle.std.specs.Prelude.{nat_le, IfSome}
 use Rattle.std.specs.List.{AllByRecursion, list_all, before_first}
 use Rattle.std.specs.Result.{result_ok}
 use Rattle.access_levels.specs.Spelling.{id_of}
@@ -9,7 +9,7 @@ use Rattle.access_levels.specs.declared.levels.Level.TheVariants.{NoAccess}
 use Rattle.generic_names.specs.declared.kind.NameKind.{NameKind}
 use Rattle.generic_names.specs.declared.kind.NameKind.TheVariants.{DataSet, General}
 use Rattle.generic_names.specs.declared.fault.NameFault.{NameFault}
-use Rattle.generic_names.specs.Spelled.{Spelled, first_qualifier, period}
+use Rattle.generic_names.specs.Spelled.{Spelled, first_qualifier}
 use Rattle.generic_names.specs.Covers.{is_generic}
 use Rattle.generic_names.specs.Faults.{pattern_of, member_of, unless}
 use Rattle.generic_names.specs.Laws.{IsPattern, ReadsBack}
@@ -25,11 +25,10 @@ use Rattle.racf_profiles.specs.LawfulUsers.{is_user_name, is_printable}
 use Rattle.racf_profiles.specs.LawfulProfiles.{is_logged_level, is_audit, is_of_kind, kind_in}
 use Rattle.racf_profiles.proofs.Tables.{facts_of-each}
 use Rattle.group_tree.proofs.Rows.{same, itself}
-use Rattle.row_tables.proofs.Places.{before-found, before-none}
 use Rattle.command_values.specs.declared.members.MemberForm.{MemberForm}
 use Rattle.command_values.specs.declared.members.MemberForm.TheVariants as forms
 use Rattle.command_values.specs.Audits.{is_half}
-use Rattle.command_values.specs.ProfileNames.{first_qualifier as qualifier_read, until, dataset_profile, general_profile, is_level_or_category, if_label, profile_in, general_form, form_in, form_of}
+use Rattle.command_values.specs.ProfileNames.{dataset_profile, general_profile, is_level_or_category, if_label, profile_in, general_form, form_in, form_of}
 use Rattle.command_values.specs.Members.{member_form, form_by_class, access_form, secdata_form, if_number}
 use Rattle.command_values.specs.LawfulValues.{Each, AreMembers, IsMember}
 use Rattle.command_parser.specs.LawfulFields.{IsUserName, IsClauthWord, IsDataSetProfile, IsClassProfile, IsAudit, AreMembersOf}
@@ -85,19 +84,12 @@ where-true : (b : Bool) (o : Option Spelled) (name : Spelled) → cond b o None 
 where-true true o name h = (refl, h)
 where-true false o name h = cc
 
-same-qualifier : (text : List ℕ) → qualifier_read text ≡ first_qualifier text
-same-qualifier text = by (position (λ b. b == period) text) refl
-  where
-    by : (o : Option ℕ) → position (λ b. b == period) text ≡ o → qualifier_read text ≡ first_qualifier text
-    by None e = ap (λ o. until o text) e ∙ before-none (λ b. b == period) text (sym e)
-    by (Some k) e = ap (λ o. until o text) e ∙ before-found (λ b. b == period) text k (sym e)
-
 module _ (reads_back : ReadsBack) where
   pub data_set-lawful : (name : Spelled) → IsDataSetProfile name → IsPattern name × (name.kind ≡ DataSet) × (is_ok (id_of (first_qualifier name.text)) ≡ true)
   data_set-lawful name h =
-      let parts = where-true (is_ok (id_of (qualifier_read name.text))) (result_ok (pattern_of DataSet name.text)) name h in
+      let parts = where-true (is_ok (id_of (first_qualifier name.text))) (result_ok (pattern_of DataSet name.text)) name h in
       let read = reads_back DataSet name.text name (read-whole (pattern_of DataSet name.text) name parts.1) in
-      (read.1, ap (λ (n : Spelled). n.kind) read.0, ap (λ q. is_ok (id_of q)) (sym (same-qualifier name.text)) ∙ parts.0)
+      (read.1, ap (λ (n : Spelled). n.kind) read.0, parts.0)
 
   general-lawful : (name : Spelled) → general_profile name.text ≡ Some name → IsPattern name × (name.kind ≡ General)
   general-lawful name h =

@@ -47,7 +47,7 @@ use Rattle.lawful_commands.proofs.RowLists.{or-true, distinct-none, all-each}
 use Rattle.lawful_commands.proofs.Kept.{Extends, extends_itself, defined-none, defined-kept, name-kept, profile-kept, class-kept}
 use Rattle.lawful_commands.proofs.UserParts.{defined-added, defined-taken}
 use Rattle.lawful_commands.proofs.MemberLists.{extends-after, categories-after, members-after, is_fitting}
-use Rattle.lawful_commands.proofs.EntryLists.{standard-shorter, conditional-shorter, entries-permitted}
+use Rattle.lawful_commands.proofs.EntryLists.{entries-permitted}
 use Rattle.lawful_commands.proofs.ProfileNames.{is_spelled_by, resource-class, is_profile_name-new}
 use Rattle.lawful_commands.proofs.ProfileRows.{PutsAreCounted, found-at_class, found-profile, entries-put, entries-changed, profile-put-lawful, profile-dropped-lawful, profile-changed-lawful, profile-changed-alone, changed-found}
 
@@ -227,27 +227,18 @@ module _ (one : OneIsBefore) (puts : PutsAreCounted) (passed_on : PassedOn) wher
     few-entries entries old found h =
         within Entries 1000 _ (sym (ap (list_full entries) (changed-found one puts passed_on rows c.class c.profile (permitted_profile c) old (λ p. refl) found)) ∙ h)
 
-    -- with DELETE a list gets no longer, and else the limit is tested
-    pub few-standard : (old : Profile) → profile_of c.class c.profile rows ≡ Some old → AreEntries old → length (standard_after c old.standard) ≤ 1000
+    pub few-standard : (old : Profile) → profile_of c.class c.profile rows ≡ Some old → length (standard_after c old.standard) ≤ 1000
     unfolding permit_conflicts tests-permit standard_full
-    few-standard old found are = by c.delete refl tests-permit.1.1.1.0
-      where
-        by : (b : Bool) → c.delete ≡ b → cond b None (list_full (λ (p : Profile). length p.standard) (profile_of c.class c.profile (step issuer (command.Permit c) rows))) ≡ None → length (standard_after c old.standard) ≤ 1000
-        by true e h = omega (arith, standard-shorter c e old.standard, are.few)
-        by false e h = few-entries (λ (p : Profile). length p.standard) old found h
+    few-standard old found = few-entries (λ (p : Profile). length p.standard) old found tests-permit.1.1.1.0
 
-    pub few-conditional : (old : Profile) → profile_of c.class c.profile rows ≡ Some old → AreEntries old → length (conditional_after c old.conditional) ≤ 1000
+    pub few-conditional : (old : Profile) → profile_of c.class c.profile rows ≡ Some old → length (conditional_after c old.conditional) ≤ 1000
     unfolding permit_conflicts tests-permit conditional_full
-    few-conditional old found are = by c.delete refl tests-permit.1.1.1.1.0
-      where
-        by : (b : Bool) → c.delete ≡ b → cond b None (list_full (λ (p : Profile). length p.conditional) (profile_of c.class c.profile (step issuer (command.Permit c) rows))) ≡ None → length (conditional_after c old.conditional) ≤ 1000
-        by true e h = omega (arith, conditional-shorter c e old.conditional, are.few_when)
-        by false e h = few-entries (λ (p : Profile). length p.conditional) old found h
+    few-conditional old found = few-entries (λ (p : Profile). length p.conditional) old found tests-permit.1.1.1.1.0
 
     permitted-lawful : (old : Profile) → profile_of c.class c.profile rows ≡ Some old → IsProfile rows c.class old → IsProfile rows c.class (permitted_profile c old)
     permitted-lawful old found is = record {
       name = is.name;
-      entries = entries-permitted c old is.entries (few-standard old found is.entries) (few-conditional old found is.entries);
+      entries = entries-permitted c old is.entries (few-standard old found) (few-conditional old found);
       audit = is.audit;
       members = record { distinct = is.members.distinct; fitting = is.members.fitting; few = is.members.few };
       categories = is.categories;
@@ -255,12 +246,7 @@ module _ (one : OneIsBefore) (puts : PutsAreCounted) (passed_on : PassedOn) wher
 
     few-all_entries : entry_count (step issuer (command.Permit c) rows).classes ≤ 1000000
     unfolding permit_conflicts tests-permit entries_full
-    few-all_entries = by c.delete refl tests-permit.1.1.1.1.1.0
-      where
-        by : (b : Bool) → c.delete ≡ b → cond b None (over AllEntries 1000000 (entry_count (step issuer (command.Permit c) rows).classes)) ≡ None → entry_count (step issuer (command.Permit c) rows).classes ≤ 1000000
-        by true e h =
-            entries-changed one puts passed_on rows c.class c.profile (permitted_profile c) lawful (λ p. refl) (λ p. omega (arith, standard-shorter c e p.standard, conditional-shorter c e p.conditional))
-        by false e h = within AllEntries 1000000 _ h
+    few-all_entries = within AllEntries 1000000 _ tests-permit.1.1.1.1.1.0
 
     pub permit-lawful : AreLawful (step issuer (command.Permit c) rows)
     permit-lawful = profile-changed-alone one puts passed_on rows c.class c.profile (permitted_profile c) lawful (λ p. refl) permitted-lawful few-all_entries

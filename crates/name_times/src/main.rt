@@ -14,6 +14,7 @@ fn parted(row: &str) -> Result<(&str, &str)> {
     row.split_once(' ').ok_or_else(|| anyhow!("a word lacks"))
 }
 
+/// Works a row that looks for a name.
 fn find(rt: &impl Print, names: &Names, row: &str) -> Result<()> {
     let (times, name) = parted(row)?;
     let times = times.parse::<u32>()?;
@@ -21,6 +22,7 @@ fn find(rt: &impl Print, names: &Names, row: &str) -> Result<()> {
     Ok(())
 }
 
+/// Works a row that asks whether a pattern covers a name.
 fn cover(rt: &impl Print, row: &str) -> Result<()> {
     let (times, rest) = parted(row)?;
     let times = times.parse::<u32>()?;
@@ -32,6 +34,7 @@ fn cover(rt: &impl Print, row: &str) -> Result<()> {
     Ok(())
 }
 
+/// Works a row.
 fn run_row(rt: &impl Print, names: &mut Names, row: &str) -> Result<()> {
     let (verb, rest) = parted(row)?;
     match verb {
@@ -42,6 +45,7 @@ fn run_row(rt: &impl Print, names: &mut Names, row: &str) -> Result<()> {
     }
 }
 
+/// Works the rows of standard input.
 fn main(rt: HostRuntime) -> Result<()> {
     let mut names = Names::new(rt.alloc())?;
     for line in rt.lines(rt.alloc()) {

@@ -8,6 +8,7 @@ use std::marker::Model;
 /// Patterns of general resources by their names.
 #[derive(Drop)]
 pub(crate) struct Names {
+    /// The names, each with its number.
     index: Index<u32>,
 }
 

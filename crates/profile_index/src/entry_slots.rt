@@ -10,8 +10,11 @@ use std::marker::Model;
 /// the entries, so that an entry goes in or out without moving the others.
 #[derive(Drop)]
 pub(crate) struct EntrySlots<T> {
+    /// The entries, in no order.
     slots: Vec<Entry<T>>,
+    /// The numbers of the slots, in the order of the entries.
     order: Vec<usize>,
+    /// How many entries can be put in without memory.
     spare: usize,
 }
 
@@ -56,12 +59,14 @@ impl<T> EntrySlots<T> {
         Ok(())
     }
 
+    /// How many entries there are.
     pub(crate) fn len(&self) -> usize
         ensures { result ≡ length self.now.entries }
     {
         self.order.len()
     }
 
+    /// How many entries can be put in without memory.
     pub(crate) fn spare(&self) -> usize
         ensures { result ≡ self.now.spare }
     {

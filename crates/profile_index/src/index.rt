@@ -18,6 +18,7 @@ pub type NoMemory = AllocError;
 /// Entries in the order of specificity of their names, which are of one kind.
 #[derive(Drop)]
 pub struct Index<T> {
+    /// The entries by their places in the order.
     slots: EntrySlots<T>,
 }
 

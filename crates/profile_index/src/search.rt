@@ -16,6 +16,13 @@ use generic_names::{Gap, Pattern, Resource};
 use std::cmp::Ordering;
 use std::sync::ledger::Ledger;
 
+/// That its text spells it is what the laws of the order rest on. It does nothing: its contract is what it is for.
+fn is_spelled(name: &Resource)
+    ensures { IsResource name.now }
+{
+    let _text = name.text();
+}
+
 /// Where the entries that are before a name end.
 pub(crate) fn end_of_those_before<T>(slots: &EntrySlots<T>, name: &Pattern) -> usize
     requires ordered { IsInOrder name_of slots.now.entries }
@@ -68,8 +75,7 @@ pub(crate) fn first_that_covers<T>(slots: &EntrySlots<T>, name: &Resource) -> Op
     ensures resource { IsResource name.now }
     ensures first { IsFirst (λ e. covers e.name name.now) slots.now.entries result }
 {
-    // That the text is a resource's name is what the laws of the order rest on.
-    let _ = name.text();
+    is_spelled(name);
     let mut place = end_of_those_before(slots, &Pattern::discrete(name));
     while place < slots.len() {
         let pattern = &slots.entry(place).name;
@@ -97,7 +103,7 @@ pub(crate) fn place_of<T, L: Ledger>(
     ensures onward { steps.old ≤ steps.new }
     ensures cost { 2 ^ (steps.new - steps.old) ≤ 2 * length slots.now.entries + 1 }
 {
-    let _ = name.text();
+    is_spelled(name);
     let mut low = 0;
     let mut size = slots.len();
     while size > 0 {
@@ -142,6 +148,7 @@ pub(crate) fn place_named<T>(slots: &EntrySlots<T>, name: &Pattern) -> Option<us
     Some(place)
 }
 
+/// Whether both have one text.
 fn have_one_text(first: &Pattern, second: &Pattern) -> bool
     ensures { result ≡ bytes_eq first.now.text second.now.text }
 {

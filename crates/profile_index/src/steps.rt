@@ -6,7 +6,9 @@ use std::sync::ledger::{Book, Ledger, Share};
 /// How many comparisons of names were made. It takes no bytes, and counting no time.
 #[derive(Drop)]
 pub struct Steps<L: Ledger> {
+    /// The book in which comparisons are counted.
     book: Book<L>,
+    /// The share of the book that is this count.
     share: Share<L>,
 }
 

@@ -48,8 +48,8 @@ module _ (one : OneIsBefore) (puts : PutsAreCounted) (passed_on : PassedOn) (rea
         let there = found-profile one puts passed_on c.class c.profile rows old found in
         let is : IsProfile rows there.0.name old = all-found (IsProfile rows there.0.name) (is_profile c.profile) there.0.profiles old (is-class one puts passed_on rows lawful c.class c.profile there.0 there.1).profiles there.2 in
         record {
-          standard = few-standard one puts passed_on issuer c rows lawful met old found is.entries;
-          conditional = few-conditional one puts passed_on issuer c rows lawful met old found is.entries;
+          standard = few-standard one puts passed_on issuer c rows lawful met old found;
+          conditional = few-conditional one puts passed_on issuer c rows lawful met old found;
         }
 
     pub permit-fits : PermitFits c rows

@@ -31,6 +31,7 @@ enum Origin<R: Files + Input> {
 }
 
 impl<R: Files + Input> Origin<R> {
+    /// Reads from the file into the buffer.
     fn read(&mut self, into: &mut [u8]) -> io::Result<usize>
         ensures { IfOk result (λ n. n ≤ length into.new) }
     {
@@ -90,6 +91,7 @@ enum Target<R: Files + Print + Drop> {
 }
 
 impl<R: Files + Print + Drop> Target<R> {
+    /// Writes to the file.
     fn write(&mut self, bytes: &[u8]) -> io::Result<usize>
         ensures { IfOk result (λ n. n ≤ length bytes.now) }
     {

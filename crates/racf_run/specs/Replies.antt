@@ -13,6 +13,7 @@ use Rattle.command_conflicts.specs.declared.conflict.Holder.{Holder}
 use Rattle.command_conflicts.specs.declared.conflict.Holder.TheVariants as holder
 use Rattle.command_conflicts.specs.declared.conflict.Limit.{Limit}
 use Rattle.command_conflicts.specs.declared.conflict.Limit.TheVariants as kind
+use Rattle.request_files.specs.Answers.{unbuilt_word}
 use Rattle.racf_run.specs.declared.reply.Reply.{Reply}
 use Rattle.racf_run.specs.declared.reply.Reply.TheVariants.{Accepted, Refused}
 
@@ -54,7 +55,7 @@ kind_words kind.Categories = codes "CATEGORIES"
 
 -- what a command conflicts with
 abbrev pub conflict_words : Conflict → List ℕ
-conflict_words conflict.NotBuilt = codes "NOTBUILT"
+conflict_words conflict.NotBuilt = unbuilt_word
 conflict_words (conflict.NoUser id) = codes "NOUSER " ++ id
 conflict_words (conflict.NoGroup id) = codes "NOGROUP " ++ id
 conflict_words (conflict.NoProfile class profile) = codes "NOPROFILE " ++ class ++ codes " " ++ profile.text

@@ -6,6 +6,7 @@ ghost use Rattle.racf_run.specs.Replies.{syntax_words, named_words, holder_words
 use command_parser::Syntax;
 use itoa::Buffer;
 use racf_database::{Conflict, Holder, Limit, Named};
+use request_files::unbuilt_word;
 use std::alloc::AllocError;
 
 /// Writes the words of the first fault of a command's text at the end of `out`.
@@ -33,7 +34,7 @@ pub(crate) fn write_conflict(conflict: &Conflict, out: &mut Vec<u8>) -> Result<(
     ensures { OnOk result (out.new.items ≡ out.old.items ++ conflict_words conflict.now) }
 {
     match conflict {
-        Conflict::NotBuilt => out.extend_from_slice(b"NOTBUILT"),
+        Conflict::NotBuilt => out.extend_from_slice(unbuilt_word()),
         Conflict::NoUser(id) => write_name(b"NOUSER ", id.text(), out),
         Conflict::NoGroup(id) => write_name(b"NOGROUP ", id.text(), out),
         Conflict::NoProfile(class, profile) => {

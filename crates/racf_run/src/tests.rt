@@ -497,65 +497,61 @@ fn too_long_in_a_command(alloc: Global) -> Result<Vec<u8>, AllocError> {
     Ok(bytes)
 }
 
+/// Whether the stream ends so, where the reads and the writes of these numbers fail.
+fn ends(
+    alloc: Global,
+    input: &[u8],
+    faults: (&[u64], &[u64]),
+    output: &str,
+    status: Status,
+) -> Result<bool, AllocError> {
+    let (ended, written) = worked(alloc, input, faults.0, faults.1)?;
+    Ok(ended == status && written.as_slice() == output.as_bytes())
+}
+
 #[test]
-fn stops_in_mid_stream(rt: HostRuntime) -> Result<(), Fail> {
+fn refuses_long_lines(rt: HostRuntime) -> Result<(), Fail> {
     let alloc = rt.alloc();
-    let three = b"VERIFY A IBMUSER\nADDUSER JOE\nVERIFY B IBMUSER".as_slice();
-    let joined = b"VERIFY A IBMUSER\nADDUSER JOE -\nNAME('J')".as_slice();
-    let longest = comment(alloc, 4096)?;
-    let too_long = comment(alloc, 4097)?;
-    let too_long_inside = too_long_in_a_command(alloc)?;
-    for (input, reads, writes, output, status) in [
-        (
-            longest.as_slice(),
-            [].as_slice(),
-            [].as_slice(),
-            "",
-            Status::Done,
-        ),
+    let none = ([].as_slice(), [].as_slice());
+    let (longest, too_long) = (comment(alloc, 4096)?, comment(alloc, 4097)?);
+    let inside = too_long_in_a_command(alloc)?;
+    for (input, output, status) in [
+        (longest.as_slice(), "", Status::Done),
         (
             too_long.as_slice(),
-            &[],
-            &[],
             "0 REFUSED LINETOOLONG\n",
             Status::Refusals,
         ),
         (
-            too_long_inside.as_slice(),
-            &[],
-            &[],
+            inside.as_slice(),
             "0 REFUSED LINETOOLONG\n1 ACCEPTED\n",
             Status::Refusals,
         ),
-        (
-            three,
-            &[],
-            &[],
-            "0 0 VERIFIED\n1 ACCEPTED\n1 0 VERIFIED\n",
-            Status::Done,
-        ),
-        (three, &[1], &[], "", Status::ReadFault),
-        (
-            three,
-            &[2],
-            &[],
-            "0 0 VERIFIED\n1 ACCEPTED\n",
-            Status::ReadFault,
-        ),
-        (three, &[], &[1], "", Status::WriteFault),
-        (
-            three,
-            &[],
-            &[3],
-            "0 0 VERIFIED\n1 ACCEPTED\n",
-            Status::WriteFault,
-        ),
-        (joined, &[], &[], "0 0 VERIFIED\n1 ACCEPTED\n", Status::Done),
-        (joined, &[2], &[], "0 0 VERIFIED\n", Status::ReadFault),
     ] {
-        let (ended, written) = worked(alloc, input, reads, writes)?;
-        assert_eq!(rt; written.as_slice(), output.as_bytes());
-        assert_eq!(rt; ended, status);
+        assert!(rt; ends(alloc, input, none, output, status)?);
+    }
+    Ok(())
+}
+
+const THREE: &[u8] = b"VERIFY A IBMUSER\nADDUSER JOE\nVERIFY B IBMUSER";
+const JOINED: &[u8] = b"VERIFY A IBMUSER\nADDUSER JOE -\nNAME('J')";
+
+#[test]
+fn stops_in_mid_stream(rt: HostRuntime) -> Result<(), Fail> {
+    let alloc = rt.alloc();
+    let verified = "0 0 VERIFIED\n";
+    let accepted = "0 0 VERIFIED\n1 ACCEPTED\n";
+    let whole = "0 0 VERIFIED\n1 ACCEPTED\n1 0 VERIFIED\n";
+    for (input, reads, writes, output, status) in [
+        (THREE, [].as_slice(), [].as_slice(), whole, Status::Done),
+        (THREE, &[1], &[], "", Status::ReadFault),
+        (THREE, &[2], &[], accepted, Status::ReadFault),
+        (THREE, &[], &[1], "", Status::WriteFault),
+        (THREE, &[], &[3], accepted, Status::WriteFault),
+        (JOINED, &[], &[], accepted, Status::Done),
+        (JOINED, &[2], &[], verified, Status::ReadFault),
+    ] {
+        assert!(rt; ends(alloc, input, (reads, writes), output, status)?);
     }
     Ok(())
 }

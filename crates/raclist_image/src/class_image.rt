@@ -16,6 +16,7 @@ use std::marker::Model;
 /// The effective profiles of one class, in order of specificity.
 #[derive(Drop)]
 pub struct ClassImage {
+    /// The profiles by their names.
     table: ProfileTable,
 }
 

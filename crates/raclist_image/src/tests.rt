@@ -1,4 +1,4 @@
-//! The image of a class's profiles. Images of whole databases are tested in `decision_tests`, over databases that
+//! The image of a class's profiles. Images of whole databases are tested in `decision_rows`, over databases that
 //! commands made.
 ghost use Rattle.std.specs.Prelude.{◌≡◌, IfOk, Ok};
 ghost use Rattle.generic_names.specs.Faults.{pattern_of};
@@ -27,7 +27,7 @@ fn profile(alloc: Global, kind: NameKind, name: &[u8], uacc: Level) -> Result<Pr
     };
     Ok(Profile {
         name: Pattern::read(kind, name)?,
-        owner: Id::read(b"D1")?,
+        owner: Id::read(b"DIV")?,
         uacc,
         warning: true,
         standard: Entries { items: standard },

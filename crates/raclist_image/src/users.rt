@@ -13,6 +13,7 @@ use std::marker::Model;
 /// The users in order of definition. One is found by his ID in one look-up.
 #[derive(Drop)]
 pub(crate) struct UserMap {
+    /// The users by name.
     users: IndexMap<Id, User>,
 }
 

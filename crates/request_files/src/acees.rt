@@ -24,6 +24,7 @@ pub struct NamedAcee {
 /// Finding one goes through the list.
 #[derive(Drop)]
 pub struct AceeTable {
+    /// The ACEEs under their names, as they were put.
     entries: Vec<NamedAcee>,
 }
 

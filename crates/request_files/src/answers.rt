@@ -1,7 +1,7 @@
 //! The words that are printed for lines.
 
 ghost use Rattle.std.specs.Prelude.{◌≡◌, ◌++◌, OnOk, OnErr, codes, decimal};
-ghost use Rattle.request_files.specs.Answers.{name_fault_words, refusal_words, verify_fault_words, profile_words, found_words, port_words, rule_words, decision_words, answer_line, never_line, numbered, refused_words};
+ghost use Rattle.request_files.specs.Answers.{name_fault_words, refusal_words, verify_fault_words, profile_words, found_words, port_words, rule_words, decision_words, answer_line, never_line, numbered, refused_words, unbuilt_word};
 
 use crate::line::LineRefusal;
 use access_levels::{Condition, Id};
@@ -30,6 +30,13 @@ pub fn answer_text(
     let mut words = Vec::new(*out.allocator());
     write_decision(decision, &mut words)?;
     write_line(number, words.as_slice(), out)
+}
+
+/// The word that is printed for what isn't built.
+pub fn unbuilt_word() -> &'static [u8]
+    ensures { result.now ≡ unbuilt_word }
+{
+    b"NOTBUILT".as_slice()
 }
 
 /// Writes a line: the number, a blank, and the words. Where memory is short, `out` stays as it was.

@@ -1,4 +1,14 @@
 //! Lines of requests: what they ask for, the ACEEs that they name, and the answers.
+//!
+//! [`read_line`] reads a [`RequestLine`] or its refusal, [`respond`] works it on an image and an [`AceeTable`], and writes
+//! the answer. The checks of VERIFY and the decisions are those of `acee` and `decision`; `racf_run` hands the lines of a
+//! stream on.
+//!
+//! ```
+//! let mut acees = AceeTable::new(alloc)?;
+//! let line = read_line(b"VERIFY A ANN TERMINAL(T100)");
+//! let refused = respond(alloc, &line, &image, &mut acees, &mut out)?;      // out has `1 0 VERIFIED` and a line feed
+//! ```
 #![tactic(auto)]
 
 mod acees;
@@ -12,7 +22,7 @@ mod spellings;
 mod working;
 
 pub use acees::{AceeTable, NamedAcee};
-pub use answers::answer_text;
+pub use answers::{answer_text, unbuilt_word};
 pub use line::{LineRefusal, RequestLine, read_line};
 pub use working::respond;
 

@@ -107,6 +107,7 @@ fn request_by(verb: LineWord, words: &LineWords) -> Result<RequestLine, LineRefu
     Err(LineRefusal::BadLine(verb.place))
 }
 
+/// A line of VERIFY.
 fn verify_line(words: &LineWords) -> Result<RequestLine, LineRefusal>
     ensures line { line_read result ≡ made verify_line (verified_by words.now) }
     ensures refusals { IfErr result IsOfTheLine }
@@ -117,6 +118,7 @@ fn verify_line(words: &LineWords) -> Result<RequestLine, LineRefusal>
     }
 }
 
+/// A line of AUTH.
 fn auth_line(words: &LineWords) -> Result<RequestLine, LineRefusal>
     ensures line { line_read result ≡ accessed Auth (asked_by words.now) }
     ensures refusals { IfErr result IsOfTheLine }
@@ -132,6 +134,7 @@ fn auth_line(words: &LineWords) -> Result<RequestLine, LineRefusal>
     }
 }
 
+/// A line of FASTAUTH.
 fn fastauth_line(words: &LineWords) -> Result<RequestLine, LineRefusal>
     ensures line { line_read result ≡ accessed Fastauth (asked_by words.now) }
     ensures refusals { IfErr result IsOfTheLine }
@@ -147,6 +150,7 @@ fn fastauth_line(words: &LineWords) -> Result<RequestLine, LineRefusal>
     }
 }
 
+/// A line of DELETE.
 fn delete_line(words: &LineWords) -> Result<RequestLine, LineRefusal>
     ensures line { line_read result ≡ made Delete (deleted words.now) }
     ensures refusals { IfErr result IsOfTheLine }
@@ -157,6 +161,7 @@ fn delete_line(words: &LineWords) -> Result<RequestLine, LineRefusal>
     }
 }
 
+/// A line of `*AFTER`.
 fn after_line(words: &LineWords) -> Result<RequestLine, LineRefusal>
     ensures line { line_read result ≡ made After (number_after words.now) }
     ensures refusals { IfErr result IsOfTheLine }

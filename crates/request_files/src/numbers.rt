@@ -37,6 +37,7 @@ fn are_digits(word: &[u8]) -> bool
     word.iter().all(|byte| is_digit(*byte))
 }
 
+/// Whether it is a digit.
 fn is_digit(byte: u8) -> bool
     ensures { result ≡ is_digit byte }
 {

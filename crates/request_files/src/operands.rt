@@ -109,6 +109,7 @@ pub(crate) fn with_operand(request: &VerifyRequest, operand: &Operand) -> Option
     }
 }
 
+/// The request with that group, unless it names one.
 fn with_group(request: &VerifyRequest, group: Id) -> Option<VerifyRequest>
     ensures { result ≡ with_operand request.now (operand.Group group) }
 {
@@ -121,6 +122,7 @@ fn with_group(request: &VerifyRequest, group: Id) -> Option<VerifyRequest>
     })
 }
 
+/// The request with that port, unless it names one.
 fn with_port(request: &VerifyRequest, port: Condition) -> Option<VerifyRequest>
     ensures { result ≡ with_operand request.now (operand.Port port) }
 {
@@ -133,6 +135,7 @@ fn with_port(request: &VerifyRequest, port: Condition) -> Option<VerifyRequest>
     })
 }
 
+/// The request with that application, unless it names one.
 fn with_application(request: &VerifyRequest, name: Id) -> Option<VerifyRequest>
     ensures { result ≡ with_operand request.now (operand.Application name) }
 {
@@ -145,6 +148,7 @@ fn with_application(request: &VerifyRequest, name: Id) -> Option<VerifyRequest>
     })
 }
 
+/// The request with that label, unless it names one.
 fn with_label(request: &VerifyRequest, label: Id) -> Option<VerifyRequest>
     ensures { result ≡ with_operand request.now (operand.Label label) }
 {

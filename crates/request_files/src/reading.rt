@@ -19,14 +19,18 @@ use racf_profiles::kind_in;
 /// What the words of VERIFY say.
 #[derive(Clone, Copy)]
 pub(crate) struct Verified {
+    /// The name of the ACEE to be made.
     pub(crate) acee: Id,
+    /// Who is to be verified, and from where.
     pub(crate) request: VerifyRequest,
 }
 
 /// What the words of AUTH and FASTAUTH say. The name of the resource may have a fault.
 #[derive(Drop)]
 pub(crate) struct Asked {
+    /// The name of the ACEE that asks.
     pub(crate) acee: Id,
+    /// The access that is asked for, or the fault of the name.
     pub(crate) request: Result<Request, NameFault>,
 }
 

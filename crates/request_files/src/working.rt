@@ -10,7 +10,7 @@ ghost use Rattle.request_files.specs.Seen.{line_read};
 ghost use Rattle.request_files.specs.Worked.{Shows, Untouched, worked, line_worked, told, verify_worked, verify_unless, verify_told, auth_for, delete_for, after_worked};
 
 use crate::acees::AceeTable;
-use crate::answers::{answer_text, verify_fault_words, write_line, write_never, write_refused};
+use crate::answers::{answer_text, unbuilt_word, verify_fault_words, write_line, write_never, write_refused};
 use crate::line::{LineRefusal, RequestLine};
 use access_levels::Id;
 use acee::{Acee, VerifyFault, VerifyRequest};
@@ -213,7 +213,10 @@ fn not_built(number: u64, out: &mut Vec<u8>) -> Result<bool, AllocError>
     ensures text { OnOk result (out.new.items ≡ out.old.items ++ numbered number unbuilt_words) }
     ensures kept { OnErr result (out.new.items ≡ out.old.items) }
 {
-    write_line(number, b"REFUSED NOTBUILT", out)?;
+    let mut words = Vec::new(*out.allocator());
+    words.extend_from_slice(b"REFUSED ")?;
+    words.extend_from_slice(unbuilt_word())?;
+    write_line(number, words.as_slice(), out)?;
     Ok(true)
 }
 

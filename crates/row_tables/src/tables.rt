@@ -29,9 +29,13 @@ use std::marker::Model;
 /// options are off but for the names of categories: no command changes them yet.
 #[derive(Drop)]
 pub struct RowTables {
+    /// The users with their connections.
     pub(crate) users: UserTable,
+    /// The groups.
     pub(crate) tree: Tree,
+    /// The classes with their profiles.
     pub(crate) classes: ClassTables,
+    /// The options of the whole database.
     pub(crate) options: Options,
 }
 

@@ -18,8 +18,11 @@ use std::marker::Model;
 /// them, so that neither is counted anew for a command.
 #[derive(Drop)]
 pub struct UserTable {
+    /// The users by name, in order of definition.
     users: IndexMap<Id, User>,
+    /// How many connections they have in all.
     connections: usize,
+    /// How many of them have SPECIAL and are not revoked.
     special_users: usize,
 }
 
@@ -161,7 +164,9 @@ impl UserTable {
 /// What one user adds to the counts.
 #[derive(Clone, Copy)]
 struct Share {
+    /// The connections of the user.
     connections: usize,
+    /// 1 for a user with SPECIAL who is not revoked, else 0.
     special_users: usize,
 }
 

@@ -61,9 +61,6 @@ pub(super) fn check_standard_fits(
 ) -> Result<(), Conflict>
     ensures { result_err result ≡ standard_full issuer.now command.now tables.now.rows }
 {
-    if command.delete {
-        return Ok(());
-    }
     match tables.profile(command.class, &command.profile) {
         None => Ok(()),
         Some(old) => check_count(
@@ -82,9 +79,6 @@ pub(super) fn check_conditional_fits(
 ) -> Result<(), Conflict>
     ensures { result_err result ≡ conditional_full issuer.now command.now tables.now.rows }
 {
-    if command.delete {
-        return Ok(());
-    }
     match tables.profile(command.class, &command.profile) {
         None => Ok(()),
         Some(old) => check_count(
@@ -103,9 +97,6 @@ pub(super) fn check_entries_fit(
 ) -> Result<(), Conflict>
     ensures { result_err result ≡ entries_full issuer.now command.now tables.now.rows }
 {
-    if command.delete {
-        return Ok(());
-    }
     tables.what_is_kept();
     class_profiles::laws::puts_are_counted();
     match tables.profile(command.class, &command.profile) {

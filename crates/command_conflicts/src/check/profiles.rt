@@ -1,8 +1,8 @@
 //! Which profiles and classes have to be there, or not, and how many there may be.
-ghost use Rattle.std.specs.Prelude.{◌≡◌, ◌+◌, ◌≤◌, ◌==◌, position, length, is_some, codes, bytes_eq};
+ghost use Rattle.std.specs.Prelude.{◌≡◌, ◌+◌, ◌≤◌, length, is_some, codes, bytes_eq};
 ghost use Rattle.std.specs.Result.{result_err, result_ok};
 ghost use Rattle.access_levels.specs.Spelling.{id_of};
-ghost use Rattle.generic_names.specs.Spelled.{first_qualifier, period};
+ghost use Rattle.generic_names.specs.Spelled.{first_qualifier};
 ghost use Rattle.racf_profiles.specs.Limits.{most_class_profiles, most_profiles};
 ghost use Rattle.racf_profiles.specs.Counts.{profile_count};
 ghost use Rattle.racf_profiles.specs.Lookup.{profile_of};
@@ -16,7 +16,7 @@ use crate::limits::check_count;
 use access_levels::Id;
 use class_profiles::{MOST_CLASS_PROFILES, MOST_PROFILES};
 use command_effects::dataset;
-use generic_names::Pattern;
+use generic_names::{Pattern, first_qualifier};
 use racf_profiles::{FixedClass, View, class_facts};
 use row_tables::RowTables;
 
@@ -25,7 +25,7 @@ use row_tables::RowTables;
 pub(super) fn check_first_qualifier(tables: &RowTables, name: &Pattern) -> Result<(), Conflict>
     ensures { result_err result ≡ no_first_qualifier name.now tables.now.rows }
 {
-    check_owner(tables, first_qualifier(name))
+    check_owner(tables, qualifier_id(name))
 }
 
 /// The class is in the table.
@@ -184,25 +184,8 @@ fn is_global(class: Id) -> bool
 }
 
 /// The first qualifier of a name, where it is spelled as an ID.
-fn first_qualifier(name: &Pattern) -> Option<Id>
+fn qualifier_id(name: &Pattern) -> Option<Id>
     ensures { result ≡ result_ok (id_of (first_qualifier name.now.text)) }
 {
-    Id::read(up_to_period(name.text())).ok()
-}
-
-/// The bytes before the first period.
-fn up_to_period(text: &[u8]) -> &[u8]
-    ensures { result.now ≡ first_qualifier text.now }
-{
-    match first_period(text) {
-        Some(end) => &text[..end],
-        None => text,
-    }
-}
-
-/// The place of the first period.
-fn first_period(text: &[u8]) -> Option<usize>
-    ensures { result ≡ position (λ byte. byte == period) text.now }
-{
-    text.iter().position(|byte| *byte == b'.')
+    Id::read(first_qualifier(name.text())).ok()
 }

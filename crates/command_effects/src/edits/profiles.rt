@@ -16,6 +16,7 @@ use racf_profiles::{CategoryNames, Edit, Members, NoMemory, Options, View};
 use row_tables::RowTables;
 use std::alloc::Global;
 
+/// The edits of ADDSD.
 pub(super) fn edits_of_add_sd(
     alloc: Global,
     tables: &RowTables,
@@ -28,6 +29,7 @@ pub(super) fn edits_of_add_sd(
     one(alloc, Edit::PutProfile(dataset(), profile))
 }
 
+/// The edits of ALTSD.
 pub(super) fn edits_of_alt_sd(
     alloc: Global,
     tables: &RowTables,
@@ -44,6 +46,7 @@ pub(super) fn edits_of_alt_sd(
     }
 }
 
+/// The edits of RDEFINE.
 pub(super) fn edits_of_r_define(
     alloc: Global,
     tables: &RowTables,
@@ -57,6 +60,7 @@ pub(super) fn edits_of_r_define(
     with_options(alloc, tables, &command.addmem, edits)
 }
 
+/// The edits of RALTER.
 pub(super) fn edits_of_r_alter(
     alloc: Global,
     tables: &RowTables,
@@ -85,6 +89,7 @@ fn put_altered_resource(
     }
 }
 
+/// The edits of PERMIT.
 pub(super) fn edits_of_permit(
     alloc: Global,
     tables: &RowTables,

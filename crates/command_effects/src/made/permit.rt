@@ -5,8 +5,10 @@ ghost use Rattle.access_lists.specs.Lists.{is_for, is_for_under, most_entries};
 ghost use Rattle.access_levels.specs.Entries.{is_same_who, is_same_port};
 ghost use Rattle.command_effects.specs.PermitEffects.{standard_reset, conditional_reset, level_of, with_entry, with_conditional, standard_after, conditional_after, permitted_profile};
 
-use access_levels::{CondEntry, Condition, Entry, Id, Level, Who};
-use access_lists::{ListFault, permit, permit_when, withdraw, withdraw_when};
+use access_levels::{CondEntry, Condition, Entry, Level, Who};
+use access_lists::{
+    ListFault, is_same_port, is_same_who, permit, permit_when, withdraw, withdraw_when,
+};
 use command_parser::{Permit, Reset};
 use racf_profiles::{CondEntries, Entries, NoMemory, Profile};
 use std::alloc::{AllocError, Global};
@@ -176,31 +178,75 @@ fn level_of(command: &Permit) -> Level
     command.access.unwrap_or(Level::Read)
 }
 
-/// How many entries a standard list has after PERMIT with an access. Each ID is compared with those before it and
-/// with the list.
+/// How many entries a standard list has after PERMIT. Each ID is compared with those before it and with the list.
 pub fn standard_count(command: &Permit, old: &[Entry]) -> usize
-    requires { command.now.delete ≡ false }
     ensures { result ≡ length (standard_after command.now old.now) }
 {
     let list = standard_reset(command.reset, old);
+    let whos = command.id.items.as_slice();
     match command.when {
         Some(_) => list.len(),
-        None => count_with(command, list, command.id.items.as_slice()),
+        None if command.delete => count_without(command, list, whos),
+        None => count_with(command, list, whos),
     }
 }
 
 /// The same of a conditional list.
 pub fn conditional_count(command: &Permit, old: &[CondEntry]) -> usize
-    requires { command.now.delete ≡ false }
     ensures { result ≡ length (conditional_after command.now old.now) }
 {
     let list = conditional_reset(command.reset, old);
+    let whos = command.id.items.as_slice();
     match command.when {
-        Some(condition) => {
-            count_with_conditional(command, &condition, list, command.id.items.as_slice())
-        }
+        Some(port) if command.delete => count_without_conditional(command, &port, list, whos),
+        Some(port) => count_with_conditional(command, &port, list, whos),
         None => list.len(),
     }
+}
+
+/// How many entries are left once no ID has one.
+fn count_without(command: &Permit, list: &[Entry], whos: &[Who]) -> usize
+    requires { command.now.delete ≡ true }
+    ensures { result ≡ length (fold (with_entry command.now) list.now whos.now) }
+{
+    list.iter().filter(|entry| !has_any(&entry.who, whos)).count()
+}
+
+/// The same of a conditional list.
+fn count_without_conditional(
+    command: &Permit,
+    condition: &Condition,
+    list: &[CondEntry],
+    whos: &[Who],
+) -> usize
+    requires { command.now.delete ≡ true }
+    ensures { result ≡ length (fold (with_conditional command.now condition.now) list.now whos.now) }
+{
+    list.iter()
+        .filter(|entry| !has_any_under(entry, condition, whos))
+        .count()
+}
+
+/// Whether it is one of these.
+fn has_any(who: &Who, whos: &[Who]) -> bool
+    ensures { result ≡ list_any (λ other. is_same_who who.now other) whos.now }
+{
+    whos.iter().any(|other| is_same_who(who, other))
+}
+
+/// Whether a conditional entry is for one of these under a condition.
+fn has_any_under(entry: &CondEntry, condition: &Condition, whos: &[Who]) -> bool
+    ensures { result ≡ list_any (λ who. is_for_under condition.now who entry.now) whos.now }
+{
+    whos.iter().any(|who| is_for_under(entry, condition, who))
+}
+
+/// The command puts entries, which the definitions ask it. It does nothing: its contract is what it is for.
+fn puts_entries(command: &Permit)
+    requires { command.now.delete ≡ false }
+    ensures { command.now.delete ≡ false }
+{
+    let _delete = command.delete;
 }
 
 /// How many entries there are once each ID has one.
@@ -208,7 +254,7 @@ fn count_with(command: &Permit, list: &[Entry], whos: &[Who]) -> usize
     requires { command.now.delete ≡ false }
     ensures { result ≡ length (fold (with_entry command.now) list.now whos.now) }
 {
-    let _gives = command.delete;
+    puts_entries(command);
     let mut count = list.len() + whos.len();
     for (i, who) in whos.iter().enumerate() {
         count -= repeats(who, &whos[..i], list);
@@ -226,7 +272,7 @@ fn count_with_conditional(
     requires { command.now.delete ≡ false }
     ensures { result ≡ length (fold (with_conditional command.now condition.now) list.now whos.now) }
 {
-    let _gives = command.delete;
+    puts_entries(command);
     let mut count = list.len() + whos.len();
     for (i, who) in whos.iter().enumerate() {
         count -= repeats_under(who, &whos[..i], condition, list);
@@ -282,31 +328,4 @@ fn is_for_under(entry: &CondEntry, condition: &Condition, who: &Who) -> bool
     ensures { result ≡ is_for_under condition.now who.now entry.now }
 {
     is_same_port(&entry.condition, condition) && is_same_who(&entry.who, who)
-}
-
-/// Whether both are `*`, or both one ID.
-fn is_same_who(who: &Who, other: &Who) -> bool
-    ensures { result ≡ is_same_who who.now other.now }
-{
-    match who {
-        Who::Star => matches!(other, Who::Star),
-        Who::Named(id) => is_named(other, *id),
-    }
-}
-
-/// Whether it is that ID.
-fn is_named(who: &Who, id: Id) -> bool
-    ensures { result ≡ is_same_who (Who.Named id) who.now }
-{
-    match who {
-        Who::Star => false,
-        Who::Named(other) => id == *other,
-    }
-}
-
-/// Whether both name one port.
-fn is_same_port(port: &Condition, other: &Condition) -> bool
-    ensures { result ≡ is_same_port port.now other.now }
-{
-    port.class.name() == other.class.name() && port.name == other.name
 }

@@ -92,6 +92,7 @@ pub(crate) fn without_categories(tables: &RowTables, set: Categories, names: &[I
     set
 }
 
+/// The set with the number of this category.
 fn with_category(tables: &RowTables, set: Categories, name: Id) -> Categories
     ensures { result ≡ with_category tables.now.rows set name }
 {
@@ -101,6 +102,7 @@ fn with_category(tables: &RowTables, set: Categories, name: Id) -> Categories
     }
 }
 
+/// The set without the number of this category.
 fn without_category(tables: &RowTables, set: Categories, name: Id) -> Categories
     ensures { result ≡ without_category tables.now.rows set name }
 {

@@ -8,12 +8,8 @@ use Rattle.command_effects.specs.PermitEffects.{permitted_profile, after_permit,
 use Rattle.command_conflicts.specs.declared.conflict.Limit.TheVariants.{AllEntries}
 use Rattle.command_conflicts.specs.Required.{over}
 use Rattle.command_conflicts.specs.ProfileConflicts.{entries_full}
-use Rattle.command_conflicts.proofs.NewProfiles.{changed-absent, entry_count-changed, entries-le, no_limit, some_limit, not_over}
+use Rattle.command_conflicts.proofs.NewProfiles.{changed-absent, entry_count-changed, entries-le, not_over}
 use Rattle.command_conflicts.proofs.check.permit.check_entries_fit.Goals as goal
-
-pub returns-then-command : goal.returns-then-command
-unfolding entries_full
-returns-then-command c = no_limit c.args.command.now.delete _ c.if-command.true
 
 pub returns-in-None : goal.returns-in-None
 unfolding entries_full
@@ -21,8 +17,7 @@ returns-in-None c =
     let p = c.args.command.now in
     let rows = c.args.tables.now.rows in
     let same = changed-absent p.class p.profile (permitted_profile p) (λ q. refl) rows (sym c.in-None.ensures) in
-    some_limit p.delete _ None c.if-command.false
-    (sym (ap (λ (r : Rows). over AllEntries most_entries_in_all (entry_count r.classes)) same ∙ not_over AllEntries most_entries_in_all (entry_count rows.classes) c.what_is_kept.ensures.entries))
+    sym (ap (λ (r : Rows). over AllEntries most_entries_in_all (entry_count r.classes)) same ∙ not_over AllEntries most_entries_in_all (entry_count rows.classes) c.what_is_kept.ensures.entries)
 
 pub returns-in-Some : goal.returns-in-Some
 unfolding entries_full
@@ -38,4 +33,4 @@ returns-in-Some c =
     let count = c.entries.ensures.count ∙ ap entry_count c.classes.ensures in
     let same : c.saturating_sub.result + (c.standard_count.result + c.conditional_count.result) ≡ entry_count (after_permit p rows).classes =
     omega (arith, counted, most, count, standard, conditional, c.saturating_sub.ensures, c.entries_in.ensures) in
-    some_limit p.delete _ _ c.if-command.false (c.check_sum.ensures ∙ ap (over AllEntries most_entries_in_all) same)
+    c.check_sum.ensures ∙ ap (over AllEntries most_entries_in_all) same

@@ -6,24 +6,18 @@ use Rattle.command_effects.specs.PermitEffects.{permitted_profile, standard_afte
 use Rattle.command_conflicts.specs.declared.conflict.Limit.TheVariants.{Entries}
 use Rattle.command_conflicts.specs.Required.{over}
 use Rattle.command_conflicts.specs.ProfileConflicts.{list_full, standard_full}
-use Rattle.command_conflicts.proofs.NewProfiles.{changed-none, changed-there, no_limit, some_limit}
+use Rattle.command_conflicts.proofs.NewProfiles.{changed-none, changed-there}
 use Rattle.command_conflicts.proofs.check.permit.check_standard_fits.Goals as goal
-
-pub returns-then-command : goal.returns-then-command
-unfolding standard_full
-returns-then-command c = no_limit c.args.command.now.delete _ c.if-command.true
 
 pub returns-in-None : goal.returns-in-None
 unfolding standard_full
 returns-in-None c =
     let p = c.args.command.now in
-    some_limit p.delete _ None c.if-command.false
-    (sym (ap (list_full (λ (q : Profile). length q.standard)) (changed-none p.class p.profile (permitted_profile p) (λ q. refl) c.args.tables.now.rows (sym c.in-None.ensures))))
+    sym (ap (list_full (λ (q : Profile). length q.standard)) (changed-none p.class p.profile (permitted_profile p) (λ q. refl) c.args.tables.now.rows (sym c.in-None.ensures)))
 
 pub returns-in-Some : goal.returns-in-Some
 unfolding standard_full
 returns-in-Some c =
     let p = c.args.command.now in
-    some_limit p.delete _ _ c.if-command.false
-    (c.check_count.ensures ∙ ap (over Entries most_list_entries) (c.standard_count.ensures ∙ ap (λ list. length (standard_after p list)) (c.as_slice.ensures.value ∙ ap (λ (q : Profile). q.standard) c.old.view_is))
-    ∙ sym (ap (list_full (λ (q : Profile). length q.standard)) (changed-there p.class p.profile (permitted_profile p) (λ q. refl) c.args.tables.now.rows c.in-Some.old.now (sym c.in-Some.ensures))))
+    c.check_count.ensures ∙ ap (over Entries most_list_entries) (c.standard_count.ensures ∙ ap (λ list. length (standard_after p list)) (c.as_slice.ensures.value ∙ ap (λ (q : Profile). q.standard) c.old.view_is))
+    ∙ sym (ap (list_full (λ (q : Profile). length q.standard)) (changed-there p.class p.profile (permitted_profile p) (λ q. refl) c.args.tables.now.rows c.in-Some.old.now (sym c.in-Some.ensures)))

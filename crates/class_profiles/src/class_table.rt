@@ -29,7 +29,7 @@ pub struct ClassTable {
     listed: bool,
     /// Whether the global access table counts for it.
     global: bool,
-    /// What is logged of it, whatever its profiles say.
+    /// Whether its accesses are logged as the profiles say, or by this option.
     log: LogOption,
     /// Its profiles.
     profiles: ProfileTable,
@@ -94,7 +94,7 @@ impl ClassTable {
         self.global
     }
 
-    /// What is logged of it, whatever its profiles say.
+    /// Whether its accesses are logged as the profiles say, or by this option.
     pub fn log(&self) -> LogOption
         ensures { result ≡ self.now.row.log }
     {

@@ -103,6 +103,9 @@ fn one_class(rt: HostRuntime) -> Result<(), Fail> {
     assert_eq!(rt; left_without(&mut table, b"SYS1.PARMLIB"), 2);
     assert_eq!(rt; left_without(&mut table, b"SYS1.PARMLIB"), 2);
     assert!(rt; decides(&table, b"SYS1.PARMLIB", b"SYS1.PARM*"));
+    let copy = table.copy(alloc)?;
+    assert!(rt; decides(&copy, b"SYS1.PARMLIB", b"SYS1.PARM*"));
+    assert_eq!(rt; copy.rows(alloc)?.items.len(), 2);
     Ok(())
 }
 
@@ -145,6 +148,7 @@ fn two_classes(rt: HostRuntime) -> Result<(), Fail> {
     let data_sets = FixedClass::Dataset.id();
     let terminals = FixedClass::Terminal.id();
     let mut tables = ClassTables::new(alloc)?;
+    assert_eq!(rt; ClassTables::all_active(alloc)?.count(), 0);
     assert!(rt; put_in(alloc, &mut tables, data_sets, b"SYS1.**"));
     assert!(rt; put_in(alloc, &mut tables, data_sets, b"SYS1.PARMLIB"));
     assert!(rt; put_in(alloc, &mut tables, data_sets, b"SYS1.**"));

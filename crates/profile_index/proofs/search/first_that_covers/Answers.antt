@@ -11,7 +11,7 @@ pub loop-place-init : goal.loop-place-init
 loop-place-init g c = record {
   within = c.end_of_those_before-place.ensures.within;
   none = λ k d low high.
-      before-covers (get_or c.args.slots.now.entries k d).name c.args.name.now c.text.ensures.name (all-at (λ e. e.name.kind ≡ c.args.name.now.kind) c.args.slots.now.entries c.requires.kinds k d (omega arith))
+      before-covers (get_or c.args.slots.now.entries k d).name c.args.name.now c.is_spelled.ensures (all-at (λ e. e.name.kind ≡ c.args.name.now.kind) c.args.slots.now.entries c.requires.kinds k d (omega arith))
       (subst (λ (n : Spelled). before (get_or c.args.slots.now.entries k d).name n ≡ true) c.discrete.ensures (c.end_of_those_before-place.ensures.below k d low high));
 }
 

@@ -10,7 +10,7 @@ pub share_of-requires : goal.share_of-requires
 share_of-requires c =
     let le = entries-le c.args.class c.args.name.now c.args.self.now.classes in
     let here = ap (λ (o : Option Profile). option_map_or entries_in o 0) c.in-Some.ensures in
-    omega (arith, le, here, c.entries-entries.ensures.few, c.entries-entries.ensures.count)
+    omega (arith, le, here, c.what_is_kept.ensures.entries)
 
 pub returns-in-Some-clause-few : goal.returns-in-Some-clause-few
 returns-in-Some-clause-few c =

@@ -28,10 +28,10 @@ invariant_of-self c =
     let is = c.requires.can.kind ∙ sym (ap (λ v. v.kind) c.self.view_is) in
     let absent = ap (λ v. find (is_profile p.name) v.profiles) c.self.view_is ∙ c.requires.absent in
     let few = subst (λ v. length (put_profile p v.profiles) ≤ most_class_profiles) (sym c.self.view_is) c.requires.can.few in
-    let ordered = c.puts_keep_the_order.ensures c.self.inside.kind p (items_of old) c.text.ensures.name is c.self.invariant.lawful.named c.self.invariant.lawful.ordered in
+    let ordered = c.puts_keep_the_order.ensures c.self.inside.kind p (items_of old) c.is_spelled.ensures is c.self.invariant.lawful.named c.self.invariant.lawful.ordered in
     record {
-      paired = added-paired law.either law.not_both c.self.inside.kind p c.text.ensures.name is old c.insert.new.self.entries c.self.invariant.paired c.self.invariant.lawful absent c.insert.ensures.entries;
-      lawful = added-lawful law.either law.not_both c.self.inside.kind p c.text.ensures.name is old c.insert.new.self.entries c.self.invariant.paired c.self.invariant.lawful absent c.insert.ensures.entries few ordered;
+      paired = added-paired law.either law.not_both c.self.inside.kind p c.is_spelled.ensures is old c.insert.new.self.entries c.self.invariant.paired c.self.invariant.lawful absent c.insert.ensures.entries;
+      lawful = added-lawful law.either law.not_both c.self.inside.kind p c.is_spelled.ensures is old c.insert.new.self.entries c.self.invariant.paired c.self.invariant.lawful absent c.insert.ensures.entries few ordered;
     }
 
 pub returns-clause-profiles : goal.returns-clause-profiles
@@ -40,7 +40,7 @@ returns-clause-profiles c =
     let p = c.args.profile in
     let is = c.requires.can.kind ∙ sym (ap (λ v. v.kind) c.self.view_is) in
     let absent = ap (λ v. find (is_profile p.name) v.profiles) c.self.view_is ∙ c.requires.absent in
-    added-items law.either law.not_both c.self.inside.kind p c.text.ensures.name is c.self.inside.profiles.entries c.insert.new.self.entries c.self.invariant.paired c.self.invariant.lawful absent c.insert.ensures.entries
+    added-items law.either law.not_both c.self.inside.kind p c.is_spelled.ensures is c.self.inside.profiles.entries c.insert.new.self.entries c.self.invariant.paired c.self.invariant.lawful absent c.insert.ensures.entries
     ∙ ap (λ v. put_profile p v.profiles) c.self.view_is
 
 pub returns-clause-lawful : goal.returns-clause-lawful

@@ -12,7 +12,7 @@ add-requires-clause-can c =
     let law = c.order_is_total.ensures in
     let p = c.args.profile in
     let old = c.args.self.now in
-    let same = ap (put_profile p) c.take.ensures.profiles ∙ put-dropped law.not_both law.passed_on p old.kind old.profiles c.requires.kind c.len-lawful.ensures.lawful.named c.len-lawful.ensures.lawful.ordered in
+    let same = ap (put_profile p) c.take.ensures.profiles ∙ put-dropped law.not_both law.passed_on p old.kind old.profiles c.requires.kind c.what_is_kept.ensures.named c.what_is_kept.ensures.ordered in
     record {
       kind = c.requires.kind ∙ sym c.take.ensures.kind;
       room = λ _. spared (find (is_profile p.name) old.profiles) old.spare c.take.new.self.spare c.take.ensures.spare c.requires.room;
@@ -24,4 +24,4 @@ returns-clause-profiles c =
     let law = c.order_is_total.ensures in
     let p = c.args.profile in
     let old = c.args.self.now in
-    c.add.ensures.profiles ∙ ap (put_profile p) c.take.ensures.profiles ∙ put-dropped law.not_both law.passed_on p old.kind old.profiles c.requires.kind c.len-lawful.ensures.lawful.named c.len-lawful.ensures.lawful.ordered
+    c.add.ensures.profiles ∙ ap (put_profile p) c.take.ensures.profiles ∙ put-dropped law.not_both law.passed_on p old.kind old.profiles c.requires.kind c.what_is_kept.ensures.named c.what_is_kept.ensures.ordered

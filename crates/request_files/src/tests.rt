@@ -125,8 +125,14 @@ fn acees_in_use(rt: HostRuntime) -> Result<(), Fail> {
         assert_eq!(rt; acees.put(name, acee(alloc, name)?), Ok(()));
     }
     let (first, next) = (Id::read(b"A0")?, Id::read(b"NEXT")?);
-    assert_eq!(rt; acees.put(next, acee(alloc, next)?), Err(LineRefusal::AceesFull));
-    assert_eq!(rt; acees.put(first, acee(alloc, next)?), Err(LineRefusal::AceeExists(first)));
+    assert_eq!(rt;
+        acees.put(next, acee(alloc, next)?),
+        Err(LineRefusal::AceesFull)
+    );
+    assert_eq!(rt;
+        acees.put(first, acee(alloc, next)?),
+        Err(LineRefusal::AceeExists(first))
+    );
     assert!(rt; acees.remove(first).is_some_and(|acee| acee.user == first));
     assert!(rt; acees.get(first).is_none());
     assert_eq!(rt; acees.len(), 255);

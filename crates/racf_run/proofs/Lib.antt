@@ -10,5 +10,12 @@ pub mod Pieces
 pub mod Processing
 pub mod StreamWalk
 pub mod PrintedLaws
+pub mod Feedless
+pub mod FeedlessRows
+pub mod FeedlessConflicts
+pub mod FeedlessDecisions
+pub mod FeedlessLines
+pub mod FeedlessTurns
 pub mod OutputLaws
+pub mod OutputLines
 pub mod DecidedLaws

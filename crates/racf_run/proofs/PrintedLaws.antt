@@ -1,6 +1,6 @@
--- What each statement prints, and what the printed line says of it.
-use Rattle.std.proofs.Common.{◌≡◌, ℕ, zero, suc, ◌+◌, ◌<◌, ◌≤◌, ◌/◌, ◌%◌, Bool, true, false, ◌||◌, List, [], ◌∷◌, ◌++◌, None, Some, Ok, Err, refl, sym, ◌∙◌, ap, inl, inr, arith, append_assoc}
-use Rattle.std.specs.Prelude.{◌⊎◌, ◌==◌, nat_eq, nat_le, Option, Result, codes, decimal, is_some, if◌then◌else◌}
+-- What the printed line of each statement says of it.
+use Rattle.std.proofs.Common.{◌≡◌, ℕ, zero, suc, ◌+◌, ◌<◌, ◌≤◌, ◌/◌, ◌%◌, Bool, true, false, ◌||◌, List, [], ◌∷◌, ◌++◌, None, Some, Ok, Err, refl, sym, ◌∙◌, ap, arith, append_assoc}
+use Rattle.std.specs.Prelude.{◌==◌, nat_eq, nat_le, Option, Result, codes, decimal, is_some, if◌then◌else◌}
 use Rattle.std.specs.Fmt.{digits, digits_onto, digit_glyph}
 use Rattle.std.specs.List.{starts_with}
 use Rattle.std.proofs.Math.Nat.{mod-lt}
@@ -18,7 +18,7 @@ use Rattle.request_files.specs.declared.acees.NamedAcee.{NamedAcee}
 use Rattle.request_files.specs.declared.line.LineRefusal.{LineRefusal}
 use Rattle.request_files.specs.declared.line.LineRefusal.TheVariants as fault
 use Rattle.request_files.specs.Answers as words
-use Rattle.request_files.specs.Answers.{numbered, refused_words, unbuilt_words, verified_words, verify_fault_words, deleted_words, rule_words, decision_words, answer_line, never_line}
+use Rattle.request_files.specs.Answers.{numbered, unbuilt_words, verified_words, verify_fault_words, deleted_words, rule_words, decision_words, answer_line, never_line}
 use Rattle.request_files.specs.Acees.{acee_named, put_refusal}
 use Rattle.request_files.specs.Grammar.{Access, Line, Verify, Auth, Fastauth, Delete, After, Skip, read}
 use Rattle.request_files.specs.Worked as request
@@ -32,11 +32,11 @@ use Rattle.racf_run.specs.Commands.{refusal_of, read_command}
 use Rattle.racf_run.specs.Requests.{is_unbuilt_line}
 use Rattle.racf_run.specs.Stream as s
 use Rattle.racf_run.specs.Stream.{State, Answer}
-use Rattle.racf_run.specs.Printed.{Turn, printed, behind, PrintsOneLine, behind_blank, says_refused}
+use Rattle.racf_run.specs.Printed.{behind_blank, says_refused}
 
 -- ---- decimal numbers
 
-abbrev AllDigits : List ℕ → Type 0
+abbrev pub AllDigits : List ℕ → Type 0
 AllDigits [] = Unit {0}
 AllDigits (b ∷ bs) = (48 ≤ b) × (b < 58) × AllDigits bs
 
@@ -60,7 +60,7 @@ digits_onto-AllDigits zero n acc h = h
 digits_onto-AllDigits (suc k) n acc h =
     either_digits (n / 10 == 0) _ _ (one_more n acc h) (digits_onto-AllDigits k (n / 10) (digit_glyph false (n % 10) ∷ acc) (one_more n acc h))
 
-decimal-AllDigits : (n : ℕ) → AllDigits (decimal n)
+pub decimal-AllDigits : (n : ℕ) → AllDigits (decimal n)
 unfolding digits
 decimal-AllDigits n = digits_onto-AllDigits 64 n [] tt
 
@@ -111,24 +111,20 @@ decision_says n d = sym (numbered_says n (decision_words d) ∙ decision_starts 
 
 -- ---- requests
 
--- an outcome's text says whether it refuses, and is one line or none
-record Tells (number : ℕ) (o : request.Outcome) : Type 0 where
-  says : o.refused ≡ says_refused o.text
-  line : (o.text ≡ []) ⊎ (((words : List ℕ) × (o.text ≡ numbered number words)) ⊎ (o.text ≡ never_line number))
+-- an outcome's text says whether it refuses
+abbrev Tells : request.Outcome → Type 0
+Tells o = o.refused ≡ says_refused o.text
 
-tells_words : (number : ℕ) (o : request.Outcome) (words : List ℕ) → o.text ≡ numbered number words → o.refused ≡ says_refused o.text → Tells number o
-tells_words number o words is says = record { says = says; line = inr (inl (words, is)) }
-
-tells_either : (number : ℕ) (b : Bool) (x y : request.Outcome) → Tells number x → Tells number y → Tells number (if b then x else y)
-tells_either number true x y p q = p
-tells_either number false x y p q = q
+tells_either : (b : Bool) (x y : request.Outcome) → Tells x → Tells y → Tells (if b then x else y)
+tells_either true x y p q = p
+tells_either false x y p q = q
 
 module _ (image : Imaged) (acees : List NamedAcee) where
-  tells_refused : (why : LineRefusal) → Tells image.generation (request.refused image acees why)
-  tells_refused why = tells_words image.generation _ (refused_words why) refl (sym (refused_says image.generation (words.refusal_words why)))
+  tells_refused : (why : LineRefusal) → Tells (request.refused image acees why)
+  tells_refused why = sym (refused_says image.generation (words.refusal_words why))
 
-  tells_unbuilt : Tells image.generation (request.unbuilt image acees)
-  tells_unbuilt = tells_words image.generation _ unbuilt_words refl (sym (numbered_says image.generation unbuilt_words))
+  tells_unbuilt : Tells (request.unbuilt image acees)
+  tells_unbuilt = sym (numbered_says image.generation unbuilt_words)
 
   fault_says : (cause : VerifyFault) → false ≡ starts_with nat_eq (verify_fault_words cause ++ codes "\n") (codes "REFUSED ")
   fault_says verify.NotDefined = refl
@@ -140,49 +136,45 @@ module _ (image : Imaged) (acees : List NamedAcee) where
   fault_says verify.Label = refl
   fault_says verify.NoMemory = refl
 
-  tells_verify_told : (name : List ℕ) (result : Result Acee VerifyFault) → Tells image.generation (request.verify_told image acees name result)
-  tells_verify_told name (Ok acee) = tells_words image.generation _ verified_words refl (sym (numbered_says image.generation verified_words))
-  tells_verify_told name (Err cause) =
-      tells_words image.generation _ (verify_fault_words cause) refl (fault_says cause ∙ sym (numbered_says image.generation (verify_fault_words cause)))
+  tells_verify_told : (name : List ℕ) (result : Result Acee VerifyFault) → Tells (request.verify_told image acees name result)
+  tells_verify_told name (Ok acee) = sym (numbered_says image.generation verified_words)
+  tells_verify_told name (Err cause) = fault_says cause ∙ sym (numbered_says image.generation (verify_fault_words cause))
 
-  tells_verify_unless : (name : List ℕ) (asked : VerifyRequest) (why : Option LineRefusal) → Tells image.generation (request.verify_unless image acees name asked why)
+  tells_verify_unless : (name : List ℕ) (asked : VerifyRequest) (why : Option LineRefusal) → Tells (request.verify_unless image acees name asked why)
   tells_verify_unless name asked (Some why) = tells_refused why
   tells_verify_unless name asked None = tells_verify_told name (verified image.state image.generation asked)
 
-  tells_auth : (name : List ℕ) (access : Access) (acee : Option Acee) → Tells image.generation (request.auth_for image acees name access acee)
+  tells_auth : (name : List ℕ) (access : Access) (acee : Option Acee) → Tells (request.auth_for image acees name access acee)
   unfolding answer_line
   tells_auth name access None = tells_refused (fault.NoAcee name)
-  tells_auth name access (Some acee) =
-      let decision = decided image.state image.generation acee access.class access.name access.asked in
-      tells_words image.generation _ (decision_words decision) refl (decision_says image.generation decision)
+  tells_auth name access (Some acee) = decision_says image.generation (decided image.state image.generation acee access.class access.name access.asked)
 
-  tells_delete : (name : List ℕ) (acee : Option Acee) → Tells image.generation (request.delete_for image acees name acee)
+  tells_delete : (name : List ℕ) (acee : Option Acee) → Tells (request.delete_for image acees name acee)
   tells_delete name None = tells_refused (fault.NoAcee name)
-  tells_delete name (Some acee) = tells_words image.generation _ deleted_words refl (sym (numbered_says image.generation deleted_words))
+  tells_delete name (Some acee) = sym (numbered_says image.generation deleted_words)
 
-  tells_nothing : Tells image.generation (request.answered image acees [])
-  tells_nothing = record { says = refl; line = inl refl }
+  tells_nothing : Tells (request.answered image acees [])
+  tells_nothing = refl
 
-  tells_line : (line : Line) → Tells image.generation (request.line_worked image acees line)
+  tells_line : (line : Line) → Tells (request.line_worked image acees line)
   tells_line (Verify name asked) =
-      tells_either image.generation (is_some asked.label) (request.unbuilt image acees) (request.verify_unless image acees name asked (put_refusal name acees)) tells_unbuilt (tells_verify_unless name asked (put_refusal name acees))
+      tells_either (is_some asked.label) (request.unbuilt image acees) (request.verify_unless image acees name asked (put_refusal name acees)) tells_unbuilt (tells_verify_unless name asked (put_refusal name acees))
   tells_line (Auth name access) = tells_auth name access (acee_named name acees)
   tells_line (Fastauth name access) = tells_unbuilt
   tells_line (Delete name) = tells_delete name (acee_named name acees)
   tells_line (After number) =
-      tells_either image.generation (nat_le number image.generation) (request.answered image acees []) (request.refused_with image acees (never_line image.generation)) tells_nothing (record { says = refl; line = inr (inr refl) })
+      tells_either (nat_le number image.generation) (request.answered image acees []) (request.refused_with image acees (never_line image.generation)) tells_nothing refl
   tells_line Skip = tells_nothing
 
-  tells_worked : (line : Result Line LineRefusal) → Tells image.generation (request.worked image acees line)
+  tells_worked : (line : Result Line LineRefusal) → Tells (request.worked image acees line)
   tells_worked (Ok line) = tells_line line
   tells_worked (Err why) = tells_refused (request.told acees why)
 
 -- ---- answers to statements
 
--- An answer's text says whether it refuses, and is one line or none.
-record Says (before : State) (a : Answer) : Type 0 where
-  says : a.state.has_refused ≡ (before.has_refused || says_refused a.text)
-  line : (a.text ≡ []) ⊎ (((words : List ℕ) × (a.text ≡ numbered a.state.number words)) ⊎ (a.text ≡ never_line a.state.number))
+-- An answer's text says whether it refuses.
+abbrev Says : State → Answer → Type 0
+Says before a = a.state.has_refused ≡ (before.has_refused || says_refused a.text)
 
 or_true : (b : Bool) → true ≡ (b || true)
 or_true true = refl
@@ -198,19 +190,11 @@ says_either before false x y p q = q
 
 says_refuse : (why : Refusal) (before : State) → Says before (s.refuse why before)
 unfolding reply_line
-says_refuse why before =
-    record {
-      says = or_true before.has_refused ∙ ap (λ b. before.has_refused || b) (sym (refused_says before.number (refusal_words why)));
-      line = inr (inl (codes "REFUSED " ++ refusal_words why, refl));
-    }
+says_refuse why before = or_true before.has_refused ∙ ap (λ b. before.has_refused || b) (sym (refused_says before.number (refusal_words why)))
 
 says_accept : (form : CommandFields) (before : State) → Says before (s.accept form before)
 unfolding reply_line
-says_accept form before =
-    record {
-      says = or_false before.has_refused ∙ ap (λ b. before.has_refused || b) (sym (numbered_says (before.number + 1) (codes "ACCEPTED")));
-      line = inr (inl (codes "ACCEPTED", refl));
-    }
+says_accept form before = or_false before.has_refused ∙ ap (λ b. before.has_refused || b) (sym (numbered_says (before.number + 1) (codes "ACCEPTED")))
 
 says_unless : (why : Option Refusal) (form : CommandFields) (before : State) → Says before (s.unless_refused why form before)
 says_unless (Some why) form before = says_refuse why before
@@ -224,9 +208,8 @@ says_command : (text : List ℕ) (before : State) → Says before (s.command tex
 unfolding s.command
 says_command text before = says_read (read_command text) before
 
-says_with : (o : request.Outcome) (before : State) → Tells before.number o → Says before (s.answer_with o before)
-says_with o before t =
-    record { says = ap (λ b. before.has_refused || b) t.says; line = t.line }
+says_with : (o : request.Outcome) (before : State) → Tells o → Says before (s.answer_with o before)
+says_with o before t = ap (λ b. before.has_refused || b) t
 
 says_request : (text : List ℕ) (before : State) → Says before (s.request text before)
 unfolding s.request
@@ -241,14 +224,4 @@ says_answer item.LineTooLong before = says_refuse refusal.LineTooLong before
 
 pub item_says : (i : Statement) (before : State) → (s.step i before).has_refused ≡ (before.has_refused || says_refused (s.text i before))
 unfolding s.step s.text
-item_says i before = (says_answer i before).says
-
-line_by : (turn : Turn) → ((printed turn ≡ []) ⊎ (((words : List ℕ) × (printed turn ≡ numbered (behind turn).number words)) ⊎ (printed turn ≡ never_line (behind turn).number))) → PrintsOneLine turn
-line_by turn (inl none) = inl none
-line_by turn (inr (inl line)) = inr (inl (record { words = line.0; is_line = line.1 }))
-line_by turn (inr (inr never)) = inr (inr never)
-
--- a statement prints one line or none
-pub item_line : (turn : Turn) → PrintsOneLine turn
-unfolding s.step s.text
-item_line turn = line_by turn (says_answer turn.item turn.before).line
+item_says i before = says_answer i before

@@ -1,7 +1,7 @@
 //! Laws of the definitions, for a reader of an output. The functions do nothing: their contracts are what is proved.
 
-ghost use Rattle.std.specs.Prelude.{◌≡◌, ℕ, List, ◌∷◌, ◌++◌, map, None, Some, Ok, if◌then◌else◌};
-ghost use Rattle.std.specs.List.{concat, list_any};
+ghost use Rattle.std.specs.Prelude.{◌≡◌, ℕ, List, ◌∷◌, ◌++◌, map, filter, None, Some, Ok, if◌then◌else◌};
+ghost use Rattle.std.specs.List.{AllByRecursion, concat, list_any};
 ghost use Rattle.decision.specs.Table.{decided};
 ghost use Rattle.decision.specs.Verify.{verified};
 ghost use Rattle.racf_profiles.specs.State.{restart};
@@ -17,17 +17,26 @@ ghost use Rattle.racf_run.specs.declared.status.Status.TheVariants.{Done, Refusa
 ghost use Rattle.racf_run.specs.Runs.{after};
 ghost use Rattle.racf_run.specs.Script.{stream, script_output, script_status};
 ghost use Rattle.racf_run.specs.Stream.{image_of, step};
-ghost use Rattle.racf_run.specs.Printed.{Turn, input_turns, turns, printed, PrintsOneLine, says_refused};
+ghost use Rattle.racf_run.specs.Printed.{Turn, input_turns, turns, printed, PrintsOneLine, prints, split_lines};
+ghost use Rattle.racf_run.specs.Printed.{says_refused};
 
-/// The output of a whole input is what its statements print at their turns, in order; each prints one line or nothing.
-/// The state at a statement's turn is that behind the statements before it.
+use command_parser::laws::{fields_of_a_text_are_lawful, one_command_is_spelled};
+
+/// The output of a whole input is what its statements print at their turns, in order. Whatever the input's bytes, each
+/// prints nothing or one line, so that the lines of the output are what is printed at the turns that print anything. The
+/// state at a statement's turn is that behind the statements before it.
 pub fn an_item_prints_one_line()
     ensures whole { (bytes : List ℕ) → script_output bytes ≡ concat (map printed (input_turns bytes)) }
-    ensures line { (turn : Turn) → PrintsOneLine turn }
+    ensures line { (bytes : List ℕ) → AllByRecursion PrintsOneLine (input_turns bytes) }
+    ensures lines { (bytes : List ℕ) →
+        split_lines (script_output bytes) ≡ map printed (filter prints (input_turns bytes)) }
     ensures state { (bytes : List ℕ) (done more : List Statement) (item : Statement) → stream.items bytes ≡ done ++ item ∷ more →
         let before = after stream done stream.start in
         input_turns bytes ≡ turns done stream.start ++ record { item = item; before = before } ∷ turns more (step item before) }
-{}
+{
+    one_command_is_spelled();
+    fields_of_a_text_are_lawful();
+}
 
 /// The line of an AUTH whose ACEE is in use is the decision that the table gives for that ACEE on the rows of its turn,
 /// with the number of the commands before it; that of a VERIFY that can put an ACEE is what `verified` gives there.

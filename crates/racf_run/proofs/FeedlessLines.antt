@@ -1,0 +1,182 @@
+-- The ACEE that a line names has a name without a line feed, and what a line of requests prints is one line.
+use Rattle.std.proofs.Common.{ℕ, Bool, true, false, cond, List, [], ◌∷◌, Option, None, Some, Result, Ok, Err, refl, bytes_eq, codes}
+use Rattle.std.specs.Prelude.{nat_eq, nat_lt, IfSome, IfOk, length}
+use Rattle.std.specs.List.{starts_with}
+use Rattle.access_levels.specs.Spelling.{id_of}
+use Rattle.generic_names.specs.declared.fault.NameFault.{NameFault}
+use Rattle.generic_names.specs.declared.fault.NameFault.TheVariants as name
+use Rattle.racf_profiles.specs.LawfulProfiles.{kind_in}
+use Rattle.acee.specs.declared.request.VerifyFault.{VerifyFault}
+use Rattle.acee.specs.declared.request.VerifyFault.TheVariants as verify
+use Rattle.command_words.specs.LineWords.{LineWord, UnreadLine, line_at}
+use Rattle.request_files.specs.declared.line.LineRefusal.{LineRefusal}
+use Rattle.request_files.specs.declared.line.LineRefusal.TheVariants.{BadLine, NoAcee, AceeExists, AceesFull, BadName, LineTooLong}
+use Rattle.request_files.specs.Spellings.{folded, id_word, name_word, level_word}
+use Rattle.request_files.specs.Grammar.{
+  Access,
+  Asked,
+  Line,
+  Verify,
+  Auth,
+  Fastauth,
+  Delete,
+  After,
+  Skip,
+  ◌>>=◌,
+  fits,
+  next_of,
+  next,
+  ended,
+  deleted,
+  number_after,
+  asked_by,
+  verified_by,
+  user_alone,
+  with_words,
+  made,
+  named,
+  accessed,
+  verify_line,
+  request_by,
+  request_of,
+  requested,
+  longest_line,
+  read,
+}
+use Rattle.request_files.specs.Answers.{name_fault_words, refusal_words, verify_fault_words}
+use Rattle.racf_run.proofs.Feedless.{IsFeedless, decimal-feedless, read_id-feedless, if-ok}
+
+-- ---- what a line names
+abbrev pub IsFeedlessLine : Line → Type 0
+IsFeedlessLine (Verify acee request) = IsFeedless acee
+IsFeedlessLine (Auth acee access) = IsFeedless acee
+IsFeedlessLine (Fastauth acee access) = IsFeedless acee
+IsFeedlessLine (Delete acee) = IsFeedless acee
+IsFeedlessLine (After number) = Unit {0}
+IsFeedlessLine Skip = Unit {0}
+
+abbrev pub IsFeedlessRefusal : LineRefusal → Type 0
+IsFeedlessRefusal (BadLine place) = Unit {0}
+IsFeedlessRefusal (NoAcee acee) = IsFeedless acee
+IsFeedlessRefusal (AceeExists acee) = IsFeedless acee
+IsFeedlessRefusal AceesFull = Unit {0}
+IsFeedlessRefusal (BadName acee fault) = IsFeedless acee
+IsFeedlessRefusal LineTooLong = Unit {0}
+
+abbrev pub IsFeedlessRead : Result Line LineRefusal → Type 0
+IsFeedlessRead (Ok line) = IsFeedlessLine line
+IsFeedlessRead (Err why) = IsFeedlessRefusal why
+
+bound : {A B : Type 0} (P : A → Type 0) (Q : B → Type 0) (r : Result A ℕ) (f : A → Result B ℕ) → IfOk r P → ((a : A) → P a → IfOk (f a) Q) → IfOk (r >>= f) Q
+bound P Q (Ok a) f h is = is a h
+bound P Q (Err place) f h is = tt
+
+any : {A : Type 0} (r : Result A ℕ) → IfOk r (λ a. Unit {0})
+any (Ok a) = tt
+any (Err place) = tt
+
+fitted : (o : Option (List ℕ)) (place : ℕ) → IfSome o IsFeedless → IfOk (fits o place) IsFeedless
+fitted None place h = tt
+fitted (Some id) place h = h
+
+all-said : {X : Type 0} (P : X → Type 0) (words : List LineWord) (said : X) → P said → IfOk (ended words said) P
+all-said P [] said h = h
+all-said P (word ∷ words) said h = tt
+
+abbrev IsFeedlessSaid : List ℕ × UnreadLine → Type 0
+IsFeedlessSaid said = IsFeedless said.0
+
+next-id : (unread : UnreadLine) → IfOk (next id_word unread) IsFeedlessSaid
+unfolding next
+next-id unread = by unread.words
+  where
+    by : (words : List LineWord) → IfOk (next_of id_word words unread.end) IsFeedlessSaid
+    by [] = tt
+    by (word ∷ words) =
+        bound IsFeedless IsFeedlessSaid (fits (id_word word.text) word.place) (λ said. Ok (said, record { words = words; end = unread.end }))
+        (fitted (id_word word.text) word.place (if-ok IsFeedless (id_of (folded word.text)) (λ id h. read_id-feedless (folded word.text) id h))) (λ said h. h)
+
+deleted-feedless : (unread : UnreadLine) → IfOk (deleted unread) IsFeedless
+unfolding deleted
+deleted-feedless unread =
+    bound IsFeedlessSaid IsFeedless (next id_word unread) (λ acee. ended acee.1.words acee.0) (next-id unread) (λ acee h. all-said IsFeedless acee.1.words acee.0 h)
+
+abbrev IsFeedlessAsked : Asked → Type 0
+IsFeedlessAsked asked = IsFeedless asked.acee
+
+asked-feedless : (unread : UnreadLine) → IfOk (asked_by unread) IsFeedlessAsked
+unfolding asked_by
+asked-feedless unread =
+    bound IsFeedlessSaid IsFeedlessAsked (next id_word unread) _ (next-id unread)
+    (λ acee h. bound (λ class. Unit {0}) IsFeedlessAsked (next id_word acee.1) _ (any (next id_word acee.1))
+    (λ class _. bound (λ name. Unit {0}) IsFeedlessAsked (next (name_word (kind_in class.0)) class.1) _ (any (next (name_word (kind_in class.0)) class.1))
+    (λ name _. bound (λ level. Unit {0}) IsFeedlessAsked (next level_word name.1) _ (any (next level_word name.1))
+    (λ level _. all-said IsFeedlessAsked level.1.words _ h))))
+
+verified-feedless : (unread : UnreadLine) → IfOk (verified_by unread) (λ verified. IsFeedlessLine (verify_line verified))
+unfolding verified_by
+verified-feedless unread =
+    bound IsFeedlessSaid (λ verified. IsFeedlessLine (verify_line verified)) (next id_word unread) _ (next-id unread)
+    (λ acee h. bound (λ user. Unit {0}) (λ verified. IsFeedlessLine (verify_line verified)) (next id_word acee.1) _ (any (next id_word acee.1))
+    (λ user _. bound (λ request. Unit {0}) (λ verified. IsFeedlessLine (verify_line verified)) (with_words (user_alone user.0) user.1.words) _ (any (with_words (user_alone user.0) user.1.words))
+    (λ request _. h)))
+
+made-feedless : {X : Type 0} (P : X → Type 0) (line_for : X → Line) → ((x : X) → P x → IsFeedlessLine (line_for x)) → (r : Result X ℕ) → IfOk r P → IsFeedlessRead (made line_for r)
+made-feedless P line_for is (Ok said) h = is said h
+made-feedless P line_for is (Err place) h = tt
+
+named-feedless : (line_for : Access → Line) (acee : List ℕ) → ((access : Access) → IsFeedlessLine (line_for access)) → IsFeedless acee → (access : Result Access NameFault) → IsFeedlessRead (named line_for acee access)
+named-feedless line_for acee is h (Ok access) = is access
+named-feedless line_for acee is h (Err fault) = h
+
+accessed-feedless : (line_for : List ℕ → Access → Line) → ((acee : List ℕ) (access : Access) → IsFeedless acee → IsFeedlessLine (line_for acee access)) → (r : Result Asked ℕ) → IfOk r IsFeedlessAsked → IsFeedlessRead (accessed line_for r)
+accessed-feedless line_for is (Ok asked) h = named-feedless (line_for asked.acee) asked.acee (λ access. is asked.acee access h) h asked.access
+accessed-feedless line_for is (Err place) h = tt
+
+either : (b : Bool) (x y : Result Line LineRefusal) → IsFeedlessRead x → IsFeedlessRead y → IsFeedlessRead (cond b x y)
+either true x y h k = h
+either false x y h k = k
+
+request-feedless : (verb : List ℕ) (place : ℕ) (unread : UnreadLine) → IsFeedlessRead (request_by verb place unread)
+request-feedless verb place unread =
+    either (bytes_eq verb (codes "VERIFY")) _ _ (made-feedless (λ verified. IsFeedlessLine (verify_line verified)) verify_line (λ verified h. h) (verified_by unread) (verified-feedless unread))
+    (either (bytes_eq verb (codes "AUTH")) _ _ (accessed-feedless Auth (λ acee access h. h) (asked_by unread) (asked-feedless unread))
+    (either (bytes_eq verb (codes "FASTAUTH")) _ _ (accessed-feedless Fastauth (λ acee access h. h) (asked_by unread) (asked-feedless unread))
+    (either (bytes_eq verb (codes "DELETE")) _ _ (made-feedless IsFeedless Delete (λ acee h. h) (deleted unread) (deleted-feedless unread))
+    (either (bytes_eq verb (codes "*AFTER")) _ _ (made-feedless (λ number. Unit {0}) After (λ number h. tt) (number_after unread) (any (number_after unread))) tt))))
+
+line-feedless : (unread : UnreadLine) → IsFeedlessRead (requested unread)
+unfolding requested
+line-feedless unread = by unread.words
+  where
+    by : (words : List LineWord) → IsFeedlessRead (request_of words unread.end)
+    by [] = tt
+    by (verb ∷ words) = request-feedless (folded verb.text) verb.place (record { words = words; end = unread.end })
+
+pub read-feedless : (bytes : List ℕ) → IsFeedlessRead (read bytes)
+unfolding read
+read-feedless bytes =
+    either (nat_lt longest_line (length bytes)) (Err LineTooLong) _ tt
+    (either (starts_with nat_eq bytes (codes "/*")) (Ok Skip) (requested (line_at 1 bytes)) tt (line-feedless (line_at 1 bytes)))
+
+-- ---- the words
+fault-words : (fault : NameFault) → IsFeedless (name_fault_words fault)
+fault-words name.Empty = refl
+fault-words name.TooLong = refl
+fault-words (name.EmptyQualifier number) = decimal-feedless number
+fault-words (name.QualifierTooLong number) = decimal-feedless number
+fault-words (name.BadByte place) = decimal-feedless place
+fault-words (name.StarInside place) = decimal-feedless place
+fault-words name.GenericFirst = refl
+
+pub refusal-words : (why : LineRefusal) → IsFeedlessRefusal why → IsFeedless (refusal_words why)
+refusal-words (BadLine place) h = decimal-feedless place
+refusal-words (NoAcee acee) h = h
+refusal-words (AceeExists acee) h = h
+refusal-words AceesFull h = refl
+refusal-words (BadName acee fault) h = fault-words fault
+refusal-words LineTooLong h = refl
+
+pub verify-words : (fault : VerifyFault) → IsFeedless (verify_fault_words fault)
+verify-words verify.NotDefined = refl
+verify-words other = refl

@@ -1,0 +1,256 @@
+-- Rows whose IDs and names hold no line feed, and that each command that a text spells leaves such rows.
+use Rattle.std.proofs.Common.{ℕ, Bool, true, false, cond, not, List, [], ◌∷◌, Option, None, Some, refl}
+use Rattle.std.specs.Prelude.{IfSome, find, filter, fold}
+use Rattle.std.specs.List.{AllByRecursion}
+use Rattle.std.specs.Option.{option_map_or}
+use Rattle.access_levels.specs.declared.entries.Who.{Who}
+use Rattle.access_levels.specs.declared.entries.Who.TheVariants.{Star, Named}
+use Rattle.access_levels.specs.declared.entries.Entry.{Entry}
+use Rattle.access_levels.specs.declared.entries.CondEntry.{CondEntry}
+use Rattle.access_levels.specs.declared.entries.Condition.{Condition}
+use Rattle.access_lists.specs.Lists.{is_for, is_for_under, entry_put}
+use Rattle.generic_names.specs.Spelled.{Spelled}
+use Rattle.generic_names.specs.Before.{before}
+use Rattle.racf_profiles.specs.declared.users.User.{User}
+use Rattle.racf_profiles.specs.declared.users.Connect.{Connect as Connection}
+use Rattle.racf_profiles.specs.declared.groups.Group.{Group}
+use Rattle.racf_profiles.specs.declared.profiles.Profile.{Profile}
+use Rattle.racf_profiles.specs.declared.class_rows.ClassRow.{ClassRow}
+use Rattle.racf_profiles.specs.declared.rows.Rows.{Rows}
+use Rattle.racf_profiles.specs.Lookup.{is_user, is_group, is_class, is_profile, class_of, profile_of}
+use Rattle.racf_profiles.specs.Names.{is_to}
+use Rattle.racf_profiles.specs.Edits.{put_profile, at_class, with_profile, without_profile}
+use Rattle.row_tables.specs.Tables.{first_rows}
+use Rattle.command_values.specs.declared.values.Reset.{Reset}
+use Rattle.command_values.specs.declared.values.Reset.TheVariants as reset
+use Rattle.command_parser.specs.declared.commands.Issuer.{Issuer}
+use Rattle.command_parser.specs.declared.fields.Connect.{Connect}
+use Rattle.command_parser.specs.declared.fields.CommandFields.{CommandFields}
+use Rattle.command_parser.specs.declared.fields.CommandFields.TheVariants as command
+use Rattle.command_parser.specs.declared.profile_fields.Permit.{Permit}
+use Rattle.command_parser.specs.LawfulFields.{IsId, IsGroupName, IsNamedOne, AreWhosOfPermit, IsPort, AreLawfulFields}
+use Rattle.command_effects.specs.UserEffects.{new_user, altered_user, new_group, altered_group, altered_connection, connects_after, connected_user, removed_user, group_or_current, owner_or_issuer}
+use Rattle.command_effects.specs.ProfileEffects.{dataset, new_data_set, altered_data_set, new_resource, altered_resource, profile_put, profile_dropped, profile_changed}
+use Rattle.command_effects.specs.PermitEffects.{standard_reset, conditional_reset, with_entry, with_conditional, standard_entries, conditional_entries, permitted_profile, level_of}
+use Rattle.command_effects.specs.Effects.{step}
+use Rattle.lawful_commands.proofs.RowLists.{all-push, all-drop, all-filter, all-at, all-put}
+use Rattle.lawful_commands.proofs.FieldFacts.{each-all}
+use Rattle.racf_run.proofs.Feedless.{IsFeedless, id-feedless, group-feedless, data_set-feedless, class_profile-feedless, if-some, if-given, if-found, if-then}
+
+-- ---- what may be printed of each row
+pub record IsFeedlessUser (user : User) : Type 0 where
+  pub id : IsFeedless user.id
+  pub groups : AllByRecursion (λ (connection : Connection). IsFeedless connection.group) user.connects
+
+pub record IsFeedlessGroup (group : Group) : Type 0 where
+  pub id : IsFeedless group.id
+  pub owner : IsFeedless group.owner
+
+abbrev pub IsFeedlessWho : Who → Type 0
+IsFeedlessWho Star = Unit {0}
+IsFeedlessWho (Named id) = IsFeedless id
+
+pub record IsFeedlessProfile (profile : Profile) : Type 0 where
+  pub name : IsFeedless profile.name.text
+  pub standard : AllByRecursion (λ (entry : Entry). IsFeedlessWho entry.who) profile.standard
+  pub conditional : AllByRecursion (λ (entry : CondEntry). IsFeedless entry.condition.name) profile.conditional
+
+abbrev pub AreFeedlessProfiles : ClassRow → Type 0
+AreFeedlessProfiles class = AllByRecursion IsFeedlessProfile class.profiles
+
+pub record AreFeedless (rows : Rows) : Type 0 where
+  pub users : AllByRecursion IsFeedlessUser rows.users
+  pub groups : AllByRecursion IsFeedlessGroup rows.groups
+  pub classes : AllByRecursion AreFeedlessProfiles rows.classes
+
+pub first-feedless : AreFeedless first_rows
+first-feedless = record {
+  users = (record { id = refl; groups = (refl, tt) }, tt);
+  groups = (record { id = refl; owner = refl }, tt);
+  classes = (tt, (tt, (tt, (tt, (tt, (tt, (tt, (tt, (tt, (tt, (tt, (tt, (tt, (tt, tt))))))))))))));
+}
+
+-- ---- the fields of a command that a text spells
+pub ids-feedless : (given : Option (List ℕ)) → IfSome given IsId → IfSome given IsFeedless
+ids-feedless = if-some IsId IsFeedless id-feedless
+
+pub groups-feedless : (given : Option (List ℕ)) → IfSome given IsGroupName → IfSome given IsFeedless
+groups-feedless = if-some IsGroupName IsFeedless group-feedless
+
+one-feedless : (who : Who) → IsNamedOne who → IsFeedlessWho who
+one-feedless Star h = tt
+one-feedless (Named id) h = id-feedless id h
+
+pub whos-feedless : (whos : List Who) → AreWhosOfPermit whos → AllByRecursion IsFeedlessWho whos
+whos-feedless [] h = tt
+whos-feedless (Star ∷ []) h = (tt, tt)
+whos-feedless (Star ∷ who ∷ whos) h = absurd h
+whos-feedless (Named id ∷ whos) h = (id-feedless id h.0, each-all IsNamedOne IsFeedlessWho one-feedless whos h.1)
+
+-- ---- rows of profiles
+pub profile_of-feedless : (class : List ℕ) (name : Spelled) (rows : Rows) → AreFeedless rows → IfSome (profile_of class name rows) IsFeedlessProfile
+profile_of-feedless class name rows are =
+    if-then AreFeedlessProfiles IsFeedlessProfile (λ row. find (is_profile name) row.profiles) (λ row h. if-found IsFeedlessProfile (is_profile name) row.profiles h) (class_of class rows)
+    (if-found AreFeedlessProfiles (is_class class) rows.classes are.classes)
+
+put-feedless : (profile : Profile) (profiles : List Profile) → IsFeedlessProfile profile → AllByRecursion IsFeedlessProfile profiles → AllByRecursion IsFeedlessProfile (put_profile profile profiles)
+put-feedless profile [] p h = (p, tt)
+put-feedless profile (other ∷ profiles) p h = by (is_profile profile.name other) (before profile.name other.name) (put-feedless profile profiles p h.1)
+  where
+    by : (b d : Bool) → AllByRecursion IsFeedlessProfile (put_profile profile profiles)
+        → AllByRecursion IsFeedlessProfile (cond b (profile ∷ profiles) (cond d (profile ∷ other ∷ profiles) (other ∷ put_profile profile profiles)))
+    by true d rest = (p, h.1)
+    by false true rest = (p, h)
+    by false false rest = (h.0, rest)
+
+classes-feedless : (name : List ℕ) (change : ClassRow → ClassRow) → ((class : ClassRow) → AreFeedlessProfiles class → AreFeedlessProfiles (change class))
+    → (classes : List ClassRow) → AllByRecursion AreFeedlessProfiles classes → AllByRecursion AreFeedlessProfiles (at_class name change classes)
+classes-feedless name change keeps [] h = tt
+classes-feedless name change keeps (class ∷ classes) h = by (is_class name class) (classes-feedless name change keeps classes h.1)
+  where
+    by : (b : Bool) → AllByRecursion AreFeedlessProfiles (at_class name change classes) → AllByRecursion AreFeedlessProfiles (cond b (change class ∷ classes) (class ∷ at_class name change classes))
+    by true rest = (keeps class h.0, h.1)
+    by false rest = (h.0, rest)
+
+module _ (class : List ℕ) (rows : Rows) (are : AreFeedless rows) where
+  put-rows : (profile : Profile) → IsFeedlessProfile profile → AreFeedless (profile_put class profile rows)
+  put-rows profile p = record {
+    users = are.users;
+    groups = are.groups;
+    classes = classes-feedless class (with_profile profile) (λ row h. put-feedless profile row.profiles p h) rows.classes are.classes;
+  }
+
+  dropped-rows : (name : Spelled) → AreFeedless (profile_dropped class name rows)
+  dropped-rows name = record {
+    users = are.users;
+    groups = are.groups;
+    classes = classes-feedless class (without_profile name) (λ row h. all-drop IsFeedlessProfile (is_profile name) row.profiles h) rows.classes are.classes;
+  }
+
+  changed-rows : (name : Spelled) (change : Profile → Profile) → ((old : Profile) → IsFeedlessProfile old → IsFeedlessProfile (change old)) → AreFeedless (profile_changed class name change rows)
+  changed-rows name change keeps = by (profile_of class name rows) (profile_of-feedless class name rows are)
+    where
+      by : (o : Option Profile) → IfSome o IsFeedlessProfile → AreFeedless (option_map_or (λ old. profile_put class (change old) rows) o rows)
+      by None h = are
+      by (Some old) h = put-rows (change old) (keeps old h)
+
+-- ---- access lists after PERMIT
+fold-keeps : {A B : Type 0} (P : A → Type 0) (Q : B → Type 0) (f : A → B → A) → ((a : A) (b : B) → P a → Q b → P (f a b)) → (xs : List B) (a : A) → P a → AllByRecursion Q xs → P (fold f a xs)
+fold-keeps P Q f keeps [] a p h = p
+fold-keeps P Q f keeps (x ∷ xs) a p h = fold-keeps P Q f keeps xs (f a x) (keeps a x p h.0) h.1
+
+abbrev AreStandard : List Entry → Type 0
+AreStandard list = AllByRecursion (λ (entry : Entry). IsFeedlessWho entry.who) list
+
+abbrev AreConditional : List CondEntry → Type 0
+AreConditional list = AllByRecursion (λ (entry : CondEntry). IsFeedless entry.condition.name) list
+
+module _ (c : Permit) (whos : AllByRecursion IsFeedlessWho c.id) where
+  entry-feedless : (list : List Entry) (who : Who) → AreStandard list → IsFeedlessWho who → AreStandard (with_entry c list who)
+  entry-feedless list who h is = by c.delete
+    where
+      by : (b : Bool) → AreStandard (cond b (filter (λ entry. not (is_for who entry)) list) (entry_put (is_for who) (record { who = who; level = level_of c }) list))
+      by true = all-filter (λ (entry : Entry). IsFeedlessWho entry.who) _ list h
+      by false = all-put (λ (entry : Entry). IsFeedlessWho entry.who) (is_for who) (record { who = who; level = level_of c }) list is h
+
+  conditional-feedless : (condition : Condition) → IsFeedless condition.name → (list : List CondEntry) (who : Who) → AreConditional list → IsFeedlessWho who → AreConditional (with_conditional c condition list who)
+  conditional-feedless condition named list who h is = by c.delete
+    where
+      by : (b : Bool) → AreConditional (cond b (filter (λ entry. not (is_for_under condition who entry)) list) (entry_put (is_for_under condition who) (record { condition = condition; who = who; level = level_of c }) list))
+      by true = all-filter (λ (entry : CondEntry). IsFeedless entry.condition.name) _ list h
+      by false = all-put (λ (entry : CondEntry). IsFeedless entry.condition.name) (is_for_under condition who) (record { condition = condition; who = who; level = level_of c }) list named h
+
+  standard-reset : (reset : Option Reset) (list : List Entry) → AreStandard list → AreStandard (standard_reset reset list)
+  standard-reset None list h = h
+  standard-reset (Some reset.All) list h = tt
+  standard-reset (Some reset.Standard) list h = tt
+  standard-reset (Some reset.When) list h = h
+
+  conditional-reset : (reset : Option Reset) (list : List CondEntry) → AreConditional list → AreConditional (conditional_reset reset list)
+  conditional-reset None list h = h
+  conditional-reset (Some reset.All) list h = tt
+  conditional-reset (Some reset.Standard) list h = h
+  conditional-reset (Some reset.When) list h = tt
+
+  standard-entries : (when : Option Condition) (list : List Entry) → AreStandard list → AreStandard (standard_entries c when list)
+  standard-entries None list h = fold-keeps AreStandard IsFeedlessWho (with_entry c) entry-feedless c.id list h whos
+  standard-entries (Some condition) list h = h
+
+  conditional-entries : (when : Option Condition) → IfSome when IsPort → (list : List CondEntry) → AreConditional list → AreConditional (conditional_entries c when list)
+  conditional-entries None port list h = h
+  conditional-entries (Some condition) port list h =
+      fold-keeps AreConditional IsFeedlessWho (with_conditional c condition) (conditional-feedless condition (id-feedless condition.name port)) c.id list h whos
+
+  permitted-feedless : IfSome c.when IsPort → (old : Profile) → IsFeedlessProfile old → IsFeedlessProfile (permitted_profile c old)
+  permitted-feedless port old h = record {
+    name = h.name;
+    standard = standard-entries c.when (standard_reset c.reset old.standard) (standard-reset c.reset old.standard h.standard);
+    conditional = conditional-entries c.when port (conditional_reset c.reset old.conditional) (conditional-reset c.reset old.conditional h.conditional);
+  }
+
+-- ---- connections after CONNECT
+connects-feedless : (c : Connect) (group : List ℕ) (connects : List Connection) → IsFeedless group
+    → AllByRecursion (λ (connection : Connection). IsFeedless connection.group) connects → AllByRecursion (λ (connection : Connection). IsFeedless connection.group) (connects_after c group connects)
+connects-feedless c group [] is h = (is, tt)
+connects-feedless c group (old ∷ rest) is h = by (is_to group old) (connects-feedless c group rest is h.1)
+  where
+    by : (b : Bool) → AllByRecursion (λ (connection : Connection). IsFeedless connection.group) (connects_after c group rest)
+        → AllByRecursion (λ (connection : Connection). IsFeedless connection.group) (cond b (altered_connection c old ∷ rest) (old ∷ connects_after c group rest))
+    by true more = (h.0, h.1)
+    by false more = (h.0, more)
+
+-- ---- each command
+module _ (issuer : Issuer) (issuer_id : IsFeedless issuer.id) (issuer_group : IsFeedless issuer.group) where
+  pub current-feedless : (given : Option (List ℕ)) → IfSome given IsGroupName → IsFeedless (group_or_current issuer given)
+  current-feedless given h = if-given given issuer.group (groups-feedless given h) issuer_group
+
+  pub owner-feedless : (given : Option (List ℕ)) → IfSome given IsId → IsFeedless (owner_or_issuer issuer given)
+  owner-feedless given h = if-given given issuer.id (ids-feedless given h) issuer_id
+
+  pub step-feedless : (c : CommandFields) (rows : Rows) → AreLawfulFields c → AreFeedless rows → AreFeedless (step issuer c rows)
+  step-feedless (command.AddUser c) rows f are = record {
+    users = all-push IsFeedlessUser rows.users (new_user issuer c rows) are.users (record { id = id-feedless c.user f.user; groups = (current-feedless c.dfltgrp f.dfltgrp, tt) });
+    groups = are.groups;
+    classes = are.classes;
+  }
+  step-feedless (command.AltUser c) rows f are = record {
+    users = all-at IsFeedlessUser (is_user c.user) (altered_user c rows) rows.users (λ user found h. record { id = h.id; groups = h.groups }) are.users;
+    groups = are.groups;
+    classes = are.classes;
+  }
+  step-feedless (command.DelUser c) rows f are = record { users = all-drop IsFeedlessUser (is_user c.user) rows.users are.users; groups = are.groups; classes = are.classes }
+  step-feedless (command.AddGroup c) rows f are = record {
+    users = are.users;
+    groups = all-push IsFeedlessGroup rows.groups (new_group issuer c) are.groups (record { id = group-feedless c.group f.group; owner = owner-feedless c.owner f.owner });
+    classes = are.classes;
+  }
+  step-feedless (command.AltGroup c) rows f are = record {
+    users = are.users;
+    groups = all-at IsFeedlessGroup (is_group c.group) (altered_group c) rows.groups (λ group found h. record { id = h.id; owner = if-given c.owner group.owner (ids-feedless c.owner f.owner) h.owner }) are.groups;
+    classes = are.classes;
+  }
+  step-feedless (command.DelGroup c) rows f are = record { users = are.users; groups = all-drop IsFeedlessGroup (is_group c.group) rows.groups are.groups; classes = are.classes }
+  step-feedless (command.Connect c) rows f are = record {
+    users = all-at IsFeedlessUser (is_user c.user) (connected_user issuer c) rows.users
+        (λ user found h. record { id = h.id; groups = connects-feedless c (group_or_current issuer c.group) user.connects (current-feedless c.group f.group) h.groups }) are.users;
+    groups = are.groups;
+    classes = are.classes;
+  }
+  step-feedless (command.Remove c) rows f are = record {
+    users = all-at IsFeedlessUser (is_user c.user) (removed_user issuer c) rows.users
+        (λ user found h. record { id = h.id; groups = all-drop (λ (connection : Connection). IsFeedless connection.group) (is_to (group_or_current issuer c.group)) user.connects h.groups }) are.users;
+    groups = are.groups;
+    classes = are.classes;
+  }
+  step-feedless (command.AddSd c) rows f are = put-rows dataset rows are (new_data_set issuer c rows) (record { name = data_set-feedless c.profile f.profile; standard = tt; conditional = tt })
+  step-feedless (command.AltSd c) rows f are = changed-rows dataset rows are c.profile (altered_data_set c rows) (λ old h. record { name = h.name; standard = h.standard; conditional = h.conditional })
+  step-feedless (command.DelSd c) rows f are = dropped-rows dataset rows are c.profile
+  step-feedless (command.RDefine c) rows f are =
+      let put = put-rows c.class rows are (new_resource issuer c rows) (record { name = class_profile-feedless c.class c.profile f.profile; standard = tt; conditional = tt }) in
+      record { users = put.users; groups = put.groups; classes = put.classes }
+  step-feedless (command.RAlter c) rows f are =
+      let changed = changed-rows c.class rows are c.profile (altered_resource c rows) (λ old h. record { name = h.name; standard = h.standard; conditional = h.conditional }) in
+      record { users = changed.users; groups = changed.groups; classes = changed.classes }
+  step-feedless (command.RDelete c) rows f are = dropped-rows c.class rows are c.profile
+  step-feedless (command.Permit c) rows f are =
+      changed-rows c.class rows are c.profile (permitted_profile c) (permitted-feedless c (whos-feedless c.id f.id) f.when)

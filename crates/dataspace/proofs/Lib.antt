@@ -1,0 +1,3 @@
+pub mod SpotLaws
+mod RowLaws
+mod KeptLaws

@@ -1,3 +1,4 @@
 pub mod SpotLaws
 mod RowLaws
 mod KeptLaws
+mod WorkedRows

@@ -27,7 +27,7 @@ fn places_two_texts_and_clears(rt: HostRuntime) -> Result<(), Fail> {
     );
     assert!(rt; reads(&region, first, b"AB"));
     assert!(rt; reads(&region, second, b"CDE"));
-    assert_eq!(rt; region.used(), 5);
+    assert_eq!(rt; (region.used(), region.size()), (5, 6));
     assert!(rt; !region.fits(1) && !region.fits(0));
     region.clear();
     assert_eq!(rt; region.used(), 0);

@@ -1,5 +1,5 @@
 -- Texts as they are kept: bytes, and where each text ends.
-use Rattle.std.proofs.Common.{◌≡◌, ℕ, zero, suc, ◌+◌, ◌-◌, ◌<◌, ◌≤◌, Bool, true, false, eqb, List, [], ◌∷◌, ◌++◌, length, get_or, take, drop, Option, Some, None, refl, sym, ap, ◌∙◌, subst, arith, ⊎_elim}
+use Rattle.std.proofs.Common.{◌≡◌, ℕ, zero, suc, ◌+◌, ◌-◌, ◌<◌, ◌≤◌, true, false, List, [], ◌∷◌, ◌++◌, length, get_or, take, drop, Option, Some, refl, sym, ap, ◌∙◌, arith, ⊎_elim, ltb}
 use Rattle.std.specs.Prelude.{slice_range, is_some}
 use Rattle.std.proofs.lemmas.Bool.{cases_Bool, cases_lt, false≢true, and_parts, and_from, or_cases, or_parts, or_from, or_left, or_right, eqb-true, eq-eqb, ltb-true, ltb-false, lt-ltb, le-ltb, false_from_ne_true}
 use Rattle.std.proofs.lemmas.List.{length-drop, length-take-le, take-append-le, drop-append-le, take_all, drop_at}
@@ -137,18 +137,24 @@ pub before-earlier : (ends : List ℕ) (spot : Spot) → AreRising 0 ends → (j
 before-earlier ends spot rising j k le below h =
     let starts = rising-at 0 ends rising j k le (omega arith) in
     let stops = rising-at 0 ends rising (suc j) (suc k) (omega arith) (omega arith) in
+    let cases = or_cases (ltb (start_of ends k) spot.start) (ltb (get_or ends k 0) (spot.start + spot.length)) h in
     ⊎_elim
-    (λ first. or_left _ _ (lt-ltb (start_of ends j) spot.start (omega (arith, starts, ltb-true (start_of ends k) spot.start first))))
-    (λ last. or_right _ _ (lt-ltb (get_or ends j 0) (spot.start + spot.length) (omega (arith, stops, ltb-true (get_or ends k 0) (spot.start + spot.length) last))))
-    (or_cases _ _ h)
+    (λ first.
+    let less : start_of ends j < spot.start = omega (arith, starts, ltb-true (start_of ends k) spot.start first) in
+    or_left _ _ (lt-ltb (start_of ends j) spot.start less))
+    (λ last.
+    let less : get_or ends j 0 < spot.start + spot.length = omega (arith, stops, ltb-true (get_or ends k 0) (spot.start + spot.length) last) in
+    or_right _ _ (lt-ltb (get_or ends j 0) (spot.start + spot.length) less))
+    cases
 
 pub behind-later : (ends : List ℕ) (spot : Spot) → AreRising 0 ends → (j k : ℕ) → j ≤ k → k < length ends → is_before ends j spot ≡ false → is_before ends k spot ≡ false
 behind-later ends spot rising j k le below h =
     let starts = rising-at 0 ends rising j k le (omega arith) in
     let stops = rising-at 0 ends rising (suc j) (suc k) (omega arith) (omega arith) in
-    let parts = or_parts _ _ h in
-    or_from _ _ (le-ltb (start_of ends k) spot.start (omega (arith, starts, ltb-false (start_of ends j) spot.start parts.0)))
-    (le-ltb (get_or ends k 0) (spot.start + spot.length) (omega (arith, stops, ltb-false (get_or ends j 0) (spot.start + spot.length) parts.1)))
+    let parts = or_parts (ltb (start_of ends j) spot.start) (ltb (get_or ends j 0) (spot.start + spot.length)) h in
+    let first : spot.start ≤ start_of ends k = omega (arith, starts, ltb-false (start_of ends j) spot.start parts.0) in
+    let last : spot.start + spot.length ≤ get_or ends k 0 = omega (arith, stops, ltb-false (get_or ends j 0) (spot.start + spot.length) parts.1) in
+    or_from _ _ (le-ltb (start_of ends k) spot.start first) (le-ltb (get_or ends k 0) (spot.start + spot.length) last)
 
 -- The first row that isn't before a spot is its row, or the spot has none.
 pub only-row : (ends : List ℕ) (spot : Spot) → AreRising 0 ends → (first : ℕ) → ((row : ℕ) → row < first → is_before ends row spot ≡ true) → ((row : ℕ) → first ≤ row → row < length ends → is_before ends row spot ≡ false) → (row : ℕ) → row < length ends → get_or (0 ∷ ends) row 0 ≡ spot.start → get_or ends row 0 ≡ spot.start + spot.length → (first ≤ row) × (is_row ends first spot ≡ true)

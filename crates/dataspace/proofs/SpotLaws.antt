@@ -1,5 +1,5 @@
 -- Texts and their spots, also with later texts behind them.
-use Rattle.std.proofs.Common.{◌≡◌, ℕ, ◌+◌, ◌≤◌, Bool, true, false, eqb, List, [], ◌∷◌, ◌++◌, length, Option, Some, None, refl, sym, ap, ◌∙◌, arith, ⊎_elim}
+use Rattle.std.proofs.Common.{◌≡◌, ℕ, ◌+◌, Bool, true, false, eqb, List, [], ◌∷◌, ◌++◌, length, Option, Some, None, refl, sym, ap, ◌∙◌, arith, ⊎_elim}
 use Rattle.std.specs.Prelude.{◌&&◌, IsTrue, is_some}
 use Rattle.std.proofs.lemmas.Bool.{cases_Bool, false≢true, and_parts, and_from, eqb-true, eq-eqb, cond-true, cond-false}
 use Rattle.std.proofs.lemmas.List.{nil_from_length}
@@ -114,3 +114,12 @@ had-placed texts spot b is = (
   λ t. let found = had-text texts spot (sym is ∙ t) in (found.0, text-placed texts found.0 spot found.1),
   λ h. is ∙ ap (λ (o : Option (List ℕ)). is_some o) (placed-text texts h.0 spot h.1),
 )
+
+-- What is had stays had behind later texts, and each text has the spot that it got.
+pub had-stays : (texts later : List (List ℕ)) (spot : Spot) → has texts spot ≡ true → has (texts ++ later) spot ≡ true
+had-stays texts later spot h =
+    let found = had-text texts spot h in
+    ap (λ (o : Option (List ℕ)). is_some o) (text-stays 0 texts later spot found.0 found.1)
+
+pub placed-had : (before : List (List ℕ)) (text : List ℕ) (after : List (List ℕ)) → has (before ++ text ∷ after) (spot_behind before text) ≡ true
+placed-had before text after = ap (λ (o : Option (List ℕ)). is_some o) (text-own 0 before text after (spot_behind before text) (omega arith) refl)

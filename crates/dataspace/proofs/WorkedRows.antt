@@ -1,5 +1,5 @@
 -- Texts in a region, computed by the definitions.
-use Rattle.std.proofs.Common.{◌≡◌, ℕ, Bool, true, false, List, [], ◌∷◌, map, Option, None, Some, codes, refl}
+use Rattle.std.proofs.Common.{◌≡◌, ℕ, true, false, List, [], ◌∷◌, map, None, Some, codes, refl}
 use Rattle.dataspace.specs.declared.spot.Spot.{Spot}
 use Rattle.dataspace.specs.Placed.{Placed, used, fits, spot_behind, text_at, has}
 

@@ -60,7 +60,8 @@ impl Region {
         ensures spot { result ≡ spot_behind self.old.texts text.now }
         ensures used { used self.new.texts ≡ used self.old.texts + length text.now }
         ensures placed { text_at self.new.texts result ≡ Some text.now }
-        ensures stays { (spot : Spot) (earlier : List ℕ) → text_at self.old.texts spot ≡ Some earlier → text_at self.new.texts spot ≡ Some earlier }
+        ensures stays { (spot : Spot) (earlier : List ℕ) → text_at self.old.texts spot ≡ Some earlier
+            → text_at self.new.texts spot ≡ Some earlier }
     {
         let start = self.bytes.len();
         self.bytes.extend_from_slice(text).unwrap();

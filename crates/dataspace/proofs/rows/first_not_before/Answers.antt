@@ -1,4 +1,4 @@
-use Rattle.std.proofs.Common.{◌≡◌, ◌+◌, ◌-◌, ◌/◌, ◌≤◌, ◌∙◌, true, false, length, sym, arith}
+use Rattle.std.proofs.Common.{◌+◌, ◌-◌, ◌/◌, ◌∙◌, sym, arith}
 use Rattle.dataspace.proofs.RowLaws.{before-earlier, behind-later}
 use Rattle.dataspace.proofs.rows.first_not_before.Goals as goal
 

@@ -1,4 +1,4 @@
-use Rattle.std.proofs.Common.{◌≡◌, ◌+◌, ◌-◌, ◌<◌, ◌≤◌, ◌∙◌, length, ap, ltb, arith}
+use Rattle.std.proofs.Common.{◌+◌, ◌-◌, ◌<◌, ◌≤◌, ◌∙◌, length, ap, ltb, arith}
 use Rattle.std.proofs.lemmas.Bool.{lt-leb}
 use Rattle.dataspace.specs.Placed.{fits}
 use Rattle.dataspace.proofs.KeptLaws.{fits-rows, fits-not}

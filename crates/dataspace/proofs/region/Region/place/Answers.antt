@@ -1,9 +1,9 @@
-use Rattle.std.proofs.Common.{rules, ◌≡◌, ◌∙◌, ◌+◌, ◌^◌, ◌<◌, ◌≤◌, ◌++◌, ◌∷◌, [], ℕ, List, Some, length, refl, sym, ap, subst, arith}
+use Rattle.std.proofs.Common.{rules, ◌≡◌, ◌∙◌, ◌^◌, ◌<◌, ◌≤◌, ◌++◌, ◌∷◌, [], ℕ, List, length, refl, sym, ap, subst, arith}
 use Rattle.std.specs.Prelude.{IsTrue}
 use Rattle.std.specs.Result.{is_ok}
 use Rattle.dataspace.specs.declared.spot.Spot.{Spot}
-use Rattle.dataspace.specs.Placed.{Placed, used, fits, text_at, spot_behind}
-use Rattle.dataspace.specs.Kept.{texts_of, seen, AreRising, end_of}
+use Rattle.dataspace.specs.Placed.{Placed, used, fits, text_at}
+use Rattle.dataspace.specs.Kept.{texts_of, AreRising, end_of}
 use Rattle.dataspace.proofs.SpotLaws.{used-push, text-own, text-stays}
 use Rattle.dataspace.proofs.RowLaws.{rising-push, end-push}
 use Rattle.dataspace.proofs.KeptLaws.{used-seen, room-seen, placed-seen}
@@ -37,7 +37,6 @@ invariant_of-self c =
     let inside = c.self.inside in
     let size = length c.args.text.now in
     let room = room-seen inside c.self.invariant size (subst (λ r. IsTrue (fits r size)) (sym c.self.view_is) c.requires) in
-    let extended = rw (ap (λ r. is_ok r) c.unwrap.ensures) at c.extend_from_slice.ensures.items in
     let more = rw (ap (λ r. is_ok r) c.unwrap.ensures) at c.extend_from_slice.ensures.len in
     let pushed = rw (ap (λ r. is_ok r) c.unwrap-2.ensures) at c.push.ensures.items in
     let one = rw (ap (λ r. is_ok r) c.unwrap-2.ensures) at c.push.ensures.len in

@@ -1,4 +1,4 @@
-use Rattle.std.proofs.Common.{◌≡◌, ◌∙◌, ◌+◌, ◌≤◌, List, Some, length, sym, ap, subst, arith}
+use Rattle.std.proofs.Common.{◌∙◌, ◌+◌, ◌≤◌, Some, length, sym, ap, subst}
 use Rattle.std.specs.Prelude.{IsTrue, slice_range}
 use Rattle.std.proofs.lemmas.Option.{same_Some}
 use Rattle.dataspace.specs.Placed.{text_at, has}

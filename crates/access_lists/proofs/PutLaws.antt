@@ -29,7 +29,7 @@ set_at_position p xs k x is = let at = position-Some p xs k x is in set-put p xs
 pub any_at_position : {X : Type 0} (p : X → Bool) (xs : List X) (k : ℕ) (x : X) → position p xs ≡ Some k → list_any p xs ≡ true
 any_at_position p xs k x is = let at = position-Some p xs k x is in list_any_at p xs k x at.0 at.1
 
-none-within : (a b : ℕ) → cond (ltb a b) (Some a) None ≡ None → b ≤ a
+pub none-within : (a b : ℕ) → cond (ltb a b) (Some a) None ≡ None → b ≤ a
 none-within a b h = ⊎_elim
     (λ (below : ltb a b ≡ true). let some : Some a ≡ None = sym (ap (λ t. cond t (Some a) None) below) ∙ h in absurd cc)
     (λ (above : ltb a b ≡ false). grind (arith, nat_tests))

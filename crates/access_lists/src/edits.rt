@@ -130,7 +130,7 @@ pub fn is_same_port(port: &Condition, other: &Condition) -> bool
 }
 
 /// Whether a conditional entry is for an ID under a condition.
-fn is_for_under(entry: &CondEntry, condition: &Condition, who: &Who) -> bool
+pub fn is_for_under(entry: &CondEntry, condition: &Condition, who: &Who) -> bool
     ensures { result ≡ is_for_under condition.now who.now entry.now }
 {
     is_same_port(&entry.condition, condition) && is_same_who(&entry.who, who)

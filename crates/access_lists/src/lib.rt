@@ -18,8 +18,8 @@ mod places;
 
 pub use answers::{Found, answer, answer_when};
 pub use edits::{
-    ListFault, MOST_ENTRIES, is_same_port, is_same_who, permit, permit_when, withdraw,
-    withdraw_when,
+    ListFault, MOST_ENTRIES, is_for_under, is_same_port, is_same_who, permit, permit_when,
+    withdraw, withdraw_when,
 };
 
 #[cfg(test)]

@@ -220,12 +220,7 @@ fn place_for_joe(list: &[CondEntry], class: PortClass, restricted: bool) -> Resu
 }
 
 /// Puts an entry into the list, where those that come by this port find it.
-fn admit(
-    list: &mut Vec<CondEntry>,
-    class: PortClass,
-    who: Who,
-    level: Level,
-) -> Result<(), Fail> {
+fn admit(list: &mut Vec<CondEntry>, class: PortClass, who: Who, level: Level) -> Result<(), Fail> {
     permit_when(list, conditional(class, who, level)?)
         .ok()
         .ok_or("room")?;

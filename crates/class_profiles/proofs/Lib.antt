@@ -1,6 +1,6 @@
-mod Order
+pub mod Order
 mod Pairs
-mod Counts
+pub mod Counts
 mod Places
 mod Changes
 mod Texts

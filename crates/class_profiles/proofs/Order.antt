@@ -13,6 +13,7 @@ use Rattle.racf_profiles.specs.Lookup.{is_profile}
 use Rattle.racf_profiles.specs.Edits.{put_profile, drop_row, comes_first, is_in_order, AreNamed}
 use Rattle.racf_profiles.specs.LawfulProfiles.{AreProfiles}
 use Rattle.racf_profiles.specs.Limits.{most_class_profiles}
+use Rattle.racf_profiles.proofs.OrderedProfiles.{same_spelled}
 
 pub head : (a b : Bool) → (a && b) ≡ true → a ≡ true
 head true b h = refl
@@ -24,11 +25,6 @@ tail false b h = cc
 
 pub both : (a b : Bool) → a ≡ true → b ≡ true → (a && b) ≡ true
 both a b h k = ap (λ x. x && b) h ∙ k
-
-pub same_spelled : (a b : Spelled) → a.kind ≡ b.kind → bytes_eq a.text b.text ≡ true → a ≡ b
-same_spelled a b kind text =
-    ap (λ (k : NameKind). let name : Spelled = record { kind = k; text = a.text } in name) kind
-    ∙ ap (λ (t : List ℕ). let name : Spelled = record { kind = b.kind; text = t } in name) ((bytes_eq-Decides a.text b.text).0 text)
 
 pub ordered-head : (y : Profile) (ys : List Profile) → is_in_order (y ∷ ys) ≡ true → comes_first y.name ys ≡ true
 ordered-head y ys ordered = head (comes_first y.name ys) (is_in_order ys) ordered

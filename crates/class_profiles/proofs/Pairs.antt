@@ -21,7 +21,8 @@ use Rattle.racf_profiles.specs.LawfulProfiles.{AreProfiles}
 use Rattle.racf_profiles.specs.Limits.{most_class_profiles}
 use Rattle.class_profiles.specs.Paired.{entry_of, items_of}
 use Rattle.class_profiles.specs.Table.{IsPlaceOf, best_profile}
-use Rattle.class_profiles.proofs.Order.{ordered-tail, rest-behind, none-behind, none-left, the_other_way, same_spelled, all-drop_row, length-drop_row, order-drop_row, named-put}
+use Rattle.class_profiles.proofs.Order.{ordered-tail, rest-behind, none-behind, none-left, the_other_way, all-drop_row, length-drop_row, order-drop_row, named-put}
+use Rattle.racf_profiles.proofs.OrderedProfiles.{same_spelled}
 
 -- the entries of profiles are those of their profiles again
 pub items-again : (ps : List Profile) → items_of (map entry_of ps) ≡ ps

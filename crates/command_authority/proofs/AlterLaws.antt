@@ -19,6 +19,7 @@ use Rattle.racf_profiles.specs.declared.users.User.{User}
 use Rattle.racf_profiles.specs.declared.users.Connect.{Connect as Connection}
 use Rattle.command_authority.specs.Held.{counting, groups_of, is_alter, has_alter}
 use Rattle.command_authority.specs.Entries.{is_for_group, gives_group_alter}
+use Rattle.access_lists.proofs.PutLaws.{none-within}
 
 abbrev best_alter : Option GroupEntry → Bool
 best_alter o = option_map_or (λ (entry : GroupEntry). suffices entry.level Alter) o false
@@ -91,12 +92,6 @@ placed_alter Control id (Some place) = refl
 placed_alter Alter id (Some place) = refl
 
 -- A place is found where an element passes.
-none-within : (a b : ℕ) → cond (ltb a b) (Some a) None ≡ None → b ≤ a
-none-within a b h = ⊎_elim
-    (λ (below : ltb a b ≡ true). let some : Some a ≡ None = sym (ap (λ t. cond t (Some a) None) below) ∙ h in absurd cc)
-    (λ (above : ltb a b ≡ false). grind (arith, nat_tests))
-    (cases_Bool (ltb a b))
-
 module _ (p : List ℕ → Bool) where
   none_passes : (xs : List (List ℕ)) → length xs ≤ position_or_len p xs → list_any p xs ≡ false
   none_passes [] h = refl

@@ -12,7 +12,7 @@ use Rattle.racf_profiles.specs.declared.rows.Rows.{Rows}
 use Rattle.racf_profiles.specs.Lookup.{user_of, group_of}
 use Rattle.command_parser.specs.declared.commands.Issuer.{Issuer}
 use Rattle.command_parser.specs.declared.fields.CommandFields.{CommandFields}
-use Rattle.command_parser.specs.declared.fields.CommandFields.TheVariants as form
+use Rattle.command_parser.specs.declared.fields.CommandFields.TheVariants as fields
 use Rattle.command_authority.specs.declared.needs.Need.{Need}
 use Rattle.command_authority.specs.declared.needs.Need.TheVariants.{Special, Auditor, GroupSpecial}
 use Rattle.command_authority.specs.declared.requirement.Target.{Target}
@@ -133,21 +133,21 @@ usual_giving group (Some wanted) stands = refl
 
 usual : (rows : Rows) (issuer : Issuer) (command : CommandFields) → list_all is_usual (requirements rows issuer command) ≡ true
 unfolding add_user_requirements alt_user_requirements del_user_requirements add_group_requirements alt_group_requirements del_group_requirements connect_requirements remove_requirements add_sd_requirements alt_sd_requirements del_sd_requirements r_define_requirements r_alter_requirements r_delete_requirements permit_requirements
-usual rows issuer (form.AddUser c) = refl
-usual rows issuer (form.AltUser c) = refl
-usual rows issuer (form.DelUser c) = refl
-usual rows issuer (form.AddGroup c) = refl
-usual rows issuer (form.AltGroup c) = refl
-usual rows issuer (form.DelGroup c) = usual_leaving c.group (option_and_then (λ (group : Group). group.superior) (group_of c.group rows))
-usual rows issuer (form.Connect c) = usual_giving (group_or_current issuer c.group) c.authority (alters_group_attribute c)
-usual rows issuer (form.Remove c) = refl
-usual rows issuer (form.AddSd c) = usual_new (result_ok (id_of (first_qualifier c.profile.text)))
-usual rows issuer (form.AltSd c) = refl
-usual rows issuer (form.DelSd c) = refl
-usual rows issuer (form.RDefine c) = refl
-usual rows issuer (form.RAlter c) = refl
-usual rows issuer (form.RDelete c) = refl
-usual rows issuer (form.Permit c) = refl
+usual rows issuer (fields.AddUser c) = refl
+usual rows issuer (fields.AltUser c) = refl
+usual rows issuer (fields.DelUser c) = refl
+usual rows issuer (fields.AddGroup c) = refl
+usual rows issuer (fields.AltGroup c) = refl
+usual rows issuer (fields.DelGroup c) = usual_leaving c.group (option_and_then (λ (group : Group). group.superior) (group_of c.group rows))
+usual rows issuer (fields.Connect c) = usual_giving (group_or_current issuer c.group) c.authority (alters_group_attribute c)
+usual rows issuer (fields.Remove c) = refl
+usual rows issuer (fields.AddSd c) = usual_new (result_ok (id_of (first_qualifier c.profile.text)))
+usual rows issuer (fields.AltSd c) = refl
+usual rows issuer (fields.DelSd c) = refl
+usual rows issuer (fields.RDefine c) = refl
+usual rows issuer (fields.RAlter c) = refl
+usual rows issuer (fields.RDelete c) = refl
+usual rows issuer (fields.Permit c) = refl
 
 -- One requirement stands: the auditor's where nothing else does.
 of_two : (b others : Bool) → (not (b && others) || (b || false)) ≡ true
@@ -164,21 +164,21 @@ stands_new (Some qualifier) = refl
 
 stands : (rows : Rows) (issuer : Issuer) (command : CommandFields) → list_any (λ (r : Requirement). r.stands) (requirements rows issuer command) ≡ true
 unfolding add_user_requirements alt_user_requirements del_user_requirements add_group_requirements alt_group_requirements del_group_requirements connect_requirements remove_requirements add_sd_requirements alt_sd_requirements del_sd_requirements r_define_requirements r_alter_requirements r_delete_requirements permit_requirements
-stands rows issuer (form.AddUser c) = refl
-stands rows issuer (form.AltUser c) = of_three (alters_uaudit c) (not (some_stands (slots_of_alt_user (record c { uaudit = false; nouaudit = false })))) (alters_attribute c)
-stands rows issuer (form.DelUser c) = refl
-stands rows issuer (form.AddGroup c) = refl
-stands rows issuer (form.AltGroup c) = refl
-stands rows issuer (form.DelGroup c) = refl
-stands rows issuer (form.Connect c) = refl
-stands rows issuer (form.Remove c) = refl
-stands rows issuer (form.AddSd c) = stands_new (result_ok (id_of (first_qualifier c.profile.text)))
-stands rows issuer (form.AltSd c) = of_two (is_some c.globalaudit) (not (some_stands (slots_of_alt_sd (record c { globalaudit = None }))))
-stands rows issuer (form.DelSd c) = refl
-stands rows issuer (form.RDefine c) = refl
-stands rows issuer (form.RAlter c) = of_two (is_some c.globalaudit) (not (some_stands (slots_of_r_alter (record c { globalaudit = None }))))
-stands rows issuer (form.RDelete c) = refl
-stands rows issuer (form.Permit c) = refl
+stands rows issuer (fields.AddUser c) = refl
+stands rows issuer (fields.AltUser c) = of_three (alters_uaudit c) (not (some_stands (slots_of_alt_user (record c { uaudit = false; nouaudit = false })))) (alters_attribute c)
+stands rows issuer (fields.DelUser c) = refl
+stands rows issuer (fields.AddGroup c) = refl
+stands rows issuer (fields.AltGroup c) = refl
+stands rows issuer (fields.DelGroup c) = refl
+stands rows issuer (fields.Connect c) = refl
+stands rows issuer (fields.Remove c) = refl
+stands rows issuer (fields.AddSd c) = stands_new (result_ok (id_of (first_qualifier c.profile.text)))
+stands rows issuer (fields.AltSd c) = of_two (is_some c.globalaudit) (not (some_stands (slots_of_alt_sd (record c { globalaudit = None }))))
+stands rows issuer (fields.DelSd c) = refl
+stands rows issuer (fields.RDefine c) = refl
+stands rows issuer (fields.RAlter c) = of_two (is_some c.globalaudit) (not (some_stands (slots_of_r_alter (record c { globalaudit = None }))))
+stands rows issuer (fields.RDelete c) = refl
+stands rows issuer (fields.Permit c) = refl
 
 -- ---- the laws
 pub special_law : (rows : Rows) (issuer : Issuer) (command : CommandFields) → IsSomeAnd (user_of issuer.id rows) (λ user. IsTrue user.attributes.special) → (need rows issuer command ≡ None) ⊎ (need rows issuer command ≡ Some (Auditor ∷ []))

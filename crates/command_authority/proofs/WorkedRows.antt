@@ -22,7 +22,7 @@ use Rattle.command_parser.specs.declared.fields.AltUser.{AltUser}
 use Rattle.command_parser.specs.declared.fields.Connect.{Connect as ConnectForm}
 use Rattle.command_parser.specs.declared.profile_fields.RAlter.{RAlter}
 use Rattle.command_parser.specs.declared.fields.CommandFields.{CommandFields}
-use Rattle.command_parser.specs.declared.fields.CommandFields.TheVariants as form
+use Rattle.command_parser.specs.declared.fields.CommandFields.TheVariants as fields
 use Rattle.command_authority.specs.declared.needs.Need.{Need}
 use Rattle.command_authority.specs.declared.needs.Need.TheVariants.{Special, Auditor, Join, Create, Authority, Owner, GroupSpecial, OwnData, AlterEntry, UserJoin, UserOwner, UserGroupSpecial}
 use Rattle.command_authority.specs.Requirements.{add_user_requirements, alt_user_requirements, del_user_requirements, add_group_requirements, alt_group_requirements, del_group_requirements, connect_requirements, add_sd_requirements, r_alter_requirements, permit_requirements}
@@ -112,13 +112,13 @@ abbrev connect : List ℕ → List ℕ → ConnectForm
 connect id group = record { user = id; group = Some group; authority = None; special = false; nospecial = false; operations = false; nooperations = false; auditor = false; noauditor = false; revoke = false; resume = false }
 
 abbrev add_sd : List ℕ → CommandFields
-add_sd name = form.AddSd (record { profile = data_set name; owner = None; uacc = None; warning = false; nowarning = false; audit = None; seclevel = None; addcategory = []; seclabel = None })
+add_sd name = fields.AddSd (record { profile = data_set name; owner = None; uacc = None; warning = false; nowarning = false; audit = None; seclevel = None; addcategory = []; seclabel = None })
 
 abbrev r_alter : List ℕ → List ℕ → RAlter
 r_alter class name = record { class = class; profile = general name; owner = None; uacc = None; warning = false; nowarning = false; audit = None; globalaudit = None; seclevel = None; noseclevel = false; addcategory = []; delcategory = []; seclabel = None; noseclabel = false; addmem = []; delmem = [] }
 
 abbrev permit : List ℕ → Spelled → CommandFields
-permit class name = form.Permit (record { profile = name; class = class; reset = None; id = Star ∷ []; access = Some Read; delete = false; when = None })
+permit class name = fields.Permit (record { profile = name; class = class; reset = None; id = Star ∷ []; access = Some Read; delete = false; when = None })
 
 abbrev over_user : List Need
 over_user = Special ∷ Owner ∷ GroupSpecial ∷ []
@@ -126,13 +126,13 @@ over_user = Special ∷ Owner ∷ GroupSpecial ∷ []
 -- ---- group-SPECIAL in DIV
 -- ALU SUE NAME('Sue'), SUE owned by TEAM: DEPT owned by DIV, and then by IBMUSER; DU TOM, whom ADM owns
 abbrev named_sue : CommandFields
-named_sue = form.AltUser (record (alt_user (codes "SUE")) { name = Some (codes "Sue") })
+named_sue = fields.AltUser (record (alt_user (codes "SUE")) { name = Some (codes "Sue") })
 
 scope_of_group_special : map (λ owner. lacks (some_rows owner (adm ∷ [])) (codes "ADM") named_sue) (codes "DIV" ∷ codes "IBMUSER" ∷ []) ≡ None ∷ Some over_user ∷ []
 unfolding need is_met alt_user_requirements
 scope_of_group_special = refl
 
-owned_user : lacks (some_rows (codes "IBMUSER") (adm ∷ [])) (codes "ADM") (form.DelUser (record { user = codes "TOM" })) ≡ None
+owned_user : lacks (some_rows (codes "IBMUSER") (adm ∷ [])) (codes "ADM") (fields.DelUser (record { user = codes "TOM" })) ≡ None
 unfolding need is_met del_user_requirements
 owned_user = refl
 
@@ -142,7 +142,7 @@ unfolding need is_met alt_user_requirements
 revoked_connection = refl
 
 -- an issuer who isn't a user
-no_issuer : lacks (some_rows (codes "DIV") []) (codes "ADM") (form.DelUser (record { user = codes "TOM" })) ≡ Some over_user
+no_issuer : lacks (some_rows (codes "DIV") []) (codes "ADM") (fields.DelUser (record { user = codes "TOM" })) ≡ Some over_user
 unfolding need is_met del_user_requirements
 no_issuer = refl
 
@@ -157,7 +157,7 @@ with_ann authority classes = record { users = ibmuser ∷ ann authority classes 
 abbrev bob_to_g1 : ConnectForm
 bob_to_g1 = connect (codes "BOB") (codes "G1")
 
-connect_rows : map (λ (c : ConnectForm). lacks (with_ann MayConnect []) (codes "ANN") (form.Connect c)) (bob_to_g1 ∷ record bob_to_g1 { authority = Some MayConnect } ∷ record bob_to_g1 { authority = Some MayJoin } ∷ record bob_to_g1 { special = true } ∷ [])
+connect_rows : map (λ (c : ConnectForm). lacks (with_ann MayConnect []) (codes "ANN") (fields.Connect c)) (bob_to_g1 ∷ record bob_to_g1 { authority = Some MayConnect } ∷ record bob_to_g1 { authority = Some MayJoin } ∷ record bob_to_g1 { special = true } ∷ [])
     ≡ None ∷ None ∷ Some (Special ∷ Owner ∷ GroupSpecial ∷ Authority MayJoin ∷ []) ∷ Some (Special ∷ GroupSpecial ∷ []) ∷ []
 unfolding need is_met connect_requirements
 connect_rows = refl
@@ -169,32 +169,32 @@ cat_in_g1 = record (add_user (codes "CAT")) { dfltgrp = Some (codes "G1") }
 abbrev over_g1 : List Need
 over_g1 = Special ∷ UserJoin (codes "G1") ∷ UserOwner ∷ UserGroupSpecial ∷ []
 
-add_user_rows : map (λ (rows : Rows). lacks rows (codes "ANN") (form.AddUser cat_in_g1)) (with_ann MayJoin (codes "USER" ∷ []) ∷ with_ann MayJoin [] ∷ with_ann MayConnect (codes "USER" ∷ []) ∷ [])
+add_user_rows : map (λ (rows : Rows). lacks rows (codes "ANN") (fields.AddUser cat_in_g1)) (with_ann MayJoin (codes "USER" ∷ []) ∷ with_ann MayJoin [] ∷ with_ann MayConnect (codes "USER" ∷ []) ∷ [])
     ≡ None ∷ Some over_g1 ∷ Some over_g1 ∷ []
 unfolding need is_met add_user_requirements
 add_user_rows = refl
 
-add_auditor : lacks (with_ann MayJoin (codes "USER" ∷ [])) (codes "ANN") (form.AddUser (record cat_in_g1 { auditor = true })) ≡ Some (Special ∷ [])
+add_auditor : lacks (with_ann MayJoin (codes "USER" ∷ [])) (codes "ANN") (fields.AddUser (record cat_in_g1 { auditor = true })) ≡ Some (Special ∷ [])
 unfolding need is_met add_user_requirements
 add_auditor = refl
 
 -- IBMUSER has SPECIAL: AU CAT DFLTGRP(G1) SPECIAL
-add_special : lacks (with_ann MayUse []) (codes "IBMUSER") (form.AddUser (record cat_in_g1 { special = true })) ≡ None
+add_special : lacks (with_ann MayUse []) (codes "IBMUSER") (fields.AddUser (record cat_in_g1 { special = true })) ≡ None
 unfolding need is_met add_user_requirements
 add_special = refl
 
 -- AG NEW SUPGROUP(G1), ALG G1 SUPGROUP(G1), DG G1 and DG SYS1, by ANN who has JOIN in G1
 group_rows : map (λ c. lacks (with_ann MayJoin []) (codes "ANN") c)
-    (form.AddGroup (record { group = codes "NEW"; supgroup = Some (codes "G1"); owner = None })
-    ∷ form.AltGroup (record { group = codes "G1"; supgroup = Some (codes "G1"); owner = None })
-    ∷ form.DelGroup (record { group = codes "G1" })
-    ∷ form.DelGroup (record { group = codes "SYS1" }) ∷ [])
+    (fields.AddGroup (record { group = codes "NEW"; supgroup = Some (codes "G1"); owner = None })
+    ∷ fields.AltGroup (record { group = codes "G1"; supgroup = Some (codes "G1"); owner = None })
+    ∷ fields.DelGroup (record { group = codes "G1" })
+    ∷ fields.DelGroup (record { group = codes "SYS1" }) ∷ [])
     ≡ None ∷ Some over_user ∷ Some (Special ∷ Join (codes "SYS1") ∷ Owner ∷ GroupSpecial ∷ []) ∷ Some over_user ∷ []
 unfolding need is_met add_group_requirements alt_group_requirements del_group_requirements
 group_rows = refl
 
 -- ALG TEAM SUPGROUP(SYS1), by ADM who has group-SPECIAL in DIV
-moved_out_of_scope : lacks (some_rows (codes "DIV") (adm ∷ [])) (codes "ADM") (form.AltGroup (record { group = codes "TEAM"; supgroup = Some (codes "SYS1"); owner = None })) ≡ Some (Special ∷ Join (codes "SYS1") ∷ Owner ∷ GroupSpecial ∷ [])
+moved_out_of_scope : lacks (some_rows (codes "DIV") (adm ∷ [])) (codes "ADM") (fields.AltGroup (record { group = codes "TEAM"; supgroup = Some (codes "SYS1"); owner = None })) ≡ Some (Special ∷ Join (codes "SYS1") ∷ Owner ∷ GroupSpecial ∷ [])
 unfolding need is_met alt_group_requirements
 moved_out_of_scope = refl
 
@@ -210,11 +210,11 @@ with_two =
 abbrev audited : List AltUser
 audited = record (alt_user (codes "SUE")) { uaudit = true } ∷ record (alt_user (codes "SUE")) { nouaudit = true; name = Some (codes "Sue") } ∷ alt_user (codes "SUE") ∷ []
 
-uaudit_by_auditor : map (λ (c : AltUser). lacks with_two (codes "AUD") (form.AltUser c)) audited ≡ None ∷ Some over_user ∷ Some over_user ∷ []
+uaudit_by_auditor : map (λ (c : AltUser). lacks with_two (codes "AUD") (fields.AltUser c)) audited ≡ None ∷ Some over_user ∷ Some over_user ∷ []
 unfolding need is_met alt_user_requirements
 uaudit_by_auditor = refl
 
-uaudit_by_special : map (λ (c : AltUser). lacks with_two (codes "SPE") (form.AltUser c)) audited ≡ Some (Auditor ∷ []) ∷ Some (Auditor ∷ []) ∷ None ∷ []
+uaudit_by_special : map (λ (c : AltUser). lacks with_two (codes "SPE") (fields.AltUser c)) audited ≡ Some (Auditor ∷ []) ∷ Some (Auditor ∷ []) ∷ None ∷ []
 unfolding need is_met alt_user_requirements
 uaudit_by_special = refl
 
@@ -222,11 +222,11 @@ uaudit_by_special = refl
 abbrev global_audit : RAlter
 global_audit = record (r_alter (codes "FACILITY") (codes "F.A")) { globalaudit = Some no_audit }
 
-global_audit_rows : map (λ who. lacks with_two who (form.RAlter global_audit)) (codes "AUD" ∷ codes "SPE" ∷ []) ≡ None ∷ Some (Auditor ∷ []) ∷ []
+global_audit_rows : map (λ who. lacks with_two who (fields.RAlter global_audit)) (codes "AUD" ∷ codes "SPE" ∷ []) ≡ None ∷ Some (Auditor ∷ []) ∷ []
 unfolding need is_met r_alter_requirements
 global_audit_rows = refl
 
-global_audit_and_owner : lacks with_two (codes "AUD") (form.RAlter (record global_audit { owner = Some (codes "SUE") })) ≡ Some (Special ∷ Owner ∷ GroupSpecial ∷ AlterEntry ∷ [])
+global_audit_and_owner : lacks with_two (codes "AUD") (fields.RAlter (record global_audit { owner = Some (codes "SUE") })) ≡ Some (Special ∷ Owner ∷ GroupSpecial ∷ AlterEntry ∷ [])
 unfolding need is_met r_alter_requirements
 global_audit_and_owner = refl
 

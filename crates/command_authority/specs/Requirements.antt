@@ -25,7 +25,7 @@ use Rattle.command_parser.specs.declared.profile_fields.RAlter.{RAlter}
 use Rattle.command_parser.specs.declared.profile_fields.RDelete.{RDelete}
 use Rattle.command_parser.specs.declared.profile_fields.Permit.{Permit}
 use Rattle.command_parser.specs.declared.fields.CommandFields.{CommandFields}
-use Rattle.command_parser.specs.declared.fields.CommandFields.TheVariants as form
+use Rattle.command_parser.specs.declared.fields.CommandFields.TheVariants as fields
 use Rattle.command_authority.specs.declared.needs.Need.{Need}
 use Rattle.command_authority.specs.declared.needs.Need.TheVariants.{Special, Auditor, ClassAuthority, Join, Connect, Create, Authority, Owner, GroupSpecial, OwnData, AlterEntry, UserJoin, UserOwner, UserGroupSpecial}
 use Rattle.command_authority.specs.declared.requirement.Target.{Target}
@@ -159,18 +159,18 @@ permit_requirements c = over_profile true c.class c.profile ∷ []
 
 -- ---- all
 abbrev pub requirements : Rows → Issuer → CommandFields → List Requirement
-requirements rows issuer (form.AddUser c) = add_user_requirements issuer c
-requirements rows issuer (form.AltUser c) = alt_user_requirements c
-requirements rows issuer (form.DelUser c) = del_user_requirements c
-requirements rows issuer (form.AddGroup c) = add_group_requirements issuer c
-requirements rows issuer (form.AltGroup c) = alt_group_requirements c
-requirements rows issuer (form.DelGroup c) = del_group_requirements rows c
-requirements rows issuer (form.Connect c) = connect_requirements issuer c
-requirements rows issuer (form.Remove c) = remove_requirements issuer c
-requirements rows issuer (form.AddSd c) = add_sd_requirements c
-requirements rows issuer (form.AltSd c) = alt_sd_requirements c
-requirements rows issuer (form.DelSd c) = del_sd_requirements c
-requirements rows issuer (form.RDefine c) = r_define_requirements c
-requirements rows issuer (form.RAlter c) = r_alter_requirements c
-requirements rows issuer (form.RDelete c) = r_delete_requirements c
-requirements rows issuer (form.Permit c) = permit_requirements c
+requirements rows issuer (fields.AddUser c) = add_user_requirements issuer c
+requirements rows issuer (fields.AltUser c) = alt_user_requirements c
+requirements rows issuer (fields.DelUser c) = del_user_requirements c
+requirements rows issuer (fields.AddGroup c) = add_group_requirements issuer c
+requirements rows issuer (fields.AltGroup c) = alt_group_requirements c
+requirements rows issuer (fields.DelGroup c) = del_group_requirements rows c
+requirements rows issuer (fields.Connect c) = connect_requirements issuer c
+requirements rows issuer (fields.Remove c) = remove_requirements issuer c
+requirements rows issuer (fields.AddSd c) = add_sd_requirements c
+requirements rows issuer (fields.AltSd c) = alt_sd_requirements c
+requirements rows issuer (fields.DelSd c) = del_sd_requirements c
+requirements rows issuer (fields.RDefine c) = r_define_requirements c
+requirements rows issuer (fields.RAlter c) = r_alter_requirements c
+requirements rows issuer (fields.RDelete c) = r_delete_requirements c
+requirements rows issuer (fields.Permit c) = permit_requirements c

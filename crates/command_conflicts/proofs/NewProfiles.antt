@@ -29,6 +29,7 @@ use Rattle.command_conflicts.specs.declared.conflict.Limit.{Limit}
 use Rattle.command_conflicts.specs.Required.{if_met, over}
 use Rattle.command_conflicts.specs.ProfileConflicts.{profile_taken, no_resource_class, profiles_in}
 use Rattle.command_conflicts.proofs.Unmet.{unmet, or_false, not_false}
+use Rattle.class_profiles.proofs.Counts.{found-le}
 
 -- ---- what the tests leave
 pub profile_absent : (class : List ℕ) (name : Spelled) (rows : Rows) → profile_taken class name rows ≡ None → profile_of class name rows ≡ None
@@ -69,14 +70,6 @@ sum-changed name weight change more row (c ∷ cs) found step = by (is_class nam
         let own : weight (change c) ≡ weight c + more = subst (λ (r : ClassRow). weight (change r) ≡ weight r + more) (sym same) step in
         omega (arith, sum_by-cons weight (change c) cs, sum_by-cons weight c cs, own)
     by false here rest = omega (arith, sum_by-cons weight c (at_class name change cs), sum_by-cons weight c cs, rest here)
-
-found-le : {X : Type 0} (it : X → Bool) (weight : X → ℕ) (xs : List X) (x : X) → find it xs ≡ Some x → weight x ≤ sum_by weight xs
-found-le it weight [] x found = cc
-found-le it weight (y ∷ ys) x found = by (it y) found (found-le it weight ys x)
-  where
-    by : (b : Bool) → cond b (Some y) (find it ys) ≡ Some x → (find it ys ≡ Some x → weight x ≤ sum_by weight ys) → weight x ≤ sum_by weight (y ∷ ys)
-    by true here rest = let same : y ≡ x = cc in omega (arith, ap weight same, sum_by-cons weight y ys)
-    by false here rest = omega (arith, rest here, sum_by-cons weight y ys)
 
 -- ---- one profile more
 pub length-put_new : (p : Profile) (ps : List Profile) → find (is_profile p.name) ps ≡ None → length (put_profile p ps) ≡ length ps + 1

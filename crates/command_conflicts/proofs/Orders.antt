@@ -14,7 +14,7 @@ use Rattle.racf_profiles.specs.declared.rows.Rows.{Rows}
 use Rattle.racf_profiles.specs.Lookup.{user_of, group_of, class_of, profile_of}
 use Rattle.command_parser.specs.declared.commands.Issuer.{Issuer}
 use Rattle.command_parser.specs.declared.fields.CommandFields.{CommandFields}
-use Rattle.command_parser.specs.declared.fields.CommandFields.TheVariants as form
+use Rattle.command_parser.specs.declared.fields.CommandFields.TheVariants as fields
 use Rattle.command_parser.specs.declared.profile_fields.Permit.{Permit}
 use Rattle.command_effects.specs.Effects.{step}
 use Rattle.command_conflicts.specs.declared.conflict.Conflict.{Conflict}
@@ -240,11 +240,11 @@ profiles-number issuer command rows = over-number _ _ _
 
 standard-number : (issuer : Issuer) (c : Permit) (rows : Rows) → HasNumber 17 (standard_full issuer c rows)
 unfolding standard_full
-standard-number issuer c rows = number-then 17 _ (λ (p : Profile). over-number Entries most_list_entries (length p.standard)) (profile_of c.class c.profile (step issuer (form.Permit c) rows))
+standard-number issuer c rows = number-then 17 _ (λ (p : Profile). over-number Entries most_list_entries (length p.standard)) (profile_of c.class c.profile (step issuer (fields.Permit c) rows))
 
 conditional-number : (issuer : Issuer) (c : Permit) (rows : Rows) → HasNumber 17 (conditional_full issuer c rows)
 unfolding conditional_full
-conditional-number issuer c rows = number-then 17 _ (λ (p : Profile). over-number Entries most_list_entries (length p.conditional)) (profile_of c.class c.profile (step issuer (form.Permit c) rows))
+conditional-number issuer c rows = number-then 17 _ (λ (p : Profile). over-number Entries most_list_entries (length p.conditional)) (profile_of c.class c.profile (step issuer (fields.Permit c) rows))
 
 entries-number : (issuer : Issuer) (c : Permit) (rows : Rows) → HasNumber 17 (entries_full issuer c rows)
 unfolding entries_full
@@ -260,56 +260,56 @@ categories-number issuer command rows = over-number _ _ _
 
 -- ---- each command's tests, with their numbers
 abbrev numbers_of : CommandFields → List ℕ
-numbers_of (form.AddUser c) = 1 ∷ 2 ∷ 4 ∷ 5 ∷ 16 ∷ 16 ∷ 16 ∷ 17 ∷ 17 ∷ 17 ∷ []
-numbers_of (form.AltUser c) = 1 ∷ 1 ∷ 2 ∷ 4 ∷ 4 ∷ 6 ∷ 15 ∷ 16 ∷ 16 ∷ 16 ∷ 16 ∷ []
-numbers_of (form.DelUser c) = 1 ∷ 8 ∷ 15 ∷ []
-numbers_of (form.AddGroup c) = 1 ∷ 2 ∷ 5 ∷ 10 ∷ 17 ∷ []
-numbers_of (form.AltGroup c) = 1 ∷ 2 ∷ 2 ∷ 7 ∷ 9 ∷ 10 ∷ []
-numbers_of (form.DelGroup c) = 2 ∷ 7 ∷ 8 ∷ 8 ∷ 8 ∷ []
-numbers_of (form.Connect c) = 1 ∷ 2 ∷ 17 ∷ 17 ∷ []
-numbers_of (form.Remove c) = 1 ∷ 2 ∷ 6 ∷ 14 ∷ []
-numbers_of (form.AddSd c) = 1 ∷ 1 ∷ 5 ∷ 16 ∷ 16 ∷ 16 ∷ 17 ∷ 17 ∷ []
-numbers_of (form.AltSd c) = 1 ∷ 3 ∷ 16 ∷ 16 ∷ 16 ∷ 16 ∷ []
-numbers_of (form.DelSd c) = 3 ∷ []
-numbers_of (form.RDefine c) = 1 ∷ 4 ∷ 4 ∷ 5 ∷ 11 ∷ 16 ∷ 16 ∷ 16 ∷ 17 ∷ 17 ∷ 17 ∷ 17 ∷ []
-numbers_of (form.RAlter c) = 1 ∷ 3 ∷ 4 ∷ 16 ∷ 16 ∷ 16 ∷ 16 ∷ 17 ∷ 17 ∷ []
-numbers_of (form.RDelete c) = 3 ∷ 4 ∷ []
-numbers_of (form.Permit c) = 1 ∷ 3 ∷ 4 ∷ 17 ∷ 17 ∷ 17 ∷ []
+numbers_of (fields.AddUser c) = 1 ∷ 2 ∷ 4 ∷ 5 ∷ 16 ∷ 16 ∷ 16 ∷ 17 ∷ 17 ∷ 17 ∷ []
+numbers_of (fields.AltUser c) = 1 ∷ 1 ∷ 2 ∷ 4 ∷ 4 ∷ 6 ∷ 15 ∷ 16 ∷ 16 ∷ 16 ∷ 16 ∷ []
+numbers_of (fields.DelUser c) = 1 ∷ 8 ∷ 15 ∷ []
+numbers_of (fields.AddGroup c) = 1 ∷ 2 ∷ 5 ∷ 10 ∷ 17 ∷ []
+numbers_of (fields.AltGroup c) = 1 ∷ 2 ∷ 2 ∷ 7 ∷ 9 ∷ 10 ∷ []
+numbers_of (fields.DelGroup c) = 2 ∷ 7 ∷ 8 ∷ 8 ∷ 8 ∷ []
+numbers_of (fields.Connect c) = 1 ∷ 2 ∷ 17 ∷ 17 ∷ []
+numbers_of (fields.Remove c) = 1 ∷ 2 ∷ 6 ∷ 14 ∷ []
+numbers_of (fields.AddSd c) = 1 ∷ 1 ∷ 5 ∷ 16 ∷ 16 ∷ 16 ∷ 17 ∷ 17 ∷ []
+numbers_of (fields.AltSd c) = 1 ∷ 3 ∷ 16 ∷ 16 ∷ 16 ∷ 16 ∷ []
+numbers_of (fields.DelSd c) = 3 ∷ []
+numbers_of (fields.RDefine c) = 1 ∷ 4 ∷ 4 ∷ 5 ∷ 11 ∷ 16 ∷ 16 ∷ 16 ∷ 17 ∷ 17 ∷ 17 ∷ 17 ∷ []
+numbers_of (fields.RAlter c) = 1 ∷ 3 ∷ 4 ∷ 16 ∷ 16 ∷ 16 ∷ 16 ∷ 17 ∷ 17 ∷ []
+numbers_of (fields.RDelete c) = 3 ∷ 4 ∷ []
+numbers_of (fields.Permit c) = 1 ∷ 3 ∷ 4 ∷ 17 ∷ 17 ∷ 17 ∷ []
 
 are_numbered : (issuer : Issuer) (command : CommandFields) (rows : Rows) → AreNumbered (conflicts issuer command rows) (numbers_of command)
 unfolding add_user_conflicts alt_user_conflicts del_user_conflicts add_group_conflicts alt_group_conflicts del_group_conflicts connect_conflicts remove_conflicts add_sd_requirements add_sd_limits alt_sd_conflicts del_sd_conflicts r_define_requirements r_define_limits r_alter_conflicts r_delete_conflicts permit_conflicts
-are_numbered issuer (form.AddUser c) rows = (owner-number _ rows, (group-number _ rows, (class-number _ rows, (taken-number _ rows, (level-number _ rows, (category-number _ rows, (label-number _ rows, (users-number issuer _ rows, (user_full-number _, (connections-number issuer _ rows, tt))))))))))
-are_numbered issuer (form.AltUser c) rows = (user-number _ rows, (owner-number _ rows, (named_group-number _ rows, (class-number _ rows, (class-number _ rows, (default_connected-number _ _ rows, (special-number issuer _ _ rows, (level-number _ rows, (category-number _ rows, (never-number _ rows, (label-number _ rows, tt)))))))))))
-are_numbered issuer (form.DelUser c) rows = (user-number _ rows, (has_profile-number _ rows, (special-number issuer _ _ rows, tt)))
-are_numbered issuer (form.AddGroup c) rows = (owner-number _ rows, (group-number _ rows, (taken-number _ rows, (superior-number _ _ _ rows, (groups-number issuer _ rows, tt)))))
-are_numbered issuer (form.AltGroup c) rows = (owner-number _ rows, (group-number _ rows, (named_group-number _ rows, (number-if_met _ Root, (cycle-number _ _ rows, (superior-number _ _ _ rows, tt))))))
-are_numbered issuer (form.DelGroup c) rows = (group-number _ rows, (number-if_met _ Root, (subgroup-number _ rows, (has_connected-number _ rows, (has_profile-number _ rows, tt)))))
-are_numbered issuer (form.Connect c) rows = (user-number _ rows, (group-number _ rows, (user_full-number _, (connections-number issuer _ rows, tt))))
-are_numbered issuer (form.Remove c) rows = (user-number _ rows, (group-number _ rows, (connected-number _ _ rows, (default-number _ _ rows, tt))))
-are_numbered issuer (form.AddSd c) rows = (qualifier-number _ rows, (owner-number _ rows, (profile_taken-number _ _ rows, (level-number _ rows, (category-number _ rows, (label-number _ rows, (class_profiles-number issuer _ _ rows, (profiles-number issuer _ rows, tt))))))))
-are_numbered issuer (form.AltSd c) rows = (owner-number _ rows, (profile-number _ _ rows, (level-number _ rows, (category-number _ rows, (never-number _ rows, (label-number _ rows, tt))))))
-are_numbered issuer (form.DelSd c) rows = (profile-number _ _ rows, tt)
-are_numbered issuer (form.RDefine c) rows = (owner-number _ rows, (resource_class-number _ rows, (global_class-number _ _ rows, (profile_taken-number _ _ rows, (generic-number _ _, (level-number _ rows, (category-number _ rows, (label-number _ rows, (class_profiles-number issuer _ _ rows, (profiles-number issuer _ rows, (members-number issuer _ _ _ rows, (categories-number issuer _ rows, tt))))))))))))
-are_numbered issuer (form.RAlter c) rows = (owner-number _ rows, (resource_profile-number _ _ rows, (resource_class-number _ rows, (level-number _ rows, (category-number _ rows, (never-number _ rows, (label-number _ rows, (members-number issuer _ _ _ rows, (categories-number issuer _ rows, tt)))))))))
-are_numbered issuer (form.RDelete c) rows = (resource_profile-number _ _ rows, (resource_class-number _ rows, tt))
-are_numbered issuer (form.Permit c) rows = (permitted-number _ _ rows, (profile-number _ _ rows, (such_class-number _ rows, (standard-number issuer _ rows, (conditional-number issuer _ rows, (entries-number issuer _ rows, tt))))))
+are_numbered issuer (fields.AddUser c) rows = (owner-number _ rows, (group-number _ rows, (class-number _ rows, (taken-number _ rows, (level-number _ rows, (category-number _ rows, (label-number _ rows, (users-number issuer _ rows, (user_full-number _, (connections-number issuer _ rows, tt))))))))))
+are_numbered issuer (fields.AltUser c) rows = (user-number _ rows, (owner-number _ rows, (named_group-number _ rows, (class-number _ rows, (class-number _ rows, (default_connected-number _ _ rows, (special-number issuer _ _ rows, (level-number _ rows, (category-number _ rows, (never-number _ rows, (label-number _ rows, tt)))))))))))
+are_numbered issuer (fields.DelUser c) rows = (user-number _ rows, (has_profile-number _ rows, (special-number issuer _ _ rows, tt)))
+are_numbered issuer (fields.AddGroup c) rows = (owner-number _ rows, (group-number _ rows, (taken-number _ rows, (superior-number _ _ _ rows, (groups-number issuer _ rows, tt)))))
+are_numbered issuer (fields.AltGroup c) rows = (owner-number _ rows, (group-number _ rows, (named_group-number _ rows, (number-if_met _ Root, (cycle-number _ _ rows, (superior-number _ _ _ rows, tt))))))
+are_numbered issuer (fields.DelGroup c) rows = (group-number _ rows, (number-if_met _ Root, (subgroup-number _ rows, (has_connected-number _ rows, (has_profile-number _ rows, tt)))))
+are_numbered issuer (fields.Connect c) rows = (user-number _ rows, (group-number _ rows, (user_full-number _, (connections-number issuer _ rows, tt))))
+are_numbered issuer (fields.Remove c) rows = (user-number _ rows, (group-number _ rows, (connected-number _ _ rows, (default-number _ _ rows, tt))))
+are_numbered issuer (fields.AddSd c) rows = (qualifier-number _ rows, (owner-number _ rows, (profile_taken-number _ _ rows, (level-number _ rows, (category-number _ rows, (label-number _ rows, (class_profiles-number issuer _ _ rows, (profiles-number issuer _ rows, tt))))))))
+are_numbered issuer (fields.AltSd c) rows = (owner-number _ rows, (profile-number _ _ rows, (level-number _ rows, (category-number _ rows, (never-number _ rows, (label-number _ rows, tt))))))
+are_numbered issuer (fields.DelSd c) rows = (profile-number _ _ rows, tt)
+are_numbered issuer (fields.RDefine c) rows = (owner-number _ rows, (resource_class-number _ rows, (global_class-number _ _ rows, (profile_taken-number _ _ rows, (generic-number _ _, (level-number _ rows, (category-number _ rows, (label-number _ rows, (class_profiles-number issuer _ _ rows, (profiles-number issuer _ rows, (members-number issuer _ _ _ rows, (categories-number issuer _ rows, tt))))))))))))
+are_numbered issuer (fields.RAlter c) rows = (owner-number _ rows, (resource_profile-number _ _ rows, (resource_class-number _ rows, (level-number _ rows, (category-number _ rows, (never-number _ rows, (label-number _ rows, (members-number issuer _ _ _ rows, (categories-number issuer _ rows, tt)))))))))
+are_numbered issuer (fields.RDelete c) rows = (resource_profile-number _ _ rows, (resource_class-number _ rows, tt))
+are_numbered issuer (fields.Permit c) rows = (permitted-number _ _ rows, (profile-number _ _ rows, (such_class-number _ rows, (standard-number issuer _ rows, (conditional-number issuer _ rows, (entries-number issuer _ rows, tt))))))
 
 sorted : (command : CommandFields) → are_sorted (0 ∷ numbers_of command) ≡ true
-sorted (form.AddUser c) = refl
-sorted (form.AltUser c) = refl
-sorted (form.DelUser c) = refl
-sorted (form.AddGroup c) = refl
-sorted (form.AltGroup c) = refl
-sorted (form.DelGroup c) = refl
-sorted (form.Connect c) = refl
-sorted (form.Remove c) = refl
-sorted (form.AddSd c) = refl
-sorted (form.AltSd c) = refl
-sorted (form.DelSd c) = refl
-sorted (form.RDefine c) = refl
-sorted (form.RAlter c) = refl
-sorted (form.RDelete c) = refl
-sorted (form.Permit c) = refl
+sorted (fields.AddUser c) = refl
+sorted (fields.AltUser c) = refl
+sorted (fields.DelUser c) = refl
+sorted (fields.AddGroup c) = refl
+sorted (fields.AltGroup c) = refl
+sorted (fields.DelGroup c) = refl
+sorted (fields.Connect c) = refl
+sorted (fields.Remove c) = refl
+sorted (fields.AddSd c) = refl
+sorted (fields.AltSd c) = refl
+sorted (fields.DelSd c) = refl
+sorted (fields.RDefine c) = refl
+sorted (fields.RAlter c) = refl
+sorted (fields.RDelete c) = refl
+sorted (fields.Permit c) = refl
 
 pub tests-ascending : (issuer : Issuer) (command : CommandFields) (rows : Rows) → is_ascending (met (tests issuer command rows)) ≡ true
 tests-ascending issuer command rows = met-ascending (tests issuer command rows) (0 ∷ numbers_of command) (number-if_met (is_unbuilt command) NotBuilt, are_numbered issuer command rows) (sorted command)

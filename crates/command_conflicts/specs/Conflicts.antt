@@ -23,7 +23,7 @@ use Rattle.command_parser.specs.declared.fields.DelGroup.{DelGroup}
 use Rattle.command_parser.specs.declared.fields.Connect.{Connect}
 use Rattle.command_parser.specs.declared.fields.Remove.{Remove}
 use Rattle.command_parser.specs.declared.fields.CommandFields.{CommandFields}
-use Rattle.command_parser.specs.declared.fields.CommandFields.TheVariants as form
+use Rattle.command_parser.specs.declared.fields.CommandFields.TheVariants as fields
 use Rattle.class_profiles.specs.Classes.{first_under}
 use Rattle.racf_profiles.specs.Limits.{most_users, most_groups, most_connections, most_connections_in_all}
 use Rattle.racf_profiles.specs.Names.{is_connected_to, connects_of, special_users, connections}
@@ -112,9 +112,9 @@ add_user_conflicts issuer c rows =
     ∷ unknown_level c.seclevel rows
     ∷ unknown_category c.addcategory rows
     ∷ unknown_label c.seclabel rows
-    ∷ users_full issuer (form.AddUser c) rows
+    ∷ users_full issuer (fields.AddUser c) rows
     ∷ user_full (new_user issuer c rows).connects
-    ∷ connections_full issuer (form.AddUser c) rows
+    ∷ connections_full issuer (fields.AddUser c) rows
     ∷ []
 
 unfoldable pub alt_user_conflicts : Issuer → AltUser → Rows → List (Option Conflict)
@@ -125,7 +125,7 @@ alt_user_conflicts issuer c rows =
     ∷ no_class c.clauth rows
     ∷ no_class c.noclauth rows
     ∷ default_not_connected c.user c.dfltgrp rows
-    ∷ last_special issuer (form.AltUser c) c.user rows
+    ∷ last_special issuer (fields.AltUser c) c.user rows
     ∷ unknown_level c.seclevel rows
     ∷ unknown_category c.addcategory rows
     ∷ never_category c.delcategory rows
@@ -136,7 +136,7 @@ unfoldable pub del_user_conflicts : Issuer → DelUser → Rows → List (Option
 del_user_conflicts issuer c rows =
     no_user c.user rows
     ∷ has_profile c.user rows
-    ∷ last_special issuer (form.DelUser c) c.user rows
+    ∷ last_special issuer (fields.DelUser c) c.user rows
     ∷ []
 
 unfoldable pub add_group_conflicts : Issuer → AddGroup → Rows → List (Option Conflict)
@@ -145,7 +145,7 @@ add_group_conflicts issuer c rows =
     ∷ no_group (group_or_current issuer c.supgroup) rows
     ∷ name_taken c.group rows
     ∷ owner_not_superior c.supgroup c.owner (Some (new_group issuer c)) rows
-    ∷ groups_full issuer (form.AddGroup c) rows
+    ∷ groups_full issuer (fields.AddGroup c) rows
     ∷ []
 
 unfoldable pub alt_group_conflicts : AltGroup → Rows → List (Option Conflict)
@@ -173,7 +173,7 @@ connect_conflicts issuer c rows =
     no_user c.user rows
     ∷ no_group group rows
     ∷ user_full (connects_after c group (connects_of c.user rows))
-    ∷ connections_full issuer (form.Connect c) rows
+    ∷ connections_full issuer (fields.Connect c) rows
     ∷ []
 
 unfoldable pub remove_conflicts : Issuer → Remove → Rows → List (Option Conflict)
@@ -186,21 +186,21 @@ remove_conflicts issuer c rows =
     ∷ []
 
 abbrev pub conflicts : Issuer → CommandFields → Rows → List (Option Conflict)
-conflicts issuer (form.AddUser c) rows = add_user_conflicts issuer c rows
-conflicts issuer (form.AltUser c) rows = alt_user_conflicts issuer c rows
-conflicts issuer (form.DelUser c) rows = del_user_conflicts issuer c rows
-conflicts issuer (form.AddGroup c) rows = add_group_conflicts issuer c rows
-conflicts issuer (form.AltGroup c) rows = alt_group_conflicts c rows
-conflicts issuer (form.DelGroup c) rows = del_group_conflicts c rows
-conflicts issuer (form.Connect c) rows = connect_conflicts issuer c rows
-conflicts issuer (form.Remove c) rows = remove_conflicts issuer c rows
-conflicts issuer (form.AddSd c) rows = add_sd_conflicts issuer c rows
-conflicts issuer (form.AltSd c) rows = alt_sd_conflicts c rows
-conflicts issuer (form.DelSd c) rows = del_sd_conflicts c rows
-conflicts issuer (form.RDefine c) rows = r_define_conflicts issuer c rows
-conflicts issuer (form.RAlter c) rows = r_alter_conflicts issuer c rows
-conflicts issuer (form.RDelete c) rows = r_delete_conflicts c rows
-conflicts issuer (form.Permit c) rows = permit_conflicts issuer c rows
+conflicts issuer (fields.AddUser c) rows = add_user_conflicts issuer c rows
+conflicts issuer (fields.AltUser c) rows = alt_user_conflicts issuer c rows
+conflicts issuer (fields.DelUser c) rows = del_user_conflicts issuer c rows
+conflicts issuer (fields.AddGroup c) rows = add_group_conflicts issuer c rows
+conflicts issuer (fields.AltGroup c) rows = alt_group_conflicts c rows
+conflicts issuer (fields.DelGroup c) rows = del_group_conflicts c rows
+conflicts issuer (fields.Connect c) rows = connect_conflicts issuer c rows
+conflicts issuer (fields.Remove c) rows = remove_conflicts issuer c rows
+conflicts issuer (fields.AddSd c) rows = add_sd_conflicts issuer c rows
+conflicts issuer (fields.AltSd c) rows = alt_sd_conflicts c rows
+conflicts issuer (fields.DelSd c) rows = del_sd_conflicts c rows
+conflicts issuer (fields.RDefine c) rows = r_define_conflicts issuer c rows
+conflicts issuer (fields.RAlter c) rows = r_alter_conflicts issuer c rows
+conflicts issuer (fields.RDelete c) rows = r_delete_conflicts c rows
+conflicts issuer (fields.Permit c) rows = permit_conflicts issuer c rows
 
 -- What isn't built comes before all else.
 abbrev pub tests : Issuer → CommandFields → Rows → List (Option Conflict)

@@ -3,7 +3,7 @@
 use Rattle.std.specs.Prelude.{ℕ, Bool, true, false, ◌||◌, is_some, List, [], ◌∷◌, codes}
 use Rattle.std.specs.Str.{bytes_eq}
 use Rattle.command_parser.specs.declared.fields.CommandFields.{CommandFields}
-use Rattle.command_parser.specs.declared.fields.CommandFields.TheVariants as form
+use Rattle.command_parser.specs.declared.fields.CommandFields.TheVariants as fields
 
 -- a list in which something was named
 abbrev pub names_any : {X : Type 0} → List X → Bool
@@ -17,23 +17,23 @@ is_unbuilt_class name = bytes_eq name (codes "SECDATA") || bytes_eq name (codes 
 -- A command that names a security level, a category, a label or a member, or takes one away; or that works on a
 -- profile of such a class. No profile of such a class can be there, so that PERMIT finds none.
 abbrev pub is_unbuilt : CommandFields → Bool
-is_unbuilt (form.AddUser c) = is_some c.seclevel || names_any c.addcategory || is_some c.seclabel
-is_unbuilt (form.AltUser c) =
+is_unbuilt (fields.AddUser c) = is_some c.seclevel || names_any c.addcategory || is_some c.seclabel
+is_unbuilt (fields.AltUser c) =
     is_some c.seclevel || c.noseclevel || names_any c.addcategory || names_any c.delcategory || is_some c.seclabel || c.noseclabel
-is_unbuilt (form.DelUser c) = false
-is_unbuilt (form.AddGroup c) = false
-is_unbuilt (form.AltGroup c) = false
-is_unbuilt (form.DelGroup c) = false
-is_unbuilt (form.Connect c) = false
-is_unbuilt (form.Remove c) = false
-is_unbuilt (form.AddSd c) = is_some c.seclevel || names_any c.addcategory || is_some c.seclabel
-is_unbuilt (form.AltSd c) =
+is_unbuilt (fields.DelUser c) = false
+is_unbuilt (fields.AddGroup c) = false
+is_unbuilt (fields.AltGroup c) = false
+is_unbuilt (fields.DelGroup c) = false
+is_unbuilt (fields.Connect c) = false
+is_unbuilt (fields.Remove c) = false
+is_unbuilt (fields.AddSd c) = is_some c.seclevel || names_any c.addcategory || is_some c.seclabel
+is_unbuilt (fields.AltSd c) =
     is_some c.seclevel || c.noseclevel || names_any c.addcategory || names_any c.delcategory || is_some c.seclabel || c.noseclabel
-is_unbuilt (form.DelSd c) = false
-is_unbuilt (form.RDefine c) =
+is_unbuilt (fields.DelSd c) = false
+is_unbuilt (fields.RDefine c) =
     is_unbuilt_class c.class || is_some c.seclevel || names_any c.addcategory || is_some c.seclabel || names_any c.addmem
-is_unbuilt (form.RAlter c) =
+is_unbuilt (fields.RAlter c) =
     is_unbuilt_class c.class || is_some c.seclevel || c.noseclevel || names_any c.addcategory || names_any c.delcategory
     || is_some c.seclabel || c.noseclabel || names_any c.addmem || names_any c.delmem
-is_unbuilt (form.RDelete c) = is_unbuilt_class c.class
-is_unbuilt (form.Permit c) = false
+is_unbuilt (fields.RDelete c) = is_unbuilt_class c.class
+is_unbuilt (fields.Permit c) = false

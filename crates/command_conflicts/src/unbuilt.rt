@@ -2,7 +2,7 @@
 
 ghost use Rattle.std.specs.Prelude.{◌≡◌};
 ghost use Rattle.command_conflicts.specs.Unbuilt.{names_any, is_unbuilt_class, is_unbuilt};
-ghost use Rattle.command_parser.specs.declared.fields.CommandFields.TheVariants as form;
+ghost use Rattle.command_parser.specs.declared.fields.CommandFields.TheVariants as command_fields;
 
 use access_levels::Id;
 use command_parser::{
@@ -36,14 +36,14 @@ pub fn is_unbuilt(fields: &CommandFields) -> bool
 
 /// Whether ADDUSER asks for what is not built.
 fn is_unbuilt_add_user(command: &AddUser) -> bool
-    ensures { result ≡ is_unbuilt (form.AddUser command.now) }
+    ensures { result ≡ is_unbuilt (command_fields.AddUser command.now) }
 {
     command.seclevel.is_some() || names_any(&command.addcategory) || command.seclabel.is_some()
 }
 
 /// Whether ALTUSER asks for what is not built.
 fn is_unbuilt_alt_user(command: &AltUser) -> bool
-    ensures { result ≡ is_unbuilt (form.AltUser command.now) }
+    ensures { result ≡ is_unbuilt (command_fields.AltUser command.now) }
 {
     command.seclevel.is_some()
         || command.noseclevel
@@ -55,14 +55,14 @@ fn is_unbuilt_alt_user(command: &AltUser) -> bool
 
 /// Whether ADDSD asks for what is not built.
 fn is_unbuilt_add_sd(command: &AddSd) -> bool
-    ensures { result ≡ is_unbuilt (form.AddSd command.now) }
+    ensures { result ≡ is_unbuilt (command_fields.AddSd command.now) }
 {
     command.seclevel.is_some() || names_any(&command.addcategory) || command.seclabel.is_some()
 }
 
 /// Whether ALTSD asks for what is not built.
 fn is_unbuilt_alt_sd(command: &AltSd) -> bool
-    ensures { result ≡ is_unbuilt (form.AltSd command.now) }
+    ensures { result ≡ is_unbuilt (command_fields.AltSd command.now) }
 {
     command.seclevel.is_some()
         || command.noseclevel
@@ -74,7 +74,7 @@ fn is_unbuilt_alt_sd(command: &AltSd) -> bool
 
 /// Whether RDEFINE asks for what is not built.
 fn is_unbuilt_rdefine(command: &RDefine) -> bool
-    ensures { result ≡ is_unbuilt (form.RDefine command.now) }
+    ensures { result ≡ is_unbuilt (command_fields.RDefine command.now) }
 {
     is_unbuilt_class(command.class)
         || command.seclevel.is_some()
@@ -85,7 +85,7 @@ fn is_unbuilt_rdefine(command: &RDefine) -> bool
 
 /// Whether RALTER asks for what is not built.
 fn is_unbuilt_ralter(command: &RAlter) -> bool
-    ensures { result ≡ is_unbuilt (form.RAlter command.now) }
+    ensures { result ≡ is_unbuilt (command_fields.RAlter command.now) }
 {
     is_unbuilt_class(command.class)
         || command.seclevel.is_some()

@@ -11,7 +11,7 @@ use Rattle.racf_profiles.specs.declared.edits.Edit.TheVariants.{PutUser, DropUse
 use Rattle.racf_profiles.specs.Lookup.{user_of, group_of, profile_of}
 use Rattle.command_parser.specs.declared.commands.Issuer.{Issuer}
 use Rattle.command_parser.specs.declared.fields.CommandFields.{CommandFields}
-use Rattle.command_parser.specs.declared.fields.CommandFields.TheVariants as form
+use Rattle.command_parser.specs.declared.fields.CommandFields.TheVariants as fields
 use Rattle.command_parser.specs.declared.profile_fields.AddSd.{AddSd}
 use Rattle.command_parser.specs.declared.profile_fields.AltSd.{AltSd}
 use Rattle.command_parser.specs.declared.profile_fields.DelSd.{DelSd}
@@ -64,18 +64,18 @@ abbrev pub edits_of_permit : Permit → Rows → List Edit
 edits_of_permit c rows = put_changed c.class (permitted_profile c) (profile_of c.class c.profile rows)
 
 abbrev pub edits_of : Issuer → CommandFields → Rows → List Edit
-edits_of issuer (form.AddUser c) rows = PutUser (new_user issuer c rows) ∷ []
-edits_of issuer (form.AltUser c) rows = put_user (altered_user c rows) (user_of c.user rows)
-edits_of issuer (form.DelUser c) rows = DropUser c.user ∷ []
-edits_of issuer (form.AddGroup c) rows = PutGroup (new_group issuer c) ∷ []
-edits_of issuer (form.AltGroup c) rows = put_group (altered_group c) (group_of c.group rows)
-edits_of issuer (form.DelGroup c) rows = DropGroup c.group ∷ []
-edits_of issuer (form.Connect c) rows = put_user (connected_user issuer c) (user_of c.user rows)
-edits_of issuer (form.Remove c) rows = put_user (removed_user issuer c) (user_of c.user rows)
-edits_of issuer (form.AddSd c) rows = edits_of_add_sd issuer c rows
-edits_of issuer (form.AltSd c) rows = edits_of_alt_sd c rows
-edits_of issuer (form.DelSd c) rows = edits_of_del_sd c
-edits_of issuer (form.RDefine c) rows = edits_of_r_define issuer c rows
-edits_of issuer (form.RAlter c) rows = edits_of_r_alter c rows
-edits_of issuer (form.RDelete c) rows = edits_of_r_delete c
-edits_of issuer (form.Permit c) rows = edits_of_permit c rows
+edits_of issuer (fields.AddUser c) rows = PutUser (new_user issuer c rows) ∷ []
+edits_of issuer (fields.AltUser c) rows = put_user (altered_user c rows) (user_of c.user rows)
+edits_of issuer (fields.DelUser c) rows = DropUser c.user ∷ []
+edits_of issuer (fields.AddGroup c) rows = PutGroup (new_group issuer c) ∷ []
+edits_of issuer (fields.AltGroup c) rows = put_group (altered_group c) (group_of c.group rows)
+edits_of issuer (fields.DelGroup c) rows = DropGroup c.group ∷ []
+edits_of issuer (fields.Connect c) rows = put_user (connected_user issuer c) (user_of c.user rows)
+edits_of issuer (fields.Remove c) rows = put_user (removed_user issuer c) (user_of c.user rows)
+edits_of issuer (fields.AddSd c) rows = edits_of_add_sd issuer c rows
+edits_of issuer (fields.AltSd c) rows = edits_of_alt_sd c rows
+edits_of issuer (fields.DelSd c) rows = edits_of_del_sd c
+edits_of issuer (fields.RDefine c) rows = edits_of_r_define issuer c rows
+edits_of issuer (fields.RAlter c) rows = edits_of_r_alter c rows
+edits_of issuer (fields.RDelete c) rows = edits_of_r_delete c
+edits_of issuer (fields.Permit c) rows = edits_of_permit c rows

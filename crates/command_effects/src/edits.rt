@@ -4,7 +4,7 @@ ghost use Rattle.std.specs.Option.{option_copied};
 ghost use Rattle.racf_profiles.specs.Lookup.{user_of, group_of};
 ghost use Rattle.racf_profiles.specs.declared.users.User.{User};
 ghost use Rattle.command_effects.specs.Effects.{altered_user, connected_user, removed_user, altered_group};
-ghost use Rattle.command_parser.specs.declared.fields.CommandFields.TheVariants as form;
+ghost use Rattle.command_parser.specs.declared.fields.CommandFields.TheVariants as fields;
 ghost use Rattle.command_parser.specs.declared.profile_fields.Permit.{Permit};
 ghost use Rattle.command_effects.specs.PermitEffects.{PermitFits};
 ghost use Rattle.command_effects.specs.Edits.{edits_of, put_user, put_group};
@@ -33,7 +33,7 @@ pub fn edits_of(
     issuer: &Issuer,
     command: &Command,
 ) -> Result<Vec<Edit>, NoMemory>
-    requires { (permit : Permit) → command.now ≡ form.Permit permit → PermitFits permit tables.now.rows }
+    requires { (permit : Permit) → command.now ≡ fields.Permit permit → PermitFits permit tables.now.rows }
     ensures { IfOk result (λ edits. edits.items ≡ edits_of issuer.now command.now tables.now.rows) }
 {
     match command.fields() {

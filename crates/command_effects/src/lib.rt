@@ -17,3 +17,6 @@ pub use made::{
     group_or_current, is_category, is_label, level_number, members_count, new_group,
     standard_count, was_category,
 };
+
+#[cfg(test)]
+mod tests;

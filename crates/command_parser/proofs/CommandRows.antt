@@ -11,9 +11,9 @@ use Rattle.command_values.specs.declared.values.Context.{Context}
 use Rattle.command_grammar.specs.Canon.{canon, spelled}
 use Rattle.command_parser.specs.declared.fields.CommandFields.{CommandFields}
 use Rattle.command_parser.specs.declared.fields.CommandFields.TheVariants as command
-use Rattle.command_parser.specs.Forms.{canonical}
+use Rattle.command_parser.specs.Canonical.{canonical}
 use Rattle.command_parser.specs.Fields.{front, behind}
-use Rattle.command_parser.specs.FormOf.{form_of, command_in}
+use Rattle.command_parser.specs.CommandOf.{command_of, command_in}
 
 by_joe : Context
 by_joe = record { issuer = codes "JOE" }
@@ -98,15 +98,15 @@ altered : List ℕ → List ℕ → CommandFields
 altered superior owner = command.AltGroup (record { group = codes "G"; supgroup = Some superior; owner = Some owner })
 
 superior-then-owner : command_in (codes "JOE") (codes "ALG G SUPGROUP(A) OWNER(B)") ≡ Some (altered (codes "A") (codes "B"))
-unfolding tokens parsed canon form_of front behind altered
+unfolding tokens parsed canon command_of front behind altered
 superior-then-owner = refl
 
 owner-then-superior : command_in (codes "JOE") (codes "ALG G OWNER(B) SUPGROUP(A)") ≡ Some (altered (codes "A") (codes "B"))
-unfolding tokens parsed canon form_of front behind altered
+unfolding tokens parsed canon command_of front behind altered
 owner-then-superior = refl
 
 owner-is-owner : command_in (codes "JOE") (codes "ALG G OWNER(A)") ≡ Some (command.AltGroup (record { group = codes "G"; supgroup = None; owner = Some (codes "A") }))
-unfolding tokens parsed canon form_of front behind
+unfolding tokens parsed canon command_of front behind
 owner-is-owner = refl
 
 superior-written-first : canonical (altered (codes "A") (codes "B")) ≡ codes "ALTGROUP G SUPGROUP(A) OWNER(B)"

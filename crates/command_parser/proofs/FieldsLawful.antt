@@ -29,7 +29,7 @@ use Rattle.command_values.proofs.Patterns.{dataset-named, class-named}
 use Rattle.command_parser.specs.declared.fields.CommandFields.{CommandFields}
 use Rattle.command_parser.specs.declared.fields.CommandFields.TheVariants as command
 use Rattle.command_parser.specs.Operands.{id_value, name_value, ids_value, audit_value, whos_value, when_value, members_value, member_names_value}
-use Rattle.command_parser.specs.Forms.{generic_form}
+use Rattle.command_parser.specs.Canonical.{generic_view}
 use Rattle.command_parser.specs.LawfulFields.{IsId, IsGroupName, IsUserName, IsClauthWord, IsAudit, IsNamedOne, AreWhosOfPermit, IsPort, AreMembersOf, AreMemberNamesOf, AreLawfulFields}
 
 -- where the operand with this word stands among the rows
@@ -140,9 +140,9 @@ member-names-given : (class : List ℕ) (n : Spelled) (ns : List Spelled) → If
 member-names-given class n [] h = tt
 member-names-given class n (x ∷ xs) h = h
 
-pub fields-lawful : (c : CommandFields) → IsLawful (generic_form c) → AreLawfulFields c
+pub fields-lawful : (c : CommandFields) → IsLawful (generic_view c) → AreLawfulFields c
 fields-lawful (command.AddUser a) lawful =
-    let fits = λ (w : Word). fits-at (place w (operands_of verbs.AddUser)) (operands_of verbs.AddUser) (generic_form (command.AddUser a)).slots lawful.fits_operands in
+    let fits = λ (w : Word). fits-at (place w (operands_of verbs.AddUser)) (operands_of verbs.AddUser) (generic_view (command.AddUser a)).slots lawful.fits_operands in
     record {
       user = id-given (Some a.user) lawful.fits_positions.0;
       name = name-given a.name (fits words.Name);
@@ -154,7 +154,7 @@ fields-lawful (command.AddUser a) lawful =
       seclabel = id-given a.seclabel (fits words.Seclabel);
     }
 fields-lawful (command.AltUser a) lawful =
-    let fits = λ (w : Word). fits-at (place w (operands_of verbs.AltUser)) (operands_of verbs.AltUser) (generic_form (command.AltUser a)).slots lawful.fits_operands in
+    let fits = λ (w : Word). fits-at (place w (operands_of verbs.AltUser)) (operands_of verbs.AltUser) (generic_view (command.AltUser a)).slots lawful.fits_operands in
     record {
       user = id-given (Some a.user) lawful.fits_positions.0;
       name = name-given a.name (fits words.Name);
@@ -169,20 +169,20 @@ fields-lawful (command.AltUser a) lawful =
     }
 fields-lawful (command.DelUser a) lawful = id-given (Some a.user) lawful.fits_positions.0
 fields-lawful (command.AddGroup a) lawful =
-    let fits = λ (w : Word). fits-at (place w (operands_of verbs.AddGroup)) (operands_of verbs.AddGroup) (generic_form (command.AddGroup a)).slots lawful.fits_operands in
+    let fits = λ (w : Word). fits-at (place w (operands_of verbs.AddGroup)) (operands_of verbs.AddGroup) (generic_view (command.AddGroup a)).slots lawful.fits_operands in
     record { group = group-given (Some a.group) lawful.fits_positions.0; supgroup = group-given a.supgroup (fits words.Supgroup); owner = id-given a.owner (fits words.Owner) }
 fields-lawful (command.AltGroup a) lawful =
-    let fits = λ (w : Word). fits-at (place w (operands_of verbs.AltGroup)) (operands_of verbs.AltGroup) (generic_form (command.AltGroup a)).slots lawful.fits_operands in
+    let fits = λ (w : Word). fits-at (place w (operands_of verbs.AltGroup)) (operands_of verbs.AltGroup) (generic_view (command.AltGroup a)).slots lawful.fits_operands in
     record { group = group-given (Some a.group) lawful.fits_positions.0; supgroup = group-given a.supgroup (fits words.Supgroup); owner = id-given a.owner (fits words.Owner) }
 fields-lawful (command.DelGroup a) lawful = group-given (Some a.group) lawful.fits_positions.0
 fields-lawful (command.Connect a) lawful =
-    let fits = λ (w : Word). fits-at (place w (operands_of verbs.Connect)) (operands_of verbs.Connect) (generic_form (command.Connect a)).slots lawful.fits_operands in
+    let fits = λ (w : Word). fits-at (place w (operands_of verbs.Connect)) (operands_of verbs.Connect) (generic_view (command.Connect a)).slots lawful.fits_operands in
     record { user = id-given (Some a.user) lawful.fits_positions.0; group = group-given a.group (fits words.Group) }
 fields-lawful (command.Remove a) lawful =
-    let fits = λ (w : Word). fits-at (place w (operands_of verbs.Remove)) (operands_of verbs.Remove) (generic_form (command.Remove a)).slots lawful.fits_operands in
+    let fits = λ (w : Word). fits-at (place w (operands_of verbs.Remove)) (operands_of verbs.Remove) (generic_view (command.Remove a)).slots lawful.fits_operands in
     record { user = id-given (Some a.user) lawful.fits_positions.0; group = group-given a.group (fits words.Group) }
 fields-lawful (command.AddSd a) lawful =
-    let fits = λ (w : Word). fits-at (place w (operands_of verbs.AddSd)) (operands_of verbs.AddSd) (generic_form (command.AddSd a)).slots lawful.fits_operands in
+    let fits = λ (w : Word). fits-at (place w (operands_of verbs.AddSd)) (operands_of verbs.AddSd) (generic_view (command.AddSd a)).slots lawful.fits_operands in
     record {
       profile = lawful.fits_positions.0;
       kind = (dataset-named a.profile.text a.profile lawful.fits_positions.0).kinds;
@@ -193,7 +193,7 @@ fields-lawful (command.AddSd a) lawful =
       seclabel = id-given a.seclabel (fits words.Seclabel);
     }
 fields-lawful (command.AltSd a) lawful =
-    let fits = λ (w : Word). fits-at (place w (operands_of verbs.AltSd)) (operands_of verbs.AltSd) (generic_form (command.AltSd a)).slots lawful.fits_operands in
+    let fits = λ (w : Word). fits-at (place w (operands_of verbs.AltSd)) (operands_of verbs.AltSd) (generic_view (command.AltSd a)).slots lawful.fits_operands in
     record {
       profile = lawful.fits_positions.0;
       kind = (dataset-named a.profile.text a.profile lawful.fits_positions.0).kinds;
@@ -207,7 +207,7 @@ fields-lawful (command.AltSd a) lawful =
     }
 fields-lawful (command.DelSd a) lawful = lawful.fits_positions.0
 fields-lawful (command.RDefine a) lawful =
-    let fits = λ (w : Word). fits-at (place w (operands_of verbs.RDefine)) (operands_of verbs.RDefine) (generic_form (command.RDefine a)).slots lawful.fits_operands in
+    let fits = λ (w : Word). fits-at (place w (operands_of verbs.RDefine)) (operands_of verbs.RDefine) (generic_view (command.RDefine a)).slots lawful.fits_operands in
     let known : Known = record { class = Some a.class; profile = Some a.profile } in
     record {
       class = class-given a.class lawful.fits_positions.0;
@@ -218,10 +218,10 @@ fields-lawful (command.RDefine a) lawful =
       seclevel = id-given a.seclevel (fits words.Seclevel);
       addcategory = ids-given a.addcategory (fits words.Addcategory);
       seclabel = id-given a.seclabel (fits words.Seclabel);
-      addmem = members-given a.class a.profile a.addmem (suits-at known (place words.Addmem (operands_of verbs.RDefine)) (operands_of verbs.RDefine) (generic_form (command.RDefine a)).slots lawful.suits_operands);
+      addmem = members-given a.class a.profile a.addmem (suits-at known (place words.Addmem (operands_of verbs.RDefine)) (operands_of verbs.RDefine) (generic_view (command.RDefine a)).slots lawful.suits_operands);
     }
 fields-lawful (command.RAlter a) lawful =
-    let fits = λ (w : Word). fits-at (place w (operands_of verbs.RAlter)) (operands_of verbs.RAlter) (generic_form (command.RAlter a)).slots lawful.fits_operands in
+    let fits = λ (w : Word). fits-at (place w (operands_of verbs.RAlter)) (operands_of verbs.RAlter) (generic_view (command.RAlter a)).slots lawful.fits_operands in
     let known : Known = record { class = Some a.class; profile = Some a.profile } in
     record {
       class = class-given a.class lawful.fits_positions.0;
@@ -234,12 +234,12 @@ fields-lawful (command.RAlter a) lawful =
       addcategory = ids-given a.addcategory (fits words.Addcategory);
       delcategory = ids-given a.delcategory (fits words.Delcategory);
       seclabel = id-given a.seclabel (fits words.Seclabel);
-      addmem = members-given a.class a.profile a.addmem (suits-at known (place words.Addmem (operands_of verbs.RAlter)) (operands_of verbs.RAlter) (generic_form (command.RAlter a)).slots lawful.suits_operands);
-      delmem = member-names-given a.class a.profile a.delmem (suits-at known (place words.Delmem (operands_of verbs.RAlter)) (operands_of verbs.RAlter) (generic_form (command.RAlter a)).slots lawful.suits_operands);
+      addmem = members-given a.class a.profile a.addmem (suits-at known (place words.Addmem (operands_of verbs.RAlter)) (operands_of verbs.RAlter) (generic_view (command.RAlter a)).slots lawful.suits_operands);
+      delmem = member-names-given a.class a.profile a.delmem (suits-at known (place words.Delmem (operands_of verbs.RAlter)) (operands_of verbs.RAlter) (generic_view (command.RAlter a)).slots lawful.suits_operands);
     }
 fields-lawful (command.RDelete a) lawful = record { class = class-given a.class lawful.fits_positions.0; profile = lawful.suits_positions.1.0; kind = (class-named (Some a.class) a.profile.text a.profile lawful.suits_positions.1.0).kinds }
 fields-lawful (command.Permit a) lawful =
-    let fits = λ (w : Word). fits-at (place w (operands_of verbs.Permit)) (operands_of verbs.Permit) (generic_form (command.Permit a)).slots lawful.fits_operands in
+    let fits = λ (w : Word). fits-at (place w (operands_of verbs.Permit)) (operands_of verbs.Permit) (generic_view (command.Permit a)).slots lawful.fits_operands in
     record {
       class = class-given a.class (fits words.Class);
       profile = lawful.suits_positions.0;

@@ -1,7 +1,7 @@
 pub mod Tabled
 pub mod FieldsLawful
-pub mod Formed
-pub mod OneForm
+pub mod Views
+pub mod OneCommand
 pub mod Spelled
 pub mod Written
 mod CommandRows

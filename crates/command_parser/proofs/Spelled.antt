@@ -11,11 +11,11 @@ use Rattle.command_values.specs.Results.{◌>>=◌}
 use Rattle.command_grammar.specs.Canon.{canon, spelled}
 use Rattle.command_grammar.specs.Lawful.{IsLawful}
 use Rattle.command_parser.specs.declared.fields.CommandFields.{CommandFields}
-use Rattle.command_parser.specs.Forms.{generic_form, given_by, Spells, fault}
-use Rattle.command_parser.specs.FormOf.{form_of, command_in}
+use Rattle.command_parser.specs.Canonical.{generic_view, given_by, Spells, fault}
+use Rattle.command_parser.specs.CommandOf.{command_of, command_in}
 use Rattle.command_parser.specs.LawfulFields.{AreLawfulFields}
 use Rattle.command_parser.proofs.FieldsLawful.{fields-lawful}
-use Rattle.command_parser.proofs.Formed.{form_of-generic, formed, no_form, its_form}
+use Rattle.command_parser.proofs.Views.{command_of-generic, viewed, no_command, its_command}
 
 unless_long : (long : Bool) (h g : Generic) → let kept : Result Generic Syntax = cond long (Err faults.TextTooLong) (Ok h) in kept ≡ Ok g → h ≡ g
 unless_long true h g e = cc
@@ -30,23 +30,23 @@ module _ (lawful : (at : Context) (text : List ℕ) (g : Generic) → parsed at 
   spelled_lawful at text g h = lawful at text g (parsed_of (parsed at text) g h)
 
   pub lawful_fields : (issuer text : List ℕ) (c : CommandFields) → Spells issuer text c → AreLawfulFields c
-  lawful_fields issuer text c spells = fields-lawful c (spelled_lawful (given_by issuer) text (generic_form c) spells)
+  lawful_fields issuer text c spells = fields-lawful c (spelled_lawful (given_by issuer) text (generic_view c) spells)
 
-  pub read_view : (issuer text : List ℕ) (g : Generic) → spelled (given_by issuer) text ≡ Ok g → (c : CommandFields) × (form_of g ≡ Some c) × (generic_form c ≡ g)
-  read_view issuer text g h = formed g (spelled_lawful (given_by issuer) text g h)
+  pub read_view : (issuer text : List ℕ) (g : Generic) → spelled (given_by issuer) text ≡ Ok g → (c : CommandFields) × (command_of g ≡ Some c) × (generic_view c ≡ g)
+  read_view issuer text g h = viewed g (spelled_lawful (given_by issuer) text g h)
 
-  read_one : (r : Result Generic Syntax) (c : CommandFields) → ((g : Generic) → r ≡ Ok g → IsLawful g) → option_and_then form_of (result_ok r) ≡ Some c → r ≡ Ok (generic_form c)
-  read_one (Ok g) c law h = ap (λ (x : Generic). Ok x) (sym (its_form g c (law g refl) h))
+  read_one : (r : Result Generic Syntax) (c : CommandFields) → ((g : Generic) → r ≡ Ok g → IsLawful g) → option_and_then command_of (result_ok r) ≡ Some c → r ≡ Ok (generic_view c)
+  read_one (Ok g) c law h = ap (λ (x : Generic). Ok x) (sym (its_command g c (law g refl) h))
   read_one (Err e) c law h = cc
 
   pub one : (issuer text : List ℕ) (c : CommandFields) → (Spells issuer text c ↔ (command_in issuer text ≡ Some c))
   one issuer text c = (
-    (λ h. ap (λ (r : Result Generic Syntax). option_and_then form_of (result_ok r)) h ∙ form_of-generic c),
+    (λ h. ap (λ (r : Result Generic Syntax). option_and_then command_of (result_ok r)) h ∙ command_of-generic c),
     λ h. read_one (spelled (given_by issuer) text) c (spelled_lawful (given_by issuer) text) h,
   )
 
-  has_fault : (r : Result Generic Syntax) → ((g : Generic) → r ≡ Ok g → IsLawful g) → option_and_then form_of (result_ok r) ≡ None → IsSome (result_err r)
-  has_fault (Ok g) law h = absurd (no_form g (law g refl) h)
+  has_fault : (r : Result Generic Syntax) → ((g : Generic) → r ≡ Ok g → IsLawful g) → option_and_then command_of (result_ok r) ≡ None → IsSome (result_err r)
+  has_fault (Ok g) law h = absurd (no_command g (law g refl) h)
   has_fault (Err e) law h = refl
 
   pub none : (issuer text : List ℕ) → command_in issuer text ≡ None → IsSome (fault issuer text)

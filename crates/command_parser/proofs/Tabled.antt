@@ -9,7 +9,7 @@ use Rattle.command_grammar.specs.Canon.{value_text, positions_text, operands_tex
 use Rattle.command_parser.specs.declared.fields.CommandFields.{CommandFields}
 use Rattle.command_parser.specs.declared.fields.CommandFields.TheVariants as command
 use Rattle.command_parser.specs.Operands.{Given, values_of, words_of, verb_of, names_of, operands_of_command}
-use Rattle.command_parser.specs.Forms.{generic_form, operand_text, operands_text, canonical}
+use Rattle.command_parser.specs.Canonical.{generic_view, operand_text, operands_text, canonical}
 
 abbrev table_words : List Operand → List Word
 table_words os = map (λ (o : Operand). o.word) os
@@ -48,6 +48,6 @@ written-so (o ∷ os) (g ∷ gs) h =
     let more : words_of gs ≡ table_words os = cc in
     one-written o g.0 g.1 os gs here (written-so os gs more)
 
-pub canonical-canon : (c : CommandFields) → canonical c ≡ canon (generic_form c)
+pub canonical-canon : (c : CommandFields) → canonical c ≡ canon (generic_view c)
 unfolding canonical canon
 canonical-canon c = ap (λ (bs : List ℕ). full_name (verb_of c) ++ (positions_text (names_of c) ++ bs)) (sym (written-so (operands_of (verb_of c)) (operands_of_command c) (words-tabled c)))

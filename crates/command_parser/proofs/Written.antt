@@ -6,13 +6,13 @@ use Rattle.command_values.specs.declared.values.Context.{Context}
 use Rattle.command_parser.specs.declared.fields.CommandFields.{CommandFields}
 use Rattle.command_grammar.specs.Reading.{Generic}
 use Rattle.command_grammar.specs.Canon.{canon, spelled}
-use Rattle.command_parser.specs.Forms.{generic_form, given_by, IsWritten}
+use Rattle.command_parser.specs.Canonical.{generic_view, given_by, IsWritten}
 use Rattle.command_parser.proofs.Tabled.{canonical-canon}
 
 not_long : (n : ℕ) → n ≤ 30000 → nat_lt 30000 n ≡ false
 not_long n h = grind (arith, nat_tests)
 
-pub written : (c : CommandFields) (g : Generic) (text : List ℕ) → generic_form c ≡ g → text ≡ canon g → length text ≤ 30000
+pub written : (c : CommandFields) (g : Generic) (text : List ℕ) → generic_view c ≡ g → text ≡ canon g → length text ≤ 30000
     → ((at : Context) → nat_lt 30000 (length (canon g)) ≡ false → spelled at (canon g) ≡ Ok g) → IsWritten c text
 written c g text seen same short again =
     let few : length (canon g) ≤ 30000 = subst (λ (bs : List ℕ). length bs ≤ 30000) same short in

@@ -5,9 +5,9 @@ ghost use Rattle.access_levels.specs.Spelling.{group_of};
 ghost use Rattle.command_parser.specs.declared.fields.CommandFields.{CommandFields};
 ghost use Rattle.command_values.specs.Results.{Gives};
 ghost use Rattle.command_grammar.specs.Canon.{spelled};
-ghost use Rattle.command_parser.specs.Forms.{generic_form, canonical, Spells, IsFault, IsUnlessMemory};
+ghost use Rattle.command_parser.specs.Canonical.{generic_view, canonical, Spells, IsFault, IsUnlessMemory};
 
-use crate::convert::form;
+use crate::convert::command_fields;
 use crate::fields::CommandFields;
 use access_levels::Id;
 use command_grammar::{LONGEST, laws, printed, read};
@@ -43,20 +43,20 @@ impl Issuer {
 #[derive(Drop)]
 pub struct Command {
     /// Which command it is, and its fields.
-    form: CommandFields,
+    fields: CommandFields,
     /// Its canonical text.
     text: Vec<u8>,
 }
 
 impl Model for Command {
     ghost use Rattle.command_parser.specs.declared.fields.CommandFields.{CommandFields};
-    ghost use Rattle.command_parser.specs.Forms.{IsWritten};
+    ghost use Rattle.command_parser.specs.Canonical.{IsWritten};
 
     ghost Value = { CommandFields };
 
-    ghost view = { λ c. c.form };
+    ghost view = { λ c. c.fields };
 
-    ghost invariant = { λ c. IsWritten c.form c.text.items };
+    ghost invariant = { λ c. IsWritten c.fields c.text.items };
 }
 
 impl Command {
@@ -64,7 +64,7 @@ impl Command {
     pub fn fields(&self) -> &CommandFields
         ensures { result.now ≡ self.now }
     {
-        &self.form
+        &self.fields
     }
 
     /// Its canonical text.
@@ -77,7 +77,7 @@ impl Command {
 
 /// What the text spells.
 fn parse_exact(alloc: Global, at: &Context, text: &[u8]) -> Result<Command, ParseFault>
-    ensures { Gives generic_form result (spelled at.now text.now) }
+    ensures { Gives generic_view result (spelled at.now text.now) }
 {
     laws::what_is_read_is_lawful();
     laws::canonical_text_is_read_again();
@@ -86,9 +86,9 @@ fn parse_exact(alloc: Global, at: &Context, text: &[u8]) -> Result<Command, Pars
     if canonical.len() > LONGEST {
         return Err(ParseFault::Syntax(Syntax::TextTooLong));
     }
-    let form = form(alloc, parts);
+    let fields = command_fields(alloc, parts);
     Ok(Command {
-        form,
+        fields,
         text: canonical,
     })
 }
@@ -119,9 +119,10 @@ pub fn print(command: &Command, out: &mut Vec<u8>) -> Result<(), NoMemory>
     out.extend_from_slice(command.text())
 }
 
-/// The law of both directions: the canonical text of a command spells it, whoever gives it.
+/// The law of both directions: the canonical text of a command spells it, whoever gives it. It does nothing: its contract
+/// is what it is for.
 pub fn printed_is_read(command: &Command)
     ensures { (issuer : List ℕ) → Spells issuer (canonical command.now) command.now }
 {
-    let _form = &command.form;
+    let _fields = &command.fields;
 }

@@ -4,8 +4,8 @@ ghost use Rattle.std.specs.Prelude.{◌≡◌};
 ghost use Rattle.command_grammar.specs.Lawful.{IsLawful};
 ghost use Rattle.command_grammar.specs.Parts.{generic};
 ghost use Rattle.command_parser.specs.Fields.{only_id as only_id_in, only_profile as only_profile_in, class_and_profile as class_and_profile_in};
-ghost use Rattle.command_parser.specs.FormOf.{form_of};
-ghost use Rattle.command_parser.specs.Forms.{generic_form};
+ghost use Rattle.command_parser.specs.CommandOf.{command_of};
+ghost use Rattle.command_parser.specs.Canonical.{generic_view};
 
 use crate::convert_profiles::{add_sd, alt_sd, permit, r_alter, r_define};
 use crate::convert_users::{add_group, add_user, alt_group, alt_user, connect, remove};
@@ -48,9 +48,9 @@ fn class_and_profile(words: &[Content]) -> Option<(Id, Pattern)>
 }
 
 /// The command of which this is the table's view, if there is one.
-#[tactic(auto, unfolding(crate::specs::FormOf::form_of))]
-fn form_in(alloc: Global, parts: Parts) -> Option<CommandFields>
-    ensures { result ≡ form_of (generic parts) }
+#[tactic(auto, unfolding(crate::specs::CommandOf::command_of))]
+fn command_in_parts(alloc: Global, parts: Parts) -> Option<CommandFields>
+    ensures { result ≡ command_of (generic parts) }
 {
     let Parts {
         verb,
@@ -87,12 +87,12 @@ fn form_in(alloc: Global, parts: Parts) -> Option<CommandFields>
 }
 
 /// The command of which this is the table's view.
-pub fn form(alloc: Global, parts: Parts) -> CommandFields
+pub fn command_fields(alloc: Global, parts: Parts) -> CommandFields
     requires { IsLawful (generic parts) }
-    ensures { generic_form result ≡ generic parts }
+    ensures { generic_view result ≡ generic parts }
 {
-    match form_in(alloc, parts) {
-        Some(form) => form,
+    match command_in_parts(alloc, parts) {
+        Some(fields) => fields,
         None => unreachable!(),
     }
 }

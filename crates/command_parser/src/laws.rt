@@ -7,16 +7,16 @@ ghost use Rattle.command_parser.specs.declared.fields.CommandFields.{CommandFiel
 ghost use Rattle.command_grammar.specs.declared.table.Operand.{Operand};
 ghost use Rattle.command_grammar.specs.Table.{operands_of};
 ghost use Rattle.command_parser.specs.Operands.{words_of, verb_of, operands_of_command};
-ghost use Rattle.command_parser.specs.Forms.{generic_form, canonical, given_by, Spells, fault};
-ghost use Rattle.command_parser.specs.FormOf.{form_of, command_in};
+ghost use Rattle.command_parser.specs.Canonical.{generic_view, canonical, given_by, Spells, fault};
+ghost use Rattle.command_parser.specs.CommandOf.{command_of, command_in};
 ghost use Rattle.command_parser.specs.LawfulFields.{AreLawfulFields};
 
 use command_grammar::laws::what_is_read_is_lawful;
 
 /// A command is read back from the table's view of it, and what a text is read as is the view of a command.
 pub fn views_are_of_commands()
-    ensures back { (command : CommandFields) → form_of (generic_form command) ≡ Some command }
-    ensures read { (issuer text : List ℕ) (view : Generic) → spelled (given_by issuer) text ≡ Ok view → (command : CommandFields) × (form_of view ≡ Some command) × (generic_form command ≡ view) }
+    ensures back { (command : CommandFields) → command_of (generic_view command) ≡ Some command }
+    ensures read { (issuer text : List ℕ) (view : Generic) → spelled (given_by issuer) text ≡ Ok view → (command : CommandFields) × (command_of view ≡ Some command) × (generic_view command ≡ view) }
 {
     what_is_read_is_lawful();
 }
@@ -40,5 +40,5 @@ pub fn fields_of_a_text_are_lawful()
 /// the table's reader reads.
 pub fn operands_are_the_tables()
     ensures words { (command : CommandFields) → words_of (operands_of_command command) ≡ map (λ (o : Operand). o.word) (operands_of (verb_of command)) }
-    ensures text { (command : CommandFields) → canonical command ≡ canon (generic_form command) }
+    ensures text { (command : CommandFields) → canonical command ≡ canon (generic_view command) }
 {}

@@ -11,6 +11,7 @@ use Rattle.generic_names.specs.declared.fault.NameFault.{NameFault}
 use Rattle.generic_names.specs.declared.fault.NameFault.TheVariants.{Empty, TooLong, EmptyQualifier, QualifierTooLong, BadByte, StarInside, GenericFirst}
 use Rattle.generic_names.specs.Spelled.{Spelled, qualifiers}
 use Rattle.generic_names.specs.Faults.{pattern_of, member_of, is_letter, is_digit, is_ordinary, unless, longest, is_too_long, is_generic_first}
+use Rattle.generic_names.proofs.Bools.{either}
 
 -- what is wrong with a byte, a qualifier, a text that is to be a profile's name
 abbrev byte_wrong : NameKind → Bool → Bool → ℕ → ℕ → Option NameFault
@@ -85,10 +86,6 @@ named-digit b h = letter-or-digit (is_letter b) (is_digit b) b (digit-second (is
 
 named-code : (b c : ℕ) → (b == c) ≡ true → is_name_byte c ≡ true → is_name_byte b ≡ true
 named-code b c h named = let same : b ≡ c = eqb-true b c h in subst (λ (n : ℕ). is_name_byte n ≡ true) (sym same) named
-
-either : {P : Type 0} (a b : Bool) → (a || b) ≡ true → (a ≡ true → P) → (b ≡ true → P) → P
-either true b h one other = one refl
-either false b h one other = other h
 
 named-ordinary : (kind : NameKind) (first : Bool) (b : ℕ) → is_ordinary kind first b ≡ true → is_name_byte b ≡ true
 named-ordinary DataSet first b h =

@@ -20,6 +20,8 @@ use Rattle.command_words.specs.Bytes.{is_faulty_byte, upper}
 use Rattle.command_words.specs.ValuedWords.{faulty_at}
 use Rattle.command_words.proofs.Letters.{is_letter, letter-quote, both_first, both_second}
 use Rattle.command_values.specs.ProfileNames.{dataset_profile, general_profile, if_label, is_level_or_category, profile_in, form_in, general_form, class_profile, in_quotes, dataset_named}
+use Rattle.generic_names.proofs.Bools.{either}
+use Rattle.command_values.proofs.Names.{result_ok-some}
 
 -- a byte that stands as itself in a command: of a word, no quote, lawful and in upper case
 abbrev pub is_sound_byte : ℕ → Bool
@@ -33,10 +35,6 @@ sound-digit b h = grind (arith, nat_tests)
 
 sound-code : (b c : ℕ) → (b == c) ≡ true → is_sound_byte c ≡ true → is_sound_byte b ≡ true
 sound-code b c h sound = let same : b ≡ c = eqb-true b c h in subst (λ (n : ℕ). is_sound_byte n ≡ true) (sym same) sound
-
-either : {P : Type 0} (a b : Bool) → (a || b) ≡ true → (a ≡ true → P) → (b ≡ true → P) → P
-either true b h one other = one refl
-either false b h one other = other h
 
 sound-byte : (b : ℕ) → is_name_byte b ≡ true → is_sound_byte b ≡ true
 sound-byte b h =
@@ -98,10 +96,6 @@ sound-faultless p (b ∷ x) h = rw (byte-faultless b (both_first (is_sound_byte 
 sound-upper : (x : List ℕ) → list_all is_sound_byte x ≡ true → map upper x ≡ x
 sound-upper [] h = refl
 sound-upper (b ∷ x) h = rw (byte-upper b (both_first (is_sound_byte b) (list_all is_sound_byte x) h)) (ap (λ bs. b ∷ bs) (sound-upper x (both_second (is_sound_byte b) (list_all is_sound_byte x) h)))
-
-result_ok-some : {A E : Type 0} (r : Result A E) (x : A) → result_ok r ≡ Some x → r ≡ Ok x
-result_ok-some (Ok y) x h = cc
-result_ok-some (Err e) x h = cc
 
 some-of : (t : List ℕ) → (t ≡ [] → ⊥) → IsSome t
 some-of [] h = h refl

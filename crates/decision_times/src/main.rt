@@ -22,15 +22,15 @@
 mod lists;
 mod lookups;
 mod questions;
-mod system;
 mod row_words;
+mod system;
 
 use anyhow::{Result, anyhow};
 use lists::List;
 use questions::Questions;
+use row_words::{id, level, parted, request, times};
 use std::alloc::Global;
 use system::System;
-use row_words::{id, level, parted, request, times};
 
 /// What the rows have made.
 #[derive(Drop)]

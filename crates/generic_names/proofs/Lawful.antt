@@ -12,6 +12,7 @@ use Rattle.generic_names.specs.declared.fault.NameFault.TheVariants.{Empty, TooL
 use Rattle.generic_names.specs.Spelled.{Spelled, qualifiers}
 use Rattle.generic_names.specs.Faults.{pattern_of, is_letter, is_digit, is_ordinary, byte_fault, bytes_fault, qualifier_fault, qualifiers_fault, fault_of, unless, longest, is_too_long, is_whole, is_generic_first}
 use Rattle.generic_names.specs.Laws.{IsResource, IsPattern}
+use Rattle.generic_names.proofs.Bools.{either}
 
 -- a byte that stands for itself in a pattern
 pub record IsPlain (b : ℕ) : Type 0 where
@@ -24,10 +25,6 @@ plain_letter b h = grind (arith, nat_tests)
 
 plain_digit : (b : ℕ) → is_digit b ≡ true → (47 < b) × (b < 58)
 plain_digit b h = grind (arith, nat_tests)
-
-either : {P : Type 0} (a b : Bool) → (a || b) ≡ true → (a ≡ true → P) → (b ≡ true → P) → P
-either true b h one other = one refl
-either false b h one other = other h
 
 both : {P : Type 0} (a b : Bool) → (a && b) ≡ true → (b ≡ true → P) → P
 both true b h k = k h

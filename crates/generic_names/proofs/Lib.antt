@@ -1,3 +1,4 @@
+pub mod Bools
 mod QualifierLaws
 mod FaultLaws
 mod CoverLaws

@@ -29,7 +29,7 @@ same_who (Named id) (Named other) h = ap (λ n. Named n) (same id other h)
 like-who : (a b c : Who) → is_same_who a b ≡ true → is_same_who a c ≡ false → is_same_who b c ≡ false
 like-who a b c e f = ap (λ w. is_same_who w c) (sym (same_who a b e)) ∙ f
 
-both : (a b : Bool) → (a && b) ≡ true → (a ≡ true) × (b ≡ true)
+pub both : (a b : Bool) → (a && b) ≡ true → (a ≡ true) × (b ≡ true)
 both true true h = (refl, refl)
 both true false h = absurd (true≢false (sym h))
 both false b h = absurd (true≢false (sym h))

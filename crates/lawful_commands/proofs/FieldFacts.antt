@@ -35,6 +35,7 @@ use Rattle.command_parser.specs.LawfulFields.{IsUserName, IsClauthWord, IsDataSe
 use Rattle.command_effects.specs.ProfileEffects.{dataset}
 use Rattle.lawful_commands.proofs.MemberLists.{is_fitting}
 use Rattle.lawful_commands.proofs.ProfileNames.{is_spelled_by}
+use Rattle.lawful_commands.proofs.EntryLists.{both}
 
 pub each-all : {X : Type 0} (P Q : X → Type 0) → ((x : X) → P x → Q x) → (xs : List X) → Each P xs → AllByRecursion Q xs
 each-all P Q f [] h = tt
@@ -43,11 +44,6 @@ each-all P Q f (x ∷ xs) h = (f x h.0, each-all P Q f xs h.1)
 if-some : {X : Type 0} (P Q : X → Type 0) → ((x : X) → P x → Q x) → (given : Option X) → IfSome given P → IfSome given Q
 if-some P Q f None h = h
 if-some P Q f (Some x) h = f x h
-
-both : (a b : Bool) → (a && b) ≡ true → (a ≡ true) × (b ≡ true)
-both true true h = (refl, refl)
-both true false h = absurd (true≢false (sym h))
-both false b h = absurd (true≢false (sym h))
 
 -- ---- users
 name-printable : (text : List ℕ) → IsUserName text → is_user_name text ≡ true

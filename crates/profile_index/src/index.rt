@@ -1,6 +1,7 @@
 ghost use Rattle.std.specs.Prelude.{◌≡◌, ◌+◌, ◌-◌, ◌*◌, ◌^◌, ◌<◌, ◌≤◌, [], length, max, find, IsOk, IfOk, OnOk, OnErr, Some, is_some, if◌then◌else◌};
 ghost use Rattle.std.specs.Option.{option_map};
 ghost use Rattle.generic_names.specs.Best.{best, IsInOrder, AreNamed};
+ghost use Rattle.generic_names.specs.Laws.{IsPattern};
 ghost use Rattle.std.specs.List.{slice_get};
 
 use crate::entry::Entry;
@@ -121,8 +122,7 @@ impl<T> Index<T> {
         ensures kinds { AreOf name.kind self.new.entries }
         ensures spare { self.new.spare + 1 ≡ self.old.spare }
     {
-        // That the text is a pattern's is what the laws of the order rest on.
-        let _ = name.text();
+        is_spelled(&name);
         let place = end_of_those_before(&self.slots, &name);
         self.slots.insert(place, Entry { name, item });
     }
@@ -141,4 +141,11 @@ impl<T> Index<T> {
         let Entry { name: _, item } = self.slots.remove(place);
         Some(item)
     }
+}
+
+/// That its text spells it is what the laws of the order rest on. It does nothing: its contract is what it is for.
+fn is_spelled(name: &Pattern)
+    ensures { IsPattern name.now }
+{
+    let _text = name.text();
 }

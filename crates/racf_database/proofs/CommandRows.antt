@@ -10,7 +10,7 @@ use Rattle.command_parser.specs.declared.fields.AddUser.{AddUser}
 use Rattle.command_parser.specs.declared.fields.AltUser.{AltUser}
 use Rattle.command_parser.specs.declared.fields.Connect.{Connect}
 use Rattle.command_parser.specs.declared.fields.CommandFields.{CommandFields}
-use Rattle.command_parser.specs.declared.fields.CommandFields.TheVariants as form
+use Rattle.command_parser.specs.declared.fields.CommandFields.TheVariants as fields
 use Rattle.command_effects.specs.Effects.{step}
 use Rattle.command_conflicts.specs.Conflicts.{conflict_of, no_user, no_owner, no_group, no_named_group, no_class, name_taken, not_connected, default_not_connected, has_subgroup, has_connected, has_profile, cycle, owner_not_superior, default_group, last_special, unknown_level, unknown_category, never_category, unknown_label, is_root, meets, users_full, groups_full, connections_full, user_full, add_user_conflicts, alt_user_conflicts, del_user_conflicts, add_group_conflicts, alt_group_conflicts, del_group_conflicts, connect_conflicts, remove_conflicts}
 
@@ -44,25 +44,25 @@ abbrev connect : List ℕ → Option (List ℕ) → Connect
 connect user group = record { user = user; group = group; authority = None; special = false; nospecial = false; operations = false; nooperations = false; auditor = false; noauditor = false; revoke = false; resume = false }
 
 abbrev au : List ℕ → CommandFields
-au user = form.AddUser (add_user user)
+au user = fields.AddUser (add_user user)
 
 abbrev au_in : List ℕ → List ℕ → CommandFields
-au_in user group = form.AddUser (record (add_user user) { dfltgrp = Some group })
+au_in user group = fields.AddUser (record (add_user user) { dfltgrp = Some group })
 
 abbrev du : List ℕ → CommandFields
-du user = form.DelUser (record { user = user })
+du user = fields.DelUser (record { user = user })
 
 abbrev ag : List ℕ → Option (List ℕ) → Option (List ℕ) → CommandFields
-ag group superior owner = form.AddGroup (record { group = group; supgroup = superior; owner = owner })
+ag group superior owner = fields.AddGroup (record { group = group; supgroup = superior; owner = owner })
 
 abbrev alg : List ℕ → Option (List ℕ) → Option (List ℕ) → CommandFields
-alg group superior owner = form.AltGroup (record { group = group; supgroup = superior; owner = owner })
+alg group superior owner = fields.AltGroup (record { group = group; supgroup = superior; owner = owner })
 
 abbrev dg : List ℕ → CommandFields
-dg group = form.DelGroup (record { group = group })
+dg group = fields.DelGroup (record { group = group })
 
 abbrev re : List ℕ → List ℕ → CommandFields
-re user group = form.Remove (record { user = user; group = Some group })
+re user group = fields.Remove (record { user = user; group = Some group })
 
 -- AG A OWNER(SYS1) | AG B SUPGROUP(A) OWNER(A) | ALG A SUPGROUP(B) OWNER(B) | DG A | AU JOE DFLTGRP(B) | DG B | RE JOE GROUP(B) | DU JOE | DG B | DG SYS1
 groups_come_and_go : outcomes (ag (codes "A") None (Some (codes "SYS1")) ∷ ag (codes "B") (Some (codes "A")) (Some (codes "A")) ∷ alg (codes "A") (Some (codes "B")) (Some (codes "B")) ∷ dg (codes "A") ∷ au_in (codes "JOE") (codes "B") ∷ dg (codes "B") ∷ re (codes "JOE") (codes "B") ∷ du (codes "JOE") ∷ dg (codes "B") ∷ dg (codes "SYS1") ∷ []) start
@@ -71,5 +71,5 @@ unfolding no_user no_owner no_group no_named_group no_class name_taken not_conne
 groups_come_and_go = refl
 
 -- AU SYS1 SECLEVEL(TOP): what isn't built comes before all else
-not_built : conflict_of ibm (form.AddUser (record (add_user (codes "SYS1")) { seclevel = Some (codes "TOP") })) start ≡ Some NotBuilt
+not_built : conflict_of ibm (fields.AddUser (record (add_user (codes "SYS1")) { seclevel = Some (codes "TOP") })) start ≡ Some NotBuilt
 not_built = refl

@@ -11,7 +11,7 @@ use Rattle.command_parser.specs.declared.commands.Issuer.{Issuer}
 use Rattle.command_parser.specs.declared.fields.AddUser.{AddUser}
 use Rattle.command_parser.specs.declared.fields.AddGroup.{AddGroup}
 use Rattle.command_parser.specs.declared.fields.CommandFields.{CommandFields}
-use Rattle.command_parser.specs.declared.fields.CommandFields.TheVariants as form
+use Rattle.command_parser.specs.declared.fields.CommandFields.TheVariants as fields
 use Rattle.command_effects.specs.Effects.{at_row, step, new_user, altered_user, new_group, altered_group, connected_user, removed_user}
 use Rattle.command_effects.specs.Edits.{edits_of, put_user, put_group}
 use Rattle.command_conflicts.specs.Conflicts.{first_met, conflicts, add_user_conflicts, add_group_conflicts}
@@ -58,18 +58,18 @@ add_group-free issuer c rows h = name_free c.group rows (each_unmet (add_group_c
 
 -- ---- each command
 pub changed-edits_of : (issuer : Issuer) (command : CommandFields) (rows : Rows) → first_met (conflicts issuer command rows) ≡ None → changed (edits_of issuer command rows) rows ≡ step issuer command rows
-changed-edits_of issuer (form.AddUser c) rows h = ap (λ (us : List User). record rows { users = us }) (put_row-new (is_user c.user) (new_user issuer c rows) rows.users (add_user-free issuer c rows h).0)
-changed-edits_of issuer (form.AltUser c) rows h = changed-users (altered_user c rows) (λ user. refl) c.user rows
-changed-edits_of issuer (form.DelUser c) rows h = refl
-changed-edits_of issuer (form.AddGroup c) rows h = ap (λ (gs : List Group). record rows { groups = gs }) (put_row-new (is_group c.group) (new_group issuer c) rows.groups (add_group-free issuer c rows h).1)
-changed-edits_of issuer (form.AltGroup c) rows h = changed-groups (altered_group c) (λ group. refl) c.group rows
-changed-edits_of issuer (form.DelGroup c) rows h = refl
-changed-edits_of issuer (form.Connect c) rows h = changed-users (connected_user issuer c) (λ user. refl) c.user rows
-changed-edits_of issuer (form.Remove c) rows h = changed-users (removed_user issuer c) (λ user. refl) c.user rows
-changed-edits_of issuer (form.AddSd c) rows h = refl
-changed-edits_of issuer (form.AltSd c) rows h = changed-put_changed dataset c.profile (altered_data_set c rows) rows
-changed-edits_of issuer (form.DelSd c) rows h = refl
-changed-edits_of issuer (form.RDefine c) rows h = changed-r_define issuer c rows
-changed-edits_of issuer (form.RAlter c) rows h = changed-r_alter c rows
-changed-edits_of issuer (form.RDelete c) rows h = refl
-changed-edits_of issuer (form.Permit c) rows h = changed-put_changed c.class c.profile (permitted_profile c) rows
+changed-edits_of issuer (fields.AddUser c) rows h = ap (λ (us : List User). record rows { users = us }) (put_row-new (is_user c.user) (new_user issuer c rows) rows.users (add_user-free issuer c rows h).0)
+changed-edits_of issuer (fields.AltUser c) rows h = changed-users (altered_user c rows) (λ user. refl) c.user rows
+changed-edits_of issuer (fields.DelUser c) rows h = refl
+changed-edits_of issuer (fields.AddGroup c) rows h = ap (λ (gs : List Group). record rows { groups = gs }) (put_row-new (is_group c.group) (new_group issuer c) rows.groups (add_group-free issuer c rows h).1)
+changed-edits_of issuer (fields.AltGroup c) rows h = changed-groups (altered_group c) (λ group. refl) c.group rows
+changed-edits_of issuer (fields.DelGroup c) rows h = refl
+changed-edits_of issuer (fields.Connect c) rows h = changed-users (connected_user issuer c) (λ user. refl) c.user rows
+changed-edits_of issuer (fields.Remove c) rows h = changed-users (removed_user issuer c) (λ user. refl) c.user rows
+changed-edits_of issuer (fields.AddSd c) rows h = refl
+changed-edits_of issuer (fields.AltSd c) rows h = changed-put_changed dataset c.profile (altered_data_set c rows) rows
+changed-edits_of issuer (fields.DelSd c) rows h = refl
+changed-edits_of issuer (fields.RDefine c) rows h = changed-r_define issuer c rows
+changed-edits_of issuer (fields.RAlter c) rows h = changed-r_alter c rows
+changed-edits_of issuer (fields.RDelete c) rows h = refl
+changed-edits_of issuer (fields.Permit c) rows h = changed-put_changed c.class c.profile (permitted_profile c) rows

@@ -1,6 +1,6 @@
 mod Bytes
 pub mod LineLaws
 mod LineRows
-mod Rises
+pub mod Rises
 mod ScanLaws
 mod SlotLaws

@@ -53,7 +53,7 @@ comes_first-put name x (y ∷ ys) first others = ⊎_elim
     (cases_Bool (is_profile x.name y))
 
 -- Names of one kind and one text are the same name.
-same_spelled : (a b : Spelled) → a.kind ≡ b.kind → bytes_eq a.text b.text ≡ true → a ≡ b
+pub same_spelled : (a b : Spelled) → a.kind ≡ b.kind → bytes_eq a.text b.text ≡ true → a ≡ b
 same_spelled a b kind text =
     ap (λ (k : NameKind). let name : Spelled = record { kind = k; text = a.text } in name) kind
     ∙ ap (λ (t : List ℕ). let name : Spelled = record { kind = b.kind; text = t } in name) ((bytes_eq-Decides a.text b.text).0 text)

@@ -3,7 +3,7 @@ mod JoinRows
 pub mod Folds
 pub mod Walk
 pub mod MarkLaws
-pub mod Forms
+pub mod CommandsRead
 pub mod FrontLaws
 pub mod StatementLaws
 pub mod Pieces

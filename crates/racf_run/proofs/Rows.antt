@@ -8,7 +8,7 @@ use Rattle.command_grammar.specs.Canon.{canon}
 use Rattle.command_values.specs.ProfileNames.{form_in}
 use Rattle.command_grammar.specs.Reading.{parsed}
 use Rattle.command_parser.specs.Fields.{front, behind}
-use Rattle.command_parser.specs.FormOf.{form_of}
+use Rattle.command_parser.specs.CommandOf.{command_of}
 use Rattle.command_words.specs.Tokens.{tokens}
 use Rattle.command_conflicts.specs.Conflicts.{is_root, has_subgroup, has_connected, has_profile, meets, cycle, owner_not_superior, default_group, last_special, users_full, groups_full, connections_full, user_full, add_user_conflicts, alt_user_conflicts, del_user_conflicts, add_group_conflicts, alt_group_conflicts, del_group_conflicts, connect_conflicts, remove_conflicts}
 use Rattle.command_conflicts.specs.ProfileConflicts.{no_first_qualifier, no_permitted, no_such_class, no_resource_class, no_global_class, no_profile, profile_taken, not_generic, class_profiles_full, profiles_full, standard_full, conditional_full, entries_full, members_full, no_resource_profile, add_sd_requirements, add_sd_limits, r_define_requirements, r_define_limits, categories_full, alt_sd_conflicts, del_sd_conflicts, r_alter_conflicts, r_delete_conflicts, permit_conflicts}
@@ -39,7 +39,7 @@ first : Prints
     (codes "1 ACCEPTED\n1 0 VERIFIED\n1 0 UACC BPX.X READ\n1 8 INSUFFICIENT BPX.X READ\n1 4 NOPROFILE\n"
     ++ codes "1 REFUSED EXISTS BPX.X\n1 REFUSED NOACEE B\n2 ACCEPTED\n")
     Refusals
-unfolding digits canon form_in parsed front behind form_of tokens is_root has_subgroup has_connected has_profile meets cycle owner_not_superior default_group last_special users_full groups_full connections_full user_full add_user_conflicts alt_user_conflicts del_user_conflicts add_group_conflicts alt_group_conflicts del_group_conflicts connect_conflicts remove_conflicts no_first_qualifier no_permitted no_such_class no_resource_class no_global_class no_profile profile_taken not_generic class_profiles_full profiles_full standard_full conditional_full entries_full members_full no_resource_profile add_sd_requirements add_sd_limits r_define_requirements r_define_limits categories_full alt_sd_conflicts del_sd_conflicts r_alter_conflicts r_delete_conflicts permit_conflicts no_user no_group no_owner no_named_group no_class name_taken not_connected default_not_connected unknown_level unknown_category never_category unknown_label is_other_command read_command request_of is_request reply_line stream new_stream request command step text as_number next deleted number_after asked_by verified_by requested read words_at answer_line acee_of decided verified
+unfolding digits canon form_in parsed front behind command_of tokens is_root has_subgroup has_connected has_profile meets cycle owner_not_superior default_group last_special users_full groups_full connections_full user_full add_user_conflicts alt_user_conflicts del_user_conflicts add_group_conflicts alt_group_conflicts del_group_conflicts connect_conflicts remove_conflicts no_first_qualifier no_permitted no_such_class no_resource_class no_global_class no_profile profile_taken not_generic class_profiles_full profiles_full standard_full conditional_full entries_full members_full no_resource_profile add_sd_requirements add_sd_limits r_define_requirements r_define_limits categories_full alt_sd_conflicts del_sd_conflicts r_alter_conflicts r_delete_conflicts permit_conflicts no_user no_group no_owner no_named_group no_class name_taken not_connected default_not_connected unknown_level unknown_category never_category unknown_label is_other_command read_command request_of is_request reply_line stream new_stream request command step text as_number next deleted number_after asked_by verified_by requested read words_at answer_line acee_of decided verified
 first = record { prints = refl; ends = refl }
 
 -- Profiles that cover one name, taken away from the most specific one on.
@@ -50,7 +50,7 @@ profiles : Prints
     (codes "1 ACCEPTED\n2 ACCEPTED\n3 ACCEPTED\n3 0 VERIFIED\n3 8 INSUFFICIENT A.B NONE\n4 ACCEPTED\n"
     ++ codes "4 0 UACC A.B* UPDATE\n5 ACCEPTED\n5 0 UACC A.** READ\n5 4 NOPROFILE\n")
     Done
-unfolding digits canon form_in parsed front behind form_of tokens is_root has_subgroup has_connected has_profile meets cycle owner_not_superior default_group last_special users_full groups_full connections_full user_full add_user_conflicts alt_user_conflicts del_user_conflicts add_group_conflicts alt_group_conflicts del_group_conflicts connect_conflicts remove_conflicts no_first_qualifier no_permitted no_such_class no_resource_class no_global_class no_profile profile_taken not_generic class_profiles_full profiles_full standard_full conditional_full entries_full members_full no_resource_profile add_sd_requirements add_sd_limits r_define_requirements r_define_limits categories_full alt_sd_conflicts del_sd_conflicts r_alter_conflicts r_delete_conflicts permit_conflicts no_user no_group no_owner no_named_group no_class name_taken not_connected default_not_connected unknown_level unknown_category never_category unknown_label is_other_command read_command request_of is_request reply_line stream new_stream request command step text as_number next deleted number_after asked_by verified_by requested read words_at answer_line acee_of decided verified
+unfolding digits canon form_in parsed front behind command_of tokens is_root has_subgroup has_connected has_profile meets cycle owner_not_superior default_group last_special users_full groups_full connections_full user_full add_user_conflicts alt_user_conflicts del_user_conflicts add_group_conflicts alt_group_conflicts del_group_conflicts connect_conflicts remove_conflicts no_first_qualifier no_permitted no_such_class no_resource_class no_global_class no_profile profile_taken not_generic class_profiles_full profiles_full standard_full conditional_full entries_full members_full no_resource_profile add_sd_requirements add_sd_limits r_define_requirements r_define_limits categories_full alt_sd_conflicts del_sd_conflicts r_alter_conflicts r_delete_conflicts permit_conflicts no_user no_group no_owner no_named_group no_class name_taken not_connected default_not_connected unknown_level unknown_category never_category unknown_label is_other_command read_command request_of is_request reply_line stream new_stream request command step text as_number next deleted number_after asked_by verified_by requested read words_at answer_line acee_of decided verified
 profiles = record { prints = refl; ends = refl }
 
 -- A command in two lines, the first faults of three texts, a name that the issuer's ID goes before, and commands that
@@ -62,7 +62,7 @@ texts : Prints
     ++ codes "1 REFUSED SYNTAX UNKNOWNCOMMAND\n2 ACCEPTED\n3 ACCEPTED\n3 REFUSED NOTBUILT\n"
     ++ codes "3 REFUSED NOPROFILE DATASET IBMUSER.TEST.DATA\n")
     Refusals
-unfolding digits canon form_in parsed front behind form_of tokens is_root has_subgroup has_connected has_profile meets cycle owner_not_superior default_group last_special users_full groups_full connections_full user_full add_user_conflicts alt_user_conflicts del_user_conflicts add_group_conflicts alt_group_conflicts del_group_conflicts connect_conflicts remove_conflicts no_first_qualifier no_permitted no_such_class no_resource_class no_global_class no_profile profile_taken not_generic class_profiles_full profiles_full standard_full conditional_full entries_full members_full no_resource_profile add_sd_requirements add_sd_limits r_define_requirements r_define_limits categories_full alt_sd_conflicts del_sd_conflicts r_alter_conflicts r_delete_conflicts permit_conflicts no_user no_group no_owner no_named_group no_class name_taken not_connected default_not_connected unknown_level unknown_category never_category unknown_label is_other_command read_command request_of is_request reply_line stream new_stream request command step text as_number next deleted number_after asked_by verified_by requested read words_at answer_line acee_of decided verified
+unfolding digits canon form_in parsed front behind command_of tokens is_root has_subgroup has_connected has_profile meets cycle owner_not_superior default_group last_special users_full groups_full connections_full user_full add_user_conflicts alt_user_conflicts del_user_conflicts add_group_conflicts alt_group_conflicts del_group_conflicts connect_conflicts remove_conflicts no_first_qualifier no_permitted no_such_class no_resource_class no_global_class no_profile profile_taken not_generic class_profiles_full profiles_full standard_full conditional_full entries_full members_full no_resource_profile add_sd_requirements add_sd_limits r_define_requirements r_define_limits categories_full alt_sd_conflicts del_sd_conflicts r_alter_conflicts r_delete_conflicts permit_conflicts no_user no_group no_owner no_named_group no_class name_taken not_connected default_not_connected unknown_level unknown_category never_category unknown_label is_other_command read_command request_of is_request reply_line stream new_stream request command step text as_number next deleted number_after asked_by verified_by requested read words_at answer_line acee_of decided verified
 texts = record { prints = refl; ends = refl }
 
 -- Groups that are made, moved and taken away.
@@ -72,7 +72,7 @@ groups : Prints
     (codes "1 ACCEPTED\n2 ACCEPTED\n2 REFUSED CYCLE A\n2 REFUSED INUSE SUBGROUP B\n3 ACCEPTED\n"
     ++ codes "3 REFUSED INUSE CONNECTED JOE\n3 REFUSED DEFAULTGROUP B\n4 ACCEPTED\n5 ACCEPTED\n5 REFUSED ROOT\n")
     Refusals
-unfolding digits canon form_in parsed front behind form_of tokens is_root has_subgroup has_connected has_profile meets cycle owner_not_superior default_group last_special users_full groups_full connections_full user_full add_user_conflicts alt_user_conflicts del_user_conflicts add_group_conflicts alt_group_conflicts del_group_conflicts connect_conflicts remove_conflicts no_first_qualifier no_permitted no_such_class no_resource_class no_global_class no_profile profile_taken not_generic class_profiles_full profiles_full standard_full conditional_full entries_full members_full no_resource_profile add_sd_requirements add_sd_limits r_define_requirements r_define_limits categories_full alt_sd_conflicts del_sd_conflicts r_alter_conflicts r_delete_conflicts permit_conflicts no_user no_group no_owner no_named_group no_class name_taken not_connected default_not_connected unknown_level unknown_category never_category unknown_label is_other_command read_command request_of is_request reply_line stream new_stream request command step text as_number next deleted number_after asked_by verified_by requested read words_at answer_line acee_of decided verified
+unfolding digits canon form_in parsed front behind command_of tokens is_root has_subgroup has_connected has_profile meets cycle owner_not_superior default_group last_special users_full groups_full connections_full user_full add_user_conflicts alt_user_conflicts del_user_conflicts add_group_conflicts alt_group_conflicts del_group_conflicts connect_conflicts remove_conflicts no_first_qualifier no_permitted no_such_class no_resource_class no_global_class no_profile profile_taken not_generic class_profiles_full profiles_full standard_full conditional_full entries_full members_full no_resource_profile add_sd_requirements add_sd_limits r_define_requirements r_define_limits categories_full alt_sd_conflicts del_sd_conflicts r_alter_conflicts r_delete_conflicts permit_conflicts no_user no_group no_owner no_named_group no_class name_taken not_connected default_not_connected unknown_level unknown_category never_category unknown_label is_other_command read_command request_of is_request reply_line stream new_stream request command step text as_number next deleted number_after asked_by verified_by requested read words_at answer_line acee_of decided verified
 groups = record { prints = refl; ends = refl }
 
 -- A user entry bars OPERATIONS, and a conditional entry counts at its port alone.
@@ -85,7 +85,7 @@ entries : Prints
     ++ codes "5 ACCEPTED\n5 0 OPERATIONS SYS1.A NONE\n6 ACCEPTED\n6 0 VERIFIED\n"
     ++ codes "6 0 CONDITIONAL WHEN(TERMINAL(T1)) SYS1.A UPDATE\n")
     Done
-unfolding digits canon form_in parsed front behind form_of tokens is_root has_subgroup has_connected has_profile meets cycle owner_not_superior default_group last_special users_full groups_full connections_full user_full add_user_conflicts alt_user_conflicts del_user_conflicts add_group_conflicts alt_group_conflicts del_group_conflicts connect_conflicts remove_conflicts no_first_qualifier no_permitted no_such_class no_resource_class no_global_class no_profile profile_taken not_generic class_profiles_full profiles_full standard_full conditional_full entries_full members_full no_resource_profile add_sd_requirements add_sd_limits r_define_requirements r_define_limits categories_full alt_sd_conflicts del_sd_conflicts r_alter_conflicts r_delete_conflicts permit_conflicts no_user no_group no_owner no_named_group no_class name_taken not_connected default_not_connected unknown_level unknown_category never_category unknown_label is_other_command read_command request_of is_request reply_line stream new_stream request command step text as_number next deleted number_after asked_by verified_by requested read words_at answer_line acee_of decided verified
+unfolding digits canon form_in parsed front behind command_of tokens is_root has_subgroup has_connected has_profile meets cycle owner_not_superior default_group last_special users_full groups_full connections_full user_full add_user_conflicts alt_user_conflicts del_user_conflicts add_group_conflicts alt_group_conflicts del_group_conflicts connect_conflicts remove_conflicts no_first_qualifier no_permitted no_such_class no_resource_class no_global_class no_profile profile_taken not_generic class_profiles_full profiles_full standard_full conditional_full entries_full members_full no_resource_profile add_sd_requirements add_sd_limits r_define_requirements r_define_limits categories_full alt_sd_conflicts del_sd_conflicts r_alter_conflicts r_delete_conflicts permit_conflicts no_user no_group no_owner no_named_group no_class name_taken not_connected default_not_connected unknown_level unknown_category never_category unknown_label is_other_command read_command request_of is_request reply_line stream new_stream request command step text as_number next deleted number_after asked_by verified_by requested read words_at answer_line acee_of decided verified
 entries = record { prints = refl; ends = refl }
 
 -- Refusals of a request's line, and the number that is waited for.
@@ -95,7 +95,7 @@ requests : Prints
     (codes "0 REFUSED NOACEE A\n0 4 NOTDEFINED\n0 0 VERIFIED\n0 REFUSED ACEEEXISTS A\n"
     ++ codes "0 REFUSED BADNAME EMPTYQUALIFIER 2\n0 REFUSED BADLINE 23\n0 REFUSED NOTBUILT\n0 0 DELETED\nNEVER 0\n")
     Refusals
-unfolding digits canon form_in parsed front behind form_of tokens is_root has_subgroup has_connected has_profile meets cycle owner_not_superior default_group last_special users_full groups_full connections_full user_full add_user_conflicts alt_user_conflicts del_user_conflicts add_group_conflicts alt_group_conflicts del_group_conflicts connect_conflicts remove_conflicts no_first_qualifier no_permitted no_such_class no_resource_class no_global_class no_profile profile_taken not_generic class_profiles_full profiles_full standard_full conditional_full entries_full members_full no_resource_profile add_sd_requirements add_sd_limits r_define_requirements r_define_limits categories_full alt_sd_conflicts del_sd_conflicts r_alter_conflicts r_delete_conflicts permit_conflicts no_user no_group no_owner no_named_group no_class name_taken not_connected default_not_connected unknown_level unknown_category never_category unknown_label is_other_command read_command request_of is_request reply_line stream new_stream request command step text as_number next deleted number_after asked_by verified_by requested read words_at answer_line acee_of decided verified
+unfolding digits canon form_in parsed front behind command_of tokens is_root has_subgroup has_connected has_profile meets cycle owner_not_superior default_group last_special users_full groups_full connections_full user_full add_user_conflicts alt_user_conflicts del_user_conflicts add_group_conflicts alt_group_conflicts del_group_conflicts connect_conflicts remove_conflicts no_first_qualifier no_permitted no_such_class no_resource_class no_global_class no_profile profile_taken not_generic class_profiles_full profiles_full standard_full conditional_full entries_full members_full no_resource_profile add_sd_requirements add_sd_limits r_define_requirements r_define_limits categories_full alt_sd_conflicts del_sd_conflicts r_alter_conflicts r_delete_conflicts permit_conflicts no_user no_group no_owner no_named_group no_class name_taken not_connected default_not_connected unknown_level unknown_category never_category unknown_label is_other_command read_command request_of is_request reply_line stream new_stream request command step text as_number next deleted number_after asked_by verified_by requested read words_at answer_line acee_of decided verified
 requests = record { prints = refl; ends = refl }
 
 -- What is skipped, and what isn't: a comment and a line of blanks print nothing.
@@ -103,7 +103,7 @@ skipped : Prints
     (codes "/* \n \t\n\n/*\r\n /* x\nVERIFY A IBMUSER\n")
     (codes "0 REFUSED SYNTAX UNKNOWNCOMMAND\n0 0 VERIFIED\n")
     Refusals
-unfolding digits canon form_in parsed front behind form_of tokens is_root has_subgroup has_connected has_profile meets cycle owner_not_superior default_group last_special users_full groups_full connections_full user_full add_user_conflicts alt_user_conflicts del_user_conflicts add_group_conflicts alt_group_conflicts del_group_conflicts connect_conflicts remove_conflicts no_first_qualifier no_permitted no_such_class no_resource_class no_global_class no_profile profile_taken not_generic class_profiles_full profiles_full standard_full conditional_full entries_full members_full no_resource_profile add_sd_requirements add_sd_limits r_define_requirements r_define_limits categories_full alt_sd_conflicts del_sd_conflicts r_alter_conflicts r_delete_conflicts permit_conflicts no_user no_group no_owner no_named_group no_class name_taken not_connected default_not_connected unknown_level unknown_category never_category unknown_label is_other_command read_command request_of is_request reply_line stream new_stream request command step text as_number next deleted number_after asked_by verified_by requested read words_at answer_line acee_of decided verified
+unfolding digits canon form_in parsed front behind command_of tokens is_root has_subgroup has_connected has_profile meets cycle owner_not_superior default_group last_special users_full groups_full connections_full user_full add_user_conflicts alt_user_conflicts del_user_conflicts add_group_conflicts alt_group_conflicts del_group_conflicts connect_conflicts remove_conflicts no_first_qualifier no_permitted no_such_class no_resource_class no_global_class no_profile profile_taken not_generic class_profiles_full profiles_full standard_full conditional_full entries_full members_full no_resource_profile add_sd_requirements add_sd_limits r_define_requirements r_define_limits categories_full alt_sd_conflicts del_sd_conflicts r_alter_conflicts r_delete_conflicts permit_conflicts no_user no_group no_owner no_named_group no_class name_taken not_connected default_not_connected unknown_level unknown_category never_category unknown_label is_other_command read_command request_of is_request reply_line stream new_stream request command step text as_number next deleted number_after asked_by verified_by requested read words_at answer_line acee_of decided verified
 skipped = record { prints = refl; ends = refl }
 
 -- The empty input prints nothing.

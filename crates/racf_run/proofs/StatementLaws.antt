@@ -25,6 +25,7 @@ use Rattle.racf_run.specs.NextRole.{EndsCommand, GivesRole, NextsRole, ReadsRole
 use Rattle.racf_run.specs.Script.{stream}
 use Rattle.racf_run.proofs.Folds.{prepend_known-append, prepend_known-nil}
 use Rattle.racf_run.proofs.FrontLaws.{IsFront, IsFront-none, IsFront-more, IsFront-walked, IsFront-last_front, IsFront-last, IsFront-end, IsFront-none_whole, no_items}
+use Rattle.racf_outside.proofs.Rises.{Rose-later}
 
 -- Whether anything was read of the statement.
 abbrev pub HasBegun : Option Front → List ℕ → Reader → Reader → Type 0
@@ -155,9 +156,6 @@ passes_more r begun front mid new h e = by_way (subst (λ (x : Result LineRole S
     by_way way = elim way [ inl gives ↦ by_line gives.raw gives.line | inr ends ↦ cc (ends.command) ]
 
 -- no statement came
-Rose-later : (first before now : ℕ) → first ≤ before → Rose before now → Rose first now
-Rose-later first before now h rose = grind arith
-
 takes_front : (begun : Option Front) (raw : List ℕ) (old mid new : Reader) → (w : Taken begun old mid) → old.faults ≤ mid.faults → line.TakesFront raw mid new → TakesFront stream (w.bytes ++ raw) old new
 takes_front begun raw old mid new w faults t =
     record {

@@ -8,8 +8,8 @@ use Rattle.command_parser.specs.declared.commands.Issuer.{Issuer}
 use Rattle.command_values.specs.declared.faults.Syntax.{Syntax}
 use Rattle.command_values.specs.declared.faults.Syntax.TheVariants.{UnknownCommand}
 use Rattle.command_parser.specs.declared.fields.CommandFields.{CommandFields}
-use Rattle.command_parser.specs.Forms.{fault}
-use Rattle.command_parser.specs.FormOf.{command_in}
+use Rattle.command_parser.specs.Canonical.{fault}
+use Rattle.command_parser.specs.CommandOf.{command_in}
 use Rattle.racf_profiles.specs.declared.rows.Rows.{Rows}
 use Rattle.command_conflicts.specs.declared.conflict.Conflict.{Conflict}
 use Rattle.command_conflicts.specs.Conflicts.{conflict_of}
@@ -31,14 +31,14 @@ is_other_command text = let name = command_name text in
 
 -- The command of a text, or why it spells none: the command on options isn't built, and a text that spells no command
 -- always has a first fault.
-abbrev pub found_form : Option CommandFields → Option Syntax → Result CommandFields Refusal
-found_form (Some command) fault = Ok command
-found_form None fault = Err (refusal.Syntax (unwrap_or fault UnknownCommand))
+abbrev pub found_command : Option CommandFields → Option Syntax → Result CommandFields Refusal
+found_command (Some command) fault = Ok command
+found_command None fault = Err (refusal.Syntax (unwrap_or fault UnknownCommand))
 
 unfoldable pub read_command : List ℕ → Result CommandFields Refusal
 read_command text =
     if is_other_command text then Err refusal.NotBuilt
-    else found_form (command_in issuer.id text) (fault issuer.id text)
+    else found_command (command_in issuer.id text) (fault issuer.id text)
 
 -- the last number that a command gets
 abbrev pub most_number : ℕ

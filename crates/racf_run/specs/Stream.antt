@@ -66,18 +66,18 @@ request text s = if is_unbuilt_line text (read text) then refuse refusal.NotBuil
 -- A command is refused, or it is accepted: then it is counted, and the rows are as it leaves them. The number that is
 -- printed is the one behind the command.
 abbrev pub accept : CommandFields → State → Answer
-accept form s = record { state = record s { number = s.number + 1; rows = Effects.step issuer form s.rows }; text = reply_line (s.number + 1) Accepted }
+accept fields s = record { state = record s { number = s.number + 1; rows = Effects.step issuer fields s.rows }; text = reply_line (s.number + 1) Accepted }
 
 abbrev pub unless_refused : Option Refusal → CommandFields → State → Answer
-unless_refused (Some why) form s = refuse why s
-unless_refused None form s = accept form s
+unless_refused (Some why) fields s = refuse why s
+unless_refused None fields s = accept fields s
 
 abbrev pub process_command : CommandFields → State → Answer
-process_command form s = unless_refused (refusal_of form s.number s.rows) form s
+process_command fields s = unless_refused (refusal_of fields s.number s.rows) fields s
 
 abbrev pub process_read : Result CommandFields Refusal → State → Answer
 process_read (Err why) s = refuse why s
-process_read (Ok form) s = process_command form s
+process_read (Ok fields) s = process_command fields s
 
 unfoldable pub command : List ℕ → State → Answer
 command text s = process_read (read_command text) s

@@ -534,6 +534,7 @@ fn refuses_long_lines(rt: HostRuntime) -> Result<(), Fail> {
 }
 
 const THREE: &[u8] = b"VERIFY A IBMUSER\nADDUSER JOE\nVERIFY B IBMUSER";
+
 const JOINED: &[u8] = b"VERIFY A IBMUSER\nADDUSER JOE -\nNAME('J')";
 
 #[test]

@@ -1,7 +1,11 @@
-//! Lines with what they ask for and with the places of what doesn't fit. What is answered to them is tested through the
-//! program, on stored streams.
+//! Lines with what they ask for and with the places of what doesn't fit, and the life of an ACEE. What is answered to lines
+//! is tested through the program, on stored streams.
 
-use crate::{LineRefusal, RequestLine, read_line};
+use crate::{AceeTable, LineRefusal, RequestLine, read_line};
+use access_levels::{Attributes, Categories, Id};
+use acee::{Acee, AceeGroups};
+use std::alloc::Global;
+use std::test::Fail;
 
 /// Where a line is bad, or 0.
 fn bad_place(line: &[u8]) -> u32 {
@@ -46,36 +50,91 @@ fn words_that_do_not_fit(rt: HostRuntime) {
     }
 }
 
-/// What a line asks for, as a number; 0 where it is refused.
-fn kind(line: &[u8]) -> u8 {
+/// What a line asks for.
+#[derive(Clone, Copy, Debug, PartialEq, Eq)]
+enum Asked {
+    Verify,
+    Auth,
+    Fastauth,
+    Delete,
+    After,
+    Nothing,
+    /// The line is refused.
+    Refused,
+}
+
+fn asked(line: &[u8]) -> Asked {
     match read_line(line) {
-        Ok(RequestLine::Verify(_, _)) => 1,
-        Ok(RequestLine::Auth(_, _)) => 2,
-        Ok(RequestLine::Fastauth(_, _)) => 3,
-        Ok(RequestLine::Delete(_)) => 4,
-        Ok(RequestLine::After(_)) => 5,
-        Ok(RequestLine::Skip) => 6,
-        Err(_) => 0,
+        Ok(RequestLine::Verify(_, _)) => Asked::Verify,
+        Ok(RequestLine::Auth(_, _)) => Asked::Auth,
+        Ok(RequestLine::Fastauth(_, _)) => Asked::Fastauth,
+        Ok(RequestLine::Delete(_)) => Asked::Delete,
+        Ok(RequestLine::After(_)) => Asked::After,
+        Ok(RequestLine::Skip) => Asked::Nothing,
+        Err(_) => Asked::Refused,
     }
 }
 
 #[test]
 fn lines_that_fit(rt: HostRuntime) {
-    let rows: [(&[u8], u8); 12] = [
-        (b"verify a joe", 1),
-        (b"VERIFY A JOE SECLABEL(L) CONSOLE(C1) GROUP(G) APPL(X)", 1),
-        (b"AUTH A DATASET SYS1.A READ", 2),
-        (b"  auth\ta facility bpx.1 alter ", 2),
-        (b"FASTAUTH A FACILITY BPX.1 CONTROL", 3),
-        (b"DELETE $#@1", 4),
-        (b"*after 4611686018427387904", 5),
-        (b"*AFTER 0", 5),
-        (b"/* AUTH", 6),
-        (b" \t ", 6),
-        (b"", 6),
-        (b"AUTH A DATASET 1.A READ", 0),
+    let rows: [(&[u8], Asked); 12] = [
+        (b"verify a joe", Asked::Verify),
+        (
+            b"VERIFY A JOE SECLABEL(L) CONSOLE(C1) GROUP(G) APPL(X)",
+            Asked::Verify,
+        ),
+        (b"AUTH A DATASET SYS1.A READ", Asked::Auth),
+        (b"  auth\ta facility bpx.1 alter ", Asked::Auth),
+        (b"FASTAUTH A FACILITY BPX.1 CONTROL", Asked::Fastauth),
+        (b"DELETE $#@1", Asked::Delete),
+        (b"*after 4611686018427387904", Asked::After),
+        (b"*AFTER 0", Asked::After),
+        (b"/* AUTH", Asked::Nothing),
+        (b" \t ", Asked::Nothing),
+        (b"", Asked::Nothing),
+        (b"AUTH A DATASET 1.A READ", Asked::Refused),
     ];
-    for (line, number) in rows {
-        assert_eq!(rt; kind(line), number);
+    for (line, wanted) in rows {
+        assert_eq!(rt; asked(line), wanted);
     }
+}
+
+/// The ACEE of a user without groups.
+fn acee(alloc: Global, user: Id) -> Result<Acee, Fail> {
+    Ok(Acee {
+        user,
+        current: user,
+        groups: AceeGroups::of(alloc, &[])?,
+        attributes: Attributes::default(),
+        level: 0,
+        categories: Categories::none(),
+        label: None,
+        port: None,
+        application: None,
+        generation: 0,
+    })
+}
+
+/// The life of an ACEE: 256 are put, the next one and a second of a name are refused, and one goes.
+#[test]
+fn acees_in_use(rt: HostRuntime) -> Result<(), Fail> {
+    let alloc = rt.alloc();
+    let mut acees = AceeTable::new(alloc)?;
+    for number in 0..256u32 {
+        let name = Id::read(format!(in alloc; "A{number}")?.as_bytes())?;
+        assert_eq!(rt; acees.put(name, acee(alloc, name)?), Ok(()));
+    }
+    let (first, next) = (Id::read(b"A0")?, Id::read(b"NEXT")?);
+    assert_eq!(rt;
+        acees.put(next, acee(alloc, next)?),
+        Err(LineRefusal::AceesFull)
+    );
+    assert_eq!(rt;
+        acees.put(first, acee(alloc, next)?),
+        Err(LineRefusal::AceeExists(first))
+    );
+    assert!(rt; acees.remove(first).is_some_and(|acee| acee.user == first));
+    assert!(rt; acees.get(first).is_none());
+    assert_eq!(rt; acees.len(), 255);
+    Ok(())
 }

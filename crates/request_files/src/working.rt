@@ -10,7 +10,9 @@ ghost use Rattle.request_files.specs.Seen.{line_read};
 ghost use Rattle.request_files.specs.Worked.{Shows, Untouched, worked, line_worked, told, verify_worked, verify_unless, verify_told, auth_for, delete_for, after_worked};
 
 use crate::acees::AceeTable;
-use crate::answers::{answer_text, unbuilt_word, verify_fault_words, write_line, write_never, write_refused};
+use crate::answers::{
+    answer_text, unbuilt_word, verify_fault_words, write_line, write_never, write_refused,
+};
 use crate::line::{LineRefusal, RequestLine};
 use access_levels::Id;
 use acee::{Acee, VerifyFault, VerifyRequest};

@@ -2,5 +2,4 @@ pub mod RowLaws
 pub mod Keyed
 pub mod Counts
 pub mod GroupLaws
-pub mod Places
 pub mod Room

@@ -2,7 +2,7 @@
 ghost use Rattle.std.specs.Prelude.{◌≡◌, ◌&&◌, Some, is_some};
 ghost use Rattle.std.specs.Option.{option_map};
 ghost use Rattle.std.specs.Result.{result_err};
-ghost use Rattle.command_parser.specs.declared.fields.CommandFields.TheVariants as form;
+ghost use Rattle.command_parser.specs.declared.fields.CommandFields.TheVariants as fields;
 ghost use Rattle.racf_profiles.specs.Lookup.{group_of};
 ghost use Rattle.command_effects.specs.Effects.{new_group, altered_group};
 ghost use Rattle.command_conflicts.specs.Conflicts.{if_met, is_root, has_subgroup, cycle, owner_not_superior, owner_apart, groups_full, meets};
@@ -121,7 +121,7 @@ pub(super) fn check_group_fits(
     issuer: &Issuer,
     command: &AddGroup,
 ) -> Result<(), Conflict>
-    ensures { result_err result ≡ groups_full issuer.now (form.AddGroup command.now) tables.now.rows }
+    ensures { result_err result ≡ groups_full issuer.now (fields.AddGroup command.now) tables.now.rows }
 {
     check_count(Limit::Groups, MOST_GROUPS, tables.tree().len() + 1)
 }

@@ -1,7 +1,7 @@
 //! What has to hold of the users after the command: the limits, and that someone can still administer everything.
 ghost use Rattle.std.specs.Prelude.{◌≡◌, false};
 ghost use Rattle.std.specs.Result.{result_err};
-ghost use Rattle.command_parser.specs.declared.fields.CommandFields.TheVariants as form;
+ghost use Rattle.command_parser.specs.declared.fields.CommandFields.TheVariants as fields;
 ghost use Rattle.std.specs.Option.{option_map_or};
 ghost use Rattle.racf_profiles.specs.Lookup.{user_of};
 ghost use Rattle.racf_profiles.specs.declared.users.User.{User};
@@ -27,7 +27,7 @@ pub(super) fn check_user_fits(
     issuer: &Issuer,
     command: &AddUser,
 ) -> Result<(), Conflict>
-    ensures { result_err result ≡ users_full issuer.now (form.AddUser command.now) tables.now.rows }
+    ensures { result_err result ≡ users_full issuer.now (fields.AddUser command.now) tables.now.rows }
 {
     check_count(Limit::Users, MOST_USERS, tables.users().len() + 1)
 }
@@ -39,7 +39,7 @@ pub(super) fn check_new_connection_fits(
     issuer: &Issuer,
     command: &AddUser,
 ) -> Result<(), Conflict>
-    ensures { result_err result ≡ connections_full issuer.now (form.AddUser command.now) tables.now.rows }
+    ensures { result_err result ≡ connections_full issuer.now (fields.AddUser command.now) tables.now.rows }
 {
     check_count(
         Limit::AllConnections,
@@ -76,7 +76,7 @@ pub(super) fn check_connection_fits(
     group: Id,
 ) -> Result<(), Conflict>
     requires { group ≡ group_or_current issuer.now command.now.group }
-    ensures { result_err result ≡ connections_full issuer.now (form.Connect command.now) tables.now.rows }
+    ensures { result_err result ≡ connections_full issuer.now (fields.Connect command.now) tables.now.rows }
 {
     let count = tables.users().connections();
     match tables.user(command.user) {
@@ -96,7 +96,7 @@ pub(super) fn check_special_user_altered(
     issuer: &Issuer,
     command: &AltUser,
 ) -> Result<(), Conflict>
-    ensures { result_err result ≡ last_special issuer.now (form.AltUser command.now) command.now.user tables.now.rows }
+    ensures { result_err result ≡ last_special issuer.now (fields.AltUser command.now) command.now.user tables.now.rows }
 {
     if is_special_after(tables, command) {
         return Ok(());
@@ -114,7 +114,7 @@ pub(super) fn check_special_user_gone(
     issuer: &Issuer,
     command: &DelUser,
 ) -> Result<(), Conflict>
-    ensures { result_err result ≡ last_special issuer.now (form.DelUser command.now) command.now.user tables.now.rows }
+    ensures { result_err result ≡ last_special issuer.now (fields.DelUser command.now) command.now.user tables.now.rows }
 {
     if tables.users().special_users_beside(command.user) == 0 {
         return Err(Conflict::LastSpecial(command.user));

@@ -1,13 +1,13 @@
 //! Access lists as PERMIT makes them.
-ghost use Rattle.std.specs.Prelude.{◌≡◌, ◌≤◌, ◌||◌, false, fold, length, IfOk, OnOk, if◌then◌else◌};
+ghost use Rattle.std.specs.Prelude.{◌≡◌, ◌≤◌, ◌||◌, true, false, fold, length, IfOk, OnOk, if◌then◌else◌};
 ghost use Rattle.std.specs.List.{list_any};
 ghost use Rattle.access_lists.specs.Lists.{is_for, is_for_under, most_entries};
-ghost use Rattle.access_levels.specs.Entries.{is_same_who, is_same_port};
+ghost use Rattle.access_levels.specs.Entries.{is_same_who};
 ghost use Rattle.command_effects.specs.PermitEffects.{standard_reset, conditional_reset, level_of, with_entry, with_conditional, standard_after, conditional_after, permitted_profile};
 
 use access_levels::{CondEntry, Condition, Entry, Level, Who};
 use access_lists::{
-    ListFault, is_same_port, is_same_who, permit, permit_when, withdraw, withdraw_when,
+    ListFault, is_for_under, is_same_who, permit, permit_when, withdraw, withdraw_when,
 };
 use command_parser::{Permit, Reset};
 use racf_profiles::{CondEntries, Entries, NoMemory, Profile};
@@ -209,7 +209,9 @@ fn count_without(command: &Permit, list: &[Entry], whos: &[Who]) -> usize
     requires { command.now.delete ≡ true }
     ensures { result ≡ length (fold (with_entry command.now) list.now whos.now) }
 {
-    list.iter().filter(|entry| !has_any(&entry.who, whos)).count()
+    list.iter()
+        .filter(|entry| !has_any(&entry.who, whos))
+        .count()
 }
 
 /// The same of a conditional list.
@@ -321,11 +323,4 @@ fn is_among(who: &Who, whos: &[Who]) -> bool
     ensures { result ≡ list_any (λ other. is_same_who other who.now) whos.now }
 {
     whos.iter().any(|other| is_same_who(other, who))
-}
-
-/// Whether a conditional entry is for an ID under a condition.
-fn is_for_under(entry: &CondEntry, condition: &Condition, who: &Who) -> bool
-    ensures { result ≡ is_for_under condition.now who.now entry.now }
-{
-    is_same_port(&entry.condition, condition) && is_same_who(&entry.who, who)
 }

@@ -1,4 +1,4 @@
-use Rattle.command_parser.proofs.OneForm.{only_found}
+use Rattle.command_parser.proofs.OneCommand.{only_found}
 use Rattle.command_parser.proofs.commands.parse.Goals as goal
 
 pub returns-clause-only : goal.returns-clause-only

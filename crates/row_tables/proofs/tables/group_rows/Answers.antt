@@ -1,6 +1,6 @@
 -- One group more.
 use Rattle.std.proofs.Common.{refl}
-use Rattle.row_tables.proofs.Places.{take-next}
+use Rattle.class_profiles.proofs.Order.{take-next}
 use Rattle.row_tables.proofs.tables.group_rows.Goals as goal
 
 pub loop-place-preserved : goal.loop-place-preserved

@@ -3,7 +3,7 @@ use Rattle.racf_profiles.specs.declared.edits.Edit.{Edit}
 use Rattle.racf_profiles.specs.Edits.{changed}
 use Rattle.racf_profiles.specs.Lawful.{AreLawful}
 use Rattle.row_tables.specs.Applying.{CanApply, HasRoom}
-use Rattle.command_parser.specs.Forms.{canonical}
+use Rattle.command_parser.specs.Canonical.{canonical}
 use Rattle.command_parser.specs.LawfulFields.{AreLawfulFields}
 use Rattle.command_parser.specs.declared.fields.CommandFields.{CommandFields}
 use Rattle.command_parser.specs.declared.fields.CommandFields.TheVariants as command

@@ -1,5 +1,5 @@
 -- one user more
-use Rattle.row_tables.proofs.Places.{take-next}
+use Rattle.class_profiles.proofs.Order.{take-next}
 use Rattle.row_tables.proofs.user_table.UserTable.rows.Goals as goal
 
 pub loop-place-preserved : goal.loop-place-preserved

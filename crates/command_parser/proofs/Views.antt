@@ -20,16 +20,16 @@ use Rattle.command_values.specs.declared.values.Content.{Content}
 use Rattle.command_values.specs.declared.values.Content.TheVariants as contents
 use Rattle.command_values.specs.declared.values.Reset.{Reset}
 use Rattle.command_parser.specs.declared.fields.CommandFields.{CommandFields}
-use Rattle.command_parser.specs.declared.fields.CommandFields.TheVariants as forms
+use Rattle.command_parser.specs.declared.fields.CommandFields.TheVariants as fields
 use Rattle.command_grammar.specs.Reading.{Generic, Slots, means_read, completed}
 use Rattle.command_values.specs.LawfulValues.{Fits}
 use Rattle.command_grammar.specs.Lawful.{FitsAll, FitsPositions, IsLawful}
 use Rattle.command_grammar.specs.Table.{positions_of, operands_of}
 use Rattle.command_parser.specs.Operands.{flag_value, id_value, authority_value, name_value, ids_value, level_value, audit_value, reset_value, whos_value, when_value, members_value, member_names_value}
-use Rattle.command_parser.specs.Forms.{generic_form}
+use Rattle.command_parser.specs.Canonical.{generic_view}
 use Rattle.command_parser.specs.Fields.{front, behind, flag_in, id_in, authority_in, name_in, ids_in, level_in, audit_in, reset_in, whos_in, when_in, members_in, member_names_in, add_user_in, alt_user_in, add_group_in, alt_group_in, connect_in, remove_in}
 use Rattle.command_parser.specs.ProfileFields.{add_sd_in, alt_sd_in, r_define_in, r_alter_in, permit_in}
-use Rattle.command_parser.specs.FormOf.{form_by, form_of}
+use Rattle.command_parser.specs.CommandOf.{command_by, command_of}
 
 flag_in-value : (b : Bool) → flag_in (flag_value b) ≡ b
 flag_in-value true = refl
@@ -80,23 +80,23 @@ member_names_in-value [] = refl
 member_names_in-value (x ∷ xs) = refl
 
 -- a command is read back from its view
-pub form_of-generic : (c : CommandFields) → form_of (generic_form c) ≡ Some c
-unfolding form_of front behind
-form_of-generic (forms.AddUser c) = simp (flag_in-value, id_in-value, authority_in-value, name_in-value, ids_in-value)
-form_of-generic (forms.AltUser c) = simp (flag_in-value, id_in-value, name_in-value, ids_in-value)
-form_of-generic (forms.DelUser c) = refl
-form_of-generic (forms.AddGroup c) = simp id_in-value
-form_of-generic (forms.AltGroup c) = simp id_in-value
-form_of-generic (forms.DelGroup c) = refl
-form_of-generic (forms.Connect c) = simp (flag_in-value, id_in-value, authority_in-value)
-form_of-generic (forms.Remove c) = simp id_in-value
-form_of-generic (forms.AddSd c) = simp (flag_in-value, id_in-value, ids_in-value, level_in-value, audit_in-value)
-form_of-generic (forms.AltSd c) = simp (flag_in-value, id_in-value, ids_in-value, level_in-value, audit_in-value)
-form_of-generic (forms.DelSd c) = refl
-form_of-generic (forms.RDefine c) = simp (flag_in-value, id_in-value, ids_in-value, level_in-value, audit_in-value, members_in-value)
-form_of-generic (forms.RAlter c) = simp (flag_in-value, id_in-value, ids_in-value, level_in-value, audit_in-value, members_in-value, member_names_in-value)
-form_of-generic (forms.RDelete c) = refl
-form_of-generic (forms.Permit c) = simp (flag_in-value, level_in-value, reset_in-value, whos_in-value, when_in-value)
+pub command_of-generic : (c : CommandFields) → command_of (generic_view c) ≡ Some c
+unfolding command_of front behind
+command_of-generic (fields.AddUser c) = simp (flag_in-value, id_in-value, authority_in-value, name_in-value, ids_in-value)
+command_of-generic (fields.AltUser c) = simp (flag_in-value, id_in-value, name_in-value, ids_in-value)
+command_of-generic (fields.DelUser c) = refl
+command_of-generic (fields.AddGroup c) = simp id_in-value
+command_of-generic (fields.AltGroup c) = simp id_in-value
+command_of-generic (fields.DelGroup c) = refl
+command_of-generic (fields.Connect c) = simp (flag_in-value, id_in-value, authority_in-value)
+command_of-generic (fields.Remove c) = simp id_in-value
+command_of-generic (fields.AddSd c) = simp (flag_in-value, id_in-value, ids_in-value, level_in-value, audit_in-value)
+command_of-generic (fields.AltSd c) = simp (flag_in-value, id_in-value, ids_in-value, level_in-value, audit_in-value)
+command_of-generic (fields.DelSd c) = refl
+command_of-generic (fields.RDefine c) = simp (flag_in-value, id_in-value, ids_in-value, level_in-value, audit_in-value, members_in-value)
+command_of-generic (fields.RAlter c) = simp (flag_in-value, id_in-value, ids_in-value, level_in-value, audit_in-value, members_in-value, member_names_in-value)
+command_of-generic (fields.RDelete c) = refl
+command_of-generic (fields.Permit c) = simp (flag_in-value, level_in-value, reset_in-value, whos_in-value, when_in-value)
 
 -- the slot of the field that is read from a slot of this kind
 again : ValueKind → Option Content → Option Content
@@ -213,9 +213,9 @@ is_class_profile (v ∷ vs) h = absurd h.0
 
 -- a command whose view has these parts
 pub record IsViewed (v : Verb) (words : List Content) (slots : Slots) : Type 0 where
-  pub form : CommandFields
-  pub read : form_by v words slots ≡ Some form
-  pub view : generic_form form ≡ record { verb = v; positions = words; slots = slots }
+  pub command : CommandFields
+  pub read : command_by v words slots ≡ Some command
+  pub view : generic_view command ≡ record { verb = v; positions = words; slots = slots }
 
 -- the same of words that are equal
 viewed : (v : Verb) (words words2 : List Content) (slots : Slots) → words ≡ words2 → IsViewed v words2 slots → IsViewed v words slots
@@ -234,8 +234,8 @@ permit_viewed : (n : Spelled) (class : List ℕ) (slots : Slots) → id_in (fron
 unfolding all_again again behind_first
 permit_viewed n class slots given fits =
     record {
-      form = forms.Permit (permit_in n class slots);
-      read = ap (λ (o : Option (List ℕ)). option_map (λ (c : List ℕ). forms.Permit (permit_in n c slots)) o) given;
+      command = fields.Permit (permit_in n class slots);
+      read = ap (λ (o : Option (List ℕ)). option_map (λ (c : List ℕ). fields.Permit (permit_in n c slots)) o) given;
       view = ap (λ (o : Option (List ℕ)). record { verb = verbs.Permit; positions = contents.Profile n ∷ []; slots = id_value o ∷ all_again (behind_first (operands_of verbs.Permit)) (behind slots) }) (sym given)
           ∙ seen_again verbs.Permit (contents.Profile n ∷ []) slots fits;
     }
@@ -252,65 +252,65 @@ class_given (None ∷ ss) v is fits = let no : let empty : Option Content = None
 class_given (Some (contents.Id w) ∷ ss) v is fits = (w, refl)
 class_given (Some u ∷ ss) v is fits = absurd fits.0
 
-formed_by : (v : Verb) (words : List Content) (slots : Slots) → FitsPositions (positions_of v) words → FitsAll (operands_of v) slots → NamesClass v slots → IsViewed v words slots
+viewed_by : (v : Verb) (words : List Content) (slots : Slots) → FitsPositions (positions_of v) words → FitsAll (operands_of v) slots → NamesClass v slots → IsViewed v words slots
 unfolding all_again again NamesClass
-formed_by verbs.AddUser words slots at fits names =
+viewed_by verbs.AddUser words slots at fits names =
     let w = is_user words at in
     viewed verbs.AddUser words (contents.Id w.0 ∷ []) slots w.1
-    (record { form = forms.AddUser (add_user_in w.0 slots); read = refl; view = seen_again verbs.AddUser (contents.Id w.0 ∷ []) slots fits })
-formed_by verbs.AltUser words slots at fits names =
+    (record { command = fields.AddUser (add_user_in w.0 slots); read = refl; view = seen_again verbs.AddUser (contents.Id w.0 ∷ []) slots fits })
+viewed_by verbs.AltUser words slots at fits names =
     let w = is_user words at in
     viewed verbs.AltUser words (contents.Id w.0 ∷ []) slots w.1
-    (record { form = forms.AltUser (alt_user_in w.0 slots); read = refl; view = seen_again verbs.AltUser (contents.Id w.0 ∷ []) slots fits })
-formed_by verbs.DelUser words slots at fits names =
+    (record { command = fields.AltUser (alt_user_in w.0 slots); read = refl; view = seen_again verbs.AltUser (contents.Id w.0 ∷ []) slots fits })
+viewed_by verbs.DelUser words slots at fits names =
     let w = is_user words at in
     viewed verbs.DelUser words (contents.Id w.0 ∷ []) slots w.1
-    (record { form = forms.DelUser (record { user = w.0 }); read = refl; view = seen_again verbs.DelUser (contents.Id w.0 ∷ []) slots fits })
-formed_by verbs.AddGroup words slots at fits names =
+    (record { command = fields.DelUser (record { user = w.0 }); read = refl; view = seen_again verbs.DelUser (contents.Id w.0 ∷ []) slots fits })
+viewed_by verbs.AddGroup words slots at fits names =
     let w = is_group words at in
     viewed verbs.AddGroup words (contents.Id w.0 ∷ []) slots w.1
-    (record { form = forms.AddGroup (add_group_in w.0 slots); read = refl; view = seen_again verbs.AddGroup (contents.Id w.0 ∷ []) slots fits })
-formed_by verbs.AltGroup words slots at fits names =
+    (record { command = fields.AddGroup (add_group_in w.0 slots); read = refl; view = seen_again verbs.AddGroup (contents.Id w.0 ∷ []) slots fits })
+viewed_by verbs.AltGroup words slots at fits names =
     let w = is_group words at in
     viewed verbs.AltGroup words (contents.Id w.0 ∷ []) slots w.1
-    (record { form = forms.AltGroup (alt_group_in w.0 slots); read = refl; view = seen_again verbs.AltGroup (contents.Id w.0 ∷ []) slots fits })
-formed_by verbs.DelGroup words slots at fits names =
+    (record { command = fields.AltGroup (alt_group_in w.0 slots); read = refl; view = seen_again verbs.AltGroup (contents.Id w.0 ∷ []) slots fits })
+viewed_by verbs.DelGroup words slots at fits names =
     let w = is_group words at in
     viewed verbs.DelGroup words (contents.Id w.0 ∷ []) slots w.1
-    (record { form = forms.DelGroup (record { group = w.0 }); read = refl; view = seen_again verbs.DelGroup (contents.Id w.0 ∷ []) slots fits })
-formed_by verbs.Connect words slots at fits names =
+    (record { command = fields.DelGroup (record { group = w.0 }); read = refl; view = seen_again verbs.DelGroup (contents.Id w.0 ∷ []) slots fits })
+viewed_by verbs.Connect words slots at fits names =
     let w = is_user words at in
     viewed verbs.Connect words (contents.Id w.0 ∷ []) slots w.1
-    (record { form = forms.Connect (connect_in w.0 slots); read = refl; view = seen_again verbs.Connect (contents.Id w.0 ∷ []) slots fits })
-formed_by verbs.Remove words slots at fits names =
+    (record { command = fields.Connect (connect_in w.0 slots); read = refl; view = seen_again verbs.Connect (contents.Id w.0 ∷ []) slots fits })
+viewed_by verbs.Remove words slots at fits names =
     let w = is_user words at in
     viewed verbs.Remove words (contents.Id w.0 ∷ []) slots w.1
-    (record { form = forms.Remove (remove_in w.0 slots); read = refl; view = seen_again verbs.Remove (contents.Id w.0 ∷ []) slots fits })
-formed_by verbs.AddSd words slots at fits names =
+    (record { command = fields.Remove (remove_in w.0 slots); read = refl; view = seen_again verbs.Remove (contents.Id w.0 ∷ []) slots fits })
+viewed_by verbs.AddSd words slots at fits names =
     let w = is_data_set words at in
     viewed verbs.AddSd words (contents.Profile w.0 ∷ []) slots w.1
-    (record { form = forms.AddSd (add_sd_in w.0 slots); read = refl; view = seen_again verbs.AddSd (contents.Profile w.0 ∷ []) slots fits })
-formed_by verbs.AltSd words slots at fits names =
+    (record { command = fields.AddSd (add_sd_in w.0 slots); read = refl; view = seen_again verbs.AddSd (contents.Profile w.0 ∷ []) slots fits })
+viewed_by verbs.AltSd words slots at fits names =
     let w = is_data_set words at in
     viewed verbs.AltSd words (contents.Profile w.0 ∷ []) slots w.1
-    (record { form = forms.AltSd (alt_sd_in w.0 slots); read = refl; view = seen_again verbs.AltSd (contents.Profile w.0 ∷ []) slots fits })
-formed_by verbs.DelSd words slots at fits names =
+    (record { command = fields.AltSd (alt_sd_in w.0 slots); read = refl; view = seen_again verbs.AltSd (contents.Profile w.0 ∷ []) slots fits })
+viewed_by verbs.DelSd words slots at fits names =
     let w = is_data_set words at in
     viewed verbs.DelSd words (contents.Profile w.0 ∷ []) slots w.1
-    (record { form = forms.DelSd (record { profile = w.0 }); read = refl; view = seen_again verbs.DelSd (contents.Profile w.0 ∷ []) slots fits })
-formed_by verbs.RDefine words slots at fits names =
+    (record { command = fields.DelSd (record { profile = w.0 }); read = refl; view = seen_again verbs.DelSd (contents.Profile w.0 ∷ []) slots fits })
+viewed_by verbs.RDefine words slots at fits names =
     let w = is_class_profile words at in
     viewed verbs.RDefine words (contents.Id w.0 ∷ contents.Profile w.1 ∷ []) slots w.2
-    (record { form = forms.RDefine (r_define_in w.0 w.1 slots); read = refl; view = seen_again verbs.RDefine (contents.Id w.0 ∷ contents.Profile w.1 ∷ []) slots fits })
-formed_by verbs.RAlter words slots at fits names =
+    (record { command = fields.RDefine (r_define_in w.0 w.1 slots); read = refl; view = seen_again verbs.RDefine (contents.Id w.0 ∷ contents.Profile w.1 ∷ []) slots fits })
+viewed_by verbs.RAlter words slots at fits names =
     let w = is_class_profile words at in
     viewed verbs.RAlter words (contents.Id w.0 ∷ contents.Profile w.1 ∷ []) slots w.2
-    (record { form = forms.RAlter (r_alter_in w.0 w.1 slots); read = refl; view = seen_again verbs.RAlter (contents.Id w.0 ∷ contents.Profile w.1 ∷ []) slots fits })
-formed_by verbs.RDelete words slots at fits names =
+    (record { command = fields.RAlter (r_alter_in w.0 w.1 slots); read = refl; view = seen_again verbs.RAlter (contents.Id w.0 ∷ contents.Profile w.1 ∷ []) slots fits })
+viewed_by verbs.RDelete words slots at fits names =
     let w = is_class_profile words at in
     viewed verbs.RDelete words (contents.Id w.0 ∷ contents.Profile w.1 ∷ []) slots w.2
-    (record { form = forms.RDelete (record { class = w.0; profile = w.1 }); read = refl; view = seen_again verbs.RDelete (contents.Id w.0 ∷ contents.Profile w.1 ∷ []) slots fits })
-formed_by verbs.Permit words slots at fits names =
+    (record { command = fields.RDelete (record { class = w.0; profile = w.1 }); read = refl; view = seen_again verbs.RDelete (contents.Id w.0 ∷ contents.Profile w.1 ∷ []) slots fits })
+viewed_by verbs.Permit words slots at fits names =
     let w = is_profile words at in
     let class = class_given slots names.0 names.1 fits in
     viewed verbs.Permit words (contents.Profile w.0 ∷ []) slots w.1 (permit_viewed w.0 class.0 slots class.1 fits)
@@ -334,12 +334,12 @@ names_class verbs.Permit slots fits whole = class_filled slots fits whole
 names_class v slots fits whole = tt
 
 -- what a text can spell is the view of a command
-pub formed : (g : Generic) → IsLawful g → (c : CommandFields) × (form_of g ≡ Some c) × (generic_form c ≡ g)
-unfolding form_of
-formed g h = let v = formed_by g.verb g.positions g.slots h.fits_positions h.fits_operands (names_class g.verb g.slots h.fits_operands h.complete) in (v.form, v.read, v.view)
+pub viewed : (g : Generic) → IsLawful g → (c : CommandFields) × (command_of g ≡ Some c) × (generic_view c ≡ g)
+unfolding command_of
+viewed g h = let v = viewed_by g.verb g.positions g.slots h.fits_positions h.fits_operands (names_class g.verb g.slots h.fits_operands h.complete) in (v.command, v.read, v.view)
 
-pub no_form : (g : Generic) → IsLawful g → form_of g ≡ None → ⊥
-no_form g h none = let v = formed g h in let is : form_of g ≡ Some v.0 = v.1 in cc
+pub no_command : (g : Generic) → IsLawful g → command_of g ≡ None → ⊥
+no_command g h none = let v = viewed g h in let is : command_of g ≡ Some v.0 = v.1 in cc
 
-pub its_form : (g : Generic) (c : CommandFields) → IsLawful g → form_of g ≡ Some c → generic_form c ≡ g
-its_form g c h is = let v = formed g h in let other : form_of g ≡ Some v.0 = v.1 in let view : generic_form v.0 ≡ g = v.2 in let same : v.0 ≡ c = cc in subst (λ (x : CommandFields). generic_form x ≡ g) same view
+pub its_command : (g : Generic) (c : CommandFields) → IsLawful g → command_of g ≡ Some c → generic_view c ≡ g
+its_command g c h is = let v = viewed g h in let other : command_of g ≡ Some v.0 = v.1 in let view : generic_view v.0 ≡ g = v.2 in let same : v.0 ≡ c = cc in subst (λ (x : CommandFields). generic_view x ≡ g) same view

@@ -7,22 +7,22 @@ use Rattle.command_values.specs.declared.faults.Syntax.{Syntax}
 use Rattle.command_grammar.specs.Reading.{Generic}
 use Rattle.command_grammar.specs.Canon.{spelled}
 use Rattle.command_parser.specs.declared.fields.CommandFields.{CommandFields}
-use Rattle.command_parser.specs.Forms.{given_by, Spells, fault}
-use Rattle.command_parser.specs.FormOf.{form_of, command_in}
+use Rattle.command_parser.specs.Canonical.{given_by, Spells, fault}
+use Rattle.command_parser.specs.CommandOf.{command_of, command_in}
 use Rattle.racf_run.specs.declared.reply.Refusal.{Refusal}
 use Rattle.racf_run.specs.declared.reply.Refusal.TheVariants as refusal
 use Rattle.racf_run.specs.Commands.{issuer, is_other_command, read_command}
 
 -- what was read
-pub reads_form : (by text : List ℕ) (c : CommandFields) (other : Bool) → by ≡ issuer.id → other ≡ is_other_command text → other ≡ false → (Spells issuer.id text c ↔ (command_in issuer.id text ≡ Some c)) → Spells by text c → Ok c ≡ read_command text
+pub reads_command : (by text : List ℕ) (c : CommandFields) (other : Bool) → by ≡ issuer.id → other ≡ is_other_command text → other ≡ false → (Spells issuer.id text c ↔ (command_in issuer.id text ≡ Some c)) → Spells by text c → Ok c ≡ read_command text
 unfolding read_command
-reads_form by text c other is tests fails one spells =
+reads_command by text c other is tests fails one spells =
     let spells_here : Spells issuer.id text c = subst (λ (id : List ℕ). Spells id text c) is spells in
     let found : command_in issuer.id text ≡ Some c = one.0 spells_here in
     rw (sym tests ∙ fails) (rw found refl)
 
 -- a text with a first fault spells none
-none_by : (r : Result Generic Syntax) (e : Syntax) → result_err r ≡ Some e → option_and_then form_of (result_ok r) ≡ None
+none_by : (r : Result Generic Syntax) (e : Syntax) → result_err r ≡ Some e → option_and_then command_of (result_ok r) ≡ None
 none_by (Ok view) e h = cc
 none_by (Err other) e h = refl
 

@@ -14,8 +14,8 @@ use Rattle.command_values.specs.OperandWords.{spelling_of}
 use Rattle.command_grammar.specs.Table.{full_name}
 use Rattle.command_parser.specs.Operands.{Given, values_of, verb_of, names_of, operands_of_command}
 
-abbrev pub generic_form : CommandFields → Generic
-generic_form c = record { verb = verb_of c; positions = names_of c; slots = values_of (operands_of_command c) }
+abbrev pub generic_view : CommandFields → Generic
+generic_view c = record { verb = verb_of c; positions = names_of c; slots = values_of (operands_of_command c) }
 
 -- each operand that was given, its word in full, with its value in parentheses where it takes one
 abbrev pub operand_text : Word → Option Content → List ℕ → List ℕ
@@ -36,7 +36,7 @@ given_by issuer = record { issuer = issuer }
 
 -- The text spells the command, where this issuer gives it.
 abbrev pub Spells : List ℕ → List ℕ → CommandFields → Type 0
-Spells issuer text c = spelled (given_by issuer) text ≡ Ok (generic_form c)
+Spells issuer text c = spelled (given_by issuer) text ≡ Ok (generic_view c)
 
 -- the first fault of a text that spells no command
 abbrev pub fault : List ℕ → List ℕ → Option Syntax

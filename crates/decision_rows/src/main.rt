@@ -49,7 +49,7 @@ use std::sync::Arc;
 
 /// What the rows have made.
 #[derive(Drop)]
-struct Desk {
+struct Session {
     /// The database that the commands change.
     database: Database,
     /// The image that was made last.
@@ -58,12 +58,12 @@ struct Desk {
     acees: AceeTable,
 }
 
-impl Desk {
+impl Session {
     /// A new database, no image and no ACEE.
-    fn new(alloc: Global) -> Result<Desk> {
+    fn new(alloc: Global) -> Result<Session> {
         let database = Database::new(alloc)?;
         let acees = AceeTable::new(alloc)?;
-        Ok(Desk {
+        Ok(Session {
             database,
             image: None,
             acees,
@@ -147,10 +147,10 @@ impl Desk {
 
 /// Works the rows of standard input.
 fn main(rt: HostRuntime) -> Result<()> {
-    let mut desk = Desk::new(rt.alloc())?;
+    let mut session = Session::new(rt.alloc())?;
     for line in rt.lines(rt.alloc()) {
         let line = line?;
-        desk.run_row(&rt, line.as_str())?;
+        session.run_row(&rt, line.as_str())?;
     }
     Ok(())
 }

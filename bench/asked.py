@@ -1,8 +1,10 @@
 """The program `decision_times`, asked row by row, with the time of each answer."""
-import os, subprocess, time
+import os, subprocess, sys, time
 
 top = os.path.dirname(os.path.dirname(os.path.realpath(__file__)))
 program = os.environ.get("TIMES", os.path.join(top, "crates", "decision_times", "out", "decision_times"))
+if not os.path.isfile(program):
+    raise SystemExit(f"bench/{os.path.basename(sys.argv[0])}: no built program at {program}; .ci/run builds it")
 
 
 class Program:

@@ -1,0 +1,4 @@
+pub mod SpotLaws
+mod RowLaws
+mod KeptLaws
+mod WorkedRows

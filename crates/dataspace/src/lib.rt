@@ -1,0 +1,24 @@
+//! Room for texts, taken once: a region holds texts one behind another, and gives each back by its spot.
+//!
+//! A [`Region`] takes all its memory when it is made, so that placing a text takes none. A [`Spot`] is where a text stands,
+//! in eight bytes, and stays good until the region is cleared. This crate stands on no other of the product, and none stands
+//! on it yet: rows of a database can keep their names and lists as spots in place of texts of their own.
+//!
+//! ```
+//! let mut region = Region::with_room(alloc, 6, 2)?;
+//! let first = region.place(b"AB");       // Spot { start: 0, length: 2 }
+//! let second = region.place(b"CDE");     // Spot { start: 2, length: 3 }
+//! let text = region.text(first);         // b"AB"
+//! let more = region.fits(1);             // false: a byte is free, but no row
+//! ```
+#![tactic(auto)]
+
+mod region;
+mod rows;
+mod spot;
+
+pub use region::{NoMemory, Region};
+pub use spot::Spot;
+
+#[cfg(test)]
+mod tests;

@@ -1,0 +1,156 @@
+//! Verifies users and decides, as the rows of standard input ask, and prints each answer whole: what images, ACEEs and
+//! decisions are over databases that commands made. The rows stand in `stdin`, what they print in `stdout`.
+//!
+//! Rows that make what is asked:
+//! - `C command`: gives a command to the database, as IBMUSER in the group SYS1. A text or a command that is refused is
+//!   printed with its cause, and one that is accepted prints nothing;
+//! - `I number`: makes the image of the database as it stands under that number, which the rows below read until the
+//!   next `I`, and prints the number, the options, and how many users there are, with the first and the last.
+//!
+//! Rows that ask the image, and print what it has, or `none`:
+//! - `U user`, `G group`, `K class`: a user, a group, the flags of a class with the number of its profiles;
+//! - `P class name`: the facts of the profile that decides on a name;
+//! - `S group owner`: whether a profile of that owner is in scope of the group.
+//!
+//! All other rows are lines of requests, as `request_files` reads them, but that a label may be named:
+//! - `VERIFY a user` with operands: prints the user's ACEE with all that it holds, in which a `*` marks a group with
+//!   group-OPERATIONS, and keeps it under the name `a`; or prints why he isn't verified;
+//! - `AUTH a class name level`: prints the decision with all that it holds;
+//! - `/* text` prints nothing.
+//!
+//! The first row that can't be worked ends the program, which names the cause.
+//!
+//! ```
+//! C ADDUSER JOE DFLTGRP(SYS1)
+//! I 7
+//! VERIFY A JOE TERMINAL(T1)
+//! AUTH A DATASET JOE.LIST READ
+//! ```
+#![tactic(auto)]
+
+mod answers;
+mod commands;
+mod looks;
+mod row_words;
+#[cfg(test)]
+mod tests;
+
+use access_levels::Id;
+use acee::{VerifyFault, VerifyRequest};
+use anyhow::{Result, anyhow};
+use commands::give;
+use decision::{Request, auth, verify};
+use racf_database::Database;
+use raclist_image::Image;
+use request_files::{AceeTable, RequestLine, read_line};
+use row_words::{id, parted};
+use std::alloc::Global;
+use std::sync::Arc;
+
+/// What the rows have made.
+#[derive(Drop)]
+struct Session {
+    /// The database that the commands change.
+    database: Database,
+    /// The image that was made last.
+    image: Option<Arc<Image>>,
+    /// The ACEEs of those who were verified.
+    acees: AceeTable,
+}
+
+impl Session {
+    /// A new database, no image and no ACEE.
+    fn new(alloc: Global) -> Result<Session> {
+        let database = Database::new(alloc)?;
+        let acees = AceeTable::new(alloc)?;
+        Ok(Session {
+            database,
+            image: None,
+            acees,
+        })
+    }
+
+    /// Does what a row asks for.
+    fn run_row(&mut self, rt: &(impl Print + AllocGlobal), row: &str) -> Result<()> {
+        let (verb, rest) = parted(row);
+        match verb {
+            "C" => give(rt, &mut self.database, rest),
+            "I" => self.make_image(rt, rest),
+            "U" => looks::print_user(rt, self.image()?, id(rest)?),
+            "G" => looks::print_group(rt, self.image()?, id(rest)?),
+            "K" => looks::print_class(rt, self.image()?, id(rest)?),
+            "P" => looks::print_profile(rt, self.image()?, rest),
+            "S" => looks::print_scope(rt, self.image()?, rest),
+            _ => self.answer(rt, row),
+        }
+    }
+
+    /// Makes the image of the database under a number.
+    fn make_image(&mut self, rt: &(impl Print + AllocGlobal), number: &str) -> Result<()> {
+        let number = number.parse::<u64>()?;
+        let rows = self.database.to_rows(rt.alloc())?;
+        let image = Image::of(rt.alloc(), &rows, number)?;
+        looks::print_image(rt, &image)?;
+        self.image = Some(image);
+        Ok(())
+    }
+
+    /// Works a line of a request.
+    fn answer(&mut self, rt: &(impl Print + AllocGlobal), line: &str) -> Result<()> {
+        match read_line(line.as_bytes()) {
+            Ok(RequestLine::Verify(name, request)) => self.verify(rt, name, &request),
+            Ok(RequestLine::Auth(name, request)) => self.decide(rt, name, &request),
+            Ok(RequestLine::Skip) => Ok(()),
+            _ => Err(anyhow!("no such row: {line}")),
+        }
+    }
+
+    /// Verifies a user, and keeps his ACEE under the name.
+    fn verify(
+        &mut self,
+        rt: &(impl Print + AllocGlobal),
+        name: Id,
+        request: &VerifyRequest,
+    ) -> Result<()> {
+        match verify(rt.alloc(), self.image()?, request) {
+            Ok(acee) => {
+                answers::print_acee(rt, &acee)?;
+                match self.acees.put(name, acee) {
+                    Ok(()) => Ok(()),
+                    Err(_) => Err(anyhow!("no place for the ACEE")),
+                }
+            }
+            Err(VerifyFault::NoMemory) => Err(anyhow!("no memory for an ACEE")),
+            Err(fault) => {
+                println!(rt; "{fault:?}")?;
+                Ok(())
+            }
+        }
+    }
+
+    /// Decides for the ACEE of that name.
+    fn decide(&self, rt: &(impl Print + AllocGlobal), name: Id, request: &Request) -> Result<()> {
+        match self.acees.get(name) {
+            Some(acee) => answers::print_decision(rt, &auth(self.image()?, acee, request)),
+            None => Err(anyhow!("no ACEE of that name")),
+        }
+    }
+
+    /// The image that was made last.
+    fn image(&self) -> Result<&Image> {
+        match &self.image {
+            Some(image) => Ok(image),
+            None => Err(anyhow!("no image")),
+        }
+    }
+}
+
+/// Works the rows of standard input.
+fn main(rt: HostRuntime) -> Result<()> {
+    let mut session = Session::new(rt.alloc())?;
+    for line in rt.lines(rt.alloc()) {
+        let line = line?;
+        session.run_row(&rt, line.as_str())?;
+    }
+    Ok(())
+}

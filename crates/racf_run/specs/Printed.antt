@@ -1,5 +1,5 @@
 -- What a reader of an output finds there: a line for each statement that prints, in the order of the statements.
-use Rattle.std.specs.Prelude.{◌≡◌, ◌⊎◌, ℕ, ◌==◌, nat_eq, Bool, not, ◌||◌, List, [], ◌∷◌, ◌++◌, codes, if◌then◌else◌}
+use Rattle.std.specs.Prelude.{◌≡◌, ◌⊎◌, ℕ, ◌==◌, nat_eq, Bool, not, ◌||◌, List, [], ◌∷◌, codes, if◌then◌else◌}
 use Rattle.std.specs.List.{starts_with, onto_first}
 use Rattle.racf_outside.specs.Lines.{NoFeed}
 use Rattle.generic_names.specs.Spelled.{is_empty}

@@ -90,6 +90,11 @@ class_profile-feedless class name h = faultless-feedless 1 name.text ((class-nam
 pub any_profile-feedless : (class : List ℕ) (name : Spelled) → IsAnyProfile class name → IsFeedless name.text
 any_profile-feedless class name h = named-feedless (form_in class) name h
 
+-- ---- what holds of both of two values holds of the one that is chosen
+pub either : {X : Type 0} (P : X → Type 0) (b : Bool) (x y : X) → P x → P y → P (cond b x y)
+either P true x y h k = h
+either P false x y h k = k
+
 -- ---- what holds of a value, where there is one
 pub always : {X Q : Type 0} (o : Option X) → Q → IfSome o (λ x. Q)
 always None h = tt

@@ -1,5 +1,5 @@
 -- The words of a decision hold no line feed, nor do the groups of the ACEE of a user who is verified.
-use Rattle.std.proofs.Common.{◌≡◌, ℕ, zero, suc, Bool, true, false, cond, not, List, [], ◌∷◌, ◌++◌, Option, None, Some, Result, Ok, Err, refl, sym, subst, bytes_eq, codes}
+use Rattle.std.proofs.Common.{◌≡◌, ℕ, zero, suc, Bool, true, false, not, List, [], ◌∷◌, ◌++◌, Option, None, Some, Result, Ok, Err, refl, sym, subst, bytes_eq, codes}
 use Rattle.std.specs.Prelude.{IfSome, IfOk, find, filter, position, slice_get, option_and_then, unwrap_or, decimal}
 use Rattle.std.specs.Option.{option_or}
 use Rattle.std.specs.List.{AllByRecursion}
@@ -60,7 +60,7 @@ use Rattle.decision.specs.Table.{
 use Rattle.decision.specs.Verify.{admitted, verified}
 use Rattle.request_files.specs.Answers.{profile_words, found_words, port_words, rule_words, decision_words}
 use Rattle.lawful_commands.proofs.RowLists.{all-filter, all-map}
-use Rattle.racf_run.proofs.Feedless.{IsFeedless, joined, decimal-feedless, always, if-map, if-then, if-found}
+use Rattle.racf_run.proofs.Feedless.{IsFeedless, joined, decimal-feedless, either, always, if-map, if-then, if-found}
 use Rattle.racf_run.proofs.FeedlessRows.{IsFeedlessUser, IsFeedlessProfile, IsFeedlessWho, AreFeedlessProfiles, AreFeedless}
 
 -- ---- the words
@@ -121,13 +121,9 @@ module _ {A : Type 0} (P : A → Type 0) where
   or-all None b h k = k
   or-all (Some x) b h k = h
 
-  one_of : (c : Bool) (x y : A) → P x → P y → P (cond c x y)
-  one_of true x y h k = h
-  one_of false x y h k = k
-
   more-specific : (name_of : A → Spelled) (x : A) (o : Option A) → P x → IfSome o P → P (more_specific name_of x o)
   more-specific name_of x None h k = h
-  more-specific name_of x (Some y) h k = one_of (before (name_of y) (name_of x)) y x k h
+  more-specific name_of x (Some y) h k = either P (before (name_of y) (name_of x)) y x k h
 
   most-specific : (name_of : A → Spelled) (xs : List A) → AllByRecursion P xs → IfSome (most_specific name_of xs) P
   most-specific name_of [] h = tt
@@ -161,11 +157,7 @@ IsFeedlessGroupEntry entry = IsFeedless entry.group
 first-of_two : (a b : Option GroupEntry) → IfSome a IsFeedlessGroupEntry → IfSome b IsFeedlessGroupEntry → IfSome (first_of_two a b) IsFeedlessGroupEntry
 first-of_two None b h k = k
 first-of_two (Some entry) None h k = h
-first-of_two (Some entry) (Some other) h k = by (goes_before other entry)
-  where
-    by : (b : Bool) → IfSome (cond b (Some other) (Some entry)) IsFeedlessGroupEntry
-    by true = k
-    by false = h
+first-of_two (Some entry) (Some other) h k = either (λ o. IfSome o IsFeedlessGroupEntry) (goes_before other entry) (Some other) (Some entry) k h
 
 for-group : (groups : List (List ℕ)) (level : Level) (who : Who) → IsFeedlessWho who → IfSome (for_group groups level who) IsFeedlessGroupEntry
 for-group groups level Star h = tt

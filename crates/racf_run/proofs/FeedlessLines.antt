@@ -1,5 +1,5 @@
 -- The ACEE that a line names has a name without a line feed, and what a line of requests prints is one line.
-use Rattle.std.proofs.Common.{ℕ, Bool, true, false, cond, List, [], ◌∷◌, Option, None, Some, Result, Ok, Err, refl, bytes_eq, codes}
+use Rattle.std.proofs.Common.{ℕ, List, [], ◌∷◌, Option, None, Some, Result, Ok, Err, refl, bytes_eq, codes}
 use Rattle.std.specs.Prelude.{nat_eq, nat_lt, IfSome, IfOk, length}
 use Rattle.std.specs.List.{starts_with}
 use Rattle.access_levels.specs.Spelling.{id_of}
@@ -44,7 +44,7 @@ use Rattle.request_files.specs.Grammar.{
   read,
 }
 use Rattle.request_files.specs.Answers.{name_fault_words, refusal_words, verify_fault_words}
-use Rattle.racf_run.proofs.Feedless.{IsFeedless, decimal-feedless, read_id-feedless, if-ok}
+use Rattle.racf_run.proofs.Feedless.{IsFeedless, decimal-feedless, read_id-feedless, either, if-ok}
 
 -- ---- what a line names
 abbrev pub IsFeedlessLine : Line → Type 0
@@ -133,17 +133,13 @@ accessed-feedless : (line_for : List ℕ → Access → Line) → ((acee : List 
 accessed-feedless line_for is (Ok asked) h = named-feedless (line_for asked.acee) asked.acee (λ access. is asked.acee access h) h asked.access
 accessed-feedless line_for is (Err place) h = tt
 
-either : (b : Bool) (x y : Result Line LineRefusal) → IsFeedlessRead x → IsFeedlessRead y → IsFeedlessRead (cond b x y)
-either true x y h k = h
-either false x y h k = k
-
 request-feedless : (verb : List ℕ) (place : ℕ) (unread : UnreadLine) → IsFeedlessRead (request_by verb place unread)
 request-feedless verb place unread =
-    either (bytes_eq verb (codes "VERIFY")) _ _ (made-feedless (λ verified. IsFeedlessLine (verify_line verified)) verify_line (λ verified h. h) (verified_by unread) (verified-feedless unread))
-    (either (bytes_eq verb (codes "AUTH")) _ _ (accessed-feedless Auth (λ acee access h. h) (asked_by unread) (asked-feedless unread))
-    (either (bytes_eq verb (codes "FASTAUTH")) _ _ (accessed-feedless Fastauth (λ acee access h. h) (asked_by unread) (asked-feedless unread))
-    (either (bytes_eq verb (codes "DELETE")) _ _ (made-feedless IsFeedless Delete (λ acee h. h) (deleted unread) (deleted-feedless unread))
-    (either (bytes_eq verb (codes "*AFTER")) _ _ (made-feedless (λ number. Unit {0}) After (λ number h. tt) (number_after unread) (any (number_after unread))) tt))))
+    either IsFeedlessRead (bytes_eq verb (codes "VERIFY")) _ _ (made-feedless (λ verified. IsFeedlessLine (verify_line verified)) verify_line (λ verified h. h) (verified_by unread) (verified-feedless unread))
+    (either IsFeedlessRead (bytes_eq verb (codes "AUTH")) _ _ (accessed-feedless Auth (λ acee access h. h) (asked_by unread) (asked-feedless unread))
+    (either IsFeedlessRead (bytes_eq verb (codes "FASTAUTH")) _ _ (accessed-feedless Fastauth (λ acee access h. h) (asked_by unread) (asked-feedless unread))
+    (either IsFeedlessRead (bytes_eq verb (codes "DELETE")) _ _ (made-feedless IsFeedless Delete (λ acee h. h) (deleted unread) (deleted-feedless unread))
+    (either IsFeedlessRead (bytes_eq verb (codes "*AFTER")) _ _ (made-feedless (λ number. Unit {0}) After (λ number h. tt) (number_after unread) (any (number_after unread))) tt))))
 
 line-feedless : (unread : UnreadLine) → IsFeedlessRead (requested unread)
 unfolding requested
@@ -156,8 +152,8 @@ line-feedless unread = by unread.words
 pub read-feedless : (bytes : List ℕ) → IsFeedlessRead (read bytes)
 unfolding read
 read-feedless bytes =
-    either (nat_lt longest_line (length bytes)) (Err LineTooLong) _ tt
-    (either (starts_with nat_eq bytes (codes "/*")) (Ok Skip) (requested (line_at 1 bytes)) tt (line-feedless (line_at 1 bytes)))
+    either IsFeedlessRead (nat_lt longest_line (length bytes)) (Err LineTooLong) _ tt
+    (either IsFeedlessRead (starts_with nat_eq bytes (codes "/*")) (Ok Skip) (requested (line_at 1 bytes)) tt (line-feedless (line_at 1 bytes)))
 
 -- ---- the words
 fault-words : (fault : NameFault) → IsFeedless (name_fault_words fault)

@@ -9,7 +9,6 @@ use Rattle.racf_profiles.specs.State.{restart}
 use Rattle.acee.specs.declared.acee.Acee.{Acee}
 use Rattle.acee.specs.declared.request.VerifyRequest.{VerifyRequest}
 use Rattle.acee.specs.declared.request.VerifyFault.{VerifyFault}
-use Rattle.raclist_image.specs.Imaged.{Imaged}
 use Rattle.decision.specs.Table.{decided}
 use Rattle.decision.specs.Verify.{verified}
 use Rattle.command_values.specs.declared.faults.Syntax.{Syntax}
@@ -42,7 +41,7 @@ use Rattle.racf_run.specs.Stream as s
 use Rattle.racf_run.specs.Stream.{State, Answer}
 use Rattle.racf_run.specs.Printed.{Turn, turns, input_turns, printed, behind, PrintsOneLine}
 use Rattle.racf_run.specs.Script.{stream}
-use Rattle.racf_run.proofs.Feedless.{IsFeedless, joined, decimal-feedless, if-map, if-found}
+use Rattle.racf_run.proofs.Feedless.{IsFeedless, joined, decimal-feedless, either, if-map, if-found}
 use Rattle.racf_run.proofs.FeedlessRows.{AreFeedless, first-feedless, step-feedless}
 use Rattle.racf_run.proofs.FeedlessConflicts.{IsFeedlessTest, conflict-feedless}
 use Rattle.racf_run.proofs.FeedlessDecisions.{IsFeedlessAcee, decided-words, verified-acee}
@@ -68,34 +67,20 @@ record Works (number : ℕ) (o : request.Outcome) : Type 0 where
   line : IsLine number o.text
   acees : AreFeedlessAcees o.acees
 
-works-either : (number : ℕ) (b : Bool) (x y : request.Outcome) → Works number x → Works number y → Works number (cond b x y)
-works-either number true x y h k = h
-works-either number false x y h k = k
-
 told-feedless : (acees : List NamedAcee) (why : LineRefusal) → IsFeedlessRefusal why → IsFeedlessRefusal (request.told acees why)
 told-feedless acees (BadLine place) h = tt
 told-feedless acees (NoAcee name) h = h
 told-feedless acees (AceeExists name) h = h
 told-feedless acees AceesFull h = tt
-told-feedless acees (BadName name fault) h = by (is_some (acee_named name acees))
-  where
-    by : (b : Bool) → IsFeedlessRefusal (cond b (BadName name fault) (NoAcee name))
-    by true = h
-    by false = h
+told-feedless acees (BadName name fault) h = either IsFeedlessRefusal (is_some (acee_named name acees)) (BadName name fault) (NoAcee name) h h
 told-feedless acees LineTooLong h = tt
 
 put-feedless : (name : List ℕ) (acees : List NamedAcee) → IsFeedless name → IfSome (put_refusal name acees) IsFeedlessRefusal
-put-feedless name acees h = by (is_some (acee_named name acees)) (length acees == most_acees)
-  where
-    by : (b d : Bool) → IfSome (cond b (Some (AceeExists name)) (cond d (Some AceesFull) None)) IsFeedlessRefusal
-    by true d = h
-    by false true = tt
-    by false false = tt
+put-feedless name acees h =
+    either (λ o. IfSome o IsFeedlessRefusal) (is_some (acee_named name acees)) (Some (AceeExists name)) _ h
+    (either (λ o. IfSome o IsFeedlessRefusal) (length acees == most_acees) (Some AceesFull) None tt tt)
 
 module _ (number : ℕ) (rows : Rows) (acees : List NamedAcee) (are : AreFeedless rows) (groups : AreFeedlessAcees acees) where
-  image : Imaged
-  image = s.imaged number rows
-
   stays : (text : List ℕ) (refused : Bool) → IsLine number text → Works number (record { text = text; refused = refused; acees = acees })
   stays text refused h = record { line = h; acees = groups }
 
@@ -135,11 +120,11 @@ module _ (number : ℕ) (rows : Rows) (acees : List NamedAcee) (are : AreFeedles
 
   works-line : (read : Line) → IsFeedlessLine read → Works number (request.line_worked (s.imaged number rows) acees read)
   works-line (Verify name asked) h =
-      works-either number (is_some asked.label) _ _ works-unbuilt (verify-unless name asked (put_refusal name acees) (put-feedless name acees h))
+      either (Works number) (is_some asked.label) _ _ works-unbuilt (verify-unless name asked (put_refusal name acees) (put-feedless name acees h))
   works-line (Auth name access) h = works-auth name access (acee_named name acees) h (named-acee name)
   works-line (Fastauth name access) h = works-unbuilt
   works-line (Delete name) h = works-delete name (acee_named name acees) h
-  works-line (After other) h = works-either number (nat_le other number) _ _ (stays [] false (inl refl)) (stays (never_line number) true (inr (inr refl)))
+  works-line (After other) h = either (Works number) (nat_le other number) _ _ (stays [] false (inl refl)) (stays (never_line number) true (inr (inr refl)))
   works-line Skip h = stays [] false (inl refl)
 
   works-read : (read : Result Line LineRefusal) → IsFeedlessRead read → Works number (request.worked (s.imaged number rows) acees read)
@@ -167,11 +152,7 @@ abbrev IsFeedlessReply : Refusal → Type 0
 IsFeedlessReply why = IsFeedless (refusal_words why)
 
 spent-words : (number : ℕ) → IfSome (unless_spent number) IsFeedlessReply
-spent-words number = by (nat_le most_number number)
-  where
-    by : (b : Bool) → IfSome (cond b (Some refusal.NumberSpent) None) IsFeedlessReply
-    by true = refl
-    by false = tt
+spent-words number = either (λ o. IfSome o IsFeedlessReply) (nat_le most_number number) (Some refusal.NumberSpent) None refl tt
 
 conflict-words : (number : ℕ) (o : Option Conflict) → IsFeedlessTest o → IfSome (conflict_refusal o number) IsFeedlessReply
 conflict-words number None h = spent-words number
@@ -213,14 +194,10 @@ prints-read (Ok c) before h good =
 prints-with : (o : request.Outcome) (before : State) → Works before.number o → IsGood before → Prints (s.answer_with o before)
 prints-with o before works good = record { line = works.line; good = record { rows = good.rows; acees = works.acees } }
 
-prints-either : (b : Bool) (x y : Answer) → Prints x → Prints y → Prints (cond b x y)
-prints-either true x y h k = h
-prints-either false x y h k = k
-
 prints-request : (text : List ℕ) (before : State) → IsGood before → Prints (s.request text before)
 unfolding s.request
 prints-request text before good =
-    prints-either (is_unbuilt_line text (read text)) (s.refuse refusal.NotBuilt before) (s.answer_line (read text) before) (prints-refuse refusal.NotBuilt before refl good)
+    either Prints (is_unbuilt_line text (read text)) (s.refuse refusal.NotBuilt before) (s.answer_line (read text) before) (prints-refuse refusal.NotBuilt before refl good)
     (prints-with (request.worked (s.image_of before) before.acees (read text)) before (works-read before.number before.rows before.acees good.rows good.acees (read text) (read-feedless text)) good)
 
 -- ---- the turns of an input

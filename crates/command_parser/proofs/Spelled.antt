@@ -15,7 +15,7 @@ use Rattle.command_parser.specs.Canonical.{generic_view, given_by, Spells, fault
 use Rattle.command_parser.specs.CommandOf.{command_of, command_in}
 use Rattle.command_parser.specs.LawfulFields.{AreLawfulFields}
 use Rattle.command_parser.proofs.FieldsLawful.{fields-lawful}
-use Rattle.command_parser.proofs.Views.{command_of-generic, viewed, no_command, its_command}
+use Rattle.command_parser.proofs.Views.{command_of-generic, command_viewed, no_command, its_command}
 
 unless_long : (long : Bool) (h g : Generic) → let kept : Result Generic Syntax = cond long (Err faults.TextTooLong) (Ok h) in kept ≡ Ok g → h ≡ g
 unless_long true h g e = cc
@@ -33,7 +33,7 @@ module _ (lawful : (at : Context) (text : List ℕ) (g : Generic) → parsed at 
   lawful_fields issuer text c spells = fields-lawful c (spelled_lawful (given_by issuer) text (generic_view c) spells)
 
   pub read_view : (issuer text : List ℕ) (g : Generic) → spelled (given_by issuer) text ≡ Ok g → (c : CommandFields) × (command_of g ≡ Some c) × (generic_view c ≡ g)
-  read_view issuer text g h = viewed g (spelled_lawful (given_by issuer) text g h)
+  read_view issuer text g h = command_viewed g (spelled_lawful (given_by issuer) text g h)
 
   read_one : (r : Result Generic Syntax) (c : CommandFields) → ((g : Generic) → r ≡ Ok g → IsLawful g) → option_and_then command_of (result_ok r) ≡ Some c → r ≡ Ok (generic_view c)
   read_one (Ok g) c law h = ap (λ (x : Generic). Ok x) (sym (its_command g c (law g refl) h))

@@ -334,12 +334,12 @@ names_class verbs.Permit slots fits whole = class_filled slots fits whole
 names_class v slots fits whole = tt
 
 -- what a text can spell is the view of a command
-pub viewed : (g : Generic) → IsLawful g → (c : CommandFields) × (command_of g ≡ Some c) × (generic_view c ≡ g)
+pub command_viewed : (g : Generic) → IsLawful g → (c : CommandFields) × (command_of g ≡ Some c) × (generic_view c ≡ g)
 unfolding command_of
-viewed g h = let v = viewed_by g.verb g.positions g.slots h.fits_positions h.fits_operands (names_class g.verb g.slots h.fits_operands h.complete) in (v.command, v.read, v.view)
+command_viewed g h = let v = viewed_by g.verb g.positions g.slots h.fits_positions h.fits_operands (names_class g.verb g.slots h.fits_operands h.complete) in (v.command, v.read, v.view)
 
 pub no_command : (g : Generic) → IsLawful g → command_of g ≡ None → ⊥
-no_command g h none = let v = viewed g h in let is : command_of g ≡ Some v.0 = v.1 in cc
+no_command g h none = let v = command_viewed g h in let is : command_of g ≡ Some v.0 = v.1 in cc
 
 pub its_command : (g : Generic) (c : CommandFields) → IsLawful g → command_of g ≡ Some c → generic_view c ≡ g
-its_command g c h is = let v = viewed g h in let other : command_of g ≡ Some v.0 = v.1 in let view : generic_view v.0 ≡ g = v.2 in let same : v.0 ≡ c = cc in subst (λ (x : CommandFields). generic_view x ≡ g) same view
+its_command g c h is = let v = command_viewed g h in let other : command_of g ≡ Some v.0 = v.1 in let view : generic_view v.0 ≡ g = v.2 in let same : v.0 ≡ c = cc in subst (λ (x : CommandFields). generic_view x ≡ g) same view

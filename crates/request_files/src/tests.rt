@@ -63,7 +63,7 @@ enum Asked {
     Refused,
 }
 
-fn asked(line: &[u8]) -> Asked {
+fn kind_of(line: &[u8]) -> Asked {
     match read_line(line) {
         Ok(RequestLine::Verify(_, _)) => Asked::Verify,
         Ok(RequestLine::Auth(_, _)) => Asked::Auth,
@@ -95,7 +95,7 @@ fn lines_that_fit(rt: HostRuntime) {
         (b"AUTH A DATASET 1.A READ", Asked::Refused),
     ];
     for (line, wanted) in rows {
-        assert_eq!(rt; asked(line), wanted);
+        assert_eq!(rt; kind_of(line), wanted);
     }
 }
 

@@ -192,17 +192,17 @@ says_refuse : (why : Refusal) (before : State) → Says before (s.refuse why bef
 unfolding reply_line
 says_refuse why before = or_true before.has_refused ∙ ap (λ b. before.has_refused || b) (sym (refused_says before.number (refusal_words why)))
 
-says_accept : (form : CommandFields) (before : State) → Says before (s.accept form before)
+says_accept : (fields : CommandFields) (before : State) → Says before (s.accept fields before)
 unfolding reply_line
-says_accept form before = or_false before.has_refused ∙ ap (λ b. before.has_refused || b) (sym (numbered_says (before.number + 1) (codes "ACCEPTED")))
+says_accept fields before = or_false before.has_refused ∙ ap (λ b. before.has_refused || b) (sym (numbered_says (before.number + 1) (codes "ACCEPTED")))
 
-says_unless : (why : Option Refusal) (form : CommandFields) (before : State) → Says before (s.unless_refused why form before)
-says_unless (Some why) form before = says_refuse why before
-says_unless None form before = says_accept form before
+says_unless : (why : Option Refusal) (fields : CommandFields) (before : State) → Says before (s.unless_refused why fields before)
+says_unless (Some why) fields before = says_refuse why before
+says_unless None fields before = says_accept fields before
 
 says_read : (read : Result CommandFields Refusal) (before : State) → Says before (s.process_read read before)
 says_read (Err why) before = says_refuse why before
-says_read (Ok form) before = says_unless (refusal_of form before.number before.rows) form before
+says_read (Ok fields) before = says_unless (refusal_of fields before.number before.rows) fields before
 
 says_command : (text : List ℕ) (before : State) → Says before (s.command text before)
 unfolding s.command

@@ -215,7 +215,7 @@ count-filter p xs = omega (arith, length-filter p xs, length-filter_both p (λ x
 
 -- ---- what is left once the IDs are taken away
 module _ {X W : Type 0} (hits : W → X → Bool) where
-  missed : List W → X → Bool
+  abbrev missed : List W → X → Bool
   missed ws x = not (list_any (λ w. hits w x) ws)
 
   missed-one : (w : W) (ws : List W) (xs : List X) → filter (missed (w ∷ ws)) xs ≡ filter (missed ws) (filter (λ x. not (hits w x)) xs)

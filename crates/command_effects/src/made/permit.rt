@@ -1,5 +1,5 @@
 //! Access lists as PERMIT makes them.
-ghost use Rattle.std.specs.Prelude.{◌≡◌, ◌≤◌, ◌||◌, true, false, fold, length, IfOk, OnOk, if◌then◌else◌};
+ghost use Rattle.std.specs.Prelude.{◌≡◌, ◌≤◌, ◌||◌, true, false, not, count_by, fold, length, IfOk, OnOk, if◌then◌else◌};
 ghost use Rattle.std.specs.List.{list_any};
 ghost use Rattle.access_lists.specs.Lists.{is_for, is_for_under, most_entries};
 ghost use Rattle.access_levels.specs.Entries.{is_same_who};
@@ -223,6 +223,22 @@ fn count_without_conditional(
 ) -> usize
     requires { command.now.delete ≡ true }
     ensures { result ≡ length (fold (with_conditional command.now condition.now) list.now whos.now) }
+{
+    count_left_under(condition, list, whos)
+}
+
+/// How many entries are for none of these.
+fn count_left(list: &[Entry], whos: &[Who]) -> usize
+    ensures { result ≡ count_by (λ entry. not (list_any (λ who. is_for who entry) whos.now)) list.now }
+{
+    list.iter()
+        .filter(|entry| !has_any(&entry.who, whos))
+        .count()
+}
+
+/// The same of a conditional list.
+fn count_left_under(condition: &Condition, list: &[CondEntry], whos: &[Who]) -> usize
+    ensures { result ≡ count_by (λ entry. not (list_any (λ who. is_for_under condition.now who entry) whos.now)) list.now }
 {
     list.iter()
         .filter(|entry| !has_any_under(entry, condition, whos))

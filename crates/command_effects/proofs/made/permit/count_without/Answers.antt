@@ -4,4 +4,4 @@ use Rattle.command_effects.proofs.ListCounts.{entries-left}
 use Rattle.command_effects.proofs.made.permit.count_without.Goals as goal
 
 pub returns : goal.returns
-returns c = c.count.ensures ∙ entries-left c.args.command.now c.requires c.args.list.now c.args.whos.now
+returns c = c.count_left.ensures ∙ entries-left c.args.command.now c.requires c.args.list.now c.args.whos.now

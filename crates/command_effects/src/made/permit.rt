@@ -209,9 +209,7 @@ fn count_without(command: &Permit, list: &[Entry], whos: &[Who]) -> usize
     requires { command.now.delete ≡ true }
     ensures { result ≡ length (fold (with_entry command.now) list.now whos.now) }
 {
-    list.iter()
-        .filter(|entry| !has_any(&entry.who, whos))
-        .count()
+    count_left(list, whos)
 }
 
 /// The same of a conditional list.

@@ -47,8 +47,8 @@ module _ {T : Type 0} (p : T → Bool) where
   none_up_to (y ∷ z ∷ ys) zero x r e l h = absurd (omega arith)
   none_up_to (y ∷ ys) (suc n) x r e l h =
       elim (p y) as (λ b. p y ≡ b → (p y || list_any p ys) ≡ false) [
-        true ↦ λ t. (let last = all_at ys n x (r.0 t) e in absurd (cc))
-      | false ↦ λ t. ap (λ b. b || list_any p ys) t ∙ none_up_to ys n x r.1 e (omega arith) h
+        | true ↦ λ t. (let last = all_at ys n x (r.0 t) e in absurd (cc))
+        | false ↦ λ t. ap (λ b. b || list_any p ys) t ∙ none_up_to ys n x r.1 e (omega arith) h
       ] refl
 
   or_left : (a b : Bool) → (a || b) ≡ false → a ≡ false
@@ -84,8 +84,8 @@ module _ {T : Type 0} (p : T → Bool) where
   found_in_front [] ys h = absurd (cc)
   found_in_front (x ∷ xs) ys h =
       elim (p x) as (λ b. p x ≡ b → cond (not (p x)) (1 + position_or_len p (xs ++ ys)) 0 ≡ cond (not (p x)) (1 + position_or_len p xs) 0) [
-        true ↦ λ t. ap (λ b. cond (not b) (1 + position_or_len p (xs ++ ys)) 0) t ∙ sym (ap (λ b. cond (not b) (1 + position_or_len p xs) 0) t)
-      | false ↦ λ t. ap (λ n. cond (not (p x)) (1 + n) 0) (found_in_front xs ys (or_other (p x) (list_any p xs) h t))
+        | true ↦ λ t. ap (λ b. cond (not b) (1 + position_or_len p (xs ++ ys)) 0) t ∙ sym (ap (λ b. cond (not b) (1 + position_or_len p xs) 0) t)
+        | false ↦ λ t. ap (λ n. cond (not (p x)) (1 + n) 0) (found_in_front xs ys (or_other (p x) (list_any p xs) h t))
       ] refl
 
   module _ {P : Type 0} (f : P → List T) (ps : List P) (k : ℕ) (part : P) (is : part ≡ get_or ps k part) (at : k < length ps) where

@@ -133,7 +133,12 @@ impl<T: Drop> Pages<T> {
     }
 
     /// The list with another item at a place.
-    pub fn with_replaced(&self, alloc: Global, place: usize, item: Arc<T>) -> Result<Pages<T>, NoMemory>
+    pub fn with_replaced(
+        &self,
+        alloc: Global,
+        place: usize,
+        item: Arc<T>,
+    ) -> Result<Pages<T>, NoMemory>
         requires { place < length self.now }
         ensures { IfOk result (λ list. list ≡ slice_set self.now place (arc_value item)) }
     {
@@ -144,7 +149,12 @@ impl<T: Drop> Pages<T> {
     }
 
     /// The list with one more item at a place. A list of as many items as a `usize` can count has no room.
-    pub fn with_inserted(&self, alloc: Global, place: usize, item: Arc<T>) -> Result<Pages<T>, NoMemory>
+    pub fn with_inserted(
+        &self,
+        alloc: Global,
+        place: usize,
+        item: Arc<T>,
+    ) -> Result<Pages<T>, NoMemory>
         requires { place ≤ length self.now }
         ensures { IfOk result (λ list. list ≡ insert self.now place (arc_value item)) }
     {

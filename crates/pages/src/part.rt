@@ -64,7 +64,12 @@ pub(crate) trait Part<T: Drop>: Drop {
         ensures { IfOk result (λ part. items part ≡ slice_set (items self.now) place (arc_value item)) };
 
     /// What takes its place where an item comes in.
-    fn with_inserted(&self, alloc: Global, place: usize, item: Arc<T>) -> Result<Change<Self>, AllocError>
+    fn with_inserted(
+        &self,
+        alloc: Global,
+        place: usize,
+        item: Arc<T>,
+    ) -> Result<Change<Self>, AllocError>
         requires place { place ≤ length (items self.now) }
         requires room { length (items self.now) + 1 < 2 ^ 64 }
         ensures { IfOk result (λ change. change_items items change ≡ insert (items self.now) place (arc_value item)) };
@@ -125,7 +130,12 @@ impl<T: Drop> Part<T> for Arc<T> {
         run
     }
 
-    fn with_replaced(&self, _alloc: Global, place: usize, item: Arc<T>) -> Result<Arc<T>, AllocError>
+    fn with_replaced(
+        &self,
+        _alloc: Global,
+        place: usize,
+        item: Arc<T>,
+    ) -> Result<Arc<T>, AllocError>
         requires { place < 1 }
         ensures { IfOk result (λ part. arc_value part ∷ [] ≡ slice_set (arc_value self.now ∷ []) place (arc_value item)) }
     {
@@ -133,7 +143,12 @@ impl<T: Drop> Part<T> for Arc<T> {
         Ok(item)
     }
 
-    fn with_inserted(&self, _alloc: Global, place: usize, item: Arc<T>) -> Result<Change<Arc<T>>, AllocError>
+    fn with_inserted(
+        &self,
+        _alloc: Global,
+        place: usize,
+        item: Arc<T>,
+    ) -> Result<Change<Arc<T>>, AllocError>
         requires { place ≤ 1 }
         ensures { IfOk result (λ change. change_items (λ part. arc_value part ∷ []) change ≡ insert (arc_value self.now ∷ []) place (arc_value item)) }
     {

@@ -70,7 +70,10 @@ impl<T: Drop, P: Part<T>> SharedPage<T, P> {
     }
 
     /// Two pages in place of one, where both are there.
-    fn change_of(front: Option<SharedPage<T, P>>, back: Option<SharedPage<T, P>>) -> Change<SharedPage<T, P>>
+    fn change_of(
+        front: Option<SharedPage<T, P>>,
+        back: Option<SharedPage<T, P>>,
+    ) -> Change<SharedPage<T, P>>
         ensures { change_items (λ page. page) result ≡ unwrap_or front [] ++ unwrap_or back [] }
     {
         match (front, back) {
@@ -90,7 +93,10 @@ impl<T: Drop, P: Part<T>> SharedPage<T, P> {
             return Ok(SharedPage::change_of(SharedPage::holding(alloc, parts)?, None));
         }
         let back = parts.split_off(MOST / 2)?;
-        Ok(SharedPage::change_of(SharedPage::holding(alloc, parts)?, SharedPage::holding(alloc, back)?))
+        Ok(SharedPage::change_of(
+            SharedPage::holding(alloc, parts)?,
+            SharedPage::holding(alloc, back)?,
+        ))
     }
 }
 
@@ -157,7 +163,12 @@ impl<T: Drop, P: Part<T>> Part<T> for SharedPage<T, P> {
         P::run(parts[k].parts(), rest)
     }
 
-    fn with_replaced(&self, alloc: Global, place: usize, item: Arc<T>) -> Result<SharedPage<T, P>, AllocError>
+    fn with_replaced(
+        &self,
+        alloc: Global,
+        place: usize,
+        item: Arc<T>,
+    ) -> Result<SharedPage<T, P>, AllocError>
         requires { place < length self.now }
         ensures { IfOk result (λ page. page ≡ slice_set self.now place (arc_value item)) }
     {
@@ -169,7 +180,12 @@ impl<T: Drop, P: Part<T>> Part<T> for SharedPage<T, P> {
         })
     }
 
-    fn with_inserted(&self, alloc: Global, place: usize, item: Arc<T>) -> Result<Change<SharedPage<T, P>>, AllocError>
+    fn with_inserted(
+        &self,
+        alloc: Global,
+        place: usize,
+        item: Arc<T>,
+    ) -> Result<Change<SharedPage<T, P>>, AllocError>
         requires place { place ≤ length self.now }
         requires room { length self.now + 1 < 2 ^ 64 }
         ensures { IfOk result (λ change. change_items (λ page. page) change ≡ insert self.now place (arc_value item)) }
@@ -178,14 +194,21 @@ impl<T: Drop, P: Part<T>> Part<T> for SharedPage<T, P> {
         SharedPage::one_or_two(alloc, parts)
     }
 
-    fn with_removed(&self, alloc: Global, place: usize) -> Result<Change<SharedPage<T, P>>, AllocError> {
+    fn with_removed(
+        &self,
+        alloc: Global,
+        place: usize,
+    ) -> Result<Change<SharedPage<T, P>>, AllocError> {
         let parts = removed(alloc, self.parts(), place)?;
         SharedPage::one_or_two(alloc, parts)
     }
 }
 
 /// The parts in pages that are full by three quarters, so that the next inserts don't split them.
-pub(crate) fn packed<T: Drop, P: Part<T>>(alloc: Global, parts: &[P]) -> Result<Vec<SharedPage<T, P>>, AllocError>
+pub(crate) fn packed<T: Drop, P: Part<T>>(
+    alloc: Global,
+    parts: &[P],
+) -> Result<Vec<SharedPage<T, P>>, AllocError>
     requires { length (flat_map P.items parts.now) < 2 ^ 64 }
     ensures { IfOk result (λ pages. flat_map (λ page. page) pages.items ≡ flat_map P.items parts.now) }
 {

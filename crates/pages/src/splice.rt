@@ -8,7 +8,10 @@ use std::alloc::{AllocError, Global};
 use std::sync::Arc;
 
 /// Puts one more owner of each part behind what is there.
-pub(crate) fn share_all<T: Drop, P: Part<T>>(parts: &[P], into: &mut Vec<P>) -> Result<(), AllocError>
+pub(crate) fn share_all<T: Drop, P: Part<T>>(
+    parts: &[P],
+    into: &mut Vec<P>,
+) -> Result<(), AllocError>
     ensures items { OnOk result (flat_map P.items into.new.items ≡ flat_map P.items into.old.items ++ flat_map P.items parts.now) }
     ensures len { OnOk result (vec_len into.new ≡ vec_len into.old + length parts.now) }
 {
@@ -19,7 +22,12 @@ pub(crate) fn share_all<T: Drop, P: Part<T>>(parts: &[P], into: &mut Vec<P>) -> 
 }
 
 /// The parts with a change in place of one of them.
-fn spliced<T: Drop, P: Part<T>>(alloc: Global, parts: &[P], k: usize, change: Change<P>) -> Result<Vec<P>, AllocError>
+fn spliced<T: Drop, P: Part<T>>(
+    alloc: Global,
+    parts: &[P],
+    k: usize,
+    change: Change<P>,
+) -> Result<Vec<P>, AllocError>
     requires { k < length parts.now }
     ensures items { IfOk result (λ new. flat_map P.items new.items ≡ flat_map P.items (take k parts.now) ++ (change_items P.items change ++ flat_map P.items (drop (k + 1) parts.now))) }
     ensures len { IfOk result (λ new. vec_len new + 1 ≡ length parts.now + change_len change) }
@@ -39,7 +47,12 @@ fn spliced<T: Drop, P: Part<T>>(alloc: Global, parts: &[P], k: usize, change: Ch
 }
 
 /// The parts with another item at a place.
-pub(crate) fn replaced<T: Drop, P: Part<T>>(alloc: Global, parts: &[P], place: usize, item: Arc<T>) -> Result<Vec<P>, AllocError>
+pub(crate) fn replaced<T: Drop, P: Part<T>>(
+    alloc: Global,
+    parts: &[P],
+    place: usize,
+    item: Arc<T>,
+) -> Result<Vec<P>, AllocError>
     requires { place < length (flat_map P.items parts.now) }
     ensures items { IfOk result (λ new. flat_map P.items new.items ≡ slice_set (flat_map P.items parts.now) place (arc_value item)) }
     ensures len { IfOk result (λ new. vec_len new ≡ length parts.now) }
@@ -65,7 +78,12 @@ fn gap_at<T: Drop, P: Part<T>>(parts: &[P], place: usize) -> (usize, usize)
 }
 
 /// The parts with one more item at a place.
-pub(crate) fn inserted<T: Drop, P: Part<T>>(alloc: Global, parts: &[P], place: usize, item: Arc<T>) -> Result<Vec<P>, AllocError>
+pub(crate) fn inserted<T: Drop, P: Part<T>>(
+    alloc: Global,
+    parts: &[P],
+    place: usize,
+    item: Arc<T>,
+) -> Result<Vec<P>, AllocError>
     requires place { place ≤ length (flat_map P.items parts.now) }
     requires room { length (flat_map P.items parts.now) + 1 < 2 ^ 64 }
     ensures items { IfOk result (λ new. flat_map P.items new.items ≡ insert (flat_map P.items parts.now) place (arc_value item)) }
@@ -82,7 +100,11 @@ pub(crate) fn inserted<T: Drop, P: Part<T>>(alloc: Global, parts: &[P], place: u
 }
 
 /// The parts without the item at a place.
-pub(crate) fn removed<T: Drop, P: Part<T>>(alloc: Global, parts: &[P], place: usize) -> Result<Vec<P>, AllocError>
+pub(crate) fn removed<T: Drop, P: Part<T>>(
+    alloc: Global,
+    parts: &[P],
+    place: usize,
+) -> Result<Vec<P>, AllocError>
     requires { place < length (flat_map P.items parts.now) }
     ensures items { IfOk result (λ new. flat_map P.items new.items ≡ remove (flat_map P.items parts.now) place) }
     ensures len { IfOk result (λ new. vec_len new ≤ length parts.now + 1) }

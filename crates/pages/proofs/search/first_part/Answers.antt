@@ -15,7 +15,7 @@ loop-low-preserved-then-passes g c =
       ordered = omega arith;
       within = omega arith;
       none = c.loop-low.invariant.none;
-      some = λ d h. subst (λ r. list_any passes (f r) ≡ true) (c.index-parts-middle.is ∙ get_or_default c.args.parts.now middle part d h) found
+      some = λ d h. subst (λ r. list_any passes (f r) ≡ true) (c.index-parts-middle.is ∙ get_or_default c.args.parts.now middle part d h) found;
     }
 
 pub loop-low-preserved : goal.loop-low-preserved
@@ -28,5 +28,5 @@ loop-low-preserved g c =
       ordered = omega arith;
       within = c.loop-low.invariant.within;
       none = none_through passes f c.args.parts.now middle part c.index-parts-middle.is (omega arith) c.last.result.now c.requires c.last.ensures (sym c.passes.ensures ∙ c.if-passes.false);
-      some = c.loop-low.invariant.some
+      some = c.loop-low.invariant.some;
     }

@@ -7,7 +7,7 @@ invariant-loop-low g l = record {
   ordered : l.low ≤ l.high;
   within : l.high ≤ length l.parts;
   none : list_any (g.Q.Test.passes l.test) (flat_map g.P.Part.items (take l.low l.parts)) ≡ false;
-  some : (d : _) → l.high < length l.parts → list_any (g.Q.Test.passes l.test) (g.P.Part.items (get_or l.parts l.high d)) ≡ true
+  some : (d : _) → l.high < length l.parts → list_any (g.Q.Test.passes l.test) (g.P.Part.items (get_or l.parts l.high d)) ≡ true;
 }
 
 abbrev pub decreases-loop-low : goal.decreases-loop-low

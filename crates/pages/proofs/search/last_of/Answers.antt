@@ -16,6 +16,6 @@ returns g c =
     let whole = ap length (split_at_part f ps k p c.index-parts-end.is at) in
     let sum = length-append (flat_map f (take k ps)) (f p ++ flat_map f (drop (k + 1) ps)) in
     let nothing : length (f p ++ flat_map f (drop (k + 1) ps)) ≡ length (f p) + 0 =
-        length-append (f p) (flat_map f (drop (k + 1) ps)) ∙ ap (λ l. length (f p) + length (flat_map f l)) (drop_all (k + 1) ps (omega arith)) in
+    length-append (f p) (flat_map f (drop (k + 1) ps)) ∙ ap (λ l. length (f p) + length (flat_map f l)) (drop_all (k + 1) ps (omega arith)) in
     let start : length (flat_map f (take k ps)) + (length (f p) - 1) ≡ length (flat_map f ps) - 1 = omega (arith, whole, sum, nothing, some) in
     get_within f ps k (length (f p) - 1) (length (flat_map f ps) - 1) p c.index-parts-end.is at start (omega (arith, some)) ∙ c.last.ensures

@@ -23,4 +23,4 @@ returns-clause-items g c =
     let p = c.index-parts-k.result in
     let within = subst (λ r. c.gap_at-k.result.1 ≤ length (f r)) (sym c.index-parts-k.is) (c.gap_at-k.ensures.within p) in
     IfOk-weaker c.spliced.result _ _ (λ new h. h ∙ ap (λ ys. flat_map f (take k ps) ++ (ys ++ flat_map f (drop (k + 1) ps))) c.in_ok-change.ensures
-      ∙ sym (insert_within f ps k c.gap_at-k.result.1 c.args.place p c.index-parts-k.is c.gap_at-k.ensures.part c.gap_at-k.ensures.start (arc_value c.args.item) within)) c.spliced.ensures.items
+    ∙ sym (insert_within f ps k c.gap_at-k.result.1 c.args.place p c.index-parts-k.is c.gap_at-k.ensures.part c.gap_at-k.ensures.start (arc_value c.args.item) within)) c.spliced.ensures.items

@@ -12,4 +12,4 @@ returns-clause-items g c =
     let p = c.index-parts-k.result in
     let within = subst (λ r. c.locate-k.result.1 < length (f r)) (sym c.index-parts-k.is) (c.locate-k.ensures.within p) in
     IfOk-weaker c.spliced.result _ _ (λ new h. h ∙ ap (λ ys. flat_map f (take k ps) ++ (ys ++ flat_map f (drop (k + 1) ps))) c.in_ok-change.ensures
-      ∙ sym (remove_within f ps k c.locate-k.result.1 c.args.place p c.index-parts-k.is c.locate-k.ensures.part c.locate-k.ensures.start within)) c.spliced.ensures.items
+    ∙ sym (remove_within f ps k c.locate-k.result.1 c.args.place p c.index-parts-k.is c.locate-k.ensures.part c.locate-k.ensures.start within)) c.spliced.ensures.items

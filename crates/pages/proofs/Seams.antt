@@ -1,5 +1,5 @@
 -- A change in the middle one of three lists, and in one of many parts.
-use Rattle.std.proofs.Common.{◌≡◌, ◌+◌, ◌-◌, ◌<◌, ◌≤◌, ℕ, List, [], ◌∷◌, ◌++◌, length, take, drop, get_or, ap, sym, subst, ◌∙◌, arith, append_assoc, append-nil, length-append, length-take, set, refl, zero-add, zero, suc}
+use Rattle.std.proofs.Common.{◌≡◌, ◌+◌, ◌-◌, ◌<◌, ◌≤◌, ℕ, List, [], ◌∷◌, ◌++◌, length, take, drop, get_or, ap, sym, ◌∙◌, arith, append_assoc, append-nil, length-append, set, refl, zero-add, zero, suc}
 use Rattle.std.specs.List.{flat_map, insert, remove, slice_get}
 use Rattle.std.proofs.lemmas.List.{set-append_left, set-append_right, take-append-drop, drop-append-le}
 use Rattle.std.proofs.lemmas.List.Edits.{insert-append_left, insert-append_right, remove-append_left, remove-append_right}

@@ -1,5 +1,5 @@
 -- Parts of one item each.
-use Rattle.std.proofs.Common.{◌≡◌, ℕ, List, [], ◌∷◌, ◌++◌, length, take, drop, map, ap, sym, ◌∙◌, refl, zero, suc, ◌≤◌, ◌<◌, append-nil, arith, ◌+◌}
+use Rattle.std.proofs.Common.{◌≡◌, ℕ, List, [], ◌∷◌, ◌++◌, length, drop, map, ap, sym, ◌∙◌, ◌≤◌, append-nil, arith, ◌+◌}
 use Rattle.std.specs.List.{flat_map}
 use Rattle.std.proofs.lemmas.List.{length-map, length-drop, drop-map, drop_all}
 use Rattle.std.proofs.lemmas.List.Concat.{flat_map_single}

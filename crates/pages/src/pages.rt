@@ -16,10 +16,14 @@ use std::sync::Arc;
 /// Want of memory.
 pub type NoMemory = AllocError;
 
+/// A page of items.
 type Leaf<T> = SharedPage<T, Arc<T>>;
 
-/// A list of items in order. A changed version is a list of its own, and shares with this one all pages but
-/// the two that lead to the change. A call that answers [`NoMemory`] leaves nothing behind.
+/// A list of items in order, which doesn't change. A changed version is a list of its own, and shares with this one all
+/// pages but the two that lead to the change. A call that answers [`NoMemory`] leaves nothing behind.
+///
+/// Pages are not merged: after many removals a list has as many pages at the top as before, and [`Pages::of_shared`] makes it
+/// dense again.
 #[derive(Drop)]
 pub struct Pages<T: Drop> {
     /// The pages of leaves, in order, any number of them.
@@ -52,7 +56,7 @@ impl<T: Drop> Pages<T> {
         }
     }
 
-    /// A list of these items.
+    /// A list of these items, each of which takes a block of memory of its own.
     pub fn of(alloc: Global, items: Vec<T>) -> Result<Pages<T>, NoMemory>
         ensures { IfOk result (λ list. list ≡ items.items) }
     {
@@ -92,6 +96,7 @@ impl<T: Drop> Pages<T> {
         self.len
     }
 
+    /// Whether there are no items.
     pub fn is_empty(&self) -> bool
         ensures { IsTrue result ↔ (self.now ≡ []) }
     {

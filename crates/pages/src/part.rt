@@ -88,6 +88,7 @@ pub(crate) enum Change<P> {
     Two(P, P),
 }
 
+// An item is a part of its own. Clauses on an owned `Arc` have to be written again where the trait has them.
 impl<T: Drop> Part<T> for Arc<T> {
     ghost items = { λ item. arc_value item ∷ [] };
 

@@ -17,27 +17,29 @@ const MOST: usize = 64;
 /// The parts of a page that is packed.
 const PACKED: usize = 48;
 
-/// A page that versions of a list share.
+/// A page that versions of a list share. It has its own number of items beside it, so that a place is found by the numbers
+/// of the pages of one level, which stand in a row.
 #[derive(Drop)]
 pub(crate) struct SharedPage<T: Drop, P: Part<T>> {
     /// How many items are below.
     len: usize,
     /// At most 64 parts, with an item below at least.
     parts: Arc<Vec<P>>,
-    /// The items are below the parts.
+    /// Says what the parts are parts of. It is empty.
     of: PhantomData<T>,
 }
 
 impl<T: Drop, P: Part<T>> Model for SharedPage<T, P> {
-    ghost use Rattle.std.specs.Prelude.{◌≡◌, ◌<◌, ◌≤◌, List, length, vec_len};
+    ghost use Rattle.std.specs.Prelude.{List, vec_len};
     ghost use Rattle.std.specs.List.{flat_map};
     ghost use Rattle.std.specs.Arc.{arc_value};
+    ghost use Rattle.pages.specs.Parts.{IsPage};
 
     ghost Value = { List T };
 
     ghost view = { λ page. flat_map P.items (arc_value page.parts).items };
 
-    ghost invariant = { λ page. (page.len ≡ length (flat_map P.items (arc_value page.parts).items)) × (0 < page.len) × (vec_len (arc_value page.parts) ≤ 64) };
+    ghost invariant = { λ page. IsPage (flat_map P.items (arc_value page.parts).items) page.len (vec_len (arc_value page.parts)) };
 }
 
 impl<T: Drop, P: Part<T>> SharedPage<T, P> {

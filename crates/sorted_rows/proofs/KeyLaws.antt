@@ -32,9 +32,9 @@ before_not_behind a b p = ap is_lt (turned a b Less (less_is (slice_cmp nat_cmp 
 pub from_before : (k a b : List ℕ) → is_before a k ≡ false → is_before a b ≡ true → is_before k b ≡ true
 from_before k a b p q =
     elim (slice_cmp nat_cmp a k) as (λ r. slice_cmp nat_cmp a k ≡ r → is_before k b ≡ true) [
-      Less ↦ λ e. (let before : is_before a k ≡ true = ap is_lt e in absurd (cc))
-    | Equal ↦ λ e. sym (ap is_lt (nat_list_cmp_total.congr a k b e)) ∙ q
-    | Greater ↦ λ e. before_trans k a b (ap is_lt (turned a k Greater e)) q
+      | Less ↦ λ e. (let before : is_before a k ≡ true = ap is_lt e in absurd (cc))
+      | Equal ↦ λ e. sym (ap is_lt (nat_list_cmp_total.congr a k b e)) ∙ q
+      | Greater ↦ λ e. before_trans k a b (ap is_lt (turned a k Greater e)) q
     ] refl
 
 pub before_not_same : (a k : List ℕ) → is_before a k ≡ true → bytes_eq a k ≡ false
@@ -55,7 +55,7 @@ same_not_behind a k h = ap is_lt (turned a k Equal (same_is a k h))
 pub other_behind : (a k : List ℕ) → is_before a k ≡ false → bytes_eq a k ≡ false → is_before k a ≡ true
 other_behind a k p h =
     elim (slice_cmp nat_cmp a k) as (λ r. slice_cmp nat_cmp a k ≡ r → is_before k a ≡ true) [
-      Less ↦ λ e. (let before : is_before a k ≡ true = ap is_lt e in absurd (cc))
-    | Equal ↦ λ e. (let same : bytes_eq a k ≡ true = sym (is_eq-slice_cmp a k) ∙ ap is_eq e in absurd (cc))
-    | Greater ↦ λ e. ap is_lt (turned a k Greater e)
+      | Less ↦ λ e. (let before : is_before a k ≡ true = ap is_lt e in absurd (cc))
+      | Equal ↦ λ e. (let same : bytes_eq a k ≡ true = sym (is_eq-slice_cmp a k) ∙ ap is_eq e in absurd (cc))
+      | Greater ↦ λ e. ap is_lt (turned a k Greater e)
     ] refl

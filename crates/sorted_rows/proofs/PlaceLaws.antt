@@ -16,9 +16,11 @@ module _ {R : Type 0} (key : R → List ℕ) (k : List ℕ) where
   -- the search's test rises along rows in order
   pub rises_in_order : (xs : List R) → IsInOrder key xs → Rises (is_from key k) xs
   rises_in_order [] h = tt
-  rises_in_order (x ∷ xs) h =
-      (λ e. list_all_weaker (λ y. is_before (key x) (key y)) (is_from key k)
-        (λ y f. ap not (before_not_behind k (key y) (from_before k (key x) (key y) (fails (is_before (key x) k) e) f))) xs h.0, rises_in_order xs h.1)
+  rises_in_order (x ∷ xs) h = (
+    λ e. list_all_weaker (λ y. is_before (key x) (key y)) (is_from key k)
+        (λ y f. ap not (before_not_behind k (key y) (from_before k (key x) (key y) (fails (is_before (key x) k) e) f))) xs h.0,
+    rises_in_order xs h.1,
+  )
 
   -- where a row is before the key its place is one further on, else it is the first
   place_on : (x : R) (xs : List R) → is_before (key x) k ≡ true → position_or_len (is_from key k) (x ∷ xs) ≡ suc (position_or_len (is_from key k) xs)
@@ -33,19 +35,19 @@ module _ {R : Type 0} (key : R → List ℕ) (k : List ℕ) where
     back : list_all (λ row. is_before k (key row)) (drop begin xs) ≡ true
 
   missing_parts : (xs : List R) → IsInOrder key xs → ((row : R) → slice_get xs (position_or_len (is_from key k) xs) ≡ Some row → has_key key k row ≡ false)
-                  → Parts xs (position_or_len (is_from key k) xs) (position_or_len (is_from key k) xs)
+      → Parts xs (position_or_len (is_from key k) xs) (position_or_len (is_from key k) xs)
   missing_parts [] h other = record { front = refl; back = refl }
   missing_parts (x ∷ xs) h other =
       elim (is_before (key x) k) as (λ b. is_before (key x) k ≡ b → Parts (x ∷ xs) (position_or_len (is_from key k) (x ∷ xs)) (position_or_len (is_from key k) (x ∷ xs))) [
-        true ↦ λ e. (let on = place_on x xs e in
-          let ih = missing_parts xs h.1 (λ row g. other row (ap (λ n. slice_get (x ∷ xs) n) on ∙ g)) in
-          subst (λ n. Parts (x ∷ xs) n n) (sym on) (record { front = both (is_before (key x) k) _ e ih.front; back = ih.back }))
-      | false ↦ λ e. (let here = place_here x xs e in
-          let own = other_behind (key x) k e (other x (ap (λ n. slice_get (x ∷ xs) n) here)) in
-          subst (λ n. Parts (x ∷ xs) n n) (sym here) (record {
-            front = refl;
-            back = both (is_before k (key x)) _ own (list_all_weaker (λ y. is_before (key x) (key y)) (λ y. is_before k (key y)) (λ y f. from_before k (key x) (key y) e f) xs h.0)
-          }))
+        | true ↦ λ e. (let on = place_on x xs e in
+            let ih = missing_parts xs h.1 (λ row g. other row (ap (λ n. slice_get (x ∷ xs) n) on ∙ g)) in
+            subst (λ n. Parts (x ∷ xs) n n) (sym on) (record { front = both (is_before (key x) k) _ e ih.front; back = ih.back }))
+        | false ↦ λ e. (let here = place_here x xs e in
+            let own = other_behind (key x) k e (other x (ap (λ n. slice_get (x ∷ xs) n) here)) in
+            subst (λ n. Parts (x ∷ xs) n n) (sym here) (record {
+              front = refl;
+              back = both (is_before k (key x)) _ own (list_all_weaker (λ y. is_before (key x) (key y)) (λ y. is_before k (key y)) (λ y f. from_before k (key x) (key y) e f) xs h.0);
+            }))
       ] refl
 
   -- the row of the key, at its place
@@ -57,28 +59,28 @@ module _ {R : Type 0} (key : R → List ℕ) (k : List ℕ) where
     parts : Parts xs place (suc place)
 
   holds_here : (xs : List R) → IsInOrder key xs → position_or_len (is_from key k) xs < length xs
-               → ((row : R) → slice_get xs (position_or_len (is_from key k) xs) ≡ Some row → has_key key k row ≡ true) → Holds xs (position_or_len (is_from key k) xs)
+      → ((row : R) → slice_get xs (position_or_len (is_from key k) xs) ≡ Some row → has_key key k row ≡ true) → Holds xs (position_or_len (is_from key k) xs)
   holds_here [] h within there = absurd (omega arith)
   holds_here (x ∷ xs) h within there =
       elim (is_before (key x) k) as (λ b. is_before (key x) k ≡ b → Holds (x ∷ xs) (position_or_len (is_from key k) (x ∷ xs))) [
-        true ↦ λ e. (let on = place_on x xs e in
-          let less : position_or_len (is_from key k) xs < length xs = omega (arith, on, within) in
-          let ih = holds_here xs h.1 less (λ row g. there row (ap (λ n. slice_get (x ∷ xs) n) on ∙ g)) in
-          subst (λ n. Holds (x ∷ xs) n) (sym on) (record {
-            row = ih.row;
-            whole = ap (λ l. x ∷ l) ih.whole;
-            at = ih.at;
-            same = ih.same;
-            parts = record { front = both (is_before (key x) k) _ e ih.parts.front; back = ih.parts.back }
-          }))
-      | false ↦ λ e. (let here = place_here x xs e in
-          subst (λ n. Holds (x ∷ xs) n) (sym here) (record {
-            row = x;
-            whole = refl;
-            at = refl;
-            same = there x (ap (λ n. slice_get (x ∷ xs) n) here);
-            parts = record { front = refl; back = list_all_weaker (λ y. is_before (key x) (key y)) (λ y. is_before k (key y)) (λ y f. from_before k (key x) (key y) e f) xs h.0 }
-          }))
+        | true ↦ λ e. (let on = place_on x xs e in
+            let less : position_or_len (is_from key k) xs < length xs = omega (arith, on, within) in
+            let ih = holds_here xs h.1 less (λ row g. there row (ap (λ n. slice_get (x ∷ xs) n) on ∙ g)) in
+            subst (λ n. Holds (x ∷ xs) n) (sym on) (record {
+              row = ih.row;
+              whole = ap (λ l. x ∷ l) ih.whole;
+              at = ih.at;
+              same = ih.same;
+              parts = record { front = both (is_before (key x) k) _ e ih.parts.front; back = ih.parts.back };
+            }))
+        | false ↦ λ e. (let here = place_here x xs e in
+            subst (λ n. Holds (x ∷ xs) n) (sym here) (record {
+              row = x;
+              whole = refl;
+              at = refl;
+              same = there x (ap (λ n. slice_get (x ∷ xs) n) here);
+              parts = record { front = refl; back = list_all_weaker (λ y. is_before (key x) (key y)) (λ y. is_before k (key y)) (λ y f. from_before k (key x) (key y) e f) xs h.0 };
+            }))
       ] refl
 
   -- what passes no filter by where it stands
@@ -145,11 +147,11 @@ module _ {R : Type 0} (key : R → List ℕ) (k : List ℕ) where
         let front = front_other (take n xs) it.parts.front in
         let back = back_other (drop (suc n) xs) it.parts.back in
         sym (
-          ap (λ l. filter other l) it.whole
-          ∙ filter-append other (take n xs) (it.row ∷ drop (suc n) xs)
-          ∙ ap (λ l. l ++ filter other (it.row ∷ drop (suc n) xs)) (filter_all other (take n xs) front)
-          ∙ ap (λ b. take n xs ++ cond (not b) (it.row ∷ filter other (drop (suc n) xs)) (filter other (drop (suc n) xs))) it.same
-          ∙ ap (λ l. take n xs ++ l) (filter_all other (drop (suc n) xs) back)
+        ap (λ l. filter other l) it.whole
+        ∙ filter-append other (take n xs) (it.row ∷ drop (suc n) xs)
+        ∙ ap (λ l. l ++ filter other (it.row ∷ drop (suc n) xs)) (filter_all other (take n xs) front)
+        ∙ ap (λ b. take n xs ++ cond (not b) (it.row ∷ filter other (drop (suc n) xs)) (filter other (drop (suc n) xs))) it.same
+        ∙ ap (λ l. take n xs ++ l) (filter_all other (drop (suc n) xs) back)
         )
 
     pub kept_is : IsMissingAt key k xs n → xs ≡ without_row key k xs
@@ -157,9 +159,9 @@ module _ {R : Type 0} (key : R → List ℕ) (k : List ℕ) where
         let parts = missing_at m in
         let other = λ (row : R). not (has_key key k row) in
         sym (
-          ap (λ l. filter other l) (sym (take-append-drop n xs))
-          ∙ keeps_both other (take n xs) (drop n xs) (front_other (take n xs) parts.front) (back_other (drop n xs) parts.back)
-          ∙ take-append-drop n xs
+        ap (λ l. filter other l) (sym (take-append-drop n xs))
+        ∙ keeps_both other (take n xs) (drop n xs) (front_other (take n xs) parts.front) (back_other (drop n xs) parts.back)
+        ∙ take-append-drop n xs
         )
 
     pub inserted_is : (x : R) → key x ≡ k → IsMissingAt key k xs n → insert xs n x ≡ with_row key x xs
@@ -169,9 +171,9 @@ module _ {R : Type 0} (key : R → List ℕ) (k : List ℕ) where
         let back = keeps_back (λ row. is_before k (key row)) (take n xs) (drop n xs) (not_behind (take n xs) parts.front) parts.back in
         let whole = sym (take-append-drop n xs) in
         sym (
-          ap (λ a. filter (λ row. is_before (key row) a) xs ++ x ∷ filter (λ row. is_before a (key row)) xs) same
-          ∙ ap (λ l. l ++ x ∷ filter (λ row. is_before k (key row)) xs) (ap (λ l. filter (λ row. is_before (key row) k) l) whole ∙ front)
-          ∙ ap (λ l. take n xs ++ x ∷ l) (ap (λ l. filter (λ row. is_before k (key row)) l) whole ∙ back)
+        ap (λ a. filter (λ row. is_before (key row) a) xs ++ x ∷ filter (λ row. is_before a (key row)) xs) same
+        ∙ ap (λ l. l ++ x ∷ filter (λ row. is_before k (key row)) xs) (ap (λ l. filter (λ row. is_before (key row) k) l) whole ∙ front)
+        ∙ ap (λ l. take n xs ++ x ∷ l) (ap (λ l. filter (λ row. is_before k (key row)) l) whole ∙ back)
         )
 
     pub replaced_is : (x : R) → key x ≡ k → IsFoundAt key k xs n → set xs n x ≡ with_row key x xs
@@ -181,16 +183,16 @@ module _ {R : Type 0} (key : R → List ℕ) (k : List ℕ) where
         let own = same_not_before (key it.row) k it.same in
         let own_back = same_not_behind (key it.row) k it.same in
         let front =
-            keeps_front (λ row. is_before (key row) k) (take n xs) (it.row ∷ rest) it.parts.front
-            (both (not (is_before (key it.row) k)) (list_all (λ row. not (is_before (key row) k)) rest) (ap not own) (not_before rest it.parts.back)) in
+        keeps_front (λ row. is_before (key row) k) (take n xs) (it.row ∷ rest) it.parts.front
+        (both (not (is_before (key it.row) k)) (list_all (λ row. not (is_before (key row) k)) rest) (ap not own) (not_before rest it.parts.back)) in
         let back =
-            filter-append (λ row. is_before k (key row)) (take n xs) (it.row ∷ rest)
-            ∙ ap (λ l. l ++ filter (λ row. is_before k (key row)) (it.row ∷ rest)) (filter_none (λ row. is_before k (key row)) (take n xs) (not_behind (take n xs) it.parts.front))
-            ∙ ap (λ b. cond b (it.row ∷ filter (λ row. is_before k (key row)) rest) (filter (λ row. is_before k (key row)) rest)) own_back
-            ∙ filter_all (λ row. is_before k (key row)) rest it.parts.back in
+        filter-append (λ row. is_before k (key row)) (take n xs) (it.row ∷ rest)
+        ∙ ap (λ l. l ++ filter (λ row. is_before k (key row)) (it.row ∷ rest)) (filter_none (λ row. is_before k (key row)) (take n xs) (not_behind (take n xs) it.parts.front))
+        ∙ ap (λ b. cond b (it.row ∷ filter (λ row. is_before k (key row)) rest) (filter (λ row. is_before k (key row)) rest)) own_back
+        ∙ filter_all (λ row. is_before k (key row)) rest it.parts.back in
         set_is xs n x f.within
         ∙ sym (
-            ap (λ a. filter (λ row. is_before (key row) a) xs ++ x ∷ filter (λ row. is_before a (key row)) xs) same
-            ∙ ap (λ l. l ++ x ∷ filter (λ row. is_before k (key row)) xs) (ap (λ l. filter (λ row. is_before (key row) k) l) it.whole ∙ front)
-            ∙ ap (λ l. take n xs ++ x ∷ l) (ap (λ l. filter (λ row. is_before k (key row)) l) it.whole ∙ back)
-          )
+        ap (λ a. filter (λ row. is_before (key row) a) xs ++ x ∷ filter (λ row. is_before a (key row)) xs) same
+        ∙ ap (λ l. l ++ x ∷ filter (λ row. is_before k (key row)) xs) (ap (λ l. filter (λ row. is_before (key row) k) l) it.whole ∙ front)
+        ∙ ap (λ l. take n xs ++ x ∷ l) (ap (λ l. filter (λ row. is_before k (key row)) l) it.whole ∙ back)
+        )

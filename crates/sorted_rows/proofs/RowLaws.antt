@@ -52,16 +52,16 @@ module _ {R : Type 0} where
   filter_keeps p q (x ∷ xs) h =
       let ih = filter_keeps p q xs (and_right (q x) (list_all q xs) h) in
       elim (p x) as (λ b. list_all q (cond b (x ∷ filter p xs) (filter p xs)) ≡ true) [
-        true ↦ both (q x) (list_all q (filter p xs)) (and_left (q x) (list_all q xs) h) ih
-      | false ↦ ih
+        | true ↦ both (q x) (list_all q (filter p xs)) (and_left (q x) (list_all q xs) h) ih
+        | false ↦ ih
       ]
 
   filter_passes : (p : R → Bool) (xs : List R) → list_all p (filter p xs) ≡ true
   filter_passes p [] = refl
   filter_passes p (x ∷ xs) =
       elim (p x) as (λ b. p x ≡ b → list_all p (cond b (x ∷ filter p xs) (filter p xs)) ≡ true) [
-        true ↦ λ e. both (p x) (list_all p (filter p xs)) e (filter_passes p xs)
-      | false ↦ λ e. filter_passes p xs
+        | true ↦ λ e. both (p x) (list_all p (filter p xs)) e (filter_passes p xs)
+        | false ↦ λ e. filter_passes p xs
       ] refl
 
   module _ (key : R → List ℕ) where
@@ -69,8 +69,8 @@ module _ {R : Type 0} where
     in_order_filter p [] h = tt
     in_order_filter p (x ∷ xs) h =
         elim (p x) as (λ b. IsInOrder key (cond b (x ∷ filter p xs) (filter p xs))) [
-          true ↦ (filter_keeps p (λ y. is_before (key x) (key y)) xs h.0, in_order_filter p xs h.1)
-        | false ↦ in_order_filter p xs h.1
+          | true ↦ (filter_keeps p (λ y. is_before (key x) (key y)) xs h.0, in_order_filter p xs h.1)
+          | false ↦ in_order_filter p xs h.1
         ]
 
     in_order_append : (xs ys : List R) → IsInOrder key xs → IsInOrder key ys → list_all (λ x. list_all (λ y. is_before (key x) (key y)) ys) xs ≡ true → IsInOrder key (xs ++ ys)
@@ -90,6 +90,6 @@ module _ {R : Type 0} where
         let back = filter behind xs in
         in_order_append (filter before xs) (row ∷ back) (in_order_filter before xs h) (filter_passes behind xs, in_order_filter behind xs h)
         (list_all_weaker before (λ x. list_all (λ y. is_before (key x) (key y)) (row ∷ back))
-          (λ x e. both (before x) (list_all (λ y. is_before (key x) (key y)) back) e
-            (list_all_weaker behind (λ y. is_before (key x) (key y)) (λ y f. before_trans (key x) (key row) (key y) e f) back (filter_passes behind xs)))
-          (filter before xs) (filter_passes before xs))
+        (λ x e. both (before x) (list_all (λ y. is_before (key x) (key y)) back) e
+        (list_all_weaker behind (λ y. is_before (key x) (key y)) (λ y f. before_trans (key x) (key row) (key y) e f) back (filter_passes behind xs)))
+        (filter before xs) (filter_passes before xs))

@@ -1,4 +1,4 @@
-use Rattle.std.proofs.Common.{◌≤◌, length, not, ap, arith}
+use Rattle.std.proofs.Common.{length, not, ap, arith}
 use Rattle.std.specs.List.{flat_map}
 use Rattle.std.proofs.lemmas.List.Sums.{prefix_len-le-length}
 use Rattle.pages.proofs.pages.Pages.first.Goals as goal

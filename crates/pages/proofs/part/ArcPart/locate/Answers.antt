@@ -1,4 +1,4 @@
-use Rattle.std.proofs.Common.{◌<◌, ◌≤◌, ◌∙◌, subst, take, length, length-take-le, add-zero, arith}
+use Rattle.std.proofs.Common.{◌<◌, subst, take, length, length-take-le, arith}
 use Rattle.std.specs.Arc.{arc_value}
 use Rattle.pages.proofs.Singles.{length-singles}
 use Rattle.pages.proofs.part.ArcPart.locate.Goals as goal

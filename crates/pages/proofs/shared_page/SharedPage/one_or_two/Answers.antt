@@ -1,4 +1,4 @@
-use Rattle.std.proofs.Common.{◌≡◌, ◌+◌, ◌++◌, ◌∙◌, [], length, take, drop, ap, sym, unwrap_or, length-append, arith}
+use Rattle.std.proofs.Common.{◌++◌, ◌∙◌, [], length, take, drop, ap, unwrap_or, length-append, arith}
 use Rattle.std.specs.List.{flat_map}
 use Rattle.pages.proofs.Seams.{flat_map_halves}
 use Rattle.pages.proofs.shared_page.SharedPage.one_or_two.Goals as goal

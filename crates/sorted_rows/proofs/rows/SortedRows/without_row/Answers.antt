@@ -16,8 +16,8 @@ pub invariant_of-result : goal.invariant_of-result
 invariant_of-result g c =
     let key = g.R.Keyed.key in
     let is = c.in_ok-with_removed-in-Ok.ensures
-        ∙ ap (λ l. remove l c.in-Ok.place) c.self.view_is
-        ∙ removed_is key c.args.key.now c.args.self.now c.in-Ok.place c.in-Ok.ensures.ordered c.in-Ok.ensures.found in
+    ∙ ap (λ l. remove l c.in-Ok.place) c.self.view_is
+    ∙ removed_is key c.args.key.now c.args.self.now c.in-Ok.place c.in-Ok.ensures.ordered c.in-Ok.ensures.found in
     subst (λ rows. IsInOrder key rows) (sym is) (in_order_filter key (λ row. not (has_key key c.args.key.now row)) c.args.self.now c.in-Ok.ensures.ordered)
 
 pub returns-in-Err : goal.returns-in-Err

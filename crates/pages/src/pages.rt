@@ -22,8 +22,8 @@ type Leaf<T> = SharedPage<T, Arc<T>>;
 /// A list of items in order, which doesn't change. A changed version is a list of its own, and shares with this one all
 /// pages but the two that lead to the change. A call that answers [`NoMemory`] leaves nothing behind.
 ///
-/// Pages are not merged: after many removals a list has as many pages at the top as before, and [`Pages::of_shared`] makes it
-/// dense again.
+/// Pages are not merged: after many removals a list has as many pages at the top as before, and [`Pages::of_shared`]
+/// makes it dense again.
 #[derive(Drop)]
 pub struct Pages<T: Drop> {
     /// The pages of leaves, in order, any number of them.

@@ -140,7 +140,6 @@ impl<T: Drop> Part<T> for Arc<T> {
         requires { place < 1 }
         ensures { IfOk result (λ part. arc_value part ∷ [] ≡ slice_set (arc_value self.now ∷ []) place (arc_value item)) }
     {
-        let _ = place;
         Ok(item)
     }
 

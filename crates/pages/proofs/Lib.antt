@@ -1,0 +1,3 @@
+pub mod Seams
+pub mod Singles
+pub mod RisingLaws

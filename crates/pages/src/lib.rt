@@ -1,0 +1,33 @@
+//! Lists of which a changed version shares all but what leads to the change.
+//!
+//! [`Pages`] is a list of items in pages of at most 64. A list never changes: [`Pages::with_inserted`],
+//! [`Pages::with_replaced`] and [`Pages::with_removed`] answer a list of their own, for which they copy one page at
+//! each of three levels, and the pages themselves have as many owners as there are lists. So an old version can be
+//! read on while a new one is made, and want of memory leaves it as it was. [`Pages::first`] searches by a [`Test`],
+//! and [`Pages::iter`] gives the items in order. Items are held as `Arc`s: who has one already hands it in, and
+//! `shared_at` gives it out again.
+//!
+//! Only `sorted_rows` stands on this crate yet, and the product on neither. They are meant for `raclist_image`, whose
+//! images are copies of all rows today.
+//!
+//! ```
+//! let list = Pages::of(alloc, vec![in alloc; "ANN", "PAY"]?)?;
+//! let longer = list.with_inserted(alloc, 1, Arc::new(alloc, "BOB")?)?;    // ANN BOB PAY
+//! let name = list.at(1);                                                  // PAY still
+//! ```
+#![tactic(auto)]
+
+mod pages;
+mod part;
+mod search;
+mod shared_page;
+mod splice;
+mod test;
+mod walk;
+
+pub use pages::{NoMemory, Pages};
+pub use test::Test;
+pub use walk::Walk;
+
+#[cfg(test)]
+mod tests;

@@ -1,0 +1,229 @@
+ghost use Rattle.std.specs.Prelude.{◌≡◌, ℕ, ◌+◌, ◌-◌, ◌^◌, ◌<◌, ◌≤◌, List, [], ◌∷◌, ◌++◌, length, map, drop, take, insert, remove, IfOk, Some, slice_set, slice_get, slice_index_or, vec_len, unwrap_or, Option};
+ghost use Rattle.std.specs.List.{flat_map};
+ghost use Rattle.std.specs.Arc.{arc_value};
+ghost use Rattle.pages.specs.Parts.{change_items};
+
+use crate::part::{Change, Part};
+use crate::search::{first_of, last_of};
+use crate::splice::{inserted, item_at, removed, replaced, share_all};
+use crate::test::Test;
+use std::alloc::{AllocError, Global};
+use std::marker::{Model, PhantomData};
+use std::sync::Arc;
+
+/// The most parts of a page.
+const MOST: usize = 64;
+
+/// The parts of a page that is packed.
+const PACKED: usize = 48;
+
+/// A page that versions of a list share. It has its own number of items beside it, so that a place is found by the numbers
+/// of the pages of one level, which stand in a row.
+#[derive(Drop)]
+pub(crate) struct SharedPage<T: Drop, P: Part<T>> {
+    /// How many items are below.
+    len: usize,
+    /// At most 64 parts, with an item below at least.
+    parts: Arc<Vec<P>>,
+    /// Says what the parts are parts of. It is empty.
+    of: PhantomData<T>,
+}
+
+impl<T: Drop, P: Part<T>> Model for SharedPage<T, P> {
+    ghost use Rattle.std.specs.Prelude.{List, vec_len};
+    ghost use Rattle.std.specs.List.{flat_map};
+    ghost use Rattle.std.specs.Arc.{arc_value};
+    ghost use Rattle.pages.specs.Parts.{IsPage};
+
+    ghost Value = { List T };
+
+    ghost view = { λ page. flat_map P.items (arc_value page.parts).items };
+
+    ghost invariant = { λ page. IsPage (flat_map P.items (arc_value page.parts).items) page.len (vec_len (arc_value page.parts)) };
+}
+
+impl<T: Drop, P: Part<T>> SharedPage<T, P> {
+    /// The parts of a page.
+    fn parts(&self) -> &[P]
+        ensures items { flat_map P.items result.now ≡ self.now }
+        ensures most { length result.now ≤ 64 }
+        ensures some { 0 < length self.now }
+        ensures room { length self.now < 2 ^ 64 }
+    {
+        let _len = self.len;
+        self.parts.as_slice()
+    }
+
+    /// A page of these parts, or none where they are empty.
+    fn holding(alloc: Global, parts: Vec<P>) -> Result<Option<SharedPage<T, P>>, AllocError>
+        requires most { vec_len parts ≤ 64 }
+        requires room { length (flat_map P.items parts.items) < 2 ^ 64 }
+        ensures { IfOk result (λ page. unwrap_or page [] ≡ flat_map P.items parts.items) }
+    {
+        let len = P::total(&parts);
+        if len == 0 {
+            return Ok(None);
+        }
+        Ok(Some(SharedPage {
+            len,
+            parts: Arc::new(alloc, parts)?,
+            of: PhantomData,
+        }))
+    }
+
+    /// Two pages in place of one, where both are there.
+    fn change_of(
+        front: Option<SharedPage<T, P>>,
+        back: Option<SharedPage<T, P>>,
+    ) -> Change<SharedPage<T, P>>
+        ensures { change_items (λ page. page) result ≡ unwrap_or front [] ++ unwrap_or back [] }
+    {
+        match (front, back) {
+            (Some(front), Some(back)) => Change::Two(front, back),
+            (Some(only), None) | (None, Some(only)) => Change::One(only),
+            (None, None) => Change::Gone,
+        }
+    }
+
+    /// The parts as one page, or as two where they are too many for one.
+    fn one_or_two(alloc: Global, mut parts: Vec<P>) -> Result<Change<SharedPage<T, P>>, AllocError>
+        requires most { vec_len parts ≤ 65 }
+        requires room { length (flat_map P.items parts.items) < 2 ^ 64 }
+        ensures { IfOk result (λ change. change_items (λ page. page) change ≡ flat_map P.items parts.items) }
+    {
+        if parts.len() <= MOST {
+            return Ok(SharedPage::change_of(SharedPage::holding(alloc, parts)?, None));
+        }
+        let back = parts.split_off(MOST / 2)?;
+        Ok(SharedPage::change_of(
+            SharedPage::holding(alloc, parts)?,
+            SharedPage::holding(alloc, back)?,
+        ))
+    }
+}
+
+impl<T: Drop, P: Part<T>> Part<T> for SharedPage<T, P> {
+    ghost items = { λ page. page };
+
+    fn of(alloc: Global, item: Arc<T>) -> Result<SharedPage<T, P>, AllocError>
+        ensures { IfOk result (λ page. page ≡ arc_value item ∷ []) }
+    {
+        let mut parts = Vec::new(alloc);
+        parts.push(P::of(alloc, item)?)?;
+        Ok(SharedPage {
+            len: 1,
+            parts: Arc::new(alloc, parts)?,
+            of: PhantomData,
+        })
+    }
+
+    fn len(&self) -> usize {
+        self.len
+    }
+
+    fn total(parts: &[SharedPage<T, P>]) -> usize {
+        let mut total = 0;
+        for page in parts {
+            total += page.len;
+        }
+        total
+    }
+
+    fn share(&self) -> Result<SharedPage<T, P>, AllocError> {
+        Ok(SharedPage {
+            len: self.len,
+            parts: Arc::try_clone(&self.parts)?,
+            of: PhantomData,
+        })
+    }
+
+    fn at(&self, place: usize) -> &Arc<T> {
+        item_at(self.parts(), place)
+    }
+
+    fn locate(parts: &[SharedPage<T, P>], place: usize) -> (usize, usize) {
+        let mut rest = place;
+        for (k, page) in parts.iter().enumerate() {
+            if rest < page.len {
+                return (k, rest);
+            }
+            rest -= page.len;
+        }
+        unreachable!()
+    }
+
+    fn last(&self) -> &T {
+        last_of(self.parts())
+    }
+
+    fn first<Q: Test<T>>(&self, test: &Q) -> usize {
+        first_of(self.parts(), test)
+    }
+
+    fn run(parts: &[SharedPage<T, P>], place: usize) -> &[Arc<T>] {
+        let (k, rest) = SharedPage::locate(parts, place);
+        P::run(parts[k].parts(), rest)
+    }
+
+    fn with_replaced(
+        &self,
+        alloc: Global,
+        place: usize,
+        item: Arc<T>,
+    ) -> Result<SharedPage<T, P>, AllocError>
+        requires { place < length self.now }
+        ensures { IfOk result (λ page. page ≡ slice_set self.now place (arc_value item)) }
+    {
+        let parts = replaced(alloc, self.parts(), place, item)?;
+        Ok(SharedPage {
+            len: self.len,
+            parts: Arc::new(alloc, parts)?,
+            of: PhantomData,
+        })
+    }
+
+    fn with_inserted(
+        &self,
+        alloc: Global,
+        place: usize,
+        item: Arc<T>,
+    ) -> Result<Change<SharedPage<T, P>>, AllocError>
+        requires place { place ≤ length self.now }
+        requires room { length self.now + 1 < 2 ^ 64 }
+        ensures { IfOk result (λ change. change_items (λ page. page) change ≡ insert self.now place (arc_value item)) }
+    {
+        let parts = inserted(alloc, self.parts(), place, item)?;
+        SharedPage::one_or_two(alloc, parts)
+    }
+
+    fn with_removed(
+        &self,
+        alloc: Global,
+        place: usize,
+    ) -> Result<Change<SharedPage<T, P>>, AllocError> {
+        let parts = removed(alloc, self.parts(), place)?;
+        SharedPage::one_or_two(alloc, parts)
+    }
+}
+
+/// The parts in pages that are full by three quarters, so that the next inserts don't split them.
+pub(crate) fn packed<T: Drop, P: Part<T>>(
+    alloc: Global,
+    parts: &[P],
+) -> Result<Vec<SharedPage<T, P>>, AllocError>
+    requires { length (flat_map P.items parts.now) < 2 ^ 64 }
+    ensures { IfOk result (λ pages. flat_map (λ page. page) pages.items ≡ flat_map P.items parts.now) }
+{
+    let mut pages = Vec::new(alloc);
+    let mut rest = parts;
+    while !rest.is_empty() {
+        let (front, back) = rest.split_at(rest.len().min(PACKED));
+        let mut page = Vec::with_capacity(alloc, front.len())?;
+        share_all(front, &mut page)?;
+        if let Some(page) = SharedPage::holding(alloc, page)? {
+            pages.push(page)?;
+        }
+        rest = back;
+    }
+    Ok(pages)
+}

@@ -1,0 +1,124 @@
+ghost use Rattle.std.specs.Prelude.{◌≡◌, ℕ, ◌+◌, ◌-◌, ◌^◌, ◌<◌, ◌≤◌, List, [], ◌∷◌, ◌++◌, length, map, drop, take, insert, remove, IfOk, OnOk, Some, slice_set, slice_get, slice_index_or, vec_len};
+ghost use Rattle.std.specs.List.{flat_map};
+ghost use Rattle.std.specs.Arc.{arc_value};
+ghost use Rattle.pages.specs.Parts.{change_items, change_len};
+
+use crate::part::{Change, Part};
+use std::alloc::{AllocError, Global};
+use std::sync::Arc;
+
+/// Puts one more owner of each part behind what is there.
+pub(crate) fn share_all<T: Drop, P: Part<T>>(
+    parts: &[P],
+    into: &mut Vec<P>,
+) -> Result<(), AllocError>
+    ensures items { OnOk result (flat_map P.items into.new.items ≡ flat_map P.items into.old.items ++ flat_map P.items parts.now) }
+    ensures len { OnOk result (vec_len into.new ≡ vec_len into.old + length parts.now) }
+{
+    for part in parts {
+        into.push(part.share()?)?;
+    }
+    Ok(())
+}
+
+/// The parts with a change in place of one of them.
+fn spliced<T: Drop, P: Part<T>>(
+    alloc: Global,
+    parts: &[P],
+    k: usize,
+    change: Change<P>,
+) -> Result<Vec<P>, AllocError>
+    requires { k < length parts.now }
+    ensures items { IfOk result (λ new. flat_map P.items new.items ≡ flat_map P.items (take k parts.now) ++ (change_items P.items change ++ flat_map P.items (drop (k + 1) parts.now))) }
+    ensures len { IfOk result (λ new. vec_len new + 1 ≡ length parts.now + change_len change) }
+{
+    let mut new = Vec::with_capacity(alloc, parts.len().saturating_add(1))?;
+    share_all(&parts[..k], &mut new)?;
+    match change {
+        Change::Gone => {}
+        Change::One(part) => new.push(part)?,
+        Change::Two(front, back) => {
+            new.push(front)?;
+            new.push(back)?;
+        }
+    }
+    share_all(&parts[k + 1..], &mut new)?;
+    Ok(new)
+}
+
+/// The parts with another item at a place.
+pub(crate) fn replaced<T: Drop, P: Part<T>>(
+    alloc: Global,
+    parts: &[P],
+    place: usize,
+    item: Arc<T>,
+) -> Result<Vec<P>, AllocError>
+    requires { place < length (flat_map P.items parts.now) }
+    ensures items { IfOk result (λ new. flat_map P.items new.items ≡ slice_set (flat_map P.items parts.now) place (arc_value item)) }
+    ensures len { IfOk result (λ new. vec_len new ≡ length parts.now) }
+{
+    let (k, rest) = P::locate(parts, place);
+    let part = parts[k].with_replaced(alloc, rest, item)?;
+    spliced(alloc, parts, k, Change::One(part))
+}
+
+/// The part into which an item comes, and the place in it. An item between two parts comes into the first.
+fn gap_at<T: Drop, P: Part<T>>(parts: &[P], place: usize) -> (usize, usize)
+    requires some { 0 < length parts.now }
+    requires place { place ≤ length (flat_map P.items parts.now) }
+    ensures part { result.0 < length parts.now }
+    ensures start { length (flat_map P.items (take result.0 parts.now)) + result.1 ≡ place }
+    ensures within { (d : P) → result.1 ≤ length (P.items (slice_index_or parts.now result.0 d)) }
+{
+    if place == 0 {
+        return (0, 0);
+    }
+    let (k, rest) = P::locate(parts, place - 1);
+    (k, rest + 1)
+}
+
+/// The parts with one more item at a place.
+pub(crate) fn inserted<T: Drop, P: Part<T>>(
+    alloc: Global,
+    parts: &[P],
+    place: usize,
+    item: Arc<T>,
+) -> Result<Vec<P>, AllocError>
+    requires place { place ≤ length (flat_map P.items parts.now) }
+    requires room { length (flat_map P.items parts.now) + 1 < 2 ^ 64 }
+    ensures items { IfOk result (λ new. flat_map P.items new.items ≡ insert (flat_map P.items parts.now) place (arc_value item)) }
+    ensures len { IfOk result (λ new. vec_len new ≤ length parts.now + 1) }
+{
+    if parts.is_empty() {
+        let mut new = Vec::new(alloc);
+        new.push(P::of(alloc, item)?)?;
+        return Ok(new);
+    }
+    let (k, rest) = gap_at(parts, place);
+    let change = parts[k].with_inserted(alloc, rest, item)?;
+    spliced(alloc, parts, k, change)
+}
+
+/// The parts without the item at a place.
+pub(crate) fn removed<T: Drop, P: Part<T>>(
+    alloc: Global,
+    parts: &[P],
+    place: usize,
+) -> Result<Vec<P>, AllocError>
+    requires { place < length (flat_map P.items parts.now) }
+    ensures items { IfOk result (λ new. flat_map P.items new.items ≡ remove (flat_map P.items parts.now) place) }
+    ensures len { IfOk result (λ new. vec_len new ≤ length parts.now + 1) }
+{
+    let (k, rest) = P::locate(parts, place);
+    let change = parts[k].with_removed(alloc, rest)?;
+    spliced(alloc, parts, k, change)
+}
+
+/// The item at a place.
+pub(crate) fn item_at<T: Drop, P: Part<T>>(parts: &[P], place: usize) -> &Arc<T>
+    requires { place < length (flat_map P.items parts.now) }
+    ensures { slice_get (flat_map P.items parts.now) place ≡ Some (arc_value result.now) }
+{
+    let (k, rest) = P::locate(parts, place);
+    parts[k].at(rest)
+}

@@ -97,9 +97,15 @@ impl Session {
 
     /// Works a line of a request.
     fn answer(&mut self, rt: &(impl Print + AllocGlobal), line: &str) -> Result<()> {
-        match read_line(line.as_bytes()) {
-            Ok(RequestLine::Verify(name, request)) => self.verify(rt, name, &request),
-            Ok(RequestLine::Auth(name, request)) => self.decide(rt, name, &request),
+        match &read_line(line.as_bytes()) {
+            Ok(RequestLine::Verify(name, request)) => {
+                let name: Id = *name;
+                self.verify(rt, name, request)
+            }
+            Ok(RequestLine::Auth(name, request)) => {
+                let name: Id = *name;
+                self.decide(rt, name, request)
+            }
             Ok(RequestLine::Skip) => Ok(()),
             _ => Err(anyhow!("no such row: {line}")),
         }

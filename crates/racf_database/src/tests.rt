@@ -12,6 +12,10 @@ fn memory_is_not_wanted(rt: HostRuntime) -> Result<(), Fail> {
     let mut database = Database::new(alloc)?;
     let issuer = Issuer::new(ibmuser(), sys1()).ok_or("issuer")?;
     let command = parse(alloc, issuer.id, b"AU JOE")?;
+    match database.check(&issuer, &command) {
+        Err(_) => return Err(Fail::from("a conflict")),
+        Ok(()) => {}
+    }
     let change = database.prepare(alloc, &issuer, &command)?;
     assert_eq!(rt; change.edits.items.len(), 1);
     database.apply(change);

@@ -1,5 +1,5 @@
 -- The place of a key among rows in order.
-use Rattle.std.proofs.Common.{◌≡◌, ◌+◌, ◌<◌, ◌≤◌, ℕ, Bool, true, false, not, cond, ◌&&◌, List, [], ◌∷◌, ◌++◌, Option, Some, None, length, take, drop, set, ap, sym, subst, ◌∙◌, refl, zero, suc, arith, append-nil}
+use Rattle.std.proofs.Common.{◌≡◌, ◌+◌, ◌<◌, ℕ, Bool, true, false, not, cond, List, [], ◌∷◌, ◌++◌, Some, None, length, take, drop, set, ap, sym, subst, ◌∙◌, refl, zero, suc, arith, append-nil}
 use Rattle.std.specs.List.{filter, find, list_all, slice_get, position_or_len, insert, remove}
 use Rattle.std.proofs.lemmas.List.{take-append-drop}
 use Rattle.std.proofs.lemmas.List.Elements.{filter-append}

@@ -1,4 +1,4 @@
-use Rattle.std.proofs.Common.{◌≡◌, ◌∙◌, ap, sym, subst, set}
+use Rattle.std.proofs.Common.{◌∙◌, ap, sym, subst, set}
 use Rattle.std.specs.Arc.{arc_value}
 use Rattle.std.specs.List.{insert}
 use Rattle.sorted_rows.specs.Sorted.{IsInOrder}

@@ -1,7 +1,7 @@
-use Rattle.std.proofs.Common.{◌≡◌, ◌∙◌, ap, sym, subst, not}
+use Rattle.std.proofs.Common.{◌∙◌, ap, sym, subst, not}
 use Rattle.std.specs.List.{remove}
 use Rattle.std.proofs.lemmas.Result.{IfOk-weaker}
-use Rattle.sorted_rows.specs.Sorted.{IsInOrder, has_key, without_row}
+use Rattle.sorted_rows.specs.Sorted.{IsInOrder, has_key}
 use Rattle.sorted_rows.proofs.RowLaws.{in_order_filter}
 use Rattle.sorted_rows.proofs.PlaceLaws.{removed_is, kept_is}
 use Rattle.sorted_rows.proofs.rows.SortedRows.without_row.Goals as goal

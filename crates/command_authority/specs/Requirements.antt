@@ -70,7 +70,7 @@ unfoldable pub del_user_requirements : DelUser → List Requirement
 del_user_requirements c = over (targets.User c.user) (Special ∷ Owner ∷ GroupSpecial ∷ []) ∷ []
 
 -- ---- groups
--- over the superior group
+-- SPECIAL, JOIN in the superior group, or to own the target or to have group-SPECIAL over it
 abbrev pub below : List ℕ → List Need
 below superior = Special ∷ Join superior ∷ Owner ∷ GroupSpecial ∷ []
 

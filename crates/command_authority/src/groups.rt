@@ -62,7 +62,7 @@ fn superior_of<V: View>(view: &V, group: Id) -> Option<Id>
     }
 }
 
-/// What is needed over the superior group.
+/// SPECIAL, JOIN in the superior group, or to own the target or to have group-SPECIAL over it.
 fn below(superior: Id) -> Needs
     ensures { result ≡ below superior }
 {

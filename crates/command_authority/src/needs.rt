@@ -31,7 +31,7 @@ pub enum Need {
     GroupSpecial,
     /// A data set whose first qualifier is the issuer's ID.
     OwnData,
-    /// An entry with ALTER, for the issuer or for one of his groups.
+    /// An entry with ALTER, for the issuer or, where he has no entry, for one of his groups.
     AlterEntry,
     /// CLAUTH(USER), and the authority JOIN in this group.
     UserJoin(Id),

@@ -6,15 +6,15 @@ use Rattle.std.proofs.lemmas.Option.{slice_get_within}
 use Rattle.pages.proofs.Seams.{split_at_part, up_to_part, flat_map_halves, get_behind}
 use Rattle.pages.specs.Rising.{Rises}
 
+pub and_left : (a b : Bool) → (a && b) ≡ true → a ≡ true
+and_left true b h = refl
+and_left false b h = h
+
+pub and_right : (a b : Bool) → (a && b) ≡ true → b ≡ true
+and_right true b h = h
+and_right false b h = absurd (cc)
+
 module _ {T : Type 0} (p : T → Bool) where
-  and_left : (a b : Bool) → (a && b) ≡ true → a ≡ true
-  and_left true b h = refl
-  and_left false b h = h
-
-  and_right : (a b : Bool) → (a && b) ≡ true → b ≡ true
-  and_right true b h = h
-  and_right false b h = absurd (cc)
-
   -- a front of a list in which a test rises, and the rest
   pub rises_front : (xs ys : List T) → Rises p (xs ++ ys) → Rises p xs
   rises_front [] ys h = tt

@@ -133,6 +133,7 @@ impl<T: Drop> Pages<T> {
         ensures place { result ≡ position_or_len (Q.passes test.now) self.now }
         ensures within { result ≤ length self.now }
     {
+        // That the length is a number bounds each place.
         let _len = self.len;
         first_of(&self.pages, test)
     }

@@ -50,6 +50,7 @@ impl<T: Drop, P: Part<T>> SharedPage<T, P> {
         ensures some { 0 < length self.now }
         ensures room { length self.now < 2 ^ 64 }
     {
+        // That the length is a number bounds each place.
         let _len = self.len;
         self.parts.as_slice()
     }

@@ -2,16 +2,9 @@
 use Rattle.std.proofs.Common.{◌≡◌, ℕ, Bool, true, false, not, cond, ◌&&◌, List, [], ◌∷◌, ◌++◌, Some, ap, ◌∙◌, refl}
 use Rattle.std.specs.List.{filter, find, list_all}
 use Rattle.std.proofs.lemmas.List.Folds.{list_all-append}
+use Rattle.pages.proofs.RisingLaws.{and_left, and_right}
 use Rattle.sorted_rows.specs.Sorted.{is_before, IsInOrder, with_row}
 use Rattle.sorted_rows.proofs.KeyLaws.{before_trans}
-
-and_left : (a b : Bool) → (a && b) ≡ true → a ≡ true
-and_left true b h = refl
-and_left false b h = h
-
-and_right : (a b : Bool) → (a && b) ≡ true → b ≡ true
-and_right true b h = h
-and_right false b h = absurd (cc)
 
 pub fails : (b : Bool) → not b ≡ true → b ≡ false
 fails true h = absurd (cc)

@@ -10,6 +10,7 @@ ghost use Rattle.racf_profiles.specs.Tree.{IsTree, IsBelow};
 
 mod changes;
 
+use crate::climb::GroupList;
 use crate::faults::TreeFault;
 use access_levels::Id;
 use indexmap::IndexMap;
@@ -18,7 +19,7 @@ use std::alloc::Global;
 use std::marker::Model;
 
 /// The most groups that a tree has (this product's own rule).
-const MOST_GROUPS: usize = 8000;
+pub(crate) const MOST_GROUPS: usize = 8000;
 
 /// The groups with their superior groups and owners, in order of definition. Nothing else is kept: a question
 /// of scope walks up from group to group, with one look-up by name a step.
@@ -116,6 +117,14 @@ impl Tree {
             }
         }
         None
+    }
+}
+
+impl GroupList for Tree {
+    ghost groups = { λ tree. tree.groups };
+
+    fn find_group(&self, id: Id) -> Option<&Group> {
+        self.get(id)
     }
 }
 

@@ -3,3 +3,4 @@ pub mod Tables
 pub mod EditLaws
 pub mod OrderedProfiles
 pub mod States
+pub mod Copies

@@ -15,7 +15,7 @@ use Rattle.racf_profiles.proofs.Found.{find-hit, find-miss, all_head, all_tail}
 use Rattle.racf_profiles.proofs.EditLaws.{put_row-found}
 
 -- What is found passes the test.
-find-passes : {X : Type 0} (p : X → Bool) (x : X) (xs : List X) → find p xs ≡ Some x → p x ≡ true
+pub find-passes : {X : Type 0} (p : X → Bool) (x : X) (xs : List X) → find p xs ≡ Some x → p x ≡ true
 find-passes p x [] found = cc
 find-passes p x (y ∷ ys) found = ⊎_elim
     (λ (hit : p y ≡ true). let some : Some y ≡ Some x = sym (find-hit p y ys hit) ∙ found in let same : y ≡ x = cc in sym (ap p same) ∙ hit)
@@ -23,7 +23,7 @@ find-passes p x (y ∷ ys) found = ⊎_elim
     (cases_Bool (p y))
 
 -- The copies that a restart makes.
-abbrev copies_of : List ClassRow → List ListedCopy
+abbrev pub copies_of : List ClassRow → List ListedCopy
 copies_of classes = map copy_of_class (filter (λ (class : ClassRow). class.listed) classes)
 
 filter-hit : {X : Type 0} (p : X → Bool) (x : X) (xs : List X) → p x ≡ true → filter p (x ∷ xs) ≡ x ∷ filter p xs
@@ -33,14 +33,14 @@ filter-miss : {X : Type 0} (p : X → Bool) (x : X) (xs : List X) → p x ≡ fa
 filter-miss p x xs miss = ap (λ b. cond b (x ∷ filter p xs) (filter p xs)) miss
 
 -- Of a class that isn't sought there may be a copy or none.
-copies_of-others : (name : List ℕ) (class : ClassRow) (classes : List ClassRow) → is_class name class ≡ false → find (is_copy_of name) (copies_of (class ∷ classes)) ≡ find (is_copy_of name) (copies_of classes)
+pub copies_of-others : (name : List ℕ) (class : ClassRow) (classes : List ClassRow) → is_class name class ≡ false → find (is_copy_of name) (copies_of (class ∷ classes)) ≡ find (is_copy_of name) (copies_of classes)
 copies_of-others name class classes miss = ⊎_elim
     (λ (kept : class.listed ≡ true). ap (λ rows. find (is_copy_of name) (map copy_of_class rows)) (filter-hit (λ (c : ClassRow). c.listed) class classes kept)
     ∙ find-miss (is_copy_of name) (copy_of_class class) (copies_of classes) miss)
     (λ (left : class.listed ≡ false). ap (λ rows. find (is_copy_of name) (map copy_of_class rows)) (filter-miss (λ (c : ClassRow). c.listed) class classes left))
     (cases_Bool class.listed)
 
-copies_of-listed : (name : List ℕ) (class : ClassRow) (classes : List ClassRow) → is_class name class ≡ true → class.listed ≡ true → find (is_copy_of name) (copies_of (class ∷ classes)) ≡ Some (copy_of_class class)
+pub copies_of-listed : (name : List ℕ) (class : ClassRow) (classes : List ClassRow) → is_class name class ≡ true → class.listed ≡ true → find (is_copy_of name) (copies_of (class ∷ classes)) ≡ Some (copy_of_class class)
 copies_of-listed name class classes hit kept =
     ap (λ rows. find (is_copy_of name) (map copy_of_class rows)) (filter-hit (λ (c : ClassRow). c.listed) class classes kept)
     ∙ find-hit (is_copy_of name) (copy_of_class class) (copies_of classes) hit
@@ -73,10 +73,10 @@ effective_in-live name (class ∷ classes) = ⊎_elim
     (cases_Bool (is_class name class))
 
 -- A class of the name, changed by what keeps names.
-at_class-hit : (name : List ℕ) (change : ClassRow → ClassRow) (class : ClassRow) (classes : List ClassRow) → is_class name class ≡ true → at_class name change (class ∷ classes) ≡ change class ∷ classes
+pub at_class-hit : (name : List ℕ) (change : ClassRow → ClassRow) (class : ClassRow) (classes : List ClassRow) → is_class name class ≡ true → at_class name change (class ∷ classes) ≡ change class ∷ classes
 at_class-hit name change class classes hit = ap (λ b. cond b (change class ∷ classes) (class ∷ at_class name change classes)) hit
 
-at_class-miss : (name : List ℕ) (change : ClassRow → ClassRow) (class : ClassRow) (classes : List ClassRow) → is_class name class ≡ false → at_class name change (class ∷ classes) ≡ class ∷ at_class name change classes
+pub at_class-miss : (name : List ℕ) (change : ClassRow → ClassRow) (class : ClassRow) (classes : List ClassRow) → is_class name class ≡ false → at_class name change (class ∷ classes) ≡ class ∷ at_class name change classes
 at_class-miss name change class classes miss = ap (λ b. cond b (change class ∷ classes) (class ∷ at_class name change classes)) miss
 
 pub at_class-found : (name : List ℕ) (change : ClassRow → ClassRow) (row : ClassRow) (classes : List ClassRow) → ((class : ClassRow) → is_class name (change class) ≡ is_class name class)
@@ -100,13 +100,13 @@ effective-listed name row state found =
     ∙ ap (λ o. Some (profiles_in o)) (put_row-found (is_copy_of name) (copy_of_class row) state.copies (find-passes (is_class name) row state.rows.classes found))
 
 -- Whether a class is listed, after a change of a class that leaves that.
-abbrev listed_in : List ℕ → List ClassRow → Bool
+abbrev pub listed_in : List ℕ → List ClassRow → Bool
 listed_in name classes = option_map_or (λ (class : ClassRow). class.listed) (find (is_class name) classes) false
 
-listed_in-hit : (name : List ℕ) (class : ClassRow) (classes : List ClassRow) → is_class name class ≡ true → listed_in name (class ∷ classes) ≡ class.listed
+pub listed_in-hit : (name : List ℕ) (class : ClassRow) (classes : List ClassRow) → is_class name class ≡ true → listed_in name (class ∷ classes) ≡ class.listed
 listed_in-hit name class classes hit = ap (λ o. option_map_or (λ (c : ClassRow). c.listed) o false) (find-hit (is_class name) class classes hit)
 
-listed_in-miss : (name : List ℕ) (class : ClassRow) (classes : List ClassRow) → is_class name class ≡ false → listed_in name (class ∷ classes) ≡ listed_in name classes
+pub listed_in-miss : (name : List ℕ) (class : ClassRow) (classes : List ClassRow) → is_class name class ≡ false → listed_in name (class ∷ classes) ≡ listed_in name classes
 listed_in-miss name class classes miss = ap (λ o. option_map_or (λ (c : ClassRow). c.listed) o false) (find-miss (is_class name) class classes miss)
 
 at_class-listed : (name other : List ℕ) (change : ClassRow → ClassRow) (classes : List ClassRow) → ((class : ClassRow) → is_class name (change class) ≡ is_class name class) → ((class : ClassRow) → (change class).listed ≡ class.listed)
@@ -130,7 +130,7 @@ effective-copy name None copy listed = cc
 effective-copy name (Some class) copy listed = ap (λ b. Some (cond b copy class.profiles)) listed
 
 -- Other edits leave the copies, and which classes are listed.
-edit-listed : (name : List ℕ) (edit : Edit) (rows : Rows) → is_of_copies edit ≡ false → is_listed name (edited edit rows) ≡ is_listed name rows
+pub edit-listed : (name : List ℕ) (edit : Edit) (rows : Rows) → is_of_copies edit ≡ false → is_listed name (edited edit rows) ≡ is_listed name rows
 edit-listed name (PutUser user) rows other = refl
 edit-listed name (DropUser id) rows other = refl
 edit-listed name (PutGroup group) rows other = refl
@@ -142,7 +142,7 @@ edit-listed name (PutClass class active global log) rows other = at_class-listed
 edit-listed name (ListCopy class) rows other = cc
 edit-listed name (Unlist class) rows other = cc
 
-edit-copies : (edit : Edit) (state : State) → is_of_copies edit ≡ false → (edited_state edit state).copies ≡ state.copies
+pub edit-copies : (edit : Edit) (state : State) → is_of_copies edit ≡ false → (edited_state edit state).copies ≡ state.copies
 edit-copies (PutUser user) state other = refl
 edit-copies (DropUser id) state other = refl
 edit-copies (PutGroup group) state other = refl
@@ -154,7 +154,7 @@ edit-copies (PutClass class active global log) state other = refl
 edit-copies (ListCopy class) state other = cc
 edit-copies (Unlist class) state other = cc
 
-not-false : (b : Bool) → not b ≡ true → b ≡ false
+pub not-false : (b : Bool) → not b ≡ true → b ≡ false
 not-false true h = sym h
 not-false false h = refl
 

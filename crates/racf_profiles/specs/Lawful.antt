@@ -1,10 +1,12 @@
 -- What holds of the rows of every database: this is all that an image on a disk asks of them.
-use Rattle.std.specs.Prelude.{◌≡◌, ◌≤◌, List, length, Ok, IsTrue, bytes_eq}
+use Rattle.std.specs.Prelude.{◌≡◌, ◌≤◌, List, [], ◌∷◌, length, Ok, IsTrue, bytes_eq}
 use Rattle.std.specs.List.{AllByRecursion, IsDistinct, list_any}
 use Rattle.access_levels.specs.Spelling.{group_of as group_spelled}
 use Rattle.racf_profiles.specs.declared.groups.Group.{Group}
 use Rattle.racf_profiles.specs.declared.options.Options.{Options}
 use Rattle.racf_profiles.specs.declared.rows.Rows.{Rows}
+use Rattle.racf_profiles.specs.declared.edits.Edit.{Edit}
+use Rattle.racf_profiles.specs.Edits.{edited}
 use Rattle.racf_profiles.specs.Limits.{most_connections_in_all, most_profiles, most_entries_in_all, most_categories}
 use Rattle.racf_profiles.specs.Names.{connections, is_special_user}
 use Rattle.racf_profiles.specs.Counts.{profile_count, entry_count}
@@ -33,3 +35,8 @@ pub record AreLawful (rows : Rows) : Type 0 where
   pub few_profiles : profile_count rows.classes ≤ most_profiles
   pub few_entries : entry_count rows.classes ≤ most_entries_in_all
   pub categories : AreCategories rows.options
+
+-- Behind each of the edits, made in their order, the classes are the fixed ones, each with lawful profiles.
+abbrev pub LeaveLawfulClasses : List Edit → Rows → Type 0
+LeaveLawfulClasses [] rows = Unit {0}
+LeaveLawfulClasses (edit ∷ edits) rows = AreClasses (edited edit rows).classes × LeaveLawfulClasses edits (edited edit rows)

@@ -1,6 +1,6 @@
 -- A state is the rows and, for each RACLISTed class, its listed copy.
-use Rattle.std.specs.Prelude.{ℕ, Bool, true, false, List, [], ◌∷◌, map, Option, option_map, bytes_eq, if◌then◌else◌}
-use Rattle.std.specs.List.{find, filter}
+use Rattle.std.specs.Prelude.{ℕ, Bool, true, false, not, List, [], ◌∷◌, map, Option, option_map, bytes_eq, if◌then◌else◌, IsTrue, IsSome}
+use Rattle.std.specs.List.{find, filter, list_all}
 use Rattle.std.specs.Option.{option_map_or}
 use Rattle.racf_profiles.specs.declared.profiles.Profile.{Profile}
 use Rattle.racf_profiles.specs.declared.class_rows.ClassRow.{ClassRow}
@@ -57,6 +57,14 @@ copy_of name copies = option_map_or (λ (copy : ListedCopy). copy.profiles) (fin
 -- Whether a class is RACLISTed.
 abbrev pub is_listed : List ℕ → Rows → Bool
 is_listed name rows = option_map_or (λ (class : ClassRow). class.listed) (class_of name rows) false
+
+-- Each RACLISTed class has its listed copy.
+abbrev pub HaveCopies : State → Type 0
+HaveCopies state = (name : List ℕ) → IsTrue (is_listed name state.rows) → IsSome (find (is_copy_of name) state.copies)
+
+-- No class is RACLISTed.
+abbrev pub is_none_listed : Rows → Bool
+is_none_listed rows = list_all (λ (class : ClassRow). not class.listed) rows.classes
 
 -- The effective profiles of a class: its listed copy where it is RACLISTed, else its live profiles.
 abbrev pub effective : List ℕ → State → Option (List Profile)

@@ -7,8 +7,8 @@ ghost use Rattle.generic_names.specs.Laws.{IsPattern};
 ghost use Rattle.generic_names.specs.declared.kind.NameKind.{NameKind};
 ghost use Rattle.racf_profiles.specs.ClassTable.{class_name, facts_of_class, facts_of, is_consistent};
 ghost use Rattle.racf_profiles.specs.Lookup.{user_of, group_of, class_of, profile_of};
-ghost use Rattle.racf_profiles.specs.Edits.{edited, put_profile, is_in_order, AreNamed};
-ghost use Rattle.racf_profiles.specs.State.{State, restart, effective, edited_state, changed_state, is_listed, is_of_copies};
+ghost use Rattle.racf_profiles.specs.Edits.{edited, changed, put_profile, is_in_order, AreNamed};
+ghost use Rattle.racf_profiles.specs.State.{State, HaveCopies, restart, effective, edited_state, changed_state, is_listed, is_none_listed, is_of_copies};
 ghost use Rattle.racf_profiles.specs.declared.fixed_classes.FixedClass.{FixedClass};
 ghost use Rattle.racf_profiles.specs.declared.fixed_classes.ClassFacts.{ClassFacts};
 ghost use Rattle.racf_profiles.specs.declared.users.User.{User};
@@ -72,4 +72,21 @@ pub fn other_edits_leave_listed_copies()
 /// A class that is there has effective profiles, in every state.
 pub fn known_classes_have_effective_profiles()
     ensures { (name : List ℕ) (state : State) → IsSome (effective name state) ↔ IsSome (class_of name state.rows) }
+{}
+
+/// A class that is RACLISTed has its listed copy, behind a restart and behind every edit.
+pub fn listed_classes_have_copies()
+    ensures restart { (rows : Rows) → HaveCopies (restart rows) }
+    ensures edit { (edit : Edit) (state : State) → HaveCopies state → HaveCopies (edited_state edit state) }
+{}
+
+/// Where no class is RACLISTed, edits that list none leave the state that a restart makes.
+pub fn unlisted_classes_need_no_copies()
+    ensures state { (edits : List Edit) (rows : Rows) → IsTrue (is_none_listed rows) → IsTrue (list_all (λ (edit : Edit). not (is_of_copies edit)) edits) → changed_state edits (restart rows) ≡ restart (changed edits rows) }
+    ensures none_listed { (edits : List Edit) (rows : Rows) → IsTrue (is_none_listed rows) → IsTrue (list_all (λ (edit : Edit). not (is_of_copies edit)) edits) → IsTrue (is_none_listed (changed edits rows)) }
+{}
+
+/// The rows of a state behind edits are the rows behind them.
+pub fn rows_are_changed()
+    ensures { (edits : List Edit) (state : State) → (changed_state edits state).rows ≡ changed edits state.rows }
 {}

@@ -2,12 +2,14 @@
 ghost use Rattle.std.specs.Prelude.{◌≡◌, ◌<◌, length, Some, IfOk, IsSomeAnd, option_map};
 ghost use Rattle.std.specs.List.{slice_get};
 ghost use Rattle.racf_profiles.specs.declared.profiles.Profile.{Profile};
+ghost use Rattle.racf_profiles.specs.Lookup.{is_profile};
+ghost use Rattle.racf_profiles.specs.Edits.{put_profile, drop_row};
 ghost use Rattle.racf_profiles.specs.LawfulProfiles.{AreProfiles};
 ghost use Rattle.class_profiles.specs.Table.{best_profile, IsPlaceOf};
 ghost use Rattle.raclist_image.specs.Facts.{AreFacts};
 
 use crate::facts::Facts;
-use class_profiles::ProfileTable;
+use class_profiles::SharedProfiles;
 use generic_names::{NameKind, Pattern, Resource};
 use racf_profiles::{NoMemory, Profile};
 use std::alloc::Global;
@@ -17,7 +19,7 @@ use std::marker::Model;
 #[derive(Drop)]
 pub struct ClassImage {
     /// The profiles by their names.
-    table: ProfileTable,
+    profiles: SharedProfiles,
 }
 
 impl Model for ClassImage {
@@ -37,7 +39,7 @@ impl ClassImage {
         ensures { IfOk result (λ image. image ≡ record { kind = kind; profiles = profiles.now }) }
     {
         Ok(ClassImage {
-            table: ProfileTable::of(alloc, kind, profiles)?,
+            profiles: SharedProfiles::of(alloc, kind, profiles)?,
         })
     }
 
@@ -46,7 +48,7 @@ impl ClassImage {
         ensures count { result ≡ length self.now.profiles }
         ensures lawful { AreProfiles self.now.kind self.now.profiles }
     {
-        self.table.len()
+        self.profiles.len()
     }
 
     /// The place of the most specific profile that covers the name, from 0. It is found by a search in the order, in
@@ -55,7 +57,7 @@ impl ClassImage {
         requires { name.now.kind ≡ self.now.kind }
         ensures { IsPlaceOf self.now.profiles (best_profile self.now.profiles name.now) result }
     {
-        self.table.find(name)
+        self.profiles.find(name)
     }
 
     /// The name of the profile at that place.
@@ -63,7 +65,7 @@ impl ClassImage {
         requires { place < length self.now.profiles }
         ensures { option_map (λ (profile : Profile). profile.name) (slice_get self.now.profiles place) ≡ Some result }
     {
-        self.table.at(place).name
+        self.profiles.at(place).name
     }
 
     /// What a decision reads of the profile at that place.
@@ -71,7 +73,35 @@ impl ClassImage {
         requires { place < length self.now.profiles }
         ensures { IsSomeAnd (slice_get self.now.profiles place) (λ profile. AreFacts profile result) }
     {
-        facts_of(self.table.at(place))
+        facts_of(self.profiles.at(place))
+    }
+
+    /// The image with the profile, copied, in the place of the one of its name, or else at its place in the order.
+    pub(crate) fn with_profile(
+        &self,
+        alloc: Global,
+        profile: &Profile,
+    ) -> Result<ClassImage, NoMemory>
+        requires { AreProfiles self.now.kind (put_profile profile.now self.now.profiles) }
+        ensures { IfOk result (λ image. image ≡ record { kind = self.now.kind; profiles = put_profile profile.now self.now.profiles }) }
+    {
+        let copy = profile.copy(alloc)?;
+        Ok(ClassImage {
+            profiles: self.profiles.with_profile(alloc, copy)?,
+        })
+    }
+
+    /// The image without the profile of that very name.
+    pub(crate) fn without_profile(
+        &self,
+        alloc: Global,
+        name: &Pattern,
+    ) -> Result<ClassImage, NoMemory>
+        ensures { IfOk result (λ image. image ≡ record { kind = self.now.kind; profiles = drop_row (is_profile name.now) self.now.profiles }) }
+    {
+        Ok(ClassImage {
+            profiles: self.profiles.without_profile(alloc, name)?,
+        })
     }
 }
 

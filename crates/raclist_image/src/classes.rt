@@ -1,16 +1,21 @@
 //! The classes of an image.
-ghost use Rattle.std.specs.Prelude.{◌≡◌, find, IfOk, IfSome};
+ghost use Rattle.std.specs.Prelude.{◌≡◌, ◌<◌, Bool, List, length, position, find, map, slice_get, slice_set, Some, IfOk, IfSome, OnOk};
+ghost use Rattle.std.specs.Arc.{arc_value};
 ghost use Rattle.std.specs.Option.{option_copied};
-ghost use Rattle.racf_profiles.specs.Lookup.{is_class};
+ghost use Rattle.racf_profiles.specs.declared.class_rows.ClassRow.{ClassRow};
+ghost use Rattle.racf_profiles.specs.Lookup.{is_class, is_profile};
+ghost use Rattle.racf_profiles.specs.Edits.{put_profile, drop_row, at_class, with_profile, without_profile, with_flags, with_listed};
 ghost use Rattle.racf_profiles.specs.LawfulProfiles.{AreProfiles, AreClasses, kind_in};
 ghost use Rattle.raclist_image.specs.Flags.{flags_of_row};
 
 use crate::class_image::ClassImage;
 use crate::flags::ClassFlags;
 use access_levels::Id;
-use racf_profiles::{ClassRow, NoMemory, allows_operations, kind_in};
+use generic_names::Pattern;
+use racf_profiles::{ClassRow, LogOption, NoMemory, Profile, allows_operations, kind_in};
 use std::alloc::Global;
 use std::marker::Model;
+use std::sync::Arc;
 
 /// A class with its profiles.
 #[derive(Drop)]
@@ -19,8 +24,8 @@ pub(crate) struct ClassEntry {
     name: Id,
     /// Its flags, and what the class table says of OPERATIONS.
     flags: ClassFlags,
-    /// Its profiles, by name and by what they cover.
-    profiles: ClassImage,
+    /// Its live profiles, by name and by what they cover.
+    profiles: Arc<ClassImage>,
 }
 
 impl Model for ClassEntry {
@@ -46,8 +51,15 @@ impl ClassEntry {
         Ok(ClassEntry {
             name: row.name,
             flags: flags_of_row(row),
-            profiles,
+            profiles: Arc::new(alloc, profiles)?,
         })
+    }
+
+    /// Its name.
+    pub(crate) fn name(&self) -> Id
+        ensures { result ≡ self.now.name }
+    {
+        self.name
     }
 
     /// Its flags.
@@ -57,12 +69,79 @@ impl ClassEntry {
         self.flags
     }
 
-    /// Its profiles.
+    /// Its live profiles.
     pub(crate) fn profiles(&self) -> &ClassImage
         ensures profiles { result.now.profiles ≡ self.now.profiles }
         ensures kind { result.now.kind ≡ kind_in self.now.name }
     {
         &self.profiles
+    }
+
+    /// One more owner of its live profiles.
+    pub(crate) fn shared_profiles(&self) -> Result<Arc<ClassImage>, NoMemory>
+        ensures profiles { IfOk result (λ image. (arc_value image).profiles ≡ self.now.profiles) }
+        ensures kind { IfOk result (λ image. (arc_value image).kind ≡ kind_in self.now.name) }
+    {
+        Arc::try_clone(&self.profiles)
+    }
+
+    /// The class with a profile put.
+    fn with_profile(&self, alloc: Global, profile: &Profile) -> Result<ClassEntry, NoMemory>
+        requires { AreProfiles (kind_in self.now.name) (put_profile profile.now self.now.profiles) }
+        ensures { IfOk result (λ class. class ≡ with_profile profile.now self.now) }
+    {
+        let profiles = self.profiles.with_profile(alloc, profile)?;
+        Ok(ClassEntry {
+            name: self.name,
+            flags: self.flags,
+            profiles: Arc::new(alloc, profiles)?,
+        })
+    }
+
+    /// The class without the profile of that name.
+    fn without_profile(&self, alloc: Global, name: &Pattern) -> Result<ClassEntry, NoMemory>
+        ensures { IfOk result (λ class. class ≡ without_profile name.now self.now) }
+    {
+        let profiles = self.profiles.without_profile(alloc, name)?;
+        Ok(ClassEntry {
+            name: self.name,
+            flags: self.flags,
+            profiles: Arc::new(alloc, profiles)?,
+        })
+    }
+
+    /// The class, active or not, with the global access table used for it or not, and with that log option.
+    fn with_flags(&self, active: bool, global: bool, log: LogOption) -> Result<ClassEntry, NoMemory>
+        ensures { IfOk result (λ class. class ≡ with_flags active global log self.now) }
+    {
+        Ok(ClassEntry {
+            name: self.name,
+            flags: ClassFlags {
+                active,
+                listed: self.flags.listed,
+                global,
+                operations: self.flags.operations,
+                log,
+            },
+            profiles: Arc::try_clone(&self.profiles)?,
+        })
+    }
+
+    /// The class, RACLISTed or not.
+    fn with_listed(&self, listed: bool) -> Result<ClassEntry, NoMemory>
+        ensures { IfOk result (λ class. class ≡ with_listed listed self.now) }
+    {
+        Ok(ClassEntry {
+            name: self.name,
+            flags: ClassFlags {
+                active: self.flags.active,
+                listed,
+                global: self.flags.global,
+                operations: self.flags.operations,
+                log: self.flags.log,
+            },
+            profiles: Arc::try_clone(&self.profiles)?,
+        })
     }
 }
 
@@ -79,24 +158,21 @@ fn flags_of_row(row: &ClassRow) -> ClassFlags
     }
 }
 
-/// The classes in their order.
+/// The classes in their order. A version that was changed shares with the one before all classes but the changed ones.
 #[derive(Drop)]
 pub(crate) struct ClassList {
     /// The fourteen classes.
-    classes: Vec<ClassEntry>,
+    classes: Vec<Arc<ClassEntry>>,
 }
 
 impl Model for ClassList {
-    ghost use Rattle.std.specs.Prelude.{List};
+    ghost use Rattle.std.specs.Prelude.{List, map};
+    ghost use Rattle.std.specs.Arc.{arc_value};
     ghost use Rattle.racf_profiles.specs.declared.class_rows.ClassRow.{ClassRow};
 
     ghost Value = { List ClassRow };
 
-    ghost use Rattle.racf_profiles.specs.LawfulProfiles.{AreClasses};
-
-    ghost view = { λ list. list.classes.items };
-
-    ghost invariant = { λ list. AreClasses list.classes.items };
+    ghost view = { λ list. map arc_value list.classes.items };
 }
 
 impl ClassList {
@@ -107,9 +183,35 @@ impl ClassList {
     {
         let mut classes = Vec::new(alloc);
         for row in rows {
-            classes.push(ClassEntry::of(alloc, row)?)?;
+            classes.push(Arc::new(alloc, ClassEntry::of(alloc, row)?)?)?;
         }
         Ok(ClassList { classes })
+    }
+
+    /// The same classes once more.
+    pub(crate) fn share(&self, alloc: Global) -> Result<ClassList, NoMemory>
+        ensures { IfOk result (λ list. list ≡ self.now) }
+    {
+        let mut classes = Vec::with_capacity(alloc, self.classes.len())?;
+        for class in &self.classes {
+            classes.push(Arc::try_clone(class)?)?;
+        }
+        Ok(ClassList { classes })
+    }
+
+    /// How many classes there are.
+    pub(crate) fn len(&self) -> usize
+        ensures { result ≡ length self.now }
+    {
+        self.classes.len()
+    }
+
+    /// The class at a place.
+    pub(crate) fn at(&self, place: usize) -> &ClassEntry
+        requires { place < length self.now }
+        ensures { slice_get self.now place ≡ Some result.now }
+    {
+        &self.classes[place]
     }
 
     /// The class of that name, found by going through the classes, of which there are fourteen.
@@ -117,6 +219,93 @@ impl ClassList {
         ensures class { option_copied result ≡ find (is_class name) self.now }
         ensures named { IfSome result (λ class. class.now.name ≡ name) }
     {
-        self.classes.iter().find(|class| class.name == name)
+        match self.place(name) {
+            Some(place) => Some(self.at(place)),
+            None => None,
+        }
+    }
+
+    /// Puts a profile into a class.
+    pub(crate) fn put_profile(
+        &mut self,
+        alloc: Global,
+        class: Id,
+        profile: &Profile,
+    ) -> Result<(), NoMemory>
+        requires { AreClasses (at_class class (with_profile profile.now) self.old) }
+        ensures { OnOk result (self.new ≡ at_class class (with_profile profile.now) self.old) }
+    {
+        let Some(place) = self.place(class) else {
+            return Ok(());
+        };
+        let entry = self.at(place).with_profile(alloc, profile)?;
+        self.replace(alloc, place, entry)
+    }
+
+    /// Takes the profile of that very name out of a class, if there is one.
+    pub(crate) fn remove_profile(
+        &mut self,
+        alloc: Global,
+        class: Id,
+        name: &Pattern,
+    ) -> Result<(), NoMemory>
+        ensures { OnOk result (self.new ≡ at_class class (without_profile name.now) self.old) }
+    {
+        let Some(place) = self.place(class) else {
+            return Ok(());
+        };
+        let entry = self.at(place).without_profile(alloc, name)?;
+        self.replace(alloc, place, entry)
+    }
+
+    /// Sets whether a class is active, whether the global access table is used for it, and its log option.
+    pub(crate) fn set_flags(
+        &mut self,
+        alloc: Global,
+        class: Id,
+        active: bool,
+        global: bool,
+        log: LogOption,
+    ) -> Result<(), NoMemory>
+        ensures { OnOk result (self.new ≡ at_class class (with_flags active global log) self.old) }
+    {
+        let Some(place) = self.place(class) else {
+            return Ok(());
+        };
+        let entry = self.at(place).with_flags(active, global, log)?;
+        self.replace(alloc, place, entry)
+    }
+
+    /// Sets whether a class is RACLISTed.
+    pub(crate) fn set_listed(
+        &mut self,
+        alloc: Global,
+        class: Id,
+        listed: bool,
+    ) -> Result<(), NoMemory>
+        ensures { OnOk result (self.new ≡ at_class class (with_listed listed) self.old) }
+    {
+        let Some(place) = self.place(class) else {
+            return Ok(());
+        };
+        let entry = self.at(place).with_listed(listed)?;
+        self.replace(alloc, place, entry)
+    }
+
+    /// The place of the class of that name.
+    fn place(&self, name: Id) -> Option<usize>
+        ensures { result ≡ position (is_class name) self.now }
+    {
+        self.classes.iter().position(|class| class.name == name)
+    }
+
+    /// Puts another class in the place of one.
+    fn replace(&mut self, alloc: Global, place: usize, entry: ClassEntry) -> Result<(), NoMemory>
+        requires { place < length self.old }
+        ensures { OnOk result (self.new ≡ slice_set self.old place entry) }
+    {
+        let shared = Arc::new(alloc, entry)?;
+        self.classes[place] = shared;
+        Ok(())
     }
 }

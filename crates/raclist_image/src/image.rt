@@ -3,21 +3,20 @@ ghost use Rattle.std.specs.Prelude.{◌≡◌, ◌↔◌, ◌<◌, length, slice
 ghost use Rattle.std.specs.Arc.{arc_value};
 ghost use Rattle.std.specs.Option.{option_copied};
 ghost use Rattle.racf_profiles.specs.Lookup.{user_of, group_of, class_of};
-ghost use Rattle.racf_profiles.specs.State.{restart, effective};
-ghost use Rattle.racf_profiles.specs.Tree.{IsTree};
+ghost use Rattle.racf_profiles.specs.Edits.{changed};
+ghost use Rattle.racf_profiles.specs.State.{restart, effective, changed_state};
 ghost use Rattle.racf_profiles.specs.Scope.{InScopeProfile};
 ghost use Rattle.racf_profiles.specs.LawfulProfiles.{kind_in};
-ghost use Rattle.racf_profiles.specs.Lawful.{AreLawful};
+ghost use Rattle.racf_profiles.specs.Lawful.{AreLawful, LeaveLawfulClasses};
 ghost use Rattle.raclist_image.specs.Flags.{flags_of};
 
 use crate::class_image::ClassImage;
-use crate::classes::ClassList;
 use crate::flags::ClassFlags;
-use crate::users::UserMap;
+use crate::state::ImageState;
 use access_levels::Id;
-use group_tree::Tree;
-use racf_profiles::{Group, NoMemory, Options, Rows, User};
-use std::alloc::{AllocError, Global};
+use group_tree::{in_scope_group, in_scope_user};
+use racf_profiles::{Change, Group, NoMemory, Options, Rows, User};
+use std::alloc::Global;
 use std::marker::Model;
 use std::sync::Arc;
 
@@ -25,14 +24,8 @@ use std::sync::Arc;
 /// It never changes, and no call that reads it takes memory.
 #[derive(Drop)]
 pub struct Image {
-    /// The users by their IDs, in order of definition.
-    users: UserMap,
-    /// The groups, and scope.
-    groups: Tree,
-    /// The classes in their order, with their profiles.
-    classes: ClassList,
-    /// The options of the whole system.
-    options: Options,
+    /// The rows and the listed copies.
+    state: ImageState,
     /// How many commands were accepted before this state.
     generation: u64,
 }
@@ -56,18 +49,30 @@ impl Image {
         requires { AreLawful rows.now }
         ensures { IfOk result (λ image. arc_value image ≡ record { state = restart rows.now; generation = generation }) }
     {
-        let users = UserMap::of(alloc, rows.users.items.as_slice())?;
-        let groups = tree_of(alloc, rows.groups.items.as_slice())?;
-        let classes = ClassList::of(alloc, rows.classes.items.as_slice())?;
-        let options = rows.options.copy(alloc)?;
-        let image = Image {
-            users,
-            groups,
-            classes,
-            options,
-            generation,
-        };
-        Ok(Arc::new(alloc, image)?)
+        racf_profiles::laws::listed_classes_have_copies();
+        let state = ImageState::of(alloc, rows)?;
+        Arc::new(alloc, Image { state, generation })
+    }
+
+    /// The image of the state behind these edits, made in their order, with its number. What the edits don't lead to has
+    /// one more owner, so that the time grows with the edits, and hardly with the rows.
+    pub fn after(
+        &self,
+        alloc: Global,
+        change: &Change,
+        generation: u64,
+    ) -> Result<Arc<Image>, NoMemory>
+        requires classes { LeaveLawfulClasses change.now.edits self.now.state.rows }
+        requires lawful { AreLawful (changed change.now.edits self.now.state.rows) }
+        ensures { IfOk result (λ image. arc_value image ≡ record { state = changed_state change.now.edits self.now.state; generation = generation }) }
+    {
+        racf_profiles::laws::rows_are_changed();
+        racf_profiles::laws::listed_classes_have_copies();
+        let mut state = self.state.share(alloc)?;
+        for edit in &change.edits.items {
+            state.make(alloc, edit)?;
+        }
+        Arc::new(alloc, Image { state, generation })
     }
 
     /// How many commands were accepted before this state.
@@ -84,25 +89,25 @@ impl Image {
         ensures known { IsSome result ↔ IsSome (class_of class self.now.state.rows) }
         ensures kind { IfSome result (λ image. image.now.kind ≡ kind_in class) }
     {
-        racf_profiles::laws::restart_is_live();
-        match self.classes.get(class) {
-            Some(entry) => Some(entry.profiles()),
-            None => None,
+        let entry = self.state.classes.get(class)?;
+        if entry.flags().listed {
+            return self.state.copies.get(class);
         }
+        Some(entry.profiles())
     }
 
-    /// The user of that ID, in one look-up.
+    /// The user of that ID, in as many comparisons as the number of users has binary digits, and a few more.
     pub fn user(&self, id: Id) -> Option<&User>
         ensures { option_copied result ≡ user_of id self.now.state.rows }
     {
-        self.users.get(id)
+        self.state.user(id)
     }
 
-    /// The group of that name, in one look-up.
+    /// The group of that name, in as many comparisons as the number of groups has binary digits, and a few more.
     pub fn group(&self, id: Id) -> Option<&Group>
         ensures { option_copied result ≡ group_of id self.now.state.rows }
     {
-        self.groups.get(id)
+        self.state.group(id)
     }
 
     /// How many users there are, at most 20,000.
@@ -110,7 +115,7 @@ impl Image {
         ensures count { result ≡ length self.now.state.rows.users }
         ensures lawful { AreLawful self.now.state.rows }
     {
-        self.users.len()
+        self.state.user_count()
     }
 
     /// The user at that place, from 0, in order of definition.
@@ -118,21 +123,21 @@ impl Image {
         requires { place < length self.now.state.rows.users }
         ensures { slice_get self.now.state.rows.users place ≡ Some result.now }
     {
-        self.users.at(place)
+        self.state.user_at(place)
     }
 
     /// The options of the whole system.
     pub fn options(&self) -> &Options
         ensures { result.now ≡ self.now.state.rows.options }
     {
-        &self.options
+        self.state.options()
     }
 
     /// The flags of the class of that name. None where no class has the name.
     pub fn class(&self, class: Id) -> Option<ClassFlags>
         ensures { result ≡ flags_of class self.now.state }
     {
-        match self.classes.get(class) {
+        match self.state.classes.get(class) {
             Some(entry) => Some(entry.flags()),
             None => None,
         }
@@ -143,23 +148,12 @@ impl Image {
     pub fn in_scope(&self, top: Id, owner: Id) -> bool
         ensures { IsTrue result ↔ InScopeProfile self.now.state.rows top owner }
     {
-        if self.groups.in_scope_group(top, owner) {
+        if in_scope_group(&self.state, top, owner) {
             return true;
         }
         match self.user(owner) {
-            Some(user) => self.groups.in_scope_user(top, user.owner),
+            Some(user) => in_scope_user(&self.state, top, user.owner),
             None => false,
         }
-    }
-}
-
-/// The tree of these groups.
-fn tree_of(alloc: Global, groups: &[Group]) -> Result<Tree, NoMemory>
-    requires { IsTree groups.now }
-    ensures { IfOk result (λ tree. tree.groups ≡ groups.now) }
-{
-    match Tree::of(alloc, groups) {
-        Ok(tree) => Ok(tree),
-        Err(_) => Err(AllocError),
     }
 }

@@ -13,12 +13,14 @@
 
 mod class_image;
 mod classes;
+mod copies;
 mod facts;
 mod flags;
 mod image;
+mod rows;
+mod state;
 #[cfg(test)]
 mod tests;
-mod users;
 
 pub use class_image::ClassImage;
 pub use facts::Facts;

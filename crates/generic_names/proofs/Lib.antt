@@ -13,3 +13,4 @@ mod GapLaws
 pub mod BestLaws
 pub mod MostSpecific
 pub mod Apart
+mod KeyLaws

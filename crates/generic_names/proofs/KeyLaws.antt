@@ -1,6 +1,6 @@
 -- Ranks as bytes, and how many ranks a name has.
-use Rattle.std.proofs.Common.{◌≡◌, ℕ, zero, suc, ◌+◌, ◌-◌, ◌<◌, ◌≤◌, Bool, true, false, cond, eqb, ltb, List, [], ◌∷◌, ◌++◌, map, length, length-append, append_assoc, take, get_or, Ordering, refl, ap, sym, ◌∙◌, subst, arith, ⊎_elim, ◌⊎◌, inl, inr}
-use Rattle.std.specs.declared.cmp.Ordering.TheVariants.{Less, Equal, Greater}
+use Rattle.std.proofs.Common.{◌≡◌, ℕ, zero, suc, ◌+◌, ◌-◌, ◌<◌, ◌≤◌, Bool, true, false, cond, ltb, List, [], ◌∷◌, ◌++◌, map, length, length-append, append_assoc, take, get_or, Ordering, refl, ap, sym, ◌∙◌, subst, arith, ⊎_elim, ◌⊎◌, inl, inr}
+use Rattle.std.specs.declared.cmp.Ordering.TheVariants.{Equal}
 use Rattle.std.specs.Ordering.{nat_cmp, is_lt, ordering_then}
 use Rattle.std.specs.Cmp.Lexicographic.{slice_cmp}
 use Rattle.std.specs.FinMap.{nat_cmp-IsAntisymmetric, slice_cmp-IsAntisymmetric}
@@ -9,13 +9,11 @@ use Rattle.std.proofs.lemmas.Bool.{cases_eq, cases_lt}
 use Rattle.std.proofs.lemmas.Bool.Decides.{nat_tests}
 use Rattle.std.proofs.lemmas.List.{length-map}
 use Rattle.std.proofs.lemmas.List.Splits.{join_with_byte-slice_split}
-use Rattle.std.proofs.lemmas.Slice.Eq.{bytes_eq-Decides}
 use Rattle.generic_names.specs.Spelled.{Spelled, qualifiers}
 use Rattle.generic_names.specs.Covers.{is_double}
 use Rattle.generic_names.specs.Before.{rank, ranks, order, before}
 use Rattle.generic_names.specs.Gap.{is_below}
 use Rattle.generic_names.specs.Laws.{IsPattern}
-use Rattle.generic_names.specs.Reading.{rest_at}
 use Rattle.generic_names.specs.OrderKey.{squeezed, order_key, IsRank, AreRanks}
 use Rattle.generic_names.proofs.Lawful.{EachByte, EachQualifier, IsPlain, pattern-low, pattern-small}
 use Rattle.generic_names.proofs.OrderLaws.{rank-cases, ranks-injective, qualifiers-injective}

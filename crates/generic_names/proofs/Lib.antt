@@ -14,3 +14,4 @@ pub mod BestLaws
 pub mod MostSpecific
 pub mod Apart
 mod KeyLaws
+mod KeyRows

@@ -1,5 +1,5 @@
 -- How a gap is kept: by the text of a pattern, how many of its ranks it begins with, and the least rank behind them.
-use Rattle.std.specs.Prelude.{ℕ, ◌+◌, ◌<◌, ◌≤◌, List, length}
+use Rattle.std.specs.Prelude.{ℕ, ◌<◌, ◌≤◌, List, length}
 use Rattle.generic_names.specs.Spelled.{qualifiers}
 use Rattle.generic_names.specs.Before.{ranks}
 use Rattle.generic_names.specs.OrderKey.{IsRank, AreRanks}

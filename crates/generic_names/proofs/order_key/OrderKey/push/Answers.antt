@@ -1,5 +1,5 @@
-use Rattle.std.proofs.Common.{◌≡◌, ℕ, ◌+◌, ◌-◌, ◌<◌, ◌≤◌, length, take, drop, replicate, ap, sym, ◌∙◌, arith, rules}
-use Rattle.std.proofs.lemmas.List.{places, length-set, length-take-le, drop-set-lt, drop-drop, drop-replicate}
+use Rattle.std.proofs.Common.{◌≡◌, ℕ, ◌+◌, ◌-◌, drop, replicate, ap, sym, ◌∙◌, arith, rules}
+use Rattle.std.proofs.lemmas.List.{places, drop-set-lt, drop-drop, drop-replicate}
 use Rattle.generic_names.proofs.order_key.OrderKey.push.Goals as goal
 
 pub invariant_of-self : goal.invariant_of-self

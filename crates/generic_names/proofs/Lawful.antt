@@ -16,6 +16,7 @@ use Rattle.generic_names.proofs.Bools.{either}
 
 -- a byte that stands for itself in a pattern
 pub record IsPlain (b : ℕ) : Type 0 where
+  pub low : b < 251
   pub small : b < 256
   pub no_percent : b ≢ 37
   pub no_asterisk : b ≢ 42
@@ -31,16 +32,16 @@ both true b h k = k h
 both false b h k = absurd (cc (h))
 
 from_letter : (b : ℕ) → is_letter b ≡ true → IsPlain b
-from_letter b h = let l = plain_letter b h in record { small = omega arith; no_percent = l.2; no_asterisk = l.3 }
+from_letter b h = let l = plain_letter b h in record { low = omega arith; small = omega arith; no_percent = l.2; no_asterisk = l.3 }
 
 from_digit : (b : ℕ) → is_digit b ≡ true → IsPlain b
-from_digit b h = let l = plain_digit b h in record { small = omega arith; no_percent = omega arith; no_asterisk = omega arith }
+from_digit b h = let l = plain_digit b h in record { low = omega arith; small = omega arith; no_percent = omega arith; no_asterisk = omega arith }
 
 from_code : (b c : ℕ) → eqb b c ≡ true → IsPlain c → IsPlain b
 from_code b c h p = let e : b ≡ c = grind (arith, nat_tests) in subst (λ (n : ℕ). IsPlain n) (sym e) p
 
-plain_code : (c : ℕ) → 44 < c → c < 256 → IsPlain c
-plain_code c low high = record { small = high; no_percent = omega arith; no_asterisk = omega arith }
+plain_code : (c : ℕ) → 44 < c → c < 251 → IsPlain c
+plain_code c low high = record { low = high; small = omega arith; no_percent = omega arith; no_asterisk = omega arith }
 
 ordinary-plain : (kind : NameKind) (first : Bool) (b : ℕ) → is_ordinary kind first b ≡ true → IsPlain b
 ordinary-plain DataSet first b h =
@@ -84,19 +85,19 @@ discrete_bytes kind first place (b ∷ bs) h =
     let parts = first_none _ (bytes_fault Discrete kind false (place + 1) bs) h in
     (discrete_byte kind first (eqb (length bs) 0) place b parts.0, discrete_bytes kind false (place + 1) bs parts.1)
 
-small_byte : (kind : NameKind) (first last : Bool) (place b : ℕ) → byte_fault Generic kind first last place b ≡ None → b < 256
-small_byte kind first last place b h = settled (eqb b 37) (eqb b 42) refl refl h
+low_byte : (kind : NameKind) (first last : Bool) (place b : ℕ) → byte_fault Generic kind first last place b ≡ None → b < 251
+low_byte kind first last place b h = settled (eqb b 37) (eqb b 42) refl refl h
   where
-    settled : (s t : Bool) → eqb b 37 ≡ s → eqb b 42 ≡ t → cond s None (cond t (cond last None (Some (StarInside place))) (cond (is_ordinary kind first b) None (Some (BadByte place)))) ≡ None → b < 256
+    settled : (s t : Bool) → eqb b 37 ≡ s → eqb b 42 ≡ t → cond s None (cond t (cond last None (Some (StarInside place))) (cond (is_ordinary kind first b) None (Some (BadByte place)))) ≡ None → b < 251
     settled true t is at e = let same : b ≡ 37 = grind (arith, nat_tests) in omega arith
     settled false true is at e = let same : b ≡ 42 = grind (arith, nat_tests) in omega arith
-    settled false false is at e = (discrete_byte kind first last place b e).small
+    settled false false is at e = (discrete_byte kind first last place b e).low
 
-small_bytes : (kind : NameKind) (first : Bool) (place : ℕ) (q : List ℕ) → bytes_fault Generic kind first place q ≡ None → EachByte (λ b. b < 256) q
-small_bytes kind first place [] h = tt
-small_bytes kind first place (b ∷ bs) h =
+low_bytes : (kind : NameKind) (first : Bool) (place : ℕ) (q : List ℕ) → bytes_fault Generic kind first place q ≡ None → EachByte (λ b. b < 251) q
+low_bytes kind first place [] h = tt
+low_bytes kind first place (b ∷ bs) h =
     let parts = first_none _ (bytes_fault Generic kind false (place + 1) bs) h in
-    (small_byte kind first (eqb (length bs) 0) place b parts.0, small_bytes kind false (place + 1) bs parts.1)
+    (low_byte kind first (eqb (length bs) 0) place b parts.0, low_bytes kind false (place + 1) bs parts.1)
 
 passed_test : (t : Bool) (x : NameFault) (rest : Option NameFault) → cond t (Some x) rest ≡ None → rest ≡ None
 passed_test true x rest h = absurd (cc (h))
@@ -113,18 +114,18 @@ discrete_qualifiers kind number place (q ∷ qs) h =
     let parts = first_none (qualifier_fault Discrete kind number place q) (qualifiers_fault Discrete kind (number + 1) (place + length q + 1) qs) h in
     (discrete_bytes kind true place q (qualifier_none Discrete kind number place q parts.0), discrete_qualifiers kind (number + 1) (place + length q + 1) qs parts.1)
 
-small_qualifier : (kind : NameKind) (place : ℕ) (q : List ℕ) → cond (is_whole Generic q) None (bytes_fault Generic kind true place q) ≡ None → EachByte (λ b. b < 256) q
-small_qualifier kind place q h = settled (is_whole Generic q) refl h
+low_qualifier : (kind : NameKind) (place : ℕ) (q : List ℕ) → cond (is_whole Generic q) None (bytes_fault Generic kind true place q) ≡ None → EachByte (λ b. b < 251) q
+low_qualifier kind place q h = settled (is_whole Generic q) refl h
   where
-    settled : (t : Bool) → is_whole Generic q ≡ t → cond t None (bytes_fault Generic kind true place q) ≡ None → EachByte (λ b. b < 256) q
-    settled true is e = subst (λ (xs : List ℕ). EachByte (λ b. b < 256) xs) (sym ((bytes_eq-Decides q (42 ∷ 42 ∷ [])).0 is)) (omega arith, (omega arith, tt))
-    settled false is e = small_bytes kind true place q e
+    settled : (t : Bool) → is_whole Generic q ≡ t → cond t None (bytes_fault Generic kind true place q) ≡ None → EachByte (λ b. b < 251) q
+    settled true is e = subst (λ (xs : List ℕ). EachByte (λ b. b < 251) xs) (sym ((bytes_eq-Decides q (42 ∷ 42 ∷ [])).0 is)) (omega arith, (omega arith, tt))
+    settled false is e = low_bytes kind true place q e
 
-small_qualifiers : (kind : NameKind) (number place : ℕ) (qs : List (List ℕ)) → qualifiers_fault Generic kind number place qs ≡ None → EachQualifier (λ b. b < 256) qs
-small_qualifiers kind number place [] h = tt
-small_qualifiers kind number place (q ∷ qs) h =
+low_qualifiers : (kind : NameKind) (number place : ℕ) (qs : List (List ℕ)) → qualifiers_fault Generic kind number place qs ≡ None → EachQualifier (λ b. b < 251) qs
+low_qualifiers kind number place [] h = tt
+low_qualifiers kind number place (q ∷ qs) h =
     let parts = first_none (qualifier_fault Generic kind number place q) (qualifiers_fault Generic kind (number + 1) (place + length q + 1) qs) h in
-    (small_qualifier kind place q (qualifier_none Generic kind number place q parts.0), small_qualifiers kind (number + 1) (place + length q + 1) qs parts.1)
+    (low_qualifier kind place q (qualifier_none Generic kind number place q parts.0), low_qualifiers kind (number + 1) (place + length q + 1) qs parts.1)
 
 -- the qualifiers of a text without fault have none
 fault_none : (form : Form) (kind : NameKind) (text : List ℕ) → fault_of form kind text ≡ None → qualifiers_fault form kind 1 1 (qualifiers text) ≡ None
@@ -138,8 +139,20 @@ spelled_none (Some x) name other h = absurd (cc (h))
 pub resource-plain : (name : Spelled) → IsResource name → EachQualifier IsPlain (qualifiers name.text)
 resource-plain name h = discrete_qualifiers name.kind 1 1 (qualifiers name.text) (fault_none Discrete name.kind name.text (spelled_none (fault_of Discrete name.kind name.text) _ name h))
 
+-- the bytes of a pattern are below the five highest, and so bytes
+pub pattern-low : (name : Spelled) → IsPattern name → EachQualifier (λ b. b < 251) (qualifiers name.text)
+pattern-low name h = low_qualifiers name.kind 1 1 (qualifiers name.text) (fault_none Generic name.kind name.text (spelled_none (fault_of Generic name.kind name.text) _ name h))
+
+small_bytes : (q : List ℕ) → EachByte (λ b. b < 251) q → EachByte (λ b. b < 256) q
+small_bytes [] low = tt
+small_bytes (b ∷ q) low = (omega (arith, low.0), small_bytes q low.1)
+
+small_qualifiers : (qs : List (List ℕ)) → EachQualifier (λ b. b < 251) qs → EachQualifier (λ b. b < 256) qs
+small_qualifiers [] low = tt
+small_qualifiers (q ∷ qs) low = (small_bytes q low.0, small_qualifiers qs low.1)
+
 pub pattern-small : (name : Spelled) → IsPattern name → EachQualifier (λ b. b < 256) (qualifiers name.text)
-pattern-small name h = small_qualifiers name.kind 1 1 (qualifiers name.text) (fault_none Generic name.kind name.text (spelled_none (fault_of Generic name.kind name.text) _ name h))
+pattern-small name h = small_qualifiers (qualifiers name.text) (pattern-low name h)
 
 -- a resource's name is a pattern too
 generic_byte : (kind : NameKind) (first last : Bool) (place b : ℕ) → byte_fault Discrete kind first last place b ≡ None → byte_fault Generic kind first last place b ≡ None

@@ -13,3 +13,5 @@ mod GapLaws
 pub mod BestLaws
 pub mod MostSpecific
 pub mod Apart
+mod KeyLaws
+mod KeyRows

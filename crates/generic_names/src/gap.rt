@@ -1,4 +1,4 @@
-ghost use Rattle.std.specs.Prelude.{◌≡◌, ℕ, ◌+◌, ◌<◌, ◌≤◌, false, true, length, slice_index, IfSome, IsSome};
+ghost use Rattle.std.specs.Prelude.{◌≡◌, ◌⊎◌, ℕ, ◌+◌, ◌<◌, ◌≤◌, false, true, length, map, slice_index, IfSome, IsSome};
 ghost use Rattle.std.specs.Ordering.{nat_cmp, is_lt};
 ghost use Rattle.std.specs.Cmp.Lexicographic.{slice_cmp};
 ghost use Rattle.generic_names.specs.Spelled.{qualifiers};
@@ -6,8 +6,10 @@ ghost use Rattle.generic_names.specs.Before.{ranks};
 ghost use Rattle.generic_names.specs.Gap.{is_below, begin_apart, NoneCovers};
 ghost use Rattle.generic_names.specs.Reading.{rest_at};
 ghost use Rattle.generic_names.specs.Follows.{may_follow};
+ghost use Rattle.generic_names.specs.OrderKey.{squeezed, AreRanks};
 
 use crate::order::Ranks;
+use crate::order_key::OrderKey;
 use crate::resource::Resource;
 use std::marker::Model;
 
@@ -27,17 +29,20 @@ impl<'a> Model for Gap<'a> {
     ghost use Rattle.std.specs.Prelude.{ℕ, ◌<◌, List, [], ◌∷◌, ◌++◌, length, take};
     ghost use Rattle.generic_names.specs.Spelled.{qualifiers};
     ghost use Rattle.generic_names.specs.Before.{ranks};
+    ghost use Rattle.generic_names.specs.GapRanks.{IsWithin};
 
     ghost Value = { List ℕ };
 
     ghost view = { λ g. take g.count (ranks (qualifiers g.text.now)) ++ g.least ∷ [] };
 
-    ghost invariant = { λ g. g.count < length (ranks (qualifiers g.text.now)) };
+    ghost invariant = { λ g. IsWithin g.text.now g.count g.least };
 }
 
 impl<'a> Gap<'a> {
     /// The gap behind a pattern that doesn't cover a name, if it ends behind other patterns than that one.
     pub(crate) fn behind(pattern: &'a [u8], name: &Resource) -> Option<Gap<'a>>
+        requires fits { length pattern.now ≤ 246 }
+        requires ranked { AreRanks (ranks (qualifiers pattern.now)) }
         ensures none { IfSome result (λ gap. NoneCovers (record { kind = name.now.kind; text = pattern.now }) gap name.now) }
         ensures onward { IfSome result (λ gap. is_below (record { kind = name.now.kind; text = pattern.now }) gap ≡ true) }
         ensures comes { begin_apart pattern.now name.now.text ≡ true → IsSome result }
@@ -77,12 +82,24 @@ impl<'a> Gap<'a> {
         }
         these.next() < self.least
     }
+
+    /// The place of its end in the order of specificity, as bytes. A pattern lies before the end exactly if its
+    /// key is lower.
+    pub fn order_key(&self) -> OrderKey
+        ensures key { result ≡ map squeezed self.now }
+        ensures ranked { AreRanks self.now }
+    {
+        let mut key = OrderKey::of_first(self.text, self.count);
+        key.push(self.least);
+        key
+    }
 }
 
 /// The least rank from this one on that a pattern may have where a name has been met up to a place.
 fn least_that_follows(name: &[u8], begun: bool, at: usize, rank: u16) -> u16
     requires { rank ≤ 260 }
     ensures from { rank ≤ result }
+    ensures least { (at < length name.now × (result ≡ slice_index name.now at)) ⊎ (255 < result × (result < 261)) }
     ensures none { (c : ℕ) → rank ≤ c → c < result → may_follow begun (rest_at name.now at) c ≡ false }
     ensures byte { result ≡ rank → rank < 257 → at < length name.now × (slice_index name.now at ≡ 46 → ⊥) }
     ensures same { result ≡ rank → rank < 256 → at < length name.now × (slice_index name.now at ≡ rank) }

@@ -4,6 +4,7 @@ ghost use Rattle.generic_names.specs.Laws.{OneIsBefore, NotBoth, PassedOn, TiesA
 ghost use Rattle.generic_names.specs.Spelled.{Spelled};
 ghost use Rattle.generic_names.specs.Best.{BestIsFirst, BestIsMostSpecific};
 ghost use Rattle.generic_names.specs.Gap.{GapIsClosed};
+ghost use Rattle.generic_names.specs.OrderKey.{KeysCompare, LowerKeyIsBefore, LowerKeyIsBelow, EqualKeysAreOne};
 
 /// Among the patterns of one kind the order of specificity is total, and two tie only if they are equal.
 pub fn order_is_total()
@@ -30,6 +31,14 @@ pub fn text_reads_back()
 /// What is more specific than a pattern before the end of a gap lies before it too.
 pub fn gap_is_closed()
     ensures { GapIsClosed }
+{}
+
+/// The keys of patterns compare as the patterns do, and with the key of a gap's end as the patterns with that end.
+pub fn order_keys_order()
+    ensures order { KeysCompare }
+    ensures before { LowerKeyIsBefore }
+    ensures below { LowerKeyIsBelow }
+    ensures equal { EqualKeysAreOne }
 {}
 
 /// Of profiles in the order of specificity the best one is the first that covers the name, whatever a profile is.

@@ -12,7 +12,7 @@ use std::cmp::Ordering;
 use std::marker::Model;
 
 /// The rank at the end of a name, which is its last.
-const END_OF_NAME: u16 = 259;
+pub(crate) const END_OF_NAME: u16 = 259;
 
 /// The ranks of a name from some place on.
 #[derive(Drop)]

@@ -4,6 +4,7 @@ ghost use Rattle.generic_names.specs.Faults.{pattern_of};
 ghost use Rattle.generic_names.specs.Covers.{is_generic, covers};
 ghost use Rattle.generic_names.specs.Before.{before, order};
 ghost use Rattle.generic_names.specs.Gap.{is_below, begin_apart, NoneCovers};
+ghost use Rattle.generic_names.specs.OrderKey.{order_key};
 
 use crate::covering::covers_text;
 use crate::fault::NameFault;
@@ -11,6 +12,7 @@ use crate::form::Form;
 use crate::gap::Gap;
 use crate::kind::NameKind;
 use crate::order::compare;
+use crate::order_key::OrderKey;
 use crate::reading::{fault_in, has_generic_byte};
 use crate::resource::Resource;
 use crate::spelling::Spelling;
@@ -127,6 +129,13 @@ impl Pattern {
         ensures { result ≡ order self.now name.now }
     {
         compare(self.name.text(), name.text())
+    }
+
+    /// Its place in the order of specificity, as bytes. The keys of two patterns compare as the patterns do.
+    pub fn order_key(&self) -> OrderKey
+        ensures { result ≡ order_key self.now.text }
+    {
+        OrderKey::of(self.name.text())
     }
 
     /// Behind a pattern that doesn't cover a name, how far no other pattern does either, so that a search

@@ -1,9 +1,11 @@
 ghost use Rattle.std.specs.Prelude.{◌≡◌, Ok, IfOk};
 ghost use Rattle.generic_names.specs.Faults.{resource_of};
+ghost use Rattle.generic_names.specs.OrderKey.{order_key};
 
 use crate::fault::NameFault;
 use crate::form::Form;
 use crate::kind::NameKind;
+use crate::order_key::OrderKey;
 use crate::reading::fault_in;
 use crate::spelling::Spelling;
 use std::marker::Model;
@@ -56,5 +58,11 @@ impl Resource {
         ensures name { resource_of self.now.kind self.now.text ≡ Ok self.now }
     {
         self.name.text()
+    }
+    /// The place of the pattern of this very name in the order of specificity, as bytes.
+    pub fn order_key(&self) -> OrderKey
+        ensures { result ≡ order_key self.now.text }
+    {
+        OrderKey::of(self.name.text())
     }
 }

@@ -1,7 +1,7 @@
 mod rows;
 
 use crate::{MemberName, NameFault, NameKind, Pattern, Resource};
-use rows::{BEFORE, COVERS, FAULTS, RESOLVE};
+use rows::{BEFORE, COVERS, FAULTS, IN_ORDER, RESOLVE};
 use std::test::Fail;
 
 /// How many rows of a table are right.
@@ -82,7 +82,37 @@ fn before_row(row: &[u8]) -> Option<bool> {
     let kind = kind_of(fields.next()?);
     let first = Pattern::read(kind, fields.next()?).ok()?;
     let second = Pattern::read(kind, fields.next()?).ok()?;
-    Some(first.before(&second) == is_yes(fields.next()?))
+    let is_first = is_yes(fields.next()?);
+    let is_lower = first.order_key().is_before(&second.order_key());
+    Some(first.before(&second) == is_first && is_lower == is_first)
+}
+
+/// How many names have a higher key than the one before them in the table.
+fn count_rises(table: &[u8]) -> Option<u32> {
+    let mut count = 0u32;
+    let mut last = Pattern::read(NameKind::General, b"A").ok()?.order_key();
+    for row in table.split(|byte| *byte == b'\n') {
+        let key = Pattern::read(NameKind::General, row).ok()?.order_key();
+        if last.is_before(&key) {
+            count = count.wrapping_add(1);
+        }
+        last = key;
+    }
+    Some(count)
+}
+
+/// Whether the key of the gap behind a pattern lies above that of the pattern, and not above that of the name.
+fn gap_ends_between(pattern: &[u8], name: &[u8]) -> Option<bool> {
+    let pattern = Pattern::read(NameKind::DataSet, pattern).ok()?;
+    let name = Resource::read(NameKind::DataSet, name).ok()?;
+    let end = pattern.gap(&name)?.order_key();
+    Some(pattern.order_key().is_before(&end) && !name.order_key().is_before(&end))
+}
+
+/// Whether a data set's pattern has a key of these bytes.
+fn has_key(pattern: &[u8], bytes: &[u8]) -> Option<bool> {
+    let pattern = Pattern::read(NameKind::DataSet, pattern).ok()?;
+    Some(pattern.order_key().as_bytes() == bytes)
 }
 
 fn resolve_row(row: &[u8]) -> Option<bool> {
@@ -117,4 +147,11 @@ fn rows_are_right(rt: HostRuntime) {
     assert_eq!(rt; count_right(BEFORE, before_row), 250);
     assert_eq!(rt; count_right(RESOLVE, resolve_row), 36);
     assert_eq!(rt; count_right(FAULTS, faults_row), 189);
+}
+
+#[test]
+fn keys_rise(rt: HostRuntime) {
+    assert_eq!(rt; count_rises(IN_ORDER), Some(14));
+    assert!(rt; has_key(b"SYS1.*", b"SYS1\xfc\xfd\xfc\xfe") == Some(true));
+    assert!(rt; gap_ends_between(b"SYS1.AAA", b"SYS1.PROC") == Some(true));
 }

@@ -590,6 +590,22 @@ pub(crate) const RESOLVE: &[u8] = b"D|&RACUID.**|JOE|G1|JOE.**\n\
     D|A.&RACUID.&RACUID.&RACUID.&RACUID.&RACUID|ABCDEFGH|#|none\n\
     G|A.&RACUID.&RACUID.&RACUID.&RACUID.&RACUID|ABCDEFGH|#|A.ABCDEFGH.ABCDEFGH.ABCDEFGH.ABCDEFGH.ABCDEFGH";
 
+/// Names of general profiles, the more specific one first.
+pub(crate) const IN_ORDER: &[u8] = b"SYS1.PARMLIB\n\
+    SYS1.PARM%IB\n\
+    SYS1.PARM.X\n\
+    SYS1.PARM\n\
+    SYS1.PARM*\n\
+    SYS1.P%RM\n\
+    SYS1.%ARM\n\
+    SYS1.*\n\
+    SYS1\n\
+    SYS1.**\n\
+    SYS%\n\
+    SYS\n\
+    SYS*\n\
+    **";
+
 /// A text, and its fault as a pattern, a resource and a member: of a data set, then in general.
 pub(crate) const FAULTS: &[u8] = b"|EMPTY|EMPTY|EMPTY|EMPTY|EMPTY|EMPTY\n\
     .|EMPTYQUALIFIER 1|EMPTYQUALIFIER 1|EMPTYQUALIFIER 1|EMPTYQUALIFIER 1|EMPTYQUALIFIER 1|EMPTYQUALIFIER 1\n\

@@ -1,15 +1,33 @@
-use Rattle.std.proofs.Common.{◌≡◌, ◌∙◌, ◌∷◌, ◌<◌, ◌+◌, List, ℕ, true, false, get_or, length, eqb, sym, ap, subst, arith, ⊎_elim}
+use Rattle.std.proofs.Common.{◌≡◌, ◌∙◌, ◌<◌, ◌+◌, inl, inr, List, ℕ, true, false, get_or, length, eqb, sym, ap, subst, arith, ⊎_elim}
 use Rattle.std.proofs.lemmas.Bool.{cases_eq}
 use Rattle.std.proofs.lemmas.Bool.Decides.{nat_tests}
 use Rattle.generic_names.specs.Spelled.{qualifiers}
 use Rattle.generic_names.specs.Covers.{covers_all}
 use Rattle.generic_names.proofs.Lawful.{EachQualifier, IsPlain, resource-plain}
 use Rattle.generic_names.proofs.CompareLaws.{next-head}
-use Rattle.generic_names.proofs.GapLaws.{met-first, met-byte, met-end, met-gap, met-onward, plain-rest}
+use Rattle.generic_names.proofs.GapLaws.{met-first, met-byte, met-end, met-gap, met-onward, met-room, plain-rest}
 use Rattle.generic_names.specs.Gap.{begin_apart}
-use Rattle.generic_names.specs.Before.{ranks}
 use Rattle.generic_names.proofs.Apart.{apart-first}
+use Rattle.generic_names.proofs.KeyLaws.{plain-byte}
 use Rattle.generic_names.proofs.gap.Gap.behind.Goals as goal
+
+pub invariant_of-result : goal.invariant_of-result
+invariant_of-result c =
+    let text = c.text-text.result.now in
+    let least = c.least_that_follows-least.result in
+    let head = next-head c.loop-count.these c.next-rank.new.self c.next-rank.result c.next-rank.ensures.next c.next-rank.ensures.end in
+    let plain = subst (λ (xs : List ℕ). EachQualifier IsPlain (qualifiers xs)) (sym c.text-text.ensures.text) (resource-plain c.args.name.now c.text-text.ensures.name) in
+    record {
+      room = met-room c.loop-count.invariant.0 c.next-rank.result head.0 head.1;
+      fits = c.requires.fits;
+      ranked = c.requires.ranked;
+      last = ⊎_elim
+          (λ (b : (c.loop-count.count < length text) × (least ≡ get_or text c.loop-count.count 0)).
+          let low = plain-byte text c.loop-count.count plain b.0 in
+          inl (omega (arith, low, b.1)))
+          (λ (s : (255 < least) × (least < 261)). inr s)
+          c.least_that_follows-least.ensures.least;
+    }
 
 pub returns-then-rank-least-clause-none : goal.returns-then-rank-least-clause-none
 returns-then-rank-least-clause-none c p lawful kind not_before below =

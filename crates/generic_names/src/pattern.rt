@@ -107,9 +107,8 @@ impl Pattern {
         covers_text(self.name.kind(), self.name.text(), name.text())
     }
 
-    /// Whether it is more specific than another pattern of its kind.
+    /// Whether it is more specific than another pattern. Only two of one kind are meant to be compared.
     pub fn before(&self, other: &Pattern) -> bool
-        requires { self.now.kind ≡ other.now.kind }
         ensures { result ≡ before self.now other.now }
     {
         compare(self.name.text(), other.name.text()).is_lt()

@@ -1,3 +1,5 @@
 mod OrderedLaws
 mod PlaceLaws
+mod NamedLaws
+mod RisingLaws
 mod SlotLaws

@@ -8,13 +8,13 @@ use Rattle.generic_names.specs.Before.{before}
 use Rattle.generic_names.specs.Best.{IsInOrder}
 use Rattle.profile_index.specs.declared.entry.Entry.{Entry}
 use Rattle.profile_index.specs.Indexed.{IsPlaceOf, IsAbsent, has_name, with_entry, without}
-use Rattle.profile_index.specs.Places.{IsFirst, IsOnly}
+use Rattle.profile_index.specs.Places.{IsFirst}
 
 module _ {A : Type 0} where
-  front : (P : A → Type 0) (x : A) (xs : List A) (low n : ℕ) → AllWithin P (x ∷ xs) low (suc n) → low ≤ 1 → AllWithin P xs 0 n
+  pub front : (P : A → Type 0) (x : A) (xs : List A) (low n : ℕ) → AllWithin P (x ∷ xs) low (suc n) → low ≤ 1 → AllWithin P xs 0 n
   front P x xs low n h first k d _ less = h (suc k) d (omega arith) (omega arith)
 
-  back : (P : A → Type 0) (x : A) (xs : List A) (p n : ℕ) → AllWithin P (x ∷ xs) (suc p) (suc n) → AllWithin P xs p n
+  pub back : (P : A → Type 0) (x : A) (xs : List A) (p n : ℕ) → AllWithin P (x ∷ xs) (suc p) (suc n) → AllWithin P xs p n
   back P x xs p n h k d low less = h (suc k) d (omega arith) (omega arith)
 
   pub slice_get-at : (xs : List A) (p : ℕ) (d : A) → p < length xs → slice_get xs p ≡ Some (get_or xs p d)

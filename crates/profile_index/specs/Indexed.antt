@@ -34,6 +34,12 @@ module _ {T : Type 0} where
   with_entry new [] = new ∷ []
   with_entry new (e ∷ entries) = if before e.name new.name then e ∷ with_entry new entries else new ∷ e ∷ entries
 
+  -- the list with an entry in the place of the one of its name, or else at its place in the order
+  abbrev pub put_entry : Entry T → List (Entry T) → List (Entry T)
+  put_entry new [] = new ∷ []
+  put_entry new (e ∷ entries) =
+      if has_name new.name e then new ∷ entries else (if before new.name e.name then new ∷ e ∷ entries else e ∷ put_entry new entries)
+
   -- the list without the entry of a name
   abbrev pub without : Spelled → List (Entry T) → List (Entry T)
   without name entries = filter (λ e. not (has_name name e)) entries

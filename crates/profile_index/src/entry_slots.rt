@@ -3,6 +3,8 @@ ghost use Rattle.std.specs.List.{slice_get, insert, remove};
 ghost use Rattle.profile_index.specs.EntrySlots.{renamed};
 
 use crate::entry::Entry;
+use crate::entry_list::EntryList;
+use generic_names::{Gap, Pattern};
 use std::alloc::{AllocError, Global};
 use std::marker::Model;
 
@@ -107,6 +109,46 @@ impl<T> EntrySlots<T> {
         rename(&mut self.order, self.slots.len(), slot);
         self.spare += 1;
         entry
+    }
+}
+
+impl<T> EntryList<T> for EntrySlots<T> {
+    ghost entries = { λ slots. slots.entries };
+
+    fn len(&self) -> usize {
+        EntrySlots::len(self)
+    }
+
+    fn entry(&self, place: usize) -> &Entry<T> {
+        EntrySlots::entry(self, place)
+    }
+
+    fn end_of_those_before(&self, name: &Pattern) -> usize {
+        let mut low = 0;
+        let mut high = EntrySlots::len(self);
+        while low < high {
+            let middle = low + (high - low) / 2;
+            if EntrySlots::entry(self, middle).name.before(name) {
+                low = middle + 1;
+            } else {
+                high = middle;
+            }
+        }
+        low
+    }
+
+    fn end_of_gap(&self, from: usize, gap: &Gap) -> usize {
+        let mut high = EntrySlots::len(self);
+        let mut low = from + 1;
+        while low < high {
+            let middle = low + (high - low) / 2;
+            if EntrySlots::entry(self, middle).name.is_below(gap) {
+                low = middle + 1;
+            } else {
+                high = middle;
+            }
+        }
+        low
     }
 }
 

@@ -1,12 +1,12 @@
 ghost use Rattle.std.specs.Prelude.{◌≡◌, ◌+◌, ◌-◌, ◌*◌, ◌^◌, ◌<◌, ◌≤◌, [], length, max, find, IsOk, IfOk, OnOk, OnErr, Some, is_some, if◌then◌else◌};
 ghost use Rattle.std.specs.Option.{option_map};
 ghost use Rattle.generic_names.specs.Best.{best, IsInOrder, AreNamed};
-ghost use Rattle.generic_names.specs.Laws.{IsPattern};
 ghost use Rattle.std.specs.List.{slice_get};
 
 use crate::entry::Entry;
+use crate::entry_list::EntryList;
 use crate::entry_slots::EntrySlots;
-use crate::search::{end_of_those_before, first_that_covers, place_named, place_of};
+use crate::search::{first_that_covers, is_pattern, place_for, place_of};
 use crate::steps::Steps;
 use generic_names::{Pattern, Resource};
 use std::alloc::{AllocError, Global};
@@ -109,7 +109,10 @@ impl<T> Index<T> {
         requires { AreOf name.now.kind self.now.entries }
         ensures { IsPlaceOf self.now.entries (find (has_name name.now) self.now.entries) result }
     {
-        place_named(&self.slots, name)
+        match place_for(&self.slots, name) {
+            Ok(place) => Some(place),
+            Err(_) => None,
+        }
     }
 
     /// Adds an entry at its place in the order. It takes no memory. Behind it only the numbers
@@ -122,8 +125,8 @@ impl<T> Index<T> {
         ensures kinds { AreOf name.kind self.new.entries }
         ensures spare { self.new.spare + 1 ≡ self.old.spare }
     {
-        is_spelled(&name);
-        let place = end_of_those_before(&self.slots, &name);
+        is_pattern(&name);
+        let place = self.slots.end_of_those_before(&name);
         self.slots.insert(place, Entry { name, item });
     }
 
@@ -135,17 +138,10 @@ impl<T> Index<T> {
         ensures kinds { AreOf name.now.kind self.new.entries }
         ensures spare { self.new.spare ≡ self.old.spare + (if is_some result then 1 else 0) }
     {
-        let Some(place) = place_named(&self.slots, name) else {
+        let Ok(place) = place_for(&self.slots, name) else {
             return None;
         };
         let Entry { name: _, item } = self.slots.remove(place);
         Some(item)
     }
-}
-
-/// That its text spells it is what the laws of the order rest on. It does nothing: its contract is what it is for.
-fn is_spelled(name: &Pattern)
-    ensures { IsPattern name.now }
-{
-    let _text = name.text();
 }

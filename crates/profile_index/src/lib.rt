@@ -14,13 +14,17 @@
 #![tactic(auto)]
 
 mod entry;
+mod entry_list;
 mod entry_slots;
 mod index;
+mod order_bounds;
 mod search;
+mod shared_index;
 mod steps;
 
 pub use entry::Entry;
 pub use index::{Index, NoMemory};
+pub use shared_index::SharedIndex;
 pub use steps::Steps;
 
 #[cfg(test)]

@@ -11,13 +11,13 @@ pub loop-place-init : goal.loop-place-init
 loop-place-init g c = record {
   within = c.end_of_those_before-place.ensures.within;
   none = λ k d low high.
-      before-covers (get_or c.args.slots.now.entries k d).name c.args.name.now c.is_spelled.ensures (all-at (λ e. e.name.kind ≡ c.args.name.now.kind) c.args.slots.now.entries c.requires.kinds k d (omega arith))
-      (subst (λ (n : Spelled). before (get_or c.args.slots.now.entries k d).name n ≡ true) c.discrete.ensures (c.end_of_those_before-place.ensures.below k d low high));
+      before-covers (get_or (g.E.EntryList.entries c.args.list.now) k d).name c.args.name.now c.is_resource.ensures (all-at (λ e. e.name.kind ≡ c.args.name.now.kind) (g.E.EntryList.entries c.args.list.now) c.requires.kinds k d (omega arith))
+      (subst (λ (n : Spelled). before (get_or (g.E.EntryList.entries c.args.list.now) k d).name n ≡ true) c.discrete.ensures (c.end_of_those_before-place.ensures.below k d low high));
 }
 
 pub loop-place-preserved-in-Some : goal.loop-place-preserved-in-Some
 loop-place-preserved-in-Some g c = record {
   within = c.end_of_gap-place.ensures.within;
-  none = none-in-gap name_of c.args.slots.now.entries c.requires.ordered c.loop-place.place c.entry.result.now (omega arith) c.args.name.now c.in-Some.gap c.end_of_gap-place.result
-      c.requires.named c.requires.kinds (subst (λ (x : Entry _). NoneCovers x.name c.in-Some.gap c.args.name.now) c.entry.ensures.value c.in-Some.ensures.none) c.end_of_gap-place.ensures.within c.end_of_gap-place.ensures.below c.loop-place.invariant.none;
+  none = none-in-gap name_of (g.E.EntryList.entries c.args.list.now) c.requires.ordered c.loop-place.place c.entry.result.now (omega arith) c.args.name.now c.in-Some.gap c.end_of_gap-place.result
+      c.requires.named c.requires.kinds (subst (λ (x : Entry _). NoneCovers x.name c.in-Some.gap c.args.name.now) c.entry.ensures c.in-Some.ensures.none) c.end_of_gap-place.ensures.within c.end_of_gap-place.ensures.below c.loop-place.invariant.none;
 }

@@ -5,9 +5,9 @@ use Rattle.profile_index.proofs.search.first_that_covers.Given as goal
 
 abbrev pub invariant-loop-place : goal.invariant-loop-place
 invariant-loop-place g l = record {
-  within : l.place ≤ length l.slots.entries;
-  none : AllWithin (λ e. covers e.name l.name ≡ false) l.slots.entries 0 l.place;
+  within : l.place ≤ length (g.E.EntryList.entries l.list);
+  none : AllWithin (λ e. covers e.name l.name ≡ false) (g.E.EntryList.entries l.list) 0 l.place;
 }
 
 abbrev pub decreases-loop-place : goal.decreases-loop-place
-decreases-loop-place g l = length l.slots.entries - l.place
+decreases-loop-place g l = length (g.E.EntryList.entries l.list) - l.place

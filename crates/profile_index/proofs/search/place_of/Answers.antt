@@ -21,7 +21,7 @@ returns-in-Equal-clause-first g c =
     let e = c.entry.result.now in
     let named = all-at (λ x. IsPattern x.name) c.args.slots.now.entries c.requires.named middle e within in
     let kind = all-at (λ x. x.name.kind ≡ c.args.name.now.kind) c.args.slots.now.entries c.requires.kinds middle e within in
-    let same = ties_are_equal (get_or c.args.slots.now.entries middle e).name c.args.name.now named (resource-pattern c.args.name.now c.is_spelled.ensures) kind (subst (λ (x : Entry _). order x.name c.args.name.now ≡ Equal) c.entry.ensures.value (sym c.in-Equal.ensures.order)) in (
+    let same = ties_are_equal (get_or c.args.slots.now.entries middle e).name c.args.name.now named (resource-pattern c.args.name.now c.is_resource.ensures) kind (subst (λ (x : Entry _). order x.name c.args.name.now ≡ Equal) c.entry.ensures.value (sym c.in-Equal.ensures.order)) in (
       within,
       none-before name_of c.args.slots.now.entries c.requires.ordered c.args.name.now c.requires.kinds middle within e same,
       λ d. (bytes_eq-Decides _ _).1 (ap (λ (n : Spelled). n.text) (ap name_of (get_or_default c.args.slots.now.entries middle d e within) ∙ same)),

@@ -1,0 +1,142 @@
+ghost use Rattle.std.specs.Prelude.{◌≡◌, ◌<◌, [], length, find, IfOk, Some, slice_get};
+ghost use Rattle.generic_names.specs.Best.{best, IsInOrder, AreNamed};
+
+use crate::entry::Entry;
+use crate::index::NoMemory;
+use crate::search::{first_that_covers, is_pattern, place_for};
+use generic_names::{Pattern, Resource};
+use pages::Pages;
+use std::alloc::Global;
+use std::marker::Model;
+use std::sync::Arc;
+
+/// Entries in the order of specificity of their names, which are of one kind. An index doesn't change: a changed version is
+/// one of its own, and shares with this one all but what leads to the change. A call that answers [`NoMemory`] leaves
+/// nothing behind.
+#[derive(Drop)]
+pub struct SharedIndex<T: Drop> {
+    /// The entries in the order.
+    entries: Pages<Entry<T>>,
+}
+
+impl<T: Drop> Model for SharedIndex<T> {
+    ghost use Rattle.std.specs.Prelude.{List};
+    ghost use Rattle.generic_names.specs.Best.{IsInOrder, AreNamed};
+    ghost use Rattle.profile_index.specs.declared.entry.Entry.{Entry};
+    ghost use Rattle.profile_index.specs.Indexed.{name_of};
+
+    ghost Value = { List (Entry T) };
+
+    ghost view = { λ x. x.entries };
+
+    ghost invariant = { λ x. IsInOrder name_of x.entries × AreNamed name_of x.entries };
+}
+
+impl<T: Drop> SharedIndex<T> {
+    ghost use Rattle.profile_index.specs.Indexed.{name_of, has_name, AreOf, IsPlaceOf, put_entry, without};
+
+    /// An index without entries. It takes no memory.
+    pub fn new(alloc: Global) -> SharedIndex<T>
+        ensures { result ≡ [] }
+    {
+        SharedIndex {
+            entries: Pages::new(alloc),
+        }
+    }
+
+    /// An index of these entries, which stand in order.
+    pub fn of(alloc: Global, entries: Vec<Entry<T>>) -> Result<SharedIndex<T>, NoMemory>
+        requires ordered { IsInOrder name_of entries.items }
+        requires named { AreNamed name_of entries.items }
+        ensures { IfOk result (λ index. index ≡ entries.items) }
+    {
+        Ok(SharedIndex {
+            entries: Pages::of(alloc, entries)?,
+        })
+    }
+
+    /// The same index once more.
+    pub fn share(&self, alloc: Global) -> Result<SharedIndex<T>, NoMemory>
+        ensures { IfOk result (λ index. index ≡ self.now) }
+    {
+        Ok(SharedIndex {
+            entries: self.entries.share(alloc)?,
+        })
+    }
+
+    /// How many entries there are. They stand in the order of specificity, so no name comes twice.
+    pub fn len(&self) -> usize
+        ensures len { result ≡ length self.now }
+        ensures ordered { IsInOrder name_of self.now }
+        ensures named { AreNamed name_of self.now }
+    {
+        self.entries.len()
+    }
+
+    /// The name and the item at a place.
+    pub fn at(&self, place: usize) -> (&Pattern, &T)
+        requires { place < length self.now }
+        ensures { slice_get self.now place ≡ Some (record { name = result.0.now; item = result.1.now }) }
+    {
+        let entry = self.entries.at(place);
+        (&entry.name, &entry.item)
+    }
+
+    /// The most specific entry that covers a name. An entry before the very name isn't looked at, and of
+    /// those behind it whole runs are passed over that can't cover it, as `Index::find` does.
+    pub fn find(&self, name: &Resource) -> Option<usize>
+        requires { AreOf name.now.kind self.now }
+        ensures { IsPlaceOf self.now (best name_of self.now name.now) result }
+    {
+        first_that_covers(&self.entries, name)
+    }
+
+    /// The entry of a pattern's name, generic or not.
+    pub fn find_named(&self, name: &Pattern) -> Option<usize>
+        requires { AreOf name.now.kind self.now }
+        ensures { IsPlaceOf self.now (find (has_name name.now) self.now) result }
+    {
+        match place_for(&self.entries, name) {
+            Ok(place) => Some(place),
+            Err(_) => None,
+        }
+    }
+
+    /// The index with an entry in the place of the one of its name, or else at its place in the order.
+    pub fn with_entry(
+        &self,
+        alloc: Global,
+        name: Pattern,
+        item: T,
+    ) -> Result<SharedIndex<T>, NoMemory>
+        requires { AreOf name.kind self.now }
+        ensures { IfOk result (λ index. index ≡ put_entry (record { name = name; item = item }) self.now) }
+    {
+        is_pattern(&name);
+        match place_for(&self.entries, &name) {
+            Ok(place) => Ok(SharedIndex {
+                entries: self
+                    .entries
+                    .with_replaced(alloc, place, Arc::new(alloc, Entry { name, item })?)?,
+            }),
+            Err(place) => Ok(SharedIndex {
+                entries: self
+                    .entries
+                    .with_inserted(alloc, place, Arc::new(alloc, Entry { name, item })?)?,
+            }),
+        }
+    }
+
+    /// The index without the entry of a name, or the same where there is none.
+    pub fn without(&self, alloc: Global, name: &Pattern) -> Result<SharedIndex<T>, NoMemory>
+        requires { AreOf name.now.kind self.now }
+        ensures { IfOk result (λ index. index ≡ without name.now self.now) }
+    {
+        match place_for(&self.entries, name) {
+            Ok(place) => Ok(SharedIndex {
+                entries: self.entries.with_removed(alloc, place)?,
+            }),
+            Err(_) => self.share(alloc),
+        }
+    }
+}

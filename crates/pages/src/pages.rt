@@ -5,7 +5,7 @@ ghost use Rattle.pages.specs.Rising.{Rises};
 
 use crate::part::Part;
 use crate::search::first_of;
-use crate::shared_page::{SharedPage, packed};
+use crate::shared_page::{SharedPage, is_number, packed};
 use crate::splice::{inserted, item_at, removed, replaced, share_all};
 use crate::test::Test;
 use crate::walk::Walk;
@@ -133,8 +133,7 @@ impl<T: Drop> Pages<T> {
         ensures place { result ≡ position_or_len (Q.passes test.now) self.now }
         ensures within { result ≤ length self.now }
     {
-        // That the length is a number bounds each place.
-        let _len = self.len;
+        is_number(self.len);
         first_of(&self.pages, test)
     }
 

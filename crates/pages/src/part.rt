@@ -43,8 +43,8 @@ pub(crate) trait Part<T: Drop>: Drop {
         ensures within { (d : Self) → result.1 < length (items (slice_index_or parts.now result.0 d)) };
 
     /// The last item.
-    fn last(&self) -> &T
-        ensures { slice_get (items self.now) (length (items self.now) - 1) ≡ Some result.now };
+    fn last(&self) -> &Arc<T>
+        ensures { slice_get (items self.now) (length (items self.now) - 1) ≡ Some (arc_value result.now) };
 
     /// The first place where a test holds, or the number of items.
     fn first<Q: Test<T>>(&self, test: &Q) -> usize
@@ -118,7 +118,7 @@ impl<T: Drop> Part<T> for Arc<T> {
         (place, 0)
     }
 
-    fn last(&self) -> &T {
+    fn last(&self) -> &Arc<T> {
         self
     }
 

@@ -1,14 +1,16 @@
 ghost use Rattle.std.specs.Prelude.{◌≡◌, ℕ, ◌+◌, ◌-◌, ◌^◌, ◌<◌, ◌≤◌, Bool, true, false, length, take, Some, slice_get, slice_index_or};
 ghost use Rattle.std.specs.List.{flat_map, position_or_len, list_any};
+ghost use Rattle.std.specs.Arc.{arc_value};
 ghost use Rattle.pages.specs.Rising.{Rises};
 
 use crate::part::Part;
 use crate::test::Test;
+use std::sync::Arc;
 
 /// The last item of some parts.
-pub(crate) fn last_of<T: Drop, P: Part<T>>(parts: &[P]) -> &T
+pub(crate) fn last_of<T: Drop, P: Part<T>>(parts: &[P]) -> &Arc<T>
     requires { 0 < length (flat_map P.items parts.now) }
-    ensures { slice_get (flat_map P.items parts.now) (length (flat_map P.items parts.now) - 1) ≡ Some result.now }
+    ensures { slice_get (flat_map P.items parts.now) (length (flat_map P.items parts.now) - 1) ≡ Some (arc_value result.now) }
 {
     let end = parts.len() - 1;
     parts[end].last()

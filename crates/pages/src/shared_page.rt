@@ -8,7 +8,7 @@ use crate::search::{first_of, last_of};
 use crate::splice::{inserted, item_at, removed, replaced, share_all};
 use crate::test::Test;
 use std::alloc::{AllocError, Global};
-use std::marker::{Model, PhantomData};
+use std::marker::Model;
 use std::sync::Arc;
 
 /// The most parts of a page.
@@ -18,15 +18,15 @@ const MOST: usize = 64;
 const PACKED: usize = 48;
 
 /// A page that versions of a list share. It has its own number of items beside it, so that a place is found by the numbers
-/// of the pages of one level, which stand in a row.
+/// of the pages of one level, which stand in a row; and its last item, so that a search by a test reads nothing below it.
 #[derive(Drop)]
 pub(crate) struct SharedPage<T: Drop, P: Part<T>> {
     /// How many items are below.
     len: usize,
     /// At most 64 parts, with an item below at least.
     parts: Arc<Vec<P>>,
-    /// Says what the parts are parts of. It is empty.
-    of: PhantomData<T>,
+    /// The last item below.
+    last: Arc<T>,
 }
 
 impl<T: Drop, P: Part<T>> Model for SharedPage<T, P> {
@@ -39,7 +39,7 @@ impl<T: Drop, P: Part<T>> Model for SharedPage<T, P> {
 
     ghost view = { λ page. flat_map P.items (arc_value page.parts).items };
 
-    ghost invariant = { λ page. IsPage (flat_map P.items (arc_value page.parts).items) page.len (vec_len (arc_value page.parts)) };
+    ghost invariant = { λ page. IsPage (flat_map P.items (arc_value page.parts).items) page.len (vec_len (arc_value page.parts)) (arc_value page.last) };
 }
 
 impl<T: Drop, P: Part<T>> SharedPage<T, P> {
@@ -50,8 +50,7 @@ impl<T: Drop, P: Part<T>> SharedPage<T, P> {
         ensures some { 0 < length self.now }
         ensures room { length self.now < 2 ^ 64 }
     {
-        // That the length is a number bounds each place.
-        let _len = self.len;
+        is_number(self.len);
         self.parts.as_slice()
     }
 
@@ -65,10 +64,11 @@ impl<T: Drop, P: Part<T>> SharedPage<T, P> {
         if len == 0 {
             return Ok(None);
         }
+        let last = Arc::try_clone(last_of(&parts))?;
         Ok(Some(SharedPage {
             len,
             parts: Arc::new(alloc, parts)?,
-            of: PhantomData,
+            last,
         }))
     }
 
@@ -109,12 +109,13 @@ impl<T: Drop, P: Part<T>> Part<T> for SharedPage<T, P> {
     fn of(alloc: Global, item: Arc<T>) -> Result<SharedPage<T, P>, AllocError>
         ensures { IfOk result (λ page. page ≡ arc_value item ∷ []) }
     {
+        let last = Arc::try_clone(&item)?;
         let mut parts = Vec::new(alloc);
         parts.push(P::of(alloc, item)?)?;
         Ok(SharedPage {
             len: 1,
             parts: Arc::new(alloc, parts)?,
-            of: PhantomData,
+            last,
         })
     }
 
@@ -134,7 +135,7 @@ impl<T: Drop, P: Part<T>> Part<T> for SharedPage<T, P> {
         Ok(SharedPage {
             len: self.len,
             parts: Arc::try_clone(&self.parts)?,
-            of: PhantomData,
+            last: Arc::try_clone(&self.last)?,
         })
     }
 
@@ -153,8 +154,8 @@ impl<T: Drop, P: Part<T>> Part<T> for SharedPage<T, P> {
         unreachable!()
     }
 
-    fn last(&self) -> &T {
-        last_of(self.parts())
+    fn last(&self) -> &Arc<T> {
+        &self.last
     }
 
     fn first<Q: Test<T>>(&self, test: &Q) -> usize {
@@ -176,10 +177,11 @@ impl<T: Drop, P: Part<T>> Part<T> for SharedPage<T, P> {
         ensures { IfOk result (λ page. page ≡ slice_set self.now place (arc_value item)) }
     {
         let parts = replaced(alloc, self.parts(), place, item)?;
+        let last = Arc::try_clone(last_of(&parts))?;
         Ok(SharedPage {
             len: self.len,
             parts: Arc::new(alloc, parts)?,
-            of: PhantomData,
+            last,
         })
     }
 
@@ -206,6 +208,11 @@ impl<T: Drop, P: Part<T>> Part<T> for SharedPage<T, P> {
         SharedPage::one_or_two(alloc, parts)
     }
 }
+
+/// That a count is a number, which bounds each place. It does nothing: a proof has the bound of a count once it is read.
+pub(crate) fn is_number(_count: usize)
+    ensures { _count < 2 ^ 64 }
+{}
 
 /// The parts in pages that are full by three quarters, so that the next inserts don't split them.
 pub(crate) fn packed<T: Drop, P: Part<T>>(

@@ -1,3 +1,4 @@
 pub mod KeyLaws
 pub mod RowLaws
 pub mod PlaceLaws
+pub mod FoundLaws

@@ -49,7 +49,7 @@ module _ {R : Type 0} where
         | false ↦ ih
       ]
 
-  filter_passes : (p : R → Bool) (xs : List R) → list_all p (filter p xs) ≡ true
+  pub filter_passes : (p : R → Bool) (xs : List R) → list_all p (filter p xs) ≡ true
   filter_passes p [] = refl
   filter_passes p (x ∷ xs) =
       elim (p x) as (λ b. p x ≡ b → list_all p (cond b (x ∷ filter p xs) (filter p xs)) ≡ true) [

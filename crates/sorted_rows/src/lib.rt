@@ -5,7 +5,7 @@
 //! [`SortedRows::with_row`] and [`SortedRows::without_row`] answer a table of their own. Rows are held as `Arc`s: who has
 //! one already hands it in, and `find_shared` gives it out again.
 //!
-//! Nothing stands on this crate yet. It is meant for the users, groups and profiles of `raclist_image`.
+//! `defined_rows` stands on it, which keeps rows in order of definition beside.
 //!
 //! ```
 //! let table = SortedRows::new(alloc).with_row(alloc, Arc::new(alloc, ann)?)?;
@@ -15,6 +15,7 @@
 #![tactic(auto)]
 
 mod keyed;
+pub mod laws;
 mod rows;
 
 pub use keyed::Keyed;

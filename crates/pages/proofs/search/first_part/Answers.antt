@@ -1,5 +1,6 @@
-use Rattle.std.proofs.Common.{◌≡◌, ◌+◌, ◌-◌, ◌/◌, ◌∙◌, true, length, sym, subst, arith}
+use Rattle.std.proofs.Common.{◌≡◌, ◌+◌, ◌-◌, ◌/◌, ◌∙◌, true, length, ap, sym, subst, arith}
 use Rattle.std.specs.List.{list_any}
+use Rattle.std.specs.Arc.{arc_value}
 use Rattle.std.proofs.lemmas.List.{get_or_default}
 use Rattle.pages.proofs.RisingLaws.{any_at, none_through}
 use Rattle.pages.proofs.search.first_part.Goals as goal
@@ -10,7 +11,7 @@ loop-low-preserved-then-passes g c =
     let f = g.P.Part.items in
     let part = c.index-parts-middle.result in
     let middle = c.loop-low.low + (c.loop-low.high - c.loop-low.low) / 2 in
-    let found = any_at passes (f part) (length (f part) - 1) c.last.result.now c.last.ensures (sym c.passes.ensures ∙ c.if-passes.true) in
+    let found = any_at passes (f part) (length (f part) - 1) (arc_value c.last.result.now) c.last.ensures (sym (c.passes.ensures ∙ ap passes c.deref.ensures) ∙ c.if-passes.true) in
     record {
       ordered = omega arith;
       within = omega arith;
@@ -27,6 +28,6 @@ loop-low-preserved g c =
     record {
       ordered = omega arith;
       within = c.loop-low.invariant.within;
-      none = none_through passes f c.args.parts.now middle part c.index-parts-middle.is (omega arith) c.last.result.now c.requires c.last.ensures (sym c.passes.ensures ∙ c.if-passes.false);
+      none = none_through passes f c.args.parts.now middle part c.index-parts-middle.is (omega arith) (arc_value c.last.result.now) c.requires c.last.ensures (sym (c.passes.ensures ∙ ap passes c.deref.ensures) ∙ c.if-passes.false);
       some = c.loop-low.invariant.some;
     }

@@ -1,5 +1,6 @@
 use Rattle.std.proofs.Common.{◌≡◌, ◌<◌, ◌+◌, ◌-◌, ◌++◌, ◌∙◌, length, take, drop, ap, arith, length-append}
 use Rattle.std.specs.List.{flat_map}
+use Rattle.std.specs.Arc.{arc_value}
 use Rattle.std.proofs.lemmas.List.{drop_all}
 use Rattle.std.proofs.lemmas.Option.{slice_get_within}
 use Rattle.pages.proofs.Seams.{some_part, get_within, split_at_part}
@@ -11,7 +12,7 @@ returns g c =
     let ps = c.args.parts.now in
     let k = length ps - 1 in
     let p = c.index-parts-end.result in
-    let some = slice_get_within (f p) (length (f p) - 1) c.last.result.now c.last.ensures in
+    let some = slice_get_within (f p) (length (f p) - 1) (arc_value c.last.result.now) c.last.ensures in
     let at : k < length ps = omega (arith, some_part f ps c.requires) in
     let whole = ap length (split_at_part f ps k p c.index-parts-end.is at) in
     let sum = length-append (flat_map f (take k ps)) (f p ++ flat_map f (drop (k + 1) ps)) in

@@ -3,7 +3,7 @@ ghost use Rattle.std.specs.List.{position_or_len};
 ghost use Rattle.std.specs.Arc.{arc_value};
 ghost use Rattle.pages.specs.Rising.{Rises};
 
-use crate::part::Part;
+use crate::part::{Part, is_counted};
 use crate::search::first_of;
 use crate::shared_page::{SharedPage, packed};
 use crate::splice::{inserted, item_at, removed, replaced, share_all};
@@ -133,8 +133,7 @@ impl<T: Drop> Pages<T> {
         ensures place { result ≡ position_or_len (Q.passes test.now) self.now }
         ensures within { result ≤ length self.now }
     {
-        // That the length is a number bounds each place.
-        let _len = self.len;
+        is_counted(self.len);
         first_of(&self.pages, test)
     }
 

@@ -163,3 +163,8 @@ impl<T: Drop> Part<T> for Arc<T> {
         Ok(Change::Gone)
     }
 }
+
+/// That the length is a number bounds each place. It does nothing: its contract is what it is for.
+pub(crate) fn is_counted(len: usize)
+    ensures { len < 2 ^ 64 }
+{}

@@ -3,7 +3,7 @@ ghost use Rattle.std.specs.List.{flat_map};
 ghost use Rattle.std.specs.Arc.{arc_value};
 ghost use Rattle.pages.specs.Parts.{change_items};
 
-use crate::part::{Change, Part};
+use crate::part::{Change, Part, is_counted};
 use crate::search::{first_of, last_of};
 use crate::splice::{inserted, item_at, removed, replaced, share_all};
 use crate::test::Test;
@@ -50,8 +50,7 @@ impl<T: Drop, P: Part<T>> SharedPage<T, P> {
         ensures some { 0 < length self.now }
         ensures room { length self.now < 2 ^ 64 }
     {
-        // That the length is a number bounds each place.
-        let _len = self.len;
+        is_counted(self.len);
         self.parts.as_slice()
     }
 

@@ -1,5 +1,5 @@
 -- What holds of the rows of every database: this is all that an image on a disk asks of them.
-use Rattle.std.specs.Prelude.{◌≡◌, ◌≤◌, List, length, Ok, IsTrue, bytes_eq}
+use Rattle.std.specs.Prelude.{◌≡◌, ◌≤◌, length, Ok, IsTrue, bytes_eq}
 use Rattle.std.specs.List.{AllByRecursion, IsDistinct, list_any}
 use Rattle.access_levels.specs.Spelling.{group_of as group_spelled}
 use Rattle.racf_profiles.specs.declared.groups.Group.{Group}

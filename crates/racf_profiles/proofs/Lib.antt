@@ -1,4 +1,5 @@
 pub mod Found
+pub mod Named
 pub mod Tables
 pub mod EditLaws
 pub mod OrderedProfiles

@@ -1,8 +1,8 @@
 -- A profile that is put goes to its place in the order.
-use Rattle.std.proofs.Common.{◌≡◌, ◌⊎◌, ℕ, Bool, true, false, cond, ◌&&◌, List, [], ◌∷◌, length, Some, option_and_then, refl, sym, ◌∙◌, ap, ⊎_elim}
-use Rattle.std.specs.List.{find}
+use Rattle.std.proofs.Common.{◌≡◌, ◌⊎◌, ℕ, Bool, true, false, cond, ◌&&◌, List, [], ◌∷◌, Some, option_and_then, refl, sym, ◌∙◌, ap, ⊎_elim}
+use Rattle.std.specs.List.{find, AllByRecursion}
 use Rattle.std.specs.Str.{bytes_eq}
-use Rattle.std.proofs.lemmas.Bool.{cases_Bool, both_ways}
+use Rattle.std.proofs.lemmas.Bool.{cases_Bool, both_ways, and_from}
 use Rattle.std.proofs.lemmas.Slice.Eq.{bytes_eq-Decides}
 use Rattle.generic_names.specs.Spelled.{Spelled}
 use Rattle.generic_names.specs.Before.{before}
@@ -14,9 +14,6 @@ use Rattle.racf_profiles.specs.Lookup.{is_profile, is_class}
 use Rattle.racf_profiles.specs.Edits.{put_profile, comes_first, is_in_order, AreNamed, at_class, with_profile}
 use Rattle.racf_profiles.proofs.Found.{find-hit, find-miss, all_head, all_tail}
 use Rattle.racf_profiles.proofs.EditLaws.{same_name}
-
-both : (a b : Bool) → a ≡ true → b ≡ true → (a && b) ≡ true
-both a b h k = ap (λ x. x && b) h ∙ k
 
 -- The three places of a profile that is put before y and ys.
 put-same : (x y : Profile) (ys : List Profile) → is_profile x.name y ≡ true → put_profile x (y ∷ ys) ≡ x ∷ ys
@@ -41,6 +38,16 @@ put_profile-found x (y ∷ ys) = ⊎_elim
     (cases_Bool (before x.name y.name)))
     (cases_Bool (is_profile x.name y))
 
+-- What holds of a profile and of each of others holds of each where it is put among them.
+pub all-put_profile : (P : Profile → Type 0) (x : Profile) (ys : List Profile) → P x → AllByRecursion P ys → AllByRecursion P (put_profile x ys)
+all-put_profile P x [] here all = (here, tt)
+all-put_profile P x (y ∷ ys) here all = by (is_profile x.name y) (before x.name y.name) (all-put_profile P x ys here all.1)
+  where
+    by : (same first : Bool) → AllByRecursion P (put_profile x ys) → AllByRecursion P (cond same (x ∷ ys) (cond first (x ∷ y ∷ ys) (y ∷ put_profile x ys)))
+    by true first rest = (here, all.1)
+    by false true rest = (here, all)
+    by false false rest = (all.0, rest)
+
 -- A name that is before what is put and before the others is before what there is then.
 comes_first-put : (name : Spelled) (x : Profile) (ys : List Profile) → before name x.name ≡ true → comes_first name ys ≡ true → comes_first name (put_profile x ys) ≡ true
 comes_first-put name x [] first others = first
@@ -59,7 +66,7 @@ same_spelled a b kind text =
     ∙ ap (λ (t : List ℕ). let name : Spelled = record { kind = b.kind; text = t } in name) ((bytes_eq-Decides a.text b.text).0 text)
 
 -- Of two names of which neither is the other's and the first isn't before the second, the second is before the first.
-the_other_way : OneIsBefore → (x y : Spelled) → IsPattern x → IsPattern y → x.kind ≡ y.kind → bytes_eq y.text x.text ≡ false → before x y ≡ false → before y x ≡ true
+pub the_other_way : OneIsBefore → (x y : Spelled) → IsPattern x → IsPattern y → x.kind ≡ y.kind → bytes_eq y.text x.text ≡ false → before x y ≡ false → before y x ≡ true
 the_other_way total x y lawful_x lawful_y kind other later = ⊎_elim
     (λ (same : x ≡ y). absurd (both_ways _ other (ap (λ (n : Spelled). bytes_eq n.text x.text) (sym same) ∙ same_name x.text)))
     (λ (one : (before x y ≡ true) ⊎ (before y x ≡ true)). ⊎_elim (λ (first : before x y ≡ true). absurd (both_ways _ later first)) (λ (second : before y x ≡ true). second) one)
@@ -72,9 +79,9 @@ put_profile-in_order total kind x (y ∷ ys) lawful is named ordered = ⊎_elim
     let name : y.name ≡ x.name = same_spelled y.name x.name (named.0.1 ∙ sym is) same in
     ap is_in_order (put-same x y ys same) ∙ ap (λ (n : Spelled). comes_first n ys && is_in_order ys) (sym name) ∙ ordered)
     (λ (other : is_profile x.name y ≡ false). ⊎_elim
-    (λ (first : before x.name y.name ≡ true). ap is_in_order (put-before x y ys other first) ∙ both _ _ first ordered)
+    (λ (first : before x.name y.name ≡ true). ap is_in_order (put-before x y ys other first) ∙ and_from _ _ first ordered)
     (λ (later : before x.name y.name ≡ false). ap is_in_order (put-behind x y ys other later)
-    ∙ both _ _ (comes_first-put y.name x ys (the_other_way total x.name y.name lawful named.0.0 (is ∙ sym named.0.1) other later) (all_head _ _ ordered))
+    ∙ and_from _ _ (comes_first-put y.name x ys (the_other_way total x.name y.name lawful named.0.0 (is ∙ sym named.0.1) other later) (all_head _ _ ordered))
     (put_profile-in_order total kind x ys lawful is named.1 (all_tail _ _ ordered)))
     (cases_Bool (before x.name y.name)))
     (cases_Bool (is_profile x.name y))

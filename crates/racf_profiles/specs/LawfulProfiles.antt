@@ -24,7 +24,7 @@ use Rattle.racf_profiles.specs.declared.rows.Rows.{Rows}
 use Rattle.racf_profiles.specs.ClassTable.{class_name, fixed_classes, facts_of}
 use Rattle.racf_profiles.specs.Edits.{is_in_order, AreNamed}
 use Rattle.racf_profiles.specs.Limits.{most_class_profiles, most_list_entries, most_members}
-use Rattle.racf_profiles.specs.Lookup.{is_class, class_of}
+use Rattle.racf_profiles.specs.Lookup.{class_of}
 use Rattle.racf_profiles.specs.LawfulUsers.{AreDefined}
 use Rattle.std.specs.Option.{option_map_or}
 

@@ -245,7 +245,14 @@ pub fn class_facts(name: Id) -> Option<&'static ClassFacts>
 pub fn kind_in(class: Id) -> NameKind
     ensures { result ≡ kind_in class }
 {
-    if class == FixedClass::Dataset.id() {
+    kind_of_class(class.text())
+}
+
+/// The kind of the names of the profiles of a class that has this name.
+pub fn kind_of_class(name: &[u8]) -> NameKind
+    ensures { result ≡ kind_in name.now }
+{
+    if name == b"DATASET".as_slice() {
         NameKind::DataSet
     } else {
         NameKind::General

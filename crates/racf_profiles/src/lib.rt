@@ -28,7 +28,7 @@ pub use class_rows::{ClassRow, ClassRows, LogOption};
 pub use edits::{Change, Edit, Edits};
 pub use fixed_classes::{
     CLASS_TABLE, ClassFacts, FixedClass, NameForm, allows_operations, class_facts, class_table,
-    kind_in,
+    kind_in, kind_of_class,
 };
 pub use groups::{Group, Groups};
 pub use known::{ibmuser, sys1};

@@ -1,12 +1,11 @@
 -- By induction on the rows.
-use Rattle.std.proofs.Common.{◌≡◌, true, false, List, [], ◌∙◌, ap}
+use Rattle.std.proofs.Common.{◌≡◌, true, false, List, ◌∙◌, ap}
 use Rattle.std.specs.Option.{option_map_or}
 use Rattle.racf_profiles.specs.Lookup.{is_user, is_group}
 use Rattle.racf_profiles.specs.Edits.{put_row, drop_row, with_profile, with_flags, with_listed}
 use Rattle.racf_profiles.specs.State.{State, ListedCopy, is_copy_of, copy_of_class}
 use Rattle.racf_profiles.specs.declared.users.User.{User}
 use Rattle.racf_profiles.specs.declared.groups.Group.{Group}
-use Rattle.racf_profiles.specs.declared.profiles.Profile.{Profile}
 use Rattle.racf_profiles.specs.declared.class_rows.ClassRow.{ClassRow}
 use Rattle.racf_profiles.proofs.EditLaws.{drop_row-absent, at_class-absent, at_class-without_absent}
 use Rattle.racf_profiles.proofs.laws.absent_changes_nothing.Goals as goal

@@ -4,3 +4,4 @@ pub mod IdNames
 pub mod Growth
 pub mod ListCounts
 pub mod ProfileSteps
+pub mod EditsOfCommands

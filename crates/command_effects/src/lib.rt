@@ -9,6 +9,7 @@
 #![tactic(auto)]
 
 mod edits;
+pub mod laws;
 mod made;
 
 pub use edits::{copies, edits_of};

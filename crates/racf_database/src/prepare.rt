@@ -1,13 +1,17 @@
 //! Taking all memory that a command needs, and what it makes of the rows.
-ghost use Rattle.std.specs.Prelude.{◌≡◌, None, Some, IfOk, OnErr};
+ghost use Rattle.std.specs.Prelude.{◌≡◌, not, None, Some, IfOk, IsTrue, OnErr};
+ghost use Rattle.std.specs.List.{list_all};
+ghost use Rattle.racf_profiles.specs.declared.edits.Edit.{Edit};
 ghost use Rattle.racf_profiles.specs.Edits.{changed};
-ghost use Rattle.racf_profiles.specs.Lawful.{AreLawful};
+ghost use Rattle.racf_profiles.specs.State.{is_of_copies};
+ghost use Rattle.racf_profiles.specs.Lawful.{AreLawful, LeaveLawfulClasses};
 ghost use Rattle.command_effects.specs.Effects.{step};
 ghost use Rattle.command_effects.specs.Edits.{edits_of};
 ghost use Rattle.command_conflicts.specs.Conflicts.{conflict_of};
 
 use crate::database::Database;
 use class_profiles::laws::puts_are_counted;
+use command_effects::laws::commands_edit_rows_alone;
 use command_effects::{copies, edits_of};
 use command_parser::laws::fields_of_a_text_are_lawful;
 use command_parser::{Command, Issuer, printed_is_read};
@@ -33,6 +37,8 @@ impl Database {
         ensures edits { IfOk result (λ change. change.edits ≡ edits_of issuer.now command.now self.old.rows) }
         ensures step { IfOk result (λ change. changed change.edits self.old.rows ≡ step issuer.now command.now self.old.rows) }
         ensures lawful { IfOk result (λ change. AreLawful (changed change.edits self.old.rows)) }
+        ensures classes { IfOk result (λ change. LeaveLawfulClasses change.edits self.old.rows) }
+        ensures listed { IfOk result (λ change. IsTrue (list_all (λ (edit : Edit). not (is_of_copies edit)) change.edits)) }
         ensures prepared { IfOk result (λ change. self.new.prepared ≡ Some change) }
         ensures rows { self.new.rows ≡ self.old.rows }
         ensures refused { OnErr result (self.new.prepared ≡ None) }
@@ -42,6 +48,8 @@ impl Database {
         printed_is_read(command);
         fields_of_a_text_are_lawful();
         commands_leave_lawful_rows();
+        // What the edits leave as it is.
+        commands_edit_rows_alone();
         // The order of names, how they are read, and how the profiles of a class are counted.
         order_is_total();
         text_reads_back();

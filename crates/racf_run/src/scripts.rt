@@ -26,8 +26,7 @@ pub(crate) enum ProcessFault {
 
 /// Works the lines of a source, and writes the text of each to the sink; skipped lines have none. The status tells how
 /// it ended, and the source is given back with what it has left. Each text stands whole in memory before it is written.
-/// Time grows with the input's length, and for each line with what the database takes to work its command. The first
-/// request behind an accepted command takes a copy of the whole database, in time and memory.
+/// Time grows with the input's length, and for each line with what the database takes to work its command.
 pub fn script<S: Source, O: Sink>(alloc: Global, source: S, sink: &mut O) -> (Status, S)
     // Which bytes were read, and what was written for them, wherever it stopped.
     ensures ran { Ran stream result.0 (S.left source) (S.left result.1) (O.taken sink.old) (O.taken sink.new) }

@@ -11,6 +11,7 @@ use crate::requests::is_unbuilt_line;
 use crate::statement::{LineText, Statement};
 use command_parser::{Command, Issuer};
 use racf_database::Database;
+use racf_profiles::laws::unlisted_classes_need_no_copies;
 use racf_profiles::{ibmuser, sys1};
 use raclist_image::Image;
 use request_files::{AceeTable, LineRefusal, RequestLine, read_line, respond};
@@ -21,9 +22,8 @@ use std::sync::Arc;
 /// The last number that a command gets (this product's own limit).
 const MOST_NUMBER: u64 = 1 << 62;
 
-/// The state of a stream. Requests are answered on an image of the rows, which is made at the first request behind an
-/// accepted command: it takes a copy of the whole database, in time and memory. The requests behind it, up to the next
-/// accepted command, take none.
+/// The state of a stream. Requests are answered on the image of the rows. It is made of all rows at the start; the next
+/// one is made with each accepted command, of the one before and the command's edits, before the command is made.
 #[derive(Drop)]
 pub(crate) struct Stream {
     /// How many commands were accepted.
@@ -32,15 +32,16 @@ pub(crate) struct Stream {
     has_refused: bool,
     /// The rows.
     database: Database,
-    /// The image of the rows, where one was made since the last accepted command.
-    image: Option<Arc<Image>>,
+    /// The image of the rows.
+    image: Arc<Image>,
     /// The ACEEs in use.
     acees: AceeTable,
 }
 
 impl Model for Stream {
-    ghost use Rattle.std.specs.Prelude.{◌≡◌, ◌≤◌, IfSome};
+    ghost use Rattle.std.specs.Prelude.{◌≡◌, ◌≤◌, IsTrue};
     ghost use Rattle.std.specs.Arc.{arc_value};
+    ghost use Rattle.racf_profiles.specs.State.{is_none_listed};
     ghost use Rattle.racf_run.specs.Commands.{most_number};
     ghost use Rattle.racf_run.specs.Stream.{State, imaged};
 
@@ -49,7 +50,8 @@ impl Model for Stream {
     ghost view = { λ s. record { number = s.number; has_refused = s.has_refused; rows = s.database.rows; acees = s.acees } };
 
     ghost invariant = { λ s. (s.number ≤ most_number)
-        × IfSome s.image (λ image. arc_value image ≡ imaged s.number s.database.rows) };
+        × (arc_value s.image ≡ imaged s.number s.database.rows)
+        × IsTrue (is_none_listed s.database.rows) };
 }
 
 impl Stream {
@@ -63,12 +65,13 @@ impl Stream {
         ensures { IfOk result (λ stream. stream ≡ new_stream) }
     {
         let database = Database::new(alloc)?;
+        let image = image_of(alloc, &database, 0)?;
         let acees = AceeTable::new(alloc)?;
         Ok(Stream {
             number: 0,
             has_refused: false,
             database,
-            image: None,
+            image,
             acees,
         })
     }
@@ -115,7 +118,8 @@ impl Stream {
         }
     }
 
-    /// A command that the text spelled. All memory is taken, and the text stands whole, before the rows change.
+    /// A command that the text spelled. All memory is taken, the next image is made and the text stands whole before the
+    /// rows change.
     fn process_command(
         &mut self,
         alloc: Global,
@@ -129,9 +133,12 @@ impl Stream {
         if let Some(why) = self.refusal_of(&issuer, command) {
             return self.refuse(why, out);
         }
+        // No command lists a class yet, so the state behind its edits is the one that a restart makes.
+        unlisted_classes_need_no_copies();
         let change = self.database.prepare(alloc, &issuer, command)?;
+        let image = self.image.after(alloc, &change, self.number + 1)?;
         Reply::Accepted.write_line(self.number + 1, out)?;
-        self.image = None;
+        self.image = image;
         self.database.apply(change);
         self.number += 1;
         Ok(())
@@ -177,23 +184,9 @@ impl Stream {
         ensures ok { OnOk result (DoesAs (answer_line (line_read line.now) self.old) self.new out.old.items out.new.items) }
         ensures err { OnErr result (self.new ≡ self.old) }
     {
-        let image = self.image(alloc)?;
-        let refused = respond(alloc, line, &image, &mut self.acees, out)?;
+        let refused = respond(alloc, line, &self.image, &mut self.acees, out)?;
         self.has_refused = self.has_refused || refused;
         Ok(())
-    }
-
-    /// The image of the rows, made anew where a command was accepted since the last request.
-    fn image(&mut self, alloc: Global) -> Result<Arc<Image>, AllocError>
-        ensures image { IfOk result (λ image. arc_value image ≡ image_of self.old) }
-        ensures same { self.new ≡ self.old }
-    {
-        if let Some(image) = &self.image {
-            return Arc::try_clone(image);
-        }
-        let image = image_of(alloc, &self.database, self.number)?;
-        self.image = Some(Arc::try_clone(&image)?);
-        Ok(image)
     }
 
     /// Refuses a line.

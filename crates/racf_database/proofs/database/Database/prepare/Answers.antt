@@ -1,7 +1,9 @@
-use Rattle.std.proofs.Common.{◌≡◌, ◌∙◌, List, None, ap, sym, subst}
+use Rattle.std.proofs.Common.{◌≡◌, ◌∙◌, true, not, List, None, ap, sym, subst}
+use Rattle.std.specs.List.{list_all}
 use Rattle.racf_profiles.specs.declared.edits.Edit.{Edit}
 use Rattle.racf_profiles.specs.Edits.{changed}
-use Rattle.racf_profiles.specs.Lawful.{AreLawful}
+use Rattle.racf_profiles.specs.State.{is_of_copies}
+use Rattle.racf_profiles.specs.Lawful.{AreLawful, LeaveLawfulClasses}
 use Rattle.row_tables.specs.Applying.{CanApply, HasRoom}
 use Rattle.command_parser.specs.Canonical.{canonical}
 use Rattle.command_parser.specs.LawfulFields.{AreLawfulFields}
@@ -73,3 +75,19 @@ returns-clause-lawful c =
     let after : AreLawful (changed (edits_of issuer fields rows) rows) =
     subst AreLawful (sym (changed-edits_of issuer fields rows (behind (is_unbuilt fields) (conflicts issuer fields rows) c.requires))) (c.commands_leave_lawful_rows.ensures issuer fields rows lawful own c.requires) in
     subst (λ (es : List Edit). AreLawful (changed es rows)) (sym (c.in_ok-edits.ensures ∙ ap (λ v. edits_of issuer fields v.rows) c.self.view_is)) after
+
+pub returns-clause-listed : goal.returns-clause-listed
+returns-clause-listed c =
+    subst (λ (es : List Edit). list_all (λ (edit : Edit). not (is_of_copies edit)) es ≡ true) (sym c.in_ok-edits.ensures) (c.commands_edit_rows_alone.ensures.listed c.args.issuer.now c.args.command.now c.self.inside.tables.rows)
+
+pub returns-clause-classes : goal.returns-clause-classes
+returns-clause-classes c =
+    let issuer = c.args.issuer.now in
+    let fields = c.args.command.now in
+    let rows = c.args.self.now.rows in
+    let lawful : AreLawful rows = subst AreLawful (ap (λ v. v.rows) c.self.view_is) c.self.invariant.lawful in
+    let own : AreLawfulFields fields = c.fields_of_a_text_are_lawful.ensures issuer.id (canonical fields) fields (c.printed_is_read.ensures issuer.id) in
+    let after : AreLawful (changed (edits_of issuer fields rows) rows) =
+    subst AreLawful (sym (changed-edits_of issuer fields rows (behind (is_unbuilt fields) (conflicts issuer fields rows) c.requires))) (c.commands_leave_lawful_rows.ensures issuer fields rows lawful own c.requires) in
+    subst (λ (es : List Edit). LeaveLawfulClasses es rows) (sym (c.in_ok-edits.ensures ∙ ap (λ v. edits_of issuer fields v.rows) c.self.view_is))
+    (c.commands_edit_rows_alone.ensures.classes issuer fields rows lawful.classes after.classes)

@@ -1,36 +1,25 @@
 -- Profiles in order of specificity: what stands behind a name, and what a put and a drop leave.
-use Rattle.std.proofs.Common.{◌≡◌, ℕ, zero, suc, ◌+◌, ◌≤◌, Bool, true, false, cond, ◌&&◌, List, [], ◌∷◌, length, take, ◌++◌, add-one, Option, Some, None, is_some, if◌then◌else◌, ◌<◌, refl, sym, ◌∙◌, ap, subst, arith, ⊎_elim, ◌⊎◌}
+use Rattle.std.proofs.Common.{◌≡◌, ℕ, zero, suc, ◌+◌, ◌≤◌, Bool, true, false, cond, List, [], ◌∷◌, length, take, ◌++◌, add-one, Option, Some, None, is_some, if◌then◌else◌, ◌<◌, refl, sym, ◌∙◌, ap, subst, arith}
 use Rattle.std.specs.List.{find, AllByRecursion, slice_get}
-use Rattle.std.specs.Str.{bytes_eq}
-use Rattle.std.proofs.lemmas.Slice.Eq.{bytes_eq-Decides}
+use Rattle.std.proofs.lemmas.Bool.{and_from}
 use Rattle.std.proofs.lemmas.List.{length-take}
 use Rattle.generic_names.specs.declared.kind.NameKind.{NameKind}
 use Rattle.generic_names.specs.Spelled.{Spelled}
 use Rattle.generic_names.specs.Before.{before}
-use Rattle.generic_names.specs.Laws.{IsPattern, OneIsBefore, NotBoth, PassedOn}
+use Rattle.generic_names.specs.Laws.{IsPattern, NotBoth, PassedOn}
 use Rattle.racf_profiles.specs.declared.profiles.Profile.{Profile}
 use Rattle.racf_profiles.specs.Lookup.{is_profile}
 use Rattle.racf_profiles.specs.Edits.{put_profile, drop_row, comes_first, is_in_order, AreNamed}
 use Rattle.racf_profiles.specs.LawfulProfiles.{AreProfiles}
 use Rattle.racf_profiles.specs.Limits.{most_class_profiles}
+use Rattle.racf_profiles.proofs.Found.{all_head, all_tail}
 use Rattle.racf_profiles.proofs.OrderedProfiles.{same_spelled}
 
-pub head : (a b : Bool) → (a && b) ≡ true → a ≡ true
-head true b h = refl
-head false b h = h
-
-pub tail : (a b : Bool) → (a && b) ≡ true → b ≡ true
-tail true b h = h
-tail false b h = cc
-
-pub both : (a b : Bool) → a ≡ true → b ≡ true → (a && b) ≡ true
-both a b h k = ap (λ x. x && b) h ∙ k
-
 pub ordered-head : (y : Profile) (ys : List Profile) → is_in_order (y ∷ ys) ≡ true → comes_first y.name ys ≡ true
-ordered-head y ys ordered = head (comes_first y.name ys) (is_in_order ys) ordered
+ordered-head y ys ordered = all_head (comes_first y.name ys) (is_in_order ys) ordered
 
 pub ordered-tail : (y : Profile) (ys : List Profile) → is_in_order (y ∷ ys) ≡ true → is_in_order ys ≡ true
-ordered-tail y ys ordered = tail (comes_first y.name ys) (is_in_order ys) ordered
+ordered-tail y ys ordered = all_tail (comes_first y.name ys) (is_in_order ys) ordered
 
 -- what holds of all holds at a place
 pub all-at : {X : Type 0} (P : X → Type 0) (xs : List X) (i : ℕ) (x : X) → AllByRecursion P xs → slice_get xs i ≡ Some x → P x
@@ -63,16 +52,6 @@ module _ {X : Type 0} (it : X → Bool) where
       by : (b : Bool) → cond b (Some x) (find it xs) ≡ None → (find it xs ≡ None → drop_row it xs ≡ xs) → cond b xs (x ∷ drop_row it xs) ≡ x ∷ xs
       by true f rest = cc
       by false f rest = ap (λ ys. x ∷ ys) (rest f)
-
--- a name that is put is lawful, as the others are
-pub named-put : (kind : NameKind) (p : Profile) (ps : List Profile) → IsPattern p.name → p.name.kind ≡ kind → AreNamed kind ps → AreNamed kind (put_profile p ps)
-named-put kind p [] lawful is named = ((lawful, is), tt)
-named-put kind p (y ∷ ys) lawful is named = by (is_profile p.name y) (before p.name y.name) (named-put kind p ys lawful is named.1)
-  where
-    by : (s t : Bool) → AreNamed kind (put_profile p ys) → AreNamed kind (cond s (p ∷ ys) (cond t (p ∷ y ∷ ys) (y ∷ put_profile p ys)))
-    by true t rest = ((lawful, is), named.1)
-    by false true rest = ((lawful, is), named)
-    by false false rest = (named.0, rest)
 
 module _ (not_both : NotBoth) where
   not_itself : (n : Spelled) → before n n ≡ true → true ≡ false
@@ -125,7 +104,7 @@ module _ (not_both : NotBoth) where
 
         by : (b : Bool) → is_in_order (drop_row it ys) ≡ true → is_in_order (cond b ys (y ∷ drop_row it ys)) ≡ true
         by true rest = ordered-tail y ys ordered
-        by false rest = both (comes_first y.name (drop_row it ys)) (is_in_order (drop_row it ys)) (first-of_all y.name (drop_row it ys) (all-drop_row it (λ (z : Profile). before y.name z.name ≡ true) ys behind)) rest
+        by false rest = and_from (comes_first y.name (drop_row it ys)) (is_in_order (drop_row it ys)) (first-of_all y.name (drop_row it ys) (all-drop_row it (λ (z : Profile). before y.name z.name ≡ true) ys behind)) rest
 
     -- a name stands but once
     pub none-left : (n : Spelled) (kind : NameKind) (ps : List Profile) → n.kind ≡ kind → AreNamed kind ps → is_in_order ps ≡ true → find (is_profile n) (drop_row (is_profile n) ps) ≡ None
@@ -186,13 +165,6 @@ module _ (not_both : NotBoth) where
         ap (λ b. cond b (p ∷ take i ys) (cond (before p.name y.name) (p ∷ y ∷ take i ys) (y ∷ put_profile p (take i ys)))) (front-other p.name y (sym is) first)
         ∙ ap (λ b. cond b (p ∷ y ∷ take i ys) (y ∷ put_profile p (take i ys))) (not_both y.name p.name first)
         ∙ ap (λ zs. y ∷ zs) (put-next kind ys i p named.1 (ordered-tail y ys ordered) at)
-
--- of two names of which neither is the other one is first
-pub the_other_way : OneIsBefore → (x y : Spelled) → IsPattern x → IsPattern y → x.kind ≡ y.kind → bytes_eq y.text x.text ≡ false → before x y ≡ false → before y x ≡ true
-the_other_way either x y lawful_x lawful_y kind other later = ⊎_elim
-    (λ (same : x ≡ y). let alike : bytes_eq y.text x.text ≡ true = ap (λ (n : Spelled). bytes_eq n.text x.text) (sym same) ∙ (bytes_eq-Decides x.text x.text).1 refl in cc (alike, other))
-    (λ (one : (before x y ≡ true) ⊎ (before y x ≡ true)). ⊎_elim (λ (first : before x y ≡ true). cc (first, later)) (λ (second : before y x ≡ true). second) one)
-    (either x y lawful_x lawful_y kind)
 
 -- with what was taken out there is room, and else there was
 pub spared : {X : Type 0} (o : Option X) (old new : ℕ) → new ≡ old + (if is_some o then 1 else 0) → (o ≡ None → 0 < old) → 0 < new

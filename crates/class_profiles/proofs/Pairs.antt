@@ -21,8 +21,8 @@ use Rattle.racf_profiles.specs.LawfulProfiles.{AreProfiles}
 use Rattle.racf_profiles.specs.Limits.{most_class_profiles}
 use Rattle.class_profiles.specs.Paired.{entry_of, items_of}
 use Rattle.class_profiles.specs.Table.{IsPlaceOf, best_profile}
-use Rattle.class_profiles.proofs.Order.{ordered-tail, rest-behind, none-behind, none-left, the_other_way, all-drop_row, length-drop_row, order-drop_row, named-put}
-use Rattle.racf_profiles.proofs.OrderedProfiles.{same_spelled}
+use Rattle.class_profiles.proofs.Order.{ordered-tail, rest-behind, none-behind, none-left, all-drop_row, length-drop_row, order-drop_row}
+use Rattle.racf_profiles.proofs.OrderedProfiles.{same_spelled, the_other_way, all-put_profile}
 
 -- the entries of profiles are those of their profiles again
 pub items-again : (ps : List Profile) → items_of (map entry_of ps) ≡ ps
@@ -197,7 +197,7 @@ module _ (one : OneIsBefore) (not_both : NotBoth) (kind : NameKind) (p : Profile
   added-paired = (paired-again after (put_profile p (items_of es)) added-is).1
 
   pub added-lawful : length (put_profile p (items_of es)) ≤ most_class_profiles → is_in_order (put_profile p (items_of es)) ≡ true → AreProfiles kind (items_of after)
-  added-lawful few ordered = subst (AreProfiles kind) (sym added-items) (record { named = named-put kind p (items_of es) named is lawful.named; ordered = ordered; few = few })
+  added-lawful few ordered = subst (AreProfiles kind) (sym added-items) (record { named = all-put_profile (λ (q : Profile). IsPattern q.name × (q.name.kind ≡ kind)) p (items_of es) (named, is) lawful.named; ordered = ordered; few = few })
 
 pub absent-paired : (name : Spelled) (ps : List Profile) → find (is_profile name) ps ≡ None → find (has_name name) (map entry_of ps) ≡ None
 absent-paired name ps none = find-paired name ps ∙ ap (option_map entry_of) none

@@ -1,5 +1,5 @@
 //! The classes of an image.
-ghost use Rattle.std.specs.Prelude.{◌≡◌, ◌<◌, Bool, List, length, position, find, map, slice_get, slice_set, Some, IfOk, IfSome, OnOk};
+ghost use Rattle.std.specs.Prelude.{◌≡◌, ◌<◌, length, position, find, slice_get, Some, IfOk, IfSome, OnOk};
 ghost use Rattle.std.specs.Arc.{arc_value};
 ghost use Rattle.std.specs.Option.{option_copied};
 ghost use Rattle.racf_profiles.specs.declared.class_rows.ClassRow.{ClassRow};
@@ -85,6 +85,17 @@ impl ClassEntry {
         Arc::try_clone(&self.profiles)
     }
 
+    /// The same class once more.
+    fn share(&self) -> Result<ClassEntry, NoMemory>
+        ensures { IfOk result (λ class. class ≡ self.now) }
+    {
+        Ok(ClassEntry {
+            name: self.name,
+            flags: self.flags,
+            profiles: Arc::try_clone(&self.profiles)?,
+        })
+    }
+
     /// The class with a profile put.
     fn with_profile(&self, alloc: Global, profile: &Profile) -> Result<ClassEntry, NoMemory>
         requires { AreProfiles (kind_in self.now.name) (put_profile profile.now self.now.profiles) }
@@ -158,21 +169,21 @@ fn flags_of_row(row: &ClassRow) -> ClassFlags
     }
 }
 
-/// The classes in their order. A version that was changed shares with the one before all classes but the changed ones.
+/// The classes in their order. A version that was changed shares with the one before the profiles of all classes but the
+/// changed ones.
 #[derive(Drop)]
 pub(crate) struct ClassList {
     /// The fourteen classes.
-    classes: Vec<Arc<ClassEntry>>,
+    classes: Vec<ClassEntry>,
 }
 
 impl Model for ClassList {
-    ghost use Rattle.std.specs.Prelude.{List, map};
-    ghost use Rattle.std.specs.Arc.{arc_value};
+    ghost use Rattle.std.specs.Prelude.{List};
     ghost use Rattle.racf_profiles.specs.declared.class_rows.ClassRow.{ClassRow};
 
     ghost Value = { List ClassRow };
 
-    ghost view = { λ list. map arc_value list.classes.items };
+    ghost view = { λ list. list.classes.items };
 }
 
 impl ClassList {
@@ -183,7 +194,7 @@ impl ClassList {
     {
         let mut classes = Vec::new(alloc);
         for row in rows {
-            classes.push(Arc::new(alloc, ClassEntry::of(alloc, row)?)?)?;
+            classes.push(ClassEntry::of(alloc, row)?)?;
         }
         Ok(ClassList { classes })
     }
@@ -194,7 +205,7 @@ impl ClassList {
     {
         let mut classes = Vec::with_capacity(alloc, self.classes.len())?;
         for class in &self.classes {
-            classes.push(Arc::try_clone(class)?)?;
+            classes.push(class.share()?)?;
         }
         Ok(ClassList { classes })
     }
@@ -239,7 +250,8 @@ impl ClassList {
             return Ok(());
         };
         let entry = self.at(place).with_profile(alloc, profile)?;
-        self.replace(alloc, place, entry)
+        self.classes[place] = entry;
+        Ok(())
     }
 
     /// Takes the profile of that very name out of a class, if there is one.
@@ -255,13 +267,13 @@ impl ClassList {
             return Ok(());
         };
         let entry = self.at(place).without_profile(alloc, name)?;
-        self.replace(alloc, place, entry)
+        self.classes[place] = entry;
+        Ok(())
     }
 
     /// Sets whether a class is active, whether the global access table is used for it, and its log option.
     pub(crate) fn set_flags(
         &mut self,
-        alloc: Global,
         class: Id,
         active: bool,
         global: bool,
@@ -273,23 +285,20 @@ impl ClassList {
             return Ok(());
         };
         let entry = self.at(place).with_flags(active, global, log)?;
-        self.replace(alloc, place, entry)
+        self.classes[place] = entry;
+        Ok(())
     }
 
     /// Sets whether a class is RACLISTed.
-    pub(crate) fn set_listed(
-        &mut self,
-        alloc: Global,
-        class: Id,
-        listed: bool,
-    ) -> Result<(), NoMemory>
+    pub(crate) fn set_listed(&mut self, class: Id, listed: bool) -> Result<(), NoMemory>
         ensures { OnOk result (self.new ≡ at_class class (with_listed listed) self.old) }
     {
         let Some(place) = self.place(class) else {
             return Ok(());
         };
         let entry = self.at(place).with_listed(listed)?;
-        self.replace(alloc, place, entry)
+        self.classes[place] = entry;
+        Ok(())
     }
 
     /// The place of the class of that name.
@@ -297,15 +306,5 @@ impl ClassList {
         ensures { result ≡ position (is_class name) self.now }
     {
         self.classes.iter().position(|class| class.name == name)
-    }
-
-    /// Puts another class in the place of one.
-    fn replace(&mut self, alloc: Global, place: usize, entry: ClassEntry) -> Result<(), NoMemory>
-        requires { place < length self.old }
-        ensures { OnOk result (self.new ≡ slice_set self.old place entry) }
-    {
-        let shared = Arc::new(alloc, entry)?;
-        self.classes[place] = shared;
-        Ok(())
     }
 }

@@ -1,5 +1,5 @@
 //! The listed copies of an image.
-ghost use Rattle.std.specs.Prelude.{◌≡◌, List, map, option_map, position, IfOk, IfSome, OnOk};
+ghost use Rattle.std.specs.Prelude.{◌≡◌, ◌++◌, ◌∷◌, [], map, option_map, position, IfOk, IfSome, OnOk, if◌then◌else◌};
 ghost use Rattle.std.specs.List.{find, filter};
 ghost use Rattle.std.specs.Arc.{arc_value};
 ghost use Rattle.std.specs.Option.{option_copied};
@@ -91,10 +91,7 @@ impl CopyList {
     {
         let mut copies = Vec::new(alloc);
         for place in 0..classes.len() {
-            let class = classes.at(place);
-            if class.flags().listed {
-                copies.push(ListedProfiles::of(class)?)?;
-            }
+            push_if_listed(classes.at(place), &mut copies)?;
         }
         Ok(CopyList { copies })
     }
@@ -115,8 +112,8 @@ impl CopyList {
         ensures profiles { option_map (λ image. image.now.profiles) result ≡ option_map (λ (copy : ListedCopy). copy.profiles) (find (is_copy_of class) self.now) }
         ensures kind { IfSome result (λ image. image.now.kind ≡ kind_in class) }
     {
-        match self.place(class) {
-            Some(place) => Some(self.copies[place].profiles()),
+        match self.copies.iter().find(|copy| copy.class == class) {
+            Some(copy) => Some(copy.profiles()),
             None => None,
         }
     }
@@ -148,4 +145,14 @@ impl CopyList {
     {
         self.copies.iter().position(|copy| copy.class == class)
     }
+}
+
+/// Adds the copy of a class, if it is RACLISTed.
+fn push_if_listed(class: &ClassEntry, copies: &mut Vec<ListedProfiles>) -> Result<(), NoMemory>
+    ensures { OnOk result (copies.new.items ≡ copies.old.items ++ (if class.now.listed then copy_of_class class.now ∷ [] else [])) }
+{
+    if class.flags().listed {
+        copies.push(ListedProfiles::of(class)?)?;
+    }
+    Ok(())
 }

@@ -51,7 +51,7 @@ impl Image {
     {
         racf_profiles::laws::listed_classes_have_copies();
         let state = ImageState::of(alloc, rows)?;
-        Arc::new(alloc, Image { state, generation })
+        Ok(Arc::new(alloc, Image { state, generation })?)
     }
 
     /// The image of the state behind these edits, made in their order, with its number. What the edits don't lead to has
@@ -69,10 +69,8 @@ impl Image {
         racf_profiles::laws::rows_are_changed();
         racf_profiles::laws::listed_classes_have_copies();
         let mut state = self.state.share(alloc)?;
-        for edit in &change.edits.items {
-            state.make(alloc, edit)?;
-        }
-        Arc::new(alloc, Image { state, generation })
+        state.make_all(alloc, change.edits.items.as_slice())?;
+        Ok(Arc::new(alloc, Image { state, generation })?)
     }
 
     /// How many commands were accepted before this state.

@@ -5,8 +5,8 @@ ghost use Rattle.std.specs.Option.{option_copied};
 ghost use Rattle.racf_profiles.specs.declared.edits.Edit.TheVariants as edits;
 ghost use Rattle.racf_profiles.specs.Lookup.{user_of, group_of};
 ghost use Rattle.racf_profiles.specs.Edits.{edited};
-ghost use Rattle.racf_profiles.specs.State.{restart, edited_state};
-ghost use Rattle.racf_profiles.specs.Lawful.{AreLawful};
+ghost use Rattle.racf_profiles.specs.State.{restart, edited_state, changed_state};
+ghost use Rattle.racf_profiles.specs.Lawful.{AreLawful, LeaveLawfulClasses};
 ghost use Rattle.racf_profiles.specs.LawfulProfiles.{AreClasses};
 ghost use Rattle.racf_profiles.specs.LawfulUsers.{AreUsers};
 ghost use Rattle.racf_profiles.specs.Tree.{IsTree};
@@ -120,8 +120,19 @@ impl ImageState {
         &self.options
     }
 
+    /// Makes edits in their order.
+    pub(crate) fn make_all(&mut self, alloc: Global, edits: &[Edit]) -> Result<(), NoMemory>
+        requires { LeaveLawfulClasses edits.now self.old.rows }
+        ensures { OnOk result (self.new ≡ changed_state edits.now self.old) }
+    {
+        for edit in edits {
+            self.make(alloc, edit)?;
+        }
+        Ok(())
+    }
+
     /// Makes an edit. An edit that names what isn't there changes nothing.
-    pub(crate) fn make(&mut self, alloc: Global, edit: &Edit) -> Result<(), NoMemory>
+    fn make(&mut self, alloc: Global, edit: &Edit) -> Result<(), NoMemory>
         requires { AreClasses (edited edit.now self.old.rows).classes }
         ensures { OnOk result (self.new ≡ edited_state edit.now self.old) }
     {
@@ -134,10 +145,10 @@ impl ImageState {
             Edit::DropProfile(class, name) => self.classes.remove_profile(alloc, *class, name),
             Edit::PutOptions(options) => self.put_options(alloc, options),
             Edit::PutClass(class, active, global, log) => {
-                self.classes.set_flags(alloc, *class, *active, *global, *log)
+                self.classes.set_flags(*class, *active, *global, *log)
             }
-            Edit::List(class) => self.list(alloc, *class),
-            Edit::Unlist(class) => self.unlist(alloc, *class),
+            Edit::List(class) => self.list(*class),
+            Edit::Unlist(class) => self.unlist(*class),
         }
     }
 
@@ -187,25 +198,27 @@ impl ImageState {
     }
 
     /// Makes the listed copy of a class equal to its live profiles, if the class is there.
-    fn list(&mut self, alloc: Global, class: Id) -> Result<(), NoMemory>
+    fn list(&mut self, class: Id) -> Result<(), NoMemory>
         ensures { OnOk result (self.new ≡ edited_state (edits.List class) self.old) }
     {
+        racf_profiles::laws::absent_changes_nothing();
         let Some(entry) = self.classes.get(class) else {
             return Ok(());
         };
         self.copies.put(entry)?;
-        self.classes.set_listed(alloc, class, true)
+        self.classes.set_listed(class, true)
     }
 
     /// Drops the listed copy of a class, if the class is there.
-    fn unlist(&mut self, alloc: Global, class: Id) -> Result<(), NoMemory>
+    fn unlist(&mut self, class: Id) -> Result<(), NoMemory>
         ensures { OnOk result (self.new ≡ edited_state (edits.Unlist class) self.old) }
     {
-        if self.classes.get(class).is_none() {
+        racf_profiles::laws::absent_changes_nothing();
+        let Some(_entry) = self.classes.get(class) else {
             return Ok(());
-        }
+        };
         self.copies.remove(class);
-        self.classes.set_listed(alloc, class, false)
+        self.classes.set_listed(class, false)
     }
 }
 
@@ -228,7 +241,7 @@ fn users_of(alloc: Global, users: &[User]) -> Result<Arc<DefinedRows<UserRow>>, 
             user: user.copy(alloc)?,
         })?;
     }
-    Arc::new(alloc, DefinedRows::of(alloc, items)?)
+    Ok(Arc::new(alloc, DefinedRows::of(alloc, items)?)?)
 }
 
 /// These groups.
@@ -240,5 +253,5 @@ fn groups_of(alloc: Global, groups: &[Group]) -> Result<Arc<DefinedRows<GroupRow
     for group in groups {
         items.push(GroupRow { group: *group })?;
     }
-    Arc::new(alloc, DefinedRows::of(alloc, items)?)
+    Ok(Arc::new(alloc, DefinedRows::of(alloc, items)?)?)
 }

@@ -1,5 +1,5 @@
 -- What the calls make of the two lists.
-use Rattle.std.proofs.Common.{◌≡◌, ◌+◌, ◌<◌, ℕ, Bool, cond, List, Some, None, length, map, set, option_map, ap, sym, subst, ◌∙◌, refl}
+use Rattle.std.proofs.Common.{◌≡◌, ◌<◌, ℕ, cond, List, Some, None, length, map, set, option_map, ap, sym, subst, ◌∙◌}
 use Rattle.std.specs.Prelude.{nat_le}
 use Rattle.std.specs.List.{find, position_or_len, insert, remove}
 use Rattle.std.specs.Str.{bytes_eq}
@@ -10,7 +10,7 @@ use Rattle.racf_profiles.proofs.EditLaws.{drop_row-absent}
 use Rattle.defined_rows.specs.declared.numbered.Defined.{Defined}
 use Rattle.defined_rows.specs.Kept.{IsKept}
 use Rattle.defined_rows.proofs.PlaceLaws.{place_within, set_at_place, remove_at_place, insert_at_end, numbers_rise, place_of_number, find_map, put_map, drop_map}
-use Rattle.defined_rows.proofs.KeptLaws.{kept_replaced, kept_added, kept_dropped}
+use Rattle.defined_rows.proofs.KeptLaws.{kept_dropped}
 
 module _ {R : Type 0} (key : R → List ℕ) where
   abbrev pub number_of : Defined R → ℕ

@@ -4,9 +4,9 @@ use Rattle.std.specs.List.{find, AllByRecursion, IsDistinct}
 use Rattle.std.specs.Str.{bytes_eq}
 use Rattle.std.proofs.lemmas.Bool.{cases_Bool}
 use Rattle.std.proofs.lemmas.Slice.Eq.{bytes_eq-Decides}
-use Rattle.std.proofs.lemmas.Map.Keys.{IsDistinct-head, IsDistinct-tail, IsDistinct-cons}
+use Rattle.std.proofs.lemmas.Map.Keys.{IsDistinct-head, IsDistinct-tail}
 use Rattle.racf_profiles.specs.Edits.{put_row, drop_row}
-use Rattle.racf_profiles.proofs.Found.{find-hit, find-miss}
+use Rattle.racf_profiles.proofs.Found.{find-miss}
 use Rattle.racf_profiles.proofs.EditLaws.{put_row-found, put_row-others, same_name, other_name}
 use Rattle.sorted_rows.specs.Sorted.{has_key, with_row, without_row}
 use Rattle.sorted_rows.proofs.FoundLaws.{turned}

@@ -75,7 +75,8 @@ fn put(plain: &mut Vec<([u8; 2], u32)>, name: [u8; 2], number: u32) -> Result<()
             return Ok(());
         }
     }
-    plain.push((name, number))
+    plain.push((name, number))?;
+    Ok(())
 }
 
 /// Whether a table has just these rows, in their order and by their keys.

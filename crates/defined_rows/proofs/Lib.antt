@@ -1,0 +1,4 @@
+pub mod PairLaws
+pub mod PlaceLaws
+pub mod KeptLaws
+pub mod ChangeLaws

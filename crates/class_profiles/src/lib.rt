@@ -15,12 +15,14 @@ mod class_table;
 mod class_tables;
 pub mod laws;
 mod limits;
+mod shared_profiles;
 mod table;
 
 pub use class_table::ClassTable;
 pub use class_tables::ClassTables;
 pub use limits::{MOST_CLASS_PROFILES, MOST_ENTRIES_IN_ALL, MOST_PROFILES};
 pub use racf_profiles::NoMemory;
+pub use shared_profiles::SharedProfiles;
 pub use table::ProfileTable;
 
 #[cfg(test)]

@@ -1,13 +1,11 @@
 -- Profiles in order of specificity: what stands behind a name, and what a put and a drop leave.
-use Rattle.std.proofs.Common.{◌≡◌, ℕ, zero, suc, ◌+◌, ◌≤◌, Bool, true, false, cond, ◌&&◌, List, [], ◌∷◌, length, take, ◌++◌, add-one, Option, Some, None, is_some, if◌then◌else◌, ◌<◌, refl, sym, ◌∙◌, ap, subst, arith, ⊎_elim, ◌⊎◌}
+use Rattle.std.proofs.Common.{◌≡◌, ℕ, zero, suc, ◌+◌, ◌≤◌, Bool, true, false, cond, ◌&&◌, List, [], ◌∷◌, length, take, ◌++◌, add-one, Some, None, refl, sym, ◌∙◌, ap, subst, arith}
 use Rattle.std.specs.List.{find, AllByRecursion, slice_get}
-use Rattle.std.specs.Str.{bytes_eq}
-use Rattle.std.proofs.lemmas.Slice.Eq.{bytes_eq-Decides}
 use Rattle.std.proofs.lemmas.List.{length-take}
 use Rattle.generic_names.specs.declared.kind.NameKind.{NameKind}
 use Rattle.generic_names.specs.Spelled.{Spelled}
 use Rattle.generic_names.specs.Before.{before}
-use Rattle.generic_names.specs.Laws.{IsPattern, OneIsBefore, NotBoth, PassedOn}
+use Rattle.generic_names.specs.Laws.{IsPattern, NotBoth, PassedOn}
 use Rattle.racf_profiles.specs.declared.profiles.Profile.{Profile}
 use Rattle.racf_profiles.specs.Lookup.{is_profile}
 use Rattle.racf_profiles.specs.Edits.{put_profile, drop_row, comes_first, is_in_order, AreNamed}

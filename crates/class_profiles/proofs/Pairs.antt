@@ -1,9 +1,8 @@
 -- Profiles kept each under its own name, as the list of the profiles.
-use Rattle.std.proofs.Common.{◌≡◌, ℕ, zero, suc, ◌+◌, add-one, ◌≤◌, ◌++◌, take, Bool, true, false, cond, not, List, [], ◌∷◌, map, length, Option, Some, None, is_some, Result, Ok, Err, refl, sym, ◌∙◌, ap, subst, arith, filter}
+use Rattle.std.proofs.Common.{◌≡◌, ℕ, zero, suc, ◌≤◌, Bool, true, false, cond, not, List, [], ◌∷◌, map, length, Option, Some, None, is_some, Result, Ok, Err, refl, sym, ◌∙◌, ap, subst, arith, filter}
 use Rattle.std.specs.List.{find, AllByRecursion, slice_get}
 use Rattle.std.specs.Option.{option_map, option_or}
 use Rattle.std.specs.Result.{result_ok}
-use Rattle.std.proofs.lemmas.List.{map-append}
 use Rattle.std.proofs.lemmas.Slice.Eq.{bytes_eq-Decides}
 use Rattle.generic_names.specs.declared.kind.NameKind.{NameKind}
 use Rattle.generic_names.specs.Spelled.{Spelled}
@@ -22,7 +21,7 @@ use Rattle.racf_profiles.specs.LawfulProfiles.{AreProfiles}
 use Rattle.racf_profiles.specs.Limits.{most_class_profiles}
 use Rattle.class_profiles.specs.Paired.{entry_of, items_of, IsPaired}
 use Rattle.class_profiles.specs.Table.{IsPlaceOf, best_profile}
-use Rattle.class_profiles.proofs.Order.{ordered-tail, rest-behind, none-behind, all-drop_row, length-drop_row, order-drop_row, named-put, take-push}
+use Rattle.class_profiles.proofs.Order.{ordered-tail, rest-behind, none-behind, all-drop_row, length-drop_row, order-drop_row, named-put}
 use Rattle.racf_profiles.proofs.OrderedProfiles.{same_spelled}
 
 -- the entries of profiles are those of their profiles again

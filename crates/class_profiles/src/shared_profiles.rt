@@ -39,7 +39,11 @@ impl Model for SharedProfiles {
 
 impl SharedProfiles {
     /// The same profiles, copied.
-    pub fn of(alloc: Global, kind: NameKind, profiles: &[Profile]) -> Result<SharedProfiles, NoMemory>
+    pub fn of(
+        alloc: Global,
+        kind: NameKind,
+        profiles: &[Profile],
+    ) -> Result<SharedProfiles, NoMemory>
         requires { AreProfiles kind profiles.now }
         ensures kind { IfOk result (λ table. table.kind ≡ kind) }
         ensures profiles { IfOk result (λ table. table.profiles ≡ profiles.now) }

@@ -1,9 +1,8 @@
 -- The entries of profiles in order are in order.
-use Rattle.std.proofs.Common.{◌∙◌, ap, sym, subst}
+use Rattle.std.proofs.Common.{◌∙◌, sym, subst}
 use Rattle.generic_names.specs.Best.{IsInOrder, AreNamed as AreEntriesNamed}
 use Rattle.profile_index.specs.Indexed.{name_of}
 use Rattle.racf_profiles.specs.LawfulProfiles.{AreProfiles}
-use Rattle.class_profiles.specs.Paired.{items_of}
 use Rattle.class_profiles.proofs.Pairs.{paired-again, ordered-paired, names-paired}
 use Rattle.class_profiles.proofs.shared_profiles.SharedProfiles.of.Goals as goal
 

@@ -1,5 +1,5 @@
 -- The index takes the entry out of those of the profiles. A name that is none of the kind is no profile's.
-use Rattle.std.proofs.Common.{◌≡◌, ◌∙◌, None, Bool, ap, sym, subst, map}
+use Rattle.std.proofs.Common.{◌∙◌, Bool, ap, sym, subst, map}
 use Rattle.std.specs.List.{find}
 use Rattle.std.proofs.lemmas.Result.{IfOk-weaker}
 use Rattle.profile_index.specs.Indexed.{AreOf}

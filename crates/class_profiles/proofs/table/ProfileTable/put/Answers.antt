@@ -1,5 +1,5 @@
 -- The index puts the entry where the profile goes.
-use Rattle.std.proofs.Common.{◌≡◌, ◌≤◌, ◌+◌, ◌∙◌, List, Option, None, Bool, ap, sym, subst, map, length, is_some, if◌then◌else◌, arith}
+use Rattle.std.proofs.Common.{◌≡◌, ◌≤◌, ◌+◌, ◌∙◌, List, None, Bool, ap, sym, subst, map, length, is_some, if◌then◌else◌, arith}
 use Rattle.std.specs.List.{find}
 use Rattle.std.specs.Option.{option_map}
 use Rattle.profile_index.specs.declared.entry.Entry.{Entry}

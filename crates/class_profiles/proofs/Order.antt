@@ -1,5 +1,5 @@
 -- Profiles in order of specificity: what stands behind a name, and what a put and a drop leave.
-use Rattle.std.proofs.Common.{◌≡◌, ℕ, zero, suc, ◌+◌, ◌≤◌, Bool, true, false, cond, List, [], ◌∷◌, length, take, ◌++◌, add-one, Option, Some, None, is_some, if◌then◌else◌, ◌<◌, refl, sym, ◌∙◌, ap, subst, arith}
+use Rattle.std.proofs.Common.{◌≡◌, ℕ, zero, suc, ◌+◌, ◌≤◌, Bool, true, false, cond, List, [], ◌∷◌, length, take, ◌++◌, add-one, Some, None, refl, sym, ◌∙◌, ap, subst, arith}
 use Rattle.std.specs.List.{find, AllByRecursion, slice_get}
 use Rattle.std.proofs.lemmas.Bool.{and_from}
 use Rattle.std.proofs.lemmas.List.{length-take}
@@ -106,54 +106,10 @@ module _ (not_both : NotBoth) where
         by true rest = ordered-tail y ys ordered
         by false rest = and_from (comes_first y.name (drop_row it ys)) (is_in_order (drop_row it ys)) (first-of_all y.name (drop_row it ys) (all-drop_row it (λ (z : Profile). before y.name z.name ≡ true) ys behind)) rest
 
-    -- a name stands but once
-    pub none-left : (n : Spelled) (kind : NameKind) (ps : List Profile) → n.kind ≡ kind → AreNamed kind ps → is_in_order ps ≡ true → find (is_profile n) (drop_row (is_profile n) ps) ≡ None
-    none-left n kind [] is named ordered = refl
-    none-left n kind (y ∷ ys) is named ordered = by (is_profile n y) refl (none-left n kind ys is named.1 (ordered-tail y ys ordered))
-      where
-        behind : AllByRecursion (λ (z : Profile). before y.name z.name ≡ true) ys
-        behind = rest-behind y ys ordered
-
-        by : (b : Bool) → is_profile n y ≡ b → find (is_profile n) (drop_row (is_profile n) ys) ≡ None → find (is_profile n) (cond b ys (y ∷ drop_row (is_profile n) ys)) ≡ None
-        by true same rest =
-            let name : y.name ≡ n = same_spelled y.name n (named.0.1 ∙ sym is) same in
-            none-behind n kind ys is named.1 (subst (λ (m : Spelled). AllByRecursion (λ (z : Profile). before m z.name ≡ true) ys) name behind)
-        by false other rest = ap (λ b. cond b (Some y) (find (is_profile n) (drop_row (is_profile n) ys))) other ∙ rest
-
     -- those behind a name, behind which others stand
     pub all-further : (m n : Spelled) (ps : List Profile) → before m n ≡ true → AllByRecursion (λ (z : Profile). before n z.name ≡ true) ps → AllByRecursion (λ (z : Profile). before m z.name ≡ true) ps
     all-further m n [] first all = tt
     all-further m n (z ∷ zs) first all = (passed_on m n z.name first all.0, all-further m n zs first all.1)
-
-    -- what is put before all others
-    put-first : (p : Profile) (kind : NameKind) (ps : List Profile) → p.name.kind ≡ kind → AreNamed kind ps → AllByRecursion (λ (z : Profile). before p.name z.name ≡ true) ps → put_profile p ps ≡ p ∷ ps
-    put-first p kind [] is named behind = refl
-    put-first p kind (z ∷ zs) is named behind =
-        ap (λ b. cond b (p ∷ zs) (cond (before p.name z.name) (p ∷ z ∷ zs) (z ∷ put_profile p zs))) (behind-other p.name z (named.0.1 ∙ sym is) behind.0)
-        ∙ ap (λ b. cond b (p ∷ z ∷ zs) (z ∷ put_profile p zs)) behind.0
-
-    -- what is put in the place of another is what is put where that was dropped
-    pub put-dropped : (p : Profile) (kind : NameKind) (ps : List Profile) → p.name.kind ≡ kind → AreNamed kind ps → is_in_order ps ≡ true → put_profile p (drop_row (is_profile p.name) ps) ≡ put_profile p ps
-    put-dropped p kind [] is named ordered = refl
-    put-dropped p kind (y ∷ ys) is named ordered = by (is_profile p.name y) (before p.name y.name) refl refl (put-dropped p kind ys is named.1 (ordered-tail y ys ordered))
-      where
-        behind : AllByRecursion (λ (z : Profile). before y.name z.name ≡ true) ys
-        behind = rest-behind y ys ordered
-
-        by : (s t : Bool) → is_profile p.name y ≡ s → before p.name y.name ≡ t → put_profile p (drop_row (is_profile p.name) ys) ≡ put_profile p ys
-            → put_profile p (cond s ys (y ∷ drop_row (is_profile p.name) ys)) ≡ cond s (p ∷ ys) (cond t (p ∷ y ∷ ys) (y ∷ put_profile p ys))
-        by true t same first rest =
-            let name : y.name ≡ p.name = same_spelled y.name p.name (named.0.1 ∙ sym is) same in
-            put-first p kind ys is named.1 (subst (λ (m : Spelled). AllByRecursion (λ (z : Profile). before m z.name ≡ true) ys) name behind)
-        by false true other first rest =
-            let others : drop_row (is_profile p.name) ys ≡ ys = drop_row-absent (is_profile p.name) ys (none-behind p.name kind ys is named.1 (all-further p.name y.name ys first behind)) in
-            ap (λ b. cond b (p ∷ drop_row (is_profile p.name) ys) (cond (before p.name y.name) (p ∷ y ∷ drop_row (is_profile p.name) ys) (y ∷ put_profile p (drop_row (is_profile p.name) ys)))) other
-            ∙ ap (λ b. cond b (p ∷ y ∷ drop_row (is_profile p.name) ys) (y ∷ put_profile p (drop_row (is_profile p.name) ys))) first
-            ∙ ap (λ zs. p ∷ y ∷ zs) others
-        by false false other first rest =
-            ap (λ b. cond b (p ∷ drop_row (is_profile p.name) ys) (cond (before p.name y.name) (p ∷ y ∷ drop_row (is_profile p.name) ys) (y ∷ put_profile p (drop_row (is_profile p.name) ys)))) other
-            ∙ ap (λ b. cond b (p ∷ y ∷ drop_row (is_profile p.name) ys) (y ∷ put_profile p (drop_row (is_profile p.name) ys))) first
-            ∙ ap (λ zs. y ∷ zs) rest
 
     -- what comes behind all others is put last
     pub put-next : (kind : NameKind) (ps : List Profile) (i : ℕ) (p : Profile) → AreNamed kind ps → is_in_order ps ≡ true → slice_get ps i ≡ Some p → put_profile p (take i ps) ≡ take (suc i) ps
@@ -165,11 +121,6 @@ module _ (not_both : NotBoth) where
         ap (λ b. cond b (p ∷ take i ys) (cond (before p.name y.name) (p ∷ y ∷ take i ys) (y ∷ put_profile p (take i ys)))) (front-other p.name y (sym is) first)
         ∙ ap (λ b. cond b (p ∷ y ∷ take i ys) (y ∷ put_profile p (take i ys))) (not_both y.name p.name first)
         ∙ ap (λ zs. y ∷ zs) (put-next kind ys i p named.1 (ordered-tail y ys ordered) at)
-
--- with what was taken out there is room, and else there was
-pub spared : {X : Type 0} (o : Option X) (old new : ℕ) → new ≡ old + (if is_some o then 1 else 0) → (o ≡ None → 0 < old) → 0 < new
-spared None old new is room = let some : 0 < old = room refl in omega arith
-spared (Some x) old new is room = omega arith
 
 -- one profile more of a list in order, put behind those before it
 module _ (not_both : NotBoth) (passed_on : PassedOn) (kind : NameKind) (ps : List Profile) (lawful : AreProfiles kind ps) (i : ℕ) (x p : Profile) (table : List Profile)

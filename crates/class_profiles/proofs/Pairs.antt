@@ -9,20 +9,20 @@ use Rattle.generic_names.specs.Spelled.{Spelled}
 use Rattle.generic_names.specs.Before.{before}
 use Rattle.generic_names.specs.Covers.{covers}
 use Rattle.generic_names.specs.Faults.{pattern_of}
-use Rattle.generic_names.specs.Laws.{IsPattern, OneIsBefore, NotBoth, PassedOn, ReadsBack}
+use Rattle.generic_names.specs.Laws.{IsPattern, NotBoth, PassedOn, ReadsBack}
 use Rattle.generic_names.specs.declared.fault.NameFault.{NameFault}
-use Rattle.generic_names.specs.Best.{best, most_specific, more_specific}
+use Rattle.generic_names.specs.Best.{best, most_specific, more_specific, IsInOrder, AreNamed as AreEntriesNamed}
 use Rattle.profile_index.specs.declared.entry.Entry.{Entry}
-use Rattle.profile_index.specs.Indexed.{AreOf, has_name, name_of, with_entry, without, IsPlaceOf as IsEntryAt}
+use Rattle.profile_index.specs.Indexed.{AreOf, has_name, name_of, put_entry, without, IsPlaceOf as IsEntryAt}
 use Rattle.racf_profiles.specs.declared.profiles.Profile.{Profile}
 use Rattle.racf_profiles.specs.Lookup.{is_profile}
 use Rattle.racf_profiles.specs.Edits.{put_profile, drop_row, is_in_order, AreNamed}
 use Rattle.racf_profiles.specs.LawfulProfiles.{AreProfiles}
 use Rattle.racf_profiles.specs.Limits.{most_class_profiles}
-use Rattle.class_profiles.specs.Paired.{entry_of, items_of}
+use Rattle.class_profiles.specs.Paired.{entry_of, items_of, IsPaired}
 use Rattle.class_profiles.specs.Table.{IsPlaceOf, best_profile}
-use Rattle.class_profiles.proofs.Order.{ordered-tail, rest-behind, none-behind, none-left, all-drop_row, length-drop_row, order-drop_row}
-use Rattle.racf_profiles.proofs.OrderedProfiles.{same_spelled, the_other_way, all-put_profile}
+use Rattle.class_profiles.proofs.Order.{ordered-tail, rest-behind, none-behind, all-drop_row, length-drop_row, order-drop_row}
+use Rattle.racf_profiles.proofs.OrderedProfiles.{same_spelled, all-put_profile}
 
 -- the entries of profiles are those of their profiles again
 pub items-again : (ps : List Profile) → items_of (map entry_of ps) ≡ ps
@@ -128,21 +128,17 @@ without-paired not_both passed_on kind name (p ∷ ps) is named ordered = by (is
         kept ps (none-behind not_both name kind ps is named.1 (subst (λ (n : Spelled). AllByRecursion (λ (z : Profile). before n z.name ≡ true) ps) here (rest-behind not_both passed_on p ps ordered)))
     by false other rest = ap (λ es. entry_of p ∷ es) rest
 
--- an entry at its place in the order: the profile put at its own
-pub with-paired : OneIsBefore → NotBoth → (kind : NameKind) (p : Profile) (ps : List Profile) → IsPattern p.name → p.name.kind ≡ kind → AreNamed kind ps → find (is_profile p.name) ps ≡ None → with_entry (entry_of p) (map entry_of ps) ≡ map entry_of (put_profile p ps)
-with-paired one not_both kind p [] lawful is named absent = refl
-with-paired one not_both kind p (y ∷ ys) lawful is named absent =
-    by (is_profile p.name y) (before p.name y.name) (before y.name p.name) refl refl refl absent (with-paired one not_both kind p ys lawful is named.1)
+-- an entry put among those of profiles: the profile put among these
+pub put-paired : (p : Profile) (ps : List Profile) → put_entry (entry_of p) (map entry_of ps) ≡ map entry_of (put_profile p ps)
+put-paired p [] = refl
+put-paired p (y ∷ ys) = by (is_profile p.name y) (before p.name y.name) (put-paired p ys)
   where
-    by : (s t u : Bool) → is_profile p.name y ≡ s → before p.name y.name ≡ t → before y.name p.name ≡ u → cond s (Some y) (find (is_profile p.name) ys) ≡ None
-        → (find (is_profile p.name) ys ≡ None → with_entry (entry_of p) (map entry_of ys) ≡ map entry_of (put_profile p ys))
-        → cond u (entry_of y ∷ with_entry (entry_of p) (map entry_of ys)) (entry_of p ∷ entry_of y ∷ map entry_of ys) ≡ map entry_of (cond s (p ∷ ys) (cond t (p ∷ y ∷ ys) (y ∷ put_profile p ys)))
-    by true t u same first second f rest = cc
-    by false true true same first second f rest = let never : before y.name p.name ≡ false = not_both p.name y.name first in cc (never, second)
-    by false true false same first second f rest = refl
-    by false false true same first second f rest = ap (λ es. entry_of y ∷ es) (rest f)
-    by false false false same first second f rest =
-        let ever : before y.name p.name ≡ true = the_other_way one p.name y.name lawful named.0.0 (is ∙ sym named.0.1) same first in cc (ever, second)
+    by : (s t : Bool) → put_entry (entry_of p) (map entry_of ys) ≡ map entry_of (put_profile p ys)
+        → cond s (entry_of p ∷ map entry_of ys) (cond t (entry_of p ∷ entry_of y ∷ map entry_of ys) (entry_of y ∷ put_entry (entry_of p) (map entry_of ys)))
+        ≡ map entry_of (cond s (p ∷ ys) (cond t (p ∷ y ∷ ys) (y ∷ put_profile p ys)))
+    by true t rest = refl
+    by false true rest = refl
+    by false false rest = ap (λ es. entry_of y ∷ es) rest
 
 -- the name of the kind with the same text
 pub of_kind-is : (kind : NameKind) (name found : Spelled) → ReadsBack → result_ok (pattern_of kind name.text) ≡ Some found → found ≡ record { kind = kind; text = name.text }
@@ -180,24 +176,38 @@ module _ (not_both : NotBoth) (passed_on : PassedOn) (kind : NameKind) (name : S
     few = omega (arith, length-drop_row (is_profile name) (items_of es), lawful.few);
   })
 
-  pub taken-gone : find (is_profile name) (items_of after) ≡ None
-  taken-gone = ap (find (is_profile name)) taken-items ∙ none-left not_both passed_on name kind (items_of es) is lawful.named lawful.ordered
+-- what it keeps after an entry was put
+module _ (kind : NameKind) (p : Profile) (named : IsPattern p.name) (is : p.name.kind ≡ kind) (es after : List (Entry Profile))
+    (paired : es ≡ map entry_of (items_of es)) (lawful : AreProfiles kind (items_of es)) (added : after ≡ put_entry (entry_of p) es) where
+  put-is : after ≡ map entry_of (put_profile p (items_of es))
+  put-is = added ∙ ap (put_entry (entry_of p)) paired ∙ put-paired p (items_of es)
 
--- what it keeps after an entry of a new name was put in
-module _ (one : OneIsBefore) (not_both : NotBoth) (kind : NameKind) (p : Profile) (named : IsPattern p.name) (is : p.name.kind ≡ kind) (es after : List (Entry Profile))
-    (paired : es ≡ map entry_of (items_of es)) (lawful : AreProfiles kind (items_of es)) (absent : find (is_profile p.name) (items_of es) ≡ None)
-    (added : after ≡ with_entry (entry_of p) es) where
-  added-is : after ≡ map entry_of (put_profile p (items_of es))
-  added-is = added ∙ ap (with_entry (entry_of p)) paired ∙ with-paired one not_both kind p (items_of es) named is lawful.named absent
+  pub put-items : items_of after ≡ put_profile p (items_of es)
+  put-items = (paired-again after (put_profile p (items_of es)) put-is).0
 
-  pub added-items : items_of after ≡ put_profile p (items_of es)
-  added-items = (paired-again after (put_profile p (items_of es)) added-is).0
+  pub put-kept : length (put_profile p (items_of es)) ≤ most_class_profiles → is_in_order (put_profile p (items_of es)) ≡ true → IsPaired kind after
+  put-kept few ordered = record {
+    paired = (paired-again after (put_profile p (items_of es)) put-is).1;
+    lawful = subst (AreProfiles kind) (sym put-items) (record { named = all-put_profile (λ (q : Profile). IsPattern q.name × (q.name.kind ≡ kind)) p (items_of es) (named, is) lawful.named; ordered = ordered; few = few });
+  }
 
-  pub added-paired : after ≡ map entry_of (items_of after)
-  added-paired = (paired-again after (put_profile p (items_of es)) added-is).1
+-- where no entry has a name, no profile has it
+pub absent-profile : (name : Spelled) (ps : List Profile) → find (has_name name) (map entry_of ps) ≡ None → find (is_profile name) ps ≡ None
+absent-profile name ps none = by (find (is_profile name) ps) (sym (find-paired name ps) ∙ none)
+  where
+    by : (o : Option Profile) → option_map entry_of o ≡ None → o ≡ None
+    by None h = refl
+    by (Some p) h = cc
 
-  pub added-lawful : length (put_profile p (items_of es)) ≤ most_class_profiles → is_in_order (put_profile p (items_of es)) ≡ true → AreProfiles kind (items_of after)
-  added-lawful few ordered = subst (AreProfiles kind) (sym added-items) (record { named = all-put_profile (λ (q : Profile). IsPattern q.name × (q.name.kind ≡ kind)) p (items_of es) (named, is) lawful.named; ordered = ordered; few = few })
+-- the entries of profiles in order stand in order, and have names
+pub ordered-paired : NotBoth → PassedOn → (ps : List Profile) → is_in_order ps ≡ true → IsInOrder name_of (map entry_of ps)
+ordered-paired not_both passed_on [] ordered = tt
+ordered-paired not_both passed_on (p ∷ ps) ordered = (behind ps (rest-behind not_both passed_on p ps ordered), ordered-paired not_both passed_on ps (ordered-tail p ps ordered))
+  where
+    behind : (qs : List Profile) → AllByRecursion (λ (z : Profile). before p.name z.name ≡ true) qs → AllByRecursion (λ (e : Entry Profile). before p.name e.name ≡ true) (map entry_of qs)
+    behind [] all = tt
+    behind (q ∷ qs) all = (all.0, behind qs all.1)
 
-pub absent-paired : (name : Spelled) (ps : List Profile) → find (is_profile name) ps ≡ None → find (has_name name) (map entry_of ps) ≡ None
-absent-paired name ps none = find-paired name ps ∙ ap (option_map entry_of) none
+pub names-paired : (kind : NameKind) (ps : List Profile) → AreNamed kind ps → AreEntriesNamed name_of (map entry_of ps)
+names-paired kind [] named = tt
+names-paired kind (p ∷ ps) named = (named.0.0, names-paired kind ps named.1)

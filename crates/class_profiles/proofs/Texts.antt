@@ -1,5 +1,5 @@
 -- A search that goes on at a place.
-use Rattle.std.proofs.Common.{◌≡◌, ℕ, zero, suc, ◌+◌, Bool, true, false, cond, List, [], ◌∷◌, drop, add-one, Some, None, sym, ap, ◌∙◌}
+use Rattle.std.proofs.Common.{◌≡◌, ℕ, zero, suc, ◌+◌, Bool, true, false, cond, List, [], ◌∷◌, drop, add-one, Some, sym, ap, ◌∙◌}
 use Rattle.std.specs.List.{find, slice_get}
 
 module _ {X : Type 0} (test : X → Bool) where

@@ -1,6 +1,6 @@
 -- All classes with their profiles, what these count together, and when a profile can be put.
-use Rattle.std.specs.Prelude.{◌≡◌, ℕ, ◌+◌, ◌<◌, ◌≤◌, ◌==◌, Bool, if◌then◌else◌, List, [], ◌∷◌, length, Option, None, IfSome, codes}
-use Rattle.std.specs.List.{find, sum_by, before_first}
+use Rattle.std.specs.Prelude.{◌≡◌, ℕ, ◌<◌, ◌≤◌, Bool, if◌then◌else◌, List, [], ◌∷◌, length, Option, None, IfSome, codes}
+use Rattle.std.specs.List.{find}
 use Rattle.std.specs.Option.{option_map, option_and_then}
 use Rattle.std.specs.Str.{bytes_eq}
 use Rattle.generic_names.specs.Spelled.{Spelled, first_qualifier}

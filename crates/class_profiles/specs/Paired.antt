@@ -1,5 +1,6 @@
 -- How a class's profiles are kept: each under its own name.
 use Rattle.std.specs.Prelude.{◌≡◌, List, map}
+use Rattle.generic_names.specs.declared.kind.NameKind.{NameKind}
 use Rattle.profile_index.specs.declared.entry.Entry.{Entry}
 use Rattle.racf_profiles.specs.declared.profiles.Profile.{Profile}
 use Rattle.class_profiles.specs.declared.table.ProfileTable.TheInside.{Inside}
@@ -15,6 +16,6 @@ items_of entries = map (λ (entry : Entry Profile). entry.item) entries
 abbrev pub list_of : Inside → ProfileList
 list_of table = record { kind = table.kind; profiles = items_of table.profiles.entries; spare = table.profiles.spare }
 
-pub record IsPaired (table : Inside) : Type 0 where
-  pub paired : table.profiles.entries ≡ map entry_of (items_of table.profiles.entries)
-  pub lawful : AreProfiles table.kind (items_of table.profiles.entries)
+pub record IsPaired (kind : NameKind) (entries : List (Entry Profile)) : Type 0 where
+  pub paired : entries ≡ map entry_of (items_of entries)
+  pub lawful : AreProfiles kind (items_of entries)

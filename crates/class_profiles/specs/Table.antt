@@ -16,6 +16,11 @@ pub record ProfileList : Type 0 where
   pub profiles : List Profile
   pub spare : ℕ
 
+-- The same without room: a table that doesn't change.
+pub record ProfilesOfKind : Type 0 where
+  pub kind : NameKind
+  pub profiles : List Profile
+
 -- The profile that decides on a name: the most specific of those that cover it.
 abbrev pub best_profile : List Profile → Spelled → Option Profile
 best_profile profiles name = best (λ (profile : Profile). profile.name) profiles name

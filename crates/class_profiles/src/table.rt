@@ -35,7 +35,7 @@ impl Model for ProfileTable {
 
     ghost view = { list_of };
 
-    ghost invariant = { IsPaired };
+    ghost invariant = { λ table. IsPaired table.kind table.profiles.entries };
 }
 
 impl ProfileTable {
@@ -102,13 +102,6 @@ impl ProfileTable {
         self.profiles.len()
     }
 
-    /// What the type keeps of its profiles. It does nothing: its contract is what it is for.
-    fn what_is_kept(&self)
-        ensures { AreProfiles self.now.kind self.now.profiles }
-    {
-        let _profiles = self.len();
-    }
-
     /// The profile at that place, from 0, in order of specificity.
     pub fn at(&self, place: usize) -> &Profile
         requires { place < length self.now.profiles }
@@ -152,11 +145,10 @@ impl ProfileTable {
         ensures spare { self.new.spare + (if is_some (find (is_profile profile.name) self.old.profiles) then 0 else 1) ≡ self.old.spare }
         ensures lawful { AreProfiles self.new.kind self.new.profiles }
     {
-        generic_names::laws::order_is_total();
-        self.what_is_kept();
+        racf_profiles::laws::puts_keep_the_order();
         let name = profile.name;
-        self.take(&name);
-        self.add(profile);
+        is_spelled(&name);
+        self.profiles.put(name, profile);
     }
 
     /// Takes the profile of that very name away, if there is one. It takes no memory.
@@ -191,26 +183,9 @@ impl ProfileTable {
         ensures profiles { self.new.profiles ≡ drop_row (is_profile name.now) self.old.profiles }
         ensures spare { self.new.spare ≡ self.old.spare + (if is_some (find (is_profile name.now) self.old.profiles) then 1 else 0) }
         ensures lawful { AreProfiles self.new.kind self.new.profiles }
-        ensures gone { find (is_profile name.now) self.new.profiles ≡ None }
     {
         generic_names::laws::order_is_total();
         self.profiles.remove(name);
-    }
-
-    /// Adds a profile of a new name.
-    fn add(&mut self, profile: Profile)
-        requires can { CanPut self.old profile }
-        requires absent { find (is_profile profile.name) self.old.profiles ≡ None }
-        ensures kind { self.new.kind ≡ self.old.kind }
-        ensures profiles { self.new.profiles ≡ put_profile profile self.old.profiles }
-        ensures spare { self.new.spare + 1 ≡ self.old.spare }
-        ensures lawful { AreProfiles self.new.kind self.new.profiles }
-    {
-        generic_names::laws::order_is_total();
-        racf_profiles::laws::puts_keep_the_order();
-        let name = profile.name;
-        is_spelled(&name);
-        self.profiles.insert(name, profile);
     }
 
     /// The place of the profile of that very name.
@@ -226,14 +201,14 @@ impl ProfileTable {
 }
 
 /// That its text spells it is what the laws of the order rest on. It does nothing: its contract is what it is for.
-fn is_spelled(name: &Pattern)
+pub(crate) fn is_spelled(name: &Pattern)
     ensures { IsPattern name.now }
 {
     let _text = name.text();
 }
 
 /// The name of that kind with the same text, if there is one.
-fn of_kind(kind: NameKind, name: &Pattern) -> Option<Pattern>
+pub(crate) fn of_kind(kind: NameKind, name: &Pattern) -> Option<Pattern>
     ensures { result ≡ result_ok (pattern_of kind name.now.text) }
 {
     let text = name.text();

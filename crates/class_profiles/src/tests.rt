@@ -5,6 +5,7 @@ ghost use Rattle.racf_profiles.specs.Counts.{entries_in};
 use crate::laws::{counts_are_enough, puts_are_counted};
 use crate::{
     ClassTables, MOST_CLASS_PROFILES, MOST_ENTRIES_IN_ALL, MOST_PROFILES, NoMemory, ProfileTable,
+    SharedProfiles,
 };
 use access_levels::{Categories, Entry, Id, Level, Who};
 use generic_names::{NameKind, Pattern, Resource};
@@ -166,5 +167,131 @@ fn two_classes(rt: HostRuntime) -> Result<(), Fail> {
     tables.set_listed(terminals, true);
     let rows = tables.rows(alloc)?;
     assert_eq!(rt; rows.items.len(), 14);
+    Ok(())
+}
+
+/// The profiles of a table, in a table that doesn't change.
+fn shared(alloc: Global, table: &ProfileTable) -> Result<SharedProfiles, NoMemory>
+    ensures { IfOk result (λ shared. shared.profiles ≡ table.now.profiles) }
+{
+    let _count = table.len();
+    let rows = table.rows(alloc)?;
+    SharedProfiles::of(alloc, table.kind(), &rows.items)
+}
+
+/// The table with a profile of that name, or the same where it is no name or there is no room.
+fn with_name(
+    alloc: Global,
+    table: &SharedProfiles,
+    name: &[u8],
+    uacc: Level,
+) -> Result<SharedProfiles, NoMemory> {
+    puts_are_counted();
+    let Ok(name) = Pattern::read(table.kind(), name) else {
+        return table.share(alloc);
+    };
+    if table.len() >= MOST_CLASS_PROFILES {
+        return table.share(alloc);
+    }
+    let profile = profile(alloc, name, uacc)?;
+    table.with_profile(alloc, profile)
+}
+
+/// The place of the profile that decides on a resource.
+fn place_for(table: &ProfileTable, resource: &[u8]) -> Option<usize> {
+    match Resource::read(table.kind(), resource) {
+        Ok(resource) => table.find(&resource),
+        Err(_) => None,
+    }
+}
+
+/// The same in a table that doesn't change.
+fn shared_place_for(table: &SharedProfiles, resource: &[u8]) -> Option<usize> {
+    match Resource::read(table.kind(), resource) {
+        Ok(resource) => table.find(&resource),
+        Err(_) => None,
+    }
+}
+
+/// Whether both have profiles of the same names and levels, and the same one decides on `A.B`.
+fn is_same(shared: &SharedProfiles, table: &ProfileTable) -> bool {
+    for place in 0..table.len() {
+        if place >= shared.len() {
+            return false;
+        }
+        let (one, other) = (shared.at(place), table.at(place));
+        if one.name.text() != other.name.text() || one.uacc != other.uacc {
+            return false;
+        }
+    }
+    shared.len() == table.len() && shared_place_for(shared, b"A.B") == place_for(table, b"A.B")
+}
+
+/// Makes one change of both: puts a profile of that name, or takes it away.
+fn change(
+    alloc: Global,
+    shared: &SharedProfiles,
+    table: &mut ProfileTable,
+    name: &[u8],
+    random: u32,
+) -> Result<SharedProfiles, NoMemory> {
+    let Ok(pattern) = Pattern::read(NameKind::General, name) else {
+        return shared.share(alloc);
+    };
+    let uacc = match random % 3 {
+        0 => Level::NoAccess,
+        1 => Level::Read,
+        _ => {
+            table.remove(&pattern);
+            return shared.without_profile(alloc, &pattern);
+        }
+    };
+    if !put(alloc, table, name, uacc) {
+        return shared.share(alloc);
+    }
+    with_name(alloc, shared, name, uacc)
+}
+
+/// How many of some random changes make the same of both tables.
+fn count_changes(alloc: Global, changes: u32) -> Result<u32, NoMemory> {
+    let names = [
+        b"A.B".as_slice(),
+        b"A.*",
+        b"A.**",
+        b"**",
+        b"B",
+        b"%",
+        b"A.%",
+        b"C.B.**",
+    ];
+    let mut table = ProfileTable::new(alloc, NameKind::General)?;
+    let mut versions = shared(alloc, &table)?;
+    let mut random = 7u32;
+    let mut alike = 0u32;
+    for _change in 0..changes {
+        random = random.wrapping_mul(1_664_525).wrapping_add(1_013_904_223);
+        let name = names[(random >> 8) as usize % 8];
+        versions = change(alloc, &versions, &mut table, name, random >> 16)?;
+        if is_same(&versions, &table) {
+            alike = alike.wrapping_add(1);
+        }
+    }
+    Ok(alike)
+}
+
+/// A change leaves the version before it as it was, and each version has what a table has that changes.
+#[test]
+fn versions_of_profiles(rt: HostRuntime) -> Result<(), Fail> {
+    let alloc = rt.alloc();
+    let mut table = ProfileTable::new(alloc, NameKind::DataSet)?;
+    assert!(rt; put(alloc, &mut table, b"SYS1.**", Level::NoAccess));
+    let first = shared(alloc, &table)?;
+    let second = with_name(alloc, &first, b"SYS1.PARMLIB", Level::Read)?;
+    assert_eq!(rt; (first.len(), second.len()), (1, 2));
+    let name = Pattern::read(NameKind::DataSet, b"SYS1.**");
+    let name = name.ok().ok_or("a lawful name")?;
+    let third = second.without_profile(alloc, &name)?;
+    assert!(rt; second.get(&name).is_some() && third.get(&name).is_none());
+    assert_eq!(rt; count_changes(alloc, 300)?, 300);
     Ok(())
 }

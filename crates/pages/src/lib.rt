@@ -7,8 +7,8 @@
 //! and [`Pages::iter`] gives the items in order. Items are held as `Arc`s: who has one already hands it in, and
 //! `shared_at` gives it out again.
 //!
-//! Only `sorted_rows` stands on this crate yet, and the product on neither. They are meant for `raclist_image`, whose
-//! images are copies of all rows today.
+//! `sorted_rows` and the shared index of `profile_index` stand on this crate, and the product on neither yet. They are
+//! meant for `raclist_image`, whose images are copies of all rows today.
 //!
 //! ```
 //! let list = Pages::of(alloc, vec![in alloc; "ANN", "PAY"]?)?;

@@ -1,13 +1,12 @@
 -- What stands at one place of a list, and what its entry or its lack makes of the whole.
-use Rattle.std.proofs.Common.{◌≡◌, ◌≢◌, ℕ, zero, suc, ◌+◌, ◌-◌, ◌<◌, ◌≤◌, Bool, true, false, cond, not, List, [], ◌∷◌, ◌++◌, length, get_or, take, drop, Option, Some, None, refl, ap, sym, ◌∙◌, subst, arith, ⊎_elim, ◌⊎◌, inl, inr, find, filter}
+use Rattle.std.proofs.Common.{◌≡◌, ◌≢◌, ℕ, zero, suc, ◌+◌, ◌<◌, ◌≤◌, Bool, true, false, cond, not, List, [], ◌∷◌, length, get_or, Option, Some, None, refl, ap, sym, ◌∙◌, arith, find, filter}
 use Rattle.std.specs.List.{AllByRecursion, AllWithin, slice_get, insert, remove}
-use Rattle.std.specs.Option.{option_and_then, MatchOption}
 use Rattle.std.proofs.lemmas.Slice.Eq.{bytes_eq-Decides}
 use Rattle.generic_names.specs.Spelled.{Spelled}
 use Rattle.generic_names.specs.Before.{before}
 use Rattle.generic_names.specs.Best.{IsInOrder}
 use Rattle.profile_index.specs.declared.entry.Entry.{Entry}
-use Rattle.profile_index.specs.Indexed.{IsPlaceOf, IsAbsent, has_name, with_entry, without}
+use Rattle.profile_index.specs.Indexed.{IsPlaceOf, IsAbsent, has_name, with_entry}
 use Rattle.profile_index.specs.Places.{IsFirst}
 
 module _ {A : Type 0} where

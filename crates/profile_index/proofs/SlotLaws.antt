@@ -1,13 +1,17 @@
 -- Entries in slots.
-use Rattle.std.proofs.Common.{◌≡◌, ◌≢◌, ℕ, zero, suc, ◌+◌, ◌-◌, ◌<◌, ◌≤◌, Bool, true, false, cond, eqb, List, [], ◌∷◌, ◌++◌, length, map, get_or, take, drop, Option, Some, None, option_to_list, refl, ap, sym, ◌∙◌, subst, arith, ⊎_elim, length-append}
-use Rattle.std.specs.List.{AllByRecursion, slice_get, insert, remove}
-use Rattle.std.proofs.lemmas.List.{length-map, get_or_default}
+use Rattle.std.proofs.Common.{◌≡◌, ◌≢◌, ℕ, zero, suc, ◌+◌, ◌-◌, ◌<◌, ◌≤◌, Bool, true, false, cond, eqb, List, [], ◌∷◌, ◌++◌, length, map, get_or, set, Option, Some, option_to_list, refl, ap, sym, ◌∙◌, subst, arith, ⊎_elim, length-append}
+use Rattle.std.specs.List.{AllByRecursion, AllWithin, slice_get, insert, remove}
+use Rattle.std.proofs.lemmas.List.{length-map, length-set, get_or_default}
 use Rattle.std.proofs.lemmas.List.Edits.{length-insert, length-remove}
-use Rattle.std.proofs.lemmas.Bool.{cases_eq}
+use Rattle.std.proofs.lemmas.Bool.{cases_lt}
 use Rattle.std.proofs.lemmas.Bool.Decides.{nat_tests}
 use Rattle.profile_index.specs.EntrySlots.{in_slots, AreApart, renamed, IsKept}
-use Rattle.profile_index.proofs.PlaceLaws.{slice_get-at, all-insert, all-remove}
-use Rattle.profile_index.proofs.OrderedLaws.{all-at}
+use Rattle.profile_index.proofs.PlaceLaws.{slice_get-at, all-insert, all-remove, order-remove}
+use Rattle.profile_index.proofs.OrderedLaws.{all-at, ordered-at, not_before_itself}
+use Rattle.generic_names.specs.Before.{before}
+use Rattle.generic_names.specs.Best.{IsInOrder}
+use Rattle.profile_index.specs.declared.entry.Entry.{Entry}
+use Rattle.profile_index.specs.Indexed.{name_of}
 
 module _ {A : Type 0} where
   some-get : (xs : List A) (i : ℕ) → i < length xs → (x : A) × (slice_get xs i ≡ Some x)
@@ -203,20 +207,132 @@ module _ {A : Type 0} (slots others : List A) (order : List ℕ) (kept : IsKept 
       in_slots-map slots others (remove order p) (λ s. renamed (length others) slot s) (all-weaker (λ s. (s < length slots) × (s ≢ slot)) (λ s. slice_get others (renamed (length others) slot s) ≡ slice_get slots s) (remove order p) renamed-get rest-all)
       ∙ in_slots-remove slots order p kept.there
 
--- what a read of a slot at a place gives
-pub entry-at : {A : Type 0} (slots : List A) (order : List ℕ) → IsKept slots order → (place slot : ℕ) (x : A) → place < length order → slot ≡ get_or order place slot → x ≡ get_or slots slot x → slice_get (in_slots slots order) place ≡ Some x
-entry-at slots order kept place slot x within is_slot is =
-    let same : slot ≡ get_or order place 0 = is_slot ∙ get_or_default order place slot 0 within in
-    let low : get_or order place 0 < length slots = all-at (λ s. s < length slots) order kept.there place 0 within in
-    get-in_slots slots order kept.there place within x
-    (slice_get-at slots (get_or order place 0) x low ∙ ap (λ (y : _). Some y) (ap (λ (s : ℕ). get_or slots s x) (sym same) ∙ sym is))
-
 pub value-at : {A : Type 0} (xs : List A) (k : ℕ) (x : A) → slice_get xs k ≡ Some x → x ≡ get_or xs k x
 value-at xs k x h = (get-some xs k x h).1
 
--- the slot that a removal gives, and the entry in it
+-- what a read of a slot at a place gives
+module _ {A : Type 0} (slots : List A) (order : List ℕ) (there : AllByRecursion (λ slot. slot < length slots) order) (place slot : ℕ) (x : A) (within : place < length order)
+    (is_slot : slot ≡ get_or order place slot) (is : x ≡ get_or slots slot x) where
+  pub entry-at : slice_get (in_slots slots order) place ≡ Some x
+  entry-at =
+      let same : slot ≡ get_or order place 0 = is_slot ∙ get_or_default order place slot 0 within in
+      let low : get_or order place 0 < length slots = all-at (λ s. s < length slots) order there place 0 within in
+      get-in_slots slots order there place within x
+      (slice_get-at slots (get_or order place 0) x low ∙ ap (λ (y : _). Some y) (ap (λ (s : ℕ). get_or slots s x) (sym same) ∙ sym is))
+
+  pub read-at : x ≡ get_or (in_slots slots order) place x
+  read-at = value-at (in_slots slots order) place x entry-at
+
+-- the slot that a removal gives
 pub removed-slot : (order : List ℕ) (p slot : ℕ) → p < length order → slot ≡ get_or order p slot → slot ≡ get_or order p 0
 removed-slot order p slot within is = is ∙ get_or_default order p slot 0 within
 
-pub removed-entry : {A : Type 0} (slots : List A) (order : List ℕ) → IsKept slots order → (p slot : ℕ) (x : A) → p < length order → slot ≡ get_or order p slot → x ≡ get_or slots slot x → x ≡ get_or (in_slots slots order) p x
-removed-entry slots order kept p slot x within is_slot is = value-at (in_slots slots order) p x (entry-at slots order kept p slot x within is_slot is)
+-- another entry in a slot
+module _ {A : Type 0} where
+  get-set : (xs : List A) (i : ℕ) (x : A) → i < length xs → slice_get (set xs i x) i ≡ Some x
+  get-set [] i x h = absurd (omega arith)
+  get-set (y ∷ xs) zero x h = refl
+  get-set (y ∷ xs) (suc i) x h = get-set xs i x (omega arith)
+
+  get-set_other : (xs : List A) (i j : ℕ) (x : A) → i ≢ j → slice_get (set xs i x) j ≡ slice_get xs j
+  get-set_other [] i j x other = refl
+  get-set_other (y ∷ xs) zero zero x other = absurd (other refl)
+  get-set_other (y ∷ xs) zero (suc j) x other = refl
+  get-set_other (y ∷ xs) (suc i) zero x other = refl
+  get-set_other (y ∷ xs) (suc i) (suc j) x other = get-set_other xs i j x (λ e. other (ap (λ (n : ℕ). suc n) e))
+
+  in_slots-others : (slots : List A) (order : List ℕ) (i : ℕ) (x : A) → AllByRecursion (λ other. i ≢ other) order → in_slots (set slots i x) order ≡ in_slots slots order
+  in_slots-others slots [] i x others = refl
+  in_slots-others slots (s ∷ order) i x others =
+      ap (λ (o : Option A). option_to_list o ++ in_slots (set slots i x) order) (get-set_other slots i s x others.0)
+      ∙ ap (λ (xs : List A). option_to_list (slice_get slots s) ++ xs) (in_slots-others slots order i x others.1)
+
+  pub in_slots-set : (slots : List A) (order : List ℕ) (p : ℕ) (x : A) → AllByRecursion (λ slot. slot < length slots) order → AreApart order → p < length order
+      → in_slots (set slots (get_or order p 0) x) order ≡ set (in_slots slots order) p x
+  in_slots-set slots [] p x there apart h = absurd (omega arith)
+  in_slots-set slots (s ∷ order) zero x there apart h =
+      let y = some-get slots s there.0 in
+      slots-cons (set slots s x) s order x (get-set slots s x there.0)
+      ∙ ap (λ (xs : List A). x ∷ xs) (in_slots-others slots order s x apart.0)
+      ∙ ap (λ (xs : List A). set xs 0 x) (sym (slots-cons slots s order y.0 y.1))
+  in_slots-set slots (s ∷ order) (suc p) x there apart h =
+      let y = some-get slots s there.0 in
+      let other = all-at (λ other. s ≢ other) order apart.0 p 0 (omega arith) in
+      slots-cons (set slots (get_or order p 0) x) s order y.0 (get-set_other slots (get_or order p 0) s x (λ e. other (sym e)) ∙ y.1)
+      ∙ ap (λ (xs : List A). y.0 ∷ xs) (in_slots-set slots order p x there.1 apart.1 (omega arith))
+      ∙ ap (λ (xs : List A). set xs (suc p) x) (sym (slots-cons slots s order y.0 y.1))
+
+  pub set-kept : (slots : List A) (order : List ℕ) (i : ℕ) (x : A) → IsKept slots order → IsKept (set slots i x) order
+  set-kept slots order i x kept = record {
+    there = all-weaker (λ s. s < length slots) (λ s. s < length (set slots i x)) order (λ s h. omega (arith, h, length-set slots i x)) kept.there;
+    apart = kept.apart;
+    all = kept.all ∙ sym (length-set slots i x);
+  }
+
+-- the slots that are left once a place is gone
+module _ {T : Type 0} (slots : List (Entry T)) (order : List ℕ) (there : AllByRecursion (λ slot. slot < length slots) order) (p : ℕ)
+    (same : List (Entry T)) (left : List ℕ) (same_is : same ≡ slots) (left_is : left ≡ remove order p) where
+  pub left-there : AllByRecursion (λ slot. slot < length same) left
+  left-there = subst (λ (xs : List (Entry T)). AllByRecursion (λ slot. slot < length xs) left) (sym same_is)
+      (subst (λ (ys : List ℕ). AllByRecursion (λ slot. slot < length slots) ys) (sym left_is) (all-remove (λ slot. slot < length slots) order p there))
+
+  pub left-ordered : IsInOrder name_of (in_slots slots order) → IsInOrder name_of (in_slots same left)
+  left-ordered ordered =
+      let is : in_slots same left ≡ remove (in_slots slots order) p = ap (λ (xs : List (Entry T)). in_slots xs left) same_is ∙ ap (λ (ys : List ℕ). in_slots slots ys) left_is ∙ in_slots-remove slots order p there in
+      subst (λ (xs : List (Entry T)). IsInOrder name_of xs) (sym is) (order-remove name_of (in_slots slots order) p ordered)
+
+-- the place of an entry that is searched for by its name
+module _ {T : Type 0} (slots : List (Entry T)) (order : List ℕ) (there : AllByRecursion (λ slot. slot < length slots) order) (ordered : IsInOrder name_of (in_slots slots order))
+    (slot : ℕ) (e : Entry T) (is : e ≡ get_or slots slot e) (place : ℕ) (below : AllWithin (λ x. before x.name e.name ≡ true) (in_slots slots order) 0 place)
+    (above : AllWithin (λ x. before x.name e.name ≡ false) (in_slots slots order) place (length order)) where
+  pub only-place : (k : ℕ) → slice_get order k ≡ Some slot → k ≡ place
+  only-place k at =
+      let found = get-some order k slot at in
+      let size = length-in_slots slots order there in
+      let here = read-at slots order there k slot e found.0 found.1 is in
+      let itself : before e.name e.name ≡ false = not_before_itself e.name in
+      ⊎_elim
+      (λ (less : k < place).
+      let first : before e.name e.name ≡ true = subst (λ (x : Entry T). before x.name e.name ≡ true) (sym here) (below k e (omega arith) less) in
+      absurd (cc (first, itself)))
+      (λ (more : place ≤ k). ⊎_elim
+      (λ (less : place < k).
+      let low : k < length (in_slots slots order) = omega (arith, size, found.0) in
+      let first : before (get_or (in_slots slots order) place e).name e.name ≡ true =
+      subst (λ (x : Entry T). before (get_or (in_slots slots order) place e).name x.name ≡ true) (sym here) (ordered-at name_of (in_slots slots order) ordered place k e less low) in
+      let later : before (get_or (in_slots slots order) place e).name e.name ≡ false = above place e (omega arith) (omega (arith, less, found.0)) in
+      absurd (cc (first, later)))
+      (λ (same : k ≤ place). omega arith)
+      (cases_lt place k))
+      (cases_lt k place)
+
+-- a number that stands at one place at most, under its new one
+module _ (from to : ℕ) where
+  renamed-same : (x : ℕ) → x ≡ from → renamed from to x ≡ to
+  renamed-same x is = settled (eqb x from) refl
+    where
+      settled : (t : Bool) → eqb x from ≡ t → cond t to x ≡ to
+      settled true e = refl
+      settled false e = let other : x ≢ from = grind (arith, nat_tests) in absurd (other is)
+
+  renamed-other : (x : ℕ) → x ≢ from → renamed from to x ≡ x
+  renamed-other x other = settled (eqb x from) refl
+    where
+      settled : (t : Bool) → eqb x from ≡ t → cond t to x ≡ x
+      settled true e = let is : x ≡ from = grind (arith, nat_tests) in absurd (other is)
+      settled false e = refl
+
+  pub renamed-none : (xs : List ℕ) → ((k : ℕ) → slice_get xs k ≡ Some from → ⊥) → xs ≡ map (λ x. renamed from to x) xs
+  renamed-none [] none = refl
+  renamed-none (x ∷ xs) none =
+      ap (λ (ys : List ℕ). x ∷ ys) (renamed-none xs (λ k h. none (suc k) h))
+      ∙ ap (λ (y : ℕ). y ∷ map (λ z. renamed from to z) xs) (sym (renamed-other x (λ e. none 0 (ap (λ (y : ℕ). Some y) e))))
+
+  pub renamed-at : (xs : List ℕ) (place : ℕ) → place < length xs → get_or xs place 0 ≡ from → ((k : ℕ) → slice_get xs k ≡ Some from → k ≡ place) → set xs place to ≡ map (λ x. renamed from to x) xs
+  renamed-at [] place h is only = absurd (omega arith)
+  renamed-at (x ∷ xs) zero h is only =
+      ap (λ (ys : List ℕ). to ∷ ys) (renamed-none xs (λ k at. let e : suc k ≡ 0 = only (suc k) at in omega arith))
+      ∙ ap (λ (y : ℕ). y ∷ map (λ z. renamed from to z) xs) (sym (renamed-same x is))
+  renamed-at (x ∷ xs) (suc place) h is only =
+      ap (λ (ys : List ℕ). x ∷ ys) (renamed-at xs place (omega arith) is (λ k at. let e : suc k ≡ suc place = only (suc k) at in omega arith))
+      ∙ ap (λ (y : ℕ). y ∷ map (λ z. renamed from to z) xs) (sym (renamed-other x (λ e. let first : 0 ≡ suc place = only 0 (ap (λ (y : ℕ). Some y) e) in omega arith)))

@@ -1,12 +1,19 @@
-ghost use Rattle.std.specs.Prelude.{◌≡◌, ℕ, ◌+◌, ◌<◌, ◌≤◌, [], length, map, max, get_or, IsOk, OnOk, OnErr, Some};
-ghost use Rattle.std.specs.List.{slice_get, insert, remove};
-ghost use Rattle.profile_index.specs.EntrySlots.{renamed};
+ghost use Rattle.std.specs.Prelude.{◌≡◌, ℕ, ◌+◌, ◌<◌, ◌≤◌, true, false, [], length, map, max, get_or, slice_set, IsOk, OnOk, OnErr, Some};
+ghost use Rattle.std.specs.List.{AllByRecursion, AllWithin, slice_get, insert, remove};
+ghost use Rattle.generic_names.specs.Before.{before};
+ghost use Rattle.generic_names.specs.Best.{IsInOrder};
+ghost use Rattle.profile_index.specs.EntrySlots.{in_slots, renamed};
+ghost use Rattle.profile_index.specs.Indexed.{name_of};
 
 use crate::entry::Entry;
 use crate::entry_list::EntryList;
 use generic_names::{Gap, Pattern};
 use std::alloc::{AllocError, Global};
 use std::marker::Model;
+use std::mem;
+
+/// The most entries that there may be: the numbers of their slots have 32 bits.
+const MOST: usize = 4_294_967_295;
 
 /// Entries by their places. They stand in slots of no order, and the numbers of the slots in the order of
 /// the entries, so that an entry goes in or out without moving the others.
@@ -15,7 +22,7 @@ pub(crate) struct EntrySlots<T> {
     /// The entries, in no order.
     slots: Vec<Entry<T>>,
     /// The numbers of the slots, in the order of the entries.
-    order: Vec<usize>,
+    order: Vec<u32>,
     /// How many entries can be put in without memory.
     spare: usize,
 }
@@ -30,7 +37,7 @@ impl<T> Model for EntrySlots<T> {
 
     ghost view = { λ s. record { entries = in_slots s.slots.items s.order.items; spare = s.spare } };
 
-    ghost invariant = { λ s. IsKept s.slots.items s.order.items × (vec_len s.slots + s.spare ≤ vec_capacity s.slots) × (vec_len s.order + s.spare ≤ vec_capacity s.order) };
+    ghost invariant = { λ s. IsKept s.slots.items s.order.items × (vec_len s.slots + s.spare ≤ vec_capacity s.slots) × (vec_len s.order + s.spare ≤ vec_capacity s.order) × (vec_len s.slots + s.spare ≤ 4294967295) };
 }
 
 impl<T> EntrySlots<T> {
@@ -46,7 +53,7 @@ impl<T> EntrySlots<T> {
         }
     }
 
-    /// Makes room for at least this many entries more.
+    /// Makes room for at least this many entries more. There is none for more than `MOST` in all.
     pub(crate) fn reserve(&mut self, n: usize) -> Result<(), AllocError>
         ensures spare { OnOk result (self.new.spare ≡ max self.old.spare n) }
         ensures entries { self.new.entries ≡ self.old.entries }
@@ -54,6 +61,9 @@ impl<T> EntrySlots<T> {
         ensures enough { n ≤ self.old.spare → IsOk result }
     {
         if self.spare < n {
+            if n > MOST - self.slots.len() {
+                return Err(AllocError);
+            }
             self.slots.reserve(n)?;
             self.order.reserve(n)?;
             self.spare = n;
@@ -81,7 +91,7 @@ impl<T> EntrySlots<T> {
         ensures there { slice_get self.now.entries place ≡ Some result.now }
         ensures value { result.now ≡ get_or self.now.entries place result.now }
     {
-        &self.slots[self.order[place]]
+        &self.slots[self.order[place] as usize]
     }
 
     /// Puts an entry in at a place.
@@ -91,22 +101,37 @@ impl<T> EntrySlots<T> {
         ensures entries { self.new.entries ≡ insert self.old.entries place entry }
         ensures spare { self.new.spare + 1 ≡ self.old.spare }
     {
-        let slot = self.slots.len();
+        let slot = self.slots.len() as u32;
         self.slots.push(entry).unwrap();
         self.order.insert(place, slot).unwrap();
         self.spare -= 1;
     }
 
-    /// Takes the entry at a place out.
-    pub(crate) fn remove(&mut self, place: usize) -> Entry<T>
+    /// Puts an entry in the place of another, which it gives back. Nothing moves.
+    pub(crate) fn replace(&mut self, place: usize, entry: Entry<T>) -> Entry<T>
         requires { place < length self.old.entries }
+        ensures entry { result ≡ get_or self.old.entries place result }
+        ensures entries { self.new.entries ≡ slice_set self.old.entries place entry }
+        ensures spare { self.new.spare ≡ self.old.spare }
+    {
+        let slot = self.order[place] as usize;
+        mem::replace(&mut self.slots[slot], entry)
+    }
+
+    /// Takes the entry at a place out. The last slot's entry moves into the slot that becomes free, and its place is
+    /// found by a search in the order.
+    pub(crate) fn remove(&mut self, place: usize) -> Entry<T>
+        requires within { place < length self.old.entries }
+        requires ordered { IsInOrder name_of self.old.entries }
         ensures entry { result ≡ get_or self.old.entries place result }
         ensures entries { self.new.entries ≡ remove self.old.entries place }
         ensures spare { self.new.spare ≡ self.old.spare + 1 }
     {
         let slot = self.order.remove(place);
-        let entry = self.slots.swap_remove(slot);
-        rename(&mut self.order, self.slots.len(), slot);
+        let last = self.slots.len() - 1;
+        let moved = end_of_those_before(&self.slots, &self.order, &self.slots[last].name);
+        let entry = self.slots.swap_remove(slot as usize);
+        rename(&mut self.order, moved, last as u32, slot);
         self.spare += 1;
         entry
     }
@@ -124,17 +149,7 @@ impl<T> EntryList<T> for EntrySlots<T> {
     }
 
     fn end_of_those_before(&self, name: &Pattern) -> usize {
-        let mut low = 0;
-        let mut high = EntrySlots::len(self);
-        while low < high {
-            let middle = low + (high - low) / 2;
-            if EntrySlots::entry(self, middle).name.before(name) {
-                low = middle + 1;
-            } else {
-                high = middle;
-            }
-        }
-        low
+        end_of_those_before(&self.slots, &self.order, name)
     }
 
     fn end_of_gap(&self, from: usize, gap: &Gap) -> usize {
@@ -152,13 +167,33 @@ impl<T> EntryList<T> for EntrySlots<T> {
     }
 }
 
-/// Gives a slot another number.
-fn rename(order: &mut [usize], from: usize, to: usize)
+/// Where the entries in these slots that are before a name end.
+fn end_of_those_before<T>(slots: &[Entry<T>], order: &[u32], name: &Pattern) -> usize
+    requires there { AllByRecursion (λ slot. slot < length slots.now) order.now }
+    requires ordered { IsInOrder name_of (in_slots slots.now order.now) }
+    ensures within { result ≤ length order.now }
+    ensures below { AllWithin (λ e. before e.name name.now ≡ true) (in_slots slots.now order.now) 0 result }
+    ensures above { AllWithin (λ e. before e.name name.now ≡ false) (in_slots slots.now order.now) result (length order.now) }
+{
+    let mut low = 0;
+    let mut high = order.len();
+    while low < high {
+        let middle = low + (high - low) / 2;
+        if slots[order[middle] as usize].name.before(name) {
+            low = middle + 1;
+        } else {
+            high = middle;
+        }
+    }
+    low
+}
+
+/// Gives the slot of that number another one. If it is there at all, it is at that place.
+fn rename(order: &mut [u32], place: usize, from: u32, to: u32)
+    requires { (k : ℕ) → slice_get order.old k ≡ Some from → k ≡ place }
     ensures { order.new ≡ map (λ slot. renamed from to slot) order.old }
 {
-    for k in 0..order.len() {
-        if order[k] == from {
-            order[k] = to;
-        }
+    if place < order.len() && order[place] == from {
+        order[place] = to;
     }
 }

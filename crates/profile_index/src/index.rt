@@ -35,7 +35,7 @@ impl<T> Model for Index<T> {
 }
 
 impl<T> Index<T> {
-    ghost use Rattle.profile_index.specs.Indexed.{name_of, has_name, AreOf, IsAbsent, IsPlaceOf, with_entry, without};
+    ghost use Rattle.profile_index.specs.Indexed.{name_of, has_name, AreOf, IsAbsent, IsPlaceOf, with_entry, put_entry, without};
 
     /// An index without entries. It takes no memory yet.
     pub fn new(alloc: Global) -> Result<Index<T>, NoMemory>
@@ -116,7 +116,7 @@ impl<T> Index<T> {
     }
 
     /// Adds an entry at its place in the order. It takes no memory. Behind it only the numbers
-    /// of the slots move, eight bytes an entry.
+    /// of the slots move, four bytes an entry.
     pub fn insert(&mut self, name: Pattern, item: T)
         requires room { 0 < self.old.spare }
         requires kind { AreOf name.kind self.old.entries }
@@ -128,6 +128,29 @@ impl<T> Index<T> {
         is_pattern(&name);
         let place = self.slots.end_of_those_before(&name);
         self.slots.insert(place, Entry { name, item });
+    }
+
+    /// Puts an item in the place of the one of its name, which is answered, or else at its name's place in the order.
+    /// It takes no memory, and nothing moves where the name is there.
+    pub fn put(&mut self, name: Pattern, item: T) -> Option<T>
+        requires room { IsAbsent name self.old.entries → 0 < self.old.spare }
+        requires kind { AreOf name.kind self.old.entries }
+        ensures item { result ≡ option_map (λ e. e.item) (find (has_name name) self.old.entries) }
+        ensures entries { self.new.entries ≡ put_entry (record { name = name; item = item }) self.old.entries }
+        ensures kinds { AreOf name.kind self.new.entries }
+        ensures spare { self.new.spare + (if is_some result then 0 else 1) ≡ self.old.spare }
+    {
+        is_pattern(&name);
+        match place_for(&self.slots, &name) {
+            Ok(place) => {
+                let Entry { name: _, item } = self.slots.replace(place, Entry { name, item });
+                Some(item)
+            }
+            Err(place) => {
+                self.slots.insert(place, Entry { name, item });
+                None
+            }
+        }
     }
 
     /// Takes the entry of a name out, if there is one.

@@ -2,8 +2,9 @@
 //!
 //! An [`Index`] keeps an item under each name, and finds the most specific name that covers a resource without looking at
 //! all of them; `class_profiles` keeps the profiles of a class in one. An entry comes in without memory where `reserve` made
-//! room before. [`Steps`] counts the comparisons of the search for a very name, of which there are as many as the number of
-//! entries has binary digits.
+//! room before. A [`SharedIndex`] doesn't change: each of its changed versions is one of its own, and shares with the one
+//! before all but what leads to the change. [`Steps`] counts the comparisons of the search for a very name, of which there
+//! are as many as the number of entries has binary digits.
 //!
 //! ```
 //! let mut index = Index::new(alloc)?;

@@ -110,19 +110,18 @@ impl<T: Drop> SharedIndex<T> {
         item: T,
     ) -> Result<SharedIndex<T>, NoMemory>
         requires { AreOf name.kind self.now }
-        ensures { IfOk result (λ index. index ≡ put_entry (record { name = name; item = item }) self.now) }
+        ensures entries { IfOk result (λ index. index ≡ put_entry (record { name = name; item = item }) self.now) }
+        ensures kinds { IfOk result (λ index. AreOf name.kind index) }
     {
         is_pattern(&name);
-        match place_for(&self.entries, &name) {
+        let place = place_for(&self.entries, &name);
+        let entry = Arc::new(alloc, Entry { name, item })?;
+        match place {
             Ok(place) => Ok(SharedIndex {
-                entries: self
-                    .entries
-                    .with_replaced(alloc, place, Arc::new(alloc, Entry { name, item })?)?,
+                entries: self.entries.with_replaced(alloc, place, entry)?,
             }),
             Err(place) => Ok(SharedIndex {
-                entries: self
-                    .entries
-                    .with_inserted(alloc, place, Arc::new(alloc, Entry { name, item })?)?,
+                entries: self.entries.with_inserted(alloc, place, entry)?,
             }),
         }
     }
@@ -130,7 +129,8 @@ impl<T: Drop> SharedIndex<T> {
     /// The index without the entry of a name, or the same where there is none.
     pub fn without(&self, alloc: Global, name: &Pattern) -> Result<SharedIndex<T>, NoMemory>
         requires { AreOf name.now.kind self.now }
-        ensures { IfOk result (λ index. index ≡ without name.now self.now) }
+        ensures entries { IfOk result (λ index. index ≡ without name.now self.now) }
+        ensures kinds { IfOk result (λ index. AreOf name.now.kind index) }
     {
         match place_for(&self.entries, name) {
             Ok(place) => Ok(SharedIndex {

@@ -2,7 +2,7 @@ ghost use Rattle.std.specs.Prelude.{◌≡◌, ◌<◌, IfOk};
 ghost use Rattle.generic_names.specs.declared.kind.NameKind.TheVariants.{General};
 ghost use Rattle.profile_index.specs.Indexed.{AreOf};
 
-use crate::{Index, NoMemory, Steps};
+use crate::{Entry, Index, NoMemory, SharedIndex, Steps};
 use generic_names::{NameKind, Pattern, Resource};
 use std::alloc::Global;
 use std::marker::Brand;
@@ -244,5 +244,159 @@ fn answers_a_million_times(rt: HostRuntime) -> Result<(), Fail> {
         assert_eq!(rt; index.len(), 50_000);
         assert_eq!(rt; count_found(rt.alloc(), &index, each)?, 840_000);
     }
+    Ok(())
+}
+
+/// An index of one entry.
+fn single(alloc: Global, name: Pattern, item: u32) -> Result<SharedIndex<u32>, NoMemory>
+    ensures { IfOk result (λ index. AreOf name.kind index) }
+{
+    let _text = name.text();
+    let mut entries = Vec::new(alloc);
+    entries.push(Entry { name, item })?;
+    SharedIndex::of(alloc, entries)
+}
+
+/// The names in their order, with spaces between them.
+fn names_of(alloc: Global, index: &SharedIndex<u32>) -> Result<Vec<u8>, NoMemory> {
+    let mut names = Vec::new(alloc);
+    for place in 0..index.len() {
+        let (name, _) = index.at(place);
+        if place > 0 {
+            names.push(b' ')?;
+        }
+        names.extend_from_slice(name.text())?;
+    }
+    Ok(names)
+}
+
+/// An index with an item under a name, or without the name where the item is 0.
+fn changed(
+    alloc: Global,
+    index: &SharedIndex<u32>,
+    name: Pattern,
+    item: u32,
+) -> Result<SharedIndex<u32>, NoMemory>
+    requires { AreOf name.kind index.now }
+    ensures { IfOk result (λ index. AreOf name.kind index) }
+{
+    if item == 0 {
+        return index.without(alloc, &name);
+    }
+    index.with_entry(alloc, name, item)
+}
+
+/// The item that is found for a resource, or 0.
+fn item_for(index: &SharedIndex<u32>, name: &[u8]) -> u32
+    requires { AreOf General index.now }
+{
+    let Ok(name) = Resource::read(NameKind::General, name) else {
+        return 0;
+    };
+    match index.find(&name) {
+        Some(place) => *index.at(place).1,
+        None => 0,
+    }
+}
+
+/// Names that come, are replaced and go, each with the names that are then there, and the item for `A.B`.
+#[test]
+fn worked_rows(rt: HostRuntime) -> Result<(), Fail> {
+    let alloc = rt.alloc();
+    let mut index = SharedIndex::new(alloc);
+    for (name, item, names, found) in [
+        (b"A.*".as_slice(), 1, b"A.*".as_slice(), 1),
+        (b"**", 2, b"A.* **", 1),
+        (b"A.B", 3, b"A.B A.* **", 3),
+        (b"A.*", 4, b"A.B A.* **", 3),
+        (b"A.B", 0, b"A.* **", 4),
+        (b"C", 5, b"A.* C **", 4),
+        (b"A.*", 0, b"C **", 2),
+        (b"X", 0, b"C **", 2),
+    ] {
+        let pattern = Pattern::read(NameKind::General, name);
+        let pattern = pattern.ok().ok_or("a lawful name")?;
+        index = changed(alloc, &index, pattern, item)?;
+        let there = names_of(alloc, &index)?;
+        assert_eq!(rt; there.as_slice(), names);
+        assert_eq!(rt; item_for(&index, b"A.B"), found);
+    }
+    Ok(())
+}
+
+/// Whether both have the same entries, and find the same for a name.
+fn is_same(shared: &SharedIndex<u32>, index: &Index<u32>, name: &Resource) -> bool
+    requires kinds { AreOf General index.now.entries }
+    requires same { AreOf General shared.now }
+    requires kind { name.now.kind ≡ General }
+{
+    for place in 0..index.len() {
+        if place >= shared.len() {
+            return false;
+        }
+        let (name, item) = index.at(place);
+        let (other, number) = shared.at(place);
+        if name.text() != other.text() || item != number {
+            return false;
+        }
+    }
+    shared.len() == index.len() && shared.find(name) == index.find(name)
+}
+
+/// Puts an item under a name, or takes the name out where the item is 0.
+fn change(index: &mut Index<u32>, name: Pattern, item: u32) -> Result<(), NoMemory>
+    requires { AreOf name.kind index.old.entries }
+    ensures { AreOf name.kind index.new.entries }
+{
+    if item == 0 {
+        let _item = index.remove(&name);
+        return Ok(());
+    }
+    index.reserve(1)?;
+    let _item = index.put(name, item);
+    Ok(())
+}
+
+/// How many of some random changes make the same of both indices.
+fn count_changes(alloc: Global, numbers: &mut Numbers, changes: u32) -> Result<u32, NoMemory> {
+    let mut index = Index::new(alloc)?;
+    let mut shared = SharedIndex::new(alloc);
+    let mut alike = 0u32;
+    for change_number in 0..changes {
+        let text = random_text(alloc, numbers, true)?;
+        let asked = random_text(alloc, numbers, false)?;
+        let (Ok(pattern), Ok(name)) = (
+            Pattern::read(NameKind::General, &text),
+            Resource::read(NameKind::General, &asked),
+        ) else {
+            continue;
+        };
+        let item = if numbers.below(3) == 0 {
+            0
+        } else {
+            change_number
+        };
+        change(&mut index, pattern, item)?;
+        shared = changed(alloc, &shared, pattern, item)?;
+        if is_same(&shared, &index, &name) {
+            alike = alike.wrapping_add(1);
+        }
+    }
+    Ok(alike)
+}
+
+#[test]
+fn changes_like_an_index(rt: HostRuntime) -> Result<(), Fail> {
+    let mut numbers = Numbers(5);
+    assert_eq!(rt; count_changes(rt.alloc(), &mut numbers, 400)?, 400);
+    let name = Pattern::read(NameKind::General, b"A.*");
+    let name = name.ok().ok_or("a lawful name")?;
+    let index = single(rt.alloc(), name, 1)?;
+    let later = index.with_entry(rt.alloc(), name, 2)?;
+    assert_eq!(rt;
+        (item_for(&index, b"A.B"), item_for(&later, b"A.B")),
+        (1, 2)
+    );
+    assert!(rt; index.share(rt.alloc())?.find_named(&name).is_some());
     Ok(())
 }

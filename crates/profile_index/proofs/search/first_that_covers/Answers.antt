@@ -1,4 +1,4 @@
-use Rattle.std.proofs.Common.{◌≡◌, ◌<◌, ◌∙◌, true, subst, get_or, ap, arith}
+use Rattle.std.proofs.Common.{◌≡◌, true, subst, get_or, arith}
 use Rattle.generic_names.specs.Spelled.{Spelled}
 use Rattle.generic_names.specs.Before.{before}
 use Rattle.generic_names.specs.Gap.{NoneCovers}

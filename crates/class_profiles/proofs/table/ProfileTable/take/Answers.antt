@@ -8,7 +8,7 @@ use Rattle.racf_profiles.specs.declared.profiles.Profile.{Profile}
 use Rattle.racf_profiles.specs.Lookup.{is_profile}
 use Rattle.racf_profiles.specs.Edits.{drop_row}
 use Rattle.class_profiles.specs.Paired.{entry_of, items_of}
-use Rattle.class_profiles.proofs.Pairs.{kinds-paired, some-paired, taken-items, taken-paired, taken-lawful, taken-gone}
+use Rattle.class_profiles.proofs.Pairs.{kinds-paired, some-paired, taken-items, taken-paired, taken-lawful}
 use Rattle.class_profiles.proofs.table.ProfileTable.take.Goals as goal
 
 pub remove-requires : goal.remove-requires
@@ -49,9 +49,3 @@ returns-clause-lawful c =
     let law = c.order_is_total.ensures in
     let is = c.requires ∙ sym (ap (λ v. v.kind) c.self.view_is) in
     taken-lawful law.not_both law.passed_on c.self.inside.kind c.args.name.now is c.self.inside.profiles.entries c.remove.new.self.entries c.self.invariant.paired c.self.invariant.lawful c.remove.ensures.entries
-
-pub returns-clause-gone : goal.returns-clause-gone
-returns-clause-gone c =
-    let law = c.order_is_total.ensures in
-    let is = c.requires ∙ sym (ap (λ v. v.kind) c.self.view_is) in
-    taken-gone law.not_both law.passed_on c.self.inside.kind c.args.name.now is c.self.inside.profiles.entries c.remove.new.self.entries c.self.invariant.paired c.self.invariant.lawful c.remove.ensures.entries

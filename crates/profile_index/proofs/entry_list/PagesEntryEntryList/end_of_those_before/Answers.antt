@@ -1,4 +1,3 @@
-use Rattle.std.proofs.Common.{true}
 use Rattle.generic_names.specs.Spelled.{Spelled}
 use Rattle.generic_names.specs.Before.{before}
 use Rattle.generic_names.proofs.OrderLaws.{passed_on}

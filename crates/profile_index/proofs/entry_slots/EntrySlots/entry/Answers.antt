@@ -1,7 +1,5 @@
-use Rattle.std.proofs.Common.{◌≡◌, ◌<◌, ℕ, Some, length, get_or, ap, sym, subst, ◌∙◌, arith}
-use Rattle.std.specs.Vec.{vec_len}
+use Rattle.std.proofs.Common.{◌<◌, length, ap, sym, ◌∙◌, arith}
 use Rattle.std.specs.List.{slice_get}
-use Rattle.std.proofs.lemmas.List.{get_or_default}
 use Rattle.profile_index.proofs.OrderedLaws.{all-at}
 use Rattle.profile_index.proofs.SlotLaws.{length-in_slots, entry-at, value-at}
 use Rattle.profile_index.proofs.entry_slots.EntrySlots.entry.Goals as goal
@@ -28,7 +26,7 @@ returns-clause-there g c =
     let view = ap (λ x. length x.entries) c.self.view_is in
     let within : c.args.place < length order = omega (arith, size, view, c.requires) in
     ap (λ xs. slice_get xs c.args.place) (sym (ap (λ x. x.entries) c.self.view_is))
-    ∙ entry-at c.self.inside.slots.items order c.self.invariant.0 c.args.place c.index.result.now c.index-2.result.now within c.index.ensures c.index-2.ensures
+    ∙ entry-at c.self.inside.slots.items order c.self.invariant.0.there c.args.place c.index.result.now c.index-2.result.now within c.index.ensures c.index-2.ensures
 
 pub returns-clause-value : goal.returns-clause-value
 returns-clause-value g c =
@@ -38,4 +36,4 @@ returns-clause-value g c =
     let within : c.args.place < length order = omega (arith, size, view, c.requires) in
     value-at c.args.self.now.entries c.args.place c.index-2.result.now
     (ap (λ xs. slice_get xs c.args.place) (sym (ap (λ x. x.entries) c.self.view_is))
-    ∙ entry-at c.self.inside.slots.items order c.self.invariant.0 c.args.place c.index.result.now c.index-2.result.now within c.index.ensures c.index-2.ensures)
+    ∙ entry-at c.self.inside.slots.items order c.self.invariant.0.there c.args.place c.index.result.now c.index-2.result.now within c.index.ensures c.index-2.ensures)

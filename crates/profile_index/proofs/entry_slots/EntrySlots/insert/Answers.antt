@@ -1,4 +1,4 @@
-use Rattle.std.proofs.Common.{◌≡◌, ◌≤◌, ◌++◌, ◌∷◌, [], ℕ, List, length, ap, sym, subst, ◌∙◌, arith}
+use Rattle.std.proofs.Common.{◌≡◌, ◌≤◌, ◌++◌, ◌∷◌, [], length, ap, sym, subst, ◌∙◌, arith}
 use Rattle.std.specs.Result.{is_ok}
 use Rattle.std.specs.List.{insert}
 use Rattle.profile_index.specs.EntrySlots.{in_slots, IsKept}
@@ -28,6 +28,7 @@ invariant_of-self g c =
       subst (λ xs. IsKept xs c.insert.new.self.items) (sym pushed) (subst (λ xs. IsKept (slots ++ c.args.entry ∷ []) xs) (sym new_order) (insert-kept slots order c.self.invariant.0 c.args.entry c.args.place within)),
       omega (arith, pushed_len, c.push.ensures.capacity, c.self.invariant.1, room, c.requires.room),
       omega (arith, inserted_len, c.insert.ensures.capacity, c.self.invariant.2, room, c.requires.room),
+      omega (arith, pushed_len, c.self.invariant.3, room, c.requires.room),
     )
 
 pub returns-clause-entries : goal.returns-clause-entries

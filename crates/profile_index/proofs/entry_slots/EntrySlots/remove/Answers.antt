@@ -1,15 +1,39 @@
-use Rattle.std.proofs.Common.{◌≡◌, ◌+◌, ◌-◌, ◌<◌, ℕ, List, length, map, take, drop, get_or, ap, sym, subst, ◌∙◌, arith}
-use Rattle.std.specs.List.{remove}
-use Rattle.std.proofs.lemmas.List.{take_at, length-map, get_or_default}
+use Rattle.std.proofs.Common.{◌≡◌, ◌+◌, ◌-◌, ◌<◌, ℕ, List, length, map, drop, get_or, ap, sym, subst, ◌∙◌, arith}
+use Rattle.std.specs.List.{remove, slice_get}
+use Rattle.std.proofs.lemmas.List.{take_at, length-map}
+use Rattle.generic_names.specs.Best.{IsInOrder}
+use Rattle.profile_index.specs.Indexed.{name_of}
 use Rattle.profile_index.specs.EntrySlots.{in_slots, renamed, IsKept}
-use Rattle.profile_index.proofs.SlotLaws.{length-in_slots, remove-kept, remove-slots, removed-slot, removed-entry}
+use Rattle.profile_index.proofs.SlotLaws.{length-in_slots, remove-kept, remove-slots, removed-slot, read-at, left-there, left-ordered, only-place}
 use Rattle.profile_index.proofs.entry_slots.EntrySlots.remove.Goals as goal
 
 pub remove-slot-requires : goal.remove-slot-requires
 remove-slot-requires g c =
     let size = length-in_slots c.self.inside.slots.items c.self.inside.order.items c.self.invariant.0.there in
     let view = ap (λ x. length x.entries) c.self.view_is in
-    omega (arith, size, view, c.self.inside.order.ok.0, c.requires)
+    omega (arith, size, view, c.self.inside.order.ok.0, c.requires.within)
+
+pub end_of_those_before-moved-requires-clause-there : goal.end_of_those_before-moved-requires-clause-there
+end_of_those_before-moved-requires-clause-there g c =
+    left-there c.self.inside.slots.items c.self.inside.order.items c.self.invariant.0.there c.args.place c.deref.result.now c.deref-2.result.now c.deref.ensures.value (c.deref-2.ensures.value ∙ c.remove-slot.ensures.items)
+
+pub end_of_those_before-moved-requires-clause-ordered : goal.end_of_those_before-moved-requires-clause-ordered
+end_of_those_before-moved-requires-clause-ordered g c =
+    left-ordered c.self.inside.slots.items c.self.inside.order.items c.self.invariant.0.there c.args.place c.deref.result.now c.deref-2.result.now c.deref.ensures.value (c.deref-2.ensures.value ∙ c.remove-slot.ensures.items)
+    (subst (λ x. IsInOrder name_of x.entries) (sym c.self.view_is) c.requires.ordered)
+
+pub rename-requires : goal.rename-requires
+rename-requires g c k at =
+    let slots = c.self.inside.slots.items in
+    let order = c.self.inside.order.items in
+    let slots_is = c.deref.ensures.value in
+    let order_is = c.deref-2.ensures.value ∙ c.remove-slot.ensures.items in
+    only-place c.deref.result.now c.deref-2.result.now
+    (left-there slots order c.self.invariant.0.there c.args.place c.deref.result.now c.deref-2.result.now slots_is order_is)
+    (left-ordered slots order c.self.invariant.0.there c.args.place c.deref.result.now c.deref-2.result.now slots_is order_is (subst (λ x. IsInOrder name_of x.entries) (sym c.self.view_is) c.requires.ordered))
+    (c.len-last.result - 1) c.index.result.now (c.index.ensures ∙ ap (λ xs. get_or xs (c.len-last.result - 1) c.index.result.now) (sym slots_is))
+    c.end_of_those_before-moved.result c.end_of_those_before-moved.ensures.below c.end_of_those_before-moved.ensures.above k
+    (ap (λ xs. slice_get xs k) (c.deref-2.ensures.value ∙ sym c.deref_mut.ensures.value) ∙ at)
 
 pub invariant_of-self : goal.invariant_of-self
 invariant_of-self g c =
@@ -19,13 +43,13 @@ invariant_of-self g c =
     let slot = c.remove-slot.result in
     let size = length-in_slots slots order c.self.invariant.0.there in
     let view = ap (λ x. length x.entries) c.self.view_is in
-    let within : c.args.place < length order = omega (arith, size, view, c.requires) in
+    let within : c.args.place < length order = omega (arith, size, view, c.requires.within) in
     let fewer : length others + 1 ≡ length slots = omega (arith, c.swap_remove-entry.ensures.len, c.swap_remove-entry.new.self.ok.0, c.self.inside.slots.ok.0) in
     let is_slot = removed-slot order c.args.place slot within c.remove-slot.ensures.value in
     let left = c.remove-slot.new.self.items in
-    let count : c.len.result ≡ length others = c.len.ensures ∙ c.swap_remove-entry.new.self.ok.0 in
-    let new = c.rename.ensures ∙ ap (λ xs. map (λ s. renamed c.len.result slot s) xs) c.deref_mut.ensures.value in
-    let new_size : length c.rename.new.order ≡ c.remove-slot.new.self.len = ap (λ (xs : List ℕ). length xs) new ∙ length-map left (λ s. renamed c.len.result slot s) ∙ sym c.remove-slot.new.self.ok.0 in
+    let count : c.len-last.result - 1 ≡ length others = omega (arith, c.len-last.ensures, c.self.inside.slots.ok.0, fewer) in
+    let new = c.rename.ensures ∙ ap (λ xs. map (λ s. renamed (c.len-last.result - 1) slot s) xs) c.deref_mut.ensures.value in
+    let new_size : length c.rename.new.order ≡ c.remove-slot.new.self.len = ap (λ (xs : List ℕ). length xs) new ∙ length-map left (λ s. renamed (c.len-last.result - 1) slot s) ∙ sym c.remove-slot.new.self.ok.0 in
     let written = take_at c.rename.new.order (drop (length c.rename.new.order) left) c.remove-slot.new.self.len new_size ∙ new
     ∙ ap (λ n. map (λ s. renamed n slot s) left) count ∙ ap (λ xs. map (λ s. renamed (length others) slot s) xs) c.remove-slot.ensures.items in
     let old_len = c.self.inside.slots.ok.0 in (
@@ -35,6 +59,7 @@ invariant_of-self g c =
           (λ k d other h. c.swap_remove-entry.ensures.by_index.1 k d other (omega (arith, h, old_len)))),
       omega (arith, c.swap_remove-entry.ensures.len, c.swap_remove-entry.ensures.capacity, c.self.invariant.1),
       omega (arith, c.remove-slot.ensures.len, c.remove-slot.ensures.capacity, c.self.invariant.2),
+      omega (arith, c.swap_remove-entry.ensures.len, c.self.invariant.3),
     )
 
 pub returns-clause-entry : goal.returns-clause-entry
@@ -43,8 +68,8 @@ returns-clause-entry g c =
     let order = c.self.inside.order.items in
     let size = length-in_slots slots order c.self.invariant.0.there in
     let view = ap (λ x. length x.entries) c.self.view_is in
-    let within : c.args.place < length order = omega (arith, size, view, c.requires) in
-    removed-entry slots order c.self.invariant.0 c.args.place c.remove-slot.result c.swap_remove-entry.result within c.remove-slot.ensures.value c.swap_remove-entry.ensures.value
+    let within : c.args.place < length order = omega (arith, size, view, c.requires.within) in
+    read-at slots order c.self.invariant.0.there c.args.place c.remove-slot.result c.swap_remove-entry.result within c.remove-slot.ensures.value c.swap_remove-entry.ensures.value
     ∙ ap (λ x. get_or x.entries c.args.place c.swap_remove-entry.result) c.self.view_is
 
 pub returns-clause-entries : goal.returns-clause-entries
@@ -55,13 +80,13 @@ returns-clause-entries g c =
     let slot = c.remove-slot.result in
     let size = length-in_slots slots order c.self.invariant.0.there in
     let view = ap (λ x. length x.entries) c.self.view_is in
-    let within : c.args.place < length order = omega (arith, size, view, c.requires) in
+    let within : c.args.place < length order = omega (arith, size, view, c.requires.within) in
     let fewer : length others + 1 ≡ length slots = omega (arith, c.swap_remove-entry.ensures.len, c.swap_remove-entry.new.self.ok.0, c.self.inside.slots.ok.0) in
     let is_slot = removed-slot order c.args.place slot within c.remove-slot.ensures.value in
     let left = c.remove-slot.new.self.items in
-    let count : c.len.result ≡ length others = c.len.ensures ∙ c.swap_remove-entry.new.self.ok.0 in
-    let new = c.rename.ensures ∙ ap (λ xs. map (λ s. renamed c.len.result slot s) xs) c.deref_mut.ensures.value in
-    let new_size : length c.rename.new.order ≡ c.remove-slot.new.self.len = ap (λ (xs : List ℕ). length xs) new ∙ length-map left (λ s. renamed c.len.result slot s) ∙ sym c.remove-slot.new.self.ok.0 in
+    let count : c.len-last.result - 1 ≡ length others = omega (arith, c.len-last.ensures, c.self.inside.slots.ok.0, fewer) in
+    let new = c.rename.ensures ∙ ap (λ xs. map (λ s. renamed (c.len-last.result - 1) slot s) xs) c.deref_mut.ensures.value in
+    let new_size : length c.rename.new.order ≡ c.remove-slot.new.self.len = ap (λ (xs : List ℕ). length xs) new ∙ length-map left (λ s. renamed (c.len-last.result - 1) slot s) ∙ sym c.remove-slot.new.self.ok.0 in
     let written = take_at c.rename.new.order (drop (length c.rename.new.order) left) c.remove-slot.new.self.len new_size ∙ new
     ∙ ap (λ n. map (λ s. renamed n slot s) left) count ∙ ap (λ xs. map (λ s. renamed (length others) slot s) xs) c.remove-slot.ensures.items in
     let old_len = c.self.inside.slots.ok.0 in

@@ -1,4 +1,4 @@
-use Rattle.std.proofs.Common.{◌≡◌, ◌<◌, true, length, sym, subst, ◌∙◌, arith}
+use Rattle.std.proofs.Common.{◌≡◌, true, sym, subst, ◌∙◌, arith}
 use Rattle.generic_names.specs.Gap.{is_below}
 use Rattle.generic_names.proofs.OrderLaws.{gap_closed}
 use Rattle.profile_index.specs.declared.entry.Entry.{Entry}

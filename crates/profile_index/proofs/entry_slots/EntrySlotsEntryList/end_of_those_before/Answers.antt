@@ -1,25 +1,21 @@
-use Rattle.std.proofs.Common.{◌≡◌, ◌<◌, ◌≤◌, true, false, length, sym, subst, ◌∙◌, arith}
+use Rattle.std.proofs.Common.{◌≡◌, false, length, ap, subst, arith}
+use Rattle.std.specs.List.{AllWithin}
 use Rattle.generic_names.specs.Before.{before}
-use Rattle.generic_names.proofs.OrderLaws.{passed_on}
-use Rattle.profile_index.specs.declared.entry.Entry.{Entry}
-use Rattle.profile_index.specs.Indexed.{name_of}
-use Rattle.profile_index.proofs.OrderedLaws.{all-below, all-above, not_before_behind}
+use Rattle.profile_index.specs.EntrySlots.{in_slots}
+use Rattle.profile_index.proofs.SlotLaws.{length-in_slots}
 use Rattle.profile_index.proofs.entry_slots.EntrySlotsEntryList.end_of_those_before.Goals as goal
 
-pub loop-low-preserved-then-before : goal.loop-low-preserved-then-before
-loop-low-preserved-then-before g c = record {
-  middle = omega arith;
-  within = c.loop-low.invariant.within;
-  below = all-below name_of c.args.self.now.entries c.requires _ c.entry.result.now (omega arith)
-      (λ n. before n c.args.name.now ≡ true) (λ a b first. passed_on a b c.args.name.now first) (subst (λ (x : Entry _). before x.name c.args.name.now ≡ true) c.entry.ensures.value (sym c.before-in-loop-low.ensures ∙ c.if-before.true));
-  above = c.loop-low.invariant.above;
-}
+pub returns-clause-within : goal.returns-clause-within
+returns-clause-within g c =
+    let size = length-in_slots c.self.inside.slots.items c.self.inside.order.items c.self.invariant.0.there in
+    omega (arith, c.end_of_those_before.ensures.within, ap length c.deref-2.ensures.value, size, ap (λ x. length x.entries) c.self.view_is)
 
-pub loop-low-preserved : goal.loop-low-preserved
-loop-low-preserved g c = record {
-  middle = omega arith;
-  within = omega arith;
-  below = c.loop-low.invariant.below;
-  above = all-above name_of c.args.self.now.entries c.requires _ c.entry.result.now (omega arith)
-      (λ n. before n c.args.name.now ≡ false) (not_before_behind c.args.name.now) (subst (λ (x : Entry _). before x.name c.args.name.now ≡ false) c.entry.ensures.value (sym c.before-in-loop-low.ensures ∙ c.if-before.false));
-}
+pub returns-clause-above : goal.returns-clause-above
+returns-clause-above g c =
+    let slots = c.self.inside.slots.items in
+    let order = c.self.inside.order.items in
+    let place = c.end_of_those_before.result in
+    let size = length-in_slots slots order c.self.invariant.0.there in
+    let behind = subst (λ s. AllWithin (λ e. before e.name c.args.name.now ≡ false) (in_slots s c.deref-2.result.now) place (length c.deref-2.result.now)) c.deref.ensures.value c.end_of_those_before.ensures.above in
+    let above = subst (λ o. AllWithin (λ e. before e.name c.args.name.now ≡ false) (in_slots slots o) place (length o)) c.deref-2.ensures.value behind in
+    subst (λ x. AllWithin (λ e. before e.name c.args.name.now ≡ false) x.entries place (length x.entries)) c.self.view_is (λ k d low high. above k d low (omega (arith, size, high)))

@@ -1,4 +1,4 @@
-use Rattle.std.proofs.Common.{List, Option, ℕ, ap, sym, subst, ◌∙◌, find}
+use Rattle.std.proofs.Common.{ap, sym, subst}
 use Rattle.generic_names.specs.Covers.{covers}
 use Rattle.generic_names.specs.Best.{best}
 use Rattle.generic_names.proofs.BestLaws.{best-first}

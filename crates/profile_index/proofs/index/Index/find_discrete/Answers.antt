@@ -1,4 +1,4 @@
-use Rattle.std.proofs.Common.{ap, subst, ◌∙◌, find}
+use Rattle.std.proofs.Common.{ap, subst, find}
 use Rattle.profile_index.specs.Indexed.{has_name, IsPlaceOf}
 use Rattle.profile_index.proofs.PlaceLaws.{place-from-first}
 use Rattle.profile_index.proofs.index.Index.find_discrete.Goals as goal

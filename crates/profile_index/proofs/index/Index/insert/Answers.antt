@@ -1,6 +1,4 @@
-use Rattle.std.proofs.Common.{◌≡◌, ◌≢◌, ◌+◌, ◌-◌, ◌<◌, ◌≤◌, true, false, cond, length, get_or, refl, ap, sym, subst, ◌∙◌, arith}
-use Rattle.std.specs.List.{insert, AllWithin}
-use Rattle.generic_names.specs.Before.{before}
+use Rattle.std.proofs.Common.{◌≡◌, ◌≢◌, get_or, refl, ap, sym, subst, ◌∙◌}
 use Rattle.generic_names.specs.Best.{IsInOrder, AreNamed}
 use Rattle.generic_names.specs.Laws.{IsPattern}
 use Rattle.profile_index.specs.Indexed.{name_of, with_entry, AreOf, IsAbsent}

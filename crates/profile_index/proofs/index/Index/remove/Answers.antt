@@ -1,4 +1,4 @@
-use Rattle.std.proofs.Common.{◌≡◌, ◌∙◌, Option, Some, None, ap, sym, subst, find}
+use Rattle.std.proofs.Common.{◌∙◌, Some, ap, sym, subst, find}
 use Rattle.std.specs.Option.{option_map}
 use Rattle.generic_names.specs.Best.{IsInOrder, AreNamed}
 use Rattle.generic_names.specs.Laws.{IsPattern}

@@ -1,0 +1,167 @@
+//! The profiles of one class in a table that doesn't change.
+ghost use Rattle.std.specs.Prelude.{◌≡◌, ◌<◌, ◌≤◌, length, map, Some, IfOk};
+ghost use Rattle.std.specs.List.{find, slice_get};
+ghost use Rattle.std.specs.Option.{option_copied};
+ghost use Rattle.racf_profiles.specs.Lookup.{is_profile};
+ghost use Rattle.racf_profiles.specs.Edits.{put_profile, drop_row};
+ghost use Rattle.racf_profiles.specs.LawfulProfiles.{AreProfiles};
+ghost use Rattle.racf_profiles.specs.Limits.{most_class_profiles};
+ghost use Rattle.class_profiles.specs.Table.{best_profile, IsPlaceOf};
+ghost use Rattle.class_profiles.specs.Paired.{entry_of};
+
+use crate::table::{is_spelled, of_kind};
+use generic_names::{NameKind, Pattern, Resource};
+use profile_index::{Entry, SharedIndex};
+use racf_profiles::{NoMemory, Profile};
+use std::alloc::Global;
+use std::marker::Model;
+
+/// The profiles of one class in the order of specificity, each name but once, all names of one kind. A table doesn't change:
+/// a changed version is one of its own, and shares with this one all but what leads to the change.
+#[derive(Drop)]
+pub struct SharedProfiles {
+    /// The kind of all the names.
+    kind: NameKind,
+    /// The profiles by their names.
+    profiles: SharedIndex<Profile>,
+}
+
+impl Model for SharedProfiles {
+    ghost use Rattle.class_profiles.specs.Table.{ProfilesOfKind};
+    ghost use Rattle.class_profiles.specs.Paired.{items_of, IsPaired};
+
+    ghost Value = { ProfilesOfKind };
+
+    ghost view = { λ table. record { kind = table.kind; profiles = items_of table.profiles } };
+
+    ghost invariant = { λ table. IsPaired table.kind table.profiles };
+}
+
+impl SharedProfiles {
+    /// The same profiles, copied.
+    pub fn of(
+        alloc: Global,
+        kind: NameKind,
+        profiles: &[Profile],
+    ) -> Result<SharedProfiles, NoMemory>
+        requires { AreProfiles kind profiles.now }
+        ensures kind { IfOk result (λ table. table.kind ≡ kind) }
+        ensures profiles { IfOk result (λ table. table.profiles ≡ profiles.now) }
+    {
+        generic_names::laws::order_is_total();
+        let entries = entries_of(alloc, profiles)?;
+        Ok(SharedProfiles {
+            kind,
+            profiles: SharedIndex::of(alloc, entries)?,
+        })
+    }
+
+    /// The same table once more.
+    pub fn share(&self, alloc: Global) -> Result<SharedProfiles, NoMemory>
+        ensures { IfOk result (λ table. table ≡ self.now) }
+    {
+        Ok(SharedProfiles {
+            kind: self.kind,
+            profiles: self.profiles.share(alloc)?,
+        })
+    }
+
+    /// The kind of the names.
+    pub fn kind(&self) -> NameKind
+        ensures { result ≡ self.now.kind }
+    {
+        self.kind
+    }
+
+    /// How many profiles there are, at most 50,000.
+    pub fn len(&self) -> usize
+        ensures count { result ≡ length self.now.profiles }
+        ensures lawful { AreProfiles self.now.kind self.now.profiles }
+    {
+        self.profiles.len()
+    }
+
+    /// The profile at that place, from 0, in order of specificity.
+    pub fn at(&self, place: usize) -> &Profile
+        requires { place < length self.now.profiles }
+        ensures { slice_get self.now.profiles place ≡ Some result.now }
+    {
+        self.profiles.at(place).1
+    }
+
+    /// The profile of that very name, generic or not. It is found by a search in the order.
+    pub fn get(&self, name: &Pattern) -> Option<&Profile>
+        ensures { option_copied result ≡ find (is_profile name.now) self.now.profiles }
+    {
+        match self.place(name) {
+            Some(place) => Some(self.at(place)),
+            None => None,
+        }
+    }
+
+    /// The place of the most specific profile that covers the name, found as `ProfileTable::find` finds it.
+    pub fn find(&self, name: &Resource) -> Option<usize>
+        requires { name.now.kind ≡ self.now.kind }
+        ensures { IsPlaceOf self.now.profiles (best_profile self.now.profiles name.now) result }
+    {
+        self.profiles.find(name)
+    }
+
+    /// The table with a profile in the place of the one of its name, or else at its place in the order.
+    pub fn with_profile(&self, alloc: Global, profile: Profile) -> Result<SharedProfiles, NoMemory>
+        requires kind { profile.name.kind ≡ self.now.kind }
+        requires few { length (put_profile profile self.now.profiles) ≤ most_class_profiles }
+        ensures kind { IfOk result (λ table. table.kind ≡ self.now.kind) }
+        ensures profiles { IfOk result (λ table. table.profiles ≡ put_profile profile self.now.profiles) }
+    {
+        racf_profiles::laws::puts_keep_the_order();
+        let name = profile.name;
+        is_spelled(&name);
+        Ok(SharedProfiles {
+            kind: self.kind,
+            profiles: self.profiles.with_entry(alloc, name, profile)?,
+        })
+    }
+
+    /// The table without the profile of that very name, or the same where there is none.
+    pub fn without_profile(&self, alloc: Global, name: &Pattern) -> Result<SharedProfiles, NoMemory>
+        ensures kind { IfOk result (λ table. table.kind ≡ self.now.kind) }
+        ensures profiles { IfOk result (λ table. table.profiles ≡ drop_row (is_profile name.now) self.now.profiles) }
+    {
+        generic_names::laws::order_is_total();
+        generic_names::laws::text_reads_back();
+        match of_kind(self.kind, name) {
+            Some(name) => Ok(SharedProfiles {
+                kind: self.kind,
+                profiles: self.profiles.without(alloc, &name)?,
+            }),
+            None => self.share(alloc),
+        }
+    }
+
+    /// The place of the profile of that very name.
+    fn place(&self, name: &Pattern) -> Option<usize>
+        ensures { IsPlaceOf self.now.profiles (find (is_profile name.now) self.now.profiles) result }
+    {
+        generic_names::laws::text_reads_back();
+        match of_kind(self.kind, name) {
+            Some(name) => self.profiles.find_named(&name),
+            None => None,
+        }
+    }
+}
+
+/// Copies of profiles, each under its own name.
+fn entries_of(alloc: Global, profiles: &[Profile]) -> Result<Vec<Entry<Profile>>, NoMemory>
+    ensures { IfOk result (λ entries. entries.items ≡ map entry_of profiles.now) }
+{
+    let mut entries = Vec::with_capacity(alloc, profiles.len())?;
+    for profile in profiles {
+        let item = profile.copy(alloc)?;
+        entries.push(Entry {
+            name: item.name,
+            item,
+        })?;
+    }
+    Ok(entries)
+}

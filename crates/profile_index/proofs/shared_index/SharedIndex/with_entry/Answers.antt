@@ -13,7 +13,7 @@ invariant_of-result g c =
     let there = c.in-Ok.ensures.there in
     let is = c.in_ok-with_replaced-in-Ok.ensures ∙ ap (λ e. set items c.in-Ok.place e) c.in_ok-new-in-Ok.ensures.ok in (
       subst (λ xs. IsInOrder name_of xs) (sym is) (order-set name_of items c.in-Ok.place _ there.within there.same c.self.invariant.0),
-      subst (λ xs. AreNamed name_of xs) (sym is) (all-set (λ e. IsPattern e.name) items c.in-Ok.place _ c.self.invariant.1 c.is_pattern.ensures),
+      subst (λ xs. AreNamed name_of xs) (sym is) (all-set (λ e. IsPattern e.name) items c.in-Ok.place _ c.self.invariant.1 c.of-entry.ensures.named),
     )
 
 pub invariant_of-result-in-Err : goal.invariant_of-result-in-Err
@@ -22,19 +22,21 @@ invariant_of-result-in-Err g c =
     let none = c.in-Err.ensures.missing in
     let is = c.in_ok-with_inserted-in-Err.ensures ∙ ap (λ e. insert items c.in-Err.place e) c.in_ok-new-in-Err.ensures.ok in (
       subst (λ xs. IsInOrder name_of xs) (sym is) (order-insert name_of items c.in-Err.place _ none.within c.self.invariant.0 none.below none.behind),
-      subst (λ xs. AreNamed name_of xs) (sym is) (all-insert (λ e. IsPattern e.name) items c.in-Err.place _ c.self.invariant.1 c.is_pattern.ensures),
+      subst (λ xs. AreNamed name_of xs) (sym is) (all-insert (λ e. IsPattern e.name) items c.in-Err.place _ c.self.invariant.1 c.of-entry.ensures.named),
     )
 
 pub returns-in_ok-with_replaced-in-Ok : goal.returns-in_ok-with_replaced-in-Ok
 returns-in_ok-with_replaced-in-Ok g c =
     let items = c.self.inside.entries in
     c.in_ok-with_replaced-in-Ok.ensures ∙ ap (λ e. set items c.in-Ok.place e) c.in_ok-new-in-Ok.ensures.ok
-    ∙ put-there (record { name = c.args.name; item = c.args.item }) items c.in-Ok.place c.in-Ok.ensures.there
+    ∙ put-there c.of-entry.result items c.in-Ok.place c.in-Ok.ensures.there
+    ∙ ap (λ e. put_entry e items) c.of-entry.ensures.entry
     ∙ ap (λ xs. put_entry (record { name = c.args.name; item = c.args.item }) xs) c.self.view_is
 
 pub returns-in_ok-with_inserted-in-Err : goal.returns-in_ok-with_inserted-in-Err
 returns-in_ok-with_inserted-in-Err g c =
     let items = c.self.inside.entries in
     c.in_ok-with_inserted-in-Err.ensures ∙ ap (λ e. insert items c.in-Err.place e) c.in_ok-new-in-Err.ensures.ok
-    ∙ put-missing (record { name = c.args.name; item = c.args.item }) items c.in-Err.place c.in-Err.ensures.missing
+    ∙ put-missing c.of-entry.result items c.in-Err.place c.in-Err.ensures.missing
+    ∙ ap (λ e. put_entry e items) c.of-entry.ensures.entry
     ∙ ap (λ xs. put_entry (record { name = c.args.name; item = c.args.item }) xs) c.self.view_is

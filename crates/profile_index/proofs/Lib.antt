@@ -2,4 +2,5 @@ mod OrderedLaws
 mod PlaceLaws
 mod NamedLaws
 mod RisingLaws
+mod KeyLaws
 mod SlotLaws

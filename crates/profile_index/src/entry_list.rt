@@ -7,6 +7,7 @@ ghost use Rattle.profile_index.specs.Indexed.{name_of};
 ghost use Rattle.profile_index.specs.declared.entry.Entry.{Entry};
 
 use crate::entry::Entry;
+use crate::keyed_entry::KeyedEntry;
 use crate::order_bounds::{NotBefore, NotBelow};
 use generic_names::{Gap, Pattern};
 use pages::Pages;
@@ -41,7 +42,7 @@ pub(crate) trait EntryList<T> {
         ensures below { AllWithin (λ e. is_below e.name gap.now ≡ true) (entries self.now) from result };
 }
 
-impl<T: Drop> EntryList<T> for Pages<Entry<T>> {
+impl<T: Drop> EntryList<T> for Pages<KeyedEntry<T>> {
     ghost entries = { λ list. list };
 
     fn len(&self) -> usize {
@@ -49,14 +50,24 @@ impl<T: Drop> EntryList<T> for Pages<Entry<T>> {
     }
 
     fn entry(&self, place: usize) -> &Entry<T> {
-        self.at(place)
+        self.at(place).entry()
     }
 
     fn end_of_those_before(&self, name: &Pattern) -> usize {
-        self.first(&NotBefore { name })
+        end_before(self, &NotBefore::of(name, &name.order_key()))
     }
 
     fn end_of_gap(&self, _from: usize, gap: &Gap) -> usize {
-        self.first(&NotBelow { gap })
+        self.first(&NotBelow::of(gap, &gap.order_key()))
     }
+}
+
+/// Where the entries that are before a name end, of which the key was computed before.
+pub(crate) fn end_before<T: Drop>(list: &Pages<KeyedEntry<T>>, bound: &NotBefore) -> usize
+    requires { IsInOrder name_of list.now }
+    ensures within { result ≤ length list.now }
+    ensures below { AllWithin (λ e. before e.name bound.now ≡ true) list.now 0 result }
+    ensures above { AllWithin (λ e. before e.name bound.now ≡ false) list.now result (length list.now) }
+{
+    list.first(bound)
 }

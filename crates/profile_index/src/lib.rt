@@ -6,6 +6,10 @@
 //! before all but what leads to the change. [`Steps`] counts the comparisons of the search for a very name, of which there
 //! are as many as the number of entries has binary digits.
 //!
+//! A [`SharedIndex`] doesn't change: a changed version is an index of its own, and shares the rest with the one before. Each
+//! of its entries lies behind the key of its name, and a search computes the key of what it looks for once, so that a step of
+//! it is one comparison of bytes.
+//!
 //! ```
 //! let mut index = Index::new(alloc)?;
 //! index.reserve(1)?;
@@ -18,6 +22,7 @@ mod entry;
 mod entry_list;
 mod entry_slots;
 mod index;
+mod keyed_entry;
 mod order_bounds;
 mod search;
 mod shared_index;

@@ -2,7 +2,7 @@ ghost use Rattle.std.specs.Prelude.{◌≡◌, ℕ, ◌+◌, ◌-◌, ◌*◌, �
 ghost use Rattle.std.specs.List.{AllWithin};
 ghost use Rattle.std.specs.Str.{bytes_eq};
 ghost use Rattle.generic_names.specs.Covers.{covers};
-ghost use Rattle.generic_names.specs.Before.{order};
+ghost use Rattle.generic_names.specs.Before.{before, order};
 ghost use Rattle.generic_names.specs.Laws.{IsResource, IsPattern};
 ghost use Rattle.generic_names.specs.Best.{IsInOrder, AreNamed};
 ghost use Rattle.profile_index.specs.Indexed.{name_of, has_name, AreOf};
@@ -61,8 +61,25 @@ pub(crate) fn place_for<T, E: EntryList<T>>(list: &E, name: &Pattern) -> Result<
     ensures there { IfOk result (λ place. IsThere name.now (E.entries list.now) place) }
     ensures missing { IfErr result (λ place. IsMissing name.now (E.entries list.now) place) }
 {
+    place_at(list, name, list.end_of_those_before(name))
+}
+
+/// The same, from the place where the entries that are before the name end.
+pub(crate) fn place_at<T, E: EntryList<T>>(
+    list: &E,
+    name: &Pattern,
+    place: usize,
+) -> Result<usize, usize>
+    requires ordered { IsInOrder name_of (E.entries list.now) }
+    requires named { AreNamed name_of (E.entries list.now) }
+    requires kinds { AreOf name.now.kind (E.entries list.now) }
+    requires within { place ≤ length (E.entries list.now) }
+    requires below { AllWithin (λ e. before e.name name.now ≡ true) (E.entries list.now) 0 place }
+    requires above { AllWithin (λ e. before e.name name.now ≡ false) (E.entries list.now) place (length (E.entries list.now)) }
+    ensures there { IfOk result (λ at. IsThere name.now (E.entries list.now) at) }
+    ensures missing { IfErr result (λ at. IsMissing name.now (E.entries list.now) at) }
+{
     is_pattern(name);
-    let place = list.end_of_those_before(name);
     if place == list.len() {
         return Err(place);
     }

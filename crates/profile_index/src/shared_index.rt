@@ -1,9 +1,13 @@
-ghost use Rattle.std.specs.Prelude.{◌≡◌, ◌<◌, [], length, find, IfOk, Some, slice_get};
+ghost use Rattle.std.specs.Prelude.{◌≡◌, ◌<◌, [], length, find, IfOk, IfErr, Some, slice_get};
 ghost use Rattle.generic_names.specs.Best.{best, IsInOrder, AreNamed};
+ghost use Rattle.profile_index.specs.Indexed.{name_of, AreOf};
+ghost use Rattle.profile_index.specs.Places.{IsThere, IsMissing};
 
 use crate::entry::Entry;
+use crate::entry_list::end_before;
 use crate::index::NoMemory;
-use crate::search::{first_that_covers, is_pattern, place_for};
+use crate::keyed_entry::KeyedEntry;
+use crate::search::{first_that_covers, place_at, place_for};
 use generic_names::{Pattern, Resource};
 use pages::Pages;
 use std::alloc::Global;
@@ -11,12 +15,12 @@ use std::marker::Model;
 use std::sync::Arc;
 
 /// Entries in the order of specificity of their names, which are of one kind. An index doesn't change: a changed version is
-/// one of its own, and shares with this one all but what leads to the change. A call that answers [`NoMemory`] leaves
-/// nothing behind.
+/// one of its own, and shares with this one all but what leads to the change. Each entry is kept with the key of its name, by
+/// which searches go. A call that answers [`NoMemory`] leaves nothing behind.
 #[derive(Drop)]
 pub struct SharedIndex<T: Drop> {
-    /// The entries in the order.
-    entries: Pages<Entry<T>>,
+    /// The entries in the order, each with its key.
+    entries: Pages<KeyedEntry<T>>,
 }
 
 impl<T: Drop> Model for SharedIndex<T> {
@@ -33,7 +37,7 @@ impl<T: Drop> Model for SharedIndex<T> {
 }
 
 impl<T: Drop> SharedIndex<T> {
-    ghost use Rattle.profile_index.specs.Indexed.{name_of, has_name, AreOf, IsPlaceOf, put_entry, without};
+    ghost use Rattle.profile_index.specs.Indexed.{has_name, IsPlaceOf, put_entry, without};
 
     /// An index without entries. It takes no memory.
     pub fn new(alloc: Global) -> SharedIndex<T>
@@ -50,8 +54,12 @@ impl<T: Drop> SharedIndex<T> {
         requires named { AreNamed name_of entries.items }
         ensures { IfOk result (λ index. index ≡ entries.items) }
     {
+        let mut shared = Vec::with_capacity(alloc, entries.len())?;
+        for entry in entries {
+            shared.push(Arc::new(alloc, KeyedEntry::of(entry))?)?;
+        }
         Ok(SharedIndex {
-            entries: Pages::of(alloc, entries)?,
+            entries: Pages::of_shared(alloc, &shared)?,
         })
     }
 
@@ -78,7 +86,7 @@ impl<T: Drop> SharedIndex<T> {
         requires { place < length self.now }
         ensures { slice_get self.now place ≡ Some (record { name = result.0.now; item = result.1.now }) }
     {
-        let entry = self.entries.at(place);
+        let entry = self.entries.at(place).entry();
         (&entry.name, &entry.item)
     }
 
@@ -113,15 +121,15 @@ impl<T: Drop> SharedIndex<T> {
         ensures entries { IfOk result (λ index. index ≡ put_entry (record { name = name; item = item }) self.now) }
         ensures kinds { IfOk result (λ index. AreOf name.kind index) }
     {
-        is_pattern(&name);
-        let place = place_for(&self.entries, &name);
-        let entry = Arc::new(alloc, Entry { name, item })?;
+        let entry = KeyedEntry::of(Entry { name, item });
+        let place = place_of_entry(&self.entries, &entry);
+        let shared = Arc::new(alloc, entry)?;
         match place {
             Ok(place) => Ok(SharedIndex {
-                entries: self.entries.with_replaced(alloc, place, entry)?,
+                entries: self.entries.with_replaced(alloc, place, shared)?,
             }),
             Err(place) => Ok(SharedIndex {
-                entries: self.entries.with_inserted(alloc, place, entry)?,
+                entries: self.entries.with_inserted(alloc, place, shared)?,
             }),
         }
     }
@@ -139,4 +147,19 @@ impl<T: Drop> SharedIndex<T> {
             Err(_) => self.share(alloc),
         }
     }
+}
+
+/// The place of an entry's name, or else the one that it would have, by the key that the entry has already.
+fn place_of_entry<T: Drop>(
+    entries: &Pages<KeyedEntry<T>>,
+    entry: &KeyedEntry<T>,
+) -> Result<usize, usize>
+    requires ordered { IsInOrder name_of entries.now }
+    requires named { AreNamed name_of entries.now }
+    requires kinds { AreOf entry.now.name.kind entries.now }
+    ensures there { IfOk result (λ place. IsThere entry.now.name entries.now place) }
+    ensures missing { IfErr result (λ place. IsMissing entry.now.name entries.now place) }
+{
+    let end = end_before(entries, &entry.bound());
+    place_at(entries, &entry.entry().name, end)
 }

@@ -3,28 +3,22 @@ use Rattle.std.proofs.Common.{◌≡◌, ℕ, ◌<◌, Bool, true, false, cond, 
 use Rattle.std.specs.Prelude.{find}
 use Rattle.std.specs.Map.{keys_of, values_of, lookup}
 use Rattle.std.specs.List.{IsDistinct, AllByRecursion}
-use Rattle.std.specs.Cmp.Lexicographic.{nat_list_eq_equiv}
 use Rattle.std.proofs.lemmas.Slice.Eq.{bytes_eq-Decides}
 use Rattle.std.proofs.lemmas.Map.Keys.{IsDistinct-head, IsDistinct-tail}
-
-turned : (x y : List ℕ) → bytes_eq x y ≡ bytes_eq y x
-turned = nat_list_eq_equiv.symm
+use Rattle.racf_profiles.proofs.Named.{is_called, turned}
 
 module _ {X : Type 0} (name : X → List ℕ) where
-  abbrev pub is_called : List ℕ → X → Bool
-  is_called id row = bytes_eq (name row) id
-
   -- the row that is found has the name that was sought
-  pub name-found : (id : List ℕ) (rows : List X) (row : X) → find (is_called id) rows ≡ Some row → name row ≡ id
+  pub name-found : (id : List ℕ) (rows : List X) (row : X) → find (is_called name id) rows ≡ Some row → name row ≡ id
   name-found id [] row h = cc
   name-found id (x ∷ xs) row h = by (bytes_eq (name x) id) refl (name-found id xs row)
     where
-      by : (b : Bool) → bytes_eq (name x) id ≡ b → (find (is_called id) xs ≡ Some row → name row ≡ id) → name row ≡ id
+      by : (b : Bool) → bytes_eq (name x) id ≡ b → (find (is_called name id) xs ≡ Some row → name row ≡ id) → name row ≡ id
       by true e rest =
-          let found : find (is_called id) (x ∷ xs) ≡ Some x = ap (λ c. cond c (Some x) (find (is_called id) xs)) e in
+          let found : find (is_called name id) (x ∷ xs) ≡ Some x = ap (λ c. cond c (Some x) (find (is_called name id) xs)) e in
           let here : x ≡ row = cc in
           ap name (sym here) ∙ (bytes_eq-Decides (name x) id).0 e
-      by false e rest = rest (sym (ap (λ c. cond c (Some x) (find (is_called id) xs)) e) ∙ h)
+      by false e rest = rest (sym (ap (λ c. cond c (Some x) (find (is_called name id) xs)) e) ∙ h)
 
   -- ---- a map with each row under its name
   abbrev pub entry_of : X → List ℕ × X
@@ -53,19 +47,3 @@ module _ {X : Type 0} (name : X → List ℕ) where
       let other : bytes_eq (name x) next ≡ false = named_at (λ y. bytes_eq (name x) y ≡ false) xs i d (IsDistinct-head bytes_eq (name x) (map name xs) distinct) (omega arith) in
       ap (λ b. cond b (Some x) (lookup (bytes_eq next) (map entry_of (take i xs)))) (turned next (name x) ∙ other)
       ∙ next_absent xs i d (IsDistinct-tail bytes_eq (name x) (map name xs) distinct) (omega arith)
-
-  -- the map finds what the list of its values has
-  abbrev pub IsNamed : List (List ℕ × X) → Type 0
-  IsNamed es = keys_of es ≡ map name (values_of es)
-
-  named-head : (e : List ℕ × X) (es : List (List ℕ × X)) → IsNamed (e ∷ es) → e.0 ≡ name e.1
-  named-head e es h = cc
-
-  named-tail : (e : List ℕ × X) (es : List (List ℕ × X)) → IsNamed (e ∷ es) → IsNamed es
-  named-tail e es h = cc
-
-  pub lookup-named : (id : List ℕ) (es : List (List ℕ × X)) → IsNamed es → lookup (bytes_eq id) es ≡ find (is_called id) (values_of es)
-  lookup-named id [] h = refl
-  lookup-named id (e ∷ es) h =
-      ap (λ b. cond b (Some e.1) (lookup (bytes_eq id) es)) (ap (bytes_eq id) (named-head e es h) ∙ turned id (name e.1))
-      ∙ ap (cond (is_called id e.1) (Some e.1)) (lookup-named id es (named-tail e es h))

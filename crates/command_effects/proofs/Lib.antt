@@ -1,6 +1,6 @@
 pub mod AfterLaws
 pub mod ConnectLaws
 pub mod IdNames
-pub mod Growth
+pub mod LengthAfterPuts
 pub mod ListCounts
 pub mod ProfileSteps

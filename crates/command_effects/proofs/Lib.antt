@@ -1,7 +1,7 @@
 pub mod AfterLaws
 pub mod ConnectLaws
 pub mod IdNames
-pub mod Growth
+pub mod LengthAfterPuts
 pub mod ListCounts
 pub mod ProfileSteps
 pub mod EditsOfCommands

@@ -21,7 +21,7 @@ use Rattle.command_effects.specs.Security.{is_category_member}
 use Rattle.command_effects.specs.UserEffects.{with_class}
 use Rattle.command_effects.specs.Members.{member_name, is_member_named, with_member, with_category_name, category_repeats}
 use Rattle.command_effects.specs.PermitEffects.{level_of, with_entry, with_conditional}
-use Rattle.command_effects.proofs.Growth.{or-assoc, or-comm, any-put, length-put, length-more}
+use Rattle.command_effects.proofs.LengthAfterPuts.{or-assoc, or-comm, any-put, length-put, length-more}
 
 -- ---- standard entries
 same_who : (a b : Who) → is_same_who a b ≡ true → a ≡ b

@@ -1,5 +1,6 @@
 -- What is read of AUDIT is lawful.
-use Rattle.std.proofs.Common.{◌≡◌, ℕ, List, [], ◌∷◌, map, Bool, true, false, cond, ◌&&◌, Option, None, Some, Ok, refl, subst}
+use Rattle.std.proofs.Common.{◌≡◌, ℕ, List, [], ◌∷◌, map, Bool, true, false, cond, Option, None, Some, Ok, refl, subst}
+use Rattle.std.proofs.lemmas.Bool.{and_from}
 use Rattle.access_levels.specs.Spelling.{level_of}
 use Rattle.access_levels.specs.declared.levels.Level.{Level}
 use Rattle.access_levels.specs.declared.levels.Level.TheVariants.{Read}
@@ -33,14 +34,10 @@ level-fits p is l h =
     level-some None l h = cc
     level-some (Some m) l h = level-one (is_audit_level m) m l refl h
 
-both-true : (a b : Bool) → a ≡ true → b ≡ true → (a && b) ≡ true
-both-true true b h k = k
-both-true false b h k = cc
-
 word-fits : (rule : AuditRule) (a : AuditWord) (l : Level) → is_audit_rule rule ≡ true → is_audit_level l ≡ true → is_audit_rule (with_word rule a l) ≡ true
-word-fits rule audited.All l h k = both-true (is_audit_level l) (is_audit_level l) k k
-word-fits rule audited.Success l h k = both-true (is_audit_level l) (is_half rule.failures) k (both_second (is_half rule.success) (is_half rule.failures) h)
-word-fits rule audited.Failures l h k = both-true (is_half rule.success) (is_audit_level l) (both_first (is_half rule.success) (is_half rule.failures) h) k
+word-fits rule audited.All l h k = and_from (is_audit_level l) (is_audit_level l) k k
+word-fits rule audited.Success l h k = and_from (is_audit_level l) (is_half rule.failures) k (both_second (is_half rule.success) (is_half rule.failures) h)
+word-fits rule audited.Failures l h k = and_from (is_half rule.success) (is_audit_level l) (both_first (is_half rule.success) (is_half rule.failures) h) k
 word-fits rule audited.Nothing l h k = refl
 
 abbrev are_so_far : Option AuditRule → Type 0

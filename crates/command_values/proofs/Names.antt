@@ -3,6 +3,7 @@ use Rattle.std.proofs.Common.{◌≡◌, ℕ, suc, ◌+◌, List, [], ◌∷◌,
 use Rattle.std.specs.Prelude.{◌==◌, nat_lt, bytes_eq, codes}
 use Rattle.std.specs.List.{list_all, position_from}
 use Rattle.std.specs.Result.{result_ok}
+use Rattle.std.proofs.lemmas.Bool.{not-false}
 use Rattle.std.proofs.lemmas.Bool.Decides.{nat_tests}
 use Rattle.access_levels.specs.declared.ids.IdFault.TheVariants.{Empty, TooLong}
 use Rattle.access_levels.specs.Spelling.{is_id_byte, bad_byte, begins_with_digit, bad_group_byte, unless_bad, id_of, group_of, name_of as spelled_name}
@@ -22,10 +23,6 @@ id-sound b h = grind (arith, nat_tests)
 
 id-upper : (b : ℕ) → is_id_byte b ≡ true → upper b ≡ b
 id-upper b h = grind (arith, nat_tests)
-
-not-false : (b : Bool) → not b ≡ false → b ≡ true
-not-false true h = refl
-not-false false h = cc
 
 pub if-err : {A E : Type 0} (c : Bool) (e : E) (r : Result A E) (x : A) → cond c (Err e) r ≡ Ok x → (c ≡ false) × (r ≡ Ok x)
 if-err true e r x h = cc

@@ -3,7 +3,6 @@ use Rattle.std.specs.Prelude.{ℕ, List, [], ◌∷◌, ◌++◌, Bool, true, fa
 use Rattle.access_levels.specs.declared.levels.Level.{Level}
 use Rattle.access_levels.specs.declared.levels.Level.TheVariants.{Read}
 use Rattle.access_levels.specs.Level.{level_rank, level_name}
-use Rattle.access_levels.specs.Spelling.{level_of}
 use Rattle.racf_profiles.specs.declared.profiles.AuditRule.{AuditRule}
 use Rattle.command_words.specs.declared.quoting.Quoting.TheVariants.{Ignored}
 use Rattle.command_words.specs.Bytes.{upper}
@@ -14,6 +13,7 @@ use Rattle.command_values.specs.declared.faults.Syntax.TheVariants as faults
 use Rattle.command_values.specs.declared.audits.AuditWord.{AuditWord}
 use Rattle.command_values.specs.declared.audits.AuditWord.TheVariants as audited
 use Rattle.command_values.specs.Results.{◌>>=◌, or_fault}
+use Rattle.command_values.specs.NamedWords.{level_named}
 use Rattle.command_values.specs.WordsOfValues.{clean, refused_at, held, unless_stray}
 
 abbrev pub audit_word_name : AuditWord → List ℕ
@@ -64,7 +64,7 @@ if_audit_level (Some l) = if is_audit_level l then Some l else None
 
 -- the level in the parentheses behind the word at place p
 abbrev pub audit_level : ℕ → List ValuedWord → Result Level Syntax
-audit_level p is = held Ignored p is >>= λ h. or_fault (if_audit_level (level_of (map upper h.1))) (faults.BadValue h.0) >>= λ l. unless_stray h.2 l
+audit_level p is = held Ignored p is >>= λ h. or_fault (if_audit_level (level_named h.1)) (faults.BadValue h.0) >>= λ l. unless_stray h.2 l
 
 abbrev pub with_level : AuditRule → AuditWord → ℕ → List ValuedWord → Result AuditRule Syntax
 with_level rule audited.Nothing p is = Err (faults.BadValue p)

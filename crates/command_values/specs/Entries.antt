@@ -1,18 +1,16 @@
 -- Whose entries PERMIT means, and at which port of entry.
-use Rattle.std.specs.Prelude.{ℕ, List, [], ◌∷◌, ◌++◌, map, find, codes, bytes_eq, Option, Result, Ok, Err}
-use Rattle.std.specs.Result.{result_ok}
+use Rattle.std.specs.Prelude.{ℕ, List, [], ◌∷◌, ◌++◌, find, codes, bytes_eq, Option, Result, Ok, Err}
 use Rattle.access_levels.specs.declared.entries.Who.{Who}
 use Rattle.access_levels.specs.declared.entries.Who.TheVariants.{Star, Named}
 use Rattle.access_levels.specs.declared.entries.Condition.{Condition}
 use Rattle.access_levels.specs.Level.{port_class_name}
-use Rattle.access_levels.specs.Spelling.{id_of, port_class_of}
 use Rattle.command_words.specs.declared.quoting.Quoting.TheVariants.{Ignored}
-use Rattle.command_words.specs.Bytes.{upper}
 use Rattle.command_words.specs.Tokens.{tokens}
 use Rattle.command_words.specs.ValuedWords.{ValuedWord, Alone, Valued, Unclosed, Parenthesis, valued_words}
 use Rattle.command_values.specs.declared.faults.Syntax.{Syntax}
 use Rattle.command_values.specs.declared.faults.Syntax.TheVariants as faults
 use Rattle.command_values.specs.Results.{◌>>=◌, or_fault}
+use Rattle.command_values.specs.NamedWords.{id_named, port_class_named}
 use Rattle.command_values.specs.WordsOfValues.{clean, refused_at, stray, held, unless_stray}
 
 abbrev pub star_alone : List Who
@@ -33,10 +31,10 @@ whos_text (w ∷ ws) = who_text w ++ more_whos_text ws
 
 -- the name of the port, in the parentheses behind the class at place p
 abbrev pub port_name : ℕ → List ValuedWord → Result (List ℕ) Syntax
-port_name p is = held Ignored p is >>= λ h. or_fault (result_ok (id_of (map upper h.1))) (faults.BadValue h.0) >>= λ x. unless_stray h.2 x
+port_name p is = held Ignored p is >>= λ h. or_fault (id_named h.1) (faults.BadValue h.0) >>= λ x. unless_stray h.2 x
 
 abbrev pub port_of : ValuedWord → Result Condition Syntax
-port_of (Valued p w t) = clean Ignored p w >>= λ w. or_fault (port_class_of (map upper w)) (faults.BadValue p) >>= λ c. port_name p (valued_words (tokens t)) >>= λ x. Ok (record { class = c; name = x })
+port_of (Valued p w t) = clean Ignored p w >>= λ w. or_fault (port_class_named w) (faults.BadValue p) >>= λ c. port_name p (valued_words (tokens t)) >>= λ x. Ok (record { class = c; name = x })
 port_of (Alone p w) = Err (faults.BadValue (refused_at Ignored (Alone p w)))
 port_of (Unclosed p w place) = Err (faults.BadValue (refused_at Ignored (Unclosed p w place)))
 port_of (Parenthesis p) = Err (faults.BadValue p)

@@ -1,4 +1,5 @@
 pub mod OperandWords
+pub mod NamedWords
 pub mod Results
 pub mod WordsOfValues
 pub mod ProfileNames

@@ -4,13 +4,14 @@ use Rattle.std.specs.Prelude.{ℕ, ◌+◌, ◌-◌, ◌*◌, ◌/◌, ◌%◌, 
 use Rattle.std.specs.Result.{result_ok}
 use Rattle.access_levels.specs.declared.levels.Level.{Level}
 use Rattle.access_levels.specs.Level.{level_name}
-use Rattle.access_levels.specs.Spelling.{id_of, level_of}
+use Rattle.access_levels.specs.Spelling.{id_of}
 use Rattle.generic_names.specs.declared.kind.NameKind.{NameKind}
-use Rattle.generic_names.specs.declared.kind.NameKind.TheVariants.{DataSet, General}
+use Rattle.generic_names.specs.declared.kind.NameKind.TheVariants.{General}
 use Rattle.generic_names.specs.Spelled.{Spelled}
 use Rattle.generic_names.specs.Faults.{member_of}
 use Rattle.racf_profiles.specs.declared.profiles.Member.{Member}
 use Rattle.racf_profiles.specs.declared.profiles.Member.TheVariants as member
+use Rattle.racf_profiles.specs.LawfulProfiles.{kind_in}
 use Rattle.command_words.specs.declared.quoting.Quoting.TheVariants.{Ignored}
 use Rattle.command_words.specs.Bytes.{upper}
 use Rattle.command_words.specs.ValuedWords.{ValuedWord}
@@ -19,13 +20,14 @@ use Rattle.command_values.specs.declared.faults.Syntax.TheVariants as faults
 use Rattle.command_values.specs.declared.members.MemberForm.{MemberForm}
 use Rattle.command_values.specs.declared.members.MemberForm.TheVariants as forms
 use Rattle.command_values.specs.Results.{◌>>=◌, or_fault}
+use Rattle.command_values.specs.NamedWords.{id_named, level_named}
 use Rattle.command_values.specs.WordsOfValues.{word_of}
 use Rattle.command_values.specs.ProfileNames.{in_quotes, profile_text}
 
--- What the members of a profile are. In GLOBAL: names and levels, data sets' names in the profile DATASET. In SECDATA:
+-- What the members of a profile are. In GLOBAL: names and levels, the names as in the class that the profile names. In SECDATA:
 -- the names and numbers of levels in SECLEVEL, the names of categories in CATEGORY.
 abbrev pub access_form : List ℕ → MemberForm
-access_form profile = if bytes_eq profile (codes "DATASET") then forms.Access DataSet else forms.Access General
+access_form profile = forms.Access (kind_in profile)
 
 abbrev pub secdata_form : List ℕ → MemberForm
 secdata_form profile = if bytes_eq profile (codes "SECLEVEL") then forms.SecurityLevel else forms.Category
@@ -89,7 +91,7 @@ access_with (Some n) (Some l) = Some (member.Access n l)
 
 abbrev pub access_of : NameKind → Option (List ℕ × List ℕ) → Option Member
 access_of kind None = None
-access_of kind (Some parts) = access_with (member_named kind parts.0) (level_of (map upper parts.1))
+access_of kind (Some parts) = access_with (member_named kind parts.0) (level_named parts.1)
 
 abbrev pub security_level_with : Option (List ℕ) → Option ℕ → Option Member
 security_level_with None n = None
@@ -98,7 +100,7 @@ security_level_with (Some x) (Some n) = Some (member.SecurityLevel x n)
 
 abbrev pub security_level_of : Option (List ℕ × List ℕ) → Option Member
 security_level_of None = None
-security_level_of (Some parts) = security_level_with (result_ok (id_of (map upper parts.0))) (number_of parts.1)
+security_level_of (Some parts) = security_level_with (id_named parts.0) (number_of parts.1)
 
 abbrev pub category_of : Option (List ℕ) → Option Member
 category_of None = None
@@ -107,7 +109,7 @@ category_of (Some x) = Some (member.Category x)
 abbrev pub member_in : MemberForm → List ℕ → Option Member
 member_in (forms.Access kind) w = access_of kind (parted w)
 member_in forms.SecurityLevel w = security_level_of (parted w)
-member_in forms.Category w = category_of (result_ok (id_of (map upper w)))
+member_in forms.Category w = category_of (id_named w)
 
 -- DELMEM has the names alone.
 abbrev pub id_name : List ℕ → Option Spelled

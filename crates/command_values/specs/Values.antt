@@ -1,8 +1,6 @@
 -- The values of positional words and operands: what is read, and how a value is written.
 use Rattle.std.specs.Prelude.{ℕ, List, [], ◌∷◌, ◌++◌, Bool, true, false, ◌&&◌, ◌==◌, nat_le, length, map, find, codes, bytes_eq, if◌then◌else◌, Option, None, Some, Result, Ok, Err}
 use Rattle.std.specs.List.{list_all}
-use Rattle.std.specs.Result.{result_ok}
-use Rattle.access_levels.specs.Spelling.{id_of, group_of, authority_of, level_of}
 use Rattle.access_levels.specs.Level.{authority_name, level_name}
 use Rattle.generic_names.specs.Spelled.{Spelled}
 use Rattle.generic_names.specs.Covers.{is_generic}
@@ -21,6 +19,7 @@ use Rattle.command_values.specs.declared.values.Reset.{Reset}
 use Rattle.command_values.specs.declared.values.Reset.TheVariants as resets
 use Rattle.command_values.specs.declared.values.Scope.{Scope}
 use Rattle.command_values.specs.Results.{◌>>=◌, or_fault}
+use Rattle.command_values.specs.NamedWords.{id_named, group_named, level_named, authority_named}
 use Rattle.command_values.specs.WordsOfValues.{word_of, stray, held, unless_stray}
 use Rattle.command_values.specs.ProfileNames.{dataset_named, class_profile, profile_text}
 use Rattle.command_values.specs.Audits.{audit_rule, audit_text}
@@ -58,11 +57,11 @@ unless_dataset (Some w) = if bytes_eq w (codes "DATASET") then None else Some w
 
 -- the name that a word spells where a name of this kind stands
 abbrev pub name_of : ValueKind → List ℕ → Option (List ℕ)
-name_of kinds.Id w = result_ok (id_of (map upper w))
-name_of kinds.Ids w = result_ok (id_of (map upper w))
-name_of kinds.Group w = result_ok (group_of (map upper w))
-name_of kinds.Classes w = unless_dataset (result_ok (id_of (map upper w)))
-name_of kinds.Class w = result_ok (id_of (map upper w))
+name_of kinds.Id w = id_named w
+name_of kinds.Ids w = id_named w
+name_of kinds.Group w = group_named w
+name_of kinds.Classes w = unless_dataset (id_named w)
+name_of kinds.Class w = id_named w
 name_of k w = None
 
 -- Which access lists RESET empties.
@@ -82,9 +81,9 @@ abbrev pub one : Scope → ValueKind → ℕ → List ℕ → Result Content Syn
 one at kinds.Id p w = or_fault (name_of kinds.Id w) (faults.BadValue p) >>= λ x. Ok (contents.Id x)
 one at kinds.Group p w = or_fault (name_of kinds.Group w) (faults.BadValue p) >>= λ x. Ok (contents.Id x)
 one at kinds.Class p w = or_fault (name_of kinds.Class w) (faults.BadValue p) >>= λ x. Ok (contents.Id x)
-one at kinds.Authority p w = or_fault (authority_of (map upper w)) (faults.BadValue p) >>= λ a. Ok (contents.Authority a)
+one at kinds.Authority p w = or_fault (authority_named w) (faults.BadValue p) >>= λ a. Ok (contents.Authority a)
 one at kinds.Name p w = or_fault (name_text w) (faults.BadValue p) >>= λ t. Ok (contents.Name t)
-one at kinds.Level p w = or_fault (level_of (map upper w)) (faults.BadValue p) >>= λ l. Ok (contents.Level l)
+one at kinds.Level p w = or_fault (level_named w) (faults.BadValue p) >>= λ l. Ok (contents.Level l)
 one at kinds.DataSetProfile p w = or_fault (dataset_named at.issuer w) (faults.BadValue p) >>= λ n. Ok (contents.Profile n)
 one at kinds.ClassProfile p w = or_fault (class_profile at.known.class (map upper w)) (faults.BadValue p) >>= λ n. Ok (contents.Profile n)
 one at kinds.Reset p w = or_fault (reset_of (map upper w)) (faults.BadValue p) >>= λ r. Ok (contents.Reset r)

@@ -1,36 +1,25 @@
 //! Whose entries PERMIT means, and at which port of entry.
 
 ghost use Rattle.std.specs.Prelude.{◌≡◌, ◌∷◌, [], IfOk, map};
-ghost use Rattle.std.specs.Result.{result_ok};
 ghost use Rattle.std.specs.Str.{bytes_eq};
 ghost use Rattle.std.specs.Prelude.{codes};
-ghost use Rattle.access_levels.specs.Spelling.{id_of};
 ghost use Rattle.access_levels.specs.declared.entries.Who.TheVariants.{Named};
-ghost use Rattle.command_words.specs.Bytes.{upper};
 ghost use Rattle.command_words.specs.Tokens.{tokens};
 ghost use Rattle.command_words.specs.ValuedWords.{valued_words, IsValuedInReach};
 ghost use Rattle.command_words.specs.Pieces.{seen_valued};
 ghost use Rattle.command_values.specs.Results.{Gives, Finds};
-ghost use Rattle.access_levels.specs.Spelling.{port_class_of};
 ghost use Rattle.command_values.specs.Entries.{star_alone, port_name as name_in, port_of as port_in_item, port as port_in};
 ghost use Rattle.command_values.specs.Values.{whos as whos_in};
 
 use crate::faults::{ParseFault, Syntax};
+use crate::named_words::{id_named, port_class_named};
 use crate::value_kinds::ValueKind;
-use crate::value_reading::{id_named, names};
+use crate::value_reading::names;
 use crate::value_words::{clean, held, refused_at, stray, unless_stray, word_of};
 use crate::values::Whos;
-use access_levels::{Condition, Id, PortClass, Who};
-use command_words::{Quoting, ShortWord, Tokens, ValuedWord};
+use access_levels::{Condition, Id, Who};
+use command_words::{Quoting, Tokens, ValuedWord};
 use std::alloc::{AllocError, Global};
-
-/// The class of ports of entry that the word names.
-fn port_class(word: &[u8]) -> Option<PortClass>
-    ensures { result ≡ port_class_of (map upper word.now) }
-{
-    let short = ShortWord::of(word)?;
-    PortClass::read(short.as_slice())
-}
 
 /// The name of the port, in the parentheses behind its class at `place`.
 fn port_name(place: u32, inner: Tokens<'_>) -> Result<Id, Syntax>
@@ -49,7 +38,7 @@ fn port_of(item: ValuedWord<'_>) -> Result<Condition, Syntax>
     match item {
         ValuedWord::Valued(place, word, inner) => {
             let word = clean(Quoting::Ignored, place, word)?;
-            let class = port_class(word).ok_or(Syntax::BadValue(place))?;
+            let class = port_class_named(word).ok_or(Syntax::BadValue(place))?;
             let name = port_name(place, inner)?;
             Ok(Condition { class, name })
         }

@@ -16,6 +16,7 @@ mod audits;
 mod entries;
 mod faults;
 mod members;
+mod named_words;
 mod operand_words;
 mod profile_names;
 mod value_kinds;
@@ -25,6 +26,7 @@ mod value_words;
 mod values;
 
 pub use faults::{ParseFault, Syntax};
+pub use named_words::{group_named, id_named, level_named, port_class_named};
 pub use operand_words::{Word, is_same};
 pub use profile_names::{any_named, is_unclosed};
 pub use value_kinds::ValueKind;

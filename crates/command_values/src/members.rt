@@ -1,24 +1,22 @@
 //! Members of profiles, which ADDMEM and DELMEM name (z/OS Security Server RACF Command Language Reference, RALTER; their
 //! forms in detail are this product's own rules).
 
-ghost use Rattle.std.specs.Prelude.{◌≡◌, ◌++◌, ◌∷◌, ◌<◌, [], Bool, length, map, position, option_map, bytes_eq, codes, if◌then◌else◌, IfOk, None, Some};
-ghost use Rattle.std.specs.Result.{result_ok};
-ghost use Rattle.access_levels.specs.Spelling.{id_of};
-ghost use Rattle.command_words.specs.Bytes.{upper};
+ghost use Rattle.std.specs.Prelude.{◌≡◌, ◌++◌, ◌∷◌, ◌<◌, [], Bool, length, position, option_map, bytes_eq, codes, if◌then◌else◌, IfOk, None, Some};
 ghost use Rattle.command_words.specs.Tokens.{tokens};
 ghost use Rattle.command_words.specs.ValuedWords.{valued_words};
 ghost use Rattle.command_values.specs.Results.{Gives};
+ghost use Rattle.command_values.specs.NamedWords.{id_named as id_in};
 ghost use Rattle.command_values.specs.Members.{access_form as form_of_access, secdata_form as form_of_secdata, form_by_class as form_in_class, member_form as form_known, whole_text as text_whole, member_named as named_member, parted as parts_of, number_behind, if_number as in_range, number_of, access_of, security_level_of, category_of, member_in as member_read, id_name as name_of_id, dropped_in as dropped_read, each_of, some_of, added as added_in, dropped as dropped_by};
 
 use crate::faults::{ParseFault, Syntax};
+use crate::named_words::{id_named, level_named};
 use crate::profile_names::{folded_word, in_quotes};
-use crate::value_reading::{id_named, level_named};
 use crate::value_words::word_of;
 use crate::values::{Known, MemberNames};
 use access_levels::{Id, Level};
 use command_words::{Quoting, Tokens};
 use generic_names::{MemberName, NameKind};
-use racf_profiles::{Member, Members};
+use racf_profiles::{Member, Members, kind_of_class};
 use std::alloc::{AllocError, Global};
 
 /// What the members of a profile are.
@@ -36,11 +34,7 @@ pub enum MemberForm {
 fn access_form(profile: &[u8]) -> MemberForm
     ensures { result ≡ form_of_access profile.now }
 {
-    if profile == b"DATASET".as_slice() {
-        MemberForm::Access(NameKind::DataSet)
-    } else {
-        MemberForm::Access(NameKind::General)
-    }
+    MemberForm::Access(kind_of_class(profile))
 }
 
 /// The form of members of a profile of SECDATA.
@@ -186,7 +180,7 @@ fn security_level_member(word: &[u8]) -> Option<Member>
 
 /// The category that a word spells.
 fn category_member(word: &[u8]) -> Option<Member>
-    ensures { result ≡ category_of (result_ok (id_of (map upper word.now))) }
+    ensures { result ≡ category_of (id_in word.now) }
 {
     let name = id_named(word)?;
     Some(Member::Category(name))

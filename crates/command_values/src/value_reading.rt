@@ -3,46 +3,30 @@
 ghost use Rattle.std.specs.Prelude.{◌≡◌, [], false, length, map, IfOk};
 ghost use Rattle.std.specs.List.{list_all};
 ghost use Rattle.std.specs.Option.{option_map};
-ghost use Rattle.std.specs.Result.{result_ok};
-ghost use Rattle.access_levels.specs.Spelling.{id_of, group_of, authority_of, level_of};
 ghost use Rattle.command_words.specs.Bytes.{upper};
 ghost use Rattle.command_words.specs.Tokens.{tokens};
 ghost use Rattle.command_words.specs.ValuedWords.{valued_words};
 ghost use Rattle.command_values.specs.Results.{Gives, Finds};
+ghost use Rattle.command_values.specs.NamedWords.{id_named as id_in};
 ghost use Rattle.command_values.specs.Values.{unless_dataset, name_of as name_in, name_text, is_name as names_user, is_printable, unquoted as text_between, reset_of, one as one_of, quotes_of as quoting_of, single as single_of, names as names_of, several as several_of, value as value_of, generic_at as generic_in, bare as bare_of};
 
 use crate::audits::audit_rule;
 use crate::entries::{port, whos};
 use crate::faults::{ParseFault, Syntax};
 use crate::members::{added, dropped, member_form};
+use crate::named_words::{authority_named, group_named, id_named, level_named};
 use crate::profile_names::{class_profile, dataset_named};
 use crate::value_kinds::ValueKind;
 use crate::value_words::{held, unless_stray, word_of};
 use crate::values::{Content, Ids, RESETS, Reset, Scope};
-use access_levels::{GroupAuthority, Id, Level, Text};
-use command_words::{Quoting, ShortWord, Tokens, is_spelled};
+use access_levels::{Id, Text};
+use command_words::{Quoting, Tokens, is_spelled};
 use generic_names::Pattern;
 use std::alloc::{AllocError, Global};
 
-/// The name with an ID's spelling that a word is.
-pub fn id_named(word: &[u8]) -> Option<Id>
-    ensures { result ≡ result_ok (id_of (map upper word.now)) }
-{
-    let short = ShortWord::of(word)?;
-    Id::read(short.as_slice()).ok()
-}
-
-/// The group's name that a word spells.
-fn group_named(word: &[u8]) -> Option<Id>
-    ensures { result ≡ result_ok (group_of (map upper word.now)) }
-{
-    let short = ShortWord::of(word)?;
-    Id::read_group(short.as_slice()).ok()
-}
-
 /// The class that a word names, other than DATASET.
 fn class_named(word: &[u8]) -> Option<Id>
-    ensures { result ≡ unless_dataset (result_ok (id_of (map upper word.now))) }
+    ensures { result ≡ unless_dataset (id_in word.now) }
 {
     let id = id_named(word)?;
     if id.text() == b"DATASET".as_slice() {
@@ -50,14 +34,6 @@ fn class_named(word: &[u8]) -> Option<Id>
     } else {
         Some(id)
     }
-}
-
-/// The group authority that a word names.
-fn authority_named(word: &[u8]) -> Option<GroupAuthority>
-    ensures { result ≡ authority_of (map upper word.now) }
-{
-    let short = ShortWord::of(word)?;
-    GroupAuthority::read(short.as_slice())
 }
 
 /// The name that a word spells where a name of this kind stands.
@@ -167,14 +143,6 @@ fn name_named(alloc: Global, word: &[u8]) -> Result<Option<Text>, AllocError>
         return Ok(None);
     }
     Ok(Some(Text::of(alloc, text.as_slice())?))
-}
-
-/// The access level that a word is.
-pub fn level_named(word: &[u8]) -> Option<Level>
-    ensures { result ≡ level_of (map upper word.now) }
-{
-    let short = ShortWord::of(word)?;
-    Level::read(short.as_slice())
 }
 
 /// The value of RESET that a word spells.

@@ -5,7 +5,7 @@ use Rattle.std.proofs.lemmas.List.Sums.{fold_more}
 use Rattle.racf_profiles.specs.declared.profiles.Member.{Member}
 use Rattle.command_effects.specs.Members.{member_name, is_member_named, with_member, without_members}
 use Rattle.command_effects.proofs.ListCounts.{members-more}
-use Rattle.command_effects.proofs.Growth.{one_less}
+use Rattle.command_effects.proofs.LengthAfterPuts.{one_less}
 use Rattle.command_effects.proofs.made.members.members_count.Goals as goal
 
 pub loop-i-preserved : goal.loop-i-preserved

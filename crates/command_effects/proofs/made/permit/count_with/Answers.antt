@@ -7,7 +7,7 @@ use Rattle.access_lists.specs.Lists.{is_for}
 use Rattle.access_levels.specs.Entries.{is_same_who}
 use Rattle.command_effects.specs.PermitEffects.{with_entry}
 use Rattle.command_effects.proofs.ListCounts.{entries-more}
-use Rattle.command_effects.proofs.Growth.{one_less, at_least}
+use Rattle.command_effects.proofs.LengthAfterPuts.{one_less, at_least}
 use Rattle.command_effects.proofs.made.permit.count_with.Goals as goal
 
 pub overflow_sub-count : goal.overflow_sub-count

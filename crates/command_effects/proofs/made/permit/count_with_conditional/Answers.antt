@@ -7,7 +7,7 @@ use Rattle.access_lists.specs.Lists.{is_for_under}
 use Rattle.access_levels.specs.Entries.{is_same_who}
 use Rattle.command_effects.specs.PermitEffects.{with_conditional}
 use Rattle.command_effects.proofs.ListCounts.{conditionals-more}
-use Rattle.command_effects.proofs.Growth.{one_less, at_least}
+use Rattle.command_effects.proofs.LengthAfterPuts.{one_less, at_least}
 use Rattle.command_effects.proofs.made.permit.count_with_conditional.Goals as goal
 
 pub overflow_sub-count : goal.overflow_sub-count

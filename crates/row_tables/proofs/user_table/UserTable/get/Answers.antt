@@ -1,7 +1,7 @@
 use Rattle.std.proofs.Common.{◌∙◌, ap, find}
 use Rattle.racf_profiles.specs.declared.users.User.{User}
 use Rattle.racf_profiles.specs.Lookup.{is_user}
-use Rattle.row_tables.proofs.Keyed.{lookup-named}
+use Rattle.racf_profiles.proofs.Named.{lookup-named}
 use Rattle.row_tables.proofs.user_table.UserTable.get.Goals as goal
 
 -- the map finds what the list of its values has

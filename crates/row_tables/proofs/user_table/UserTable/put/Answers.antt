@@ -6,7 +6,8 @@ use Rattle.racf_profiles.specs.declared.users.User.{User}
 use Rattle.racf_profiles.specs.Lookup.{is_user}
 use Rattle.racf_profiles.specs.Edits.{put_row}
 use Rattle.racf_profiles.specs.Names.{connections, special_users, connected_to, special_user_count, is_special_user}
-use Rattle.row_tables.proofs.Keyed.{lookup-named, values-insert_entry, named-insert_entry, IsNamed}
+use Rattle.racf_profiles.proofs.Named.{IsNamed, lookup-named}
+use Rattle.row_tables.proofs.Keyed.{values-insert_entry, named-insert_entry}
 use Rattle.row_tables.proofs.Counts.{part-le, put}
 use Rattle.row_tables.proofs.user_table.UserTable.put.Goals as goal
 

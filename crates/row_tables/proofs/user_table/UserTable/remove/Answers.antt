@@ -5,7 +5,8 @@ use Rattle.racf_profiles.specs.declared.users.User.{User}
 use Rattle.racf_profiles.specs.Lookup.{is_user}
 use Rattle.racf_profiles.specs.Edits.{drop_row}
 use Rattle.racf_profiles.specs.Names.{connections, special_users, connected_to, special_user_count}
-use Rattle.row_tables.proofs.Keyed.{values-remove_entry, named-remove_entry, IsNamed}
+use Rattle.racf_profiles.proofs.Named.{IsNamed}
+use Rattle.row_tables.proofs.Keyed.{values-remove_entry, named-remove_entry}
 use Rattle.row_tables.proofs.RowLaws.{length-drop_row-le}
 use Rattle.row_tables.proofs.Counts.{part-le, dropped}
 use Rattle.row_tables.proofs.user_table.UserTable.remove.Goals as goal

@@ -3,7 +3,7 @@ use Rattle.std.proofs.Common.{◌≡◌, ◌⊎◌, ℕ, ◌+◌, ◌-◌, ◌�
 use Rattle.std.specs.Prelude.{find, sum_by, nat_lt}
 use Rattle.std.specs.List.{AllByRecursion}
 use Rattle.std.specs.Option.{option_map_or}
-use Rattle.std.proofs.lemmas.Bool.{cases_Bool}
+use Rattle.std.proofs.lemmas.Bool.{cases_Bool, not-false, or_parts}
 use Rattle.std.proofs.lemmas.Bool.Decides.{nat_tests}
 use Rattle.std.proofs.lemmas.Slice.Eq.{bytes_eq-Decides}
 use Rattle.generic_names.specs.Before.{before}
@@ -28,7 +28,7 @@ use Rattle.command_conflicts.specs.declared.conflict.Conflict.TheVariants.{Full}
 use Rattle.command_conflicts.specs.declared.conflict.Limit.{Limit}
 use Rattle.command_conflicts.specs.Required.{if_met, over}
 use Rattle.command_conflicts.specs.ProfileConflicts.{profile_taken, no_resource_class, profiles_in}
-use Rattle.command_conflicts.proofs.Unmet.{unmet, or_false, not_false}
+use Rattle.command_conflicts.proofs.Unmet.{unmet}
 use Rattle.class_profiles.proofs.Counts.{found-le}
 
 -- ---- what the tests leave
@@ -38,7 +38,7 @@ profile_absent class name rows h = none_from_is_some (profile_of class name rows
 
 pub class_there : (class : List ℕ) (rows : Rows) → no_resource_class class rows ≡ None → IsSome (class_of class rows)
 unfolding no_resource_class
-class_there class rows h = not_false (is_some (class_of class rows)) (or_false (bytes_eq class dataset) (not (is_some (class_of class rows))) (unmet (bytes_eq class dataset || not (is_some (class_of class rows))) _ h)).1
+class_there class rows h = not-false (is_some (class_of class rows)) (or_parts (bytes_eq class dataset) (not (is_some (class_of class rows))) (unmet (bytes_eq class dataset || not (is_some (class_of class rows))) _ h)).1
 
 -- DATASET is the first of the classes
 pub dataset_there : (rows : Rows) → AreClasses rows.classes → IsSome (class_of dataset rows)

@@ -2,7 +2,7 @@
 use Rattle.std.proofs.Common.{◌≡◌, ℕ, ◌≤◌, nat_le, Bool, true, false, cond, ◌&&◌, List, [], ◌∷◌, ◌++◌, Option, None, Some, option_map, option_and_then, refl, sym, ap, ◌∙◌, arith}
 use Rattle.std.specs.Prelude.{find}
 use Rattle.std.specs.List.{list_all}
-use Rattle.std.proofs.lemmas.Bool.{cases_Bool}
+use Rattle.std.proofs.lemmas.Bool.{and_from}
 use Rattle.std.proofs.lemmas.Bool.Decides.{nat_tests}
 use Rattle.racf_profiles.proofs.Found.{all_head, all_tail}
 use Rattle.command_conflicts.specs.declared.conflict.Conflict.{Conflict}
@@ -42,9 +42,6 @@ abbrev pub are_sorted : List ℕ → Bool
 are_sorted [] = true
 are_sorted (n ∷ numbers) = list_all (λ m. nat_le n m) numbers && are_sorted numbers
 
-both : (a b : Bool) → a ≡ true → b ≡ true → (a && b) ≡ true
-both a b h k = ap (λ x. x && b) h ∙ k
-
 -- what is met has no less a number than the least of the tests
 met-above : (m : ℕ) (tests : List (Option Conflict)) (numbers : List ℕ) → AreNumbered tests numbers → list_all (λ n. nat_le m n) numbers ≡ true → list_all (λ other. nat_le m (number_of other)) (met tests) ≡ true
 met-above m [] numbers is above = refl
@@ -52,7 +49,7 @@ met-above m (None ∷ tests) [] is above = absurd is
 met-above m (None ∷ tests) (n ∷ numbers) is above = met-above m tests numbers is.1 (all_tail (nat_le m n) _ above)
 met-above m (Some conflict ∷ tests) [] is above = absurd is
 met-above m (Some conflict ∷ tests) (n ∷ numbers) is above =
-    both _ _ (ap (nat_le m) (is.0 conflict refl) ∙ all_head (nat_le m n) (list_all (λ k. nat_le m k) numbers) above) (met-above m tests numbers is.1 (all_tail (nat_le m n) _ above))
+    and_from _ _ (ap (nat_le m) (is.0 conflict refl) ∙ all_head (nat_le m n) (list_all (λ k. nat_le m k) numbers) above) (met-above m tests numbers is.1 (all_tail (nat_le m n) _ above))
 
 pub met-ascending : (tests : List (Option Conflict)) (numbers : List ℕ) → AreNumbered tests numbers → are_sorted numbers ≡ true → is_ascending (met tests) ≡ true
 met-ascending [] numbers is sorted = refl
@@ -60,7 +57,7 @@ met-ascending (None ∷ tests) [] is sorted = absurd is
 met-ascending (None ∷ tests) (n ∷ numbers) is sorted = met-ascending tests numbers is.1 (all_tail (list_all (λ m. nat_le n m) numbers) _ sorted)
 met-ascending (Some conflict ∷ tests) [] is sorted = absurd is
 met-ascending (Some conflict ∷ tests) (n ∷ numbers) is sorted =
-    both _ _ (ap (λ k. list_all (λ other. nat_le k (number_of other)) (met tests)) (is.0 conflict refl) ∙ met-above n tests numbers is.1 (all_head (list_all (λ m. nat_le n m) numbers) (are_sorted numbers) sorted))
+    and_from _ _ (ap (λ k. list_all (λ other. nat_le k (number_of other)) (met tests)) (is.0 conflict refl) ∙ met-above n tests numbers is.1 (all_head (list_all (λ m. nat_le n m) numbers) (are_sorted numbers) sorted))
     (met-ascending tests numbers is.1 (all_tail (list_all (λ m. nat_le n m) numbers) _ sorted))
 
 -- ---- the first of them

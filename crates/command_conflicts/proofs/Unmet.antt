@@ -1,7 +1,8 @@
 -- What holds where no conflict is met.
-use Rattle.std.proofs.Common.{◌≡◌, ℕ, ◌≤◌, Bool, true, false, ◌||◌, ◌&&◌, not, List, [], ◌∷◌, Option, None, Some, IsSome, is_some, bytes_eq, codes, refl, sym, ap, ◌∙◌, true≢false, arith}
+use Rattle.std.proofs.Common.{◌≡◌, ℕ, ◌≤◌, Bool, true, false, ◌&&◌, not, List, [], ◌∷◌, Option, None, Some, IsSome, is_some, bytes_eq, codes, refl, sym, ap, ◌∙◌, true≢false, arith}
 use Rattle.std.specs.Prelude.{nat_lt}
 use Rattle.std.specs.Option.{option_map}
+use Rattle.std.proofs.lemmas.Bool.{not-false, or_parts}
 use Rattle.std.proofs.lemmas.Bool.Decides.{nat_tests}
 use Rattle.racf_profiles.specs.declared.groups.Group.{Group}
 use Rattle.racf_profiles.specs.declared.rows.Rows.{Rows}
@@ -30,21 +31,13 @@ pub unmet : (met : Bool) (conflict : Conflict) → if_met met conflict ≡ None 
 unmet true conflict h = cc
 unmet false conflict h = refl
 
-pub not_false : (b : Bool) → not b ≡ false → b ≡ true
-not_false true h = refl
-not_false false h = absurd (true≢false h)
-
-pub or_false : (a b : Bool) → (a || b) ≡ false → (a ≡ false) × (b ≡ false)
-or_false true b h = absurd (true≢false h)
-or_false false b h = (refl, h)
-
 pub user_there : (id : List ℕ) (rows : Rows) → no_user id rows ≡ None → IsSome (user_of id rows)
 unfolding no_user
-user_there id rows h = not_false (is_some (user_of id rows)) (unmet (not (is_some (user_of id rows))) _ h)
+user_there id rows h = not-false (is_some (user_of id rows)) (unmet (not (is_some (user_of id rows))) _ h)
 
 pub group_there : (id : List ℕ) (rows : Rows) → no_group id rows ≡ None → IsSome (group_of id rows)
 unfolding no_group
-group_there id rows h = not_false (is_some (group_of id rows)) (unmet (not (is_some (group_of id rows))) _ h)
+group_there id rows h = not-false (is_some (group_of id rows)) (unmet (not (is_some (group_of id rows))) _ h)
 
 pub named_there : (id : List ℕ) (rows : Rows) → no_named_group (Some id) rows ≡ None → IsSome (group_of id rows)
 unfolding no_named_group
@@ -53,7 +46,7 @@ named_there id rows h = group_there id rows h
 pub name_free : (id : List ℕ) (rows : Rows) → name_taken id rows ≡ None → (user_of id rows ≡ None) × (group_of id rows ≡ None)
 unfolding name_taken
 name_free id rows h =
-    let both = or_false (is_some (user_of id rows)) (is_some (group_of id rows)) (unmet (is_taken id rows) _ h) in
+    let both = or_parts (is_some (user_of id rows)) (is_some (group_of id rows)) (unmet (is_taken id rows) _ h) in
     (none_from_is_some (user_of id rows) both.0, none_from_is_some (group_of id rows) both.1)
 
 pub within : (kind : Limit) (limit count : ℕ) → over kind limit count ≡ None → count ≤ limit

@@ -3,6 +3,7 @@ use Rattle.std.proofs.Common.{◌≡◌, ℕ, zero, suc, take, length, Bool, tru
 use Rattle.std.specs.Prelude.{nat_le, IfSome}
 use Rattle.std.specs.List.{AllByRecursion, list_all, before_first}
 use Rattle.std.specs.Result.{result_ok}
+use Rattle.std.proofs.lemmas.Option.{IfSome_then}
 use Rattle.access_levels.specs.Spelling.{id_of}
 use Rattle.access_levels.specs.declared.levels.Level.{Level}
 use Rattle.access_levels.specs.declared.levels.Level.TheVariants.{NoAccess}
@@ -41,10 +42,6 @@ pub each-all : {X : Type 0} (P Q : X → Type 0) → ((x : X) → P x → Q x) �
 each-all P Q f [] h = tt
 each-all P Q f (x ∷ xs) h = (f x h.0, each-all P Q f xs h.1)
 
-if-some : {X : Type 0} (P Q : X → Type 0) → ((x : X) → P x → Q x) → (given : Option X) → IfSome given P → IfSome given Q
-if-some P Q f None h = h
-if-some P Q f (Some x) h = f x h
-
 -- ---- users
 name-printable : (text : List ℕ) → IsUserName text → is_user_name text ≡ true
 name-printable text h =
@@ -52,7 +49,7 @@ name-printable text h =
     ap (λ b. b && list_all is_printable text) (both (nat_le 1 (length text)) (nat_le (length text) 20) parts.0).1 ∙ parts.1
 
 pub name-lawful : (given : Option (List ℕ)) → IfSome given IsUserName → IfSome given (λ text. is_user_name text ≡ true)
-name-lawful = if-some IsUserName (λ text. is_user_name text ≡ true) name-printable
+name-lawful given h = IfSome_then given h name-printable
 
 pub clauth-lawful : (names : List (List ℕ)) → Each IsClauthWord names → AllByRecursion (λ name. bytes_eq name (codes "DATASET") ≡ false) names
 clauth-lawful = each-all IsClauthWord (λ name. bytes_eq name (codes "DATASET") ≡ false) (λ name h. h.1)
@@ -69,7 +66,7 @@ audit-logged rule h =
     ap (λ b. b && is_logged_level rule.failures) (half-logged rule.success halves.0) ∙ half-logged rule.failures halves.1
 
 pub audit-lawful : (given : Option AuditRule) → IfSome given IsAudit → IfSome given (λ rule. is_audit rule ≡ true)
-audit-lawful = if-some IsAudit (λ rule. is_audit rule ≡ true) audit-logged
+audit-lawful given h = IfSome_then given h audit-logged
 
 -- ---- names of profiles
 read-whole : (r : Result Spelled NameFault) (name : Spelled) → result_ok r ≡ Some name → r ≡ Ok name
@@ -142,24 +139,16 @@ module _ (class : List ℕ) (name : Spelled) (is : IsClassProfile class name) wh
       by (Some fault) e = cc
 
   access-fitting : (resources : Spelled) (level : Level) → bytes_eq class (codes "GLOBAL") ≡ true → IsMember (access_form name.text) (Access resources level) → is_fitting class name.text (Access resources level) ≡ true
-  access-fitting resources level global h = ap (λ b. b && is_of_kind (kind_in name.text) resources.kind) global ∙ by (bytes_eq name.text (codes "DATASET")) h
+  access-fitting resources level global h = ap (λ b. b && is_of_kind (kind_in name.text) resources.kind) global ∙ by (kind_in name.text) h
     where
-      by : (b : Bool) → IsMember (cond b (forms.Access DataSet) (forms.Access General)) (Access resources level) → is_of_kind (cond b DataSet General) resources.kind ≡ true
-      by true k = ap (is_of_kind DataSet) (member-kind DataSet resources k)
-      by false k = ap (is_of_kind General) (member-kind General resources k)
+      by : (kind : NameKind) → IsMember (forms.Access kind) (Access resources level) → is_of_kind kind resources.kind ≡ true
+      by DataSet k = ap (is_of_kind DataSet) (member-kind DataSet resources k)
+      by General k = ap (is_of_kind General) (member-kind General resources k)
 
   global-fitting : (member : Member) → bytes_eq class (codes "GLOBAL") ≡ true → IsMember (access_form name.text) member → is_fitting class name.text member ≡ true
   global-fitting (Access resources level) global h = access-fitting resources level global h
-  global-fitting (SecurityLevel other number) global h = absurd (by (bytes_eq name.text (codes "DATASET")) h)
-    where
-      by : (b : Bool) → IsMember (cond b (forms.Access DataSet) (forms.Access General)) (SecurityLevel other number) → ⊥
-      by true k = k
-      by false k = k
-  global-fitting (Category other) global h = absurd (by (bytes_eq name.text (codes "DATASET")) h)
-    where
-      by : (b : Bool) → IsMember (cond b (forms.Access DataSet) (forms.Access General)) (Category other) → ⊥
-      by true k = k
-      by false k = k
+  global-fitting (SecurityLevel other number) global h = absurd h
+  global-fitting (Category other) global h = absurd h
 
   secdata-fitting : (member : Member) → bytes_eq class (codes "SECDATA") ≡ true → IsMember (secdata_form name.text) member → is_fitting class name.text member ≡ true
   secdata-fitting (Access resources level) secdata h = absurd (by (bytes_eq name.text (codes "SECLEVEL")) h)

@@ -4,6 +4,7 @@ use Rattle.std.specs.Prelude.{◌==◌, nat_lt, find}
 use Rattle.std.specs.List.{list_any}
 use Rattle.std.specs.Option.{option_map_or}
 use Rattle.std.specs.Result.{result_ok}
+use Rattle.std.proofs.lemmas.Bool.{not-false, or_parts}
 use Rattle.access_levels.specs.Spelling.{id_of, name_of, unless_bad, bad_byte}
 use Rattle.access_levels.specs.declared.ids.IdFault.{IdFault}
 use Rattle.access_levels.specs.declared.ids.IdFault.TheVariants.{Empty, TooLong}
@@ -24,8 +25,8 @@ use Rattle.group_tree.proofs.Rows.{same, itself}
 use Rattle.command_effects.specs.ProfileEffects.{dataset}
 use Rattle.command_conflicts.specs.Conflicts.{if_met}
 use Rattle.command_conflicts.specs.ProfileConflicts.{no_resource_class, no_global_class, classless, not_generic, has_generic}
-use Rattle.command_conflicts.proofs.Unmet.{unmet, or_false}
-use Rattle.lawful_commands.proofs.RowLists.{or-true, not_false}
+use Rattle.command_conflicts.proofs.Unmet.{unmet}
+use Rattle.lawful_commands.proofs.RowLists.{or-true}
 use Rattle.lawful_commands.proofs.Kept.{found-named}
 
 -- ---- a class that is there is one of the fixed classes
@@ -64,15 +65,15 @@ module _ (rows : Rows) (class : List ℕ) (name : Spelled) where
   pub resource-class : no_resource_class class rows ≡ None → (bytes_eq class dataset ≡ false) × (is_some (class_of class rows) ≡ true)
   unfolding no_resource_class
   resource-class h =
-      let parts = or_false (bytes_eq class dataset) (not (is_some (class_of class rows))) (unmet (bytes_eq class dataset || not (is_some (class_of class rows))) _ h) in
-      (parts.0, not_false (is_some (class_of class rows)) parts.1)
+      let parts = or_parts (bytes_eq class dataset) (not (is_some (class_of class rows))) (unmet (bytes_eq class dataset || not (is_some (class_of class rows))) _ h) in
+      (parts.0, not-false (is_some (class_of class rows)) parts.1)
 
   global-named : bytes_eq class (codes "GLOBAL") ≡ true → is_ok (id_of name.text) ≡ true → no_global_class class name rows ≡ None → is_some (class_of name.text rows) ≡ true
   unfolding no_global_class
   global-named global spelled h = by (id_of name.text) refl spelled (sym (ap (λ b. classless b (result_ok (id_of name.text)) rows) global) ∙ h)
     where
       by : (r : Result (List ℕ) IdFault) → id_of name.text ≡ r → is_ok r ≡ true → classless true (result_ok r) rows ≡ None → is_some (class_of name.text rows) ≡ true
-      by (Ok id) e s k = ap (λ n. is_some (class_of n rows)) (id_of-itself name.text id e) ∙ not_false (is_some (class_of id rows)) (unmet (true && not (is_some (class_of id rows))) _ k)
+      by (Ok id) e s k = ap (λ n. is_some (class_of n rows)) (id_of-itself name.text id e) ∙ not-false (is_some (class_of id rows)) (unmet (true && not (is_some (class_of id rows))) _ k)
       by (Err fault) e s k = absurd (true≢false (sym s))
 
   -- where the class has no generic profiles the name isn't generic

@@ -19,7 +19,7 @@ use Rattle.racf_profiles.specs.LawfulProfiles.{AreProfiles, AreClasses, IsProfil
 use Rattle.racf_profiles.specs.Lawful.{AreLawful, AreCategories}
 use Rattle.racf_profiles.proofs.EditLaws.{at_class-absent}
 use Rattle.racf_profiles.proofs.Found.{all_head, all_tail}
-use Rattle.racf_profiles.proofs.OrderedProfiles.{put_profile-in_order, profile-put}
+use Rattle.racf_profiles.proofs.OrderedProfiles.{all-put_profile, put_profile-in_order, profile-put}
 use Rattle.group_tree.proofs.Rows.{same, find-passes}
 use Rattle.class_profiles.specs.Classes.{profile_in}
 use Rattle.row_tables.specs.ChangedRow.{at_row}
@@ -33,7 +33,7 @@ at_class-at_row : (name : List ℕ) (change : ClassRow → ClassRow) (classes : 
 at_class-at_row name change [] = refl
 at_class-at_row name change (class ∷ classes) = ap (λ rest. cond (is_class name class) (change class ∷ classes) (class ∷ rest)) (at_class-at_row name change classes)
 
-all-at_class : (P : ClassRow → Type 0) (name : List ℕ) (change : ClassRow → ClassRow) (classes : List ClassRow) → ((row : ClassRow) → find (is_class name) classes ≡ Some row → P row → P (change row)) → AllByRecursion P classes
+pub all-at_class : (P : ClassRow → Type 0) (name : List ℕ) (change : ClassRow → ClassRow) (classes : List ClassRow) → ((row : ClassRow) → find (is_class name) classes ≡ Some row → P row → P (change row)) → AllByRecursion P classes
     → AllByRecursion P (at_class name change classes)
 all-at_class P name change classes f h = subst (AllByRecursion P) (sym (at_class-at_row name change classes)) (all-at P (is_class name) change classes f h)
 
@@ -69,16 +69,6 @@ pub record PutsAreCounted : Type 0 where
       → profile_count (at_class class (with_profile profile) classes) + option_map_or (λ _. 1) (profile_in class profile.name classes) 0 ≡ profile_count classes + 1
   pub entries : (class : List ℕ) (row : ClassRow) (profile : Profile) (classes : List ClassRow) → AreClasses classes → find (is_class class) classes ≡ Some row → profile.name.kind ≡ kind_in class
       → entry_count (at_class class (with_profile profile) classes) + option_map_or entries_in (profile_in class profile.name classes) 0 ≡ entry_count classes + entries_in profile
-
--- ---- a list of profiles
-all-put_profile : (P : Profile → Type 0) (profile : Profile) (profiles : List Profile) → P profile → AllByRecursion P profiles → AllByRecursion P (put_profile profile profiles)
-all-put_profile P profile [] p h = (p, tt)
-all-put_profile P profile (x ∷ xs) p h = by (is_profile profile.name x) (before profile.name x.name) (all-put_profile P profile xs p h.1)
-  where
-    by : (b d : Bool) → AllByRecursion P (put_profile profile xs) → AllByRecursion P (cond b (profile ∷ xs) (cond d (profile ∷ x ∷ xs) (x ∷ put_profile profile xs)))
-    by true d rest = (p, h.1)
-    by false true rest = (p, h)
-    by false false rest = (h.0, rest)
 
 -- what comes before a list in order comes before each of it
 module _ (passed_on : PassedOn) where

@@ -1,5 +1,5 @@
 -- What holds of each row of a list, and that no two rows have one name, after a row was added, changed, put or dropped.
-use Rattle.std.proofs.Common.{◌≡◌, ℕ, ◌+◌, ◌≤◌, Bool, true, false, cond, ◌||◌, ◌&&◌, not, List, [], ◌∷◌, ◌++◌, length, map, Option, None, Some, refl, sym, ap, subst, ◌∙◌, true≢false, arith}
+use Rattle.std.proofs.Common.{◌≡◌, ℕ, ◌+◌, ◌≤◌, Bool, true, false, cond, ◌||◌, ◌&&◌, List, [], ◌∷◌, ◌++◌, length, map, Option, None, Some, refl, sym, ap, subst, ◌∙◌, true≢false, arith}
 use Rattle.std.specs.Prelude.{find, filter, sum_by}
 use Rattle.std.specs.List.{AllByRecursion, IsDistinct, list_any, list_all}
 use Rattle.std.proofs.lemmas.List.Sums.{sum_by-cons}
@@ -164,10 +164,6 @@ any-at p it change keeps (x ∷ xs) = by (it x) (any-at p it change keeps xs)
     by : (b : Bool) → list_any p (at_row it change xs) ≡ list_any p xs → list_any p (cond b (change x ∷ xs) (x ∷ at_row it change xs)) ≡ (p x || list_any p xs)
     by true rest = ap (λ c. c || list_any p xs) (keeps x)
     by false rest = ap (λ c. p x || c) rest
-
-pub not_false : (b : Bool) → not b ≡ false → b ≡ true
-not_false true h = refl
-not_false false h = absurd (true≢false h)
 
 pub or-true : (b : Bool) → (b || true) ≡ true
 or-true true = refl

@@ -3,6 +3,7 @@ use Rattle.std.proofs.Common.{◌≡◌, ℕ, ◌+◌, ◌≤◌, ◌<◌, Bool,
 use Rattle.std.specs.Prelude.{◌==◌, find, unwrap_or, IfSome}
 use Rattle.std.specs.List.{AllByRecursion, IsDistinct, list_any, list_all}
 use Rattle.std.specs.Option.{option_map_or, option_map, option_and_then}
+use Rattle.std.proofs.lemmas.Bool.{not-false}
 use Rattle.access_levels.specs.Category.{is_member}
 use Rattle.racf_profiles.specs.declared.users.User.{User}
 use Rattle.racf_profiles.specs.declared.users.Connect.{Connect as Connection}
@@ -31,7 +32,7 @@ use Rattle.command_conflicts.specs.declared.conflict.Conflict.TheVariants.{NoCla
 use Rattle.command_conflicts.specs.declared.conflict.Limit.TheVariants.{Users, Connections, AllConnections}
 use Rattle.command_conflicts.specs.Conflicts.{conflict_of, first_met, if_met, over, no_user, no_group, no_class, not_connected, default_not_connected, default_group, last_special, users_full, user_full, connections_full, add_user_conflicts, alt_user_conflicts, del_user_conflicts, connect_conflicts, remove_conflicts}
 use Rattle.command_conflicts.proofs.Unmet.{AreUnmet, each_unmet, unmet, user_there, group_there, name_free, within}
-use Rattle.lawful_commands.proofs.RowLists.{not_false, all-drop, all_pass-filter, any-at, none-found, sum-at-le, distinct-drop, distinct-none, distinct-one}
+use Rattle.lawful_commands.proofs.RowLists.{all-drop, all_pass-filter, any-at, none-found, sum-at-le, distinct-drop, distinct-none, distinct-one}
 use Rattle.lawful_commands.proofs.Kept.{defined-none}
 use Rattle.lawful_commands.proofs.UserRows.{special_user-counted, user-added, user-changed, user-dropped}
 use Rattle.lawful_commands.proofs.UserParts.{passes-with_classes, distinct-with_classes, distinct-without_classes, defined-added, defined-taken, all-connects_after, any-connects_after, distinct-connects_after, any-drop_other}
@@ -44,7 +45,7 @@ clauth-there rows names h other = both names (none-found (λ name. not (is_class
   where
     both : (ns : List (List ℕ)) → AllByRecursion (λ name. not (is_class_word rows name) ≡ false) ns → AllByRecursion (λ name. bytes_eq name (codes "DATASET") ≡ false) ns → AllByRecursion (λ name. is_clauth_class rows name ≡ true) ns
     both [] p q = tt
-    both (name ∷ ns) p q = (ap (λ b. b && not (bytes_eq name (codes "DATASET"))) (not_false (is_class_word rows name) p.0) ∙ ap not q.0, both ns p.1 q.1)
+    both (name ∷ ns) p q = (ap (λ b. b && not (bytes_eq name (codes "DATASET"))) (not-false (is_class_word rows name) p.0) ∙ ap not q.0, both ns p.1 q.1)
 
 -- somebody who isn't revoked has SPECIAL after the command
 special_user-left : (issuer : Issuer) (c : CommandFields) (id : List ℕ) (rows : Rows) → last_special issuer c id rows ≡ None → list_any is_special_user (step issuer c rows).users ≡ true
@@ -115,7 +116,7 @@ module _ (issuer : Issuer) (c : AltUser) (rows : Rows) (lawful : AreLawful rows)
   unfolding default_not_connected not_connected
   default-of-altered user found None h old = old
   default-of-altered user found (Some group) h old =
-      sym (ap (list_any (is_to group)) (own-connects c.user rows user found)) ∙ not_false (list_any (is_to group) (connects_of c.user rows)) (unmet (not (list_any (is_to group) (connects_of c.user rows))) _ h)
+      sym (ap (list_any (is_to group)) (own-connects c.user rows user found)) ∙ not-false (list_any (is_to group) (connects_of c.user rows)) (unmet (not (list_any (is_to group) (connects_of c.user rows))) _ h)
 
   altered-is_user : (user : User) → user_of c.user rows ≡ Some user → IsUser rows user → IsUser rows (altered_user c rows user)
   unfolding alt_user_conflicts tests-alt

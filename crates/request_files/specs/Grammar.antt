@@ -15,7 +15,8 @@ use Rattle.request_files.specs.declared.operands.Operand.{Operand}
 use Rattle.request_files.specs.declared.operands.Operand.TheVariants as operand
 use Rattle.request_files.specs.declared.reading.Verified.{Verified}
 use Rattle.command_words.specs.LineWords.{LineWord, UnreadLine, line_at}
-use Rattle.request_files.specs.Spellings.{folded, id_word, name_word, level_word, number_word, operand_word}
+use Rattle.command_values.specs.NamedWords.{id_named}
+use Rattle.request_files.specs.Spellings.{folded, name_word, level_word, number_word, operand_word}
 
 -- ---- what is asked for
 
@@ -77,7 +78,7 @@ ended (word ∷ words) said = Err word.place
 -- DELETE: an ACEE
 unfoldable pub deleted : UnreadLine → Result (List ℕ) ℕ
 deleted unread = do
-  acee ← next id_word unread
+  acee ← next id_named unread
   ended acee.1.words acee.0
 
 -- *AFTER: a number
@@ -98,8 +99,8 @@ access_to class level (Err fault) = Err fault
 
 unfoldable pub asked_by : UnreadLine → Result Asked ℕ
 asked_by unread = do
-  acee ← next id_word unread
-  class ← next id_word acee.1
+  acee ← next id_named unread
+  class ← next id_named acee.1
   name ← next (name_word (kind_in class.0)) class.1
   level ← next level_word name.1
   ended level.1.words record { acee = acee.0; access = access_to class.0 level.0 name.0 }
@@ -123,8 +124,8 @@ with_words request (word ∷ words) = with_word request word >>= λ longer. with
 
 unfoldable pub verified_by : UnreadLine → Result Verified ℕ
 verified_by unread = do
-  acee ← next id_word unread
-  user ← next id_word acee.1
+  acee ← next id_named unread
+  user ← next id_named acee.1
   request ← with_words (user_alone user.0) user.1.words
   Ok record { acee = acee.0; request = request }
 

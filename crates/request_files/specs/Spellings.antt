@@ -1,12 +1,12 @@
 -- What a single word of a line says. Letters are folded to upper case.
 use Rattle.std.specs.Prelude.{ℕ, ◌+◌, ◌-◌, ◌*◌, ◌^◌, ◌==◌, nat_le, Bool, false, not, ◌&&◌, if◌then◌else◌, List, [], ◌∷◌, length, take, map, find, Option, Some, None, Result, option_map, option_and_then, codes, bytes_eq}
 use Rattle.std.specs.List.{list_all, before_first, after_first}
-use Rattle.std.specs.Result.{result_ok}
 use Rattle.std.specs.Io.BufRead.{ends_with_byte}
-use Rattle.access_levels.specs.Spelling.{id_of, group_of, level_of, port_class_of}
+use Rattle.access_levels.specs.Spelling.{port_class_of}
 use Rattle.access_levels.specs.declared.levels.Level.{Level}
 use Rattle.access_levels.specs.declared.entries.PortClass.{PortClass}
 use Rattle.command_words.specs.Bytes.{upper}
+use Rattle.command_values.specs.NamedWords.{id_named, group_named, level_named}
 use Rattle.generic_names.specs.Spelled.{Spelled}
 use Rattle.generic_names.specs.Faults.{is_digit, resource_of}
 use Rattle.generic_names.specs.declared.kind.NameKind.{NameKind}
@@ -18,14 +18,6 @@ use Rattle.request_files.specs.declared.operands.Operand.TheVariants as operand
 abbrev pub folded : List ℕ → List ℕ
 folded text = map upper text
 
--- the name of an ACEE, of a user or of a class: it has an ID's spelling
-abbrev pub id_word : List ℕ → Option (List ℕ)
-id_word text = result_ok (id_of (folded text))
-
--- the name of a group
-abbrev pub group_word : List ℕ → Option (List ℕ)
-group_word text = result_ok (group_of (folded text))
-
 -- The name of a resource of this kind: any word fits, whatever is wrong with it as a name. In class DATASET it is read
 -- as the name of a data set, with every other class word as a general one.
 abbrev pub name_word : NameKind → List ℕ → Option (Result Spelled NameFault)
@@ -36,7 +28,7 @@ abbrev pub if_asked : Level → Option Level
 if_asked level = if may_be_asked level then Some level else None
 
 abbrev pub level_word : List ℕ → Option Level
-level_word text = option_and_then if_asked (level_of (folded text))
+level_word text = option_and_then if_asked (level_named text)
 
 -- ---- numbers
 
@@ -73,14 +65,14 @@ value_of text = closed (after_first opens text)
 
 -- a port of entry, by its class
 abbrev pub port_at : List ℕ → PortClass → Option Operand
-port_at value class = option_map (λ name. operand.Port record { class = class; name = name }) (id_word value)
+port_at value class = option_map (λ name. operand.Port record { class = class; name = name }) (id_named value)
 
 -- GROUP, APPL, SECLABEL and the ports
 abbrev pub keyed : List ℕ → List ℕ → Option Operand
 keyed key value =
-    if bytes_eq key (codes "GROUP") then option_map operand.Group (group_word value)
-    else if bytes_eq key (codes "APPL") then option_map operand.Application (id_word value)
-    else if bytes_eq key (codes "SECLABEL") then option_map operand.Label (id_word value)
+    if bytes_eq key (codes "GROUP") then option_map operand.Group (group_named value)
+    else if bytes_eq key (codes "APPL") then option_map operand.Application (id_named value)
+    else if bytes_eq key (codes "SECLABEL") then option_map operand.Label (id_named value)
     else option_and_then (port_at value) (port_class_of key)
 
 abbrev pub operand_word : List ℕ → Option Operand

@@ -3,12 +3,14 @@
 
 ghost use Rattle.std.specs.Prelude.{◌≡◌, IfOk, IsTrue};
 ghost use Rattle.decision.specs.Asked.{may_be_asked};
-ghost use Rattle.request_files.specs.Spellings.{id_word as id_in, level_word as level_in, name_word as name_in, number_word as number_of};
+ghost use Rattle.command_values.specs.NamedWords.{id_named as id_in};
+ghost use Rattle.request_files.specs.Spellings.{level_word as level_in, name_word as name_in, number_word as number_of};
 ghost use Rattle.request_files.specs.Grammar.{next, ended};
 
 use crate::numbers::number_word;
-use crate::spellings::{id_word, level_word, name_word};
+use crate::spellings::{level_word, name_word};
 use access_levels::{Id, Level};
+use command_values::id_named;
 use command_words::LineWords;
 use generic_names::{NameFault, NameKind, Resource};
 
@@ -20,7 +22,7 @@ pub(crate) fn next_id<'a>(words: &LineWords<'a>) -> Result<(Id, LineWords<'a>), 
     let Some((word, rest)) = words.split_first() else {
         return Err(words.end());
     };
-    match id_word(word.text) {
+    match id_named(word.text) {
         Some(id) => Ok((id, rest)),
         None => Err(word.place),
     }

@@ -3,14 +3,13 @@
 ghost use Rattle.std.specs.Prelude.{◌≡◌, position, bytes_eq, option_map, option_and_then};
 ghost use Rattle.std.specs.List.{before_first, after_first};
 ghost use Rattle.std.specs.Option.{option_copied};
-ghost use Rattle.access_levels.specs.Spelling.{port_class_of};
 ghost use Rattle.request_files.specs.Spellings.{folded, operand_word, keyed, opens, closed, port_at};
 ghost use Rattle.request_files.specs.Grammar.{with_operand};
 ghost use Rattle.request_files.specs.declared.operands.Operand.TheVariants as operand;
 
-use crate::spellings::{group_word, id_word};
 use access_levels::{Condition, Id, PortClass};
 use acee::VerifyRequest;
+use command_values::{group_named, id_named, port_class_named};
 use command_words::is_spelled;
 
 /// An operand of VERIFY.
@@ -68,32 +67,22 @@ fn keyed(key: &[u8], value: &[u8]) -> Option<Operand>
     ensures { result ≡ keyed (folded key.now) value.now }
 {
     if is_spelled(key, b"GROUP") {
-        return Some(Operand::Group(group_word(value)?));
+        return Some(Operand::Group(group_named(value)?));
     }
     if is_spelled(key, b"APPL") {
-        return Some(Operand::Application(id_word(value)?));
+        return Some(Operand::Application(id_named(value)?));
     }
     if is_spelled(key, b"SECLABEL") {
-        return Some(Operand::Label(id_word(value)?));
+        return Some(Operand::Label(id_named(value)?));
     }
-    port_at(port_class(key)?, value)
-}
-
-/// The class of the ports of entry that a key names.
-fn port_class(key: &[u8]) -> Option<PortClass>
-    ensures { result ≡ port_class_of (folded key.now) }
-{
-    PortClass::ALL
-        .iter()
-        .copied()
-        .find(|class| is_spelled(key, class.name()))
+    port_at(port_class_named(key)?, value)
 }
 
 /// The port of that class, with that name.
 fn port_at(class: PortClass, value: &[u8]) -> Option<Operand>
     ensures { result ≡ port_at value.now class }
 {
-    let name = id_word(value)?;
+    let name = id_named(value)?;
     Some(Operand::Port(Condition { class, name }))
 }
 

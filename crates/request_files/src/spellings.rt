@@ -1,33 +1,17 @@
 //! What a single word of a line says. Letters are folded to upper case.
 
 ghost use Rattle.std.specs.Prelude.{◌≡◌, IfOk, IfSome, IsTrue};
-ghost use Rattle.access_levels.specs.Spelling.{level_of};
 ghost use Rattle.generic_names.specs.Faults.{resource_of};
 ghost use Rattle.decision.specs.Asked.{may_be_asked};
-ghost use Rattle.request_files.specs.Spellings.{folded, id_word, group_word, level_word};
+ghost use Rattle.request_files.specs.Spellings.{folded, level_word};
 
-use access_levels::{Id, Level};
-use command_words::{FoldedWord, ShortWord};
+use access_levels::Level;
+use command_values::level_named;
+use command_words::FoldedWord;
 use generic_names::{NameFault, NameKind, Resource};
 
 /// A word of at most 246 bytes, as the names of resources are.
 type LongWord = FoldedWord<246>;
-
-/// The ID that a word spells: the name of an ACEE, of a user or of a class.
-pub(crate) fn id_word(word: &[u8]) -> Option<Id>
-    ensures { result ≡ id_word word.now }
-{
-    let short = ShortWord::of(word)?;
-    Id::read(short.as_slice()).ok()
-}
-
-/// The name of a group that a word spells.
-pub(crate) fn group_word(word: &[u8]) -> Option<Id>
-    ensures { result ≡ group_word word.now }
-{
-    let short = ShortWord::of(word)?;
-    Id::read_group(short.as_slice()).ok()
-}
 
 /// The level that a word asks for: READ, UPDATE, CONTROL or ALTER.
 pub(crate) fn level_word(word: &[u8]) -> Option<Level>
@@ -39,14 +23,6 @@ pub(crate) fn level_word(word: &[u8]) -> Option<Level>
         Level::NoAccess | Level::Execute => None,
         Level::Read | Level::Update | Level::Control | Level::Alter => Some(level),
     }
-}
-
-/// The level that a word spells.
-fn level_named(word: &[u8]) -> Option<Level>
-    ensures { result ≡ level_of (folded word.now) }
-{
-    let short = ShortWord::of(word)?;
-    Level::read(short.as_slice())
 }
 
 /// The name of a resource, as a word spells it.

@@ -1,4 +1,5 @@
 mod Bytes
+mod HeldLaws
 pub mod LineLaws
 mod LineRows
 pub mod Rises

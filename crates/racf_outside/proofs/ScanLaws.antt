@@ -11,7 +11,7 @@ use Rattle.racf_outside.specs.Blocks.{Block, unread_of}
 use Rattle.racf_outside.specs.Lines as text
 use Rattle.racf_outside.specs.LineBuffer.{Begun, IsBegun}
 use Rattle.racf_outside.specs.Next.{TakesLine, end_of}
-use Rattle.racf_outside.specs.Reader.{Reader}
+use Rattle.racf_outside.specs.Reader.{Reader, has_feed, KeepsSource}
 use Rattle.racf_outside.specs.Scan.{TakesMore, TakesFeed, TakesNone, Pieces, Finds, IsScanned, IsFirstFeed}
 use Rattle.racf_outside.specs.declared.lines.LineFault.{LineFault}
 use Rattle.racf_outside.specs.declared.lines.LineFault.TheVariants.{ReadFault, InputTooLong}
@@ -19,6 +19,7 @@ use Rattle.racf_outside.specs.declared.scanner.Found.{Found}
 use Rattle.racf_outside.specs.declared.scanner.Found.TheVariants as found
 use Rattle.racf_outside.proofs.LineLaws.{lines-feed, lines-last}
 use Rattle.racf_outside.proofs.Rises.{Rose-later}
+use Rattle.racf_outside.proofs.HeldLaws.{KeepsSource-then}
 use Rattle.racf_outside.proofs.Bytes.{prepend-nil, prepend-twice, prepend-split, take-take-append, take-through, take-window}
 
 -- what a block leaves behind goes before what is still to come
@@ -58,8 +59,8 @@ IsBegun-more raw piece line next b text size =
       size = size ∙ ap (λ n. n + length piece) b.size ∙ sym (length-append raw piece);
     }
 
-pub IsScanned-more : (raw piece : List ℕ) (old now next : Reader) (line line' : Begun) → IsScanned raw old now line → TakesMore piece now next line line' → now.faults ≤ next.faults → next.passed ≤ 2 ^ 28 → IsScanned (raw ++ piece) old next line'
-IsScanned-more raw piece old now next line line' s t faults within =
+pub IsScanned-more : (raw piece : List ℕ) (old now next : Reader) (line line' : Begun) → IsScanned raw old now line → TakesMore piece now next line line' → now.faults ≤ next.faults → next.passed ≤ 2 ^ 28 → (has_feed now.held ≡ true → KeepsSource now next) → (has_feed now.held ≡ true → has_feed next.held ≡ true) → IsScanned (raw ++ piece) old next line'
+IsScanned-more raw piece old now next line line' s t faults within keeps holds =
     record {
       was_going = s.was_going;
       goes_on = t.goes_on;
@@ -69,7 +70,12 @@ IsScanned-more raw piece old now next line line' s t faults within =
       taken = prepend-twice raw piece old.unread now.unread next.unread s.taken t.taken;
       counted = omega (arith, s.counted, t.counted, length-append raw piece);
       begun = IsBegun-more raw piece line line' s.begun t.text t.size;
+      held = λ h. let on = s.held h in record { still = holds on.still; source = KeepsSource-then old now next on.source (keeps on.still) };
     }
+
+-- the source was not read where the end of a line was at hand
+pub scanned_held : (raw : List ℕ) (old now next : Reader) (line : Begun) → IsScanned raw old now line → (has_feed now.held ≡ true → KeepsSource now next) → has_feed old.held ≡ true → KeepsSource old next
+scanned_held raw old now next line s keeps h = let on = s.held h in KeepsSource-then old now next on.source (keeps on.still)
 
 -- the first of the lines of all bytes
 first_of : (raw : List ℕ) (ended : Bool) (before after : Option (List ℕ)) → text.NoFeed raw → before ≡ prepend_known (raw ++ end_of ended) after → (ended ≡ true → 0 < length raw) → (ended ≡ true → IsAtEnd after) → IfSome before (λ bytes. IfSome after (λ rest. text.lines bytes ≡ text.line_of raw ∷ text.lines rest))

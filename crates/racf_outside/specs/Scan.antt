@@ -1,11 +1,11 @@
 -- How the reader of lines comes to a line: piece by piece.
-use Rattle.std.specs.Prelude.{ℕ, ◌+◌, ◌^◌, ◌<◌, ◌≤◌, ◌≡◌, true, false, List, [], ◌∷◌, ◌++◌, length, take, slice_index, Result, Ok, Err}
+use Rattle.std.specs.Prelude.{ℕ, ◌+◌, ◌^◌, ◌<◌, ◌≤◌, ◌≡◌, true, false, List, [], ◌∷◌, ◌++◌, length, take, slice_index, IsTrue, Result, Ok, Err}
 use Rattle.std.specs.Io.BufRead.{strip_last}
 use Rattle.std.specs.Io.KnownBytes.{prepend_known, IsAtEnd}
 use Rattle.racf_outside.specs.Causes.{Rose}
 use Rattle.racf_outside.specs.Lines as text
 use Rattle.racf_outside.specs.Next.{TakesLine, TakesEnd, TakesFront, TakesTooMuch}
-use Rattle.racf_outside.specs.Reader.{Reader}
+use Rattle.racf_outside.specs.Reader.{Reader, has_feed, KeepsSource}
 use Rattle.racf_outside.specs.declared.lines.LineFault.{LineFault}
 use Rattle.racf_outside.specs.declared.lines.LineFault.TheVariants.{ReadFault, InputTooLong}
 use Rattle.racf_outside.specs.declared.scanner.Piece.{Piece}
@@ -79,6 +79,11 @@ Finds (Ok found.End) old new line = TakesEnd old new
 Finds (Err ReadFault) old new line = (raw : List ℕ) × TakesFront raw old new
 Finds (Err InputTooLong) old new line = (raw : List ℕ) × (next : ℕ) × TakesTooMuch raw next old new
 
+-- The source was not read, and the end of a line is still at hand.
+pub record HoldsOn (old now : Reader) : Type 0 where
+  pub still : IsTrue (has_feed now.held)
+  pub source : KeepsSource old now
+
 -- The front `raw` of a line has been taken since `old`, and is begun in `line`.
 pub record IsScanned (raw : List ℕ) (old now : Reader) (line : Begun) : Type 0 where
   pub was_going : old.ended ≡ false
@@ -89,3 +94,4 @@ pub record IsScanned (raw : List ℕ) (old now : Reader) (line : Begun) : Type 0
   pub taken : old.unread ≡ prepend_known raw now.unread
   pub counted : now.passed ≡ old.passed + length raw
   pub begun : IsBegun raw line
+  pub held : IsTrue (has_feed old.held) → HoldsOn old now

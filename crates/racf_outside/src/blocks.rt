@@ -1,6 +1,6 @@
 //! The bytes of a source, read in blocks.
 
-ghost use Rattle.std.specs.Prelude.{◌≡◌, ◌≤◌, [], length, drop, vec_len, IfOk, OnOk, OnErr, IfErr};
+ghost use Rattle.std.specs.Prelude.{◌≡◌, ◌≤◌, ◌⊎◌, [], length, drop, vec_len, IfOk, OnOk, OnErr, IfErr};
 ghost use Rattle.std.specs.Io.KnownBytes.{IsAtEnd};
 ghost use Rattle.racf_outside.specs.Blocks.{unread_of};
 ghost use Rattle.racf_outside.specs.Causes.{HasCause};
@@ -62,6 +62,7 @@ impl<S: Source> Blocks<S> {
     /// Reads the next block where no byte is ready; then none is ready only at the end.
     pub(crate) fn fill(&mut self) -> Result<(), Failed>
         ensures unread { OnOk result (unread_of self.new ≡ unread_of self.old) }
+        ensures at_hand { (self.old.ready ≡ []) ⊎ (self.new ≡ self.old) }
         ensures end { OnOk result (self.new.ready ≡ [] → IsAtEnd self.new.left) }
         ensures nothing_ready { OnErr result ((self.old.ready ≡ []) × (self.new.ready ≡ [])) }
         ensures kept { OnErr result (self.new.left ≡ self.old.left) }

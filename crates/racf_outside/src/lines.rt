@@ -1,9 +1,9 @@
 //! The lines of an input.
 
-ghost use Rattle.std.specs.Prelude.{◌≡◌, ◌≤◌, ◌^◌, IfOk, IfErr};
+ghost use Rattle.std.specs.Prelude.{◌≡◌, ◌≤◌, ◌^◌, IfOk, IfErr, IsTrue};
 ghost use Rattle.std.specs.Borrow.{sem};
 ghost use Rattle.std.specs.Io.BufRead.{Rests, strip_last};
-ghost use Rattle.racf_outside.specs.Reader.{at_start};
+ghost use Rattle.racf_outside.specs.Reader.{at_start, has_feed};
 
 use crate::line_buffer::LineBuffer;
 use crate::scanner::{Found, Scanner};
@@ -52,6 +52,7 @@ impl<S: Source> Model for Lines<S> {
 
 impl<S: Source> Lines<S> {
     ghost use Rattle.racf_outside.specs.Next.{Nexts};
+    ghost use Rattle.racf_outside.specs.Reader.{KeepsSource};
     ghost use Rattle.racf_outside.specs.contracts.lines.Lines.{the_row};
 
     /// The lines of what a source has left. Takes the memory for a block and for a line; where it is short, the source
@@ -73,7 +74,8 @@ impl<S: Source> Lines<S> {
     /// behind a fault a call goes on after the bytes that were taken.
     pub fn next(&mut self) -> Result<Line<'_>, LineFault>
         ensures* after { sem 𝓛 (Rests (the_row S.row S.Source) self.entry
-            (λ new. Nexts result self.old new × (self.old.faults ≤ new.faults) × (new.passed ≤ 2 ^ 28))) }
+            (λ new. Nexts result self.old new × (self.old.faults ≤ new.faults) × (new.passed ≤ 2 ^ 28)
+            × (IsTrue (has_feed self.old.held) → KeepsSource self.old new))) }
     {
         match self.scanner.scan(&mut self.line) {
             Err(fault) => Err(fault),
@@ -81,6 +83,13 @@ impl<S: Source> Lines<S> {
             Ok(Found::TooLong) => Ok(Line::TooLong),
             Ok(Found::Text) => Ok(Line::Text(without_return(self.line.text()))),
         }
+    }
+
+    /// Whether the end of the next line is at hand. Then the next call of `next` doesn't read the source.
+    pub fn holds_line(&self) -> bool
+        ensures { result ≡ has_feed self.now.held }
+    {
+        self.scanner.holds_line()
     }
 
     /// The source, with what it has left.

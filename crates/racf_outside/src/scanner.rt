@@ -1,8 +1,8 @@
 //! The search for the end of a line.
 
-ghost use Rattle.std.specs.Prelude.{◌≡◌, ◌+◌, ◌^◌, ◌<◌, ◌≤◌, Bool, true, false, [], length, IfOk, IfErr, IfNone, IfSome, nat_lt, ◌==◌, if◌then◌else◌};
+ghost use Rattle.std.specs.Prelude.{◌≡◌, ◌+◌, ◌^◌, ◌<◌, ◌≤◌, Bool, true, false, [], length, IfOk, IfErr, IfNone, IfSome, IsTrue, Ok, nat_lt, ◌==◌, if◌then◌else◌};
 ghost use Rattle.racf_outside.specs.Lines.{NoFeed};
-ghost use Rattle.racf_outside.specs.Reader.{at_start};
+ghost use Rattle.racf_outside.specs.Reader.{at_start, has_feed};
 ghost use Rattle.racf_outside.specs.Scan.{IsFirstFeed};
 
 use crate::blocks::Blocks;
@@ -59,6 +59,7 @@ impl<S: Source> Model for Scanner<S> {
     ghost view = { λ a. record {
       unread = unread_of a.blocks;
       left = a.blocks.left;
+      held = a.blocks.ready;
       faults = a.blocks.faults;
       ended = a.ended;
       passed = a.passed;
@@ -68,6 +69,7 @@ impl<S: Source> Model for Scanner<S> {
 }
 
 impl<S: Source> Scanner<S> {
+    ghost use Rattle.racf_outside.specs.Reader.{KeepsSource};
     ghost use Rattle.racf_outside.specs.Scan.{Pieces, Finds};
 
     /// The input of a source; it is given back where memory is short.
@@ -88,6 +90,7 @@ impl<S: Source> Scanner<S> {
         ensures found { Finds result self.old self.new line.new }
         ensures faults { self.old.faults ≤ self.new.faults }
         ensures within { self.new.passed ≤ 2 ^ 28 }
+        ensures held { IsTrue (has_feed self.old.held) → KeepsSource self.old self.new }
     {
         line.clear();
         if self.ended {
@@ -110,6 +113,8 @@ impl<S: Source> Scanner<S> {
         ensures taken { Pieces result self.old self.new line.old line.new }
         ensures faults { self.old.faults ≤ self.new.faults }
         ensures within { self.new.passed ≤ 2 ^ 28 }
+        ensures held { IsTrue (has_feed self.old.held) → KeepsSource self.old self.new }
+        ensures holds { result ≡ Ok Piece.More → IsTrue (has_feed self.old.held) → IsTrue (has_feed self.new.held) }
     {
         match self.blocks.fill() {
             Err(_) => return Err(LineFault::ReadFault),
@@ -142,6 +147,13 @@ impl<S: Source> Scanner<S> {
         }
     }
 
+    /// Whether a line ends in the bytes at hand.
+    pub(crate) fn holds_line(&self) -> bool
+        ensures { result ≡ has_feed self.now.held }
+    {
+        has_feed(self.blocks.ready())
+    }
+
     /// The source itself.
     pub(crate) fn into_source(self) -> S
         ensures left { S.left result ≡ self.left }
@@ -162,6 +174,13 @@ fn find_feed(bytes: &[u8]) -> Option<usize>
     ensures some { IfSome result (IsFirstFeed bytes.now) }
 {
     memchr(b'\n', bytes)
+}
+
+/// Whether a line feed stands among the bytes.
+fn has_feed(bytes: &[u8]) -> bool
+    ensures { result ≡ has_feed bytes.now }
+{
+    find_feed(bytes).is_some()
 }
 
 /// What a line is that a line feed ended.

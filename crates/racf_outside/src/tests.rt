@@ -80,6 +80,21 @@ fn lines_are_those_of_the_input(rt: HostRuntime) -> Result<(), Fail> {
 }
 
 #[test]
+fn lines_are_held(rt: HostRuntime) -> Result<(), Fail> {
+    let alloc = rt.alloc();
+    let source = NeverSource::new(Vec::from_slice(alloc, b"A\nB\nC")?);
+    let Ok(mut lines) = Lines::new(alloc, source) else {
+        return Err(Fail::from(AllocError));
+    };
+    for held in [false, true, false, false] {
+        assert_eq!(rt; lines.holds_line(), held);
+        assert!(rt; lines.next().is_ok());
+    }
+    drop(lines.into_source());
+    Ok(())
+}
+
+#[test]
 fn faults_are_counted(rt: HostRuntime) -> Result<(), Fail> {
     let alloc = rt.alloc();
 

@@ -1,6 +1,7 @@
 mod Rows
 mod JoinRows
 pub mod Folds
+pub mod CutLaws
 pub mod Walk
 pub mod MarkLaws
 pub mod CommandsRead
@@ -8,6 +9,7 @@ pub mod FrontLaws
 pub mod StatementLaws
 pub mod Pieces
 pub mod Processing
+pub mod Settling
 pub mod StreamWalk
 pub mod PrintedLaws
 pub mod Feedless

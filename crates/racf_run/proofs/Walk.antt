@@ -1,5 +1,6 @@
--- A run so far: which bytes were read, which items they are, and what was written for them. Each stop follows from it.
-use Rattle.std.proofs.Common.{◌≡◌, ℕ, ◌+◌, ◌≤◌, ◌^◌, Bool, true, false, List, [], ◌∷◌, ◌++◌, length, take, None, Some, refl, sym, ◌∙◌, ap, arith, append_assoc, append-nil, length-append}
+-- A run so far: which bytes were read, which items they are, what was written for them, and what is gathered. Each stop
+-- follows from it.
+use Rattle.std.proofs.Common.{◌≡◌, ℕ, ◌+◌, ◌≤◌, ◌^◌, Bool, true, false, List, [], ◌∷◌, ◌++◌, length, take, None, Some, inl, inr, refl, sym, ◌∙◌, ap, arith, append_assoc, append-nil, length-append}
 use Rattle.std.specs.Prelude.{Option}
 use Rattle.std.specs.Io.KnownBytes.{prepend_known, append_known}
 use Rattle.std.proofs.lemmas.List.{take-append-le, take_all}
@@ -7,11 +8,14 @@ use Rattle.racf_outside.specs.Reader.{Reader, at_start}
 use Rattle.racf_outside.specs.Next.{TakesEnd}
 use Rattle.racf_run.specs.declared.status.Status.TheVariants.{Done, Refusals, ReadFault, WriteFault, NoMemory, InputTooLong}
 use Rattle.racf_run.specs.Runs.{Machine, after, output, BeginsWith, Ran, WroteAll}
+use Rattle.racf_run.specs.Gathering.{Settles, IsCutShort}
 use Rattle.racf_run.specs.NextStatement.{IsWalked, IsLast, TakesStatements, TakesFront, TakesTooMuch}
 use Rattle.racf_run.proofs.Folds.{after-append, output-append, append_known-append, append_known-nil, prepend_known-append, prepend_known-nil}
+use Rattle.racf_run.proofs.CutLaws.{IsFrontOf, cut_in, begins_before}
 
--- The reader has given the items `done`, the machine stands at s, and the sink, which held `before`, holds `now`.
-pub record Walk {S I : Type 0} (m : Machine S I) (source : Option (List ℕ)) (reader : Reader) (s : S) (before now : Option (List ℕ)) : Type 0 where
+-- The reader has given the items `done`, the machine stands at s, and the sink, which held `before`, holds `now`; the
+-- end of the output is gathered.
+pub record Walk {S I : Type 0} (m : Machine S I) (source : Option (List ℕ)) (reader : Reader) (s : S) (before now : Option (List ℕ)) (gathered : List ℕ) : Type 0 where
   pub read : List ℕ
   pub done : List I
   pub given : source ≡ prepend_known read reader.unread
@@ -19,9 +23,11 @@ pub record Walk {S I : Type 0} (m : Machine S I) (source : Option (List ℕ)) (r
   pub goes_on : reader.ended ≡ false → IsWalked m read done
   pub last : reader.ended ≡ true → IsLast m read done reader.unread
   pub state : s ≡ after m done m.start
-  pub gained : now ≡ append_known before (output m done m.start)
+  pub written : List ℕ
+  pub gained : now ≡ append_known before written
+  pub whole : output m done m.start ≡ written ++ gathered
 
-pub Walk-none : {S I : Type 0} (m : Machine S I) (source before : Option (List ℕ)) (faults : ℕ) → Walk m source (at_start source faults) m.start before before
+pub Walk-none : {S I : Type 0} (m : Machine S I) (source before : Option (List ℕ)) (faults : ℕ) → Walk m source (at_start source faults) m.start before before []
 Walk-none m source before faults =
     record {
       read = [];
@@ -31,7 +37,9 @@ Walk-none m source before faults =
       goes_on = λ h. record { whole = λ more. refl; all = λ more. refl };
       last = λ h. cc;
       state = refl;
+      written = [];
       gained = sym (append_known-nil before);
+      whole = refl;
     }
 
 -- the items go on behind those that were done
@@ -47,8 +55,8 @@ IsWalked-last m read bytes done items unread w v =
     record { all = w.all bytes ∙ ap (λ is. done ++ is) v.all; at_end = v.at_end }
 
 -- more bytes were taken, which are these items, and they were worked
-pub Walk-items : {S I : Type 0} (m : Machine S I) (items : List I) (bytes : List ℕ) (source : Option (List ℕ)) (old new : Reader) (s t : S) (before now then : Option (List ℕ)) → Walk m source old s before now → TakesStatements m items bytes old new → t ≡ after m items s → then ≡ append_known now (output m items s) → Walk m source new t before then
-Walk-items m items bytes source old new s t before now then w taken worked wrote =
+pub Walk-items : {S I : Type 0} (m : Machine S I) (items : List I) (bytes : List ℕ) (source : Option (List ℕ)) (old new : Reader) (s t : S) (before now : Option (List ℕ)) (gathered more : List ℕ) → Walk m source old s before now gathered → TakesStatements m items bytes old new → t ≡ after m items s → more ≡ gathered ++ output m items s → Walk m source new t before now more
+Walk-items m items bytes source old new s t before now gathered more w taken worked gathers =
     record {
       read = w.read ++ bytes;
       done = w.done ++ items;
@@ -57,13 +65,52 @@ Walk-items m items bytes source old new s t before now then w taken worked wrote
       goes_on = λ h. IsWalked-more m w.read bytes w.done items (w.goes_on taken.begun) (taken.goes_on h);
       last = λ h. IsWalked-last m w.read bytes w.done items new.unread (w.goes_on taken.begun) (taken.last h);
       state = worked ∙ ap (λ x. after m items x) w.state ∙ sym (after-append m w.done items m.start);
-      gained =
-          wrote
-          ∙ ap (λ known. append_known known (output m items s)) w.gained
-          ∙ sym (append_known-append before (output m w.done m.start) (output m items s))
-          ∙ ap (λ x. append_known before (output m w.done m.start ++ output m items x)) w.state
-          ∙ ap (append_known before) (sym (output-append m w.done items m.start));
+      written = w.written;
+      gained = w.gained;
+      whole =
+          output-append m w.done items m.start
+          ∙ ap (λ x. output m w.done m.start ++ output m items x) (sym w.state)
+          ∙ ap (λ text. text ++ output m items s) w.whole
+          ∙ append_assoc w.written gathered (output m items s)
+          ∙ ap (λ text. w.written ++ text) (sym gathers);
     }
+
+-- what is gathered was written, or is gathered still
+pub Walk-settles : {S I : Type 0} (m : Machine S I) (source : Option (List ℕ)) (reader : Reader) (s : S) (before now then : Option (List ℕ)) (gathered rest : List ℕ) → Walk m source reader s before now gathered → Settles gathered rest now then → Walk m source reader s before then rest
+Walk-settles m source reader s before now then gathered rest w (inl kept) =
+    record {
+      read = w.read;
+      done = w.done;
+      given = w.given;
+      counted = w.counted;
+      goes_on = w.goes_on;
+      last = w.last;
+      state = w.state;
+      written = w.written;
+      gained = kept.1 ∙ w.gained;
+      whole = w.whole ∙ ap (λ text. w.written ++ text) (sym kept.0);
+    }
+Walk-settles m source reader s before now then gathered rest w (inr wrote) =
+    record {
+      read = w.read;
+      done = w.done;
+      given = w.given;
+      counted = w.counted;
+      goes_on = w.goes_on;
+      last = w.last;
+      state = w.state;
+      written = w.written ++ gathered;
+      gained = wrote.1 ∙ ap (λ known. append_known known gathered) w.gained ∙ sym (append_known-append before w.written gathered);
+      whole = w.whole ∙ sym (append-nil (w.written ++ gathered)) ∙ ap (λ text. (w.written ++ gathered) ++ text) (sym wrote.0);
+    }
+
+-- once all that is gathered was written, the sink has the whole output
+written_all : {S I : Type 0} (m : Machine S I) (source : Option (List ℕ)) (reader : Reader) (s : S) (before now then : Option (List ℕ)) (gathered : List ℕ) → (w : Walk m source reader s before now gathered) → then ≡ append_known now gathered → then ≡ append_known before (output m w.done m.start)
+written_all m source reader s before now then gathered w wrote =
+    wrote
+    ∙ ap (λ known. append_known known gathered) w.gained
+    ∙ sym (append_known-append before w.written gathered)
+    ∙ ap (append_known before) (sym w.whole)
 
 -- the items that were done are the first ones
 begins_walked : {S I : Type 0} (m : Machine S I) (read : List ℕ) (done : List I) (unread : Option (List ℕ)) → IsWalked m read done → BeginsWith m read unread done
@@ -74,24 +121,24 @@ begins_last : {S I : Type 0} (m : Machine S I) (read : List ℕ) (done : List I)
 begins_last m read done None v = record { rest = []; is_rest = tt; others = []; in_order = ap m.items (append-nil read) ∙ v.all ∙ sym (append-nil done) }
 begins_last m read done (Some told) v = record { rest = []; is_rest = v.at_end; others = []; in_order = ap m.items (append-nil read) ∙ v.all ∙ sym (append-nil done) }
 
-pub Walk-first : {S I : Type 0} (m : Machine S I) (source : Option (List ℕ)) (reader : Reader) (s : S) (before now : Option (List ℕ)) → (w : Walk m source reader s before now) → BeginsWith m w.read reader.unread w.done
-Walk-first m source reader s before now w = by_end reader.ended refl
+pub Walk-first : {S I : Type 0} (m : Machine S I) (source : Option (List ℕ)) (reader : Reader) (s : S) (before now : Option (List ℕ)) (gathered : List ℕ) → (w : Walk m source reader s before now gathered) → BeginsWith m w.read reader.unread w.done
+Walk-first m source reader s before now gathered w = by_end reader.ended refl
   where
     by_end : (ended : Bool) → reader.ended ≡ ended → BeginsWith m w.read reader.unread w.done
     by_end false h = begins_walked m w.read w.done reader.unread (w.goes_on h)
     by_end true h = begins_last m w.read w.done reader.unread (w.last h)
 
 -- at the input's end the items are those that were done
-all_done : {S I : Type 0} (m : Machine S I) (source : Option (List ℕ)) (reader : Reader) (s : S) (before now : Option (List ℕ)) → (w : Walk m source reader s before now) → m.items [] ≡ [] → m.items w.read ≡ w.done
-all_done m source reader s before now w empty = by_end reader.ended refl
+all_done : {S I : Type 0} (m : Machine S I) (source : Option (List ℕ)) (reader : Reader) (s : S) (before now : Option (List ℕ)) (gathered : List ℕ) → (w : Walk m source reader s before now gathered) → m.items [] ≡ [] → m.items w.read ≡ w.done
+all_done m source reader s before now gathered w empty = by_end reader.ended refl
   where
     by_end : (ended : Bool) → reader.ended ≡ ended → m.items w.read ≡ w.done
     by_end false h = ap m.items (sym (append-nil w.read)) ∙ (w.goes_on h).all [] ∙ ap (λ is. w.done ++ is) empty ∙ append-nil w.done
     by_end true h = (w.last h).all
 
-wrote_all : {S I : Type 0} (m : Machine S I) (source : Option (List ℕ)) (old new : Reader) (s : S) (before now : Option (List ℕ)) (refused : Bool) → (w : Walk m source old s before now) → m.items [] ≡ [] → TakesEnd old new → new.passed ≤ 2 ^ 28 → m.has_refused s ≡ refused → WroteAll m refused w.read new.unread (output m w.done m.start)
-wrote_all m source old new s before now refused w empty end limit h =
-    let all : m.items w.read ≡ w.done = all_done m source old s before now w empty in
+wrote_all : {S I : Type 0} (m : Machine S I) (source : Option (List ℕ)) (old new : Reader) (s : S) (before now : Option (List ℕ)) (gathered : List ℕ) (refused : Bool) → (w : Walk m source old s before now gathered) → m.items [] ≡ [] → TakesEnd old new → new.passed ≤ 2 ^ 28 → m.has_refused s ≡ refused → WroteAll m refused w.read new.unread (output m w.done m.start)
+wrote_all m source old new s before now gathered refused w empty end limit h =
+    let all : m.items w.read ≡ w.done = all_done m source old s before now gathered w empty in
     record {
       ended = end.at_end;
       fits = omega (arith, end.counted, w.counted);
@@ -100,37 +147,37 @@ wrote_all m source old new s before now refused w empty end limit h =
     }
 
 -- the input was read to its end
-pub Walk-done : {S I : Type 0} (m : Machine S I) (source left : Option (List ℕ)) (old new : Reader) (s : S) (before now : Option (List ℕ)) → Walk m source old s before now → m.items [] ≡ [] → TakesEnd old new → new.passed ≤ 2 ^ 28 → m.has_refused s ≡ false → Ran m Done source left before now
-Walk-done m source left old new s before now w empty end limit h =
+pub Walk-done : {S I : Type 0} (m : Machine S I) (source left : Option (List ℕ)) (old new : Reader) (s : S) (before now then : Option (List ℕ)) (gathered : List ℕ) → Walk m source old s before now gathered → then ≡ append_known now gathered → m.items [] ≡ [] → TakesEnd old new → new.passed ≤ 2 ^ 28 → m.has_refused s ≡ false → Ran m Done source left before then
+Walk-done m source left old new s before now then gathered w wrote empty end limit h =
     record {
       read = w.read;
       more = new.unread;
       written = output m w.done m.start;
       given = w.given ∙ ap (λ known. prepend_known w.read known) (sym end.kept);
-      gained = w.gained;
-      wrote = wrote_all m source old new s before now false w empty end limit h;
+      gained = written_all m source old s before now then gathered w wrote;
+      wrote = wrote_all m source old new s before now gathered false w empty end limit h;
     }
 
-pub Walk-refusals : {S I : Type 0} (m : Machine S I) (source left : Option (List ℕ)) (old new : Reader) (s : S) (before now : Option (List ℕ)) → Walk m source old s before now → m.items [] ≡ [] → TakesEnd old new → new.passed ≤ 2 ^ 28 → m.has_refused s ≡ true → Ran m Refusals source left before now
-Walk-refusals m source left old new s before now w empty end limit h =
+pub Walk-refusals : {S I : Type 0} (m : Machine S I) (source left : Option (List ℕ)) (old new : Reader) (s : S) (before now then : Option (List ℕ)) (gathered : List ℕ) → Walk m source old s before now gathered → then ≡ append_known now gathered → m.items [] ≡ [] → TakesEnd old new → new.passed ≤ 2 ^ 28 → m.has_refused s ≡ true → Ran m Refusals source left before then
+Walk-refusals m source left old new s before now then gathered w wrote empty end limit h =
     record {
       read = w.read;
       more = new.unread;
       written = output m w.done m.start;
       given = w.given ∙ ap (λ known. prepend_known w.read known) (sym end.kept);
-      gained = w.gained;
-      wrote = wrote_all m source old new s before now true w empty end limit h;
+      gained = written_all m source old s before now then gathered w wrote;
+      wrote = wrote_all m source old new s before now gathered true w empty end limit h;
     }
 
 -- a read failed
-pub Walk-read_fault : {S I : Type 0} (m : Machine S I) (bytes : List ℕ) (source : Option (List ℕ)) (old new : Reader) (s : S) (before now : Option (List ℕ)) → Walk m source old s before now → TakesFront m bytes old new → Ran m ReadFault source new.left before now
-Walk-read_fault m bytes source old new s before now w front =
+pub Walk-read_fault : {S I : Type 0} (m : Machine S I) (bytes : List ℕ) (source : Option (List ℕ)) (old new : Reader) (s : S) (before now then : Option (List ℕ)) (gathered : List ℕ) → Walk m source old s before now gathered → then ≡ append_known now gathered → TakesFront m bytes old new → Ran m ReadFault source new.left before then
+Walk-read_fault m bytes source old new s before now then gathered w wrote front =
     record {
       read = w.read ++ bytes;
       more = new.unread;
       written = output m w.done m.start;
       given = w.given ∙ ap (λ known. prepend_known w.read known) front.taken ∙ sym (prepend_known-append w.read bytes new.unread);
-      gained = w.gained;
+      gained = written_all m source old s before now then gathered w wrote;
       wrote =
           record {
             kept = sym front.none_held;
@@ -139,8 +186,8 @@ Walk-read_fault m bytes source old new s before now w front =
     }
 
 -- a line doesn't end within the longest input
-pub Walk-too_long : {S I : Type 0} (m : Machine S I) (bytes : List ℕ) (next : ℕ) (source left : Option (List ℕ)) (old new : Reader) (s : S) (before now : Option (List ℕ)) → Walk m source old s before now → TakesTooMuch m bytes next old new → Ran m InputTooLong source left before now
-Walk-too_long m bytes next source left old new s before now w much =
+pub Walk-too_long : {S I : Type 0} (m : Machine S I) (bytes : List ℕ) (next : ℕ) (source left : Option (List ℕ)) (old new : Reader) (s : S) (before now then : Option (List ℕ)) (gathered : List ℕ) → Walk m source old s before now gathered → then ≡ append_known now gathered → TakesTooMuch m bytes next old new → Ran m InputTooLong source left before then
+Walk-too_long m bytes next source left old new s before now then gathered w wrote much =
     let limit : length (w.read ++ bytes) ≡ 2 ^ 28 = length-append w.read bytes ∙ omega (arith, w.counted, much.limit) in
     let front : take (2 ^ 28) ((w.read ++ bytes) ++ next ∷ []) ≡ w.read ++ bytes = front_taken (w.read ++ bytes) (next ∷ []) (2 ^ 28) limit in
     record {
@@ -152,7 +199,7 @@ Walk-too_long m bytes next source left old new s before now w much =
           ∙ ap (λ known. prepend_known w.read known) much.taken
           ∙ sym (prepend_known-append w.read (bytes ++ next ∷ []) new.unread)
           ∙ ap (λ bs. prepend_known bs new.unread) (sym (append_assoc w.read bytes (next ∷ [])));
-      gained = w.gained;
+      gained = written_all m source old s before now then gathered w wrote;
       wrote =
           record {
             too_long = omega (arith, length-append (w.read ++ bytes) (next ∷ []), limit);
@@ -164,43 +211,37 @@ Walk-too_long m bytes next source left old new s before now w much =
     front_taken xs ys n h = let within : n ≤ length xs = omega arith in take-append-le n xs ys within ∙ take_all n xs (omega arith)
 
 -- memory ran out before the next item
-pub Walk-no_memory : {S I : Type 0} (m : Machine S I) (source left : Option (List ℕ)) (reader : Reader) (s : S) (before now : Option (List ℕ)) → Walk m source reader s before now → Ran m NoMemory source left before now
-Walk-no_memory m source left reader s before now w =
+pub Walk-no_memory : {S I : Type 0} (m : Machine S I) (source left : Option (List ℕ)) (reader : Reader) (s : S) (before now then : Option (List ℕ)) (gathered : List ℕ) → Walk m source reader s before now gathered → then ≡ append_known now gathered → Ran m NoMemory source left before then
+Walk-no_memory m source left reader s before now then gathered w wrote =
     record {
       read = w.read;
       more = reader.unread;
       written = output m w.done m.start;
       given = w.given;
-      gained = w.gained;
-      wrote = record { done = w.done; first = Walk-first m source reader s before now w; whole = refl };
+      gained = written_all m source reader s before now then gathered w wrote;
+      wrote = record { done = w.done; first = Walk-first m source reader s before now gathered w; whole = refl };
     }
 
--- a write failed in an item's text
-pub Walk-write_fault : {S I : Type 0} (m : Machine S I) (item : I) (count : ℕ) (bytes : List ℕ) (source left : Option (List ℕ)) (old new : Reader) (s : S) (before now then : Option (List ℕ)) → Walk m source old s before now → TakesStatements m (item ∷ []) bytes old new → then ≡ append_known now (take count (m.text item s)) → Ran m WriteFault source left before then
-unfolding Walk-items
-Walk-write_fault m item count bytes source left old new s before now then w taken wrote =
-    let next : Walk m source new (m.step item s) before (append_known now (output m (item ∷ []) s)) =
-    Walk-items m (item ∷ []) bytes source old new s (m.step item s) before now _ w taken refl refl in
+-- a write failed in what is gathered
+pub Walk-write_fault : {S I : Type 0} (m : Machine S I) (source left : Option (List ℕ)) (reader : Reader) (s : S) (before now then : Option (List ℕ)) (gathered : List ℕ) → Walk m source reader s before now gathered → IsCutShort gathered now then → Ran m WriteFault source left before then
+Walk-write_fault m source left reader s before now then gathered w cut =
+    let front : IsFrontOf m w.done m.start (w.written ++ take cut.count gathered) = cut_in m w.done m.start w.written gathered cut.count w.whole cut.short in
     record {
-      read = next.read;
-      more = new.unread;
-      written = output m w.done m.start ++ take count (m.text item (after m w.done m.start));
-      given = next.given;
-      gained =
-          wrote
-          ∙ ap (λ known. append_known known (take count (m.text item s))) w.gained
-          ∙ sym (append_known-append before (output m w.done m.start) (take count (m.text item s)))
-          ∙ ap (λ x. append_known before (output m w.done m.start ++ take count (m.text item x))) w.state;
+      read = w.read;
+      more = reader.unread;
+      written = w.written ++ take cut.count gathered;
+      given = w.given;
+      gained = cut.front ∙ ap (λ known. append_known known (take cut.count gathered)) w.gained ∙ sym (append_known-append before w.written (take cut.count gathered));
       wrote =
           record {
-            done = w.done;
-            last = item;
-            count = count;
-            first = Walk-first m source new (m.step item s) before _ next;
-            front = refl;
+            done = front.done;
+            last = front.last;
+            count = front.count;
+            first = begins_before m w.read reader.unread w.done front.done front.last front.rest front.split (Walk-first m source reader s before now gathered w);
+            front = front.is_front;
           };
     }
 
 -- memory ran out before anything was read
 pub none_read : {S I : Type 0} (m : Machine S I) (source left before : Option (List ℕ)) → Ran m NoMemory source left before before
-none_read m source left before = Walk-no_memory m source left (at_start source 0) m.start before before (Walk-none m source before 0)
+none_read m source left before = Walk-no_memory m source left (at_start source 0) m.start before before before [] (Walk-none m source before 0) (sym (append_known-nil before))

@@ -1,12 +1,15 @@
 //! The statements of an input, one after another.
 
-ghost use Rattle.std.specs.Prelude.{◌≤◌, ◌^◌};
+ghost use Rattle.std.specs.Prelude.{◌≤◌, ◌^◌, IfOk, OnOk, OnErr};
+ghost use Rattle.racf_outside.specs.Causes.{HasCause};
+ghost use Rattle.racf_run.specs.Gathering.{Settles, IsCutShort};
 ghost use Rattle.racf_run.specs.NextStatement.{NextsStatement};
 ghost use Rattle.racf_run.specs.NextRole.{NextsRole, ReadsRole, ReadsEnd};
 
 use crate::joining::{Begun, LineRole, role_of};
+use crate::replies::Replies;
 use crate::statement::Statement;
-use racf_outside::{Line, LineFault, Lines, Source};
+use racf_outside::{Failed, Line, LineFault, Lines, Sink, Source};
 use std::alloc::Global;
 
 /// Why no statement comes.
@@ -22,23 +25,46 @@ pub(crate) enum Stop {
     NoMemory,
 }
 
-/// The next statement; `None` where the next line is skipped. The lines of a command are joined.
-pub(crate) fn next_statement<S: Source>(
+/// The next statement; `None` where the next line is skipped. The lines of a command are joined. What is gathered is
+/// written before the source is read; where that fails, no statement is looked for.
+pub(crate) fn next_statement<S: Source, O: Sink>(
     alloc: Global,
     lines: &mut Lines<S>,
-) -> Result<Option<Statement>, Stop>
-    ensures item { NextsStatement result lines.old lines.new }
+    replies: &mut Replies,
+    sink: &mut O,
+) -> Result<Result<Option<Statement>, Stop>, Failed>
+    ensures item { IfOk result (λ next. NextsStatement next lines.old lines.new) }
     ensures faults { lines.old.faults ≤ lines.new.faults }
-    ensures limit { lines.new.passed ≤ 2 ^ 28 }
+    ensures limit { OnOk result (lines.new.passed ≤ 2 ^ 28) }
+    ensures settled { OnOk result (Settles replies.old replies.new (O.taken sink.old) (O.taken sink.new)) }
+    ensures front { OnErr result (IsCutShort replies.old (O.taken sink.old) (O.taken sink.new)) }
+    ensures cause { HasCause (O.faults sink.old) (O.faults sink.new) result }
 {
     let mut begun = None;
-    loop {
+    'line: loop {
+        write_before_read(lines, replies, sink)?;
         match next_role(alloc, lines, begun) {
-            Ok(LineRole::Whole(item)) => return Ok(item),
+            Ok(LineRole::Whole(item)) => return Ok(Ok(item)),
             Ok(LineRole::GoesOn(front)) => begun = Some(front),
-            Err(stop) => return Err(stop),
+            Err(stop) => return Ok(Err(stop)),
         }
     }
+}
+
+/// Writes what is gathered where the source will be read for the next line.
+fn write_before_read<S: Source, O: Sink>(
+    lines: &Lines<S>,
+    replies: &mut Replies,
+    sink: &mut O,
+) -> Result<(), Failed>
+    ensures settled { OnOk result (Settles replies.old replies.new (O.taken sink.old) (O.taken sink.new)) }
+    ensures front { OnErr result (IsCutShort replies.old (O.taken sink.old) (O.taken sink.new)) }
+    ensures cause { HasCause (O.faults sink.old) (O.faults sink.new) result }
+{
+    if lines.holds_line() {
+        return Ok(());
+    }
+    replies.write_out(sink)
 }
 
 /// What the next line is behind the front of a command, or anew; at the input's end the command that is begun.

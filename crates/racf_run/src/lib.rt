@@ -17,6 +17,7 @@ mod joining;
 pub mod laws;
 mod mark;
 mod refusal_words;
+mod replies;
 mod reply;
 mod requests;
 mod scripts;

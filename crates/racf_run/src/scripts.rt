@@ -1,32 +1,27 @@
 //! A stream from a source to a sink.
 
-ghost use Rattle.std.specs.Prelude.{◌≡◌, ◌≢◌, ◌<◌, ◌≤◌, ℕ, Err, IsTrue, IfSome, OnOk, OnErr, length, take};
+ghost use Rattle.std.specs.Prelude.{◌≡◌, ◌≢◌, ◌<◌, ◌≤◌, IsTrue, IfSome, length};
 ghost use Rattle.std.specs.Io.KnownBytes.{append_known};
-ghost use Rattle.racf_outside.specs.Causes.{Rose, HasCause};
+ghost use Rattle.racf_outside.specs.Causes.{Rose};
 ghost use Rattle.racf_outside.specs.Reader.{at_start};
 ghost use Rattle.racf_run.specs.Runs.{Ran, longest_input};
 ghost use Rattle.racf_run.specs.Script.{stream, is_whole, script_output, script_status};
-ghost use Rattle.racf_run.specs.Processing.{Processes, stop_status, fault_status};
+ghost use Rattle.racf_run.specs.Processing.{Processes, Ends, stop_status};
 
 use crate::input::{Stop, next_statement};
+use crate::replies::Replies;
 use crate::statement::Statement;
 use crate::status::Status;
 use crate::stream::Stream;
 use racf_outside::{Failed, Lines, Sink, Source};
-use std::alloc::Global;
-
-/// Why a statement was not answered.
-#[derive(Clone, Copy)]
-pub(crate) enum ProcessFault {
-    /// Memory ran out before anything was changed or written.
-    NoMemory,
-    /// Writing the text failed.
-    WriteFault,
-}
+use std::alloc::{AllocError, Global};
 
 /// Works the lines of a source, and writes the text of each to the sink; skipped lines have none. The status tells how
-/// it ended, and the source is given back with what it has left. Each text stands whole in memory before it is written.
-/// Time grows with the input's length, and for each line with what the database takes to work its command.
+/// it ended, and the source is given back with what it has left. The texts are gathered, and written before the source
+/// is read again and before the end: a source that gives line after line has the reply to each before it is asked for
+/// the next one. At most those of the lines of one block of the input wait, and each stands whole in memory before a
+/// part of it is written. Time grows with the input's length, and for each line with what the database takes to work its
+/// command.
 pub fn script<S: Source, O: Sink>(alloc: Global, source: S, sink: &mut O) -> (Status, S)
     // Which bytes were read, and what was written for them, wherever it stopped.
     ensures ran { Ran stream result.0 (S.left source) (S.left result.1) (O.taken sink.old) (O.taken sink.new) }
@@ -66,59 +61,49 @@ fn run<S: Source, O: Sink>(alloc: Global, lines: &mut Lines<S>, sink: &mut O) ->
     let Ok(mut stream) = Stream::new(alloc) else {
         return Status::NoMemory;
     };
-    let mut out = Vec::new(alloc);
-    loop {
-        let item = match next_statement(alloc, lines) {
-            Ok(item) => item,
-            Err(stop) => return stop_status(stop, stream.has_refused()),
+    let mut replies = Replies::new(alloc);
+    'item: loop {
+        let item = match next_statement(alloc, lines, &mut replies, sink) {
+            Ok(Ok(item)) => item,
+            Ok(Err(stop)) => return end(stop, stream.has_refused(), &mut replies, sink),
+            Err(Failed) => return Status::WriteFault,
         };
-        match process_statement(alloc, &mut stream, item, &mut out, sink) {
+        match process_statement(alloc, &mut stream, item, &mut replies) {
             Ok(()) => {}
-            Err(fault) => return fault_status(fault),
+            Err(_) => return end(Stop::NoMemory, stream.has_refused(), &mut replies, sink),
         }
     }
 }
 
-/// Processes a statement, where there is one, and writes its text.
-fn process_statement<O: Sink>(
+/// Processes a statement, where there is one, and gathers its text.
+fn process_statement(
     alloc: Global,
     stream: &mut Stream,
     item: Option<Statement>,
-    out: &mut Vec<u8>,
-    sink: &mut O,
-) -> Result<(), ProcessFault>
-    ensures processed { Processes result item stream.old stream.new (O.taken sink.old) (O.taken sink.new) }
-    ensures write_fault { result ≡ Err ProcessFault.WriteFault → Rose (O.faults sink.old) (O.faults sink.new) }
-    ensures sink_faults { O.faults sink.old ≤ O.faults sink.new }
+    replies: &mut Replies,
+) -> Result<(), AllocError>
+    ensures { Processes result item stream.old stream.new replies.old replies.new }
 {
     let Some(item) = item else {
         return Ok(());
     };
-    out.clear();
-    match stream.process(alloc, &item, out) {
-        Ok(()) => {}
-        Err(_) => return Err(ProcessFault::NoMemory),
-    }
-    match write_all(sink, out.as_slice()) {
-        Ok(()) => Ok(()),
-        Err(Failed) => Err(ProcessFault::WriteFault),
-    }
+    replies.gather(alloc, stream, &item)
 }
 
-/// Writes all of the bytes, in as many calls as the sink needs.
-fn write_all<O: Sink>(sink: &mut O, bytes: &[u8]) -> Result<(), Failed>
-    ensures all { OnOk result (O.taken sink.new ≡ append_known (O.taken sink.old) bytes.now) }
-    ensures front { OnErr result ((count : ℕ) × (O.taken sink.new ≡ append_known (O.taken sink.old) (take count bytes.now))) }
-    ensures cause { HasCause (O.faults sink.old) (O.faults sink.new) result }
+/// Ends a run that stops so: writes what is gathered, and tells the status.
+fn end<O: Sink>(stop: Stop, has_refused: bool, replies: &mut Replies, sink: &mut O) -> Status
+    ensures ended { Ends stop has_refused result replies.old (O.taken sink.old) (O.taken sink.new) }
+    ensures read_fault { result ≡ Status.ReadFault → stop ≡ Stop.ReadFault }
+    ensures write_fault { result ≡ Status.WriteFault → Rose (O.faults sink.old) (O.faults sink.new) }
+    ensures sink_faults { O.faults sink.old ≤ O.faults sink.new }
 {
-    let mut at = 0;
-    while at < bytes.len() {
-        at += sink.write(&bytes[at..])?;
+    match replies.write_out(sink) {
+        Ok(()) => stop_status(stop, has_refused),
+        Err(Failed) => Status::WriteFault,
     }
-    Ok(())
 }
 
-/// The status of a run that ends because no statement comes.
+/// The status of a run that stops so, where all that was gathered is written.
 fn stop_status(stop: Stop, has_refused: bool) -> Status
     ensures { result ≡ stop_status stop has_refused }
 {
@@ -128,15 +113,5 @@ fn stop_status(stop: Stop, has_refused: bool) -> Status
         Stop::ReadFault => Status::ReadFault,
         Stop::InputTooLong => Status::InputTooLong,
         Stop::NoMemory => Status::NoMemory,
-    }
-}
-
-/// The status of a run that ends because a statement was not answered.
-fn fault_status(fault: ProcessFault) -> Status
-    ensures { result ≡ fault_status fault }
-{
-    match fault {
-        ProcessFault::NoMemory => Status::NoMemory,
-        ProcessFault::WriteFault => Status::WriteFault,
     }
 }

@@ -1,11 +1,13 @@
-ghost use Rattle.std.specs.Prelude.{◌≡◌, map, Some, IfSome, IsTrue, string_bytes};
+ghost use Rattle.std.specs.Prelude.{◌≡◌, map, None, Some, IfSome, IsTrue, string_bytes};
 ghost use Rattle.racf_run.specs.Racf.{script_files};
 ghost use Rattle.racf_run.specs.Script.{script_output, is_whole};
 
 use crate::scripts::script;
 use crate::status::Status;
 use crate::top::racf;
-use racf_outside::{Failing, FileShelf, MemoryShelf, MemorySink, MemorySource, Shelf};
+use racf_outside::{
+    Failed, Failing, FileShelf, MemoryShelf, MemorySink, MemorySource, Shelf, Source,
+};
 use std::alloc::{AllocError, Global};
 use std::test::Fail;
 
@@ -535,6 +537,9 @@ fn refuses_long_lines(rt: HostRuntime) -> Result<(), Fail> {
 
 const THREE: &[u8] = b"VERIFY A IBMUSER\nADDUSER JOE\nVERIFY B IBMUSER";
 
+/// The same, where the last line has its line feed.
+const FED: &[u8] = b"VERIFY A IBMUSER\nADDUSER JOE\nVERIFY B IBMUSER\n";
+
 const JOINED: &[u8] = b"VERIFY A IBMUSER\nADDUSER JOE -\nNAME('J')";
 
 #[test]
@@ -548,11 +553,53 @@ fn stops_in_mid_stream(rt: HostRuntime) -> Result<(), Fail> {
         (THREE, &[1], &[], "", Status::ReadFault),
         (THREE, &[2], &[], accepted, Status::ReadFault),
         (THREE, &[], &[1], "", Status::WriteFault),
-        (THREE, &[], &[3], accepted, Status::WriteFault),
+        (THREE, &[], &[2], accepted, Status::WriteFault),
+        // One call writes the replies to all lines that end in a block: a second one would fail.
+        (FED, &[], &[2], whole, Status::Done),
+        (FED, &[], &[1], "", Status::WriteFault),
         (JOINED, &[], &[], accepted, Status::Done),
         (JOINED, &[2], &[], verified, Status::ReadFault),
     ] {
         assert!(rt; ends(alloc, input, (reads, writes), output, status)?);
+    }
+    Ok(())
+}
+
+/// A source that gives no more than 17 bytes at a time, so that each read gives one line of those below.
+#[derive(Drop)]
+struct Typed {
+    /// What gives the bytes.
+    inner: MemorySource,
+}
+
+impl Source for Typed {
+    ghost left = { λ _. None };
+
+    ghost faults = { λ typed. ⟦<MemorySource as Source>⟧.faults typed.inner };
+
+    fn read(&mut self, into: &mut [u8]) -> Result<usize, Failed> {
+        if into.len() > 17 {
+            self.inner.read(&mut into[..17])
+        } else {
+            self.inner.read(into)
+        }
+    }
+}
+
+/// Three lines of 17 bytes.
+const TYPED: &[u8] = b"VERIFY A IBMUSER\nVERIFY B IBMUSER\nVERIFY C IBMUSER\n";
+
+#[test]
+fn replies_before_it_reads_again(rt: HostRuntime) -> Result<(), Fail> {
+    let alloc = rt.alloc();
+    // The write of this number fails, and the read behind it would: each line's reply comes before the next read.
+    for number in 1..4u64 {
+        let inner = MemorySource::new(Vec::from_slice(alloc, TYPED)?, numbers(alloc, number + 1)?);
+        let mut sink = MemorySink::new(alloc, numbers(alloc, number)?);
+        let (status, source) = script(alloc, Typed { inner }, &mut sink);
+        assert_eq!(rt; status, Status::WriteFault);
+        assert_eq!(rt; source.inner.faults(), 0);
+        assert_eq!(rt; sink.bytes().len() as u64, 13 * (number - 1));
     }
     Ok(())
 }

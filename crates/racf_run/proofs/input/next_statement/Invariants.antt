@@ -1,13 +1,16 @@
 use Rattle.std.proofs.Common.{◌≤◌, ◌-◌, ◌^◌}
+use Rattle.racf_run.specs.Gathering.{Settles}
 use Rattle.racf_run.proofs.StatementLaws.{Taken}
 use Rattle.racf_run.proofs.input.next_statement.Given as goal
 
-abbrev pub invariant-loop-item : goal.invariant-loop-item
-invariant-loop-item g l =
+abbrev pub invariant-line : goal.invariant-line
+invariant-line g l =
     record {
       taken : Taken l.begun l.fn.lines l.lines;
       faults : l.fn.lines.faults ≤ l.lines.faults;
+      settled : Settles l.fn.replies l.replies (g.O.Sink.taken l.fn.sink) (g.O.Sink.taken l.sink);
+      sink_faults : g.O.Sink.faults l.fn.sink ≤ g.O.Sink.faults l.sink;
     }
 
-abbrev pub decreases-loop-item : goal.decreases-loop-item
-decreases-loop-item g l = 2 ^ 28 - l.lines.passed
+abbrev pub decreases-line : goal.decreases-line
+decreases-line g l = 2 ^ 28 - l.lines.passed

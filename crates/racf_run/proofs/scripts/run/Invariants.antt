@@ -3,14 +3,14 @@ use Rattle.racf_run.specs.Script.{stream}
 use Rattle.racf_run.proofs.Walk.{Walk}
 use Rattle.racf_run.proofs.scripts.run.Given as goal
 
-abbrev pub invariant-loop-item : goal.invariant-loop-item
-invariant-loop-item g l =
+abbrev pub invariant-item : goal.invariant-item
+invariant-item g l =
     record {
-      walk : Walk stream l.fn.lines.left l.lines l.stream (g.O.Sink.taken l.fn.sink) (g.O.Sink.taken l.sink);
+      walk : Walk stream l.fn.lines.left l.lines l.stream (g.O.Sink.taken l.fn.sink) (g.O.Sink.taken l.sink) l.replies;
       most : l.lines.passed ≤ 2 ^ 28;
       source_faults : l.fn.lines.faults ≤ l.lines.faults;
       sink_faults : g.O.Sink.faults l.fn.sink ≤ g.O.Sink.faults l.sink;
     }
 
-abbrev pub decreases-loop-item : goal.decreases-loop-item
-decreases-loop-item g l = 2 ^ 28 - l.lines.passed
+abbrev pub decreases-item : goal.decreases-item
+decreases-item g l = 2 ^ 28 - l.lines.passed

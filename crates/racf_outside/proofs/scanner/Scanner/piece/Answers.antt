@@ -1,6 +1,8 @@
 use Rattle.std.proofs.Common.{◌+◌, ◌-◌, ◌<◌, ◌≡◌, ◌∙◌, length, take, arith, ap, sym, refl, ◌^◌, ◌++◌}
 use Rattle.std.specs.Prelude.{slice_index}
 use Rattle.std.proofs.lemmas.List.{length-take, length-take-le}
+use Rattle.racf_outside.specs.Reader.{has_feed}
+use Rattle.racf_outside.proofs.HeldLaws.{none_in, empty_is_nil, held_behind, block_kept, ready_kept}
 use Rattle.racf_outside.proofs.ScanLaws.{some_ready, takes_too_far, takes_to_feed, takes_window}
 use Rattle.racf_outside.proofs.scanner.Scanner.piece.Goals as goal
 
@@ -52,3 +54,39 @@ returns-in-None-clause-taken g c =
         size = c.append-in-None.ensures.size;
       },
     )
+
+-- nothing was at hand
+pub returns-in-Err-clause-held : goal.returns-in-Err-clause-held
+returns-in-Err-clause-held g c = rw (← c.self.view_is) (λ h. absurd (none_in c.self.inside.blocks.ready c.in-Err.ensures.nothing_ready.0 h))
+
+pub returns-then-is_empty-clause-held : goal.returns-then-is_empty-clause-held
+returns-then-is_empty-clause-held g c =
+    rw (← c.self.view_is) (λ h.
+    absurd (none_in c.fill.new.self.ready (sym c.ready-ready.ensures ∙ empty_is_nil c.ready-ready.result.now c.is_empty.result c.is_empty.ensures c.if-is_empty.true) (ready_kept c.self.inside.blocks c.fill.new.self c.fill.ensures.at_hand h)))
+
+-- what was at hand was passed
+pub returns-then-self-eq-LIMIT-clause-held : goal.returns-then-self-eq-LIMIT-clause-held
+returns-then-self-eq-LIMIT-clause-held g c =
+    rw (← c.self.view_is) (λ h.
+    let kept = block_kept c.self.inside.blocks c.fill.new.self c.pass.new.self c.fill.ensures.at_hand h c.pass.ensures.left c.pass.ensures.faults in
+    record { left = kept.0; faults = kept.1 })
+
+pub returns-in-Some-clause-held : goal.returns-in-Some-clause-held
+returns-in-Some-clause-held g c =
+    rw (← c.self.view_is) (λ h.
+    let kept = block_kept c.self.inside.blocks c.fill.new.self c.pass-in-Some.new.self c.fill.ensures.at_hand h c.pass-in-Some.ensures.left c.pass-in-Some.ensures.faults in
+    record { left = kept.0; faults = kept.1 })
+
+pub returns-in-None-clause-held : goal.returns-in-None-clause-held
+returns-in-None-clause-held g c =
+    rw (← c.self.view_is) (λ h.
+    let kept = block_kept c.self.inside.blocks c.fill.new.self c.pass-in-None.new.self c.fill.ensures.at_hand h c.pass-in-None.ensures.left c.pass-in-None.ensures.faults in
+    record { left = kept.0; faults = kept.1 })
+
+-- the line's end is behind the window
+pub returns-in-None-clause-holds : goal.returns-in-None-clause-holds
+returns-in-None-clause-holds g c =
+    let window : c.front-window.result.now ≡ take (2 ^ 28 - c.self.inside.passed) c.fill.new.self.ready = c.front-window.ensures ∙ ap (take (2 ^ 28 - c.self.inside.passed)) c.ready-ready.ensures in
+    rw (← c.self.view_is) (λ more h.
+    ap has_feed c.pass-in-None.ensures.ready
+    ∙ held_behind (2 ^ 28 - c.self.inside.passed) c.front-window.result.now c.fill.new.self.ready window c.in-None.ensures.none (ready_kept c.self.inside.blocks c.fill.new.self c.fill.ensures.at_hand h))

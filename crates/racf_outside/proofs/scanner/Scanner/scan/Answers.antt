@@ -1,5 +1,5 @@
-use Rattle.std.proofs.Common.{◌++◌}
-use Rattle.racf_outside.proofs.ScanLaws.{IsScanned-more, Finds-feed, Finds-last}
+use Rattle.std.proofs.Common.{◌++◌, ◌∙◌, Ok, ap}
+use Rattle.racf_outside.proofs.ScanLaws.{IsScanned-more, Finds-feed, Finds-last, scanned_held}
 use Rattle.racf_outside.proofs.scanner.Scanner.scan.Goals as goal
 
 -- the line goes on with the piece
@@ -7,7 +7,7 @@ pub line-preserved : goal.line-preserved
 line-preserved g c =
     let t = rw c.in-Ok-More.field-0-is at c.in-Ok-More.ensures.taken in
     let s = c.line.invariant in
-    (s.0 ++ t.0, IsScanned-more s.0 t.0 c.args.self.now c.line.self c.piece.new.self c.line.line c.piece.new.line s.1 t.1 c.in-Ok-More.ensures.faults c.in-Ok-More.ensures.within)
+    (s.0 ++ t.0, IsScanned-more s.0 t.0 c.args.self.now c.line.self c.piece.new.self c.line.line c.piece.new.line s.1 t.1 c.in-Ok-More.ensures.faults c.in-Ok-More.ensures.within c.piece.ensures.held (c.piece.ensures.holds (c.in-Ok-More.is ∙ ap Ok c.in-Ok-More.field-0-is)))
 
 -- the line ends with the piece
 pub returns-in-Ok-Feed-clause-found : goal.returns-in-Ok-Feed-clause-found

@@ -1,6 +1,6 @@
 use Rattle.std.proofs.Common.{ℕ, arith, length-take, length-drop}
 use Rattle.racf_run.proofs.Pieces.{written_more}
-use Rattle.racf_run.proofs.scripts.write_all.Goals as goal
+use Rattle.racf_run.proofs.replies.write_all.Goals as goal
 
 pub loop-at-preserved : goal.loop-at-preserved
 loop-at-preserved g c =

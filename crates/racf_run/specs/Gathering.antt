@@ -1,0 +1,14 @@
+-- Replies are gathered before they are written.
+use Rattle.std.specs.Prelude.{◌≡◌, ◌<◌, ◌⊎◌, ℕ, Option, List, [], length, take}
+use Rattle.std.specs.Io.KnownBytes.{append_known}
+
+-- What was gathered is gathered still, or all of it was written.
+abbrev pub Settles : List ℕ → List ℕ → Option (List ℕ) → Option (List ℕ) → Type 0
+Settles gathered rest before now =
+    ((rest ≡ gathered) × (now ≡ before)) ⊎ ((rest ≡ []) × (now ≡ append_known before gathered))
+
+-- A write failed behind a front of what was gathered.
+pub record IsCutShort (gathered : List ℕ) (before now : Option (List ℕ)) : Type 0 where
+  pub count : ℕ
+  pub short : count < length gathered
+  pub front : now ≡ append_known before (take count gathered)

@@ -1,0 +1,85 @@
+//! The replies that are gathered before they are written.
+
+ghost use Rattle.std.specs.Prelude.{◌≡◌, [], IfOk, OnOk, OnErr};
+ghost use Rattle.std.specs.Io.KnownBytes.{append_known};
+ghost use Rattle.racf_outside.specs.Causes.{HasCause};
+ghost use Rattle.racf_run.specs.Gathering.{IsCutShort};
+ghost use Rattle.racf_run.specs.Stream.{DoesAs, answer};
+
+use crate::statement::Statement;
+use crate::stream::Stream;
+use racf_outside::{Failed, Sink};
+use std::alloc::{AllocError, Global};
+use std::marker::Model;
+
+/// Replies that wait to be written. They are those to the lines that end in one block of the input, at most one for two
+/// of its bytes.
+#[derive(Drop)]
+pub(crate) struct Replies {
+    /// The text that waits.
+    text: Vec<u8>,
+    /// Room for the newest reply, until it stands whole.
+    newest: Vec<u8>,
+}
+
+impl Model for Replies {
+    ghost use Rattle.std.specs.Prelude.{ℕ, List};
+
+    ghost Value = { List ℕ };
+
+    ghost view = { λ a. a.text.items };
+}
+
+impl Replies {
+    /// None.
+    pub(crate) fn new(alloc: Global) -> Replies
+        ensures { result ≡ [] }
+    {
+        Replies {
+            text: Vec::new(alloc),
+            newest: Vec::new(alloc),
+        }
+    }
+
+    /// Processes a statement, and gathers its text. Where memory is short, nothing more is gathered.
+    pub(crate) fn gather(
+        &mut self,
+        alloc: Global,
+        stream: &mut Stream,
+        item: &Statement,
+    ) -> Result<(), AllocError>
+        ensures ok { OnOk result (DoesAs (answer item.now stream.old) stream.new self.old self.new) }
+        ensures err { OnErr result (self.new ≡ self.old) }
+    {
+        self.newest.clear();
+        stream.process(alloc, item, &mut self.newest)?;
+        self.text.extend_from_slice(self.newest.as_slice())?;
+        Ok(())
+    }
+
+    /// Writes what is gathered. Where that fails, it stays.
+    pub(crate) fn write_out<O: Sink>(&mut self, sink: &mut O) -> Result<(), Failed>
+        ensures none { OnOk result (self.new ≡ []) }
+        ensures all { OnOk result (O.taken sink.new ≡ append_known (O.taken sink.old) self.old) }
+        ensures kept { OnErr result (self.new ≡ self.old) }
+        ensures front { OnErr result (IsCutShort self.old (O.taken sink.old) (O.taken sink.new)) }
+        ensures cause { HasCause (O.faults sink.old) (O.faults sink.new) result }
+    {
+        write_all(sink, self.text.as_slice())?;
+        self.text.clear();
+        Ok(())
+    }
+}
+
+/// Writes all of the bytes, in as many calls as the sink needs.
+fn write_all<O: Sink>(sink: &mut O, bytes: &[u8]) -> Result<(), Failed>
+    ensures all { OnOk result (O.taken sink.new ≡ append_known (O.taken sink.old) bytes.now) }
+    ensures front { OnErr result (IsCutShort bytes.now (O.taken sink.old) (O.taken sink.new)) }
+    ensures cause { HasCause (O.faults sink.old) (O.faults sink.new) result }
+{
+    let mut at = 0;
+    while at < bytes.len() {
+        at += sink.write(&bytes[at..])?;
+    }
+    Ok(())
+}

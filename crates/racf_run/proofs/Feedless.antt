@@ -100,10 +100,6 @@ pub always : {X Q : Type 0} (o : Option X) → Q → IfSome o (λ x. Q)
 always None h = tt
 always (Some x) h = h
 
-pub if-some : {X : Type 0} (P Q : X → Type 0) → ((x : X) → P x → Q x) → (given : Option X) → IfSome given P → IfSome given Q
-if-some P Q f None h = h
-if-some P Q f (Some x) h = f x h
-
 pub if-map : {X Y : Type 0} (Q : Y → Type 0) (f : X → Y) (o : Option X) → IfSome o (λ x. Q (f x)) → IfSome (option_map f o) Q
 if-map Q f None h = h
 if-map Q f (Some x) h = h

@@ -3,6 +3,7 @@ use Rattle.std.proofs.Common.{◌≡◌, ℕ, Bool, true, false, cond, not, ◌&
 use Rattle.std.specs.Prelude.{IfSome, find, option_map, option_and_then, decimal}
 use Rattle.std.specs.List.{AllByRecursion}
 use Rattle.std.specs.Result.{result_ok}
+use Rattle.std.proofs.lemmas.Option.{IfSome_then}
 use Rattle.access_levels.specs.Spelling.{id_of}
 use Rattle.access_levels.specs.declared.entries.Who.{Who}
 use Rattle.access_levels.specs.declared.entries.Who.TheVariants.{Star, Named}
@@ -92,7 +93,7 @@ use Rattle.command_conflicts.specs.Conflicts.{
 }
 use Rattle.lawful_commands.proofs.FieldFacts.{each-all}
 use Rattle.racf_run.specs.Replies.{kind_words, conflict_words}
-use Rattle.racf_run.proofs.Feedless.{IsFeedless, joined, decimal-feedless, read_id-feedless, id-feedless, group-feedless, data_set-feedless, class_profile-feedless, any_profile-feedless, always, if-some, if-map, if-then, if-found, if-given, if-ok}
+use Rattle.racf_run.proofs.Feedless.{IsFeedless, joined, decimal-feedless, read_id-feedless, id-feedless, group-feedless, data_set-feedless, class_profile-feedless, any_profile-feedless, always, if-map, if-then, if-found, if-given, if-ok}
 use Rattle.racf_run.proofs.FeedlessRows.{IsFeedlessUser, IsFeedlessGroup, IsFeedlessProfile, IsFeedlessWho, AreFeedlessProfiles, AreFeedless, ids-feedless, groups-feedless, whos-feedless, current-feedless, owner-feedless}
 
 -- a test that tells only conflicts without a line feed
@@ -185,7 +186,7 @@ subgroup-test : (id : List ℕ) (rows : Rows) → AreFeedless rows → IsFeedles
 unfolding has_subgroup
 subgroup-test id rows are =
     mapped IsFeedless (λ subgroup. InUse (Subgroup subgroup)) (λ name is. is) _
-    (if-map IsFeedless (λ (group : Group). group.id) (first_subgroup rows.groups id) (if-some IsFeedlessGroup (λ group. IsFeedless group.id) (λ group h. h.id) (first_subgroup rows.groups id) (if-found IsFeedlessGroup _ rows.groups are.groups)))
+    (if-map IsFeedless (λ (group : Group). group.id) (first_subgroup rows.groups id) (IfSome_then (first_subgroup rows.groups id) {P = IsFeedlessGroup} (if-found IsFeedlessGroup _ rows.groups are.groups) (λ group h. h.id)))
 
 has_connected-test : (id : List ℕ) (rows : Rows) → AreFeedless rows → IsFeedlessTest (has_connected id rows)
 unfolding has_connected
@@ -199,7 +200,7 @@ has_profile-test id rows are =
     let found = if-then AreFeedlessProfiles IsFeedlessProfile (λ row. find (is_under id) row.profiles) (λ row h. if-found IsFeedlessProfile (is_under id) row.profiles h) class (if-found AreFeedlessProfiles (is_class (codes "DATASET")) rows.classes are.classes) in
     let profile = option_and_then (λ (row : ClassRow). find (is_under id) row.profiles) class in
     mapped (λ (name : Spelled). IsFeedless name.text) (λ name. InUse (ProfileOf name)) (λ name h. h) (first_under id rows.classes)
-    (if-map (λ (name : Spelled). IsFeedless name.text) (λ (profile : Profile). profile.name) profile (if-some IsFeedlessProfile (λ profile. IsFeedless profile.name.text) (λ profile h. h.name) profile found))
+    (if-map (λ (name : Spelled). IsFeedless name.text) (λ (profile : Profile). profile.name) profile (IfSome_then profile {P = IsFeedlessProfile} found (λ profile h. h.name)))
 
 cycle-test : (group : List ℕ) (superior : Option (List ℕ)) (rows : Rows) → IsFeedless group → IsFeedlessTest (cycle group superior rows)
 unfolding cycle

@@ -11,7 +11,8 @@ use Rattle.acee.specs.declared.request.VerifyFault.TheVariants as verify
 use Rattle.command_words.specs.LineWords.{LineWord, UnreadLine, line_at}
 use Rattle.request_files.specs.declared.line.LineRefusal.{LineRefusal}
 use Rattle.request_files.specs.declared.line.LineRefusal.TheVariants.{BadLine, NoAcee, AceeExists, AceesFull, BadName, LineTooLong}
-use Rattle.request_files.specs.Spellings.{folded, id_word, name_word, level_word}
+use Rattle.command_values.specs.NamedWords.{id_named}
+use Rattle.request_files.specs.Spellings.{folded, name_word, level_word}
 use Rattle.request_files.specs.Grammar.{
   Access,
   Asked,
@@ -86,20 +87,20 @@ all-said P (word ∷ words) said h = tt
 abbrev IsFeedlessSaid : List ℕ × UnreadLine → Type 0
 IsFeedlessSaid said = IsFeedless said.0
 
-next-id : (unread : UnreadLine) → IfOk (next id_word unread) IsFeedlessSaid
+next-id : (unread : UnreadLine) → IfOk (next id_named unread) IsFeedlessSaid
 unfolding next
 next-id unread = by unread.words
   where
-    by : (words : List LineWord) → IfOk (next_of id_word words unread.end) IsFeedlessSaid
+    by : (words : List LineWord) → IfOk (next_of id_named words unread.end) IsFeedlessSaid
     by [] = tt
     by (word ∷ words) =
-        bound IsFeedless IsFeedlessSaid (fits (id_word word.text) word.place) (λ said. Ok (said, record { words = words; end = unread.end }))
-        (fitted (id_word word.text) word.place (if-ok IsFeedless (id_of (folded word.text)) (λ id h. read_id-feedless (folded word.text) id h))) (λ said h. h)
+        bound IsFeedless IsFeedlessSaid (fits (id_named word.text) word.place) (λ said. Ok (said, record { words = words; end = unread.end }))
+        (fitted (id_named word.text) word.place (if-ok IsFeedless (id_of (folded word.text)) (λ id h. read_id-feedless (folded word.text) id h))) (λ said h. h)
 
 deleted-feedless : (unread : UnreadLine) → IfOk (deleted unread) IsFeedless
 unfolding deleted
 deleted-feedless unread =
-    bound IsFeedlessSaid IsFeedless (next id_word unread) (λ acee. ended acee.1.words acee.0) (next-id unread) (λ acee h. all-said IsFeedless acee.1.words acee.0 h)
+    bound IsFeedlessSaid IsFeedless (next id_named unread) (λ acee. ended acee.1.words acee.0) (next-id unread) (λ acee h. all-said IsFeedless acee.1.words acee.0 h)
 
 abbrev IsFeedlessAsked : Asked → Type 0
 IsFeedlessAsked asked = IsFeedless asked.acee
@@ -107,8 +108,8 @@ IsFeedlessAsked asked = IsFeedless asked.acee
 asked-feedless : (unread : UnreadLine) → IfOk (asked_by unread) IsFeedlessAsked
 unfolding asked_by
 asked-feedless unread =
-    bound IsFeedlessSaid IsFeedlessAsked (next id_word unread) _ (next-id unread)
-    (λ acee h. bound (λ class. Unit {0}) IsFeedlessAsked (next id_word acee.1) _ (any (next id_word acee.1))
+    bound IsFeedlessSaid IsFeedlessAsked (next id_named unread) _ (next-id unread)
+    (λ acee h. bound (λ class. Unit {0}) IsFeedlessAsked (next id_named acee.1) _ (any (next id_named acee.1))
     (λ class _. bound (λ name. Unit {0}) IsFeedlessAsked (next (name_word (kind_in class.0)) class.1) _ (any (next (name_word (kind_in class.0)) class.1))
     (λ name _. bound (λ level. Unit {0}) IsFeedlessAsked (next level_word name.1) _ (any (next level_word name.1))
     (λ level _. all-said IsFeedlessAsked level.1.words _ h))))
@@ -116,8 +117,8 @@ asked-feedless unread =
 verified-feedless : (unread : UnreadLine) → IfOk (verified_by unread) (λ verified. IsFeedlessLine (verify_line verified))
 unfolding verified_by
 verified-feedless unread =
-    bound IsFeedlessSaid (λ verified. IsFeedlessLine (verify_line verified)) (next id_word unread) _ (next-id unread)
-    (λ acee h. bound (λ user. Unit {0}) (λ verified. IsFeedlessLine (verify_line verified)) (next id_word acee.1) _ (any (next id_word acee.1))
+    bound IsFeedlessSaid (λ verified. IsFeedlessLine (verify_line verified)) (next id_named unread) _ (next-id unread)
+    (λ acee h. bound (λ user. Unit {0}) (λ verified. IsFeedlessLine (verify_line verified)) (next id_named acee.1) _ (any (next id_named acee.1))
     (λ user _. bound (λ request. Unit {0}) (λ verified. IsFeedlessLine (verify_line verified)) (with_words (user_alone user.0) user.1.words) _ (any (with_words (user_alone user.0) user.1.words))
     (λ request _. h)))
 

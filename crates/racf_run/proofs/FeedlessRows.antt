@@ -3,6 +3,7 @@ use Rattle.std.proofs.Common.{ℕ, Bool, true, false, cond, not, List, [], ◌�
 use Rattle.std.specs.Prelude.{IfSome, find, filter, fold}
 use Rattle.std.specs.List.{AllByRecursion}
 use Rattle.std.specs.Option.{option_map_or}
+use Rattle.std.proofs.lemmas.Option.{IfSome_then}
 use Rattle.access_levels.specs.declared.entries.Who.{Who}
 use Rattle.access_levels.specs.declared.entries.Who.TheVariants.{Star, Named}
 use Rattle.access_levels.specs.declared.entries.Entry.{Entry}
@@ -10,7 +11,6 @@ use Rattle.access_levels.specs.declared.entries.CondEntry.{CondEntry}
 use Rattle.access_levels.specs.declared.entries.Condition.{Condition}
 use Rattle.access_lists.specs.Lists.{is_for, is_for_under, entry_put}
 use Rattle.generic_names.specs.Spelled.{Spelled}
-use Rattle.generic_names.specs.Before.{before}
 use Rattle.racf_profiles.specs.declared.users.User.{User}
 use Rattle.racf_profiles.specs.declared.users.Connect.{Connect as Connection}
 use Rattle.racf_profiles.specs.declared.groups.Group.{Group}
@@ -20,6 +20,7 @@ use Rattle.racf_profiles.specs.declared.rows.Rows.{Rows}
 use Rattle.racf_profiles.specs.Lookup.{is_user, is_group, is_class, is_profile, class_of, profile_of}
 use Rattle.racf_profiles.specs.Names.{is_to}
 use Rattle.racf_profiles.specs.Edits.{put_profile, at_class, with_profile, without_profile}
+use Rattle.racf_profiles.proofs.OrderedProfiles.{all-put_profile}
 use Rattle.row_tables.specs.Tables.{first_rows}
 use Rattle.command_values.specs.declared.values.Reset.{Reset}
 use Rattle.command_values.specs.declared.values.Reset.TheVariants as reset
@@ -35,7 +36,8 @@ use Rattle.command_effects.specs.PermitEffects.{standard_reset, conditional_rese
 use Rattle.command_effects.specs.Effects.{step}
 use Rattle.lawful_commands.proofs.RowLists.{all-push, all-drop, all-filter, all-at, all-put}
 use Rattle.lawful_commands.proofs.FieldFacts.{each-all}
-use Rattle.racf_run.proofs.Feedless.{IsFeedless, id-feedless, group-feedless, data_set-feedless, class_profile-feedless, if-some, if-given, if-found, if-then}
+use Rattle.lawful_commands.proofs.ProfileRows.{all-at_class}
+use Rattle.racf_run.proofs.Feedless.{IsFeedless, id-feedless, group-feedless, data_set-feedless, class_profile-feedless, if-given, if-found, if-then}
 
 -- ---- what may be printed of each row
 pub record IsFeedlessUser (user : User) : Type 0 where
@@ -72,10 +74,10 @@ first-feedless = record {
 
 -- ---- the fields of a command that a text spells
 pub ids-feedless : (given : Option (List ℕ)) → IfSome given IsId → IfSome given IsFeedless
-ids-feedless = if-some IsId IsFeedless id-feedless
+ids-feedless given h = IfSome_then given h id-feedless
 
 pub groups-feedless : (given : Option (List ℕ)) → IfSome given IsGroupName → IfSome given IsFeedless
-groups-feedless = if-some IsGroupName IsFeedless group-feedless
+groups-feedless given h = IfSome_then given h group-feedless
 
 one-feedless : (who : Who) → IsNamedOne who → IsFeedlessWho who
 one-feedless Star h = tt
@@ -93,38 +95,19 @@ profile_of-feedless class name rows are =
     if-then AreFeedlessProfiles IsFeedlessProfile (λ row. find (is_profile name) row.profiles) (λ row h. if-found IsFeedlessProfile (is_profile name) row.profiles h) (class_of class rows)
     (if-found AreFeedlessProfiles (is_class class) rows.classes are.classes)
 
-put-feedless : (profile : Profile) (profiles : List Profile) → IsFeedlessProfile profile → AllByRecursion IsFeedlessProfile profiles → AllByRecursion IsFeedlessProfile (put_profile profile profiles)
-put-feedless profile [] p h = (p, tt)
-put-feedless profile (other ∷ profiles) p h = by (is_profile profile.name other) (before profile.name other.name) (put-feedless profile profiles p h.1)
-  where
-    by : (b d : Bool) → AllByRecursion IsFeedlessProfile (put_profile profile profiles)
-        → AllByRecursion IsFeedlessProfile (cond b (profile ∷ profiles) (cond d (profile ∷ other ∷ profiles) (other ∷ put_profile profile profiles)))
-    by true d rest = (p, h.1)
-    by false true rest = (p, h)
-    by false false rest = (h.0, rest)
-
-classes-feedless : (name : List ℕ) (change : ClassRow → ClassRow) → ((class : ClassRow) → AreFeedlessProfiles class → AreFeedlessProfiles (change class))
-    → (classes : List ClassRow) → AllByRecursion AreFeedlessProfiles classes → AllByRecursion AreFeedlessProfiles (at_class name change classes)
-classes-feedless name change keeps [] h = tt
-classes-feedless name change keeps (class ∷ classes) h = by (is_class name class) (classes-feedless name change keeps classes h.1)
-  where
-    by : (b : Bool) → AllByRecursion AreFeedlessProfiles (at_class name change classes) → AllByRecursion AreFeedlessProfiles (cond b (change class ∷ classes) (class ∷ at_class name change classes))
-    by true rest = (keeps class h.0, h.1)
-    by false rest = (h.0, rest)
-
 module _ (class : List ℕ) (rows : Rows) (are : AreFeedless rows) where
   put-rows : (profile : Profile) → IsFeedlessProfile profile → AreFeedless (profile_put class profile rows)
   put-rows profile p = record {
     users = are.users;
     groups = are.groups;
-    classes = classes-feedless class (with_profile profile) (λ row h. put-feedless profile row.profiles p h) rows.classes are.classes;
+    classes = all-at_class AreFeedlessProfiles class (with_profile profile) rows.classes (λ row found h. all-put_profile IsFeedlessProfile profile row.profiles p h) are.classes;
   }
 
   dropped-rows : (name : Spelled) → AreFeedless (profile_dropped class name rows)
   dropped-rows name = record {
     users = are.users;
     groups = are.groups;
-    classes = classes-feedless class (without_profile name) (λ row h. all-drop IsFeedlessProfile (is_profile name) row.profiles h) rows.classes are.classes;
+    classes = all-at_class AreFeedlessProfiles class (without_profile name) rows.classes (λ row found h. all-drop IsFeedlessProfile (is_profile name) row.profiles h) are.classes;
   }
 
   changed-rows : (name : Spelled) (change : Profile → Profile) → ((old : Profile) → IsFeedlessProfile old → IsFeedlessProfile (change old)) → AreFeedless (profile_changed class name change rows)

@@ -604,7 +604,7 @@ fn holds_256_acees(rt: HostRuntime) -> Result<(), Fail> {
 }
 
 #[test]
-fn gives_up_at_any_growth(rt: HostRuntime) {
+fn gives_up_wherever_memory_is_refused(rt: HostRuntime) {
     let Ok((status, written)) = worked(rt.alloc(), FIRST_STREAM.as_bytes(), &[], &[]) else {
         return;
     };

@@ -7,8 +7,8 @@
 //! and [`Pages::iter`] gives the items in order. Items are held as `Arc`s: who has one already hands it in, and
 //! `shared_at` gives it out again.
 //!
-//! `sorted_rows` and the shared index of `profile_index` stand on this crate, and the product on neither yet. They are
-//! meant for `raclist_image`, whose images are copies of all rows today.
+//! `sorted_rows` and the shared index of `profile_index` stand on this crate; the images of `raclist_image` keep users and
+//! groups in the one, by `defined_rows`, and profiles in the other, by `class_profiles`.
 //!
 //! ```
 //! let list = Pages::of(alloc, vec![in alloc; "ANN", "PAY"]?)?;

@@ -121,7 +121,8 @@ fn finds_the_first(rt: HostRuntime) -> Result<(), Fail> {
     let held = Arc::new(alloc, 40)?;
     let list = Pages::of_shared(alloc, &[Arc::new(alloc, 20)?, Arc::try_clone(&held)?])?;
     assert_eq!(rt; list.len(), 2);
-    assert_eq!(rt; Arc::strong_count(list.shared_at(1)), 2);
+    // Its holder, the list, and each of the two pages of which it is the last item.
+    assert_eq!(rt; Arc::strong_count(list.shared_at(1)), 4);
     for (bound, place) in [(0, 0), (20, 0), (21, 1), (40, 1), (41, 2)] {
         assert_eq!(rt; list.first(&AtLeast(bound)), place, "{bound}");
     }

@@ -3,3 +3,5 @@ pub mod Bits
 pub mod Missing
 pub mod Numbered
 pub mod SameWords
+pub mod SpelledIds
+pub mod Options

@@ -11,6 +11,7 @@ use Rattle.access_levels.specs.declared.entries.Condition.{Condition}
 use Rattle.access_lists.specs.declared.best.GroupEntry.{GroupEntry}
 use Rattle.access_lists.specs.Lists.{is_for, is_under, is_for_under}
 use Rattle.access_levels.specs.Entries.{is_same_who}
+use Rattle.access_levels.proofs.Options.{none_from_is_some}
 use Rattle.access_lists.specs.Answers.{user_entry, group_entry, star_entry, found_of, who_counts, unconditional, entries_under, answered_when}
 use Rattle.access_lists.proofs.PutLaws.{any_at_position, new_without_position}
 
@@ -40,12 +41,8 @@ any_entry port who = record { condition = port; who = who; level = NoAccess }
 found_at : (port : Condition) (who : Who) (list : List CondEntry) (k : ℕ) → position (is_for_under port who) list ≡ Some k → is_some (find (is_for who) (entries_under port list)) ≡ true
 found_at port who list k at = is_found_under port who list ∙ any_at_position (is_for_under port who) list k (any_entry port who) at
 
-is_none : {X : Type 0} (o : Option X) → is_some o ≡ false → o ≡ None
-is_none None h = refl
-is_none (Some x) h = cc
-
 not_found : (port : Condition) (who : Who) (list : List CondEntry) → position (is_for_under port who) list ≡ None → find (is_for who) (entries_under port list) ≡ None
-not_found port who list none = is_none (find (is_for who) (entries_under port list)) (is_found_under port who list ∙ (new_without_position (is_for_under port who) list (any_entry port who) none).any)
+not_found port who list none = none_from_is_some (find (is_for who) (entries_under port list)) (is_found_under port who list ∙ (new_without_position (is_for_under port who) list (any_entry port who) none).any)
 
 -- The place of the entry of whom counts.
 abbrev place_of : Condition → List CondEntry → List ℕ → Option Entry → Option GroupEntry → Option Entry → Option ℕ

@@ -21,7 +21,8 @@ user_entry user list = find (is_for (Named user)) list
 abbrev pub star_entry : Bool → List Entry → Option Entry
 star_entry restricted list = if restricted then None else find (is_for Star) list
 
--- An entry for one of the groups, with the place of its group in their order; none where the entry isn't for any of them.
+-- An entry for one of the groups, with the place of its group in their order; none where the entry isn't for any of
+-- them.
 abbrev pub for_group : List (List ℕ) → Level → Who → Option GroupEntry
 for_group groups level Star = None
 for_group groups level (Named id) = option_map (λ place. record { group = id; level = level; place = place }) (position (bytes_eq id) groups)
@@ -81,7 +82,8 @@ who_counts user (found.Group group level) = Some (Named group)
 who_counts user (found.Star level) = Some Star
 who_counts user found.Nothing = None
 
--- The place in the conditional list of the entry under the port that counts by the same rule; none for a user without a port.
+-- The place in the conditional list of the entry under the port that counts by the same rule; none for a user without a
+-- port.
 abbrev pub answered_when : Option Condition → List ℕ → List (List ℕ) → Bool → List CondEntry → Option ℕ
 answered_when None user groups restricted list = None
 answered_when (Some port) user groups restricted list = option_and_then (λ who. position (is_for_under port who) list) (who_counts user (answered user groups restricted (entries_under port list)))

@@ -1,4 +1,5 @@
--- Access lists, and what PERMIT does to them. A list has at most one entry for `*` and for each ID, a conditional list one under each condition.
+-- Access lists, and what PERMIT does to them. A list has at most one entry for `*` and for each ID, a conditional list
+-- one under each condition.
 use Rattle.std.specs.Prelude.{ℕ, Bool, true, false, ◌&&◌, not, nat_le, if◌then◌else◌, List, [], ◌∷◌, length, bytes_eq}
 use Rattle.std.specs.List.{filter, list_any}
 use Rattle.access_levels.specs.declared.entries.Who.{Who}
@@ -40,7 +41,8 @@ withdrawn_when condition who list = filter (λ entry. not (is_for_under conditio
 abbrev pub is_absent : {X : Type 0} → (X → Bool) → List X → Bool
 is_absent replaces list = not (list_any replaces list)
 
--- A list has at most 1,000 entries (this product's own limit): it is full for an entry that it would have to add to them.
+-- A list has at most 1,000 entries (this product's own limit): it is full for an entry that it would have to add to
+-- them.
 abbrev pub most_entries : ℕ
 most_entries = 1000
 

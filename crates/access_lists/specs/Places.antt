@@ -1,4 +1,5 @@
--- From which place on a group is looked for among the groups of a user. This is how the place is found, and says nothing of which place it is.
+-- From which place on a group is looked for among the groups of a user. This is how the place is found, and says
+-- nothing of which place it is.
 use Rattle.std.specs.Prelude.{◌≡◌, ◌≢◌, ℕ, ◌+◌, ◌*◌, ◌%◌, ◌<◌, ◌≤◌, List, [], length, get_or, fold}
 
 -- The slot of a group, one of 2,048, by its spelling.

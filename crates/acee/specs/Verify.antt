@@ -44,7 +44,8 @@ acee_for rows generation request user = record {
   generation = generation;
 }
 
--- The checks in their order: the user is there, he is connected to the group, he isn't revoked, and his connection isn't.
+-- The checks in their order: the user is there, he is connected to the group, he isn't revoked, and his connection
+-- isn't.
 abbrev pub checked_connection : User → Option Connection → Option VerifyFault
 checked_connection user None = Some NotConnected
 checked_connection user (Some connection) = if user.attributes.revoked then Some Revoked else (if connection.revoked then Some ConnectRevoked else None)

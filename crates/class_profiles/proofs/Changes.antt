@@ -14,9 +14,11 @@ use Rattle.racf_profiles.specs.Limits.{most_profiles, most_class_profiles, most_
 use Rattle.class_profiles.specs.Table.{CanPut}
 use Rattle.class_profiles.specs.Classes.{ClassWithRoom, ClassList, profile_in, IsRoomFor, CanPutIn}
 use Rattle.racf_profiles.specs.Counts.{profile_count, entry_count, entries_in}
+use Rattle.racf_profiles.proofs.EditLaws.{at_class-absent}
 use Rattle.class_profiles.specs.Summed.{rows_in}
 use Rattle.class_profiles.proofs.Counts.{sum-put, sum-drop, length-put, length-drop, sum-at_class, found-le}
-use Rattle.class_profiles.proofs.Places.{IsAt, spares, found-at, name-at, room-at, set-at, lawful-found, lawful-found_by, lawful-at_class, at_class-absent}
+use Rattle.racf_profiles.proofs.Places.{IsAt}
+use Rattle.class_profiles.proofs.Places.{of_name, spares, found-at, name-at, room-at, set-at, lawful-found, lawful-found_by, lawful-at_class}
 
 -- any weight of profiles that a put and a drop change by the profile's own
 module _ (m : List Profile → ℕ) (w : Profile → ℕ) (drops : (n : Spelled) (ps : List Profile) → m (drop_row (is_profile n) ps) + option_map_or w (find (is_profile n) ps) 0 ≡ m ps) where
@@ -54,7 +56,7 @@ pub entries-le : (name : List ℕ) (n : Spelled) (classes : List ClassRow) → o
 entries-le = part-le (sum_by entries_in) entries_in (λ n ps. sum-drop n entries_in ps)
 
 -- what a profile needs to be put is what its class's table asks
-pub can-put : (name : List ℕ) (items : List ClassWithRoom) (k : ℕ) (c : ClassWithRoom) (p : Profile) → IsAt name items k → slice_get items k ≡ Some c
+pub can-put : (name : List ℕ) (items : List ClassWithRoom) (k : ℕ) (c : ClassWithRoom) (p : Profile) → IsAt (of_name name) items k → slice_get items k ≡ Some c
     → CanPutIn (record { classes = rows_in items; spare = spares items }) name p → CanPut (record { kind = kind_in c.row.name; profiles = c.row.profiles; spare = c.spare }) p
 can-put name items k c p at got can =
     let found = found-at name items k c at got in
@@ -69,7 +71,7 @@ can-put name items k c p at got can =
     few (Some row) is holds = let same : row ≡ c.row = cc in subst (λ (r : ClassRow). length (put_profile p r.profiles) ≤ most_class_profiles) same holds
 
 -- a profile that can be put, and the class at the place
-module _ (not_both : NotBoth) (passed_on : PassedOn) (name : List ℕ) (items : List ClassWithRoom) (k : ℕ) (c : ClassWithRoom) (p : Profile) (at : IsAt name items k) (got : slice_get items k ≡ Some c)
+module _ (not_both : NotBoth) (passed_on : PassedOn) (name : List ℕ) (items : List ClassWithRoom) (k : ℕ) (c : ClassWithRoom) (p : Profile) (at : IsAt (of_name name) items k) (got : slice_get items k ≡ Some c)
     (lawful : AreClasses (rows_in items)) (can : CanPutIn (record { classes = rows_in items; spare = spares items }) name p) where
   found : find (is_class name) (rows_in items) ≡ Some c.row
   found = found-at name items k c at got
@@ -115,7 +117,7 @@ module _ (not_both : NotBoth) (passed_on : PassedOn) (name : List ℕ) (items : 
       put-few_entries = omega (arith, is_more, put-entries entries entries_part entries_counted entries_parted, can.few_entries)
 
 -- a profile that is taken out, and the class at the place
-module _ (name : List ℕ) (items : List ClassWithRoom) (k : ℕ) (c y : ClassWithRoom) (n : Spelled) (at : IsAt name items k) (got : slice_get items k ≡ Some c) (lawful : AreClasses (rows_in items))
+module _ (name : List ℕ) (items : List ClassWithRoom) (k : ℕ) (c y : ClassWithRoom) (n : Spelled) (at : IsAt (of_name name) items k) (got : slice_get items k ≡ Some c) (lawful : AreClasses (rows_in items))
     (row : y.row ≡ without_profile n c.row) (holds : AreProfiles (kind_in c.row.name) y.row.profiles) where
   pub drop-rows : rows_in (set items k y) ≡ at_class name (without_profile n) (rows_in items)
   drop-rows = set-at name (without_profile n) items k c y at got row
@@ -180,7 +182,7 @@ module _ (not_both : NotBoth) (passed_on : PassedOn) (name : List ℕ) (row : Cl
       )
 
 -- a change of a class that keeps its name and its profiles
-module _ (name : List ℕ) (items : List ClassWithRoom) (k : ℕ) (c y : ClassWithRoom) (change : ClassRow → ClassRow) (at : IsAt name items k) (got : slice_get items k ≡ Some c) (lawful : AreClasses (rows_in items))
+module _ (name : List ℕ) (items : List ClassWithRoom) (k : ℕ) (c y : ClassWithRoom) (change : ClassRow → ClassRow) (at : IsAt (of_name name) items k) (got : slice_get items k ≡ Some c) (lawful : AreClasses (rows_in items))
     (row : y.row ≡ change c.row) (names : (r : ClassRow) → (change r).name ≡ r.name) (keeps : (r : ClassRow) → (change r).profiles ≡ r.profiles) where
   pub flag-rows : rows_in (set items k y) ≡ at_class name change (rows_in items)
   flag-rows = set-at name change items k c y at got row

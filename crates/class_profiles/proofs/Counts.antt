@@ -11,13 +11,14 @@ use Rattle.racf_profiles.specs.declared.profiles.Profile.{Profile}
 use Rattle.racf_profiles.specs.declared.class_rows.ClassRow.{ClassRow}
 use Rattle.racf_profiles.specs.Lookup.{is_class, is_profile}
 use Rattle.racf_profiles.specs.Edits.{put_profile, drop_row, at_class, is_in_order, AreNamed}
-use Rattle.class_profiles.proofs.Order.{ordered-tail, rest-behind, all-further, none-behind}
+use Rattle.racf_profiles.proofs.OrderedProfiles.{ordered-tail, rest-behind}
+use Rattle.class_profiles.proofs.Order.{all-further, none-behind}
 
 -- the profile that is put counts in place of the one that it replaces
 module _ (not_both : NotBoth) (passed_on : PassedOn) (kind : NameKind) (p : Profile) (is : p.name.kind ≡ kind) where
   -- where it goes before one that has another name, none behind has its own
   none-further : (y : Profile) (ys : List Profile) → AreNamed kind ys → is_in_order (y ∷ ys) ≡ true → before p.name y.name ≡ true → find (is_profile p.name) ys ≡ None
-  none-further y ys named ordered first = none-behind not_both p.name kind ys is named (all-further not_both passed_on p.name y.name ys first (rest-behind not_both passed_on y ys ordered))
+  none-further y ys named ordered first = none-behind not_both p.name kind ys is named (all-further not_both passed_on p.name y.name ys first (rest-behind passed_on y ys ordered))
 
   pub sum-put : (weight : Profile → ℕ) (ps : List Profile) → AreNamed kind ps → is_in_order ps ≡ true
       → sum_by weight (put_profile p ps) + option_map_or weight (find (is_profile p.name) ps) 0 ≡ sum_by weight ps + weight p

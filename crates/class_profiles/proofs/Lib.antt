@@ -3,4 +3,3 @@ mod Pairs
 pub mod Counts
 mod Places
 mod Changes
-mod Texts

@@ -21,8 +21,9 @@ use Rattle.racf_profiles.specs.LawfulProfiles.{AreProfiles}
 use Rattle.racf_profiles.specs.Limits.{most_class_profiles}
 use Rattle.class_profiles.specs.Paired.{entry_of, items_of, IsPaired}
 use Rattle.class_profiles.specs.Table.{IsPlaceOf, best_profile}
-use Rattle.class_profiles.proofs.Order.{ordered-tail, rest-behind, none-behind, all-drop_row, length-drop_row, order-drop_row}
-use Rattle.racf_profiles.proofs.OrderedProfiles.{same_spelled, all-put_profile}
+use Rattle.class_profiles.proofs.Order.{none-behind}
+use Rattle.racf_profiles.proofs.OrderedProfiles.{same_spelled, all-put_profile, ordered-tail, rest-behind, order-drop_row}
+use Rattle.racf_profiles.proofs.EditLaws.{all-drop_row, length-drop_row}
 
 -- the entries of profiles are those of their profiles again
 pub items-again : (ps : List Profile) → items_of (map entry_of ps) ≡ ps
@@ -36,14 +37,18 @@ pub kinds-paired : (kind : NameKind) (ps : List Profile) → AreNamed kind ps �
 kinds-paired kind [] named = tt
 kinds-paired kind (p ∷ ps) named = (named.0.1, kinds-paired kind ps named.1)
 
+module _ (test : Entry Profile → Bool) where
+  pub find-mapped : (ps : List Profile) → find test (map entry_of ps) ≡ option_map entry_of (find (λ (p : Profile). test (entry_of p)) ps)
+  find-mapped [] = refl
+  find-mapped (p ∷ ps) = by (test (entry_of p)) (find-mapped ps)
+    where
+      by : (b : Bool) → find test (map entry_of ps) ≡ option_map entry_of (find (λ (q : Profile). test (entry_of q)) ps)
+          → cond b (Some (entry_of p)) (find test (map entry_of ps)) ≡ option_map entry_of (cond b (Some p) (find (λ (q : Profile). test (entry_of q)) ps))
+      by true rest = refl
+      by false rest = rest
+
 pub find-paired : (name : Spelled) (ps : List Profile) → find (has_name name) (map entry_of ps) ≡ option_map entry_of (find (is_profile name) ps)
-find-paired name [] = refl
-find-paired name (p ∷ ps) = by (is_profile name p) (find-paired name ps)
-  where
-    by : (b : Bool) → find (has_name name) (map entry_of ps) ≡ option_map entry_of (find (is_profile name) ps)
-        → cond b (Some (entry_of p)) (find (has_name name) (map entry_of ps)) ≡ option_map entry_of (cond b (Some p) (find (is_profile name) ps))
-    by true rest = refl
-    by false rest = rest
+find-paired name ps = find-mapped (has_name name) ps
 
 most-paired : (name : Spelled) (ps : List Profile)
     → most_specific name_of (filter (λ (e : Entry Profile). covers (name_of e) name) (map entry_of ps)) ≡ option_map entry_of (most_specific (λ (p : Profile). p.name) (filter (λ (p : Profile). covers p.name name) ps))
@@ -125,7 +130,7 @@ without-paired not_both passed_on kind name (p ∷ ps) is named ordered = by (is
         → cond (not b) (entry_of p ∷ without name (map entry_of ps)) (without name (map entry_of ps)) ≡ map entry_of (cond b ps (p ∷ drop_row (is_profile name) ps))
     by true same rest =
         let here : p.name ≡ name = same_spelled p.name name (named.0.1 ∙ sym is) same in
-        kept ps (none-behind not_both name kind ps is named.1 (subst (λ (n : Spelled). AllByRecursion (λ (z : Profile). before n z.name ≡ true) ps) here (rest-behind not_both passed_on p ps ordered)))
+        kept ps (none-behind not_both name kind ps is named.1 (subst (λ (n : Spelled). AllByRecursion (λ (z : Profile). before n z.name ≡ true) ps) here (rest-behind passed_on p ps ordered)))
     by false other rest = ap (λ es. entry_of p ∷ es) rest
 
 -- an entry put among those of profiles: the profile put among these
@@ -171,8 +176,8 @@ module _ (not_both : NotBoth) (passed_on : PassedOn) (kind : NameKind) (name : S
 
   pub taken-lawful : AreProfiles kind (items_of after)
   taken-lawful = subst (AreProfiles kind) (sym taken-items) (record {
-    named = all-drop_row (is_profile name) (λ (p : Profile). IsPattern p.name × (p.name.kind ≡ kind)) (items_of es) lawful.named;
-    ordered = order-drop_row not_both passed_on (is_profile name) (items_of es) lawful.ordered;
+    named = all-drop_row (λ (p : Profile). IsPattern p.name × (p.name.kind ≡ kind)) (is_profile name) (items_of es) lawful.named;
+    ordered = order-drop_row passed_on (is_profile name) (items_of es) lawful.ordered;
     few = omega (arith, length-drop_row (is_profile name) (items_of es), lawful.few);
   })
 
@@ -202,7 +207,7 @@ absent-profile name ps none = by (find (is_profile name) ps) (sym (find-paired n
 -- the entries of profiles in order stand in order, and have names
 pub ordered-paired : NotBoth → PassedOn → (ps : List Profile) → is_in_order ps ≡ true → IsInOrder name_of (map entry_of ps)
 ordered-paired not_both passed_on [] ordered = tt
-ordered-paired not_both passed_on (p ∷ ps) ordered = (behind ps (rest-behind not_both passed_on p ps ordered), ordered-paired not_both passed_on ps (ordered-tail p ps ordered))
+ordered-paired not_both passed_on (p ∷ ps) ordered = (behind ps (rest-behind passed_on p ps ordered), ordered-paired not_both passed_on ps (ordered-tail p ps ordered))
   where
     behind : (qs : List Profile) → AllByRecursion (λ (z : Profile). before p.name z.name ≡ true) qs → AllByRecursion (λ (e : Entry Profile). before p.name e.name ≡ true) (map entry_of qs)
     behind [] all = tt

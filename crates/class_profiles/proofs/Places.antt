@@ -1,68 +1,51 @@
 -- The place of a class among the classes, and what a change there makes of all.
-use Rattle.std.proofs.Common.{◌≡◌, ℕ, zero, suc, ◌+◌, ◌≤◌, Bool, true, false, cond, not, nat_lt, List, [], ◌∷◌, map, length, set, get_or, Option, Some, None, Result, Ok, Err, refl, sym, ap, subst, ◌∙◌, arith}
-use Rattle.std.specs.List.{find, position, position_or_len, slice_get, AllByRecursion}
+use Rattle.std.proofs.Common.{◌≡◌, ℕ, zero, suc, ◌≤◌, Bool, true, false, cond, List, [], ◌∷◌, map, set, get_or, Option, Some, None, Result, Ok, Err, refl, sym, ap, subst, ◌∙◌, arith}
+use Rattle.std.specs.List.{find, position, slice_get, AllByRecursion}
 use Rattle.std.specs.Prelude.{OnOk, IsSome}
 use Rattle.std.specs.Str.{bytes_eq}
 use Rattle.std.proofs.lemmas.Slice.Eq.{bytes_eq-Decides}
-use Rattle.std.proofs.lemmas.Bool.Decides.{nat_tests}
 use Rattle.racf_profiles.specs.declared.class_rows.ClassRow.{ClassRow}
 use Rattle.racf_profiles.specs.Lookup.{is_class}
 use Rattle.racf_profiles.specs.Edits.{at_class}
 use Rattle.racf_profiles.specs.LawfulProfiles.{AreClasses, AreProfiles, kind_in}
+use Rattle.racf_profiles.proofs.States.{same_class}
+use Rattle.racf_profiles.proofs.Places.{IsAt, at-is, none-is}
 use Rattle.class_profiles.specs.Classes.{ClassWithRoom, room_among}
 use Rattle.class_profiles.specs.Summed.{rows_in}
 
 abbrev pub spares : List ClassWithRoom → List ℕ
 spares classes = map (λ (class : ClassWithRoom). class.spare) classes
 
--- the first class of that name stands at the place
-abbrev pub IsAt : List ℕ → List ClassWithRoom → ℕ → Type 0
-IsAt name [] k = ⊥
-IsAt name (c ∷ cs) zero = is_class name c.row ≡ true
-IsAt name (c ∷ cs) (suc k) = (is_class name c.row ≡ false) × IsAt name cs k
+-- the class with its room has that name
+abbrev pub of_name : List ℕ → ClassWithRoom → Bool
+of_name name class = is_class name class.row
 
-abbrev pub IsPlace : List ℕ → List ClassWithRoom → Option ℕ → Type 0
-IsPlace name cs None = find (is_class name) (rows_in cs) ≡ None
-IsPlace name cs (Some k) = IsAt name cs k
-
-pub place-is : (name : List ℕ) (cs : List ClassWithRoom) → IsPlace name cs (position (λ (c : ClassWithRoom). is_class name c.row) cs)
-place-is name [] = refl
-place-is name (c ∷ cs) = by (is_class name c.row) refl (place-is name cs)
+rows-none : (name : List ℕ) (cs : List ClassWithRoom) → find (of_name name) cs ≡ None → find (is_class name) (rows_in cs) ≡ None
+rows-none name [] none = refl
+rows-none name (c ∷ cs) none = by (is_class name c.row) none (rows-none name cs)
   where
-    further : (b : Bool) (n : ℕ) → is_class name c.row ≡ false → IsPlace name cs (cond b (Some n) None) → IsPlace name (c ∷ cs) (cond b (Some (suc n)) None)
-    further true n is rest = (is, rest)
-    further false n is rest = ap (λ b. cond b (Some c.row) (find (is_class name) (rows_in cs))) is ∙ rest
-
-    by : (b : Bool) → is_class name c.row ≡ b → IsPlace name cs (position (λ (d : ClassWithRoom). is_class name d.row) cs)
-        → IsPlace name (c ∷ cs) (let n = cond (not b) (1 + position_or_len (λ (d : ClassWithRoom). is_class name d.row) cs) 0 in cond (nat_lt n (length (c ∷ cs))) (Some n) None)
-    by true is rest =
-        let below : nat_lt 0 (suc (length cs)) ≡ true = grind (arith, nat_tests) in
-        subst (λ (b : Bool). IsPlace name (c ∷ cs) (cond b (Some 0) None)) (sym below) is
-    by false is rest =
-        let n : ℕ = position_or_len (λ (d : ClassWithRoom). is_class name d.row) cs in
-        let one : 1 + n ≡ suc n = omega arith in
-        let below : nat_lt (suc n) (suc (length cs)) ≡ nat_lt n (length cs) = grind (arith, nat_tests) in
-        subst (λ (m : ℕ). IsPlace name (c ∷ cs) (cond (nat_lt m (suc (length cs))) (Some m) None)) (sym one)
-        (subst (λ (b : Bool). IsPlace name (c ∷ cs) (cond b (Some (suc n)) None)) (sym below) (further (nat_lt n (length cs)) n is rest))
+    by : (b : Bool) → cond b (Some c) (find (of_name name) cs) ≡ None → (find (of_name name) cs ≡ None → find (is_class name) (rows_in cs) ≡ None) → cond b (Some c.row) (find (is_class name) (rows_in cs)) ≡ None
+    by true f rest = cc
+    by false f rest = rest f
 
 module _ (name : List ℕ) where
-  pub found-at : (cs : List ClassWithRoom) (k : ℕ) (c : ClassWithRoom) → IsAt name cs k → slice_get cs k ≡ Some c → find (is_class name) (rows_in cs) ≡ Some c.row
+  pub found-at : (cs : List ClassWithRoom) (k : ℕ) (c : ClassWithRoom) → IsAt (of_name name) cs k → slice_get cs k ≡ Some c → find (is_class name) (rows_in cs) ≡ Some c.row
   found-at [] k c at got = absurd at
   found-at (d ∷ ds) zero c at got = let same : d ≡ c = cc in ap (λ b. cond b (Some d.row) (find (is_class name) (rows_in ds))) at ∙ ap (λ (r : ClassWithRoom). Some r.row) same
   found-at (d ∷ ds) (suc k) c at got = ap (λ b. cond b (Some d.row) (find (is_class name) (rows_in ds))) at.0 ∙ found-at ds k c at.1 got
 
-  pub name-at : (cs : List ClassWithRoom) (k : ℕ) (c : ClassWithRoom) → IsAt name cs k → slice_get cs k ≡ Some c → c.row.name ≡ name
+  pub name-at : (cs : List ClassWithRoom) (k : ℕ) (c : ClassWithRoom) → IsAt (of_name name) cs k → slice_get cs k ≡ Some c → c.row.name ≡ name
   name-at [] k c at got = absurd at
   name-at (d ∷ ds) zero c at got = let same : d ≡ c = cc in (bytes_eq-Decides c.row.name name).0 (subst (λ (r : ClassWithRoom). is_class name r.row ≡ true) same at)
   name-at (d ∷ ds) (suc k) c at got = name-at ds k c at.1 got
 
-  pub room-at : (cs : List ClassWithRoom) (k : ℕ) (c : ClassWithRoom) → IsAt name cs k → slice_get cs k ≡ Some c → room_among name (rows_in cs) (spares cs) ≡ c.spare
+  pub room-at : (cs : List ClassWithRoom) (k : ℕ) (c : ClassWithRoom) → IsAt (of_name name) cs k → slice_get cs k ≡ Some c → room_among name (rows_in cs) (spares cs) ≡ c.spare
   room-at [] k c at got = absurd at
   room-at (d ∷ ds) zero c at got = let same : d ≡ c = cc in ap (λ b. cond b d.spare (room_among name (rows_in ds) (spares ds))) at ∙ ap (λ (r : ClassWithRoom). r.spare) same
   room-at (d ∷ ds) (suc k) c at got = ap (λ b. cond b d.spare (room_among name (rows_in ds) (spares ds))) at.0 ∙ room-at ds k c at.1 got
 
   -- a new row at the place is a change of the class of that name
-  pub set-at : (change : ClassRow → ClassRow) (cs : List ClassWithRoom) (k : ℕ) (c y : ClassWithRoom) → IsAt name cs k → slice_get cs k ≡ Some c → y.row ≡ change c.row → rows_in (set cs k y) ≡ at_class name change (rows_in cs)
+  pub set-at : (change : ClassRow → ClassRow) (cs : List ClassWithRoom) (k : ℕ) (c y : ClassWithRoom) → IsAt (of_name name) cs k → slice_get cs k ≡ Some c → y.row ≡ change c.row → rows_in (set cs k y) ≡ at_class name change (rows_in cs)
   set-at change [] k c y at got is = absurd at
   set-at change (d ∷ ds) zero c y at got is =
       let same : d ≡ c = cc in
@@ -100,15 +83,6 @@ room-other other (d ∷ ds) zero c y got named differs =
     let old : is_class other d.row ≡ false = ap (λ (r : ClassWithRoom). is_class other r.row) same ∙ differs in
     ap (λ b. cond b y.spare (room_among other (rows_in ds) (spares ds))) new ∙ ap (λ b. cond b d.spare (room_among other (rows_in ds) (spares ds))) (sym old)
 room-other other (d ∷ ds) (suc k) c y got named differs = ap (λ n. cond (is_class other d.row) d.spare n) (room-other other ds k c y got named differs)
-
--- a class that isn't there isn't changed
-pub at_class-absent : (name : List ℕ) (change : ClassRow → ClassRow) (classes : List ClassRow) → find (is_class name) classes ≡ None → at_class name change classes ≡ classes
-at_class-absent name change [] absent = refl
-at_class-absent name change (c ∷ cs) absent = by (is_class name c) absent (at_class-absent name change cs)
-  where
-    by : (b : Bool) → cond b (Some c) (find (is_class name) cs) ≡ None → (find (is_class name) cs ≡ None → at_class name change cs ≡ cs) → cond b (change c ∷ cs) (c ∷ at_class name change cs) ≡ c ∷ cs
-    by true f rest = cc
-    by false f rest = ap (λ rs. c ∷ rs) (rest f)
 
 -- the classes stay lawful, where the one that is changed keeps its name and has lawful profiles
 module _ (name : List ℕ) (change : ClassRow → ClassRow) where
@@ -148,24 +122,24 @@ lawful-found name row classes found lawful = from classes found lawful.lawful
         by true here rest = let same : c ≡ row = cc in subst (λ (r : ClassRow). AreProfiles (kind_in r.name) r.profiles) same all.0
         by false here rest = rest here
 
-pub placed : (name : List ℕ) (cs shown : List ClassWithRoom) (k : ℕ) → shown ≡ cs → Some k ≡ position (λ (c : ClassWithRoom). is_class name c.row) shown → IsAt name cs k
-placed name cs shown k same is = subst (IsPlace name cs) (sym (is ∙ ap (position (λ (c : ClassWithRoom). is_class name c.row)) same)) (place-is name cs)
+pub placed : (name : List ℕ) (cs shown : List ClassWithRoom) (k : ℕ) → shown ≡ cs → Some k ≡ position (of_name name) shown → IsAt (of_name name) cs k
+placed name cs shown k same is = at-is (of_name name) cs k (is ∙ ap (position (of_name name)) same)
 
-pub unplaced : (name : List ℕ) (cs shown : List ClassWithRoom) → shown ≡ cs → None ≡ position (λ (c : ClassWithRoom). is_class name c.row) shown → find (is_class name) (rows_in cs) ≡ None
-unplaced name cs shown same is = subst (IsPlace name cs) (sym (is ∙ ap (position (λ (c : ClassWithRoom). is_class name c.row)) same)) (place-is name cs)
+pub unplaced : (name : List ℕ) (cs shown : List ClassWithRoom) → shown ≡ cs → None ≡ position (of_name name) shown → find (is_class name) (rows_in cs) ≡ None
+unplaced name cs shown same is = rows-none name cs (none-is (of_name name) cs (is ∙ ap (position (of_name name)) same))
 
-pub read-at : (name : List ℕ) (cs : List ClassWithRoom) (k : ℕ) (c : ClassWithRoom) → IsAt name cs k → c ≡ get_or cs k c → slice_get cs k ≡ Some c
+pub read-at : (name : List ℕ) (cs : List ClassWithRoom) (k : ℕ) (c : ClassWithRoom) → IsAt (of_name name) cs k → c ≡ get_or cs k c → slice_get cs k ≡ Some c
 read-at name [] k c at read = absurd at
 read-at name (d ∷ ds) zero c at read = ap (λ (r : ClassWithRoom). Some r) (sym read)
 read-at name (d ∷ ds) (suc k) c at read = read-at name ds k c at.1 read
 
 -- the place stays that of the class, where this keeps its name
-pub at-set : (name : List ℕ) (cs : List ClassWithRoom) (k : ℕ) (c y : ClassWithRoom) → IsAt name cs k → slice_get cs k ≡ Some c → y.row.name ≡ c.row.name → IsAt name (set cs k y) k
+pub at-set : (name : List ℕ) (cs : List ClassWithRoom) (k : ℕ) (c y : ClassWithRoom) → IsAt (of_name name) cs k → slice_get cs k ≡ Some c → y.row.name ≡ c.row.name → IsAt (of_name name) (set cs k y) k
 at-set name [] k c y at got named = at
 at-set name (d ∷ ds) zero c y at got named = let same : d ≡ c = cc in ap (λ n. bytes_eq n name) (named ∙ ap (λ (r : ClassWithRoom). r.row.name) (sym same)) ∙ at
 at-set name (d ∷ ds) (suc k) c y at got named = (at.0, at-set name ds k c y at.1 got named)
 
-pub get-set : (name : List ℕ) (cs : List ClassWithRoom) (k : ℕ) (y : ClassWithRoom) → IsAt name cs k → slice_get (set cs k y) k ≡ Some y
+pub get-set : (name : List ℕ) (cs : List ClassWithRoom) (k : ℕ) (y : ClassWithRoom) → IsAt (of_name name) cs k → slice_get (set cs k y) k ≡ Some y
 get-set name [] k y at = absurd at
 get-set name (d ∷ ds) zero y at = refl
 get-set name (d ∷ ds) (suc k) y at = get-set name ds k y at.1
@@ -177,7 +151,7 @@ rows-kept (d ∷ ds) zero c y got is = let same : d ≡ c = cc in ap (λ r. r �
 rows-kept (d ∷ ds) (suc k) c y got is = ap (λ rs. d.row ∷ rs) (rows-kept ds k c y got is)
 
 -- the room of the class at the place is what its new row has
-pub room-set : (name : List ℕ) (cs : List ClassWithRoom) (k : ℕ) (c y : ClassWithRoom) → IsAt name cs k → slice_get cs k ≡ Some c → y.row.name ≡ c.row.name → room_among name (rows_in (set cs k y)) (spares (set cs k y)) ≡ y.spare
+pub room-set : (name : List ℕ) (cs : List ClassWithRoom) (k : ℕ) (c y : ClassWithRoom) → IsAt (of_name name) cs k → slice_get cs k ≡ Some c → y.row.name ≡ c.row.name → room_among name (rows_in (set cs k y)) (spares (set cs k y)) ≡ y.spare
 room-set name cs k c y at got named = room-at name (set cs k y) k y (at-set name cs k c y at got named) (get-set name cs k y at)
 
 pub on_ok : {T E P Q : Type 0} (r : Result T E) → OnOk r P → (P → Q) → OnOk r Q
@@ -188,18 +162,10 @@ pub none-some : {X : Type 0} {o : Option X} → o ≡ None → IsSome o → ⊥
 none-some {X = X} {o = o} none some = let never : false ≡ true = subst (λ (p : Option X). IsSome p) none some in cc
 
 -- there is a class at the place
-pub got-at : (name : List ℕ) (cs : List ClassWithRoom) (k : ℕ) → IsAt name cs k → (c : ClassWithRoom) × (slice_get cs k ≡ Some c)
+pub got-at : (name : List ℕ) (cs : List ClassWithRoom) (k : ℕ) → IsAt (of_name name) cs k → (c : ClassWithRoom) × (slice_get cs k ≡ Some c)
 got-at name [] k at = absurd at
 got-at name (d ∷ ds) zero at = (d, refl)
 got-at name (d ∷ ds) (suc k) at = got-at name ds k at.1
 
-pub name-found : (name : List ℕ) (row : ClassRow) (classes : List ClassRow) → find (is_class name) classes ≡ Some row → row.name ≡ name
-name-found name row [] found = cc
-name-found name row (c ∷ cs) found = by (is_class name c) refl found (name-found name row cs)
-  where
-    by : (b : Bool) → is_class name c ≡ b → cond b (Some c) (find (is_class name) cs) ≡ Some row → (find (is_class name) cs ≡ Some row → row.name ≡ name) → row.name ≡ name
-    by true is here rest = let same : c ≡ row = cc in (bytes_eq-Decides row.name name).0 (subst (λ (r : ClassRow). is_class name r ≡ true) same is)
-    by false is here rest = rest here
-
 pub lawful-found_by : (name : List ℕ) (row : ClassRow) (classes : List ClassRow) → find (is_class name) classes ≡ Some row → AreClasses classes → AreProfiles (kind_in name) row.profiles
-lawful-found_by name row classes found lawful = subst (λ (n : List ℕ). AreProfiles (kind_in n) row.profiles) (name-found name row classes found) (lawful-found name row classes found lawful)
+lawful-found_by name row classes found lawful = subst (λ (n : List ℕ). AreProfiles (kind_in n) row.profiles) (same_class name row classes found) (lawful-found name row classes found lawful)

@@ -1,7 +1,6 @@
 //! A class with its profiles.
 ghost use Rattle.std.specs.Prelude.{◌≡◌, ◌+◌, ◌<◌, ◌≤◌, length, is_some, OnOk, IfOk, if◌then◌else◌};
 ghost use Rattle.std.specs.List.{find};
-ghost use Rattle.generic_names.specs.Spelled.{first_qualifier};
 ghost use Rattle.racf_profiles.specs.NewDatabase.{empty_class};
 ghost use Rattle.racf_profiles.specs.Lookup.{is_profile};
 ghost use Rattle.racf_profiles.specs.Edits.{put_profile, with_profile, without_profile, with_flags, with_listed};
@@ -9,11 +8,10 @@ ghost use Rattle.racf_profiles.specs.LawfulProfiles.{AreProfiles, kind_in};
 ghost use Rattle.class_profiles.specs.Table.{CanPut};
 ghost use Rattle.class_profiles.specs.Classes.{is_under};
 ghost use Rattle.std.specs.Option.{option_copied, option_map};
-ghost use Rattle.std.specs.Str.{bytes_eq};
 
 use crate::table::ProfileTable;
 use access_levels::Id;
-use generic_names::{Pattern, first_qualifier};
+use generic_names::Pattern;
 use racf_profiles::{ClassRow, FixedClass, LogOption, NoMemory, Profile, kind_in};
 use std::alloc::Global;
 use std::marker::Model;
@@ -114,13 +112,10 @@ impl ClassTable {
     pub(crate) fn first_under(&self, qualifier: Id) -> Option<&Pattern>
         ensures { option_copied result ≡ option_map (λ profile. profile.name) (find (is_under qualifier) self.now.row.profiles) }
     {
-        for place in 0..self.profiles.len() {
-            let profile = self.profiles.at(place);
-            if is_under(&profile.name, qualifier) {
-                return Some(&profile.name);
-            }
+        match self.profiles.first_under(qualifier) {
+            Some(profile) => Some(&profile.name),
+            None => None,
         }
-        None
     }
 
     /// Makes room for this many profiles more.
@@ -182,11 +177,4 @@ impl ClassTable {
             profiles: self.profiles.rows(alloc)?,
         })
     }
-}
-
-/// Whether a name has that first qualifier.
-fn is_under(name: &Pattern, qualifier: Id) -> bool
-    ensures { result ≡ bytes_eq (first_qualifier name.now.text) qualifier }
-{
-    first_qualifier(name.text()) == qualifier.text()
 }

@@ -163,8 +163,8 @@ impl ClassTables {
         self.classes[place].set_listed(listed);
     }
 
-    /// The name of the first profile of DATASET, in order of specificity, that has that first qualifier. It goes
-    /// through the profiles of DATASET.
+    /// The name of the first profile of DATASET, in order of specificity, that has that first qualifier. It is
+    /// found by a search in the order.
     pub fn first_under(&self, qualifier: Id) -> Option<&Pattern>
         ensures { option_copied result ≡ first_under qualifier self.now.classes }
     {

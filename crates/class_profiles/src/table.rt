@@ -10,7 +10,9 @@ ghost use Rattle.racf_profiles.specs.Edits.{put_profile, drop_row};
 ghost use Rattle.racf_profiles.specs.LawfulProfiles.{AreProfiles};
 ghost use Rattle.racf_profiles.specs.Limits.{most_class_profiles};
 ghost use Rattle.class_profiles.specs.Table.{best_profile, IsPlaceOf, CanPut};
+ghost use Rattle.class_profiles.specs.Classes.{is_under};
 
+use access_levels::Id;
 use generic_names::{NameKind, Pattern, Resource};
 use profile_index::Index;
 use racf_profiles::{NoMemory, Profile, Profiles};
@@ -47,33 +49,6 @@ impl ProfileTable {
             kind,
             profiles: Index::new(alloc)?,
         })
-    }
-
-    /// The same profiles, copied.
-    pub fn of(alloc: Global, kind: NameKind, profiles: &[Profile]) -> Result<ProfileTable, NoMemory>
-        requires { AreProfiles kind profiles.now }
-        ensures kind { IfOk result (λ table. table.kind ≡ kind) }
-        ensures profiles { IfOk result (λ table. table.profiles ≡ profiles.now) }
-    {
-        generic_names::laws::order_is_total();
-        let mut table = ProfileTable::new(alloc, kind)?;
-        for profile in profiles {
-            table.put_with_memory(profile.copy(alloc)?)?;
-        }
-        Ok(table)
-    }
-
-    /// A table of equal profiles.
-    pub fn copy(&self, alloc: Global) -> Result<ProfileTable, NoMemory>
-        ensures kind { IfOk result (λ table. table.kind ≡ self.now.kind) }
-        ensures profiles { IfOk result (λ table. table.profiles ≡ self.now.profiles) }
-    {
-        generic_names::laws::order_is_total();
-        let mut table = ProfileTable::new(alloc, self.kind)?;
-        for place in 0..self.len() {
-            table.put_with_memory(self.at(place).copy(alloc)?)?;
-        }
-        Ok(table)
     }
 
     /// The profiles in their order, copied.
@@ -115,6 +90,17 @@ impl ProfileTable {
         ensures { option_copied result ≡ find (is_profile name.now) self.now.profiles }
     {
         match self.place(name) {
+            Some(place) => Some(self.at(place)),
+            None => None,
+        }
+    }
+
+    /// The first profile, in order of specificity, whose name has that first qualifier. It is found by a search in the
+    /// order.
+    pub fn first_under(&self, qualifier: Id) -> Option<&Profile>
+        ensures { option_copied result ≡ find (is_under qualifier) self.now.profiles }
+    {
+        match self.place_under(qualifier) {
             Some(place) => Some(self.at(place)),
             None => None,
         }
@@ -164,18 +150,6 @@ impl ProfileTable {
         }
     }
 
-    /// Puts a profile, and takes the memory for it first.
-    fn put_with_memory(&mut self, profile: Profile) -> Result<(), NoMemory>
-        requires kind { profile.name.kind ≡ self.old.kind }
-        requires few { length (put_profile profile self.old.profiles) ≤ most_class_profiles }
-        ensures kind { OnOk result (self.new.kind ≡ self.old.kind) }
-        ensures profiles { OnOk result (self.new.profiles ≡ put_profile profile self.old.profiles) }
-    {
-        self.reserve(1)?;
-        self.put(profile);
-        Ok(())
-    }
-
     /// Takes the profile of a name of the kind away, if there is one.
     fn take(&mut self, name: &Pattern)
         requires { name.now.kind ≡ self.old.kind }
@@ -197,6 +171,13 @@ impl ProfileTable {
             Some(name) => self.profiles.find_named(&name),
             None => None,
         }
+    }
+
+    /// The place of the first profile whose name has that first qualifier.
+    fn place_under(&self, qualifier: Id) -> Option<usize>
+        ensures { IsPlaceOf self.now.profiles (find (is_under qualifier) self.now.profiles) result }
+    {
+        self.profiles.first_under(qualifier.text())
     }
 }
 

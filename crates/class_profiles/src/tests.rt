@@ -104,9 +104,7 @@ fn one_class(rt: HostRuntime) -> Result<(), Fail> {
     assert_eq!(rt; left_without(&mut table, b"SYS1.PARMLIB"), 2);
     assert_eq!(rt; left_without(&mut table, b"SYS1.PARMLIB"), 2);
     assert!(rt; decides(&table, b"SYS1.PARMLIB", b"SYS1.PARM*"));
-    let copy = table.copy(alloc)?;
-    assert!(rt; decides(&copy, b"SYS1.PARMLIB", b"SYS1.PARM*"));
-    assert_eq!(rt; copy.rows(alloc)?.items.len(), 2);
+    assert_eq!(rt; table.rows(alloc)?.items.len(), 2);
     Ok(())
 }
 

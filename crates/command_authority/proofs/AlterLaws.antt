@@ -1,12 +1,12 @@
 -- The best entry of a user's groups gives ALTER where one of their entries does.
-use Rattle.std.proofs.Common.{◌≡◌, ℕ, ◌+◌, ◌≤◌, Bool, true, false, cond, not, ltb, ◌&&◌, ◌||◌, List, [], ◌∷◌, length, map, Option, Some, None, option_map, bytes_eq, refl, sym, ◌∙◌, ap, arith, ⊎_elim}
+use Rattle.std.proofs.Common.{◌≡◌, ℕ, ◌+◌, ◌≤◌, Bool, true, false, cond, not, ◌&&◌, ◌||◌, List, [], ◌∷◌, length, map, Option, Some, None, option_map, bytes_eq, refl, sym, ◌∙◌, ap, arith, ⊎_elim}
 use Rattle.std.specs.Prelude.{◌==◌, nat_lt, is_some}
 use Rattle.std.specs.List.{list_any, position, position_or_len}
 use Rattle.std.proofs.lemmas.Bool.{cases_Bool}
-use Rattle.std.proofs.lemmas.Bool.Decides.{nat_tests}
 use Rattle.std.proofs.lemmas.List.Quantifiers.{position-Some}
 use Rattle.std.proofs.lemmas.List.Folds.{list_any_at}
 use Rattle.std.specs.Option.{option_map_or}
+use Rattle.std.proofs.Math.Bool.{or-false}
 use Rattle.access_levels.specs.declared.levels.Level.{Level}
 use Rattle.access_levels.specs.declared.levels.Level.TheVariants.{NoAccess, Execute, Read, Update, Control, Alter}
 use Rattle.access_levels.specs.declared.entries.Who.{Who}
@@ -65,13 +65,9 @@ chosen_alter : (c : Bool) (a b : GroupEntry) → best_alter (cond c (Some b) (So
 chosen_alter true a b = refl
 chosen_alter false a b = refl
 
-or_false : (a : Bool) → a ≡ (a || false)
-or_false true = refl
-or_false false = refl
-
 first_alter : (a b : Option GroupEntry) → best_alter (first_of_two a b) ≡ (best_alter a || best_alter b)
 first_alter None b = refl
-first_alter (Some a) None = or_false (suffices a.level Alter)
+first_alter (Some a) None = sym (or-false (suffices a.level Alter))
 first_alter (Some a) (Some b) =
     chosen_alter (goes_before b a) a b
     ∙ higher_of (goes_before b a) (suffices a.level Alter) (suffices b.level Alter) (high_stays a.level b.level (nat_lt b.place a.place)) (high_comes a.level b.level (nat_lt b.place a.place))

@@ -1,3 +1,4 @@
 pub mod AlterLaws
 pub mod SpecialLaws
+pub mod SpelledNames
 mod WorkedRows

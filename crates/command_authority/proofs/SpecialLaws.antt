@@ -3,8 +3,7 @@ use Rattle.std.proofs.Common.{◌≡◌, ℕ, Bool, true, false, cond, ◌&&◌,
 use Rattle.std.specs.Prelude.{is_some, option_and_then, IsSome, IsSomeAnd, IsTrue}
 use Rattle.std.specs.List.{find, list_any, list_all}
 use Rattle.std.specs.Option.{option_map_or}
-use Rattle.std.specs.Result.{result_ok}
-use Rattle.access_levels.specs.Spelling.{id_of}
+use Rattle.std.proofs.lemmas.Bool.{and_parts, or_right}
 use Rattle.access_levels.specs.declared.authorities.GroupAuthority.{GroupAuthority}
 use Rattle.racf_profiles.specs.declared.users.User.{User}
 use Rattle.racf_profiles.specs.declared.groups.Group.{Group}
@@ -18,20 +17,12 @@ use Rattle.command_authority.specs.declared.needs.Need.TheVariants.{Special, Aud
 use Rattle.command_authority.specs.declared.requirement.Target.{Target}
 use Rattle.command_authority.specs.declared.requirement.Target.TheVariants as targets
 use Rattle.command_authority.specs.declared.requirement.Requirement.{Requirement}
-use Rattle.generic_names.specs.Spelled.{first_qualifier}
 use Rattle.command_authority.specs.Operands.{some_stands, alters_attribute, alters_uaudit, alters_group_attribute}
 use Rattle.command_parser.specs.Operands.{slots_of_alt_user}
 use Rattle.command_parser.specs.Operands.{slots_of_alt_sd, slots_of_r_alter}
-use Rattle.command_authority.specs.Requirements.{over, over_where, over_new_data_set, over_members, leaving, giving, group_or_current, requirements, add_user_requirements, alt_user_requirements, del_user_requirements, add_group_requirements, alt_group_requirements, del_group_requirements, connect_requirements, remove_requirements, add_sd_requirements, alt_sd_requirements, del_sd_requirements, r_define_requirements, r_alter_requirements, r_delete_requirements, permit_requirements}
+use Rattle.command_parser.specs.Issuers.{group_or_current}
+use Rattle.command_authority.specs.Requirements.{over, over_where, over_members, leaving, giving, requirements, add_user_requirements, alt_user_requirements, del_user_requirements, add_group_requirements, alt_group_requirements, del_group_requirements, connect_requirements, remove_requirements, add_sd_requirements, alt_sd_requirements, del_sd_requirements, r_define_requirements, r_alter_requirements, r_delete_requirements, permit_requirements}
 use Rattle.command_authority.specs.Authority.{holds, is_met, first_unmet, need}
-
-or_true : (b : Bool) → (b || true) ≡ true
-or_true true = refl
-or_true false = refl
-
-both : (a b : Bool) → (a && b) ≡ true → (a ≡ true) × (b ≡ true)
-both true b h = (refl, h)
-both false b h = cc
 
 -- The needs begin with SPECIAL, or are those of what is the auditor's.
 abbrev begins_with_special : List Need → Bool
@@ -81,7 +72,7 @@ module _ (rows : Rows) (issuer : Issuer) where
     special_met r h =
         ap (λ o. not r.stands || option_map_or (λ (user : User). list_any (holds rows user r.target) r.needs) o false) there
         ∙ ap (λ b. not r.stands || b) (special_holds r.target r.needs h)
-        ∙ or_true (not r.stands)
+        ∙ or_right (not r.stands) true refl
 
     usual_unmet : (r : Requirement) → is_usual r ≡ true → is_met rows issuer r ≡ false → r.needs ≡ Auditor ∷ []
     usual_unmet r usual unmet = by (begins_with_special r.needs) (is_auditors r.needs) r.stands refl refl refl usual
@@ -94,7 +85,7 @@ module _ (rows : Rows) (issuer : Issuer) where
 
     only : (list : List Requirement) → list_all is_usual list ≡ true → OnlyAuditor (first_unmet rows issuer list)
     only [] h = inl refl
-    only (r ∷ rs) h = let parts = both (is_usual r) (list_all is_usual rs) h in by (is_met rows issuer r) refl parts.0 (only rs parts.1)
+    only (r ∷ rs) h = let parts = and_parts (is_usual r) (list_all is_usual rs) h in by (is_met rows issuer r) refl parts.0 (only rs parts.1)
       where
         by : (b : Bool) → is_met rows issuer r ≡ b → is_usual r ≡ true → OnlyAuditor (first_unmet rows issuer rs) → OnlyAuditor (first_unmet rows issuer (r ∷ rs))
         by true e usual behind = subst OnlyAuditor (sym (met_first r rs e)) behind
@@ -119,10 +110,6 @@ module _ (rows : Rows) (issuer : Issuer) where
         by false e true em behind h = ap (λ lacked. is_some lacked) (met_first r rs em) ∙ behind h
 
 -- ---- the requirements of each command
-usual_new : (o : Option (List ℕ)) → list_all is_usual (over_new_data_set o ∷ []) ≡ true
-usual_new None = refl
-usual_new (Some qualifier) = refl
-
 usual_leaving : (group : List ℕ) (o : Option (List ℕ)) → list_all is_usual (over (targets.Group group) (leaving o) ∷ []) ≡ true
 usual_leaving group None = refl
 usual_leaving group (Some superior) = refl
@@ -141,7 +128,7 @@ usual rows issuer (fields.AltGroup c) = refl
 usual rows issuer (fields.DelGroup c) = usual_leaving c.group (option_and_then (λ (group : Group). group.superior) (group_of c.group rows))
 usual rows issuer (fields.Connect c) = usual_giving (group_or_current issuer c.group) c.authority (alters_group_attribute c)
 usual rows issuer (fields.Remove c) = refl
-usual rows issuer (fields.AddSd c) = usual_new (result_ok (id_of (first_qualifier c.profile.text)))
+usual rows issuer (fields.AddSd c) = refl
 usual rows issuer (fields.AltSd c) = refl
 usual rows issuer (fields.DelSd c) = refl
 usual rows issuer (fields.RDefine c) = refl
@@ -151,16 +138,12 @@ usual rows issuer (fields.Permit c) = refl
 
 -- One requirement stands: the auditor's where nothing else does.
 of_two : (b others : Bool) → (not (b && others) || (b || false)) ≡ true
-of_two true others = or_true (not others)
+of_two true others = or_right (not others) true refl
 of_two false others = refl
 
 of_three : (b others c : Bool) → (not (b && others) || (c || (b || false))) ≡ true
-of_three true others c = ap (λ x. not others || x) (or_true c) ∙ or_true (not others)
+of_three true others c = ap (λ x. not others || x) (or_right c true refl) ∙ or_right (not others) true refl
 of_three false others c = refl
-
-stands_new : (o : Option (List ℕ)) → list_any (λ (r : Requirement). r.stands) (over_new_data_set o ∷ []) ≡ true
-stands_new None = refl
-stands_new (Some qualifier) = refl
 
 stands : (rows : Rows) (issuer : Issuer) (command : CommandFields) → list_any (λ (r : Requirement). r.stands) (requirements rows issuer command) ≡ true
 unfolding add_user_requirements alt_user_requirements del_user_requirements add_group_requirements alt_group_requirements del_group_requirements connect_requirements remove_requirements add_sd_requirements alt_sd_requirements del_sd_requirements r_define_requirements r_alter_requirements r_delete_requirements permit_requirements
@@ -172,7 +155,7 @@ stands rows issuer (fields.AltGroup c) = refl
 stands rows issuer (fields.DelGroup c) = refl
 stands rows issuer (fields.Connect c) = refl
 stands rows issuer (fields.Remove c) = refl
-stands rows issuer (fields.AddSd c) = stands_new (result_ok (id_of (first_qualifier c.profile.text)))
+stands rows issuer (fields.AddSd c) = refl
 stands rows issuer (fields.AltSd c) = of_two (is_some c.globalaudit) (not (some_stands (slots_of_alt_sd (record c { globalaudit = None }))))
 stands rows issuer (fields.DelSd c) = refl
 stands rows issuer (fields.RDefine c) = refl

@@ -3,6 +3,8 @@ use Rattle.std.proofs.Common.{◌≡◌, ℕ, Bool, true, false, List, [], ◌�
 use Rattle.access_levels.specs.declared.authorities.GroupAuthority.{GroupAuthority}
 use Rattle.access_levels.specs.declared.authorities.GroupAuthority.TheVariants.{MayUse, MayCreate, MayConnect, MayJoin}
 use Rattle.access_levels.specs.declared.entries.Entry.{Entry}
+use Rattle.access_levels.specs.declared.entries.CondEntry.{CondEntry}
+use Rattle.access_levels.specs.declared.entries.PortClass.TheVariants.{Terminal}
 use Rattle.access_levels.specs.declared.entries.Who.TheVariants.{Star, Named}
 use Rattle.access_levels.specs.declared.levels.Level.TheVariants.{Read, Alter}
 use Rattle.generic_names.specs.Spelled.{Spelled}
@@ -24,8 +26,8 @@ use Rattle.command_parser.specs.declared.profile_fields.RAlter.{RAlter}
 use Rattle.command_parser.specs.declared.fields.CommandFields.{CommandFields}
 use Rattle.command_parser.specs.declared.fields.CommandFields.TheVariants as fields
 use Rattle.command_authority.specs.declared.needs.Need.{Need}
-use Rattle.command_authority.specs.declared.needs.Need.TheVariants.{Special, Auditor, Join, Create, Authority, Owner, GroupSpecial, OwnData, AlterEntry, UserJoin, UserOwner, UserGroupSpecial}
-use Rattle.command_authority.specs.Requirements.{add_user_requirements, alt_user_requirements, del_user_requirements, add_group_requirements, alt_group_requirements, del_group_requirements, connect_requirements, add_sd_requirements, r_alter_requirements, permit_requirements}
+use Rattle.command_authority.specs.declared.needs.Need.TheVariants.{Special, Auditor, ClassAuthority, Join, Connect, Create, Authority, Owner, GroupSpecial, OwnData, AlterEntry, UserJoin, UserOwner, UserGroupSpecial}
+use Rattle.command_authority.specs.Requirements.{add_user_requirements, alt_user_requirements, del_user_requirements, add_group_requirements, alt_group_requirements, del_group_requirements, connect_requirements, add_sd_requirements, r_define_requirements, r_alter_requirements, permit_requirements}
 use Rattle.command_authority.specs.Authority.{is_met, need}
 
 -- ---- rows
@@ -263,3 +265,70 @@ add_sd_rows : map (λ authority. map (λ name. lacks (with_ann authority []) (co
     ∷ []
 unfolding need is_met add_sd_requirements
 add_sd_rows = refl
+
+-- AD 'ANN.B' is ANN's own data, AD 'G1.B' needs CREATE: by a revoked connection with JOIN
+abbrev with_revoked : Rows
+with_revoked = record (with_ann MayJoin []) { users = ibmuser ∷ record (ann MayJoin (codes "USER" ∷ [])) { connects = record (connection (codes "G1")) { authority = MayJoin; revoked = true } ∷ [] } ∷ [] }
+
+revoked_create : map (λ name. lacks with_revoked (codes "ANN") (add_sd name)) (codes "ANN.B" ∷ codes "G1.B" ∷ []) ≡ None ∷ Some (Special ∷ OwnData ∷ Create (codes "G1") ∷ GroupSpecial ∷ []) ∷ []
+unfolding need is_met add_sd_requirements
+revoked_create = refl
+
+-- CO BOB GROUP(G1), AU CAT DFLTGRP(G1) and AG NEW SUPGROUP(G1), by that connection
+revoked_connect : lacks with_revoked (codes "ANN") (fields.Connect bob_to_g1) ≡ Some (Special ∷ Connect (codes "G1") ∷ Owner ∷ GroupSpecial ∷ [])
+unfolding need is_met connect_requirements
+revoked_connect = refl
+
+revoked_join : map (λ c. lacks with_revoked (codes "ANN") c) (fields.AddUser cat_in_g1 ∷ fields.AddGroup (record { group = codes "NEW"; supgroup = Some (codes "G1"); owner = None }) ∷ []) ≡ Some over_g1 ∷ Some (Special ∷ Join (codes "G1") ∷ Owner ∷ GroupSpecial ∷ []) ∷ []
+unfolding need is_met add_user_requirements add_group_requirements
+revoked_join = refl
+
+-- AU CAT DFLTGRP(G1) AUDITOR meets neither of its requirements: the first is told
+neither_met : lacks (with_ann MayUse []) (codes "ANN") (fields.AddUser (record cat_in_g1 { auditor = true })) ≡ Some over_g1
+unfolding need is_met add_user_requirements
+neither_met = refl
+
+-- ANN owns G2: AU CAT DFLTGRP(G2) with CLAUTH(USER) and without it; ALG G2 and DG G2 by her, and ALG G2 by BOB
+abbrev with_g2 : List (List ℕ) → Rows
+with_g2 classes = record (with_ann MayUse classes) { users = ibmuser ∷ ann MayUse classes ∷ user (codes "BOB") (codes "SYS1") [] ∷ []; groups = sys1 ∷ group (codes "G2") (codes "SYS1") (codes "ANN") ∷ [] }
+
+add_user_by_owner : map (λ classes. lacks (with_g2 classes) (codes "ANN") (fields.AddUser (record (add_user (codes "CAT")) { dfltgrp = Some (codes "G2") }))) ((codes "USER" ∷ []) ∷ [] ∷ [])
+    ≡ None ∷ Some (Special ∷ UserJoin (codes "G2") ∷ UserOwner ∷ UserGroupSpecial ∷ []) ∷ []
+unfolding need is_met add_user_requirements
+add_user_by_owner = refl
+
+group_by_owner : map (λ c. lacks (with_g2 []) (codes "ANN") c) (fields.AltGroup (record { group = codes "G2"; supgroup = None; owner = None }) ∷ fields.DelGroup (record { group = codes "G2" }) ∷ []) ≡ None ∷ None ∷ []
+unfolding need is_met alt_group_requirements del_group_requirements
+group_by_owner = refl
+
+group_by_another : lacks (with_g2 []) (codes "BOB") (fields.AltGroup (record { group = codes "G2"; supgroup = None; owner = None })) ≡ Some over_user
+unfolding need is_met alt_group_requirements
+group_by_another = refl
+
+-- RDEF FACILITY F.B and RDEF OPERCMDS F.B, by ANN with CLAUTH(FACILITY)
+abbrev r_define : List ℕ → CommandFields
+r_define class = fields.RDefine (record { class = class; profile = general (codes "F.B"); owner = None; uacc = None; warning = false; nowarning = false; audit = None; seclevel = None; addcategory = []; seclabel = None; addmem = [] })
+
+by_class : map (λ class. lacks (with_ann MayUse (codes "FACILITY" ∷ [])) (codes "ANN") (r_define class)) (codes "FACILITY" ∷ codes "OPERCMDS" ∷ []) ≡ None ∷ Some (Special ∷ ClassAuthority (codes "OPERCMDS") ∷ []) ∷ []
+unfolding need is_met r_define_requirements
+by_class = refl
+
+-- PERMIT of F.A, by JIM who is connected to G1: G1 has ALTER and JIM himself READ; JIM has ALTER at a terminal alone
+abbrev jims : List Entry → List CondEntry → Rows
+jims standard conditional = record (with_jim false) { classes = class_row (codes "FACILITY") (record (profile (general (codes "F.A")) (codes "SYS1") standard) { conditional = conditional } ∷ []) ∷ [] }
+
+abbrev at_terminal : CondEntry
+at_terminal = record { condition = record { class = Terminal; name = codes "T1" }; who = Named (codes "JIM"); level = Alter }
+
+lower_own_entry : lacks (jims (is_for (codes "G1") ∷ record (is_for (codes "JIM")) { level = Read } ∷ []) []) (codes "JIM") (permit (codes "FACILITY") (general (codes "F.A"))) ≡ Some (Special ∷ Owner ∷ GroupSpecial ∷ AlterEntry ∷ [])
+unfolding need is_met permit_requirements
+lower_own_entry = refl
+
+conditional_entry : lacks (jims [] (at_terminal ∷ [])) (codes "JIM") (permit (codes "FACILITY") (general (codes "F.A"))) ≡ Some (Special ∷ Owner ∷ GroupSpecial ∷ AlterEntry ∷ [])
+unfolding need is_met permit_requirements
+conditional_entry = refl
+
+-- PERMIT of ANN.C, which SYS1 owns and whose list is empty, by ANN: her own data
+own_data_alone : lacks (record (with_ann MayUse []) { classes = class_row (codes "DATASET") (profile (data_set (codes "ANN.C")) (codes "SYS1") [] ∷ []) ∷ [] }) (codes "ANN") (permit (codes "DATASET") (data_set (codes "ANN.C"))) ≡ None
+unfolding need is_met permit_requirements
+own_data_alone = refl

@@ -1,5 +1,5 @@
--- Who may give which command. A requirement is met where one of its needs holds; what is lacking is the whole list of the
--- first requirement that isn't met.
+-- Who may give which command. A requirement is met where one of its needs holds; what is lacking is the whole list of
+-- the first requirement that isn't met.
 use Rattle.std.specs.Prelude.{Bool, false, ◌&&◌, ◌||◌, not, List, Option, option_map, codes}
 use Rattle.std.specs.List.{find, list_any}
 use Rattle.std.specs.Option.{option_map_or}

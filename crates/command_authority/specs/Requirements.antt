@@ -1,14 +1,13 @@
 -- What each command requires of its issuer: one requirement or more, in this order.
 use Rattle.std.specs.Prelude.{ℕ, Bool, true, not, List, [], ◌∷◌, ◌++◌, Option, None, Some, is_some, option_and_then, unwrap_or, codes, bytes_eq, if◌then◌else◌}
-use Rattle.std.specs.Result.{result_ok}
 use Rattle.access_levels.specs.declared.authorities.GroupAuthority.{GroupAuthority}
-use Rattle.access_levels.specs.Spelling.{id_of}
 use Rattle.generic_names.specs.Spelled.{Spelled}
 use Rattle.generic_names.specs.Covers.{is_generic}
 use Rattle.racf_profiles.specs.declared.groups.Group.{Group}
 use Rattle.racf_profiles.specs.declared.rows.Rows.{Rows}
 use Rattle.racf_profiles.specs.Lookup.{group_of}
 use Rattle.command_parser.specs.declared.commands.Issuer.{Issuer}
+use Rattle.command_parser.specs.Issuers.{group_or_current}
 use Rattle.command_parser.specs.declared.fields.AddUser.{AddUser}
 use Rattle.command_parser.specs.declared.fields.AltUser.{AltUser}
 use Rattle.command_parser.specs.declared.fields.DelUser.{DelUser}
@@ -45,11 +44,6 @@ over_where stands target needs = record { stands = stands; target = target; need
 -- A need that is in the list where the condition holds.
 abbrev pub need_where : Bool → Need → List Need
 need_where holds need = if holds then need ∷ [] else []
-
--- The default group of ADDUSER, the superior group of ADDGROUP, and the group of CONNECT and of REMOVE are by default the
--- issuer's current group.
-abbrev pub group_or_current : Issuer → Option (List ℕ) → List ℕ
-group_or_current issuer given = unwrap_or given issuer.group
 
 -- ---- users
 unfoldable pub add_user_requirements : Issuer → AddUser → List Requirement
@@ -116,19 +110,18 @@ unfoldable pub remove_requirements : Issuer → Remove → List Requirement
 remove_requirements issuer c = over_members (group_or_current issuer c.group) ∷ []
 
 -- ---- profiles
--- ADDSD is asked over the user or the group whose ID is the first qualifier. No command names a data set whose first
--- qualifier isn't spelled as an ID.
-abbrev pub over_new_data_set : Option (List ℕ) → Requirement
-over_new_data_set None = over targets.Nothing (Special ∷ [])
-over_new_data_set (Some qualifier) = over (targets.DataSets qualifier) (Special ∷ OwnData ∷ Create qualifier ∷ GroupSpecial ∷ [])
+-- ADDSD is asked over the user or the group whose ID is the first qualifier.
+abbrev pub over_new_data_set : List ℕ → Requirement
+over_new_data_set qualifier = over (targets.DataSets qualifier) (Special ∷ OwnData ∷ Create qualifier ∷ GroupSpecial ∷ [])
 
 unfoldable pub add_sd_requirements : AddSd → List Requirement
-add_sd_requirements c = over_new_data_set (result_ok (id_of (first_qualifier c.profile.text))) ∷ []
+add_sd_requirements c = over_new_data_set (first_qualifier c.profile.text) ∷ []
 
 unfoldable pub r_define_requirements : RDefine → List Requirement
 r_define_requirements c = over targets.Nothing (Special ∷ ClassAuthority c.class ∷ []) ∷ []
 
--- The other commands on profiles: one's own data count in class DATASET, and an entry with ALTER for a discrete profile.
+-- The other commands on profiles: one's own data count in class DATASET, and an entry with ALTER for a discrete
+-- profile.
 abbrev pub dataset : List ℕ
 dataset = codes "DATASET"
 

@@ -2,7 +2,7 @@
 ghost use Rattle.std.specs.Prelude.{◌≡◌, option_and_then};
 ghost use Rattle.racf_profiles.specs.declared.groups.Group.{Group};
 ghost use Rattle.racf_profiles.specs.Lookup.{group_of};
-ghost use Rattle.command_authority.specs.Requirements.{group_or_current, below, leaving, giving, over_members, add_group_requirements, alt_group_requirements, del_group_requirements, connect_requirements, remove_requirements};
+ghost use Rattle.command_authority.specs.Requirements.{below, leaving, giving, over_members, add_group_requirements, alt_group_requirements, del_group_requirements, connect_requirements, remove_requirements};
 
 use crate::needs::{Need, Needs};
 use crate::operands::alters_group_attribute;
@@ -11,19 +11,12 @@ use access_levels::{GroupAuthority, Id};
 use command_parser::{AddGroup, AltGroup, Connect, DelGroup, Issuer, Remove};
 use racf_profiles::View;
 
-/// The group that is named, or else the issuer's current one.
-pub(crate) fn group_or_current(issuer: &Issuer, given: Option<Id>) -> Id
-    ensures { result ≡ group_or_current issuer.now given }
-{
-    given.unwrap_or(issuer.group)
-}
-
 /// What ADDGROUP requires.
 #[tactic(auto, unfolding(crate::specs::Requirements::add_group_requirements))]
 pub(crate) fn add_group(issuer: &Issuer, command: &AddGroup) -> [Requirement; 1]
     ensures { result ≡ add_group_requirements issuer.now command.now }
 {
-    let superior = group_or_current(issuer, command.supgroup);
+    let superior = issuer.group_or_current(command.supgroup);
     [over(Target::Group(superior), below(superior))]
 }
 
@@ -89,7 +82,7 @@ fn leaving(superior: Option<Id>) -> Needs
 pub(crate) fn connect(issuer: &Issuer, command: &Connect) -> [Requirement; 3]
     ensures { result ≡ connect_requirements issuer.now command.now }
 {
-    let group = group_or_current(issuer, command.group);
+    let group = issuer.group_or_current(command.group);
     [
         over_members(group),
         over_where(
@@ -110,7 +103,7 @@ pub(crate) fn connect(issuer: &Issuer, command: &Connect) -> [Requirement; 3]
 pub(crate) fn remove(issuer: &Issuer, command: &Remove) -> [Requirement; 1]
     ensures { result ≡ remove_requirements issuer.now command.now }
 {
-    [over_members(group_or_current(issuer, command.group))]
+    [over_members(issuer.group_or_current(command.group))]
 }
 
 /// What connections to a group require.

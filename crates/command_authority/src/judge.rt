@@ -16,7 +16,8 @@ use crate::targets::{
 };
 use crate::users::{add_user, alt_user, del_user};
 use access_levels::GroupAuthority;
-use command_parser::{Command, CommandFields, Issuer};
+use command_parser::laws::fields_of_a_text_are_lawful;
+use command_parser::{Command, CommandFields, Issuer, printed_is_read};
 use group_tree::Tree;
 use group_tree::laws::scope_is_tested;
 use racf_profiles::{User, View};
@@ -45,6 +46,9 @@ pub fn authorised<V: View>(
 {
     groups_are_a_tree(tree);
     scope_is_tested();
+    // The first qualifier of a data set profile that a text spells is an ID.
+    printed_is_read(command);
+    fields_of_a_text_are_lawful();
     match command.fields() {
         CommandFields::AddUser(command) => unmet(view, tree, issuer, &add_user(issuer, command)),
         CommandFields::AltUser(command) => unmet(view, tree, issuer, &alt_user(command)),

@@ -1,6 +1,5 @@
 //! What the commands on profiles require.
-ghost use Rattle.std.specs.Prelude.{◌≡◌, bytes_eq};
-ghost use Rattle.std.specs.Result.{result_ok};
+ghost use Rattle.std.specs.Prelude.{◌≡◌, bytes_eq, is_ok, IsTrue};
 ghost use Rattle.access_levels.specs.Spelling.{id_of};
 ghost use Rattle.generic_names.specs.Spelled.{first_qualifier};
 ghost use Rattle.command_authority.specs.Requirements.{dataset, over_new_data_set, profile_needs, over_profile, auditing, add_sd_requirements, alt_sd_requirements, del_sd_requirements, r_define_requirements, r_alter_requirements, r_delete_requirements, permit_requirements};
@@ -16,28 +15,34 @@ use racf_profiles::FixedClass;
 /// What ADDSD requires.
 #[tactic(auto, unfolding(crate::specs::Requirements::add_sd_requirements))]
 pub(crate) fn add_sd(command: &AddSd) -> [Requirement; 1]
+    requires { IsTrue (is_ok (id_of (first_qualifier command.now.profile.text))) }
     ensures { result ≡ add_sd_requirements command.now }
 {
-    let qualifier = Id::read(first_qualifier(command.profile.text())).ok();
-    [over_new_data_set(qualifier)]
+    [over_new_data_set(qualifier_of(&command.profile))]
+}
+
+/// The first qualifier of a data set profile's name, which is an ID.
+fn qualifier_of(name: &Pattern) -> Id
+    requires { IsTrue (is_ok (id_of (first_qualifier name.now.text))) }
+    ensures { result ≡ first_qualifier name.now.text }
+{
+    match Id::read(first_qualifier(name.text())) {
+        Ok(qualifier) => qualifier,
+        Err(_) => unreachable!(),
+    }
 }
 
 /// What a new data set profile requires, by its first qualifier.
-fn over_new_data_set(qualifier: Option<Id>) -> Requirement
+fn over_new_data_set(qualifier: Id) -> Requirement
     ensures { result ≡ over_new_data_set qualifier }
 {
-    match qualifier {
-        None => over(Target::Nothing, Needs::of(&[Need::Special])),
-        Some(qualifier) => {
-            let needs = Needs::of(&[
-                Need::Special,
-                Need::OwnData,
-                Need::Create(qualifier),
-                Need::GroupSpecial,
-            ]);
-            over(Target::DataSets(qualifier), needs)
-        }
-    }
+    let needs = Needs::of(&[
+        Need::Special,
+        Need::OwnData,
+        Need::Create(qualifier),
+        Need::GroupSpecial,
+    ]);
+    over(Target::DataSets(qualifier), needs)
 }
 
 /// What RDEFINE requires.

@@ -2,7 +2,6 @@
 ghost use Rattle.std.specs.Prelude.{◌≡◌};
 ghost use Rattle.command_authority.specs.Requirements.{add_user_requirements, alt_user_requirements, del_user_requirements};
 
-use crate::groups::group_or_current;
 use crate::needs::{Need, Needs};
 use crate::operands::{alters_attribute, alters_uaudit, alters_uaudit_alone, gives_attribute};
 use crate::requirement::{Requirement, Target, over, over_where};
@@ -13,7 +12,7 @@ use command_parser::{AddUser, AltUser, DelUser, Issuer};
 pub(crate) fn add_user(issuer: &Issuer, command: &AddUser) -> [Requirement; 2]
     ensures { result ≡ add_user_requirements issuer.now command.now }
 {
-    let group = group_or_current(issuer, command.dfltgrp);
+    let group = issuer.group_or_current(command.dfltgrp);
     let needs = Needs::of(&[
         Need::Special,
         Need::UserJoin(group),

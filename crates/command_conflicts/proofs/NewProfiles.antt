@@ -18,10 +18,11 @@ use Rattle.racf_profiles.specs.Counts.{profile_count, entry_count, entries_in}
 use Rattle.racf_profiles.specs.ClassTable.{class_name, fixed_classes}
 use Rattle.racf_profiles.specs.LawfulProfiles.{AreClasses, AreProfiles, kind_in}
 use Rattle.racf_profiles.proofs.OrderedProfiles.{profile-put}
-use Rattle.racf_profiles.proofs.States.{at_class-found}
+use Rattle.racf_profiles.proofs.States.{at_class-found, find-passes}
 use Rattle.std.proofs.lemmas.List.Sums.{sum_by-cons}
+use Rattle.access_levels.proofs.Options.{none_from_is_some}
+use Rattle.racf_profiles.proofs.Found.{all-found}
 use Rattle.class_profiles.specs.Classes.{profile_in}
-use Rattle.group_tree.proofs.Edits.{none_from_is_some}
 use Rattle.command_effects.specs.ProfileEffects.{profile_put, profile_changed, dataset}
 use Rattle.command_conflicts.specs.declared.conflict.Conflict.{Conflict}
 use Rattle.command_conflicts.specs.declared.conflict.Conflict.TheVariants.{Full}
@@ -98,14 +99,6 @@ module _ (class : List ℕ) (p : Profile) (rows : Rows) (row : ClassRow) (found 
       omega (arith, sum-changed class (λ (c : ClassRow). length c.profiles) (with_profile p) 1 row rows.classes found step)
 
 -- ---- a profile that is there, changed
-found-passes : {X : Type 0} (p : X → Bool) (x : X) (xs : List X) → find p xs ≡ Some x → p x ≡ true
-found-passes p x [] found = cc
-found-passes p x (y ∷ ys) found = by (p y) refl found (found-passes p x ys)
-  where
-    by : (b : Bool) → p y ≡ b → cond b (Some y) (find p ys) ≡ Some x → (find p ys ≡ Some x → p x ≡ true) → p x ≡ true
-    by true is here rest = let same : y ≡ x = cc in sym (ap p same) ∙ is
-    by false is here rest = rest here
-
 in_class : (class : List ℕ) (name : Spelled) (o : Option ClassRow) (old : Profile) → option_and_then (λ (r : ClassRow). find (is_profile name) r.profiles) o ≡ Some old → (row : ClassRow) × (o ≡ Some row) × (find (is_profile name) row.profiles ≡ Some old)
 in_class class name None old found = cc
 in_class class name (Some row) old found = (row, refl, found)
@@ -124,7 +117,7 @@ module _ (class : List ℕ) (name : Spelled) (change : Profile → Profile) (kee
     text : (change old).name.text ≡ name.text
     text =
         let there = in_class class name (class_of class rows) old found in
-        ap (λ (n : Spelled). n.text) (keeps old) ∙ (bytes_eq-Decides old.name.text name.text).0 (found-passes (is_profile name) old there.0.profiles there.2)
+        ap (λ (n : Spelled). n.text) (keeps old) ∙ (bytes_eq-Decides old.name.text name.text).0 (find-passes (is_profile name) old there.0.profiles there.2)
 
     pub changed-there : profile_of class name (profile_changed class name change rows) ≡ Some (change old)
     changed-there =
@@ -143,18 +136,10 @@ module _ (class : List ℕ) (name : Spelled) (change : Profile → Profile) (kee
         let profiles : AreProfiles (kind_in row.name) row.profiles = all-found (λ (c : ClassRow). AreProfiles (kind_in c.name) c.profiles) (is_class class) rows.classes row lawful.lawful there.1 in
         let kind = (all-found (λ (p : Profile). IsPattern p.name × (p.name.kind ≡ kind_in row.name)) (is_profile name) row.profiles old profiles.named there.2).1 in
         let same : (change old).name.kind ≡ kind_in class =
-        ap (λ (n : Spelled). n.kind) (keeps old) ∙ kind ∙ ap kind_in ((bytes_eq-Decides row.name class).0 (found-passes (is_class class) row rows.classes there.1)) in
+        ap (λ (n : Spelled). n.kind) (keeps old) ∙ kind ∙ ap kind_in ((bytes_eq-Decides row.name class).0 (find-passes (is_class class) row rows.classes there.1)) in
         let before : option_map_or entries_in (profile_in class (change old).name rows.classes) 0 ≡ entries_in old =
         ap (λ (t : List ℕ). option_map_or entries_in (profile_of class (let n : Spelled = record { kind = name.kind; text = t } in n) rows) 0) text ∙ ap (λ o. option_map_or entries_in o 0) found in
         omega (arith, counted class there.0 (change old) rows.classes lawful there.1 same, before, ap (λ (r : Rows). entry_count r.classes) changed-is)
-      where
-        all-found : {X : Type 0} (P : X → Type 0) (it : X → Bool) (xs : List X) (x : X) → AllByRecursion P xs → find it xs ≡ Some x → P x
-        all-found P it [] x all found = cc
-        all-found P it (y ∷ ys) x all found = by (it y) found (all-found P it ys x all.1)
-          where
-            by : (b : Bool) → cond b (Some y) (find it ys) ≡ Some x → (find it ys ≡ Some x → P x) → P x
-            by true here rest = let same : y ≡ x = cc in subst P same all.0
-            by false here rest = rest here
 
     -- and they are no more than all
     pub entries-le : entries_in old ≤ entry_count rows.classes

@@ -2,9 +2,8 @@
 use Rattle.std.proofs.Common.{◌≡◌, ℕ, ◌≤◌, nat_le, Bool, true, false, cond, ◌&&◌, List, [], ◌∷◌, ◌++◌, Option, None, Some, option_map, option_and_then, refl, sym, ap, ◌∙◌, arith}
 use Rattle.std.specs.Prelude.{find}
 use Rattle.std.specs.List.{list_all}
-use Rattle.std.proofs.lemmas.Bool.{and_from}
+use Rattle.std.proofs.lemmas.Bool.{and_from, and_parts}
 use Rattle.std.proofs.lemmas.Bool.Decides.{nat_tests}
-use Rattle.racf_profiles.proofs.Found.{all_head, all_tail}
 use Rattle.command_conflicts.specs.declared.conflict.Conflict.{Conflict}
 use Rattle.command_conflicts.specs.Required.{if_met, first_met}
 use Rattle.command_conflicts.specs.Numbers.{number_of, met, is_ascending, is_early}
@@ -46,19 +45,19 @@ are_sorted (n ∷ numbers) = list_all (λ m. nat_le n m) numbers && are_sorted n
 met-above : (m : ℕ) (tests : List (Option Conflict)) (numbers : List ℕ) → AreNumbered tests numbers → list_all (λ n. nat_le m n) numbers ≡ true → list_all (λ other. nat_le m (number_of other)) (met tests) ≡ true
 met-above m [] numbers is above = refl
 met-above m (None ∷ tests) [] is above = absurd is
-met-above m (None ∷ tests) (n ∷ numbers) is above = met-above m tests numbers is.1 (all_tail (nat_le m n) _ above)
+met-above m (None ∷ tests) (n ∷ numbers) is above = met-above m tests numbers is.1 (and_parts (nat_le m n) _ above).1
 met-above m (Some conflict ∷ tests) [] is above = absurd is
 met-above m (Some conflict ∷ tests) (n ∷ numbers) is above =
-    and_from _ _ (ap (nat_le m) (is.0 conflict refl) ∙ all_head (nat_le m n) (list_all (λ k. nat_le m k) numbers) above) (met-above m tests numbers is.1 (all_tail (nat_le m n) _ above))
+    and_from _ _ (ap (nat_le m) (is.0 conflict refl) ∙ (and_parts (nat_le m n) (list_all (λ k. nat_le m k) numbers) above).0) (met-above m tests numbers is.1 (and_parts (nat_le m n) _ above).1)
 
 pub met-ascending : (tests : List (Option Conflict)) (numbers : List ℕ) → AreNumbered tests numbers → are_sorted numbers ≡ true → is_ascending (met tests) ≡ true
 met-ascending [] numbers is sorted = refl
 met-ascending (None ∷ tests) [] is sorted = absurd is
-met-ascending (None ∷ tests) (n ∷ numbers) is sorted = met-ascending tests numbers is.1 (all_tail (list_all (λ m. nat_le n m) numbers) _ sorted)
+met-ascending (None ∷ tests) (n ∷ numbers) is sorted = met-ascending tests numbers is.1 (and_parts (list_all (λ m. nat_le n m) numbers) _ sorted).1
 met-ascending (Some conflict ∷ tests) [] is sorted = absurd is
 met-ascending (Some conflict ∷ tests) (n ∷ numbers) is sorted =
-    and_from _ _ (ap (λ k. list_all (λ other. nat_le k (number_of other)) (met tests)) (is.0 conflict refl) ∙ met-above n tests numbers is.1 (all_head (list_all (λ m. nat_le n m) numbers) (are_sorted numbers) sorted))
-    (met-ascending tests numbers is.1 (all_tail (list_all (λ m. nat_le n m) numbers) _ sorted))
+    and_from _ _ (ap (λ k. list_all (λ other. nat_le k (number_of other)) (met tests)) (is.0 conflict refl) ∙ met-above n tests numbers is.1 (and_parts (list_all (λ m. nat_le n m) numbers) (are_sorted numbers) sorted).0)
+    (met-ascending tests numbers is.1 (and_parts (list_all (λ m. nat_le n m) numbers) _ sorted).1)
 
 -- ---- the first of them
 first_met-met : (tests : List (Option Conflict)) → first_met tests ≡ find (λ conflict. true) (met tests)
@@ -70,9 +69,9 @@ first_met-met (Some conflict ∷ tests) = refl
 none-early : (m : ℕ) (conflicts : List Conflict) → nat_le m 6 ≡ false → list_all (λ other. nat_le m (number_of other)) conflicts ≡ true → find is_early conflicts ≡ None
 none-early m [] late above = refl
 none-early m (conflict ∷ conflicts) late above =
-    let more : nat_le m (number_of conflict) ≡ true = all_head (nat_le m (number_of conflict)) (list_all (λ other. nat_le m (number_of other)) conflicts) above in
+    let more : nat_le m (number_of conflict) ≡ true = (and_parts (nat_le m (number_of conflict)) (list_all (λ other. nat_le m (number_of other)) conflicts) above).0 in
     let late_too : nat_le (number_of conflict) 6 ≡ false = grind (arith, nat_tests) in
-    ap (λ b. cond b (Some conflict) (find is_early conflicts)) late_too ∙ none-early m conflicts late (all_tail (nat_le m (number_of conflict)) _ above)
+    ap (λ b. cond b (Some conflict) (find is_early conflicts)) late_too ∙ none-early m conflicts late (and_parts (nat_le m (number_of conflict)) _ above).1
 
 early-of : (conflicts : List Conflict) → is_ascending conflicts ≡ true → find is_early conflicts ≡ option_and_then (λ conflict. cond (is_early conflict) (Some conflict) None) (find (λ conflict. true) conflicts)
 early-of [] sorted = refl
@@ -80,7 +79,7 @@ early-of (conflict ∷ conflicts) sorted = by (is_early conflict) refl
   where
     by : (b : Bool) → is_early conflict ≡ b → cond b (Some conflict) (find is_early conflicts) ≡ cond b (Some conflict) None
     by true is = refl
-    by false is = none-early (number_of conflict) conflicts is (all_head (list_all (λ other. nat_le (number_of conflict) (number_of other)) conflicts) (is_ascending conflicts) sorted)
+    by false is = none-early (number_of conflict) conflicts is (and_parts (list_all (λ other. nat_le (number_of conflict) (number_of other)) conflicts) (is_ascending conflicts) sorted).0
 
 pub early-first : (tests : List (Option Conflict)) → is_ascending (met tests) ≡ true → find is_early (met tests) ≡ option_and_then (λ conflict. cond (is_early conflict) (Some conflict) None) (first_met tests)
 early-first tests sorted = early-of (met tests) sorted ∙ ap (option_and_then (λ conflict. cond (is_early conflict) (Some conflict) None)) (sym (first_met-met tests))

@@ -4,12 +4,13 @@ use Rattle.std.specs.Prelude.{nat_lt}
 use Rattle.std.specs.Option.{option_map}
 use Rattle.std.proofs.lemmas.Bool.{not-false, or_parts}
 use Rattle.std.proofs.lemmas.Bool.Decides.{nat_tests}
+use Rattle.access_levels.proofs.Options.{none_from_is_some}
 use Rattle.racf_profiles.specs.declared.groups.Group.{Group}
 use Rattle.racf_profiles.specs.declared.rows.Rows.{Rows}
 use Rattle.racf_profiles.specs.Lookup.{user_of, group_of}
 use Rattle.group_tree.specs.Groups.{first_subgroup}
 use Rattle.group_tree.proofs.Rows.{itself}
-use Rattle.group_tree.proofs.Edits.{none_from_is_some, none_from_map}
+use Rattle.group_tree.proofs.Edits.{none_from_map}
 use Rattle.command_conflicts.specs.declared.conflict.Conflict.{Conflict}
 use Rattle.command_conflicts.specs.declared.conflict.Conflict.TheVariants.{Root}
 use Rattle.command_conflicts.specs.declared.conflict.Limit.{Limit}

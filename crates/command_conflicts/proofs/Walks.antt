@@ -2,6 +2,7 @@
 use Rattle.std.proofs.Common.{◌≡◌, ℕ, ◌<◌, zero, suc, Bool, true, false, ◌||◌, List, [], ◌∷◌, ◌++◌, length, Option, None, Some, is_some, bytes_eq, refl, sym, ap, subst, ◌∙◌, true≢false, arith, length-append}
 use Rattle.std.specs.List.{list_any}
 use Rattle.std.specs.Option.{option_map_or}
+use Rattle.std.proofs.lemmas.Bool.{or_right}
 use Rattle.racf_profiles.specs.declared.groups.Group.{Group}
 use Rattle.racf_profiles.specs.NewDatabase.{sys1}
 use Rattle.racf_profiles.specs.Lookup.{find_group, IsGroup}
@@ -33,11 +34,7 @@ met-way (suc steps) groups from (next ∷ others) to short way =
     ap (meets_in to) (unfold_found steps groups from row.0 row.1)
     ∙ ap (λ o. bytes_eq row.0.id to || meets_in to (option_map_or (walk_up steps groups) o [])) up
     ∙ ap (λ b. bytes_eq row.0.id to || b) rest
-    ∙ or-true (bytes_eq row.0.id to)
-  where
-    or-true : (b : Bool) → (b || true) ≡ true
-    or-true true = refl
-    or-true false = refl
+    ∙ or_right (bytes_eq row.0.id to) true refl
 
 -- what a walk meets is on a way up
 pub way-met : (steps : ℕ) (groups : List Group) (from to : List ℕ) → meets_in to (walk_up steps groups from) ≡ true → IsWithin groups to from

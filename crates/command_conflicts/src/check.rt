@@ -16,7 +16,7 @@ mod users;
 
 use crate::conflict::Conflict;
 use crate::unbuilt::is_unbuilt;
-use command_effects::{dataset, group_or_current};
+use command_effects::dataset;
 use command_parser::{
     AddGroup, AddSd, AddUser, AltGroup, AltSd, AltUser, Command, CommandFields, Connect, DelGroup,
     DelSd, DelUser, Issuer, Permit, RAlter, RDefine, RDelete, Remove,
@@ -134,7 +134,7 @@ fn check_add_user(tables: &RowTables, issuer: &Issuer, command: &AddUser) -> Res
 {
     first_conflict![
         check_owner(tables, command.owner),
-        check_group(tables, group_or_current(issuer, command.dfltgrp)),
+        check_group(tables, issuer.group_or_current(command.dfltgrp)),
         check_classes(tables, &command.clauth),
         check_free(tables, command.user),
         check_level(tables, command.seclevel),
@@ -184,7 +184,7 @@ fn check_add_group(tables: &RowTables, issuer: &Issuer, command: &AddGroup) -> R
 {
     first_conflict![
         check_owner(tables, command.owner),
-        check_group(tables, group_or_current(issuer, command.supgroup)),
+        check_group(tables, issuer.group_or_current(command.supgroup)),
         check_free(tables, command.group),
         check_new_owner(tables, issuer, command),
         check_group_fits(tables, issuer, command),
@@ -225,7 +225,7 @@ fn check_del_group(tables: &RowTables, command: &DelGroup) -> Result<(), Conflic
 fn check_connect(tables: &RowTables, issuer: &Issuer, command: &Connect) -> Result<(), Conflict>
     ensures { result_err result ≡ first_met (connect_conflicts issuer.now command.now tables.now.rows) }
 {
-    let group = group_or_current(issuer, command.group);
+    let group = issuer.group_or_current(command.group);
     first_conflict![
         check_user(tables, command.user),
         check_group(tables, group),
@@ -239,7 +239,7 @@ fn check_connect(tables: &RowTables, issuer: &Issuer, command: &Connect) -> Resu
 fn check_remove(tables: &RowTables, issuer: &Issuer, command: &Remove) -> Result<(), Conflict>
     ensures { result_err result ≡ first_met (remove_conflicts issuer.now command.now tables.now.rows) }
 {
-    let group = group_or_current(issuer, command.group);
+    let group = issuer.group_or_current(command.group);
     first_conflict![
         check_user(tables, command.user),
         check_group(tables, group),

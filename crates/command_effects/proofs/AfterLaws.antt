@@ -10,6 +10,7 @@ use Rattle.racf_profiles.specs.Edits.{drop_row}
 use Rattle.command_parser.specs.declared.commands.Issuer.{Issuer}
 use Rattle.command_parser.specs.declared.fields.Connect.{Connect}
 use Rattle.racf_profiles.specs.Names.{is_to, connections_added, connected_to, connections, is_special_user, special_user_count, special_users}
+use Rattle.racf_profiles.proofs.EditLaws.{drop_row-absent}
 use Rattle.command_effects.specs.Effects.{at_row, altered_connection, connects_after, connected_user, group_or_current}
 use Rattle.row_tables.proofs.RowLaws.{sum-put_row, sum-drop_row, put_row-at_row}
 
@@ -19,14 +20,6 @@ module _ {X : Type 0} (it : X → Bool) (change : X → X) where
   at_row-absent (x ∷ xs) none = by (it x) none (at_row-absent xs)
     where
       by : (b : Bool) → cond b (Some x) (find it xs) ≡ None → (find it xs ≡ None → at_row it change xs ≡ xs) → cond b (change x ∷ xs) (x ∷ at_row it change xs) ≡ x ∷ xs
-      by true f rest = cc
-      by false f rest = ap (λ ys. x ∷ ys) (rest f)
-
-  pub drop_row-absent : (rows : List X) → find it rows ≡ None → drop_row it rows ≡ rows
-  drop_row-absent [] none = refl
-  drop_row-absent (x ∷ xs) none = by (it x) none (drop_row-absent xs)
-    where
-      by : (b : Bool) → cond b (Some x) (find it xs) ≡ None → (find it xs ≡ None → drop_row it xs ≡ xs) → cond b xs (x ∷ drop_row it xs) ≡ x ∷ xs
       by true f rest = cc
       by false f rest = ap (λ ys. x ∷ ys) (rest f)
 
@@ -62,7 +55,7 @@ pub special_users-altered : (id : List ℕ) (change : User → User) (users : Li
 special_users-altered id change users = by (find (is_user id) users) refl
   where
     by : (o : Option User) → find (is_user id) users ≡ o → special_users (at_row (is_user id) change users) ≡ special_users (drop_row (is_user id) users) + cond (option_map_or (λ (user : User). is_special_user (change user)) o false) 1 0
-    by None none = omega (arith, ap special_users (at_row-absent (is_user id) change users none), ap special_users (drop_row-absent (is_user id) change users none))
+    by None none = omega (arith, ap special_users (at_row-absent (is_user id) change users none), ap special_users (drop_row-absent (is_user id) users none))
     by (Some user) found = sum-at_row-drop (is_user id) change special_user_count users user found
 
 -- a class of the table is found among the rows of the classes
@@ -73,8 +66,3 @@ is_some-find-map f test (x ∷ xs) = by (test (f x)) (is_some-find-map f test xs
     by : (b : Bool) → is_some (find test (map f xs)) ≡ is_some (find (λ y. test (f y)) xs) → is_some (cond b (Some (f x)) (find test (map f xs))) ≡ is_some (cond b (Some x) (find (λ y. test (f y)) xs))
     by true rest = refl
     by false rest = rest
-
-pub same_truth : (a b : Bool) → (a ≡ true → b ≡ true) → (b ≡ true → a ≡ true) → a ≡ b
-same_truth true b f g = sym (f refl)
-same_truth false true f g = g refl
-same_truth false false f g = refl

@@ -2,10 +2,7 @@
 use Rattle.std.proofs.Common.{◌≡◌, ℕ, ◌+◌, ◌-◌, ◌≤◌, Bool, true, false, cond, ◌||◌, List, [], ◌∷◌, length, refl, sym, ap, ◌∙◌, arith}
 use Rattle.std.specs.Prelude.{fold}
 use Rattle.std.specs.List.{list_any}
-
-pub or-assoc : (a b c : Bool) → ((a || b) || c) ≡ (a || (b || c))
-or-assoc true b c = refl
-or-assoc false b c = refl
+use Rattle.std.proofs.Math.Bool.{or_assoc}
 
 pub or-comm : (a b : Bool) → (a || b) ≡ (b || a)
 or-comm true true = refl
@@ -30,7 +27,7 @@ module _ {X K : Type 0} (put : (X → Bool) → X → List X → List X) (is : K
           → list_any (is j) (cond t (made k ∷ xs) (x ∷ put (is k) (made k) xs)) ≡ ((is j x || list_any (is j) xs) || same k j)
       by true t rest =
           ap (λ s. s || list_any (is j) xs) (own j k) ∙ twice (same k j) (list_any (is j) xs) ∙ ap (λ s. (s || list_any (is j) xs) || same k j) (sym (alike j k x t))
-      by false t rest = ap (λ a. is j x || a) rest ∙ sym (or-assoc (is j x) (list_any (is j) xs) (same k j))
+      by false t rest = ap (λ a. is j x || a) rest ∙ sym (or_assoc (is j x) (list_any (is j) xs) (same k j))
 
   pub length-put : (k : K) (list : List X) → length (put (is k) (made k) list) ≡ length list + cond (list_any (is k) list) 0 1
   length-put k [] = ap (λ (xs : List X). length xs) (put_none (is k) (made k))
@@ -49,7 +46,7 @@ module _ {X K : Type 0} (put : List X → K → List X) (is : K → X → Bool) 
   any-fold j list [] = sym (or-comm (list_any (is j) list) false)
   any-fold j list (k ∷ ks) =
       any-fold j (put list k) ks ∙ ap (λ a. a || list_any (λ k. same k j) ks) (any_put j k list)
-      ∙ or-assoc (list_any (is j) list) (same k j) (list_any (λ k. same k j) ks)
+      ∙ or_assoc (list_any (is j) list) (same k j) (list_any (λ k. same k j) ks)
 
   pub length-more : (k : K) (list : List X) (ks : List K) → length (put (fold put list ks) k) ≡ length (fold put list ks) + cond (list_any (is k) list || list_any (λ j. same j k) ks) 0 1
   length-more k list ks = length_put k (fold put list ks) ∙ ap (λ b. length (fold put list ks) + cond b 0 1) (any-fold k list ks)

@@ -5,6 +5,7 @@ use Rattle.std.proofs.lemmas.Bool.Decides.{nat_tests}
 use Rattle.std.proofs.lemmas.List.Sums.{length-filter}
 use Rattle.std.proofs.lemmas.List.Filters.{length-filter_both}
 use Rattle.std.specs.List.{list_any}
+use Rattle.std.proofs.Math.Bool.{or_assoc}
 use Rattle.access_levels.specs.declared.entries.Who.{Who}
 use Rattle.access_levels.specs.declared.entries.Who.TheVariants.{Star, Named}
 use Rattle.access_levels.specs.declared.entries.Entry.{Entry}
@@ -21,10 +22,10 @@ use Rattle.command_effects.specs.Security.{is_category_member}
 use Rattle.command_effects.specs.UserEffects.{with_class}
 use Rattle.command_effects.specs.Members.{member_name, is_member_named, with_member, with_category_name, category_repeats}
 use Rattle.command_effects.specs.PermitEffects.{level_of, with_entry, with_conditional}
-use Rattle.command_effects.proofs.LengthAfterPuts.{or-assoc, or-comm, any-put, length-put, length-more}
+use Rattle.command_effects.proofs.LengthAfterPuts.{or-comm, any-put, length-put, length-more}
 
 -- ---- standard entries
-same_who : (a b : Who) → is_same_who a b ≡ true → a ≡ b
+pub same_who : (a b : Who) → is_same_who a b ≡ true → a ≡ b
 same_who Star Star h = refl
 same_who Star (Named id) h = absurd (true≢false (sym h))
 same_who (Named id) Star h = absurd (true≢false (sym h))
@@ -156,7 +157,7 @@ has_name name names = list_any (λ other. bytes_eq other name) names
 
 list_any-append : {X : Type 0} (p : X → Bool) (xs ys : List X) → list_any p (xs ++ ys) ≡ (list_any p xs || list_any p ys)
 list_any-append p [] ys = refl
-list_any-append p (x ∷ xs) ys = ap (λ b. p x || b) (list_any-append p xs ys) ∙ sym (or-assoc (p x) (list_any p xs) (list_any p ys))
+list_any-append p (x ∷ xs) ys = ap (λ b. p x || b) (list_any-append p xs ys) ∙ sym (or_assoc (p x) (list_any p xs) (list_any p ys))
 
 any-class : (name c : List ℕ) (names : List (List ℕ)) → has_name name (with_class names c) ≡ (has_name name names || bytes_eq c name)
 any-class name c names = by (has_name c names) refl
@@ -186,7 +187,7 @@ any-categories : (name : List ℕ) (ms : List Member) (names : List (List ℕ)) 
 any-categories name [] names = sym (or-comm (has_name name names) false)
 any-categories name (m ∷ ms) names =
     any-categories name ms (with_category_name names m) ∙ ap (λ b. b || list_any (is_category_member name) ms) (any-category name m names)
-    ∙ or-assoc (has_name name names) (is_category_member name m) (list_any (is_category_member name) ms)
+    ∙ or_assoc (has_name name names) (is_category_member name m) (list_any (is_category_member name) ms)
 
 pub categories-more : (names : List (List ℕ)) (ms : List Member) (m : Member) → length (with_category_name (fold with_category_name names ms) m) + category_repeats m ms names ≡ length (fold with_category_name names ms) + 1
 categories-more names ms (Access resources level) = refl

@@ -8,7 +8,8 @@ use Rattle.command_parser.specs.declared.fields.CommandFields.{CommandFields}
 use Rattle.command_parser.specs.declared.fields.CommandFields.TheVariants as fields
 use Rattle.command_effects.specs.ProfileEffects.{after_add_sd, after_alt_sd, after_del_sd, after_r_define, after_r_alter, after_r_delete}
 use Rattle.command_effects.specs.PermitEffects.{after_permit}
-pub use Rattle.command_effects.specs.UserEffects.{switched, with_class, without_classes, group_or_current, owner_or_issuer, new_connection, first_attributes, new_user, attributes_after, level_after, label_after, altered_user, new_group, altered_group, altered_connection, connects_after, connected_user, removed_user}
+pub use Rattle.command_effects.specs.UserEffects.{switched, with_class, without_classes, owner_or_issuer, new_connection, first_attributes, new_user, attributes_after, level_after, label_after, altered_user, new_group, altered_group, altered_connection, connects_after, connected_user, removed_user}
+pub use Rattle.command_parser.specs.Issuers.{group_or_current}
 pub use Rattle.row_tables.specs.ChangedRow.{at_row}
 
 -- The rows after a command. What is new goes last. DELUSER takes the user's connections with it; what else names a user

@@ -10,6 +10,7 @@ use Rattle.racf_profiles.specs.declared.groups.Group.{Group}
 use Rattle.racf_profiles.specs.declared.rows.Rows.{Rows}
 use Rattle.racf_profiles.specs.Edits.{drop_row}
 use Rattle.command_parser.specs.declared.commands.Issuer.{Issuer}
+use Rattle.command_parser.specs.Issuers.{group_or_current}
 use Rattle.command_parser.specs.declared.fields.AddUser.{AddUser}
 use Rattle.command_parser.specs.declared.fields.AltUser.{AltUser}
 use Rattle.command_parser.specs.declared.fields.AddGroup.{AddGroup}
@@ -30,11 +31,7 @@ with_class classes name = if list_any (λ other. bytes_eq other name) classes th
 abbrev pub without_classes : List (List ℕ) → List (List ℕ) → List (List ℕ)
 without_classes gone classes = filter (λ name. not (list_any (λ other. bytes_eq other name) gone)) classes
 
--- The default group of ADDUSER, the group of CONNECT and of REMOVE, and the superior group of ADDGROUP are by default
--- the issuer's current group; an owner is by default the issuer.
-abbrev pub group_or_current : Issuer → Option (List ℕ) → List ℕ
-group_or_current issuer given = unwrap_or given issuer.group
-
+-- An owner is by default the issuer.
 abbrev pub owner_or_issuer : Issuer → Option (List ℕ) → List ℕ
 owner_or_issuer issuer given = unwrap_or given issuer.id
 

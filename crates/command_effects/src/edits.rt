@@ -136,38 +136,3 @@ pub(crate) fn one(alloc: Global, edit: Edit) -> Result<Vec<Edit>, NoMemory>
     edits.push(edit)?;
     Ok(edits)
 }
-
-/// Equal edits.
-///
-/// # Errors
-///
-/// Want of memory.
-pub fn copies(alloc: Global, edits: &[Edit]) -> Result<Vec<Edit>, NoMemory>
-    ensures { IfOk result (λ copies. copies.items ≡ edits.now) }
-{
-    let mut copies = Vec::new(alloc);
-    for edit in edits {
-        copies.push(copy(alloc, edit)?)?;
-    }
-    Ok(copies)
-}
-
-/// An equal edit.
-fn copy(alloc: Global, edit: &Edit) -> Result<Edit, NoMemory>
-    ensures { IfOk result (λ copy. copy ≡ edit.now) }
-{
-    Ok(match edit {
-        Edit::PutUser(user) => Edit::PutUser(user.copy(alloc)?),
-        Edit::DropUser(id) => Edit::DropUser(*id),
-        Edit::PutGroup(group) => Edit::PutGroup(*group),
-        Edit::DropGroup(id) => Edit::DropGroup(*id),
-        Edit::PutProfile(class, profile) => Edit::PutProfile(*class, profile.copy(alloc)?),
-        Edit::DropProfile(class, name) => Edit::DropProfile(*class, *name),
-        Edit::PutOptions(options) => Edit::PutOptions(options.copy(alloc)?),
-        Edit::PutClass(class, active, global, log) => Edit::PutClass(
-            *class, *active, *global, *log,
-        ),
-        Edit::List(class) => Edit::List(*class),
-        Edit::Unlist(class) => Edit::Unlist(*class),
-    })
-}

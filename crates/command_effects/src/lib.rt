@@ -12,12 +12,8 @@ mod edits;
 pub mod laws;
 mod made;
 
-pub use edits::{copies, edits_of};
+pub use edits::edits_of;
 pub use made::{
-    altered_group, attributes_after, categories_count, conditional_count, dataset,
-    group_or_current, is_category, is_label, level_number, members_count, new_group,
-    standard_count, was_category,
+    altered_group, attributes_after, categories_count, conditional_count, dataset, is_category,
+    is_label, level_number, members_count, new_group, standard_count, was_category,
 };
-
-#[cfg(test)]
-mod tests;

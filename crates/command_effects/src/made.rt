@@ -1,6 +1,6 @@
 //! The rows that a command makes.
 ghost use Rattle.std.specs.Prelude.{◌≡◌};
-ghost use Rattle.command_effects.specs.Effects.{switched, group_or_current, owner_or_issuer, new_group, altered_group};
+ghost use Rattle.command_effects.specs.Effects.{switched, owner_or_issuer, new_group, altered_group};
 
 mod classes;
 mod connects;
@@ -24,13 +24,6 @@ pub use security::{is_category, is_label, level_number, was_category};
 pub use users::attributes_after;
 pub(crate) use users::{altered_user, connected_user, new_user, removed_user};
 
-/// The group that is named, or else the issuer's current one.
-pub fn group_or_current(issuer: &Issuer, given: Option<Id>) -> Id
-    ensures { result ≡ group_or_current issuer.now given }
-{
-    given.unwrap_or(issuer.group)
-}
-
 /// The owner that is named, or else the issuer.
 pub(crate) fn owner_or_issuer(issuer: &Issuer, given: Option<Id>) -> Id
     ensures { result ≡ owner_or_issuer issuer.now given }
@@ -51,7 +44,7 @@ pub fn new_group(issuer: &Issuer, command: &AddGroup) -> Group
 {
     Group {
         id: command.group,
-        superior: Some(group_or_current(issuer, command.supgroup)),
+        superior: Some(issuer.group_or_current(command.supgroup)),
         owner: owner_or_issuer(issuer, command.owner),
     }
 }

@@ -1,9 +1,9 @@
 -- The slots of a text that was read to its end: GENERIC leaves nothing behind, and PERMIT has its defaults.
 use Rattle.std.proofs.Common.{◌≡◌, inl, inr, ℕ, zero, suc, List, [], ◌∷◌, length, Bool, true, false, cond, not, ◌&&◌, Option, None, Some, refl, sym, ap, subst, ◌∙◌, arith}
 use Rattle.std.specs.Prelude.{slice_set, codes}
+use Rattle.std.proofs.lemmas.Bool.{and_parts}
 use Rattle.access_levels.specs.declared.levels.Level.TheVariants.{Read}
 use Rattle.command_values.specs.declared.operand_words.Word.TheVariants as words
-use Rattle.command_words.proofs.Letters.{both_first, both_second}
 use Rattle.command_grammar.specs.declared.table.Verb.{Verb}
 use Rattle.command_grammar.specs.declared.table.Verb.TheVariants as verbs
 use Rattle.command_values.specs.declared.value_kinds.ValueKind.{ValueKind}
@@ -39,10 +39,10 @@ none-fits : (known : Known) (os : List Operand) (ss : Slots) → HoldsAll known 
 none-fits known [] [] h none = (tt, tt)
 none-fits known [] (s ∷ ss) h none = absurd h
 none-fits known (o ∷ os) [] h none = absurd h
-none-fits known (o ∷ os) (None ∷ ss) h none = none-fits known os ss h (both_second (not (is_generic_kind o.kind)) (none_generic os) none)
+none-fits known (o ∷ os) (None ∷ ss) h none = none-fits known os ss h (and_parts (not (is_generic_kind o.kind)) (none_generic os) none).1
 none-fits known (o ∷ os) (Some v ∷ ss) h none =
-    let here = holds-fits known o.kind v (both_first (not (is_generic_kind o.kind)) (none_generic os) none) h.0 in
-    let more = none-fits known os ss h.1 (both_second (not (is_generic_kind o.kind)) (none_generic os) none) in
+    let here = holds-fits known o.kind v (and_parts (not (is_generic_kind o.kind)) (none_generic os) none).0 h.0 in
+    let more = none-fits known os ss h.1 (and_parts (not (is_generic_kind o.kind)) (none_generic os) none).1 in
     ((here.0, more.0), (here.1, more.1))
 
 cleared-fits : (known : Known) (os : List Operand) (ss : Slots) (k : ℕ) → HoldsAll known os ss → only_generic os k ≡ true → BothAll known os (slice_set ss k None)
@@ -50,10 +50,10 @@ cleared-fits known [] [] k h only = (tt, tt)
 cleared-fits known [] (s ∷ ss) k h only = absurd h
 cleared-fits known (o ∷ os) [] k h only = absurd h
 cleared-fits known (o ∷ os) (s ∷ ss) zero h only = none-fits known os ss (HoldsAll-tail known o os s ss h) only
-cleared-fits known (o ∷ os) (None ∷ ss) (suc k) h only = cleared-fits known os ss k h (both_second (not (is_generic_kind o.kind)) (only_generic os k) only)
+cleared-fits known (o ∷ os) (None ∷ ss) (suc k) h only = cleared-fits known os ss k h (and_parts (not (is_generic_kind o.kind)) (only_generic os k) only).1
 cleared-fits known (o ∷ os) (Some v ∷ ss) (suc k) h only =
-    let here = holds-fits known o.kind v (both_first (not (is_generic_kind o.kind)) (only_generic os k) only) h.0 in
-    let more = cleared-fits known os ss k h.1 (both_second (not (is_generic_kind o.kind)) (only_generic os k) only) in
+    let here = holds-fits known o.kind v (and_parts (not (is_generic_kind o.kind)) (only_generic os k) only).0 h.0 in
+    let more = cleared-fits known os ss k h.1 (and_parts (not (is_generic_kind o.kind)) (only_generic os k) only).1 in
     ((here.0, more.0), (here.1, more.1))
 
 BothAll-tail : (known : Known) (o : Operand) (os : List Operand) (s : Option Content) (ss : Slots) → BothAll known (o ∷ os) (s ∷ ss) → BothAll known os ss

@@ -3,6 +3,7 @@ use Rattle.std.proofs.Common.{◌≡◌, ℕ, zero, suc, ◌+◌, List, [], ◌�
 use Rattle.std.specs.Prelude.{◌==◌}
 use Rattle.std.specs.List.{list_all, list_any, slice_index_or}
 use Rattle.std.proofs.lemmas.List.{append-nil}
+use Rattle.std.proofs.lemmas.Bool.{and_parts}
 use Rattle.generic_names.specs.Spelled.{Spelled}
 use Rattle.racf_profiles.specs.declared.fixed_classes.NameForm.{NameForm}
 use Rattle.racf_profiles.specs.declared.fixed_classes.NameForm.TheVariants as name_forms
@@ -10,7 +11,7 @@ use Rattle.command_grammar.specs.declared.table.Verb.TheVariants as verbs
 use Rattle.command_words.specs.declared.quoting.Quoting.TheVariants.{Ignored, AtName}
 use Rattle.command_words.specs.Tokens.{Word, tokens_from}
 use Rattle.command_words.specs.ValuedWords.{valued_words, opens_value, faulty_at}
-use Rattle.command_words.proofs.Letters.{is_letter, letter-quote, both_first, EndsWord}
+use Rattle.command_words.proofs.Letters.{is_letter, letter-quote, EndsWord}
 use Rattle.command_words.proofs.Spelled.{name_token, bare_name_token}
 use Rattle.command_words.specs.Bytes.{upper}
 use Rattle.command_values.specs.declared.faults.Syntax.TheVariants as faults
@@ -42,7 +43,7 @@ record IsAnyName (issuer : List ℕ) (class : Option (List ℕ)) (n : Spelled) :
 
 letters-closed : (w : List ℕ) → list_all is_letter w ≡ true → is_unclosed w ≡ false
 letters-closed [] h = refl
-letters-closed (b ∷ w) h = rw (letter-quote b (both_first (is_letter b) (list_all is_letter w) h)) refl
+letters-closed (b ∷ w) h = rw (letter-quote b (and_parts (is_letter b) (list_all is_letter w) h).0) refl
 
 letters-token : (w : List ℕ) → IsSome w → list_all is_letter w ≡ true → (tied : Bool) (p : ℕ) (rest : List ℕ) → EndsWord rest → tokens_from AtName tied 0 p (w ++ rest) ≡ Word p w ∷ tokens_from Ignored true 0 (p + length w) rest
 letters-token [] some h tied p rest ends = absurd some

@@ -2,11 +2,12 @@
 use Rattle.std.proofs.Common.{◌≡◌, ℕ, suc, ◌+◌, List, [], ◌∷◌, ◌++◌, length, Bool, true, false, ◌&&◌, None, Some, Ok, refl, sym, ap, subst, ◌∙◌, append_assoc}
 use Rattle.std.specs.List.{list_all}
 use Rattle.std.proofs.lemmas.List.{append-nil}
+use Rattle.std.proofs.lemmas.Bool.{and_parts}
 use Rattle.generic_names.specs.Spelled.{Spelled}
 use Rattle.command_words.specs.declared.quoting.Quoting.TheVariants.{Ignored}
 use Rattle.command_words.specs.Tokens.{Token, Word, tokens_from}
 use Rattle.command_words.specs.ValuedWords.{opens_value, faulty_at}
-use Rattle.command_words.proofs.Letters.{is_letter, both_first, both_second}
+use Rattle.command_words.proofs.Letters.{is_letter}
 use Rattle.access_levels.specs.Spelling.{id_of}
 use Rattle.command_values.specs.declared.faults.Syntax.TheVariants as faults
 use Rattle.command_values.specs.declared.value_kinds.ValueKind.{ValueKind}
@@ -176,8 +177,8 @@ positions-apart at [] [] rest names h suits apart = apart
 positions-apart at [] (v ∷ vs) rest names h suits apart = absurd h
 positions-apart at (pos ∷ ps) [] rest names h suits apart = absurd h
 positions-apart at (pos ∷ ps) (v ∷ vs) rest names h suits apart =
-    let named = name_value at pos.kind v (both_first _ _ names) h.0 suits.0 in
-    let more = positions-apart (behind at pos.kind v) ps vs rest (both_second _ _ names) h.1 suits.1 apart in
+    let named = name_value at pos.kind v (and_parts _ _ names).0 h.0 suits.0 in
+    let more = positions-apart (behind at pos.kind v) ps vs rest (and_parts _ _ names).1 h.1 suits.1 apart in
     let regrouped : 32 ∷ (named.name ++ (positions_text vs ++ rest)) ≡ positions_text (v ∷ vs) ++ rest =
     ap (λ bs. 32 ∷ bs) (sym (append_assoc named.name (positions_text vs) rest)) ∙ ap (λ bs. 32 ∷ ((bs ++ positions_text vs) ++ rest)) (sym named.is) in
     subst (λ (bs : List ℕ). IsApart bs) regrouped (word-apart named.name (positions_text vs ++ rest) named.some named.letters more.ends)
@@ -189,15 +190,15 @@ positions_again at rows [] front [] rest tied p names h suits apart =
 positions_again at rows [] front (v ∷ vs) rest tied p names h suits apart = absurd h
 positions_again at rows (pos ∷ ps) front [] rest tied p names h suits apart = absurd h
 positions_again at rows (pos ∷ ps) front (v ∷ vs) rest tied p names h suits apart =
-    let name_here : is_name_kind pos.kind ≡ true = both_first _ _ names in
+    let name_here : is_name_kind pos.kind ≡ true = (and_parts _ _ names).0 in
     let named = name_value at pos.kind v name_here h.0 suits.0 in
-    let beyond = positions-apart (behind at pos.kind v) ps vs rest (both_second _ _ names) h.1 suits.1 apart in
+    let beyond = positions-apart (behind at pos.kind v) ps vs rest (and_parts _ _ names).1 h.1 suits.1 apart in
     let regrouped : positions_text (v ∷ vs) ++ rest ≡ 32 ∷ (named.name ++ (positions_text vs ++ rest)) =
     ap (λ bs. 32 ∷ ((bs ++ positions_text vs) ++ rest)) named.is ∙ ap (λ bs. 32 ∷ bs) (append_assoc named.name (positions_text vs) rest) in
     let first : tokens_from Ignored tied 0 p (positions_text (v ∷ vs) ++ rest) ≡ Word (suc p) named.name ∷ tokens_from Ignored true 0 (suc p + length named.name) (positions_text vs ++ rest) =
     ap (tokens_from Ignored tied 0 p) regrouped
     ∙ plain_token (tied && true) (suc p) named.name (positions_text vs ++ rest) named.some named.letters beyond.ends in
-    let more = positions_again (behind at pos.kind v) rows ps (front ++ v ∷ []) vs rest true (suc p + length named.name) (both_second _ _ names) h.1 suits.1 apart in
+    let more = positions_again (behind at pos.kind v) rows ps (front ++ v ∷ []) vs rest true (suc p + length named.name) (and_parts _ _ names).1 h.1 suits.1 apart in
     record {
       tied_behind = more.tied_behind;
       place_behind = more.place_behind;

@@ -1,6 +1,6 @@
 -- Operands whose values depend on nothing in front of them.
 use Rattle.std.proofs.Common.{◌≡◌, List, [], ◌∷◌, Bool, true, false, not, ◌&&◌, None, Some}
-use Rattle.command_words.proofs.Letters.{both_first, both_second}
+use Rattle.std.proofs.lemmas.Bool.{and_parts}
 use Rattle.command_values.specs.declared.value_kinds.ValueKind.{ValueKind}
 use Rattle.command_values.specs.declared.value_kinds.ValueKind.TheVariants as kinds
 use Rattle.command_grammar.specs.declared.table.Operand.{Operand}
@@ -46,6 +46,6 @@ suits-any known kinds.Generic v h = tt
 pub suits-none : (known : Known) (os : List Operand) (ss : Slots) → none_members os ≡ true → SuitsAll known os ss
 suits-none known [] ss h = tt
 suits-none known (o ∷ os) [] h = tt
-suits-none known (o ∷ os) (None ∷ ss) h = suits-none known os ss (both_second (not (is_member_kind o.kind)) (none_members os) h)
+suits-none known (o ∷ os) (None ∷ ss) h = suits-none known os ss (and_parts (not (is_member_kind o.kind)) (none_members os) h).1
 suits-none known (o ∷ os) (Some v ∷ ss) h =
-    (suits-any known o.kind v (both_first (not (is_member_kind o.kind)) (none_members os) h), suits-none known os ss (both_second (not (is_member_kind o.kind)) (none_members os) h))
+    (suits-any known o.kind v (and_parts (not (is_member_kind o.kind)) (none_members os) h).0, suits-none known os ss (and_parts (not (is_member_kind o.kind)) (none_members os) h).1)

@@ -2,11 +2,11 @@
 use Rattle.std.proofs.Common.{◌≡◌, ℕ, suc, List, [], ◌∷◌, map, Bool, true, false, not, ◌&&◌, Option, None, Some, refl}
 use Rattle.std.specs.Prelude.{◌==◌, position}
 use Rattle.std.specs.List.{list_all}
-use Rattle.std.proofs.lemmas.Bool.{eqb-true}
+use Rattle.std.proofs.lemmas.Bool.{eqb-true, and_parts}
 use Rattle.command_words.specs.declared.quoting.Quoting.TheVariants.{Ignored}
 use Rattle.command_words.specs.Bytes.{upper}
 use Rattle.command_words.specs.ValuedWords.{faulty_at}
-use Rattle.command_words.proofs.Letters.{is_letter, both_first, both_second}
+use Rattle.command_words.proofs.Letters.{is_letter}
 use Rattle.command_values.specs.declared.operand_words.Word.{Word}
 use Rattle.command_values.specs.declared.operand_words.Word.TheVariants as words
 use Rattle.command_grammar.specs.declared.table.Verb.{Verb}
@@ -136,8 +136,8 @@ at-some (Some j) k h = let same : j ≡ k = eqb-true j k h in cc
 found-tested : (rows : List Operand) (k : ℕ) (os : List Operand) → are_found rows k os ≡ true → AreFound rows k os
 found-tested rows k [] h = tt
 found-tested rows k (o ∷ os) h =
-    let behind = both_second (is_at (position (is_spelling (spelling_of o.word)) rows) k) (not (is_profile_kind o.kind) && are_found rows (suc k) os) h in
-    (at-some (position (is_spelling (spelling_of o.word)) rows) k (both_first _ _ h), both_first (not (is_profile_kind o.kind)) (are_found rows (suc k) os) behind, found-tested rows (suc k) os (both_second (not (is_profile_kind o.kind)) (are_found rows (suc k) os) behind))
+    let behind = (and_parts (is_at (position (is_spelling (spelling_of o.word)) rows) k) (not (is_profile_kind o.kind) && are_found rows (suc k) os) h).1 in
+    (at-some (position (is_spelling (spelling_of o.word)) rows) k (and_parts _ _ h).0, (and_parts (not (is_profile_kind o.kind)) (are_found rows (suc k) os) behind).0, found-tested rows (suc k) os (and_parts (not (is_profile_kind o.kind)) (are_found rows (suc k) os) behind).1)
 
 all_found : (v : Verb) → are_found (operands_of v) 0 (operands_of v) ≡ true
 all_found verbs.AddUser = refl

@@ -32,6 +32,7 @@ operands_text (o ∷ os) (Some v ∷ ss) = 32 ∷ (spelling_of o.word ++ (value_
 unfoldable pub canon : Generic → List ℕ
 canon g = full_name g.verb ++ (positions_text g.positions ++ operands_text (operands_of g.verb) g.slots)
 
--- What a text spells, or its first fault: a canonical text of more than 30,000 bytes is too long after every other fault.
+-- What a text spells, or its first fault: a canonical text of more than 30,000 bytes is too long after every other
+-- fault.
 abbrev pub spelled : Context → List ℕ → Result Generic Syntax
 spelled at text = parsed at text >>= λ g. if nat_lt 30000 (length (canon g)) then Err faults.TextTooLong else Ok g

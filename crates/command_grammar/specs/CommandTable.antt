@@ -1,5 +1,5 @@
--- The table of commands, as RACF's command language has them: how each is called, its positional words, its operands in the
--- order in which they are written, and the operands that exclude one another.
+-- The table of commands, as RACF's command language has them: how each is called, its positional words, its operands in
+-- the order in which they are written, and the operands that exclude one another.
 use Rattle.std.specs.Prelude.{ℕ, List, [], ◌∷◌, codes, Option, None, Some}
 use Rattle.access_levels.specs.declared.levels.Level.TheVariants.{Read}
 use Rattle.command_values.specs.declared.operand_words.Word.{Word}
@@ -55,8 +55,8 @@ class_and_profile = is_a words.Class kinds.Class ∷ is_a words.Profile kinds.Cl
 abbrev pub any_profile : List Position
 any_profile = is_a words.Profile kinds.AnyProfile ∷ []
 
--- A command: its full name, its abbreviation, its positional words, its operands, and the pairs of them that exclude one
--- another, in the order of their first words and then of their second ones.
+-- A command: its full name, its abbreviation, its positional words, its operands, and the pairs of them that exclude
+-- one another, in the order of their first words and then of their second ones.
 pub record CommandRow : Type 0 where
   pub name : List ℕ
   pub abbreviation : List ℕ
@@ -64,8 +64,8 @@ pub record CommandRow : Type 0 where
   pub operands : List OperandRow
   pub excluded : List (Word × Word)
 
--- The table. RESET alone is RESET(ALL), and a word of AUDIT or GLOBALAUDIT without a level has READ; ACCESS has its default
--- where ID stands without DELETE.
+-- The table. RESET alone is RESET(ALL), and a word of AUDIT or GLOBALAUDIT without a level has READ; ACCESS has its
+-- default where ID stands without DELETE.
 abbrev pub row_of : Verb → CommandRow
 row_of verbs.AddUser = record {
   name = codes "ADDUSER";

@@ -27,6 +27,8 @@ pub struct Issuer {
 }
 
 impl Issuer {
+    ghost use Rattle.command_parser.specs.Issuers.{group_or_current};
+
     /// The issuer, unless the group has no group name's spelling.
     pub fn new(id: Id, group: Id) -> Option<Issuer>
         ensures { MatchOption result (IsErr (group_of group)) (λ issuer. (issuer.id ≡ id) × (issuer.group ≡ group)) }
@@ -35,6 +37,13 @@ impl Issuer {
             Ok(_) => Some(Issuer { id, group }),
             Err(_) => None,
         }
+    }
+
+    /// The group that a command names, or else the issuer's current one.
+    pub fn group_or_current(&self, given: Option<Id>) -> Id
+        ensures { result ≡ group_or_current self.now given }
+    {
+        given.unwrap_or(self.group)
     }
 }
 

@@ -1,6 +1,7 @@
 -- What AUDIT holds is read again from how it is written.
 use Rattle.std.proofs.Common.{◌≡◌, ℕ, suc, ◌+◌, List, [], ◌∷◌, ◌++◌, length, Bool, true, false, ◌&&◌, Option, None, Some, Ok, refl, sym, ap, ◌∙◌, arith, append_assoc, length-append}
 use Rattle.std.specs.List.{list_all}
+use Rattle.std.proofs.lemmas.Bool.{and_parts}
 use Rattle.access_levels.specs.declared.levels.Level.{Level}
 use Rattle.access_levels.specs.declared.levels.Level.TheVariants.{NoAccess, Execute, Read, Update, Control, Alter}
 use Rattle.access_levels.specs.Level.{level_name}
@@ -8,7 +9,7 @@ use Rattle.racf_profiles.specs.declared.profiles.AuditRule.{AuditRule}
 use Rattle.command_words.specs.declared.quoting.Quoting.TheVariants.{Outside}
 use Rattle.command_words.specs.Tokens.{Word, within, group_end, tokens, tokens_from}
 use Rattle.command_words.specs.ValuedWords.{ValuedWord, Valued, valued_words}
-use Rattle.command_words.proofs.Letters.{is_letter, both_first, both_second, Outside-steady}
+use Rattle.command_words.proofs.Letters.{is_letter, Outside-steady}
 use Rattle.command_words.proofs.Spelled.{is_calm, word_token, group_token, group_end-calm, group_end-nested}
 use Rattle.command_values.specs.declared.faults.Syntax.TheVariants as faults
 use Rattle.command_values.specs.declared.audits.AuditWord.{AuditWord}
@@ -124,16 +125,16 @@ halves-again : (p q : ℕ) (s f : Option Level) → (is_half s && is_half f) ≡
 unfolding tokens
 halves-again p q None None h = refl
 halves-again p q (Some l) None h =
-    let level : is_audit_level l ≡ true = both_first (is_audit_level l) true h in
+    let level : is_audit_level l ≡ true = (and_parts (is_audit_level l) true h).0 in
     ap (audit_rule p) (success_alone q l)
     ∙ rule-one p (success_at (suc q) l) (success_rule l) (more-again None audited.Success (suc q) (suc q + 7) (audit_word_name audited.Success) l (success_word (suc q)) refl level)
 halves-again p q None (Some l) h =
-    let level : is_audit_level l ≡ true = both_second true (is_audit_level l) h in
+    let level : is_audit_level l ≡ true = (and_parts true (is_audit_level l) h).1 in
     ap (audit_rule p) (failures_alone q l)
     ∙ rule-one p (failures_at (suc q) l) (record { success = None; failures = Some l }) (more-again None audited.Failures (suc q) (suc q + 8) (audit_word_name audited.Failures) l (failures_word (suc q)) refl level)
 halves-again p q (Some l) (Some m) h =
-    let first : is_audit_level l ≡ true = both_first (is_audit_level l) (is_audit_level m) h in
-    let second : is_audit_level m ≡ true = both_second (is_audit_level l) (is_audit_level m) h in
+    let first : is_audit_level l ≡ true = (and_parts (is_audit_level l) (is_audit_level m) h).0 in
+    let second : is_audit_level m ≡ true = (and_parts (is_audit_level l) (is_audit_level m) h).1 in
     let n : ℕ = suc q + 7 + length (level_name l) + 2 in
     ap (audit_rule p) (success_and q l m)
     ∙ rule-two p (success_at (suc q) l) (failures_at (suc n) m) (success_rule l) (record { success = Some l; failures = Some m })

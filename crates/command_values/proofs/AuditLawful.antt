@@ -1,6 +1,6 @@
 -- What is read of AUDIT is lawful.
 use Rattle.std.proofs.Common.{◌≡◌, ℕ, List, [], ◌∷◌, map, Bool, true, false, cond, Option, None, Some, Ok, refl, subst}
-use Rattle.std.proofs.lemmas.Bool.{and_from}
+use Rattle.std.proofs.lemmas.Bool.{and_from, and_parts}
 use Rattle.access_levels.specs.Spelling.{level_of}
 use Rattle.access_levels.specs.declared.levels.Level.{Level}
 use Rattle.access_levels.specs.declared.levels.Level.TheVariants.{Read}
@@ -9,7 +9,6 @@ use Rattle.command_words.specs.declared.quoting.Quoting.TheVariants.{Ignored}
 use Rattle.command_words.specs.Bytes.{upper}
 use Rattle.command_words.specs.Tokens.{tokens}
 use Rattle.command_words.specs.ValuedWords.{ValuedWord, Alone, Valued, Unclosed, Parenthesis, valued_words}
-use Rattle.command_words.proofs.Letters.{both_first, both_second}
 use Rattle.command_values.specs.declared.faults.Syntax.TheVariants as faults
 use Rattle.command_values.specs.declared.audits.AuditWord.{AuditWord}
 use Rattle.command_values.specs.declared.audits.AuditWord.TheVariants as audited
@@ -36,8 +35,8 @@ level-fits p is l h =
 
 word-fits : (rule : AuditRule) (a : AuditWord) (l : Level) → is_audit_rule rule ≡ true → is_audit_level l ≡ true → is_audit_rule (with_word rule a l) ≡ true
 word-fits rule audited.All l h k = and_from (is_audit_level l) (is_audit_level l) k k
-word-fits rule audited.Success l h k = and_from (is_audit_level l) (is_half rule.failures) k (both_second (is_half rule.success) (is_half rule.failures) h)
-word-fits rule audited.Failures l h k = and_from (is_half rule.success) (is_audit_level l) (both_first (is_half rule.success) (is_half rule.failures) h) k
+word-fits rule audited.Success l h k = and_from (is_audit_level l) (is_half rule.failures) k (and_parts (is_half rule.success) (is_half rule.failures) h).1
+word-fits rule audited.Failures l h k = and_from (is_half rule.success) (is_audit_level l) (and_parts (is_half rule.success) (is_half rule.failures) h).0 k
 word-fits rule audited.Nothing l h k = refl
 
 abbrev are_so_far : Option AuditRule → Type 0

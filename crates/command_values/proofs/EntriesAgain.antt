@@ -14,17 +14,14 @@ use Rattle.command_words.specs.Bytes.{upper}
 use Rattle.command_words.specs.Tokens.{Word, within, group_end, tokens, tokens_from}
 use Rattle.command_words.specs.ValuedWords.{Valued, valued_words, faulty_at}
 use Rattle.command_words.proofs.Letters.{is_letter, Outside-steady}
-use Rattle.command_words.proofs.Spelled.{is_calm, letter-calm, word_token, word_alone, group_token, group_end-calm, group_end-nested}
+use Rattle.command_words.proofs.Spelled.{is_calm, word_token, word_alone, group_token, group_end-calm, group_end-nested, calm-letters}
 use Rattle.command_values.specs.declared.value_kinds.ValueKind.TheVariants as kinds
 use Rattle.command_values.specs.Results.{◌>>=◌}
 use Rattle.command_values.specs.WordsOfValues.{unless_stray}
 use Rattle.command_values.specs.Entries.{more_whos_text, whos_text, port_name, port, port_text}
 use Rattle.command_values.specs.Values.{name_of, more_text, ids_text}
 use Rattle.command_values.specs.LawfulValues.{AreNames, AreNamed, AreWhos}
-use Rattle.command_values.proofs.Names.{name-plain, all_of}
-
-all_calm : (w : List ℕ) → list_all is_letter w ≡ true → list_all is_calm w ≡ true
-all_calm w h = all_of is_letter is_calm letter-calm w h
+use Rattle.command_values.proofs.Names.{name-plain}
 
 -- the names of users and groups
 pub ids_of : List Who → List (List ℕ)
@@ -97,16 +94,16 @@ port_one p q n name c x h sound class =
 port-again : (p q : ℕ) (c : PortClass) (x : List ℕ) → name_of kinds.Id x ≡ Some x → port p (valued_words (tokens (within q (port_text (record { class = c; name = x }))))) ≡ Ok (record { class = c; name = x })
 unfolding tokens
 port-again p q Terminal x h =
-    ap (port p) (port_items q 84 (69 ∷ 82 ∷ 77 ∷ 73 ∷ 78 ∷ 65 ∷ 76 ∷ []) x refl (all_calm x (name-plain kinds.Id x x h).letters))
+    ap (port p) (port_items q 84 (69 ∷ 82 ∷ 77 ∷ 73 ∷ 78 ∷ 65 ∷ 76 ∷ []) x refl (calm-letters x (name-plain kinds.Id x x h).letters))
     ∙ port_one p q (suc q + 8) (port_class_name Terminal) Terminal x h refl refl
 port-again p q Console x h =
-    ap (port p) (port_items q 67 (79 ∷ 78 ∷ 83 ∷ 79 ∷ 76 ∷ 69 ∷ []) x refl (all_calm x (name-plain kinds.Id x x h).letters))
+    ap (port p) (port_items q 67 (79 ∷ 78 ∷ 83 ∷ 79 ∷ 76 ∷ 69 ∷ []) x refl (calm-letters x (name-plain kinds.Id x x h).letters))
     ∙ port_one p q (suc q + 7) (port_class_name Console) Console x h refl refl
 port-again p q Jesinput x h =
-    ap (port p) (port_items q 74 (69 ∷ 83 ∷ 73 ∷ 78 ∷ 80 ∷ 85 ∷ 84 ∷ []) x refl (all_calm x (name-plain kinds.Id x x h).letters))
+    ap (port p) (port_items q 74 (69 ∷ 83 ∷ 73 ∷ 78 ∷ 80 ∷ 85 ∷ 84 ∷ []) x refl (calm-letters x (name-plain kinds.Id x x h).letters))
     ∙ port_one p q (suc q + 8) (port_class_name Jesinput) Jesinput x h refl refl
 port-again p q Appcport x h =
-    ap (port p) (port_items q 65 (80 ∷ 80 ∷ 67 ∷ 80 ∷ 79 ∷ 82 ∷ 84 ∷ []) x refl (all_calm x (name-plain kinds.Id x x h).letters))
+    ap (port p) (port_items q 65 (80 ∷ 80 ∷ 67 ∷ 80 ∷ 79 ∷ 82 ∷ 84 ∷ []) x refl (calm-letters x (name-plain kinds.Id x x h).letters))
     ∙ port_one p q (suc q + 8) (port_class_name Appcport) Appcport x h refl refl
 
 pub port_again : (p q : ℕ) (c : Condition) → name_of kinds.Id c.name ≡ Some c.name → port p (valued_words (tokens (within q (port_text c)))) ≡ Ok c
@@ -117,5 +114,5 @@ port_ends outer p c rest h =
     let name : List ℕ = port_class_name c.class in
     let count : p + length name + length c.name + 2 ≡ p + length (port_text c) = omega (arith, length-append name (40 ∷ (c.name ++ 41 ∷ [])), length-append c.name (41 ∷ [])) in
     ap (λ bs. group_end outer Outside 0 p bs) (append_assoc name (40 ∷ (c.name ++ 41 ∷ [])) (41 ∷ rest) ∙ ap (λ bs. name ++ (40 ∷ bs)) (append_assoc c.name (41 ∷ []) (41 ∷ rest)))
-    ∙ group_end-nested outer p name c.name (41 ∷ rest) (port_calm c.class) (all_calm c.name (name-plain kinds.Id c.name c.name h).letters)
+    ∙ group_end-nested outer p name c.name (41 ∷ rest) (port_calm c.class) (calm-letters c.name (name-plain kinds.Id c.name c.name h).letters)
     ∙ ap Ok count

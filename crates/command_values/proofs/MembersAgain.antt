@@ -5,7 +5,7 @@ use Rattle.std.specs.List.{list_all}
 use Rattle.std.specs.Result.{result_ok}
 use Rattle.std.proofs.lemmas.List.{append-nil}
 use Rattle.std.proofs.lemmas.List.Folds.{list_all-append}
-use Rattle.std.proofs.lemmas.Bool.{eqb-true}
+use Rattle.std.proofs.lemmas.Bool.{eqb-true, and_parts}
 use Rattle.std.proofs.lemmas.Bool.Decides.{nat_tests}
 use Rattle.access_levels.specs.declared.levels.Level.{Level}
 use Rattle.access_levels.specs.declared.levels.Level.TheVariants.{NoAccess, Execute, Read, Update, Control, Alter}
@@ -21,7 +21,7 @@ use Rattle.command_words.specs.declared.quoting.Quoting.TheVariants.{Ignored, Ou
 use Rattle.command_words.specs.Bytes.{is_faulty_byte, upper}
 use Rattle.command_words.specs.Tokens.{Word, within, group_end, tokens, tokens_from}
 use Rattle.command_words.specs.ValuedWords.{ValuedWord, Alone, valued_words, opens_value, faulty_at}
-use Rattle.command_words.proofs.Letters.{is_letter, letter-quote, both_first, both_second, Outside-steady, EndsWord}
+use Rattle.command_words.proofs.Letters.{is_letter, letter-quote, Outside-steady, EndsWord}
 use Rattle.command_words.proofs.Spelled.{is_calm, letter-calm, word_token, quoted_word_token, quoted_word-through, group_end-through}
 use Rattle.command_values.specs.declared.members.MemberForm.{MemberForm}
 use Rattle.command_values.specs.declared.members.MemberForm.TheVariants as forms
@@ -83,7 +83,7 @@ whole-letters t plain = whole-one t plain.some plain.letters plain.folded
   where
     whole-one : (t : List ℕ) → IsSome t → list_all is_letter t ≡ true → map upper t ≡ t → whole_text t ≡ Some t
     whole-one [] some h folded = absurd some
-    whole-one (b ∷ t) some h folded = rw (letter-quote b (both_first (is_letter b) (list_all is_letter t) h)) (ap Some folded)
+    whole-one (b ∷ t) some h folded = rw (letter-quote b (and_parts (is_letter b) (list_all is_letter t) h).0) (ap Some folded)
 
 name-text : (kind : NameKind) (n : Spelled) → result_ok (member_of kind n.text) ≡ Some n → profile_text n ≡ text_by_kind kind n.text
 name-text kind n h = ap (λ k. text_by_kind k n.text) (member-named-so kind n.text n h).kinds
@@ -150,7 +150,7 @@ below-one f k n false is less here more = more (grind (arith, nat_tests))
 below : (f : ℕ → Bool) (k n : ℕ) → all_below f k ≡ true → n < k → f n ≡ true
 unfolding all_below
 below f zero n h less = absurd (omega arith)
-below f (suc k) n h less = below-one f k n (n == k) refl less (both_first (f k) (all_below f k) h) (below f k n (both_second (f k) (all_below f k) h))
+below f (suc k) n h less = below-one f k n (n == k) refl less (and_parts (f k) (all_below f k) h).0 (below f k n (and_parts (f k) (all_below f k) h).1)
 
 record IsNumberText (n : ℕ) : Type 0 where
   sound : list_all is_sound_byte (number_text n) ≡ true
@@ -180,15 +180,15 @@ number-text : (n : ℕ) → if_number (Some n) ≡ Some n → IsNumberText n
 unfolding number_tested
 number-text n h =
     let ranged : (nat_le 1 n && nat_le n 254) ≡ true = range-true n h in
-    let low : nat_le n 254 ≡ true = both_second (nat_le 1 n) (nat_le n 254) ranged in
+    let low : nat_le n 254 ≡ true = (and_parts (nat_le 1 n) (nat_le n 254) ranged).1 in
     let less : n < 255 = grind (arith, nat_tests) in
     let tested : number_tested n ≡ true = below number_tested 255 n numbers_tested less in
     let each = otherwise-true (nat_le 1 n && nat_le n 254) (list_all is_sound_byte (number_text n) && (is_none (parted (number_text n)) && is_that (number_of (number_text n)) n)) ranged tested in
-    let behind = both_second (list_all is_sound_byte (number_text n)) (is_none (parted (number_text n)) && is_that (number_of (number_text n)) n) each in
+    let behind = (and_parts (list_all is_sound_byte (number_text n)) (is_none (parted (number_text n)) && is_that (number_of (number_text n)) n) each).1 in
     record {
-      sound = both_first (list_all is_sound_byte (number_text n)) (is_none (parted (number_text n)) && is_that (number_of (number_text n)) n) each;
-      whole = none-so (parted (number_text n)) (both_first (is_none (parted (number_text n))) (is_that (number_of (number_text n)) n) behind);
-      back = that-so (number_of (number_text n)) n (both_second (is_none (parted (number_text n))) (is_that (number_of (number_text n)) n) behind);
+      sound = (and_parts (list_all is_sound_byte (number_text n)) (is_none (parted (number_text n)) && is_that (number_of (number_text n)) n) each).0;
+      whole = none-so (parted (number_text n)) (and_parts (is_none (parted (number_text n))) (is_that (number_of (number_text n)) n) behind).0;
+      back = that-so (number_of (number_text n)) n (and_parts (is_none (parted (number_text n))) (is_that (number_of (number_text n)) n) behind).1;
     }
 
 -- a word and what it is read as

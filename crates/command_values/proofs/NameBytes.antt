@@ -3,7 +3,7 @@ use Rattle.std.proofs.Common.{◌≡◌, ℕ, ◌+◌, List, [], ◌∷◌, leng
 use Rattle.std.specs.Prelude.{◌==◌, bytes_eq, codes, nat_lt, if◌then◌else◌}
 use Rattle.std.specs.List.{list_all, onto_first}
 use Rattle.std.specs.Option.{option_or}
-use Rattle.std.proofs.lemmas.Bool.{eqb-true}
+use Rattle.std.proofs.lemmas.Bool.{eqb-true, and_parts, or_left, or_right}
 use Rattle.std.proofs.lemmas.Slice.Eq.{bytes_eq-Decides}
 use Rattle.generic_names.specs.declared.kind.NameKind.{NameKind}
 use Rattle.generic_names.specs.declared.kind.NameKind.TheVariants.{DataSet, General}
@@ -12,6 +12,7 @@ use Rattle.generic_names.specs.declared.fault.NameFault.TheVariants.{Empty, TooL
 use Rattle.generic_names.specs.Spelled.{Spelled, qualifiers}
 use Rattle.generic_names.specs.Faults.{pattern_of, member_of, is_letter, is_digit, is_ordinary, unless, longest, is_too_long, is_generic_first}
 use Rattle.generic_names.proofs.Bools.{either}
+use Rattle.generic_names.proofs.Lawful.{first_none, passed_test}
 
 -- what is wrong with a byte, a qualifier, a text that is to be a profile's name
 abbrev byte_wrong : NameKind → Bool → Bool → ℕ → ℕ → Option NameFault
@@ -57,32 +58,16 @@ name_wrong whole kind text =
 abbrev pub is_name_byte : ℕ → Bool
 is_name_byte b = is_letter b || is_digit b || (b == 45) || (b == 95) || (b == 47) || (b == 58) || (b == 46) || (b == 37) || (b == 42) || (b == 38)
 
-either-first : (a b : Bool) → a ≡ true → (a || b) ≡ true
-either-first true b h = refl
-either-first false b h = absurd (cc (h))
-
-both-second : (a b : Bool) → (a && b) ≡ true → b ≡ true
-both-second true b h = h
-both-second false b h = absurd (cc (h))
-
-both-first : (a b : Bool) → (a && b) ≡ true → a ≡ true
-both-first true b h = refl
-both-first false b h = h
-
 letter-or-digit : (a d : Bool) (b : ℕ) → (a || d) ≡ true → (a || d || (b == 45) || (b == 95) || (b == 47) || (b == 58) || (b == 46) || (b == 37) || (b == 42) || (b == 38)) ≡ true
 letter-or-digit true d b h = refl
 letter-or-digit false true b h = refl
 letter-or-digit false false b h = absurd (cc (h))
 
 named-letter : (b : ℕ) → is_letter b ≡ true → is_name_byte b ≡ true
-named-letter b h = letter-or-digit (is_letter b) (is_digit b) b (either-first (is_letter b) (is_digit b) h)
-
-digit-second : (a d : Bool) → d ≡ true → (a || d) ≡ true
-digit-second true d h = refl
-digit-second false d h = h
+named-letter b h = letter-or-digit (is_letter b) (is_digit b) b (or_left (is_letter b) (is_digit b) h)
 
 named-digit : (b : ℕ) → is_digit b ≡ true → is_name_byte b ≡ true
-named-digit b h = letter-or-digit (is_letter b) (is_digit b) b (digit-second (is_letter b) (is_digit b) h)
+named-digit b h = letter-or-digit (is_letter b) (is_digit b) b (or_right (is_letter b) (is_digit b) h)
 
 named-code : (b c : ℕ) → (b == c) ≡ true → is_name_byte c ≡ true → is_name_byte b ≡ true
 named-code b c h named = let same : b ≡ c = eqb-true b c h in subst (λ (n : ℕ). is_name_byte n ≡ true) (sym same) named
@@ -90,7 +75,7 @@ named-code b c h named = let same : b ≡ c = eqb-true b c h in subst (λ (n : �
 named-ordinary : (kind : NameKind) (first : Bool) (b : ℕ) → is_ordinary kind first b ≡ true → is_name_byte b ≡ true
 named-ordinary DataSet first b h =
     either (is_letter b) (not first && (is_digit b || (b == 45))) h (named-letter b)
-    (λ k. either (is_digit b) (b == 45) (both-second (not first) (is_digit b || (b == 45)) k) (named-digit b) (λ e. named-code b 45 e refl))
+    (λ k. either (is_digit b) (b == 45) ((and_parts (not first) (is_digit b || (b == 45)) k).1) (named-digit b) (λ e. named-code b 45 e refl))
 named-ordinary General first b h =
     either (is_letter b || is_digit b || (b == 45) || (b == 95) || (b == 47)) (b == 58) h
     (λ k. either (is_letter b || is_digit b || (b == 45) || (b == 95)) (b == 47) k
@@ -115,19 +100,11 @@ named-tested kind first last place b false false is at h = named-ordinary kind f
 named-byte : (kind : NameKind) (first last : Bool) (place b : ℕ) → byte_wrong kind first last place b ≡ None → is_name_byte b ≡ true
 named-byte kind first last place b h = named-tested kind first last place b (b == 37) (b == 42) refl refl h
 
-first-none : (a b : Option NameFault) → option_or a b ≡ None → (a ≡ None) × (b ≡ None)
-first-none None b h = (refl, h)
-first-none (Some x) b h = absurd (cc (h))
-
 named-bytes : (kind : NameKind) (first : Bool) (place : ℕ) (q : List ℕ) → bytes_wrong kind first place q ≡ None → list_all is_name_byte q ≡ true
 named-bytes kind first place [] h = refl
 named-bytes kind first place (b ∷ bs) h =
-    let parts = first-none (byte_wrong kind first (length bs == 0) place b) (bytes_wrong kind false (place + 1) bs) h in
+    let parts = first_none (byte_wrong kind first (length bs == 0) place b) (bytes_wrong kind false (place + 1) bs) h in
     rw (named-byte kind first (length bs == 0) place b parts.0) (named-bytes kind false (place + 1) bs parts.1)
-
-passed : (t : Bool) (x : NameFault) (rest : Option NameFault) → cond t (Some x) rest ≡ None → rest ≡ None
-passed true x rest h = absurd (cc (h))
-passed false x rest h = h
 
 -- the qualifiers that are lawful as a whole
 AreNamedBytes : (List ℕ → Bool) → Type 0
@@ -158,16 +135,16 @@ all_named qs = list_all (λ (q : List ℕ). list_all is_name_byte q) qs
 named-qualifiers : (whole : List ℕ → Bool) → AreNamedBytes whole → (kind : NameKind) (number place : ℕ) (qs : List (List ℕ)) → qualifiers_wrong whole kind number place qs ≡ None → all_named qs ≡ true
 named-qualifiers whole named kind number place [] h = refl
 named-qualifiers whole named kind number place (q ∷ qs) h =
-    let parts = first-none (qualifier_wrong whole kind number place q) (qualifiers_wrong whole kind (number + 1) (place + length q + 1) qs) h in
-    let parts_of = first-none _ _ (passed (is_too_long kind q) _ _ (passed (length q == 0) _ _ parts.0)) in
+    let parts = first_none (qualifier_wrong whole kind number place q) (qualifiers_wrong whole kind (number + 1) (place + length q + 1) qs) h in
+    let parts_of = first_none _ _ (passed_test (is_too_long kind q) _ _ (passed_test (length q == 0) _ _ parts.0)) in
     rw (named-whole whole named kind place q (whole q) refl parts_of.0) (named-qualifiers whole named kind (number + 1) (place + length q + 1) qs parts.1)
 
 onto-named : (b : ℕ) (qs : List (List ℕ)) → all_named (onto_first b qs) ≡ true → (is_name_byte b ≡ true) × (all_named qs ≡ true)
-onto-named b [] h = (both-first (is_name_byte b) true (both-first (is_name_byte b && true) true h), refl)
+onto-named b [] h = ((and_parts (is_name_byte b) true ((and_parts (is_name_byte b && true) true h).0)).0, refl)
 onto-named b (q ∷ qs) h =
-    let first = both-first (is_name_byte b && list_all is_name_byte q) (all_named qs) h in
-    let rest = both-second (is_name_byte b && list_all is_name_byte q) (all_named qs) h in
-    (both-first (is_name_byte b) (list_all is_name_byte q) first, rw (both-second (is_name_byte b) (list_all is_name_byte q) first) rest)
+    let first = (and_parts (is_name_byte b && list_all is_name_byte q) (all_named qs) h).0 in
+    let rest = (and_parts (is_name_byte b && list_all is_name_byte q) (all_named qs) h).1 in
+    ((and_parts (is_name_byte b) (list_all is_name_byte q) first).0, rw ((and_parts (is_name_byte b) (list_all is_name_byte q) first).1) rest)
 
 text-named-one : (b : ℕ) (t : List ℕ) (c : Bool) → (b == 46) ≡ c → (all_named (qualifiers t) ≡ true → list_all is_name_byte t ≡ true)
     → all_named (cond c ([] ∷ qualifiers t) (onto_first b (qualifiers t))) ≡ true → list_all is_name_byte (b ∷ t) ≡ true
@@ -196,7 +173,7 @@ name-read : (whole : List ℕ → Bool) → AreNamedBytes whole → (kind : Name
 name-read whole named kind text name h =
     let parts = unless-ok (name_wrong whole kind text) (record { kind = kind; text = text }) name h in
     let none : name_wrong whole kind text ≡ None = parts.0 in
-    let each : qualifiers_wrong whole kind 1 1 (qualifiers text) ≡ None = passed (ltb (longest kind) (length text)) TooLong _ (passed (eqb (length text) 0) Empty _ none) in
+    let each : qualifiers_wrong whole kind 1 1 (qualifiers text) ≡ None = passed_test (ltb (longest kind) (length text)) TooLong _ (passed_test (eqb (length text) 0) Empty _ none) in
     record { same = sym parts.1; some = some-bytes whole kind text none; bytes = text-named text (named-qualifiers whole named kind 1 1 (qualifiers text) each) }
 
 pub pattern-read : (kind : NameKind) (text : List ℕ) (name : Spelled) → pattern_of kind text ≡ Ok name → IsRead kind text name

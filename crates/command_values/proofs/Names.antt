@@ -3,14 +3,14 @@ use Rattle.std.proofs.Common.{◌≡◌, ℕ, suc, ◌+◌, List, [], ◌∷◌,
 use Rattle.std.specs.Prelude.{◌==◌, nat_lt, bytes_eq, codes}
 use Rattle.std.specs.List.{list_all, position_from}
 use Rattle.std.specs.Result.{result_ok}
-use Rattle.std.proofs.lemmas.Bool.{not-false}
+use Rattle.std.proofs.lemmas.Bool.{not-false, and_parts}
 use Rattle.std.proofs.lemmas.Bool.Decides.{nat_tests}
 use Rattle.access_levels.specs.declared.ids.IdFault.TheVariants.{Empty, TooLong}
 use Rattle.access_levels.specs.Spelling.{is_id_byte, bad_byte, begins_with_digit, bad_group_byte, unless_bad, id_of, group_of, name_of as spelled_name}
 use Rattle.command_words.specs.declared.quoting.Quoting.TheVariants.{Ignored}
 use Rattle.command_words.specs.Bytes.{is_faulty_byte, upper}
 use Rattle.command_words.specs.ValuedWords.{faulty_at}
-use Rattle.command_words.proofs.Letters.{is_letter, both_first, both_second}
+use Rattle.command_words.proofs.Letters.{is_letter}
 use Rattle.command_values.specs.declared.value_kinds.ValueKind.{ValueKind}
 use Rattle.command_values.specs.declared.value_kinds.ValueKind.TheVariants as kinds
 use Rattle.command_values.specs.Values.{name_of, unless_dataset}
@@ -96,15 +96,15 @@ name-id kinds.Generic w x h = cc
 
 pub all_of : (p q : ℕ → Bool) → ((b : ℕ) → p b ≡ true → q b ≡ true) → (w : List ℕ) → list_all p w ≡ true → list_all q w ≡ true
 all_of p q implies [] h = refl
-all_of p q implies (b ∷ w) h = rw (implies b (both_first _ _ h)) (all_of p q implies w (both_second _ _ h))
+all_of p q implies (b ∷ w) h = rw (implies b (and_parts _ _ h).0) (all_of p q implies w (and_parts _ _ h).1)
 
 upper-ids : (w : List ℕ) → list_all is_id_byte w ≡ true → map upper w ≡ w
 upper-ids [] h = refl
-upper-ids (b ∷ w) h = rw (id-upper b (both_first _ _ h)) (ap (λ bs. b ∷ bs) (upper-ids w (both_second _ _ h)))
+upper-ids (b ∷ w) h = rw (id-upper b (and_parts _ _ h).0) (ap (λ bs. b ∷ bs) (upper-ids w (and_parts _ _ h).1))
 
 sound-ids : (p : ℕ) (w : List ℕ) → list_all is_id_byte w ≡ true → faulty_at Ignored p w ≡ None
 sound-ids p [] h = refl
-sound-ids p (b ∷ w) h = rw (id-sound b (both_first _ _ h)) (sound-ids (suc p) w (both_second _ _ h))
+sound-ids p (b ∷ w) h = rw (id-sound b (and_parts _ _ h).0) (sound-ids (suc p) w (and_parts _ _ h).1)
 
 -- what holds of a name's bytes
 pub record IsPlainName (x : List ℕ) : Type 0 where

@@ -3,7 +3,7 @@ use Rattle.std.proofs.Common.{◌≡◌, ℕ, suc, ◌+◌, List, [], ◌∷◌,
 use Rattle.std.specs.Prelude.{◌==◌, nat_le, nat_lt, position, is_ok}
 use Rattle.std.specs.List.{list_all, list_any, position_or_len}
 use Rattle.std.specs.Result.{result_ok}
-use Rattle.std.proofs.lemmas.Bool.{eqb-true}
+use Rattle.std.proofs.lemmas.Bool.{eqb-true, and_parts, not-true}
 use Rattle.std.proofs.lemmas.Bool.Decides.{nat_tests}
 use Rattle.std.proofs.Math.Seq.{take-append_seam}
 use Rattle.access_levels.specs.Spelling.{id_of}
@@ -18,7 +18,7 @@ use Rattle.racf_profiles.specs.declared.fixed_classes.NameForm.TheVariants as fo
 use Rattle.command_words.specs.declared.quoting.Quoting.TheVariants.{Ignored}
 use Rattle.command_words.specs.Bytes.{is_faulty_byte, upper}
 use Rattle.command_words.specs.ValuedWords.{faulty_at}
-use Rattle.command_words.proofs.Letters.{is_letter, letter-quote, both_first, both_second}
+use Rattle.command_words.proofs.Letters.{is_letter, letter-quote}
 use Rattle.command_values.specs.ProfileNames.{dataset_profile, general_profile, if_label, is_level_or_category, profile_in, form_in, general_form, class_profile, in_quotes, dataset_named}
 use Rattle.generic_names.proofs.Bools.{either}
 use Rattle.command_values.proofs.Names.{result_ok-some}
@@ -58,7 +58,7 @@ sound-byte b h =
 
 sound-text : (x : List ℕ) → list_all is_name_byte x ≡ true → list_all is_sound_byte x ≡ true
 sound-text [] h = refl
-sound-text (b ∷ x) h = rw (sound-byte b (both_first (is_name_byte b) (list_all is_name_byte x) h)) (sound-text x (both_second (is_name_byte b) (list_all is_name_byte x) h))
+sound-text (b ∷ x) h = rw (sound-byte b (and_parts (is_name_byte b) (list_all is_name_byte x) h).0) (sound-text x (and_parts (is_name_byte b) (list_all is_name_byte x) h).1)
 
 -- what holds of the text of a profile's name
 abbrev pub IsSome : List ℕ → Type 0
@@ -74,28 +74,24 @@ pub record IsPlainText (x : List ℕ) : Type 0 where
 pub sound-letters : (x : List ℕ) → list_all is_sound_byte x ≡ true → list_all is_letter x ≡ true
 sound-letters [] h = refl
 sound-letters (b ∷ x) h =
-    let here : is_letter b ≡ true = both_first (is_letter b) (not (is_faulty_byte b) && not (nat_le 97 b && nat_le b 122)) (both_first (is_sound_byte b) (list_all is_sound_byte x) h) in
-    rw here (sound-letters x (both_second (is_sound_byte b) (list_all is_sound_byte x) h))
-
-not-true : (b : Bool) → not b ≡ true → b ≡ false
-not-true true h = cc
-not-true false h = refl
+    let here : is_letter b ≡ true = (and_parts (is_letter b) (not (is_faulty_byte b) && not (nat_le 97 b && nat_le b 122)) (and_parts (is_sound_byte b) (list_all is_sound_byte x) h).0).0 in
+    rw here (sound-letters x (and_parts (is_sound_byte b) (list_all is_sound_byte x) h).1)
 
 byte-faultless : (b : ℕ) → is_sound_byte b ≡ true → is_faulty_byte b ≡ false
-byte-faultless b h = not-true (is_faulty_byte b) (both_first (not (is_faulty_byte b)) (not (nat_le 97 b && nat_le b 122)) (both_second (is_letter b) (not (is_faulty_byte b) && not (nat_le 97 b && nat_le b 122)) h))
+byte-faultless b h = not-true (is_faulty_byte b) (and_parts (not (is_faulty_byte b)) (not (nat_le 97 b && nat_le b 122)) (and_parts (is_letter b) (not (is_faulty_byte b) && not (nat_le 97 b && nat_le b 122)) h).1).0
 
 byte-upper : (b : ℕ) → is_sound_byte b ≡ true → upper b ≡ b
 byte-upper b h =
-    let none : (nat_le 97 b && nat_le b 122) ≡ false = not-true (nat_le 97 b && nat_le b 122) (both_second (not (is_faulty_byte b)) (not (nat_le 97 b && nat_le b 122)) (both_second (is_letter b) (not (is_faulty_byte b) && not (nat_le 97 b && nat_le b 122)) h)) in
+    let none : (nat_le 97 b && nat_le b 122) ≡ false = not-true (nat_le 97 b && nat_le b 122) (and_parts (not (is_faulty_byte b)) (not (nat_le 97 b && nat_le b 122)) (and_parts (is_letter b) (not (is_faulty_byte b) && not (nat_le 97 b && nat_le b 122)) h).1).1 in
     rw none refl
 
 pub sound-faultless : (p : ℕ) (x : List ℕ) → list_all is_sound_byte x ≡ true → faulty_at Ignored p x ≡ None
 sound-faultless p [] h = refl
-sound-faultless p (b ∷ x) h = rw (byte-faultless b (both_first (is_sound_byte b) (list_all is_sound_byte x) h)) (sound-faultless (suc p) x (both_second (is_sound_byte b) (list_all is_sound_byte x) h))
+sound-faultless p (b ∷ x) h = rw (byte-faultless b (and_parts (is_sound_byte b) (list_all is_sound_byte x) h).0) (sound-faultless (suc p) x (and_parts (is_sound_byte b) (list_all is_sound_byte x) h).1)
 
 sound-upper : (x : List ℕ) → list_all is_sound_byte x ≡ true → map upper x ≡ x
 sound-upper [] h = refl
-sound-upper (b ∷ x) h = rw (byte-upper b (both_first (is_sound_byte b) (list_all is_sound_byte x) h)) (ap (λ bs. b ∷ bs) (sound-upper x (both_second (is_sound_byte b) (list_all is_sound_byte x) h)))
+sound-upper (b ∷ x) h = rw (byte-upper b (and_parts (is_sound_byte b) (list_all is_sound_byte x) h).0) (ap (λ bs. b ∷ bs) (sound-upper x (and_parts (is_sound_byte b) (list_all is_sound_byte x) h).1))
 
 some-of : (t : List ℕ) → (t ≡ [] → ⊥) → IsSome t
 some-of [] h = h refl
@@ -156,7 +152,7 @@ first_quote : (t : List ℕ) → list_all is_letter t ≡ true → position_or_l
 first_quote [] h = refl
 first_quote (b ∷ t) h =
     let next : 1 + length t ≡ suc (length t) = omega arith in
-    rw (letter-quote b (both_first (is_letter b) (list_all is_letter t) h)) (ap (λ n. 1 + n) (first_quote t (both_second (is_letter b) (list_all is_letter t) h)) ∙ next)
+    rw (letter-quote b (and_parts (is_letter b) (list_all is_letter t) h).0) (ap (λ n. 1 + n) (first_quote t (and_parts (is_letter b) (list_all is_letter t) h).1) ∙ next)
 
 behind_quote : (t : List ℕ) → list_all is_letter t ≡ true → position (λ c. c == 39) (t ++ 39 ∷ []) ≡ Some (length t)
 behind_quote t h =

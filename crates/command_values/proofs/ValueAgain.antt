@@ -18,8 +18,8 @@ use Rattle.command_words.specs.declared.quoting.Quoting.TheVariants.{Ignored, Ou
 use Rattle.command_words.specs.Quotes.{doubled}
 use Rattle.command_words.specs.Tokens.{within, group_end, tokens, tokens_from}
 use Rattle.command_words.specs.ValuedWords.{ValuedWord, Alone, valued_words, opens_value, faulty_at}
-use Rattle.command_words.proofs.Letters.{is_letter, both_first, both_second, Outside-steady, EndsWord}
-use Rattle.command_words.proofs.Spelled.{is_calm, letter-calm, quoted, word_token, word_alone, quoted_token, group_end-calm, group_end-quoted}
+use Rattle.command_words.proofs.Letters.{is_letter, Outside-steady, EndsWord}
+use Rattle.command_words.proofs.Spelled.{is_calm, quoted, word_token, word_alone, quoted_token, group_end-calm, group_end-quoted, calm-letters}
 use Rattle.command_values.specs.declared.value_kinds.ValueKind.{ValueKind}
 use Rattle.command_values.specs.declared.value_kinds.ValueKind.TheVariants as kinds
 use Rattle.command_values.specs.declared.values.Content.{Content}
@@ -244,19 +244,15 @@ value-again at kinds.DroppedMembers p q (contents.MemberNames ns) h shown suits 
 value-again at k p q v h shown suits = absurd h
 
 -- where the parenthesis of a value that was written closes
-all_calm : (w : List ℕ) → list_all is_letter w ≡ true → list_all is_calm w ≡ true
-all_calm [] h = refl
-all_calm (b ∷ w) h = rw (letter-calm b (both_first _ _ h)) (all_calm w (both_second _ _ h))
-
 more_calm : (k : ValueKind) (xs : List (List ℕ)) → AreNames k xs → list_all is_calm (more_text xs) ≡ true
 more_calm k [] h = refl
 more_calm k (x ∷ xs) h =
-    list_all-append is_calm x (more_text xs) ∙ rw (all_calm x (name-plain k x x h.0).letters, more_calm k xs h.1) refl
+    list_all-append is_calm x (more_text xs) ∙ rw (calm-letters x (name-plain k x x h.0).letters, more_calm k xs h.1) refl
 
 ids_calm : (k : ValueKind) (xs : List (List ℕ)) → AreNames k xs → list_all is_calm (ids_text xs) ≡ true
 ids_calm k [] h = refl
 ids_calm k (x ∷ xs) h =
-    list_all-append is_calm x (more_text xs) ∙ rw (all_calm x (name-plain k x x h.0).letters, more_calm k xs h.1) refl
+    list_all-append is_calm x (more_text xs) ∙ rw (calm-letters x (name-plain k x x h.0).letters, more_calm k xs h.1) refl
 
 authority_calm : (a : GroupAuthority) → list_all is_calm (authority_name a) ≡ true
 authority_calm MayUse = refl
@@ -279,13 +275,13 @@ reset_calm resets.When = refl
 
 pub value-ends : (known : Known) (k : ValueKind) (v : Content) (outer p : ℕ) (rest : List ℕ) → Fits k v → IsShown v → Suits known k v → group_end outer Outside 0 p (text_of v ++ 41 ∷ rest) ≡ Ok (p + length (text_of v))
 value-ends known kinds.Flag contents.Flag outer p rest h shown suits = absurd shown
-value-ends known kinds.Id (contents.Id w) outer p rest h shown suits = group_end-calm outer p w rest (all_calm w (name-plain kinds.Id w w h).letters)
-value-ends known kinds.Group (contents.Id w) outer p rest h shown suits = group_end-calm outer p w rest (all_calm w (name-plain kinds.Group w w h).letters)
+value-ends known kinds.Id (contents.Id w) outer p rest h shown suits = group_end-calm outer p w rest (calm-letters w (name-plain kinds.Id w w h).letters)
+value-ends known kinds.Group (contents.Id w) outer p rest h shown suits = group_end-calm outer p w rest (calm-letters w (name-plain kinds.Group w w h).letters)
 value-ends known kinds.Authority (contents.Authority a) outer p rest h shown suits = group_end-calm outer p (authority_name a) rest (authority_calm a)
 value-ends known kinds.Name (contents.Name t) outer p rest h shown suits = group_end-quoted outer p t rest
 value-ends known kinds.Ids (contents.Ids xs) outer p rest h shown suits = group_end-calm outer p (ids_text xs) rest (ids_calm kinds.Ids xs h.1)
 value-ends known kinds.Classes (contents.Ids xs) outer p rest h shown suits = group_end-calm outer p (ids_text xs) rest (ids_calm kinds.Classes xs h.1)
-value-ends known kinds.Class (contents.Id w) outer p rest h shown suits = group_end-calm outer p w rest (all_calm w (name-plain kinds.Class w w h).letters)
+value-ends known kinds.Class (contents.Id w) outer p rest h shown suits = group_end-calm outer p w rest (calm-letters w (name-plain kinds.Class w w h).letters)
 value-ends known kinds.Level (contents.Level l) outer p rest h shown suits = group_end-calm outer p (level_name l) rest (level_calm l)
 value-ends known kinds.Reset (contents.Reset r) outer p rest h shown suits = group_end-calm outer p (reset_name r) rest (reset_calm r)
 value-ends known kinds.Audit (contents.Audit rule) outer p rest h shown suits = audit_ends outer p rule rest

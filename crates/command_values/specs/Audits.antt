@@ -1,4 +1,5 @@
--- What AUDIT and GLOBALAUDIT hold: ALL, SUCCESS, FAILURES or NONE, each of the first three with a level if it isn't READ.
+-- What AUDIT and GLOBALAUDIT hold: ALL, SUCCESS, FAILURES or NONE, each of the first three with a level if it isn't
+-- READ.
 use Rattle.std.specs.Prelude.{ℕ, List, [], ◌∷◌, ◌++◌, Bool, true, false, ◌&&◌, not, nat_le, map, find, codes, bytes_eq, is_some, if◌then◌else◌, Option, None, Some, Result, Ok, Err}
 use Rattle.access_levels.specs.declared.levels.Level.{Level}
 use Rattle.access_levels.specs.declared.levels.Level.TheVariants.{Read}

@@ -24,8 +24,8 @@ use Rattle.command_values.specs.NamedWords.{id_named, level_named}
 use Rattle.command_values.specs.WordsOfValues.{word_of}
 use Rattle.command_values.specs.ProfileNames.{in_quotes, profile_text}
 
--- What the members of a profile are. In GLOBAL: names and levels, the names as in the class that the profile names. In SECDATA:
--- the names and numbers of levels in SECLEVEL, the names of categories in CATEGORY.
+-- What the members of a profile are. In GLOBAL: names and levels, the names as in the class that the profile names. In
+-- SECDATA: the names and numbers of levels in SECLEVEL, the names of categories in CATEGORY.
 abbrev pub access_form : List ℕ → MemberForm
 access_form profile = forms.Access (kind_in profile)
 

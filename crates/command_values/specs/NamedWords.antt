@@ -1,4 +1,5 @@
--- What a word names in letters of either case: an ID, a group, an access level, an authority, a class of ports of entry.
+-- What a word names in letters of either case: an ID, a group, an access level, an authority, a class of ports of
+-- entry.
 use Rattle.std.specs.Prelude.{ℕ, List, map, Option}
 use Rattle.std.specs.Result.{result_ok}
 use Rattle.access_levels.specs.declared.levels.Level.{Level}

@@ -3,6 +3,7 @@ use Rattle.std.proofs.Common.{◌≡◌, ℕ, suc, List, [], ◌∷◌, ◌++◌
 use Rattle.std.specs.Prelude.{◌==◌}
 use Rattle.std.specs.List.{list_all}
 use Rattle.std.proofs.lemmas.Bool.Decides.{nat_tests}
+use Rattle.std.proofs.lemmas.Bool.{and_parts}
 use Rattle.command_words.specs.declared.quoting.Quoting.{Quoting}
 use Rattle.command_words.specs.declared.quoting.Quoting.TheVariants.{Ignored, Outside, BeforeName}
 use Rattle.command_words.specs.Bytes.{is_gap_byte, is_word_byte}
@@ -27,15 +28,6 @@ letter-open b h = grind (arith, nat_tests)
 pub letter-close : (b : ℕ) → is_letter b ≡ true → (b == 41) ≡ false
 letter-close b h = grind (arith, nat_tests)
 
--- both tests of a pair
-pub both_first : (a b : Bool) → (a && b) ≡ true → a ≡ true
-both_first true b h = refl
-both_first false b h = h
-
-pub both_second : (a b : Bool) → (a && b) ≡ true → b ≡ true
-both_second true b h = h
-both_second false b h = cc
-
 -- bytes other than quotes leave these as they are
 pub record IsSteady (q : Quoting) : Type 0 where
   pub open_to_all : hides q ≡ false
@@ -59,8 +51,8 @@ pub word_len-letters : (q : Quoting) → IsSteady q → (p : ℕ) (w rest : List
 word_len-letters q s p [] [] h e = refl
 word_len-letters q s p [] (b ∷ bs) h e = rw (s.open_to_all, e) refl
 word_len-letters q s p (b ∷ w) rest h e =
-    let letter : is_letter b ≡ true = both_first _ _ h in
-    let letters : list_all is_letter w ≡ true = both_second _ _ h in
+    let letter : is_letter b ≡ true = (and_parts _ _ h).0 in
+    let letters : list_all is_letter w ≡ true = (and_parts _ _ h).1 in
     let word : is_word_byte b ≡ true = letter-word b letter in
     let same : after q p b ≡ q = s.stays p b (letter-quote b letter) in
     let more : word_len q (suc p) (w ++ rest) ≡ length w = word_len-letters q s (suc p) w rest letters e in

@@ -5,20 +5,21 @@ use Rattle.std.specs.List.{list_all}
 use Rattle.std.proofs.lemmas.List.{append-nil}
 use Rattle.std.proofs.Math.Seq.{take-append_seam, take-length, drop-append_seam, drop-length}
 use Rattle.std.proofs.lemmas.Bool.Decides.{nat_tests}
+use Rattle.std.proofs.lemmas.Bool.{and_parts}
 use Rattle.command_words.specs.declared.quoting.Quoting.{Quoting}
 use Rattle.command_words.specs.declared.quoting.Quoting.TheVariants.{Ignored, Outside, Inside, Met, AtName, InName}
 use Rattle.command_words.specs.Bytes.{is_word_byte}
 use Rattle.command_words.specs.Quotes.{after, next_word, word_len, doubled}
 use Rattle.command_words.specs.Tokens.{Word, Group, within, group_end, tokens_from, word_then}
-use Rattle.command_words.proofs.Letters.{is_letter, letter-word, letter-gap, letter-open, letter-close, letter-quote, both_first, both_second, IsSteady, Ignored-steady, Outside-steady, EndsWord, word_len-letters}
+use Rattle.command_words.proofs.Letters.{is_letter, letter-word, letter-gap, letter-open, letter-close, letter-quote, IsSteady, Ignored-steady, Outside-steady, EndsWord, word_len-letters}
 use Rattle.command_words.proofs.Skips.{grouped-ok, worded-at}
 
 -- a word of letters, and what follows it
 pub word_token : (q : Quoting) → IsSteady q → (tied : Bool) (p b : ℕ) (w rest : List ℕ) → list_all is_letter (b ∷ w) ≡ true → EndsWord rest
     → tokens_from q tied 0 p (b ∷ (w ++ rest)) ≡ Word p (b ∷ w) ∷ tokens_from (next_word q) true 0 (p + length (b ∷ w)) rest
 word_token q s tied p b w rest h e =
-    let letter : is_letter b ≡ true = both_first _ _ h in
-    let letters : list_all is_letter w ≡ true = both_second _ _ h in
+    let letter : is_letter b ≡ true = (and_parts _ _ h).0 in
+    let letters : list_all is_letter w ≡ true = (and_parts _ _ h).1 in
     let same : after q p b ≡ q = s.stays p b (letter-quote b letter) in
     let measured : length w ≡ word_len (after q p b) (p + 1) (w ++ rest) = rw same (sym (word_len-letters q s (p + 1) w rest letters e)) in
     let next : p + 1 + length w ≡ p + length (b ∷ w) = omega arith in
@@ -67,19 +68,19 @@ letter-calm b h = rw (letter-quote b h, letter-open b h, letter-close b h) refl
 pub group_end-calm : (outer p : ℕ) (inside rest : List ℕ) → list_all is_calm inside ≡ true → group_end outer Outside 0 p (inside ++ 41 ∷ rest) ≡ Ok (p + length inside)
 group_end-calm outer p [] rest h = rw add-zero refl
 group_end-calm outer p (b ∷ inside) rest h =
-    let calm : is_calm b ≡ true = both_first _ _ h in
+    let calm : is_calm b ≡ true = (and_parts _ _ h).0 in
     let next : suc p + length inside ≡ p + length (b ∷ inside) = omega arith in
     rw (calm-quote b calm, calm-open b calm, calm-close b calm)
-    (group_end-calm outer (suc p) inside rest (both_second _ _ h) ∙ ap Ok next)
+    (group_end-calm outer (suc p) inside rest (and_parts _ _ h).1 ∙ ap Ok next)
 
 -- calm bytes leave the parentheses as they are
 pub group_end-through : (outer depth p : ℕ) (inside rest : List ℕ) → list_all is_calm inside ≡ true → group_end outer Outside depth p (inside ++ rest) ≡ group_end outer Outside depth (p + length inside) rest
 group_end-through outer depth p [] rest h = rw add-zero refl
 group_end-through outer depth p (b ∷ inside) rest h =
-    let calm : is_calm b ≡ true = both_first _ _ h in
+    let calm : is_calm b ≡ true = (and_parts _ _ h).0 in
     let next : suc p + length inside ≡ p + length (b ∷ inside) = omega arith in
     rw (calm-quote b calm, calm-open b calm, calm-close b calm)
-    (group_end-through outer depth (suc p) inside rest (both_second _ _ h) ∙ ap (λ n. group_end outer Outside depth n rest) next)
+    (group_end-through outer depth (suc p) inside rest (and_parts _ _ h).1 ∙ ap (λ n. group_end outer Outside depth n rest) next)
 
 -- past a word with a value of its own
 pub group_end-nested : (outer p : ℕ) (word inside rest : List ℕ) → list_all is_calm word ≡ true → list_all is_calm inside ≡ true
@@ -143,7 +144,7 @@ word_len-name open_at p [] [] h e = refl
 word_len-name open_at p [] (b ∷ rest) h e = rw e refl
 word_len-name open_at p (b ∷ t) rest h e =
     let next : suc (length t + 1) ≡ length (b ∷ t) + 1 = omega arith in
-    rw (letter-quote b (both_first _ _ h)) (ap suc (word_len-name open_at (suc p) t rest (both_second _ _ h) e) ∙ next)
+    rw (letter-quote b (and_parts _ _ h).0) (ap suc (word_len-name open_at (suc p) t rest (and_parts _ _ h).1 e) ∙ next)
 
 pub name_token : (tied : Bool) (p : ℕ) (t rest : List ℕ) → list_all is_letter t ≡ true → EndsWord rest
     → tokens_from AtName tied 0 p (39 ∷ (t ++ 39 ∷ rest)) ≡ Word p (39 ∷ (t ++ 39 ∷ [])) ∷ tokens_from Ignored true 0 (p + length (39 ∷ (t ++ 39 ∷ []))) rest
@@ -164,8 +165,8 @@ name_token tied p t rest h e =
 pub bare_name_token : (tied : Bool) (p b : ℕ) (w rest : List ℕ) → list_all is_letter (b ∷ w) ≡ true → EndsWord rest
     → tokens_from AtName tied 0 p (b ∷ (w ++ rest)) ≡ Word p (b ∷ w) ∷ tokens_from Ignored true 0 (p + length (b ∷ w)) rest
 bare_name_token tied p b w rest h e =
-    let letter : is_letter b ≡ true = both_first _ _ h in
-    let letters : list_all is_letter w ≡ true = both_second _ _ h in
+    let letter : is_letter b ≡ true = (and_parts _ _ h).0 in
+    let letters : list_all is_letter w ≡ true = (and_parts _ _ h).1 in
     let same : after AtName p b ≡ Ignored = rw (letter-quote b letter) refl in
     let measured : length w ≡ word_len (after AtName p b) (p + 1) (w ++ rest) = rw same (sym (word_len-letters Ignored Ignored-steady (p + 1) w rest letters e)) in
     let next : p + 1 + length w ≡ p + length (b ∷ w) = omega arith in
@@ -181,14 +182,14 @@ word_len-quoted : (open_at p : ℕ) (t u rest : List ℕ) → list_all is_letter
 word_len-quoted open_at p [] [] [] h k e = refl
 word_len-quoted open_at p [] [] (b ∷ rest) h k e = rw e refl
 word_len-quoted open_at p [] (b ∷ u) rest h k e =
-    let letter : is_letter b ≡ true = both_first _ _ k in
+    let letter : is_letter b ≡ true = (and_parts _ _ k).0 in
     let word : is_word_byte b ≡ true = letter-word b letter in
-    let more : word_len Outside (suc (suc p)) (u ++ rest) ≡ length u = word_len-letters Outside Outside-steady (suc (suc p)) u rest (both_second _ _ k) e in
+    let more : word_len Outside (suc (suc p)) (u ++ rest) ≡ length u = word_len-letters Outside Outside-steady (suc (suc p)) u rest (and_parts _ _ k).1 e in
     let next : suc (suc (length u)) ≡ 0 + 1 + length (b ∷ u) = omega arith in
     rw (word, letter-quote b letter) (ap (λ n. suc (suc n)) more ∙ next)
 word_len-quoted open_at p (b ∷ t) u rest h k e =
     let next : suc (length t + 1 + length u) ≡ length (b ∷ t) + 1 + length u = omega arith in
-    rw (letter-quote b (both_first _ _ h)) (ap suc (word_len-quoted open_at (suc p) t u rest (both_second _ _ h) k e) ∙ next)
+    rw (letter-quote b (and_parts _ _ h).0) (ap suc (word_len-quoted open_at (suc p) t u rest (and_parts _ _ h).1 k e) ∙ next)
 
 pub quoted_word_token : (tied : Bool) (p : ℕ) (t u rest : List ℕ) → list_all is_letter t ≡ true → list_all is_letter u ≡ true → EndsWord rest
     → tokens_from Outside tied 0 p (39 ∷ (t ++ 39 ∷ (u ++ rest))) ≡ Word p (39 ∷ (t ++ 39 ∷ u)) ∷ tokens_from Outside true 0 (p + length (39 ∷ (t ++ 39 ∷ u))) rest
@@ -210,20 +211,20 @@ inside-through : (outer open_at p : ℕ) (t rest : List ℕ) → list_all is_let
 inside-through outer open_at p [] rest h = ap (λ n. group_end outer (Met open_at) 0 n rest) (omega arith)
 inside-through outer open_at p (b ∷ t) rest h =
     let next : suc p + length t + 1 ≡ p + length (b ∷ t) + 1 = omega arith in
-    rw (letter-quote b (both_first _ _ h)) (inside-through outer open_at (suc p) t rest (both_second _ _ h) ∙ ap (λ n. group_end outer (Met open_at) 0 n rest) next)
+    rw (letter-quote b (and_parts _ _ h).0) (inside-through outer open_at (suc p) t rest (and_parts _ _ h).1 ∙ ap (λ n. group_end outer (Met open_at) 0 n rest) next)
+
+pub calm-letters : (w : List ℕ) → list_all is_letter w ≡ true → list_all is_calm w ≡ true
+calm-letters [] h = refl
+calm-letters (b ∷ w) h = rw (letter-calm b (and_parts _ _ h).0) (calm-letters w (and_parts _ _ h).1)
 
 met-through : (outer open_at p : ℕ) (u rest : List ℕ) → list_all is_letter u ≡ true → ((n : ℕ) → group_end outer (Met open_at) 0 n rest ≡ group_end outer Outside 0 n rest) → group_end outer (Met open_at) 0 p (u ++ rest) ≡ group_end outer Outside 0 (p + length u) rest
 met-through outer open_at p [] rest h same = rw add-zero (same p)
 met-through outer open_at p (b ∷ u) rest h same =
-    let letter : is_letter b ≡ true = both_first _ _ h in
+    let letter : is_letter b ≡ true = (and_parts _ _ h).0 in
     let next : suc p + length u ≡ p + length (b ∷ u) = omega arith in
-    let calm : list_all is_calm u ≡ true = calm-letters u (both_second _ _ h) in
+    let calm : list_all is_calm u ≡ true = calm-letters u (and_parts _ _ h).1 in
     rw (letter-quote b letter, letter-open b letter, letter-close b letter)
     (group_end-through outer 0 (suc p) u rest calm ∙ ap (λ n. group_end outer Outside 0 n rest) next)
-  where
-    calm-letters : (w : List ℕ) → list_all is_letter w ≡ true → list_all is_calm w ≡ true
-    calm-letters [] h = refl
-    calm-letters (b ∷ w) h = rw (letter-calm b (both_first _ _ h)) (calm-letters w (both_second _ _ h))
 
 pub quoted_word-through : (outer p : ℕ) (t u rest : List ℕ) → list_all is_letter t ≡ true → list_all is_letter u ≡ true
     → ((n open_at : ℕ) → group_end outer (Met open_at) 0 n rest ≡ group_end outer Outside 0 n rest)

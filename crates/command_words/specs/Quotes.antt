@@ -25,7 +25,8 @@ hides BeforeName = false
 hides AtName = false
 hides (InName q) = true
 
--- how quotes count at the front of the next word: the one behind the first may be a name in quotes, and none behind that
+-- how quotes count at the front of the next word: the one behind the first may be a name in quotes, and none behind
+-- that
 abbrev pub next_word : Quoting → Quoting
 next_word BeforeName = AtName
 next_word AtName = Ignored

@@ -35,7 +35,8 @@ opens_value (Group tied p t ∷ ts) = tied
 opens_value (Open tied p place ∷ ts) = tied
 opens_value (Close p ∷ ts) = false
 
--- The place of the first faulty byte of a word that begins at p. Where quotes count, those inside them are not looked at.
+-- The place of the first faulty byte of a word that begins at p. Where quotes count, those inside them are not looked
+-- at.
 abbrev pub faulty_at : Quoting → ℕ → List ℕ → Option ℕ
 faulty_at q p [] = None
 faulty_at q p (b ∷ bs) = if not (hides q) && is_faulty_byte b then Some p else faulty_at (after q p b) (suc p) bs

@@ -1,3 +1,2 @@
 mod WorkedRows
 mod Steps
-mod Names

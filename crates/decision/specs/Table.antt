@@ -60,8 +60,8 @@ star_entry acee profile = lists.star_entry acee.attributes.restricted profile.st
 abbrev pub conditional_entry : Options → Acee → Profile → Option CondEntry
 conditional_entry options acee profile = option_and_then (λ place. slice_get profile.conditional place) (lists.answered_when acee.port acee.user (considered options acee) acee.attributes.restricted profile.conditional)
 
--- The standing level is the user entry's; without one, the group entry's; without both, NONE for a RESTRICTED user and else the higher
--- of the `*` entry and the UACC.
+-- The standing level is the user entry's; without one, the group entry's; without both, NONE for a RESTRICTED user and
+-- else the higher of the `*` entry and the UACC.
 abbrev pub higher : Level → Level → Level
 higher level other = if nat_lt (level_rank level) (level_rank other) then other else level
 
@@ -146,7 +146,8 @@ module _ (rows : Rows) (acee : Acee) (class : List ℕ) (name : Spelled) (asked 
       ∷ with (conditional_entry rows.options acee p) (λ entry. case (suffices entry.level asked) (rule.Conditional entry.condition) 0 entry.level)
       -- 13 OPERATIONS: the class allows OPERATIONS, neither entry exists, the ACEE has OPERATIONS
       ∷ case (allows_operations class && has_neither && acee.attributes.operations) rule.Operations 0 (standing rows.options acee p)
-      -- 14 GROUPOPS: the class allows OPERATIONS, neither entry exists, a considered group (the first) has group-OPERATIONS and p is in scope of it
+      -- 14 GROUPOPS: the class allows OPERATIONS, neither entry exists, a considered group (the first) has
+      -- group-OPERATIONS and p is in scope of it
       ∷ with (operating_over rows acee p.owner) (λ group. case (allows_operations class && has_neither) (rule.GroupOperations group) 0 (standing rows.options acee p))
       -- 15 WARNING: p has WARNING
       ∷ case p.warning rule.Warning 0 (standing rows.options acee p)

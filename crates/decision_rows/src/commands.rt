@@ -1,14 +1,15 @@
 //! Commands, given to a database.
 
+use crate::followed::Followed;
 use anyhow::{Result, anyhow};
 use command_parser::{Command, Issuer, ParseFault, parse};
-use racf_database::{Conflict, Database};
+use racf_database::Conflict;
 use racf_profiles::{ibmuser, sys1};
 
 /// Gives a command to the database as IBMUSER in SYS1, and prints why it is refused, if so.
 pub(crate) fn give(
     rt: &(impl Print + AllocGlobal),
-    database: &mut Database,
+    database: &mut Followed,
     text: &str,
 ) -> Result<()> {
     let issuer = Issuer::new(ibmuser(), sys1()).ok_or_else(|| anyhow!("no issuer"))?;
@@ -25,16 +26,13 @@ pub(crate) fn give(
 /// Gives a command that was read.
 fn give_command(
     rt: &(impl Print + AllocGlobal),
-    database: &mut Database,
+    database: &mut Followed,
     issuer: &Issuer,
     command: &Command,
 ) -> Result<()> {
     match database.check(issuer, command) {
         Err(conflict) => println!(rt; "refused {}", conflict_word(&conflict))?,
-        Ok(()) => {
-            let change = database.prepare(rt.alloc(), issuer, command)?;
-            database.apply(change);
-        }
+        Ok(()) => database.accept(rt.alloc(), issuer, command)?,
     }
     Ok(())
 }

@@ -6,6 +6,14 @@
 //!   printed with its cause, and one that is accepted prints nothing;
 //! - `I number`: makes the image of the database as it stands under that number, which the rows below read until the
 //!   next `I`, and prints the number, the options, and how many users there are, with the first and the last.
+//! - `D`: begins anew with a new database, and prints `new database`;
+//! - `A`: takes the image that follows the database, which each accepted command makes anew of the one before it, for
+//!   the rows below until the next `I` or `A`, and prints the same of it.
+//!
+//! Rows that compare the image that follows the database with one that is made of all its rows:
+//! - `N id`, `R class name`: names an ID, or a resource, that both are asked for from here on;
+//! - `E`: asks both by each call that reads an image, and prints each answer in which they differ;
+//! - `T`: prints in how many of the comparisons since the last `T` no answer differed.
 //!
 //! Rows that ask the image, and print what it has, or `none`:
 //! - `U user`, `G group`, `K class`: a user, a group, the flags of a class with the number of its profiles;
@@ -30,6 +38,9 @@
 
 mod answers;
 mod commands;
+mod compared;
+mod equal;
+mod followed;
 mod looks;
 mod row_words;
 #[cfg(test)]
@@ -39,34 +50,45 @@ use access_levels::Id;
 use acee::{VerifyFault, VerifyRequest};
 use anyhow::{Result, anyhow};
 use commands::give;
+use compared::{Asked, agree};
 use decision::{Request, auth, verify};
-use racf_database::Database;
+use followed::Followed;
 use raclist_image::Image;
 use request_files::{AceeTable, RequestLine, read_line};
-use row_words::{id, parted};
+use row_words::{id, parted, request_to_read};
 use std::alloc::Global;
 use std::sync::Arc;
 
 /// What the rows have made.
 #[derive(Drop)]
 struct Session {
-    /// The database that the commands change.
-    database: Database,
-    /// The image that was made last.
+    /// The database that the commands change, and the image that follows it.
+    database: Followed,
+    /// The image that rows ask.
     image: Option<Arc<Image>>,
     /// The ACEEs of those who were verified.
     acees: AceeTable,
+    /// What images are asked for where they are compared.
+    asked: Asked,
+    /// How many comparisons there were since they were counted last.
+    compared: u64,
+    /// In how many of them no answer differed.
+    same: u64,
 }
 
 impl Session {
     /// A new database, no image and no ACEE.
     fn new(alloc: Global) -> Result<Session> {
-        let database = Database::new(alloc)?;
-        let acees = AceeTable::new(alloc)?;
         Ok(Session {
-            database,
+            database: Followed::new(alloc)?,
             image: None,
-            acees,
+            acees: AceeTable::new(alloc)?,
+            asked: Asked {
+                ids: Vec::new(alloc),
+                resources: Vec::new(alloc),
+            },
+            compared: 0,
+            same: 0,
         })
     }
 
@@ -75,7 +97,13 @@ impl Session {
         let (verb, rest) = parted(row);
         match verb {
             "C" => give(rt, &mut self.database, rest),
+            "D" => self.begin_anew(rt),
             "I" => self.make_image(rt, rest),
+            "A" => self.take_image(rt),
+            "N" => self.ask_for_id(rest),
+            "R" => self.ask_for_resource(rest),
+            "E" => self.compare(rt),
+            "T" => self.tell_same(rt),
             "U" => looks::print_user(rt, self.image()?, id(rest)?),
             "G" => looks::print_group(rt, self.image()?, id(rest)?),
             "K" => looks::print_class(rt, self.image()?, id(rest)?),
@@ -85,6 +113,13 @@ impl Session {
         }
     }
 
+    /// Begins anew with a new database.
+    fn begin_anew(&mut self, rt: &(impl Print + AllocGlobal)) -> Result<()> {
+        self.database = Followed::new(rt.alloc())?;
+        println!(rt; "new database")?;
+        Ok(())
+    }
+
     /// Makes the image of the database under a number.
     fn make_image(&mut self, rt: &(impl Print + AllocGlobal), number: &str) -> Result<()> {
         let number = number.parse::<u64>()?;
@@ -92,6 +127,48 @@ impl Session {
         let image = Image::of(rt.alloc(), &rows, number)?;
         looks::print_image(rt, &image)?;
         self.image = Some(image);
+        Ok(())
+    }
+
+    /// Takes the image that follows the database.
+    fn take_image(&mut self, rt: &impl Print) -> Result<()> {
+        let image = Arc::try_clone(self.database.image())?;
+        looks::print_image(rt, &image)?;
+        self.image = Some(image);
+        Ok(())
+    }
+
+    /// Has both images asked for an ID.
+    fn ask_for_id(&mut self, word: &str) -> Result<()> {
+        self.asked.ids.push(id(word)?)?;
+        Ok(())
+    }
+
+    /// Has both images asked for a resource of a class.
+    fn ask_for_resource(&mut self, row: &str) -> Result<()> {
+        let (class, name) = parted(row);
+        self.asked
+            .resources
+            .push(request_to_read(id(class)?, name)?)?;
+        Ok(())
+    }
+
+    /// Compares the image that follows the database with one that is made of all its rows.
+    fn compare(&mut self, rt: &(impl Print + AllocGlobal)) -> Result<()> {
+        let rows = self.database.to_rows(rt.alloc())?;
+        let image = Image::of(rt.alloc(), &rows, self.database.number())?;
+        self.compared = self.compared.saturating_add(1);
+        if agree(rt, self.database.image(), &image, &self.asked)? {
+            self.same = self.same.saturating_add(1);
+        }
+        Ok(())
+    }
+
+    /// Prints in how many comparisons no answer differed, and begins to count anew.
+    fn tell_same(&mut self, rt: &impl Print) -> Result<()> {
+        println!(rt; "same {} of {}", self.same, self.compared)?;
+        self.compared = 0;
+        self.same = 0;
         Ok(())
     }
 

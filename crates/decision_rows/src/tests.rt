@@ -2,11 +2,11 @@
 //! `tests/refusals` runs them with allocations refused behind the line that they print first.
 
 use crate::commands::give;
+use crate::followed::Followed;
 use crate::row_words::request_to_read;
 use access_levels::{Condition, Id, Level, PortClass};
 use acee::{Acee, VerifyFault, VerifyRequest};
 use decision::{Request, Rule, auth, verify};
-use racf_database::Database;
 use racf_profiles::{FixedClass, ibmuser, sys1};
 use raclist_image::Image;
 use std::process::Abort;
@@ -27,8 +27,8 @@ const COMMANDS: [&str; 9] = [
 ];
 
 /// A database in which the commands were accepted.
-fn small_database(rt: &(impl Print + AllocGlobal)) -> Result<Database, Fail> {
-    let mut database = Database::new(rt.alloc())?;
+fn small_database(rt: &(impl Print + AllocGlobal)) -> Result<Followed, Fail> {
+    let mut database = Followed::new(rt.alloc())?;
     for text in COMMANDS {
         give(rt, &mut database, text)?;
     }

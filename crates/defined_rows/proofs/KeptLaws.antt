@@ -7,7 +7,8 @@ use Rattle.std.proofs.lemmas.Slice.Eq.{bytes_eq-Decides}
 use Rattle.std.proofs.lemmas.Map.Keys.{IsDistinct-head, IsDistinct-tail}
 use Rattle.racf_profiles.specs.Edits.{put_row, drop_row}
 use Rattle.racf_profiles.proofs.Found.{find-miss}
-use Rattle.racf_profiles.proofs.EditLaws.{put_row-found, put_row-others, same_name, other_name}
+use Rattle.racf_profiles.proofs.EditLaws.{put_row-found, put_row-others, other_name}
+use Rattle.racf_profiles.proofs.Named.{itself}
 use Rattle.sorted_rows.specs.Sorted.{has_key, with_row, without_row}
 use Rattle.sorted_rows.proofs.FoundLaws.{turned}
 use Rattle.defined_rows.specs.Kept.{AllPairs, IsEarlier, HasOtherKey, IsKept}
@@ -45,7 +46,7 @@ module _ {D : Type 0} (number : D → ℕ) (key : D → List ℕ) where
   find_put y xs k = ⊎_elim
       (λ (e : has_key key k y ≡ true).
       ap (λ a. find (has_key key a) (put_row (has_key key (key y)) y xs)) (sym ((bytes_eq-Decides (key y) k).0 e))
-      ∙ put_row-found (has_key key (key y)) y xs (same_name (key y))
+      ∙ put_row-found (has_key key (key y)) y xs (itself (key y))
       ∙ sym (ap (λ b. cond b (Some y) (find (has_key key k) xs)) e))
       (λ (e : has_key key k y ≡ false).
       put_row-others (has_key key (key y)) (has_key key k) y xs e (λ x same. other_name (key x) (key y) k e same)

@@ -2,11 +2,10 @@
 use Rattle.std.proofs.Common.{◌≡◌, ◌+◌, ◌<◌, ◌≤◌, ℕ, Bool, true, false, not, cond, List, [], ◌∷◌, Some, None, length, map, set, option_map, ap, sym, ◌∙◌, refl, suc, arith, ⊎_elim}
 use Rattle.std.specs.Prelude.{nat_le}
 use Rattle.std.specs.List.{find, list_all, position_or_len, insert, remove, AllByRecursion}
-use Rattle.std.proofs.lemmas.Bool.{cases_Bool, le-leb, lt-leb, leb-true}
+use Rattle.std.proofs.lemmas.Bool.{cases_Bool, le-leb, lt-leb, leb-true, and_from}
 use Rattle.pages.specs.Rising.{Rises}
 use Rattle.racf_profiles.specs.Edits.{put_row, drop_row}
 use Rattle.racf_profiles.proofs.Found.{find-hit, find-miss}
-use Rattle.sorted_rows.proofs.RowLaws.{both}
 use Rattle.defined_rows.specs.Kept.{AllPairs}
 use Rattle.defined_rows.proofs.PairLaws.{put_hit, put_miss, drop_hit, drop_miss, found_here, none_here, all_found}
 
@@ -63,7 +62,7 @@ module _ {D : Type 0} (number : D → ℕ) where
     where
       later : (ys : List D) → n ≤ number x → AllByRecursion (λ y. number x < number y) ys → list_all (λ y. nat_le n (number y)) ys ≡ true
       later [] least h = refl
-      later (y ∷ ys) least h = both (nat_le n (number y)) (list_all (λ z. nat_le n (number z)) ys) (le-leb n (number y) (omega (arith, least, h.0))) (later ys least h.1)
+      later (y ∷ ys) least h = and_from (nat_le n (number y)) (list_all (λ z. nat_le n (number z)) ys) (le-leb n (number y) (omega (arith, least, h.0))) (later ys least h.1)
 
   pub place_of_number : (p : D → Bool) (d : D) (xs : List D) → find p xs ≡ Some d → AllPairs (λ x y. number x < number y) xs
       → position_or_len (λ x. nat_le (number d) (number x)) xs ≡ position_or_len p xs

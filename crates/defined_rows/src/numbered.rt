@@ -6,7 +6,9 @@ use sorted_rows::Keyed;
 /// A row with its number, by which it stands in the order of definition.
 #[derive(Drop)]
 pub(crate) struct Defined<R> {
+    /// Its number: rows that were defined later have greater ones.
     pub number: u64,
+    /// The row.
     pub row: R,
 }
 
@@ -21,6 +23,7 @@ impl<R: Keyed> Keyed for Defined<R> {
 /// Whether a row has a number, or stands behind it.
 #[derive(Drop)]
 pub(crate) struct IsFrom {
+    /// The number.
     pub number: u64,
 }
 

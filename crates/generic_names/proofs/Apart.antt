@@ -2,6 +2,7 @@
 use Rattle.std.proofs.Common.{◌≡◌, ◌≢◌, ℕ, ◌<◌, Bool, true, false, cond, not, ◌&&◌, eqb, List, [], ◌∷◌, ◌++◌, map, length, get_or, refl, ap, sym, ◌∙◌, arith}
 use Rattle.std.specs.List.{onto_first}
 use Rattle.std.proofs.lemmas.Bool.Decides.{nat_tests}
+use Rattle.std.proofs.lemmas.Bool.{not-true}
 use Rattle.generic_names.specs.Spelled.{qualifiers}
 use Rattle.generic_names.specs.Covers.{is_double}
 use Rattle.generic_names.specs.Before.{rank, ranks}
@@ -33,10 +34,6 @@ four true true true false h = absurd (cc h)
 four true true false v h = absurd (cc h)
 four true false u v h = absurd (cc h)
 four false t u v h = absurd (cc h)
-
-not-true : (b : Bool) → not b ≡ true → b ≡ false
-not-true true h = absurd (cc h)
-not-true false h = refl
 
 -- The first rank of such a pattern is its first byte, which isn't the name's.
 pub apart-first : (pattern name : List ℕ) (r : ℕ) (rest : List ℕ) → begin_apart pattern name ≡ true → ranks (qualifiers pattern) ≡ r ∷ rest → (r ≡ get_or pattern 0 0) × (0 < length pattern) × (r ≢ get_or name 0 0)

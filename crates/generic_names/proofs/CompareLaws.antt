@@ -1,5 +1,5 @@
 -- Lists of ranks, compared from the front.
-use Rattle.std.proofs.Common.{◌≡◌, ◌≢◌, ℕ, suc, ◌-◌, ◌<◌, ◌≤◌, true, false, ltb, List, [], ◌∷◌, ◌++◌, length, take, Ordering, refl, ap, sym, ◌∙◌, subst, arith, ⊎_elim}
+use Rattle.std.proofs.Common.{◌≡◌, ◌≢◌, ℕ, ◌<◌, ◌≤◌, true, false, ltb, List, [], ◌∷◌, ◌++◌, Ordering, refl, ap, sym, ◌∙◌, subst, arith, ⊎_elim}
 use Rattle.std.specs.declared.cmp.Ordering.TheVariants.{Less, Equal, Greater}
 use Rattle.std.specs.Ordering.{nat_cmp, is_lt, ordering_then}
 use Rattle.std.specs.Cmp.Lexicographic.{slice_cmp}
@@ -26,7 +26,7 @@ is_lt-heads x y xs ys h = ⊎_elim
     (λ (m : y ≤ x). let test : ltb x y ≡ false = grind (arith, nat_tests) in ap is_lt (more_head x y xs ys (omega arith)) ∙ sym test)
     (cases_lt x y)
 
-not_below_nil : (xs : List ℕ) → is_lt (slice_cmp nat_cmp xs []) ≡ false
+pub not_below_nil : (xs : List ℕ) → is_lt (slice_cmp nat_cmp xs []) ≡ false
 not_below_nil [] = refl
 not_below_nil (x ∷ xs) = refl
 
@@ -74,24 +74,3 @@ next-head old new r more end = ⊎_elim
     (λ (e : r ≡ 259). ([], end e ∙ ap (λ (x : ℕ). x ∷ []) (sym e)))
     (λ (n : r ≡ 259 → ⊥). (new, more n))
     (cases_eq r 259)
-
--- The ranks of a name against the first k of some others with a last one behind them.
-module _ (these those : List ℕ) (k least x y : ℕ) (rest others : List ℕ) (this : these ≡ x ∷ rest) (that : those ≡ y ∷ others) where
-  taken : 0 < k → take k those ≡ y ∷ take (k - 1) others
-  taken some =
-      let one : k ≡ suc (k - 1) = omega arith in
-      ap (λ (n : ℕ). take n those) one ∙ ap (λ (ys : List ℕ). take (suc (k - 1)) ys) that
-
-  pub above-differ : 0 < k → x ≢ y → ltb x y ≡ is_lt (slice_cmp nat_cmp these (take k those ++ least ∷ []))
-  above-differ some other = rw (this, taken some) (sym (is_lt-heads x y rest (take (k - 1) others ++ least ∷ []) other))
-
-  pub above-same : 0 < k → x ≡ y → slice_cmp nat_cmp these (take k those ++ least ∷ []) ≡ slice_cmp nat_cmp rest (take (k - 1) others ++ least ∷ [])
-  above-same some same = rw (this, taken some) (subst (λ (z : ℕ). slice_cmp nat_cmp (x ∷ rest) (z ∷ (take (k - 1) others ++ least ∷ [])) ≡ slice_cmp nat_cmp rest (take (k - 1) others ++ least ∷ [])) same (same_head x rest (take (k - 1) others ++ least ∷ [])))
-
--- nothing of the others is left
-pub above-last : (these those : List ℕ) (k least x : ℕ) (rest : List ℕ) → these ≡ x ∷ rest → k ≡ 0 → ltb x least ≡ is_lt (slice_cmp nat_cmp these (take k those ++ least ∷ []))
-above-last these those k least x rest this none = rw (none, this) (sym (is_lt-last x least rest))
-
--- a rank with others behind it isn't the last
-pub not-last : (old : List ℕ) (r k : ℕ) → (r ≡ 259 → old ≡ 259 ∷ []) → 0 < k → k < length old → r ≢ 259
-not-last old r k end some room e = let size : length old ≡ 1 = ap (λ (xs : List ℕ). length xs) (end e) in omega arith

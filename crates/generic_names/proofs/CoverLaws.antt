@@ -3,6 +3,7 @@ use Rattle.std.proofs.Common.{◌≡◌, ℕ, suc, ◌-◌, ◌<◌, ◌≤◌, 
 use Rattle.std.specs.List.{join_with_byte}
 use Rattle.std.proofs.lemmas.List.{drop_more, drop_all, length-drop}
 use Rattle.std.proofs.lemmas.Bool.Decides.{nat_tests}
+use Rattle.std.proofs.lemmas.Bool.{or_left, or_right, and_parts}
 use Rattle.generic_names.specs.declared.kind.NameKind.{NameKind}
 use Rattle.generic_names.specs.Spelled.{is_empty}
 use Rattle.generic_names.specs.Covers.{is_double, is_open, matches, begins, some_end, first_and_rest, covers_all}
@@ -14,22 +15,10 @@ same_tests true b there back = sym (there refl)
 same_tests false true there back = back refl
 same_tests false false there back = refl
 
-or_first : (a b : Bool) → a ≡ true → (a || b) ≡ true
-or_first true b h = refl
-or_first false b h = absurd (cc h)
-
-or_second : (a b : Bool) → b ≡ true → (a || b) ≡ true
-or_second true b h = refl
-or_second false b h = h
-
-and_second : (a b : Bool) → (a && b) ≡ true → b ≡ true
-and_second true b h = h
-and_second false b h = absurd (cc h)
-
 -- the whole list is an end of it
 pub some_end-whole : (test : List (List ℕ) → Bool) (qs : List (List ℕ)) → test qs ≡ true → some_end test qs ≡ true
 some_end-whole test [] h = h
-some_end-whole test (q ∷ qs) h = or_first (test (q ∷ qs)) (some_end test qs) h
+some_end-whole test (q ∷ qs) h = or_left (test (q ∷ qs)) (some_end test qs) h
 
 -- some end of an end is an end
 pub some_end-twice : (test : List (List ℕ) → Bool) (qs : List (List ℕ)) → some_end (λ end. some_end test end) qs ≡ true → some_end test qs ≡ true
@@ -38,7 +27,7 @@ some_end-twice test (q ∷ qs) h =
     elim (some_end test (q ∷ qs)) as (λ v. (v || some_end (λ end. some_end test end) qs) ≡ true → (some_end test qs ≡ true → v ≡ true) → v ≡ true) [
       | true ↦ λ g k. refl
       | false ↦ λ g k. k (some_end-twice test qs g)
-    ] h (or_second (test (q ∷ qs)) (some_end test qs))
+    ] h (or_right (test (q ∷ qs)) (some_end test qs))
 
 -- tests that agree agree on the ends
 pub some_end-same : (test other : List (List ℕ) → Bool) → ((qs : List (List ℕ)) → test qs ≡ other qs) → (qs : List (List ℕ)) → some_end test qs ≡ some_end other qs
@@ -72,12 +61,12 @@ module _ (kind : NameKind) (p : List ℕ) (ps : List (List ℕ)) where
   some_end-one q [] double one h =
       let here : (matches p q && covers_all kind ps []) || covers_all kind (p ∷ ps) [] ≡ true = rw (covers_all-one q [] double one) at h in
       let none : covers_all kind (p ∷ ps) [] ≡ false = covers_all-none double in
-      either _ _ here (λ now. and_second (matches p q) _ now) (λ later. absurd (cc (later, none)))
+      either _ _ here (λ now. (and_parts (matches p q) _ now).1) (λ later. absurd (cc (later, none)))
   some_end-one q (r ∷ qs) double one h =
       let here : (matches p q && covers_all kind ps (r ∷ qs)) || some_end (λ end. covers_all kind (p ∷ ps) end) (r ∷ qs) ≡ true = rw (covers_all-one q (r ∷ qs) double one) at h in
       either _ _ here
-      (λ now. some_end-whole (λ end. covers_all kind ps end) (r ∷ qs) (and_second (matches p q) _ now))
-      (λ later. or_second (covers_all kind ps (r ∷ qs)) _ (some_end-one r qs double one later))
+      (λ now. some_end-whole (λ end. covers_all kind ps end) (r ∷ qs) ((and_parts (matches p q) _ now).1))
+      (λ later. or_right (covers_all kind ps (r ∷ qs)) _ (some_end-one r qs double one later))
 
 -- A walk from a pattern P₀ and a name N₀ has come to P and N. It is as good from there, and where the pattern
 -- covers some end of the name, what is left of it covers some end of what is left.

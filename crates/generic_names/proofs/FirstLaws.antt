@@ -15,7 +15,7 @@ use Rattle.generic_names.specs.Laws.{IsResource}
 use Rattle.generic_names.proofs.Lawful.{EachByte, EachQualifier, IsPlain, resource-plain}
 use Rattle.generic_names.proofs.CoverLaws.{covers_all-open, covers_all-one, covers_all-none}
 use Rattle.generic_names.proofs.OrderLaws.{qualifiers-injective, same_spelled}
-use Rattle.generic_names.proofs.Bools.{either}
+use Rattle.generic_names.proofs.Bools.{either, both}
 
 -- lists that differ in their heads, and such that don't
 pub less_head : (x y : ℕ) (xs ys : List ℕ) → x < y → slice_cmp nat_cmp (x ∷ xs) (y ∷ ys) ≡ Less
@@ -59,10 +59,6 @@ below-double ((b ∷ n) ∷ ns) xs h =
     let same = plain-rank b h.0.0 in
     let low : b < 256 = h.0.0.small in
     rw (plain-ranks (b ∷ n) ns h.0) (less_head (rank b) 260 (map rank n ++ 257 ∷ ranks ns) xs (omega (arith, same)))
-
-pub both : {P : Type 0} (a b : Bool) → (a && b) ≡ true → (a ≡ true → b ≡ true → P) → P
-both true b h k = k refl h
-both false b h k = absurd (cc (h))
 
 pub is_nil : (xs : List ℕ) → is_empty xs ≡ true → xs ≡ []
 is_nil [] h = refl

@@ -19,8 +19,8 @@ use Rattle.generic_names.specs.Reading.{rest_at}
 use Rattle.generic_names.proofs.QualifierLaws.{rest_at-past}
 use Rattle.generic_names.proofs.RankLaws.{rest_at-end, rest_at-byte}
 use Rattle.generic_names.proofs.CompareLaws.{Between, between}
-use Rattle.generic_names.proofs.Bools.{either}
-use Rattle.generic_names.proofs.FirstLaws.{less_head, same_front, front, front-take, last-get, no-periods, plain-rank, both, equal_byte, one_byte, no-match, behind-first, no_name, ends_open}
+use Rattle.generic_names.proofs.Bools.{either, both}
+use Rattle.generic_names.proofs.FirstLaws.{less_head, same_front, front, front-take, last-get, no-periods, plain-rank, equal_byte, one_byte, no-match, behind-first, no_name, ends_open}
 
 -- a byte of a pattern's qualifier
 pub record IsByte (b : ℕ) : Type 0 where

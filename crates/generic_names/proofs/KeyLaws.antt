@@ -2,7 +2,7 @@
 use Rattle.std.proofs.Common.{◌≡◌, ℕ, zero, suc, ◌+◌, ◌-◌, ◌<◌, ◌≤◌, Bool, true, false, cond, ltb, List, [], ◌∷◌, ◌++◌, map, length, length-append, append_assoc, take, get_or, Ordering, refl, ap, sym, ◌∙◌, subst, arith, ⊎_elim, ◌⊎◌, inl, inr}
 use Rattle.std.specs.declared.cmp.Ordering.TheVariants.{Equal}
 use Rattle.std.specs.Ordering.{nat_cmp, is_lt, ordering_then}
-use Rattle.std.specs.Cmp.Lexicographic.{slice_cmp}
+use Rattle.std.specs.Cmp.Lexicographic.{slice_cmp, nat_list_cmp_total}
 use Rattle.std.specs.FinMap.{nat_cmp-IsAntisymmetric, slice_cmp-IsAntisymmetric}
 use Rattle.std.specs.List.{AllByRecursion, join_with_byte}
 use Rattle.std.proofs.lemmas.Bool.{cases_eq, cases_lt}
@@ -14,9 +14,9 @@ use Rattle.generic_names.specs.Covers.{is_double}
 use Rattle.generic_names.specs.Before.{rank, ranks, order, before}
 use Rattle.generic_names.specs.Gap.{is_below}
 use Rattle.generic_names.specs.Laws.{IsPattern}
-use Rattle.generic_names.specs.OrderKey.{squeezed, order_key, IsRank, AreRanks}
+use Rattle.generic_names.specs.OrderKey.{squeezed, order_key, is_lower, IsRank, AreRanks}
 use Rattle.generic_names.proofs.Lawful.{EachByte, EachQualifier, IsPlain, pattern-low, pattern-small}
-use Rattle.generic_names.proofs.OrderLaws.{rank-cases, ranks-injective, qualifiers-injective}
+use Rattle.generic_names.proofs.OrderLaws.{rank-cases, ranks-injective, qualifiers-injective, is_less, same_ties}
 use Rattle.generic_names.proofs.CompareLaws.{compared}
 use Rattle.generic_names.proofs.RankLaws.{rest_at-byte}
 use Rattle.generic_names.proofs.GapLaws.{plain-rest}
@@ -88,15 +88,23 @@ pattern-ranks name h = are-ranks (qualifiers name.text) (pattern-low name h)
 pub keys-compare : (a b : Spelled) → IsPattern a → IsPattern b → slice_cmp nat_cmp (order_key a.text) (order_key b.text) ≡ order a b
 keys-compare a b ha hb = squeezed-cmp-lists (ranks (qualifiers a.text)) (ranks (qualifiers b.text)) (pattern-ranks a ha) (pattern-ranks b hb)
 
-pub lower-before : (a b : Spelled) → IsPattern a → IsPattern b → is_lt (slice_cmp nat_cmp (order_key a.text) (order_key b.text)) ≡ before a b
+pub lower-before : (a b : Spelled) → IsPattern a → IsPattern b → is_lower a (order_key b.text) ≡ before a b
 lower-before a b ha hb = ap is_lt (keys-compare a b ha hb)
 
-pub lower-below : (a : Spelled) (gap : List ℕ) → IsPattern a → AreRanks gap → is_lt (slice_cmp nat_cmp (order_key a.text) (map squeezed gap)) ≡ is_below a gap
+pub lower-below : (a : Spelled) (gap : List ℕ) → IsPattern a → AreRanks gap → is_lower a (map squeezed gap) ≡ is_below a gap
 lower-below a gap ha hg = ap is_lt (squeezed-cmp-lists (ranks (qualifiers a.text)) gap (pattern-ranks a ha) hg)
 
-same_ties : (xs : List ℕ) → slice_cmp nat_cmp xs xs ≡ Equal
-same_ties [] = refl
-same_ties (x ∷ xs) = ap (λ (r : Ordering). ordering_then r (slice_cmp nat_cmp xs xs)) ((compared x x).same refl) ∙ same_ties xs
+pub lower-passed_on : (a b : Spelled) (key : List ℕ) → IsPattern a → IsPattern b → before a b ≡ true → is_lower b key ≡ true → is_lower a key ≡ true
+lower-passed_on a b key ha hb first low =
+    let keys : is_lower a (order_key b.text) ≡ true = lower-before a b ha hb ∙ first in
+    ap is_lt (nat_list_cmp_total.trans (order_key a.text) (order_key b.text) key (is_less _ keys) (is_less _ low))
+
+pub not-lower-passed_on : (a b : Spelled) (key : List ℕ) → IsPattern a → IsPattern b → before a b ≡ true → is_lower a key ≡ false → is_lower b key ≡ false
+not-lower-passed_on a b key ha hb first high = settled (is_lower b key) refl
+  where
+    settled : (t : Bool) → is_lower b key ≡ t → t ≡ false
+    settled false is = refl
+    settled true is = absurd (let low : is_lower a key ≡ true = lower-passed_on a b key ha hb first is in cc (low, high))
 
 pub equal-keys : (a b : Spelled) → IsPattern a → IsPattern b → order_key a.text ≡ order_key b.text → a.text ≡ b.text
 equal-keys a b ha hb e =

@@ -12,7 +12,7 @@ use Rattle.generic_names.specs.declared.fault.NameFault.TheVariants.{Empty, TooL
 use Rattle.generic_names.specs.Spelled.{Spelled, qualifiers}
 use Rattle.generic_names.specs.Faults.{pattern_of, is_letter, is_digit, is_ordinary, byte_fault, bytes_fault, qualifier_fault, qualifiers_fault, fault_of, unless, longest, is_too_long, is_whole, is_generic_first}
 use Rattle.generic_names.specs.Laws.{IsResource, IsPattern}
-use Rattle.generic_names.proofs.Bools.{either}
+use Rattle.generic_names.proofs.Bools.{either, both}
 
 -- a byte that stands for itself in a pattern
 pub record IsPlain (b : ℕ) : Type 0 where
@@ -26,10 +26,6 @@ plain_letter b h = grind (arith, nat_tests)
 
 plain_digit : (b : ℕ) → is_digit b ≡ true → (47 < b) × (b < 58)
 plain_digit b h = grind (arith, nat_tests)
-
-both : {P : Type 0} (a b : Bool) → (a && b) ≡ true → (b ≡ true → P) → P
-both true b h k = k h
-both false b h k = absurd (cc (h))
 
 from_letter : (b : ℕ) → is_letter b ≡ true → IsPlain b
 from_letter b h = let l = plain_letter b h in record { low = omega arith; small = omega arith; no_percent = l.2; no_asterisk = l.3 }
@@ -46,7 +42,7 @@ plain_code c low high = record { low = high; small = omega arith; no_percent = o
 ordinary-plain : (kind : NameKind) (first : Bool) (b : ℕ) → is_ordinary kind first b ≡ true → IsPlain b
 ordinary-plain DataSet first b h =
     either (is_letter b) (not first && (is_digit b || eqb b 45)) h (from_letter b)
-    (λ k. both (not first) (is_digit b || eqb b 45) k (λ d. either (is_digit b) (eqb b 45) d (from_digit b) (λ e. from_code b 45 e (plain_code 45 (omega arith) (omega arith)))))
+    (λ k. both (not first) (is_digit b || eqb b 45) k (λ _ d. either (is_digit b) (eqb b 45) d (from_digit b) (λ e. from_code b 45 e (plain_code 45 (omega arith) (omega arith)))))
 ordinary-plain General first b h =
     either (is_letter b || is_digit b || eqb b 45 || eqb b 95 || eqb b 47) (eqb b 58) h
     (λ k. either (is_letter b || is_digit b || eqb b 45 || eqb b 95) (eqb b 47) k
@@ -67,7 +63,7 @@ abbrev pub EachQualifier : (ℕ → Type 0) → List (List ℕ) → Type 0
 EachQualifier P [] = Unit {0}
 EachQualifier P (q ∷ qs) = EachByte P q × EachQualifier P qs
 
-first_none : (a b : Option NameFault) → option_or a b ≡ None → (a ≡ None) × (b ≡ None)
+pub first_none : (a b : Option NameFault) → option_or a b ≡ None → (a ≡ None) × (b ≡ None)
 first_none None b h = (refl, h)
 first_none (Some x) b h = absurd (cc (h))
 
@@ -99,7 +95,7 @@ low_bytes kind first place (b ∷ bs) h =
     let parts = first_none _ (bytes_fault Generic kind false (place + 1) bs) h in
     (low_byte kind first (eqb (length bs) 0) place b parts.0, low_bytes kind false (place + 1) bs parts.1)
 
-passed_test : (t : Bool) (x : NameFault) (rest : Option NameFault) → cond t (Some x) rest ≡ None → rest ≡ None
+pub passed_test : (t : Bool) (x : NameFault) (rest : Option NameFault) → cond t (Some x) rest ≡ None → rest ≡ None
 passed_test true x rest h = absurd (cc (h))
 passed_test false x rest h = h
 

@@ -1,7 +1,7 @@
 pub mod Bools
 mod QualifierLaws
 mod FaultLaws
-mod CoverLaws
+pub mod CoverLaws
 mod WalkLaws
 mod RankLaws
 mod ReplaceLaws
@@ -13,5 +13,6 @@ mod GapLaws
 pub mod BestLaws
 pub mod MostSpecific
 pub mod Apart
-mod KeyLaws
+pub mod KeyLaws
+pub mod UnderLaws
 mod KeyRows

@@ -11,17 +11,9 @@ use Rattle.generic_names.specs.Covers.{covers}
 use Rattle.generic_names.specs.Before.{before}
 use Rattle.generic_names.specs.Laws.{IsResource, IsPattern}
 use Rattle.generic_names.specs.Best.{more_specific, most_specific, best, AreNamed, AreOfKind, IsAmong, IsMostSpecific}
-use Rattle.generic_names.proofs.OrderLaws.{one_is_before, not_both, passed_on, same_spelled}
+use Rattle.generic_names.proofs.OrderLaws.{one_is_before, not_both, passed_on, same_spelled, irreflexive}
 use Rattle.generic_names.proofs.FirstLaws.{very_name_first}
 use Rattle.generic_names.proofs.BestLaws.{covers-itself}
-
--- no name is before itself
-irreflexive : (a : Spelled) → before a a ≡ false
-irreflexive a = settled (before a a) refl
-  where
-    settled : (t : Bool) → before a a ≡ t → t ≡ false
-    settled true is = sym is ∙ not_both a a is
-    settled false is = refl
 
 -- what isn't before one isn't before what that one isn't after
 not_passed : (y w x : Spelled) → IsPattern y → IsPattern w → y.kind ≡ w.kind → before y w ≡ false → before w x ≡ false → before y x ≡ false

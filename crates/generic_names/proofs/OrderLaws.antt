@@ -60,26 +60,26 @@ not-double : (q xs ys : List ℕ) → EachByte (λ b. b < 256) q → map rank q 
 not-double [] xs ys h e = absurd (let head : ◌≡◌ {A = ℕ} 257 260 = (cc) in omega arith)
 not-double (b ∷ q) xs ys h e = let head : rank b ≡ 260 = (cc) in absurd ((rank-other b h.0).2 head)
 
+-- the ranks of the first qualifier tell it, and those behind them the others
+pub first-injective : (p q xs ys : List ℕ) → EachByte (λ b. b < 256) p → EachByte (λ b. b < 256) q → cond (is_double p) (260 ∷ xs) (map rank p ++ 257 ∷ xs) ≡ cond (is_double q) (260 ∷ ys) (map rank q ++ 257 ∷ ys) → (p ≡ q) × (xs ≡ ys)
+first-injective p q xs ys hp hq e = settled (is_double p) (is_double q) refl refl e
+  where
+    settled : (s t : Bool) → is_double p ≡ s → is_double q ≡ t → cond s (260 ∷ xs) (map rank p ++ 257 ∷ xs) ≡ cond t (260 ∷ ys) (map rank q ++ 257 ∷ ys) → (p ≡ q) × (xs ≡ ys)
+    settled true true dp dq e = ((bytes_eq-Decides p (42 ∷ 42 ∷ [])).0 dp ∙ sym ((bytes_eq-Decides q (42 ∷ 42 ∷ [])).0 dq), (cc))
+    settled true false dp dq e = absurd (not-double q xs ys hq (sym e))
+    settled false true dp dq e = absurd (not-double p ys xs hp e)
+    settled false false dp dq e = qualifier-injective p q xs ys hp hq e
+
 -- different qualifiers have different ranks
 pub ranks-injective : (ps qs : List (List ℕ)) → EachQualifier (λ b. b < 256) ps → EachQualifier (λ b. b < 256) qs → ranks ps ≡ ranks qs → ps ≡ qs
 ranks-injective [] [] hp hq e = refl
 ranks-injective [] (q ∷ qs) hp hq e = absurd (not-end q (ranks qs) (ranks qs) (is_double q) hq.0 (sym e))
 ranks-injective (p ∷ ps) [] hp hq e = absurd (not-end p (ranks ps) (ranks ps) (is_double p) hp.0 e)
-ranks-injective (p ∷ ps) (q ∷ qs) hp hq e = settled (ranks-injective ps qs hp.1 hq.1) (is_double p) (is_double q) refl refl e
-  where
-    settled : (ranks ps ≡ ranks qs → ps ≡ qs) → (s t : Bool) → is_double p ≡ s → is_double q ≡ t → cond s (260 ∷ ranks ps) (map rank p ++ 257 ∷ ranks ps) ≡ cond t (260 ∷ ranks qs) (map rank q ++ 257 ∷ ranks qs) → p ∷ ps ≡ q ∷ qs
-    settled again true true dp dq e =
-        let tail : ranks ps ≡ ranks qs = (cc) in
-        let rest : ps ≡ qs = again tail in
-        let first : p ≡ q = (bytes_eq-Decides p (42 ∷ 42 ∷ [])).0 dp ∙ sym ((bytes_eq-Decides q (42 ∷ 42 ∷ [])).0 dq) in
-        (cc)
-    settled again true false dp dq e = absurd (not-double q (ranks ps) (ranks qs) hq.0 (sym e))
-    settled again false true dp dq e = absurd (not-double p (ranks qs) (ranks ps) hp.0 e)
-    settled again false false dp dq e =
-        let both = qualifier-injective p q (ranks ps) (ranks qs) hp.0 hq.0 e in
-        let first : p ≡ q = both.0 in
-        let rest : ps ≡ qs = again both.1 in
-        (cc)
+ranks-injective (p ∷ ps) (q ∷ qs) hp hq e =
+    let both = first-injective p q (ranks ps) (ranks qs) hp.0 hq.0 e in
+    let first : p ≡ q = both.0 in
+    let rest : ps ≡ qs = ranks-injective ps qs hp.1 hq.1 both.1 in
+    (cc)
 
 -- a text is its qualifiers, joined
 pub qualifiers-injective : (xs ys : List ℕ) → qualifiers xs ≡ qualifiers ys → xs ≡ ys
@@ -91,7 +91,7 @@ same_spelled a b kind text = ap (λ (k : NameKind). made k a.text) kind ∙ ap (
     made : NameKind → List ℕ → Spelled
     made k xs = record { kind = k; text = xs }
 
-is_less : (r : Ordering) → is_lt r ≡ true → r ≡ Less
+pub is_less : (r : Ordering) → is_lt r ≡ true → r ≡ Less
 is_less Less h = refl
 is_less Equal h = absurd (cc (h))
 is_less Greater h = absurd (cc (h))
@@ -112,12 +112,20 @@ not_both a b h = ap is_lt (nat_list_cmp_total.antisymm (ranks (qualifiers b.text
 pub passed_on : (a b c : Spelled) → before a b ≡ true → before b c ≡ true → before a c ≡ true
 passed_on a b c ab bc = ap is_lt (nat_list_cmp_total.trans (ranks (qualifiers a.text)) (ranks (qualifiers b.text)) (ranks (qualifiers c.text)) (is_less _ ab) (is_less _ bc))
 
+-- no name is before itself
+pub irreflexive : (a : Spelled) → before a a ≡ false
+irreflexive a = settled (before a a) refl
+  where
+    settled : (t : Bool) → before a a ≡ t → t ≡ false
+    settled true is = sym is ∙ not_both a a is
+    settled false is = refl
+
 pub ties_are_equal : (a b : Spelled) → IsPattern a → IsPattern b → a.kind ≡ b.kind → order a b ≡ Equal → a ≡ b
 ties_are_equal a b ha hb kind is =
     let same = slice_cmp-IsAntisymmetric nat_cmp-IsAntisymmetric (ranks (qualifiers a.text)) (ranks (qualifiers b.text)) is in
     same_spelled a b kind (qualifiers-injective a.text b.text (ranks-injective (qualifiers a.text) (qualifiers b.text) (pattern-small a ha) (pattern-small b hb) same))
 
-same_ties : (xs : List ℕ) → slice_cmp nat_cmp xs xs ≡ Equal
+pub same_ties : (xs : List ℕ) → slice_cmp nat_cmp xs xs ≡ Equal
 same_ties [] = refl
 same_ties (x ∷ xs) = let equal : nat_cmp x x ≡ Equal = grind (arith, nat_tests) in ap (λ (r : Ordering). ordering_then r (slice_cmp nat_cmp xs xs)) equal ∙ same_ties xs
 

@@ -68,21 +68,6 @@ impl<'a> Gap<'a> {
         None
     }
 
-    /// Whether a name lies before the end of the gap.
-    pub(crate) fn is_above(&self, name: &[u8]) -> bool
-        ensures { result ≡ is_lt (slice_cmp nat_cmp (ranks (qualifiers name.now)) self.now) }
-    {
-        let mut these = Ranks::of(name);
-        let mut those = Ranks::of(self.text);
-        for _count in 0..self.count {
-            let (this, that) = (these.next(), those.next());
-            if this != that {
-                return this < that;
-            }
-        }
-        these.next() < self.least
-    }
-
     /// The place of its end in the order of specificity, as bytes. A pattern lies before the end exactly if its
     /// key is lower.
     pub fn order_key(&self) -> OrderKey

@@ -4,7 +4,7 @@ ghost use Rattle.generic_names.specs.Laws.{OneIsBefore, NotBoth, PassedOn, TiesA
 ghost use Rattle.generic_names.specs.Spelled.{Spelled};
 ghost use Rattle.generic_names.specs.Best.{BestIsFirst, BestIsMostSpecific};
 ghost use Rattle.generic_names.specs.Gap.{GapIsClosed};
-ghost use Rattle.generic_names.specs.OrderKey.{KeysCompare, LowerKeyIsBefore, LowerKeyIsBelow, EqualKeysAreOne};
+ghost use Rattle.generic_names.specs.OrderKey.{KeysCompare, LowerKeyIsBefore, LowerKeyIsBelow, LowerIsPassedOn, EqualKeysAreOne, FirstIsNotLower, FirstsStandTogether};
 
 /// Among the patterns of one kind the order of specificity is total, and two tie only if they are equal.
 pub fn order_is_total()
@@ -38,7 +38,14 @@ pub fn order_keys_order()
     ensures order { KeysCompare }
     ensures before { LowerKeyIsBefore }
     ensures below { LowerKeyIsBelow }
+    ensures passed_on { LowerIsPassedOn }
     ensures equal { EqualKeysAreOne }
+{}
+
+/// The names with one first qualifier stand together in the order of specificity, and its key tells where they begin.
+pub fn first_qualifiers_stand_together()
+    ensures not_lower { FirstIsNotLower }
+    ensures together { FirstsStandTogether }
 {}
 
 /// Of profiles in the order of specificity the best one is the first that covers the name, whatever a profile is.

@@ -11,8 +11,14 @@ use crate::qualifiers::qualifier_end;
 use std::cmp::Ordering;
 use std::marker::Model;
 
+/// The rank at the end of a qualifier.
+pub(crate) const END_OF_QUALIFIER: u16 = 257;
+
 /// The rank at the end of a name, which is its last.
 pub(crate) const END_OF_NAME: u16 = 259;
+
+/// The rank of a whole `**`.
+pub(crate) const DOUBLE_ASTERISK: u16 = 260;
 
 /// The ranks of a name from some place on.
 #[derive(Drop)]
@@ -89,14 +95,14 @@ fn step_at(text: &[u8], begins: bool, at: usize) -> Step
     }
     if begins_double(text, begins, at) {
         return Step {
-            rank: 260,
+            rank: DOUBLE_ASTERISK,
             begins: true,
             at: at + 3,
         };
     }
     if at == text.len() || text[at] == b'.' {
         return Step {
-            rank: 257,
+            rank: END_OF_QUALIFIER,
             begins: true,
             at: at + 1,
         };
@@ -119,7 +125,7 @@ fn begins_double(text: &[u8], begins: bool, at: usize) -> bool
 }
 
 /// The rank of a byte.
-fn rank_of(byte: u8) -> u16
+pub(crate) fn rank_of(byte: u8) -> u16
     ensures rank { result ≡ rank byte }
     ensures highest { result ≤ 258 }
 {

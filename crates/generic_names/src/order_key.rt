@@ -3,9 +3,11 @@ ghost use Rattle.std.specs.Ordering.{nat_cmp, is_lt};
 ghost use Rattle.std.specs.Cmp.Lexicographic.{slice_cmp};
 ghost use Rattle.generic_names.specs.Spelled.{qualifiers};
 ghost use Rattle.generic_names.specs.Before.{ranks};
-ghost use Rattle.generic_names.specs.OrderKey.{squeezed, order_key};
+ghost use Rattle.generic_names.specs.OrderKey.{squeezed, order_key, qualifier_key};
 
-use crate::order::{END_OF_NAME, Ranks};
+use crate::covering::is_double_asterisk;
+use crate::order::{DOUBLE_ASTERISK, END_OF_NAME, END_OF_QUALIFIER, Ranks, rank_of};
+use std::cmp::Ordering;
 use std::marker::Model;
 
 /// The most bytes that a key has: one for each byte of the longest name, and two for its end.
@@ -51,10 +53,7 @@ impl OrderKey {
         requires { count ≤ 248 }
         ensures { result ≡ map squeezed (take count (ranks (qualifiers text.now))) }
     {
-        let mut key = OrderKey {
-            length: 0,
-            bytes: [0; LONGEST],
-        };
+        let mut key = OrderKey::empty();
         let mut these = Ranks::of(text);
         for _at in 0..count {
             let rank = these.next();
@@ -64,6 +63,33 @@ impl OrderKey {
             }
         }
         key
+    }
+
+    /// The key of a first qualifier: those of all names that have it begin with this one, and no others do.
+    pub fn of_qualifier(qualifier: &[u8]) -> OrderKey
+        requires { length qualifier.now ≤ 246 }
+        ensures { result ≡ qualifier_key qualifier.now }
+    {
+        let mut key = OrderKey::empty();
+        if is_double_asterisk(qualifier) {
+            key.push(DOUBLE_ASTERISK);
+            return key;
+        }
+        for byte in qualifier {
+            key.push(rank_of(*byte));
+        }
+        key.push(END_OF_QUALIFIER);
+        key
+    }
+
+    /// A key without bytes.
+    fn empty() -> OrderKey
+        ensures { result ≡ [] }
+    {
+        OrderKey {
+            length: 0,
+            bytes: [0; LONGEST],
+        }
     }
 
     /// Adds a rank at the end.
@@ -83,11 +109,18 @@ impl OrderKey {
         &self.bytes[..self.length]
     }
 
-    /// Whether this key is lower than another: what it belongs to comes first.
+    /// Which of two keys is lower. What the lower one belongs to comes first.
+    pub fn order(&self, other: &OrderKey) -> Ordering
+        ensures { result ≡ slice_cmp nat_cmp self.now other.now }
+    {
+        self.as_bytes().cmp(other.as_bytes())
+    }
+
+    /// Whether this key is lower than another.
     pub fn is_before(&self, other: &OrderKey) -> bool
         ensures { result ≡ is_lt (slice_cmp nat_cmp self.now other.now) }
     {
-        self.as_bytes().cmp(other.as_bytes()).is_lt()
+        self.order(other).is_lt()
     }
 }
 

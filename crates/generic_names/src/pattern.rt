@@ -122,14 +122,6 @@ impl Pattern {
         compare(self.name.text(), other.name.text())
     }
 
-    /// The same, with the pattern of a resource's very name.
-    pub fn order_of_name(&self, name: &Resource) -> Ordering
-        requires { self.now.kind ≡ name.now.kind }
-        ensures { result ≡ order self.now name.now }
-    {
-        compare(self.name.text(), name.text())
-    }
-
     /// Its place in the order of specificity, as bytes. The keys of two patterns compare as the patterns do.
     pub fn order_key(&self) -> OrderKey
         ensures { result ≡ order_key self.now.text }
@@ -148,12 +140,5 @@ impl Pattern {
         ensures comes { begin_apart self.now.text name.now.text ≡ true → IsSome result }
     {
         Gap::behind(self.name.text(), name)
-    }
-
-    /// Whether it lies before the end of a gap.
-    pub fn is_below(&self, gap: &Gap) -> bool
-        ensures { result ≡ is_below self.now gap.now }
-    {
-        gap.is_above(self.name.text())
     }
 }

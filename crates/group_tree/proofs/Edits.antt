@@ -47,10 +47,6 @@ pub none_from_map : {A B : Type 0} (f : A → B) (o : Option A) → option_map f
 none_from_map f None h = refl
 none_from_map f (Some x) h = cc
 
-pub none_from_is_some : {A : Type 0} (o : Option A) → is_some o ≡ false → o ≡ None
-none_from_is_some None h = refl
-none_from_is_some (Some x) h = absurd (true≢false h)
-
 some_from_map : {A B : Type 0} (f : A → B) (o : Option A) (y : B) → option_map f o ≡ Some y → (x : A) × (o ≡ Some x) × (f x ≡ y)
 some_from_map f None y h = cc
 some_from_map f (Some x) y h = (x, refl, cc)

@@ -4,30 +4,21 @@ use Rattle.std.specs.Prelude.{IsSomeAnd, find}
 use Rattle.std.specs.Map.{keys_of, values_of, lookup}
 use Rattle.std.specs.List.{IsDistinct, AllByRecursion}
 use Rattle.std.specs.Option.{option_map, option_or}
-use Rattle.std.specs.Cmp.Lexicographic.{nat_list_eq_equiv}
 use Rattle.std.proofs.lemmas.Bool.{false_from_ne_true}
 use Rattle.std.proofs.lemmas.List.Folds.{find-append}
-use Rattle.std.proofs.lemmas.Slice.Eq.{bytes_eq-Decides}
 use Rattle.std.proofs.lemmas.Map.Keys.{IsDistinct-head, IsDistinct-tail}
 use Rattle.racf_profiles.specs.declared.groups.Group.{Group}
 use Rattle.racf_profiles.specs.Lookup.{is_group, find_group}
 use Rattle.racf_profiles.specs.Edits.{drop_row}
+use Rattle.racf_profiles.proofs.States.{find-passes}
+pub use Rattle.racf_profiles.proofs.Named.{same, itself, turned}
 
 -- ---- names
-pub same : (x y : List ℕ) → bytes_eq x y ≡ true → x ≡ y
-same x y = (bytes_eq-Decides x y).0
-
-pub itself : (x : List ℕ) → bytes_eq x x ≡ true
-itself x = (bytes_eq-Decides x x).1 refl
-
 pub apart : (x y : List ℕ) → (x ≡ y → ⊥) → bytes_eq x y ≡ false
 apart x y differ = false_from_ne_true _ (λ t. differ (same x y t))
 
 pub unlike : (x y : List ℕ) → bytes_eq x y ≡ false → x ≡ y → ⊥
 unlike x y f e = true≢false (sym (itself x) ∙ ap (bytes_eq x) e ∙ f)
-
-pub turned : (x y : List ℕ) → bytes_eq x y ≡ bytes_eq y x
-turned = nat_list_eq_equiv.symm
 
 -- ---- options
 pub value_of : {A : Type 0} (o : Option A) (P : A → Type 0) → IsSomeAnd o P → (v : A) × (o ≡ Some v) × P v
@@ -41,33 +32,9 @@ pub some_of : {A : Type 0} (o : Option A) → IsSome o → (v : A) × (o ≡ Som
 some_of None h = absurd (true≢false (sym h))
 some_of (Some v) h = (v, refl)
 
--- ---- the first that passes
-module _ {A : Type 0} (test : A → Bool) where
-  -- it passes
-  pub find-passes : (xs : List A) (x : A) → find test xs ≡ Some x → test x ≡ true
-  find-passes [] x h = cc
-  find-passes (y ∷ ys) x h = by (test y) refl (find-passes ys x)
-    where
-      by : (b : Bool) → test y ≡ b → (find test ys ≡ Some x → test x ≡ true) → test x ≡ true
-      by true e rest =
-          let found : find test (y ∷ ys) ≡ Some y = ap (λ c. cond c (Some y) (find test ys)) e in
-          let here : x ≡ y = cc in
-          ap test here ∙ e
-      by false e rest = rest (sym (ap (λ c. cond c (Some y) (find test ys)) e) ∙ h)
-
 -- ---- a group by its name
 pub id-find_group : (groups : List Group) (id : List ℕ) (group : Group) → find_group groups id ≡ Some group → group.id ≡ id
-id-find_group groups id group h = same group.id id (find-passes (is_group id) groups group h)
-
--- the map finds what the list of its values has
-pub lookup_named : (id : List ℕ) (es : List (List ℕ × Group)) → keys_of es ≡ map (λ (g : Group). g.id) (values_of es) → lookup (bytes_eq id) es ≡ find_group (values_of es) id
-lookup_named id [] named = refl
-lookup_named id (e ∷ es) named =
-    let here : e.0 ≡ e.1.id = cc in
-    let rest : keys_of es ≡ map (λ (g : Group). g.id) (values_of es) = cc in
-    ap (λ k. cond (bytes_eq id k) (Some e.1) (lookup (bytes_eq id) es)) here
-    ∙ ap (λ b. cond b (Some e.1) (lookup (bytes_eq id) es)) (turned id e.1.id)
-    ∙ ap (cond (bytes_eq e.1.id id) (Some e.1)) (lookup_named id es rest)
+id-find_group groups id group h = same group.id id (find-passes (is_group id) group groups h)
 
 -- ---- one more group
 module _ (groups : List Group) (row : Group) where

@@ -2,7 +2,7 @@
 use Rattle.std.proofs.Common.{◌≡◌, ℕ, zero, suc, ◌+◌, Bool, true, false, ◌||◌, List, length, Option, Some, None, bytes_eq, refl, sym, ap, ◌∙◌, arith, ⊎_elim, inl, inr}
 use Rattle.std.specs.Prelude.{◌↔◌, IsTrue, IsSomeAnd}
 use Rattle.std.specs.Option.{option_map_or}
-use Rattle.std.proofs.lemmas.Bool.{or_cases}
+use Rattle.std.proofs.lemmas.Bool.{or_cases, or_left, or_right}
 use Rattle.racf_profiles.specs.declared.groups.Group.{Group}
 use Rattle.racf_profiles.specs.declared.users.User.{User}
 use Rattle.racf_profiles.specs.declared.rows.Rows.{Rows}
@@ -68,13 +68,6 @@ module _ (groups : List Group) (top : List ℕ) where
     λ h. let w = leads_when_in_reach (length groups) id h in record { others = w.others; way = w.way },
     λ w. in_reach_when_leads tree (length groups) 0 id (omega arith) (steps_first groups tree id) record { others = w.others; way = w.way },
   )
-
-or_right : (a b : Bool) → b ≡ true → (a || b) ≡ true
-or_right true b h = refl
-or_right false b h = h
-
-or_left : (a b : Bool) → a ≡ true → (a || b) ≡ true
-or_left a b h = ap (λ a. a || b) h
 
 option_holds : {X : Type 0} (o : Option X) (f : X → Bool) (P : X → Type 0) → ((x : X) → f x ≡ true → P x) → option_map_or f o false ≡ true → IsSomeAnd o P
 option_holds None f P h t = cc

@@ -8,7 +8,8 @@ use Rattle.racf_profiles.specs.declared.groups.Group.{Group}
 use Rattle.group_tree.specs.Groups.{at_group}
 use Rattle.racf_profiles.specs.Lookup.{find_group, is_group}
 use Rattle.racf_profiles.specs.Edits.{drop_row}
-use Rattle.group_tree.proofs.Rows.{same, turned, lookup_named}
+use Rattle.racf_profiles.proofs.Named.{lookup-named}
+use Rattle.group_tree.proofs.Rows.{same, turned}
 use Rattle.group_tree.proofs.Edits.{names-at_group}
 
 -- each group stands under its own name
@@ -23,10 +24,10 @@ named-tail e es h = cc
 
 -- what the map finds is what the list of the groups has, which a value shows
 pub found : (groups : List Group) (es : List (List ℕ × Group)) (id : List ℕ) (o : Option Group) → IsNamed es → values_of es ≡ groups → o ≡ lookup (bytes_eq id) es → find_group groups id ≡ o
-found groups es id o named shown is = sym (is ∙ lookup_named id es named ∙ ap (λ gs. find_group gs id) shown)
+found groups es id o named shown is = sym (is ∙ lookup-named (λ (g : Group). g.id) id es named ∙ ap (λ gs. find_group gs id) shown)
 
 pub looked : (groups : List Group) (es : List (List ℕ × Group)) (id : List ℕ) → IsNamed es → values_of es ≡ groups → lookup (bytes_eq id) es ≡ find_group groups id
-looked groups es id named shown = lookup_named id es named ∙ ap (λ gs. find_group gs id) shown
+looked groups es id named shown = lookup-named (λ (g : Group). g.id) id es named ∙ ap (λ gs. find_group gs id) shown
 
 -- ---- one more
 pub values-push : (es : List (List ℕ × Group)) (row : Group) → values_of (es ++ (row.id, row) ∷ []) ≡ values_of es ++ row ∷ []
@@ -45,7 +46,7 @@ pushed es fs row named new = (ap values_of new ∙ values-push es row, subst IsN
 -- ---- one changed in its place
 module _ (change : Group → Group) (id : List ℕ) where
   -- no other has its name
-  at_group-absent : (groups : List Group) → AllByRecursion (λ y. bytes_eq id y ≡ false) (map (λ (g : Group). g.id) groups) → at_group id change groups ≡ groups
+  pub at_group-absent : (groups : List Group) → AllByRecursion (λ y. bytes_eq id y ≡ false) (map (λ (g : Group). g.id) groups) → at_group id change groups ≡ groups
   at_group-absent [] h = refl
   at_group-absent (g ∷ gs) h = ap (λ b. cond b (change g) g ∷ at_group id change gs) (turned g.id id ∙ h.0) ∙ ap (λ rest. g ∷ rest) (at_group-absent gs h.1)
 

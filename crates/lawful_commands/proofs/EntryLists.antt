@@ -2,6 +2,7 @@
 use Rattle.std.proofs.Common.{◌≡◌, ℕ, ◌≤◌, Bool, true, false, cond, not, ◌&&◌, List, [], ◌∷◌, length, map, fold, Option, None, Some, bytes_eq, refl, sym, ap, subst, ◌∙◌, true≢false, arith}
 use Rattle.std.specs.Prelude.{filter}
 use Rattle.std.specs.List.{IsDistinct}
+use Rattle.std.proofs.lemmas.Bool.{and_parts}
 use Rattle.access_levels.specs.Entries.{is_same_who, is_same_port}
 use Rattle.access_levels.specs.Level.{port_class_name}
 use Rattle.access_levels.specs.declared.entries.Who.{Who}
@@ -18,26 +19,16 @@ use Rattle.command_values.specs.declared.values.Reset.{Reset}
 use Rattle.command_values.specs.declared.values.Reset.TheVariants as reset
 use Rattle.command_parser.specs.declared.profile_fields.Permit.{Permit}
 use Rattle.command_effects.specs.PermitEffects.{standard_reset, conditional_reset, with_entry, with_conditional, standard_entries, conditional_entries, standard_after, conditional_after, permitted_profile, level_of}
+use Rattle.command_effects.proofs.ListCounts.{same_who}
 use Rattle.lawful_commands.proofs.RowLists.{distinct-filter, distinct-put, map-itself, distinct-none}
-
-same_who : (a b : Who) → is_same_who a b ≡ true → a ≡ b
-same_who Star Star h = refl
-same_who Star (Named id) h = absurd (true≢false (sym h))
-same_who (Named id) Star h = absurd (true≢false (sym h))
-same_who (Named id) (Named other) h = ap (λ n. Named n) (same id other h)
 
 like-who : (a b c : Who) → is_same_who a b ≡ true → is_same_who a c ≡ false → is_same_who b c ≡ false
 like-who a b c e f = ap (λ w. is_same_who w c) (sym (same_who a b e)) ∙ f
 
-pub both : (a b : Bool) → (a && b) ≡ true → (a ≡ true) × (b ≡ true)
-both true true h = (refl, refl)
-both true false h = absurd (true≢false (sym h))
-both false b h = absurd (true≢false (sym h))
-
 like-entry : (a b c : CondEntry) → is_same_entry a b ≡ true → is_same_entry a c ≡ false → is_same_entry b c ≡ false
 like-entry a b c e f =
-    let parts = both (is_same_port a.condition b.condition) (is_same_who a.who b.who) e in
-    let port = both (bytes_eq (port_class_name a.condition.class) (port_class_name b.condition.class)) (bytes_eq a.condition.name b.condition.name) parts.0 in
+    let parts = and_parts (is_same_port a.condition b.condition) (is_same_who a.who b.who) e in
+    let port = and_parts (bytes_eq (port_class_name a.condition.class) (port_class_name b.condition.class)) (bytes_eq a.condition.name b.condition.name) parts.0 in
     ap (λ n. bytes_eq n (port_class_name c.condition.class) && bytes_eq b.condition.name c.condition.name && is_same_who b.who c.who) (sym (same (port_class_name a.condition.class) (port_class_name b.condition.class) port.0))
     ∙ ap (λ n. bytes_eq (port_class_name a.condition.class) (port_class_name c.condition.class) && bytes_eq n c.condition.name && is_same_who b.who c.who) (sym (same a.condition.name b.condition.name port.1))
     ∙ ap (λ w. bytes_eq (port_class_name a.condition.class) (port_class_name c.condition.class) && bytes_eq a.condition.name c.condition.name && is_same_who w c.who) (sym (same_who a.who b.who parts.1))

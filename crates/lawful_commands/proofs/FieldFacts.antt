@@ -4,6 +4,7 @@ use Rattle.std.specs.Prelude.{nat_le, IfSome}
 use Rattle.std.specs.List.{AllByRecursion, list_all, before_first}
 use Rattle.std.specs.Result.{result_ok}
 use Rattle.std.proofs.lemmas.Option.{IfSome_then}
+use Rattle.std.proofs.lemmas.Bool.{and_parts}
 use Rattle.access_levels.specs.Spelling.{id_of}
 use Rattle.access_levels.specs.declared.levels.Level.{Level}
 use Rattle.access_levels.specs.declared.levels.Level.TheVariants.{NoAccess}
@@ -36,7 +37,6 @@ use Rattle.command_parser.specs.LawfulFields.{IsUserName, IsClauthWord, IsDataSe
 use Rattle.command_effects.specs.ProfileEffects.{dataset}
 use Rattle.lawful_commands.proofs.MemberLists.{is_fitting}
 use Rattle.lawful_commands.proofs.ProfileNames.{is_spelled_by}
-use Rattle.lawful_commands.proofs.EntryLists.{both}
 
 pub each-all : {X : Type 0} (P Q : X → Type 0) → ((x : X) → P x → Q x) → (xs : List X) → Each P xs → AllByRecursion Q xs
 each-all P Q f [] h = tt
@@ -45,8 +45,8 @@ each-all P Q f (x ∷ xs) h = (f x h.0, each-all P Q f xs h.1)
 -- ---- users
 name-printable : (text : List ℕ) → IsUserName text → is_user_name text ≡ true
 name-printable text h =
-    let parts = both (nat_le 1 (length text) && nat_le (length text) 20) (list_all is_printable text) h in
-    ap (λ b. b && list_all is_printable text) (both (nat_le 1 (length text)) (nat_le (length text) 20) parts.0).1 ∙ parts.1
+    let parts = and_parts (nat_le 1 (length text) && nat_le (length text) 20) (list_all is_printable text) h in
+    ap (λ b. b && list_all is_printable text) (and_parts (nat_le 1 (length text)) (nat_le (length text) 20) parts.0).1 ∙ parts.1
 
 pub name-lawful : (given : Option (List ℕ)) → IfSome given IsUserName → IfSome given (λ text. is_user_name text ≡ true)
 name-lawful given h = IfSome_then given h name-printable
@@ -62,7 +62,7 @@ half-logged (Some level) h = refl
 
 audit-logged : (rule : AuditRule) → IsAudit rule → is_audit rule ≡ true
 audit-logged rule h =
-    let halves = both (is_half rule.success) (is_half rule.failures) h in
+    let halves = and_parts (is_half rule.success) (is_half rule.failures) h in
     ap (λ b. b && is_logged_level rule.failures) (half-logged rule.success halves.0) ∙ half-logged rule.failures halves.1
 
 pub audit-lawful : (given : Option AuditRule) → IfSome given IsAudit → IfSome given (λ rule. is_audit rule ≡ true)

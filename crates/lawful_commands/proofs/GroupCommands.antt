@@ -5,6 +5,7 @@ use Rattle.std.specs.List.{AllByRecursion, list_any}
 use Rattle.std.specs.Option.{option_or, option_map}
 use Rattle.std.proofs.lemmas.List.Folds.{find-append}
 use Rattle.access_levels.specs.Spelling.{group_of as group_spelled}
+use Rattle.access_levels.proofs.Options.{none_from_is_some}
 use Rattle.racf_profiles.specs.declared.users.User.{User}
 use Rattle.racf_profiles.specs.declared.users.Connect.{Connect as Connection}
 use Rattle.racf_profiles.specs.declared.groups.Group.{Group}
@@ -17,10 +18,11 @@ use Rattle.racf_profiles.specs.Scope.{IsWithin}
 use Rattle.racf_profiles.specs.Tree.{IsTree}
 use Rattle.racf_profiles.specs.LawfulUsers.{IsUser}
 use Rattle.racf_profiles.specs.Lawful.{AreLawful}
+use Rattle.racf_profiles.proofs.EditLaws.{all-drop_row}
 use Rattle.group_tree.specs.Groups.{at_group, with_superior, with_owner}
 use Rattle.group_tree.specs.Answers.{CanAdd, CanMove, CanRemove}
 use Rattle.group_tree.proofs.Rows.{same, itself, turned, some_of, find_group-push_other, find_group-drop_other}
-use Rattle.group_tree.proofs.Edits.{one_there, both_there, none_from_map, none_from_is_some, is_some-at_group, tree-with_group, tree-with_superior, tree-with_owner, tree-drop}
+use Rattle.group_tree.proofs.Edits.{one_there, both_there, none_from_map, is_some-at_group, tree-with_group, tree-with_superior, tree-with_owner, tree-drop}
 use Rattle.row_tables.specs.ChangedRow.{at_row}
 use Rattle.row_tables.proofs.GroupLaws.{at_group-at_row}
 use Rattle.command_parser.specs.declared.commands.Issuer.{Issuer}
@@ -35,7 +37,7 @@ use Rattle.command_conflicts.specs.declared.conflict.Limit.TheVariants.{Groups}
 use Rattle.command_conflicts.specs.Conflicts.{first_met, if_met, is_root, cycle, meets, no_named_group, has_connected, groups_full, add_group_conflicts, alt_group_conflicts, del_group_conflicts}
 use Rattle.command_conflicts.proofs.Unmet.{AreUnmet, each_unmet, unmet, group_there, named_there, name_free, within, no_subgroup, no_root, no_root_moved, no_cycle}
 use Rattle.command_conflicts.proofs.Walks.{meets-within}
-use Rattle.lawful_commands.proofs.RowLists.{all-each, both-each, all-push, all-drop, all-at, none-found, found-none, none-any}
+use Rattle.lawful_commands.proofs.RowLists.{all-each, both-each, all-push, all-at, none-found, found-none, none-any}
 use Rattle.lawful_commands.proofs.Kept.{Fits, groups-changed}
 
 -- ---- ADDGROUP
@@ -164,7 +166,7 @@ module _ (issuer : Issuer) (c : DelGroup) (rows : Rows) (lawful : AreLawful rows
 
   fits-left : (user : User) → is_connected_to c.group user ≡ false → IsUser rows user → Fits (drop_row (is_group c.group) rows.groups) user
   fits-left user none is = (
-    found-none (is_group user.id) (drop_row (is_group c.group) rows.groups) (all-drop (λ (g : Group). is_group user.id g ≡ false) (is_group c.group) rows.groups (none-found (is_group user.id) rows.groups is.no_group)),
+    found-none (is_group user.id) (drop_row (is_group c.group) rows.groups) (all-drop_row (λ (g : Group). is_group user.id g ≡ false) (is_group c.group) rows.groups (none-found (is_group user.id) rows.groups is.no_group)),
     both-each (λ (x : Connection). is_to c.group x ≡ false) (λ (x : Connection). IsSome (group_of x.group rows)) (λ (x : Connection). IsSome (find_group (drop_row (is_group c.group) rows.groups) x.group))
         (λ x other there. ap is_some (find_group-drop_other c.group rows.groups x.group other) ∙ there) user.connects (none-any (is_to c.group) user.connects none) is.connections.there,
   )
@@ -177,5 +179,5 @@ module _ (issuer : Issuer) (c : DelGroup) (rows : Rows) (lawful : AreLawful rows
   del_group-lawful =
       groups-changed rows (drop_row (is_group c.group) rows.groups) lawful
       (tree-drop rows.groups lawful.groups c.group can_remove not_root)
-      (all-drop (λ (group : Group). group_spelled group.id ≡ Ok group.id) (is_group c.group) rows.groups lawful.group_names)
+      (all-drop_row (λ (group : Group). group_spelled group.id ≡ Ok group.id) (is_group c.group) rows.groups lawful.group_names)
       (both-each (λ (user : User). is_connected_to c.group user ≡ false) (IsUser rows) (Fits (drop_row (is_group c.group) rows.groups)) fits-left rows.users none-connected lawful.each_user)

@@ -2,6 +2,7 @@
 use Rattle.std.proofs.Common.{◌≡◌, ℕ, ◌≤◌, Bool, true, false, cond, not, ◌&&◌, ◌||◌, List, [], ◌∷◌, ◌++◌, length, map, fold, bytes_eq, codes, refl, sym, ap, subst, ◌∙◌, true≢false, arith, length-append}
 use Rattle.std.specs.Prelude.{nat_le, filter}
 use Rattle.std.specs.List.{AllByRecursion, IsDistinct, list_any, list_all}
+use Rattle.std.proofs.lemmas.Bool.{or_right}
 use Rattle.generic_names.specs.Spelled.{Spelled}
 use Rattle.racf_profiles.specs.declared.profiles.Profile.{Profile}
 use Rattle.racf_profiles.specs.declared.profiles.Member.{Member}
@@ -14,7 +15,7 @@ use Rattle.access_lists.specs.Lists.{entry_put}
 use Rattle.group_tree.proofs.Rows.{same, itself}
 use Rattle.command_effects.specs.UserEffects.{with_class}
 use Rattle.command_effects.specs.Members.{member_name, is_member_named, with_member, is_named_in, without_members, members_after, with_category_name, categories_defined, options_after}
-use Rattle.lawful_commands.proofs.RowLists.{all-each, all-filter, all-put, all-passes, passes-all, any-push, or-true, distinct-filter, distinct-put}
+use Rattle.lawful_commands.proofs.RowLists.{all-each, all-filter, all-put, all-passes, passes-all, any-push, distinct-filter, distinct-put}
 use Rattle.lawful_commands.proofs.UserParts.{distinct-with_class}
 use Rattle.lawful_commands.proofs.Kept.{Extends, extends_itself}
 
@@ -35,7 +36,7 @@ defined-with_class names new = by (list_any (λ other. bytes_eq other new) names
   where
     last : (ns : List (List ℕ)) → list_any (λ other. bytes_eq other new) (ns ++ new ∷ []) ≡ true
     last [] = ap (λ b. b || false) (itself new)
-    last (n ∷ ns) = ap (λ b. bytes_eq n new || b) (last ns) ∙ or-true (bytes_eq n new)
+    last (n ∷ ns) = ap (λ b. bytes_eq n new || b) (last ns) ∙ or_right (bytes_eq n new) true refl
 
     by : (b : Bool) → list_any (λ other. bytes_eq other new) names ≡ b → list_any (λ other. bytes_eq other new) (cond b names (names ++ new ∷ [])) ≡ true
     by true e = e

@@ -18,7 +18,7 @@ use Rattle.racf_profiles.specs.LawfulUsers.{IsUser}
 use Rattle.racf_profiles.specs.LawfulProfiles.{AreProfiles, IsClass, kind_in}
 use Rattle.racf_profiles.specs.Lawful.{AreLawful}
 use Rattle.group_tree.proofs.Rows.{same}
-use Rattle.lawful_commands.proofs.RowLists.{distinct-none, distinct-one, or-true}
+use Rattle.lawful_commands.proofs.RowLists.{distinct-none, distinct-one}
 use Rattle.lawful_commands.proofs.Kept.{defined-none}
 
 -- ---- SYS1 alone

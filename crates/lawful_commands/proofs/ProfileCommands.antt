@@ -3,6 +3,7 @@ use Rattle.std.proofs.Common.{◌≡◌, ℕ, ◌+◌, ◌≤◌, ◌<◌, Bool,
 use Rattle.std.specs.Prelude.{find, unwrap_or, IfSome, sum_by}
 use Rattle.std.specs.List.{AllByRecursion, IsDistinct}
 use Rattle.std.specs.Option.{option_map_or, option_and_then}
+use Rattle.std.proofs.lemmas.Bool.{or_right, and_parts, and_from}
 use Rattle.access_levels.specs.Spelling.{id_of}
 use Rattle.access_levels.specs.Entries.{is_same_who}
 use Rattle.access_levels.specs.declared.entries.Entry.{Entry}
@@ -25,7 +26,8 @@ use Rattle.racf_profiles.specs.LawfulUsers.{AreDefined}
 use Rattle.racf_profiles.specs.LawfulProfiles.{AreEntries, is_same_entry, IsProfile, IsClass, is_profile_name, is_audit, kind_in}
 use Rattle.racf_profiles.specs.Lawful.{AreLawful, AreCategories}
 use Rattle.racf_profiles.proofs.OrderedProfiles.{profile-put}
-use Rattle.group_tree.proofs.Rows.{same, find-passes}
+use Rattle.racf_profiles.proofs.States.{find-passes}
+use Rattle.group_tree.proofs.Rows.{same}
 use Rattle.command_parser.specs.declared.commands.Issuer.{Issuer}
 use Rattle.command_parser.specs.declared.profile_fields.AddSd.{AddSd}
 use Rattle.command_parser.specs.declared.profile_fields.AltSd.{AltSd}
@@ -43,7 +45,7 @@ use Rattle.command_conflicts.specs.declared.conflict.Limit.TheVariants.{ClassPro
 use Rattle.command_conflicts.specs.Conflicts.{first_met, over}
 use Rattle.command_conflicts.specs.ProfileConflicts.{profiles_in, class_profiles_full, profiles_full, list_full, standard_full, conditional_full, entries_full, members_full, categories_full, add_sd_conflicts, add_sd_requirements, add_sd_limits, r_define_conflicts, r_define_requirements, r_define_limits, r_alter_conflicts, permit_conflicts}
 use Rattle.command_conflicts.proofs.Unmet.{AreUnmet, each_unmet, within}
-use Rattle.lawful_commands.proofs.RowLists.{or-true, distinct-none, all-each}
+use Rattle.lawful_commands.proofs.RowLists.{distinct-none, all-each}
 use Rattle.lawful_commands.proofs.Kept.{Extends, extends_itself, defined-none, defined-kept, name-kept, profile-kept, class-kept}
 use Rattle.lawful_commands.proofs.UserParts.{defined-added, defined-taken}
 use Rattle.lawful_commands.proofs.MemberLists.{extends-after, categories-after, members-after, is_fitting}
@@ -55,17 +57,6 @@ use Rattle.lawful_commands.proofs.ProfileRows.{PutsAreCounted, found-at_class, f
 audit-given : (given : Option AuditRule) (old : AuditRule) → IfSome given (λ rule. is_audit rule ≡ true) → is_audit old ≡ true → is_audit (unwrap_or given old) ≡ true
 audit-given None old h k = k
 audit-given (Some rule) old h k = h
-
-both : (a b : Bool) → a ≡ true → b ≡ true → (a && b) ≡ true
-both a b h k = ap (λ c. c && b) h ∙ k
-
-first : (a b : Bool) → (a && b) ≡ true → a ≡ true
-first true b h = refl
-first false b h = absurd (true≢false (sym h))
-
-last : (a b : Bool) → (a && b) ≡ true → b ≡ true
-last true b h = h
-last false b h = absurd (true≢false (sym h))
 
 no-entries : (profile : Profile) → profile.standard ≡ [] → profile.conditional ≡ [] → AreEntries profile
 no-entries profile standard conditional = record {
@@ -105,9 +96,9 @@ module _ (one : OneIsBefore) (puts : PutsAreCounted) (passed_on : PassedOn) wher
 
     new_data_set-lawful : IsProfile rows dataset (new_data_set issuer c rows)
     new_data_set-lawful = record {
-      name = ap (λ b. b && (not (is_generic c.profile) || true)) spelled ∙ or-true (not (is_generic c.profile));
+      name = ap (λ b. b && (not (is_generic c.profile) || true)) spelled ∙ or_right (not (is_generic c.profile)) true refl;
       entries = no-entries (new_data_set issuer c rows) refl refl;
-      audit = both (is_audit (unwrap_or c.audit failures_from_read)) true (audit-given c.audit failures_from_read audit refl) refl;
+      audit = and_from (is_audit (unwrap_or c.audit failures_from_read)) true (audit-given c.audit failures_from_read audit refl) refl;
       members = record { distinct = distinct-none bytes_eq; fitting = refl; few = omega arith };
       categories = defined-added rows c.addcategory 0 (defined-none rows.options);
     }
@@ -128,9 +119,9 @@ module _ (one : OneIsBefore) (puts : PutsAreCounted) (passed_on : PassedOn) wher
     altered_data_set-lawful old found is = record {
       name = is.name;
       entries = record { distinct = is.entries.distinct; few = is.entries.few; distinct_when = is.entries.distinct_when; few_when = is.entries.few_when };
-      audit = both (is_audit (unwrap_or c.audit old.audit)) (is_audit (unwrap_or c.globalaudit old.global_audit))
-          (audit-given c.audit old.audit audit (first (is_audit old.audit) (is_audit old.global_audit) is.audit))
-          (audit-given c.globalaudit old.global_audit global_audit (last (is_audit old.audit) (is_audit old.global_audit) is.audit));
+      audit = and_from (is_audit (unwrap_or c.audit old.audit)) (is_audit (unwrap_or c.globalaudit old.global_audit))
+          (audit-given c.audit old.audit audit ((and_parts (is_audit old.audit) (is_audit old.global_audit) is.audit).0))
+          (audit-given c.globalaudit old.global_audit global_audit ((and_parts (is_audit old.audit) (is_audit old.global_audit) is.audit).1));
       members = record { distinct = is.members.distinct; fitting = is.members.fitting; few = is.members.few };
       categories = defined-added rows c.addcategory _ (defined-taken rows c.delcategory old.categories is.categories);
     }
@@ -161,7 +152,7 @@ module _ (one : OneIsBefore) (puts : PutsAreCounted) (passed_on : PassedOn) wher
       name = sym (name-kept rows (record rows { options = options_after c.addmem rows.options }) (λ name. refl) extends c.profile (facts_of c.class))
           ∙ is_profile_name-new rows c.class c.profile lawful.classes spelled tests-define.1.0 tests-define.1.1.0 tests-define.1.1.1.1.0;
       entries = no-entries (new_resource issuer c rows) refl refl;
-      audit = both (is_audit (unwrap_or c.audit failures_from_read)) true (audit-given c.audit failures_from_read audit refl) refl;
+      audit = and_from (is_audit (unwrap_or c.audit failures_from_read)) true (audit-given c.audit failures_from_read audit refl) refl;
       members = members-after rows.options c.class c.addmem [] (record (new_resource issuer c rows) { members = [] }) (new_resource issuer c rows) refl refl
           (record { distinct = distinct-none bytes_eq; fitting = refl; few = omega arith }) fit
           (few-members issuer (command.RDefine c) c.class c.profile rows (new_resource issuer c rows) tests-define.1.1.1.1.1.1.1.1.1.1.0 (profile-put c.class (new_resource issuer c rows) row rows.classes found));
@@ -195,13 +186,13 @@ module _ (one : OneIsBefore) (puts : PutsAreCounted) (passed_on : PassedOn) wher
     altered_resource-lawful old found is =
         let kept = profile-kept rows (record rows { options = options_after c.addmem rows.options }) (λ name. refl) extends-alter c.class old is in
         let there = found-profile one puts passed_on c.class c.profile rows old found in
-        let text : c.profile.text ≡ old.name.text = sym (same old.name.text c.profile.text (find-passes (is_profile c.profile) there.0.profiles old there.2)) in
+        let text : c.profile.text ≡ old.name.text = sym (same old.name.text c.profile.text (find-passes (is_profile c.profile) old there.0.profiles there.2)) in
         record {
           name = kept.name;
           entries = record { distinct = is.entries.distinct; few = is.entries.few; distinct_when = is.entries.distinct_when; few_when = is.entries.few_when };
-          audit = both (is_audit (unwrap_or c.audit old.audit)) (is_audit (unwrap_or c.globalaudit old.global_audit))
-              (audit-given c.audit old.audit audit (first (is_audit old.audit) (is_audit old.global_audit) is.audit))
-              (audit-given c.globalaudit old.global_audit global_audit (last (is_audit old.audit) (is_audit old.global_audit) is.audit));
+          audit = and_from (is_audit (unwrap_or c.audit old.audit)) (is_audit (unwrap_or c.globalaudit old.global_audit))
+              (audit-given c.audit old.audit audit ((and_parts (is_audit old.audit) (is_audit old.global_audit) is.audit).0))
+              (audit-given c.globalaudit old.global_audit global_audit ((and_parts (is_audit old.audit) (is_audit old.global_audit) is.audit).1));
           members = members-after rows.options c.class c.addmem c.delmem old (altered_resource c rows old) refl refl kept.members
               (subst (λ (t : List ℕ). AllByRecursion (λ member. is_fitting c.class t member ≡ true) c.addmem) text fit)
               (few-members issuer (command.RAlter c) c.class c.profile rows (altered_resource c rows old) tests-alter.1.1.1.1.1.1.1.0

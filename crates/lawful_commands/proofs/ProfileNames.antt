@@ -4,10 +4,10 @@ use Rattle.std.specs.Prelude.{◌==◌, nat_lt, find}
 use Rattle.std.specs.List.{list_any}
 use Rattle.std.specs.Option.{option_map_or}
 use Rattle.std.specs.Result.{result_ok}
-use Rattle.std.proofs.lemmas.Bool.{not-false, or_parts}
-use Rattle.access_levels.specs.Spelling.{id_of, name_of, unless_bad, bad_byte}
+use Rattle.std.proofs.lemmas.Bool.{not-false, or_parts, or_right}
+use Rattle.access_levels.specs.Spelling.{id_of, name_of}
 use Rattle.access_levels.specs.declared.ids.IdFault.{IdFault}
-use Rattle.access_levels.specs.declared.ids.IdFault.TheVariants.{Empty, TooLong}
+use Rattle.access_levels.proofs.SpelledIds.{id_of-itself}
 use Rattle.generic_names.specs.Spelled.{Spelled, first_qualifier}
 use Rattle.generic_names.specs.Covers.{is_generic}
 use Rattle.racf_profiles.specs.declared.class_rows.ClassRow.{ClassRow}
@@ -26,7 +26,6 @@ use Rattle.command_effects.specs.ProfileEffects.{dataset}
 use Rattle.command_conflicts.specs.Conflicts.{if_met}
 use Rattle.command_conflicts.specs.ProfileConflicts.{no_resource_class, no_global_class, classless, not_generic, has_generic}
 use Rattle.command_conflicts.proofs.Unmet.{unmet}
-use Rattle.lawful_commands.proofs.RowLists.{or-true}
 use Rattle.lawful_commands.proofs.Kept.{found-named}
 
 -- ---- a class that is there is one of the fixed classes
@@ -42,16 +41,6 @@ mapped {X = X} name_of (x ∷ xs) name h = by (bytes_eq (name_of x) name) refl h
 pub fixed-class : (rows : Rows) → AreClasses rows.classes → (class : List ℕ) → is_some (class_of class rows) ≡ true → (fixed : FixedClass) × (class ≡ class_name fixed)
 fixed-class rows are class there =
     mapped class_name fixed_classes class (ap (list_any (λ other. bytes_eq other class)) (sym are.fixed) ∙ sym (found-named class rows.classes) ∙ there)
-
--- ---- what an ID's spelling is of
-id_of-itself : (text id : List ℕ) → id_of text ≡ Ok id → text ≡ id
-id_of-itself text id h = by (length text == 0) (nat_lt 8 (length text)) (bad_byte text) h
-  where
-    by : (b d : Bool) (o : Option ℕ) → let read : Result (List ℕ) IdFault = cond b (Err Empty) (cond d (Err TooLong) (unless_bad o text)) in read ≡ Ok id → text ≡ id
-    by true d o e = cc
-    by false true o e = cc
-    by false false None e = cc
-    by false false (Some place) e = cc
 
 -- ---- the name, by the form that the class's names have; a profile of GLOBAL needs its class beside
 abbrev pub is_spelled_by : NameForm → Spelled → Bool
@@ -107,4 +96,4 @@ module _ (rows : Rows) (class : List ℕ) (name : Spelled) where
       by Secdata is other s m = plain (bytes_eq name.text (codes "SECLEVEL") || bytes_eq name.text (codes "CATEGORY")) (is_generic name) s m
       by Seclabel is other s m = labelled (is_generic name) (is_ok (id_of name.text)) s m
       by Global is other s m = plain (is_some (class_of name.text rows)) (is_generic name) (global-named (ap (λ c. bytes_eq c (codes "GLOBAL")) is ∙ itself (codes "GLOBAL")) s g) m
-      by general is other s m = or-true (not (is_generic name))
+      by general is other s m = or_right (not (is_generic name)) true refl

@@ -3,6 +3,7 @@ use Rattle.std.proofs.Common.{◌≡◌, ℕ, ◌+◌, ◌≤◌, Bool, true, fa
 use Rattle.std.specs.Prelude.{find, sum_by}
 use Rattle.std.specs.List.{AllByRecursion, list_any}
 use Rattle.std.specs.Option.{option_map_or, option_and_then}
+use Rattle.std.proofs.lemmas.Bool.{and_parts}
 use Rattle.generic_names.specs.Spelled.{Spelled}
 use Rattle.generic_names.specs.Before.{before}
 use Rattle.generic_names.specs.Laws.{IsPattern, OneIsBefore, PassedOn}
@@ -17,15 +18,16 @@ use Rattle.racf_profiles.specs.Counts.{profile_count, entry_count, entries_in}
 use Rattle.racf_profiles.specs.Edits.{put_profile, drop_row, at_class, with_profile, without_profile, comes_first, is_in_order, AreNamed}
 use Rattle.racf_profiles.specs.LawfulProfiles.{AreProfiles, AreClasses, IsProfile, IsClass, kind_in}
 use Rattle.racf_profiles.specs.Lawful.{AreLawful, AreCategories}
-use Rattle.racf_profiles.proofs.EditLaws.{at_class-absent}
-use Rattle.racf_profiles.proofs.Found.{all_head, all_tail}
-use Rattle.racf_profiles.proofs.OrderedProfiles.{all-put_profile, put_profile-in_order, profile-put}
-use Rattle.group_tree.proofs.Rows.{same, find-passes}
+use Rattle.racf_profiles.proofs.EditLaws.{at_class-absent, all-drop_row, length-drop_row}
+use Rattle.racf_profiles.proofs.OrderedProfiles.{all-put_profile, put_profile-in_order, profile-put, order-drop_row}
+use Rattle.racf_profiles.proofs.States.{find-passes, same_class}
+use Rattle.racf_profiles.proofs.Found.{all-found}
+use Rattle.group_tree.proofs.Rows.{same}
 use Rattle.class_profiles.specs.Classes.{profile_in}
 use Rattle.row_tables.specs.ChangedRow.{at_row}
-use Rattle.row_tables.proofs.RowLaws.{length-drop_row-le, sum-drop_row}
+use Rattle.row_tables.proofs.RowLaws.{sum-drop_row}
 use Rattle.command_effects.specs.ProfileEffects.{profile_put, profile_dropped, profile_changed}
-use Rattle.lawful_commands.proofs.RowLists.{all-at, all-drop, all-found, names-at, sum-at-le}
+use Rattle.lawful_commands.proofs.RowLists.{all-at, names-at, sum-at-le}
 use Rattle.lawful_commands.proofs.Kept.{Extends, extends_itself, classes-changed}
 
 -- ---- a change of one class is a change of the row that is found
@@ -59,9 +61,6 @@ found-at_class name change keeps row (class ∷ classes) found = by (is_class na
         ap (λ b. cond b (Some (change class)) (find (is_class name) classes)) (ap (λ n. bytes_eq n name) (keeps class) ∙ e) ∙ ap (λ (r : ClassRow). Some (change r)) here
     by false e f rest = ap (λ b. cond b (Some class) (find (is_class name) (at_class name change classes))) e ∙ rest f
 
-pub class-named : (name : List ℕ) (classes : List ClassRow) (row : ClassRow) → find (is_class name) classes ≡ Some row → row.name ≡ name
-class-named name classes row found = same row.name name (find-passes (is_class name) classes row found)
-
 -- ---- a profile that is put counts in place of the one of its name, if there was one
 pub record PutsAreCounted : Type 0 where
   pub length : (kind : NameKind) (profile : Profile) (profiles : List Profile) → AreProfiles kind profiles → profile.name.kind ≡ kind → length (put_profile profile profiles) + option_map_or (λ _. 1) (find (is_profile profile.name) profiles) 0 ≡ length profiles + 1
@@ -69,34 +68,6 @@ pub record PutsAreCounted : Type 0 where
       → profile_count (at_class class (with_profile profile) classes) + option_map_or (λ _. 1) (profile_in class profile.name classes) 0 ≡ profile_count classes + 1
   pub entries : (class : List ℕ) (row : ClassRow) (profile : Profile) (classes : List ClassRow) → AreClasses classes → find (is_class class) classes ≡ Some row → profile.name.kind ≡ kind_in class
       → entry_count (at_class class (with_profile profile) classes) + option_map_or entries_in (profile_in class profile.name classes) 0 ≡ entry_count classes + entries_in profile
-
--- what comes before a list in order comes before each of it
-module _ (passed_on : PassedOn) where
-  ordered-parts : (profile : Profile) (profiles : List Profile) → is_in_order (profile ∷ profiles) ≡ true → (comes_first profile.name profiles ≡ true) × (is_in_order profiles ≡ true)
-  ordered-parts profile profiles h = (all_head (comes_first profile.name profiles) (is_in_order profiles) h, all_tail (comes_first profile.name profiles) (is_in_order profiles) h)
-
-  all-behind : (name : Spelled) (profiles : List Profile) → comes_first name profiles ≡ true → is_in_order profiles ≡ true → AllByRecursion (λ (p : Profile). before name p.name ≡ true) profiles
-  all-behind name [] first ordered = tt
-  all-behind name (p ∷ ps) first ordered = (first, all-behind name ps (next ps (ordered-parts p ps ordered).0) (ordered-parts p ps ordered).1)
-    where
-      next : (qs : List Profile) → comes_first p.name qs ≡ true → comes_first name qs ≡ true
-      next [] h = refl
-      next (q ∷ qs) h = passed_on name p.name q.name first h
-
-  first-of : (name : Spelled) (profiles : List Profile) → AllByRecursion (λ (p : Profile). before name p.name ≡ true) profiles → comes_first name profiles ≡ true
-  first-of name [] h = refl
-  first-of name (p ∷ ps) h = h.0
-
-  ordered-drop : (goes : Profile → Bool) (profiles : List Profile) → is_in_order profiles ≡ true → is_in_order (drop_row goes profiles) ≡ true
-  ordered-drop goes [] h = refl
-  ordered-drop goes (p ∷ ps) h = by (goes p) (ordered-drop goes ps (ordered-parts p ps h).1)
-    where
-      by : (b : Bool) → is_in_order (drop_row goes ps) ≡ true → is_in_order (cond b ps (p ∷ drop_row goes ps)) ≡ true
-      by true rest = (ordered-parts p ps h).1
-      by false rest =
-          ap (λ b. b && is_in_order (drop_row goes ps))
-          (first-of p.name (drop_row goes ps) (all-drop (λ (z : Profile). before p.name z.name ≡ true) goes ps (all-behind p.name ps (ordered-parts p ps h).0 (ordered-parts p ps h).1)))
-          ∙ rest
 
 module _ (one : OneIsBefore) (puts : PutsAreCounted) (passed_on : PassedOn) where
   put-profiles : (kind : NameKind) (profile : Profile) (profiles : List Profile) → IsPattern profile.name → profile.name.kind ≡ kind → length (put_profile profile profiles) ≤ most_class_profiles → AreProfiles kind profiles
@@ -109,9 +80,9 @@ module _ (one : OneIsBefore) (puts : PutsAreCounted) (passed_on : PassedOn) wher
 
   drop-profiles : (kind : NameKind) (goes : Profile → Bool) (profiles : List Profile) → AreProfiles kind profiles → AreProfiles kind (drop_row goes profiles)
   drop-profiles kind goes profiles are = record {
-    named = all-drop (λ (p : Profile). IsPattern p.name × (p.name.kind ≡ kind)) goes profiles are.named;
-    ordered = ordered-drop passed_on goes profiles are.ordered;
-    few = omega (arith, are.few, length-drop_row-le goes profiles);
+    named = all-drop_row (λ (p : Profile). IsPattern p.name × (p.name.kind ≡ kind)) goes profiles are.named;
+    ordered = order-drop_row passed_on goes profiles are.ordered;
+    few = omega (arith, are.few, length-drop_row goes profiles);
   }
 
   -- ---- a profile is put, and maybe categories are defined
@@ -125,13 +96,13 @@ module _ (one : OneIsBefore) (puts : PutsAreCounted) (passed_on : PassedOn) wher
       classes-changed rows (at_class class (with_profile profile) rows.classes) options lawful
       (names-at_class class (with_profile profile) (λ row. refl) rows.classes)
       (all-at_class (λ (row : ClassRow). AreProfiles (kind_in row.name) row.profiles) class (with_profile profile) rows.classes
-      (λ row found are. put-profiles (kind_in row.name) profile row.profiles pattern (kind ∙ ap kind_in (sym (class-named class rows.classes row found))) (few_in_class row found) are) lawful.classes.lawful)
+      (λ row found are. put-profiles (kind_in row.name) profile row.profiles pattern (kind ∙ ap kind_in (sym (same_class class row rows.classes found))) (few_in_class row found) are) lawful.classes.lawful)
       (all-at_class (IsClass (record rows { options = options })) class (with_profile profile) rows.classes
       (λ row found own. record {
         active = own.active;
         listed = own.listed;
         profiles = all-put_profile (IsProfile (record rows { options = options }) row.name) profile row.profiles
-            (subst (λ (n : List ℕ). IsProfile (record rows { options = options }) n profile) (sym (class-named class rows.classes row found)) (is row found)) own.profiles;
+            (subst (λ (n : List ℕ). IsProfile (record rows { options = options }) n profile) (sym (same_class class row rows.classes found)) (is row found)) own.profiles;
       }) each)
       few few_entries extends categories
 
@@ -142,8 +113,8 @@ module _ (one : OneIsBefore) (puts : PutsAreCounted) (passed_on : PassedOn) wher
       (names-at_class class (without_profile name) (λ row. refl) rows.classes)
       (all-at_class (λ (row : ClassRow). AreProfiles (kind_in row.name) row.profiles) class (without_profile name) rows.classes (λ row found are. drop-profiles (kind_in row.name) (is_profile name) row.profiles are) lawful.classes.lawful)
       (all-at_class (IsClass rows) class (without_profile name) rows.classes
-      (λ row found own. record { active = own.active; listed = own.listed; profiles = all-drop (IsProfile rows row.name) (is_profile name) row.profiles own.profiles }) lawful.each_class)
-      (omega (arith, lawful.few_profiles, sum-at_class-le (λ (row : ClassRow). length row.profiles) class (without_profile name) rows.classes (λ row found. length-drop_row-le (is_profile name) row.profiles)))
+      (λ row found own. record { active = own.active; listed = own.listed; profiles = all-drop_row (IsProfile rows row.name) (is_profile name) row.profiles own.profiles }) lawful.each_class)
+      (omega (arith, lawful.few_profiles, sum-at_class-le (λ (row : ClassRow). length row.profiles) class (without_profile name) rows.classes (λ row found. length-drop_row (is_profile name) row.profiles)))
       (omega (arith, lawful.few_entries, sum-at_class-le (λ (row : ClassRow). sum_by entries_in row.profiles) class (without_profile name) rows.classes (λ row found. omega (arith, sum-drop_row (is_profile name) entries_in row.profiles))))
       (extends_itself rows.options) lawful.categories
 
@@ -165,7 +136,7 @@ module _ (one : OneIsBefore) (puts : PutsAreCounted) (passed_on : PassedOn) wher
 
     module _ (old new : Profile) (found : find (is_profile name) row.profiles ≡ Some old) (keeps : new.name ≡ old.name) where
       own-text : new.name.text ≡ name.text
-      own-text = ap (λ (n : Spelled). n.text) keeps ∙ same old.name.text name.text (find-passes (is_profile name) row.profiles old found)
+      own-text = ap (λ (n : Spelled). n.text) keeps ∙ same old.name.text name.text (find-passes (is_profile name) old row.profiles found)
 
       found-again : find (is_profile new.name) row.profiles ≡ Some old
       found-again = ap (λ text. find (λ (p : Profile). bytes_eq p.name.text text) row.profiles) own-text ∙ found
@@ -180,7 +151,7 @@ module _ (one : OneIsBefore) (puts : PutsAreCounted) (passed_on : PassedOn) wher
       new-kind = ap (λ (n : Spelled). n.kind) keeps ∙ own-named.1
 
       new-kind_in : new.name.kind ≡ kind_in class
-      new-kind_in = new-kind ∙ ap kind_in (class-named class rows.classes row here)
+      new-kind_in = new-kind ∙ ap kind_in (same_class class row rows.classes here)
 
       profile-again : profile_in class new.name rows.classes ≡ Some old
       profile-again = ap (λ (o : Option ClassRow). option_and_then (λ (r : ClassRow). find (is_profile new.name) r.profiles) o) here ∙ found-again
@@ -238,8 +209,8 @@ module _ (one : OneIsBefore) (puts : PutsAreCounted) (passed_on : PassedOn) wher
           ap (λ (r : ClassRow). find (is_profile name) r.profiles) it ∙ there.2 in
           profile-put-lawful rows class (change old) options lawful
           (new-pattern rows lawful class name there.0 there.1 old (change old) there.2 (keeps old))
-          (new-kind rows lawful class name there.0 there.1 old (change old) there.2 (keeps old) ∙ ap kind_in (class-named class rows.classes there.0 there.1))
-          (λ row here. is old found (subst (λ (n : List ℕ). IsProfile rows n old) (class-named class rows.classes row here)
+          (new-kind rows lawful class name there.0 there.1 old (change old) there.2 (keeps old) ∙ ap kind_in (same_class class there.0 rows.classes there.1))
+          (λ row here. is old found (subst (λ (n : List ℕ). IsProfile rows n old) (same_class class row rows.classes here)
           (all-found (IsProfile rows row.name) (is_profile name) row.profiles old (is-class rows lawful class name row here).profiles (one_row row here))))
           (λ row here. omega (arith, (are-profiles rows lawful class name row here).few, length-replaced rows lawful class name row here old (change old) (one_row row here) (keeps old)))
           (omega (arith, lawful.few_profiles, profiles-replaced rows lawful class name there.0 there.1 old (change old) there.2 (keeps old)))
@@ -250,7 +221,7 @@ module _ (one : OneIsBefore) (puts : PutsAreCounted) (passed_on : PassedOn) wher
       → profile_of class name (profile_changed class name change rows) ≡ Some (change old)
   changed-found rows class name change old keeps found =
       let there = found-profile class name rows old found in
-      let text : name.text ≡ (change old).name.text = sym (same old.name.text name.text (find-passes (is_profile name) there.0.profiles old there.2)) ∙ sym (ap (λ (n : Spelled). n.text) (keeps old)) in
+      let text : name.text ≡ (change old).name.text = sym (same old.name.text name.text (find-passes (is_profile name) old there.0.profiles there.2)) ∙ sym (ap (λ (n : Spelled). n.text) (keeps old)) in
       ap (λ o. profile_of class name (option_map_or (λ p. profile_put class (change p) rows) o rows)) found
       ∙ ap (λ (t : List ℕ). option_and_then (λ (row : ClassRow). find (λ (p : Profile). bytes_eq p.name.text t) row.profiles) (class_of class (profile_put class (change old) rows))) text
       ∙ profile-put class (change old) there.0 rows.classes there.1

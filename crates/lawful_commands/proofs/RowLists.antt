@@ -4,6 +4,7 @@ use Rattle.std.specs.Prelude.{find, filter, sum_by}
 use Rattle.std.specs.List.{AllByRecursion, IsDistinct, list_any, list_all}
 use Rattle.std.proofs.lemmas.List.Sums.{sum_by-cons}
 use Rattle.racf_profiles.specs.Edits.{drop_row}
+use Rattle.racf_profiles.proofs.EditLaws.{all-drop_row}
 use Rattle.row_tables.specs.ChangedRow.{at_row}
 use Rattle.access_lists.specs.Lists.{entry_put}
 
@@ -27,14 +28,6 @@ all-map key P (x ∷ xs) h = (h.0, all-map key P xs h.1)
 pub all-unmap : {X K : Type 0} (key : X → K) (P : K → Type 0) (xs : List X) → AllByRecursion P (map key xs) → AllByRecursion (λ x. P (key x)) xs
 all-unmap key P [] h = tt
 all-unmap key P (x ∷ xs) h = (h.0, all-unmap key P xs h.1)
-
-pub all-drop : {X : Type 0} (P : X → Type 0) (goes : X → Bool) (xs : List X) → AllByRecursion P xs → AllByRecursion P (drop_row goes xs)
-all-drop P goes [] h = tt
-all-drop P goes (x ∷ xs) h = by (goes x) (all-drop P goes xs h.1)
-  where
-    by : (b : Bool) → AllByRecursion P (drop_row goes xs) → AllByRecursion P (cond b xs (x ∷ drop_row goes xs))
-    by true rest = h.1
-    by false rest = (h.0, rest)
 
 pub all-filter : {X : Type 0} (P : X → Type 0) (stays : X → Bool) (xs : List X) → AllByRecursion P xs → AllByRecursion P (filter stays xs)
 all-filter P stays [] h = tt
@@ -62,14 +55,6 @@ all-put P it row (x ∷ xs) p h = by (it x) (all-put P it row xs p h.1)
     by false rest = (h.0, rest)
 
 -- ---- rows that are found
-pub all-found : {X : Type 0} (P : X → Type 0) (it : X → Bool) (xs : List X) (x : X) → AllByRecursion P xs → find it xs ≡ Some x → P x
-all-found P it [] x h found = cc
-all-found P it (y ∷ ys) x h found = by (it y) found (λ f. all-found P it ys x h.1 f)
-  where
-    by : (b : Bool) → cond b (Some y) (find it ys) ≡ Some x → (find it ys ≡ Some x → P x) → P x
-    by true f rest = let same : y ≡ x = cc in subst P same h.0
-    by false f rest = rest f
-
 pub none-found : {X : Type 0} (it : X → Bool) (xs : List X) → find it xs ≡ None → AllByRecursion (λ x. it x ≡ false) xs
 none-found it [] none = tt
 none-found it (x ∷ xs) none = by (it x) refl (none-found it xs)
@@ -117,7 +102,7 @@ module _ {X K : Type 0} (same : K → K → Bool) (key : X → K) where
     where
       by : (b : Bool) → IsDistinct same (map key (drop_row goes xs)) → IsDistinct same (map key (cond b xs (x ∷ drop_row goes xs)))
       by true rest = d.1
-      by false rest = (all-map key (λ k. same (key x) k ≡ false) (drop_row goes xs) (all-drop (λ z. same (key x) (key z) ≡ false) goes xs (all-unmap key (λ k. same (key x) k ≡ false) xs d.0)), rest)
+      by false rest = (all-map key (λ k. same (key x) k ≡ false) (drop_row goes xs) (all-drop_row (λ z. same (key x) (key z) ≡ false) goes xs (all-unmap key (λ k. same (key x) k ≡ false) xs d.0)), rest)
 
   pub distinct-filter : (stays : X → Bool) (xs : List X) → IsDistinct same (map key xs) → IsDistinct same (map key (filter stays xs))
   unfolding IsDistinct
@@ -164,10 +149,6 @@ any-at p it change keeps (x ∷ xs) = by (it x) (any-at p it change keeps xs)
     by : (b : Bool) → list_any p (at_row it change xs) ≡ list_any p xs → list_any p (cond b (change x ∷ xs) (x ∷ at_row it change xs)) ≡ (p x || list_any p xs)
     by true rest = ap (λ c. c || list_any p xs) (keeps x)
     by false rest = ap (λ c. p x || c) rest
-
-pub or-true : (b : Bool) → (b || true) ≡ true
-or-true true = refl
-or-true false = refl
 
 pub any-push : {X : Type 0} (p : X → Bool) (xs : List X) (x : X) → list_any p xs ≡ true → list_any p (xs ++ x ∷ []) ≡ true
 any-push p [] x h = absurd (true≢false (sym h))

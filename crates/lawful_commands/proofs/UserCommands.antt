@@ -13,10 +13,10 @@ use Rattle.racf_profiles.specs.Names.{is_to, is_class_word, is_connected_to, con
 use Rattle.racf_profiles.specs.Edits.{drop_row}
 use Rattle.racf_profiles.specs.LawfulUsers.{AreConnections, AreDefined, IsUser, is_user_name, is_clauth_class}
 use Rattle.racf_profiles.specs.Lawful.{AreLawful}
+use Rattle.racf_profiles.proofs.EditLaws.{all-drop_row, length-drop_row}
 use Rattle.group_tree.proofs.Rows.{itself}
 use Rattle.group_tree.proofs.Edits.{none_from_map}
 use Rattle.row_tables.specs.ChangedRow.{at_row}
-use Rattle.row_tables.proofs.RowLaws.{length-drop_row-le}
 use Rattle.command_parser.specs.declared.commands.Issuer.{Issuer}
 use Rattle.command_parser.specs.declared.fields.AddUser.{AddUser}
 use Rattle.command_parser.specs.declared.fields.AltUser.{AltUser}
@@ -32,7 +32,7 @@ use Rattle.command_conflicts.specs.declared.conflict.Conflict.TheVariants.{NoCla
 use Rattle.command_conflicts.specs.declared.conflict.Limit.TheVariants.{Users, Connections, AllConnections}
 use Rattle.command_conflicts.specs.Conflicts.{conflict_of, first_met, if_met, over, no_user, no_group, no_class, not_connected, default_not_connected, default_group, last_special, users_full, user_full, connections_full, add_user_conflicts, alt_user_conflicts, del_user_conflicts, connect_conflicts, remove_conflicts}
 use Rattle.command_conflicts.proofs.Unmet.{AreUnmet, each_unmet, unmet, user_there, group_there, name_free, within}
-use Rattle.lawful_commands.proofs.RowLists.{all-drop, all_pass-filter, any-at, none-found, sum-at-le, distinct-drop, distinct-none, distinct-one}
+use Rattle.lawful_commands.proofs.RowLists.{all_pass-filter, any-at, none-found, sum-at-le, distinct-drop, distinct-none, distinct-one}
 use Rattle.lawful_commands.proofs.Kept.{defined-none}
 use Rattle.lawful_commands.proofs.UserRows.{special_user-counted, user-added, user-changed, user-dropped}
 use Rattle.lawful_commands.proofs.UserParts.{passes-with_classes, distinct-with_classes, distinct-without_classes, defined-added, defined-taken, all-connects_after, any-connects_after, distinct-connects_after, any-drop_other}
@@ -195,9 +195,9 @@ module _ (issuer : Issuer) (c : Remove) (rows : Rows) (lawful : AreLawful rows) 
     name = is.name;
     connections = record {
       distinct = distinct-drop bytes_eq (λ (x : Connection). x.group) (is_to (group_or_current issuer c.group)) user.connects is.connections.distinct;
-      there = all-drop (λ (x : Connection). IsSome (group_of x.group rows)) (is_to (group_or_current issuer c.group)) user.connects is.connections.there;
+      there = all-drop_row (λ (x : Connection). IsSome (group_of x.group rows)) (is_to (group_or_current issuer c.group)) user.connects is.connections.there;
       default = any-drop_other user.default_group (group_or_current issuer c.group) user.connects (other-default user found) is.connections.default;
-      few = omega (arith, is.connections.few, length-drop_row-le (is_to (group_or_current issuer c.group)) user.connects);
+      few = omega (arith, is.connections.few, length-drop_row (is_to (group_or_current issuer c.group)) user.connects);
     };
     classes_distinct = is.classes_distinct;
     classes_there = is.classes_there;
@@ -208,4 +208,4 @@ module _ (issuer : Issuer) (c : Remove) (rows : Rows) (lawful : AreLawful rows) 
   remove-lawful =
       user-changed rows c.user (removed_user issuer c) lawful (λ user. refl) removed-is_user
       (any-at is_special_user (is_user c.user) (removed_user issuer c) (λ user. refl) rows.users ∙ lawful.special_user)
-      (omega (arith, lawful.few_connections, sum-at-le connected_to (is_user c.user) (removed_user issuer c) rows.users (λ user found. length-drop_row-le (is_to (group_or_current issuer c.group)) user.connects)))
+      (omega (arith, lawful.few_connections, sum-at-le connected_to (is_user c.user) (removed_user issuer c) rows.users (λ user found. length-drop_row (is_to (group_or_current issuer c.group)) user.connects)))

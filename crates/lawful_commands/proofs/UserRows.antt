@@ -12,9 +12,10 @@ use Rattle.racf_profiles.specs.Names.{connections, connected_to, is_special_user
 use Rattle.racf_profiles.specs.Edits.{drop_row}
 use Rattle.racf_profiles.specs.LawfulUsers.{AreUsers, IsUser}
 use Rattle.racf_profiles.specs.Lawful.{AreLawful}
+use Rattle.racf_profiles.proofs.EditLaws.{all-drop_row, length-drop_row}
 use Rattle.row_tables.specs.ChangedRow.{at_row}
-use Rattle.row_tables.proofs.RowLaws.{sum-drop_row, length-drop_row-le}
-use Rattle.lawful_commands.proofs.RowLists.{all-push, all-at, all-drop, none-found, distinct-push, distinct-drop, names-at, length-at, any-push}
+use Rattle.row_tables.proofs.RowLaws.{sum-drop_row}
+use Rattle.lawful_commands.proofs.RowLists.{all-push, all-at, none-found, distinct-push, distinct-drop, names-at, length-at, any-push}
 use Rattle.lawful_commands.proofs.Kept.{users-changed}
 
 -- Where the special_users aren't none, one is there.
@@ -50,7 +51,7 @@ pub user-dropped : (rows : Rows) (id : List ℕ) → AreLawful rows → list_any
     → AreLawful (record rows { users = drop_row (is_user id) rows.users })
 user-dropped rows id lawful special =
     users-changed rows (drop_row (is_user id) rows.users) lawful
-    (record { distinct = distinct-drop bytes_eq (λ (u : User). u.id) (is_user id) rows.users lawful.users.distinct; few = omega (arith, lawful.users.few, length-drop_row-le (is_user id) rows.users) })
-    (all-drop (IsUser rows) (is_user id) rows.users lawful.each_user)
+    (record { distinct = distinct-drop bytes_eq (λ (u : User). u.id) (is_user id) rows.users lawful.users.distinct; few = omega (arith, lawful.users.few, length-drop_row (is_user id) rows.users) })
+    (all-drop_row (IsUser rows) (is_user id) rows.users lawful.each_user)
     special
     (omega (arith, lawful.few_connections, sum-drop_row (is_user id) connected_to rows.users))

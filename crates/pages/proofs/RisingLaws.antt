@@ -3,22 +3,15 @@ use Rattle.std.proofs.Common.{◌≡◌, ◌+◌, ◌-◌, ◌<◌, ℕ, Bool, t
 use Rattle.std.specs.List.{flat_map, slice_get, list_any, list_all, position_or_len}
 use Rattle.std.proofs.lemmas.List.Folds.{list_all-append}
 use Rattle.std.proofs.lemmas.Option.{slice_get_within}
+use Rattle.std.proofs.lemmas.Bool.{and_parts, or_parts, or_right}
 use Rattle.pages.proofs.Seams.{split_at_part, up_to_part, flat_map_halves, get_behind}
 use Rattle.pages.specs.Rising.{Rises}
-
-pub and_left : (a b : Bool) → (a && b) ≡ true → a ≡ true
-and_left true b h = refl
-and_left false b h = h
-
-pub and_right : (a b : Bool) → (a && b) ≡ true → b ≡ true
-and_right true b h = h
-and_right false b h = absurd (cc)
 
 module _ {T : Type 0} (p : T → Bool) where
   -- a front of a list in which a test rises, and the rest
   pub rises_front : (xs ys : List T) → Rises p (xs ++ ys) → Rises p xs
   rises_front [] ys h = tt
-  rises_front (x ∷ xs) ys h = (λ e. and_left (list_all p xs) (list_all p ys) (sym (list_all-append p xs ys) ∙ h.0 e), rises_front xs ys h.1)
+  rises_front (x ∷ xs) ys h = (λ e. (and_parts (list_all p xs) (list_all p ys) (sym (list_all-append p xs ys) ∙ h.0 e)).0, rises_front xs ys h.1)
 
   pub rises_back : (xs ys : List T) → Rises p (xs ++ ys) → Rises p ys
   rises_back [] ys h = h
@@ -27,18 +20,14 @@ module _ {T : Type 0} (p : T → Bool) where
   -- an item of a list of which all pass
   all_at : (xs : List T) (n : ℕ) (x : T) → list_all p xs ≡ true → slice_get xs n ≡ Some x → p x ≡ true
   all_at [] n x h e = absurd (cc)
-  all_at (y ∷ ys) zero x h e = let same : y ≡ x = cc in subst (λ z. p z ≡ true) same (and_left (p y) (list_all p ys) h)
-  all_at (y ∷ ys) (suc n) x h e = all_at ys n x (and_right (p y) (list_all p ys) h) e
+  all_at (y ∷ ys) zero x h e = let same : y ≡ x = cc in subst (λ z. p z ≡ true) same (and_parts (p y) (list_all p ys) h).0
+  all_at (y ∷ ys) (suc n) x h e = all_at ys n x (and_parts (p y) (list_all p ys) h).1 e
 
   -- an item that passes
   pub any_at : (xs : List T) (n : ℕ) (x : T) → slice_get xs n ≡ Some x → p x ≡ true → list_any p xs ≡ true
   any_at [] n x e h = absurd (cc)
   any_at (y ∷ ys) zero x e h = let same : y ≡ x = cc in let passes : p y ≡ true = subst (λ z. p z ≡ true) (sym same) h in ap (λ b. b || list_any p ys) passes
-  any_at (y ∷ ys) (suc n) x e h = ap (λ b. p y || b) (any_at ys n x e h) ∙ or_true (p y)
-    where
-      or_true : (b : Bool) → (b || true) ≡ true
-      or_true true = refl
-      or_true false = refl
+  any_at (y ∷ ys) (suc n) x e h = or_right (p y) (list_any p ys) (any_at ys n x e h)
 
   -- where the last item fails, all do
   pub none_up_to : (xs : List T) (n : ℕ) (x : T) → Rises p xs → slice_get xs n ≡ Some x → n + 1 ≡ length xs → p x ≡ false → list_any p xs ≡ false
@@ -51,14 +40,6 @@ module _ {T : Type 0} (p : T → Bool) where
         | false ↦ λ t. ap (λ b. b || list_any p ys) t ∙ none_up_to ys n x r.1 e (omega arith) h
       ] refl
 
-  or_left : (a b : Bool) → (a || b) ≡ false → a ≡ false
-  or_left true b h = h
-  or_left false b h = refl
-
-  or_right : (a b : Bool) → (a || b) ≡ false → b ≡ false
-  or_right true b h = absurd (cc)
-  or_right false b h = h
-
   or_other : (a b : Bool) → (a || b) ≡ true → a ≡ false → b ≡ true
   or_other true b h e = absurd (cc)
   or_other false b h e = h
@@ -67,17 +48,17 @@ module _ {T : Type 0} (p : T → Bool) where
   pub skipped : (xs ys : List T) → list_any p xs ≡ false → position_or_len p (xs ++ ys) ≡ length xs + position_or_len p ys
   skipped [] ys h = sym (zero-add (position_or_len p ys))
   skipped (x ∷ xs) ys h =
-      let ih = skipped xs ys (or_right (p x) (list_any p xs) h) in
+      let ih = skipped xs ys (or_parts (p x) (list_any p xs) h).1 in
       let next : 1 + position_or_len p (xs ++ ys) ≡ suc (length xs) + position_or_len p ys = omega (arith, ih) in
-      ap (λ b. cond (not b) (1 + position_or_len p (xs ++ ys)) 0) (or_left (p x) (list_any p xs) h) ∙ next
+      ap (λ b. cond (not b) (1 + position_or_len p (xs ++ ys)) 0) (or_parts (p x) (list_any p xs) h).0 ∙ next
 
   -- where all fail, the first place is the end
   pub position_of_none : (xs : List T) → list_any p xs ≡ false → position_or_len p xs ≡ length xs
   position_of_none [] h = refl
   position_of_none (x ∷ xs) h =
-      let ih = position_of_none xs (or_right (p x) (list_any p xs) h) in
+      let ih = position_of_none xs (or_parts (p x) (list_any p xs) h).1 in
       let next : 1 + position_or_len p xs ≡ suc (length xs) = omega (arith, ih) in
-      ap (λ b. cond (not b) (1 + position_or_len p xs) 0) (or_left (p x) (list_any p xs) h) ∙ next
+      ap (λ b. cond (not b) (1 + position_or_len p xs) 0) (or_parts (p x) (list_any p xs) h).0 ∙ next
 
   -- where an item passes, what stands behind doesn't count
   pub found_in_front : (xs ys : List T) → list_any p xs ≡ true → position_or_len p (xs ++ ys) ≡ position_or_len p xs

@@ -3,4 +3,5 @@ mod PlaceLaws
 mod NamedLaws
 mod RisingLaws
 mod KeyLaws
+mod UnderLaws
 mod SlotLaws

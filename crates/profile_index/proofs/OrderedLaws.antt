@@ -11,8 +11,8 @@ use Rattle.generic_names.specs.Before.{before}
 use Rattle.generic_names.specs.Covers.{covers}
 use Rattle.generic_names.specs.Laws.{IsResource, IsPattern}
 use Rattle.generic_names.specs.Gap.{is_below, NoneCovers}
-use Rattle.generic_names.specs.Best.{IsInOrder}
-use Rattle.generic_names.proofs.OrderLaws.{not_both, passed_on, same_spelled, one_is_before}
+use Rattle.generic_names.specs.Best.{IsInOrder, AreNamed}
+use Rattle.generic_names.proofs.OrderLaws.{not_both, same_spelled, one_is_before, irreflexive}
 use Rattle.generic_names.proofs.FirstLaws.{very_name_first}
 
 module _ {A : Type 0} where
@@ -29,11 +29,14 @@ module _ {A : Type 0} where
   ordered-at name_of (x ∷ xs) ordered zero (suc j) d less h = all-at (λ y. before (name_of x) (name_of y) ≡ true) xs ordered.0 j d (omega arith)
   ordered-at name_of (x ∷ xs) ordered (suc i) (suc j) d less h = ordered-at name_of xs ordered.1 i j d (omega arith) (omega arith)
 
-  module _ (name_of : A → Spelled) (xs : List A) (ordered : IsInOrder name_of xs) (middle : ℕ) (e : A) (within : middle < length xs) where
+  module _ (name_of : A → Spelled) (xs : List A) (ordered : IsInOrder name_of xs) (named : AreNamed name_of xs) (middle : ℕ) (e : A) (within : middle < length xs) where
+    lawful : (k : ℕ) (d : A) → k < length xs → IsPattern (name_of (get_or xs k d))
+    lawful k d h = all-at (λ x. IsPattern (name_of x)) xs named k d h
+
     -- what is passed on to those before holds of all up to a place where it holds
-    pub all-below : (Q : Spelled → Type 0) → ((a b : Spelled) → before a b ≡ true → Q b → Q a) → Q (name_of (get_or xs middle e)) → AllWithin (λ x. Q (name_of x)) xs 0 (middle + 1)
+    pub all-below : (Q : Spelled → Type 0) → ((a b : Spelled) → IsPattern a → IsPattern b → before a b ≡ true → Q b → Q a) → Q (name_of (get_or xs middle e)) → AllWithin (λ x. Q (name_of x)) xs 0 (middle + 1)
     all-below Q closed holds k d low high = ⊎_elim
-        (λ (less : k < middle). closed (name_of (get_or xs k d)) (name_of (get_or xs middle d)) (ordered-at name_of xs ordered k middle d less within) (subst (λ (x : A). Q (name_of x)) same holds))
+        (λ (less : k < middle). closed (name_of (get_or xs k d)) (name_of (get_or xs middle d)) (lawful k d (omega arith)) (lawful middle d within) (ordered-at name_of xs ordered k middle d less within) (subst (λ (x : A). Q (name_of x)) same holds))
         (λ (more : middle ≤ k). let here : middle ≡ k = omega arith in subst (λ (n : ℕ). Q (name_of (get_or xs n d))) here (subst (λ (x : A). Q (name_of x)) same holds))
         (cases_lt k middle)
       where
@@ -41,22 +44,14 @@ module _ {A : Type 0} where
         same = get_or_default xs middle e d within
 
     -- what is passed on to those behind holds of all from a place on where it holds
-    pub all-above : (Q : Spelled → Type 0) → ((a b : Spelled) → before a b ≡ true → Q a → Q b) → Q (name_of (get_or xs middle e)) → AllWithin (λ x. Q (name_of x)) xs middle (length xs)
+    pub all-above : (Q : Spelled → Type 0) → ((a b : Spelled) → IsPattern a → IsPattern b → before a b ≡ true → Q a → Q b) → Q (name_of (get_or xs middle e)) → AllWithin (λ x. Q (name_of x)) xs middle (length xs)
     all-above Q closed holds k d low high = ⊎_elim
-        (λ (less : middle < k). closed (name_of (get_or xs middle d)) (name_of (get_or xs k d)) (ordered-at name_of xs ordered middle k d less high) (subst (λ (x : A). Q (name_of x)) same holds))
+        (λ (less : middle < k). closed (name_of (get_or xs middle d)) (name_of (get_or xs k d)) (lawful middle d within) (lawful k d high) (ordered-at name_of xs ordered middle k d less high) (subst (λ (x : A). Q (name_of x)) same holds))
         (λ (more : k ≤ middle). let here : middle ≡ k = omega arith in subst (λ (n : ℕ). Q (name_of (get_or xs n d))) here (subst (λ (x : A). Q (name_of x)) same holds))
         (cases_lt middle k)
       where
         same : get_or xs middle e ≡ get_or xs middle d
         same = get_or_default xs middle e d within
-
--- being behind a name is passed on to those behind
-pub not_before_behind : (name a b : Spelled) → before a b ≡ true → before a name ≡ false → before b name ≡ false
-not_before_behind name a b less h = settled (before b name) refl
-  where
-    settled : (t : Bool) → before b name ≡ t → t ≡ false
-    settled false is = refl
-    settled true is = let first : before a name ≡ true = passed_on a b name less is in absurd (cc (first, h))
 
 -- what is before the very name doesn't cover it
 pub before-covers : (p name : Spelled) → IsResource name → p.kind ≡ name.kind → before p name ≡ true → covers p name ≡ false
@@ -68,13 +63,6 @@ before-covers p name lawful kind first = settled (covers p name) refl
         (λ (e : p ≡ name). let itself : before name name ≡ true = subst (λ (n : Spelled). before n name ≡ true) e first in let not_itself : before name name ≡ false = not_both name name itself in cc (itself, not_itself))
         (λ (e : before name p ≡ true). let back : before name p ≡ false = not_both p name first in cc (e, back))
         (very_name_first p name lawful kind is))
-
-pub not_before_itself : (p : Spelled) → before p p ≡ false
-not_before_itself p = settled (before p p) refl
-  where
-    settled : (t : Bool) → before p p ≡ t → t ≡ false
-    settled false is = refl
-    settled true is = absurd (let back : before p p ≡ false = not_both p p is in cc (is, back))
 
 module _ {A : Type 0} (name_of : A → Spelled) (xs : List A) (ordered : IsInOrder name_of xs) where
   -- nothing before the end of a gap covers the name
@@ -93,7 +81,7 @@ module _ {A : Type 0} (name_of : A → Spelled) (xs : List A) (ordered : IsInOrd
           (λ (less : place < k). not_both (name_of (get_or xs place e)) (name_of (get_or xs k d)) (subst (λ (x : A). before (name_of x) (name_of (get_or xs k d)) ≡ true) (sym (get_or_default xs place e d within)) (ordered-at name_of xs ordered place k d less inside)))
           (λ (more : k ≤ place). let here : place ≡ k = omega arith in
           let same : get_or xs place e ≡ get_or xs k d = get_or_default xs place e d within ∙ ap (λ (n : ℕ). get_or xs n d) here in
-          subst (λ (x : A). before (name_of x) (name_of (get_or xs place e)) ≡ false) same (not_before_itself (name_of (get_or xs place e))))
+          subst (λ (x : A). before (name_of x) (name_of (get_or xs place e)) ≡ false) same (irreflexive (name_of (get_or xs place e))))
           (cases_lt place k)
 
 -- a name before another, or behind it, has another text
@@ -105,7 +93,7 @@ before-text p name kind first = settled (bytes_eq p.text name.text) refl
     settled true is =
         let same : p ≡ name = same_spelled p name kind ((bytes_eq-Decides p.text name.text).0 is) in
         let itself : before name name ≡ true = subst (λ (n : Spelled). before n name ≡ true) same first in
-        absurd (let none : before name name ≡ false = not_before_itself name in cc (itself, none))
+        absurd (let none : before name name ≡ false = irreflexive name in cc (itself, none))
 
 pub behind-text : (p name : Spelled) → p.kind ≡ name.kind → before name p ≡ true → bytes_eq p.text name.text ≡ false
 behind-text p name kind later = settled (bytes_eq p.text name.text) refl
@@ -115,7 +103,7 @@ behind-text p name kind later = settled (bytes_eq p.text name.text) refl
     settled true is =
         let same : p ≡ name = same_spelled p name kind ((bytes_eq-Decides p.text name.text).0 is) in
         let itself : before name name ≡ true = subst (λ (n : Spelled). before name n ≡ true) same later in
-        absurd (let none : before name name ≡ false = not_before_itself name in cc (itself, none))
+        absurd (let none : before name name ≡ false = irreflexive name in cc (itself, none))
 
 module _ {A : Type 0} (name_of : A → Spelled) (xs : List A) (ordered : IsInOrder name_of xs) (name : Spelled) (kinds : AllByRecursion (λ x. (name_of x).kind ≡ name.kind) xs) (place : ℕ) (within : place < length xs) (e : A) where
   -- the entry at the place has the name: those before it and behind it don't

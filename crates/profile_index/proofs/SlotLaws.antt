@@ -7,9 +7,11 @@ use Rattle.std.proofs.lemmas.Bool.{cases_lt}
 use Rattle.std.proofs.lemmas.Bool.Decides.{nat_tests}
 use Rattle.profile_index.specs.EntrySlots.{in_slots, AreApart, renamed, IsKept}
 use Rattle.profile_index.proofs.PlaceLaws.{slice_get-at, all-insert, all-remove, order-remove}
-use Rattle.profile_index.proofs.OrderedLaws.{all-at, ordered-at, not_before_itself}
+use Rattle.profile_index.proofs.OrderedLaws.{all-at, ordered-at}
 use Rattle.generic_names.specs.Before.{before}
-use Rattle.generic_names.specs.Best.{IsInOrder}
+use Rattle.generic_names.specs.Best.{IsInOrder, AreNamed}
+use Rattle.generic_names.specs.Laws.{IsPattern}
+use Rattle.generic_names.proofs.OrderLaws.{irreflexive}
 use Rattle.profile_index.specs.declared.entry.Entry.{Entry}
 use Rattle.profile_index.specs.Indexed.{name_of}
 
@@ -276,10 +278,14 @@ module _ {T : Type 0} (slots : List (Entry T)) (order : List ℕ) (there : AllBy
   left-there = subst (λ (xs : List (Entry T)). AllByRecursion (λ slot. slot < length xs) left) (sym same_is)
       (subst (λ (ys : List ℕ). AllByRecursion (λ slot. slot < length slots) ys) (sym left_is) (all-remove (λ slot. slot < length slots) order p there))
 
+  left-is : in_slots same left ≡ remove (in_slots slots order) p
+  left-is = ap (λ (xs : List (Entry T)). in_slots xs left) same_is ∙ ap (λ (ys : List ℕ). in_slots slots ys) left_is ∙ in_slots-remove slots order p there
+
   pub left-ordered : IsInOrder name_of (in_slots slots order) → IsInOrder name_of (in_slots same left)
-  left-ordered ordered =
-      let is : in_slots same left ≡ remove (in_slots slots order) p = ap (λ (xs : List (Entry T)). in_slots xs left) same_is ∙ ap (λ (ys : List ℕ). in_slots slots ys) left_is ∙ in_slots-remove slots order p there in
-      subst (λ (xs : List (Entry T)). IsInOrder name_of xs) (sym is) (order-remove name_of (in_slots slots order) p ordered)
+  left-ordered ordered = subst (λ (xs : List (Entry T)). IsInOrder name_of xs) (sym left-is) (order-remove name_of (in_slots slots order) p ordered)
+
+  pub left-named : AreNamed name_of (in_slots slots order) → AreNamed name_of (in_slots same left)
+  left-named named = subst (λ (xs : List (Entry T)). AreNamed name_of xs) (sym left-is) (all-remove (λ e. IsPattern e.name) (in_slots slots order) p named)
 
 -- the place of an entry that is searched for by its name
 module _ {T : Type 0} (slots : List (Entry T)) (order : List ℕ) (there : AllByRecursion (λ slot. slot < length slots) order) (ordered : IsInOrder name_of (in_slots slots order))
@@ -290,7 +296,7 @@ module _ {T : Type 0} (slots : List (Entry T)) (order : List ℕ) (there : AllBy
       let found = get-some order k slot at in
       let size = length-in_slots slots order there in
       let here = read-at slots order there k slot e found.0 found.1 is in
-      let itself : before e.name e.name ≡ false = not_before_itself e.name in
+      let itself : before e.name e.name ≡ false = irreflexive e.name in
       ⊎_elim
       (λ (less : k < place).
       let first : before e.name e.name ≡ true = subst (λ (x : Entry T). before x.name e.name ≡ true) (sym here) (below k e (omega arith) less) in

@@ -4,7 +4,7 @@ use Rattle.std.specs.List.{AllByRecursion, slice_get}
 use Rattle.std.specs.Option.{option_and_then}
 use Rattle.std.specs.Str.{bytes_eq}
 use Rattle.generic_names.specs.declared.kind.NameKind.{NameKind}
-use Rattle.generic_names.specs.Spelled.{Spelled}
+use Rattle.generic_names.specs.Spelled.{Spelled, first_qualifier}
 use Rattle.generic_names.specs.Before.{before}
 use Rattle.profile_index.specs.declared.entry.Entry.{Entry}
 
@@ -20,6 +20,10 @@ module _ {T : Type 0} where
   -- whether an entry has just this text as its name
   abbrev pub has_name : Spelled → Entry T → Bool
   has_name name e = bytes_eq e.name.text name.text
+
+  -- whether the name of an entry has this first qualifier
+  abbrev pub is_under : List ℕ → Entry T → Bool
+  is_under qualifier e = bytes_eq (first_qualifier e.name.text) qualifier
 
   -- all entries have this kind
   abbrev pub AreOf : NameKind → List (Entry T) → Type 0

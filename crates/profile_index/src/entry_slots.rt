@@ -1,16 +1,16 @@
 ghost use Rattle.std.specs.Prelude.{◌≡◌, ℕ, ◌+◌, ◌<◌, ◌≤◌, true, false, [], length, map, max, get_or, slice_set, IsOk, OnOk, OnErr, Some};
 ghost use Rattle.std.specs.List.{AllByRecursion, AllWithin, slice_get, insert, remove};
-ghost use Rattle.generic_names.specs.Before.{before};
-ghost use Rattle.generic_names.specs.Best.{IsInOrder};
+ghost use Rattle.generic_names.specs.Best.{IsInOrder, AreNamed};
+ghost use Rattle.generic_names.specs.OrderKey.{is_lower};
 ghost use Rattle.profile_index.specs.EntrySlots.{in_slots, renamed};
 ghost use Rattle.profile_index.specs.Indexed.{name_of};
 
 use crate::entry::Entry;
 use crate::entry_list::EntryList;
-use generic_names::{Gap, Pattern};
+use crate::keyed_entry::KeyedEntry;
+use generic_names::OrderKey;
 use std::alloc::{AllocError, Global};
 use std::marker::Model;
-use std::mem;
 
 /// The most entries that there may be: the numbers of their slots have 32 bits.
 const MOST: usize = 4_294_967_295;
@@ -19,8 +19,8 @@ const MOST: usize = 4_294_967_295;
 /// the entries, so that an entry goes in or out without moving the others.
 #[derive(Drop)]
 pub(crate) struct EntrySlots<T> {
-    /// The entries, in no order.
-    slots: Vec<Entry<T>>,
+    /// The entries with the keys of their names, in no order.
+    slots: Vec<KeyedEntry<T>>,
     /// The numbers of the slots, in the order of the entries.
     order: Vec<u32>,
     /// How many entries can be put in without memory.
@@ -91,11 +91,20 @@ impl<T> EntrySlots<T> {
         ensures there { slice_get self.now.entries place ≡ Some result.now }
         ensures value { result.now ≡ get_or self.now.entries place result.now }
     {
+        self.keyed(place).entry()
+    }
+
+    /// The same, with the key of its name.
+    pub(crate) fn keyed(&self, place: usize) -> &KeyedEntry<T>
+        requires { place < length self.now.entries }
+        ensures there { slice_get self.now.entries place ≡ Some result.now }
+        ensures value { result.now ≡ get_or self.now.entries place result.now }
+    {
         &self.slots[self.order[place] as usize]
     }
 
     /// Puts an entry in at a place.
-    pub(crate) fn insert(&mut self, place: usize, entry: Entry<T>)
+    pub(crate) fn insert(&mut self, place: usize, entry: KeyedEntry<T>)
         requires room { 0 < self.old.spare }
         requires place { place ≤ length self.old.entries }
         ensures entries { self.new.entries ≡ insert self.old.entries place entry }
@@ -107,33 +116,34 @@ impl<T> EntrySlots<T> {
         self.spare -= 1;
     }
 
-    /// Puts an entry in the place of another, which it gives back. Nothing moves.
-    pub(crate) fn replace(&mut self, place: usize, entry: Entry<T>) -> Entry<T>
+    /// Puts an item in the place of another, which it gives back. Nothing moves.
+    pub(crate) fn replace(&mut self, place: usize, item: T) -> T
         requires { place < length self.old.entries }
-        ensures entry { result ≡ get_or self.old.entries place result }
-        ensures entries { self.new.entries ≡ slice_set self.old.entries place entry }
+        ensures item { (d : Entry T) → result ≡ (get_or self.old.entries place d).item }
+        ensures entries { (d : Entry T) → self.new.entries ≡ slice_set self.old.entries place (record { name = (get_or self.old.entries place d).name; item = item }) }
         ensures spare { self.new.spare ≡ self.old.spare }
     {
         let slot = self.order[place] as usize;
-        mem::replace(&mut self.slots[slot], entry)
+        self.slots[slot].replace(item)
     }
 
-    /// Takes the entry at a place out. The last slot's entry moves into the slot that becomes free, and its place is
-    /// found by a search in the order.
-    pub(crate) fn remove(&mut self, place: usize) -> Entry<T>
+    /// Takes the entry at a place out, and answers its item. The last slot's entry moves into the slot that becomes
+    /// free, and its place is found by a search in the order.
+    pub(crate) fn remove(&mut self, place: usize) -> T
         requires within { place < length self.old.entries }
         requires ordered { IsInOrder name_of self.old.entries }
-        ensures entry { result ≡ get_or self.old.entries place result }
+        requires named { AreNamed name_of self.old.entries }
+        ensures item { (d : Entry T) → result ≡ (get_or self.old.entries place d).item }
         ensures entries { self.new.entries ≡ remove self.old.entries place }
         ensures spare { self.new.spare ≡ self.old.spare + 1 }
     {
         let slot = self.order.remove(place);
         let last = self.slots.len() - 1;
-        let moved = end_of_those_before(&self.slots, &self.order, &self.slots[last].name);
+        let moved = end_below(&self.slots, &self.order, self.slots[last].key());
         let entry = self.slots.swap_remove(slot as usize);
         rename(&mut self.order, moved, last as u32, slot);
         self.spare += 1;
-        entry
+        entry.into_item()
     }
 }
 
@@ -148,38 +158,25 @@ impl<T> EntryList<T> for EntrySlots<T> {
         EntrySlots::entry(self, place)
     }
 
-    fn end_of_those_before(&self, name: &Pattern) -> usize {
-        end_of_those_before(&self.slots, &self.order, name)
-    }
-
-    fn end_of_gap(&self, from: usize, gap: &Gap) -> usize {
-        let mut high = EntrySlots::len(self);
-        let mut low = from + 1;
-        while low < high {
-            let middle = low + (high - low) / 2;
-            if EntrySlots::entry(self, middle).name.is_below(gap) {
-                low = middle + 1;
-            } else {
-                high = middle;
-            }
-        }
-        low
+    fn end_below(&self, key: &OrderKey) -> usize {
+        end_below(&self.slots, &self.order, key)
     }
 }
 
-/// Where the entries in these slots that are before a name end.
-fn end_of_those_before<T>(slots: &[Entry<T>], order: &[u32], name: &Pattern) -> usize
+/// Where the entries in these slots end whose names have lower keys than this one.
+fn end_below<T>(slots: &[KeyedEntry<T>], order: &[u32], key: &OrderKey) -> usize
     requires there { AllByRecursion (λ slot. slot < length slots.now) order.now }
     requires ordered { IsInOrder name_of (in_slots slots.now order.now) }
+    requires named { AreNamed name_of (in_slots slots.now order.now) }
     ensures within { result ≤ length order.now }
-    ensures below { AllWithin (λ e. before e.name name.now ≡ true) (in_slots slots.now order.now) 0 result }
-    ensures above { AllWithin (λ e. before e.name name.now ≡ false) (in_slots slots.now order.now) result (length order.now) }
+    ensures below { AllWithin (λ e. is_lower e.name key.now ≡ true) (in_slots slots.now order.now) 0 result }
+    ensures above { AllWithin (λ e. is_lower e.name key.now ≡ false) (in_slots slots.now order.now) result (length order.now) }
 {
     let mut low = 0;
     let mut high = order.len();
     while low < high {
         let middle = low + (high - low) / 2;
-        if slots[order[middle] as usize].name.before(name) {
+        if slots[order[middle] as usize].is_lower(key) {
             low = middle + 1;
         } else {
             high = middle;

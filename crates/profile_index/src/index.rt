@@ -6,7 +6,8 @@ ghost use Rattle.std.specs.List.{slice_get};
 use crate::entry::Entry;
 use crate::entry_list::EntryList;
 use crate::entry_slots::EntrySlots;
-use crate::search::{first_that_covers, is_pattern, place_for, place_of};
+use crate::keyed_entry::KeyedEntry;
+use crate::search::{first_that_covers, first_under, is_pattern, place_for, place_of};
 use crate::steps::Steps;
 use generic_names::{Pattern, Resource};
 use std::alloc::{AllocError, Global};
@@ -35,7 +36,7 @@ impl<T> Model for Index<T> {
 }
 
 impl<T> Index<T> {
-    ghost use Rattle.profile_index.specs.Indexed.{name_of, has_name, AreOf, IsAbsent, IsPlaceOf, with_entry, put_entry, without};
+    ghost use Rattle.profile_index.specs.Indexed.{name_of, has_name, is_under, AreOf, IsAbsent, IsPlaceOf, with_entry, put_entry, without};
 
     /// An index without entries. It takes no memory yet.
     pub fn new(alloc: Global) -> Result<Index<T>, NoMemory>
@@ -109,10 +110,18 @@ impl<T> Index<T> {
         requires { AreOf name.now.kind self.now.entries }
         ensures { IsPlaceOf self.now.entries (find (has_name name.now) self.now.entries) result }
     {
-        match place_for(&self.slots, name) {
+        match place_for(&self.slots, name, &name.order_key()) {
             Ok(place) => Some(place),
             Err(_) => None,
         }
+    }
+
+    /// The first entry whose name has that first qualifier. Those that have it stand together, so this is one search.
+    pub fn first_under(&self, qualifier: &[u8]) -> Option<usize>
+        requires { length qualifier.now ≤ 246 }
+        ensures { IsPlaceOf self.now.entries (find (is_under qualifier.now) self.now.entries) result }
+    {
+        first_under(&self.slots, qualifier)
     }
 
     /// Adds an entry at its place in the order. It takes no memory. Behind it only the numbers
@@ -126,8 +135,10 @@ impl<T> Index<T> {
         ensures spare { self.new.spare + 1 ≡ self.old.spare }
     {
         is_pattern(&name);
-        let place = self.slots.end_of_those_before(&name);
-        self.slots.insert(place, Entry { name, item });
+        let key = name.order_key();
+        let place = self.slots.end_below(&key);
+        self.slots
+            .insert(place, KeyedEntry::with_key(key, Entry { name, item }));
     }
 
     /// Puts an item in the place of the one of its name, which is answered, or else at its name's place in the order.
@@ -141,13 +152,12 @@ impl<T> Index<T> {
         ensures spare { self.new.spare + (if is_some result then 0 else 1) ≡ self.old.spare }
     {
         is_pattern(&name);
-        match place_for(&self.slots, &name) {
-            Ok(place) => {
-                let Entry { name: _, item } = self.slots.replace(place, Entry { name, item });
-                Some(item)
-            }
+        let key = name.order_key();
+        match place_for(&self.slots, &name, &key) {
+            Ok(place) => Some(self.slots.replace(place, item)),
             Err(place) => {
-                self.slots.insert(place, Entry { name, item });
+                self.slots
+                    .insert(place, KeyedEntry::with_key(key, Entry { name, item }));
                 None
             }
         }
@@ -161,10 +171,9 @@ impl<T> Index<T> {
         ensures kinds { AreOf name.now.kind self.new.entries }
         ensures spare { self.new.spare ≡ self.old.spare + (if is_some result then 1 else 0) }
     {
-        let Ok(place) = place_for(&self.slots, name) else {
-            return None;
-        };
-        let Entry { name: _, item } = self.slots.remove(place);
-        Some(item)
+        match place_for(&self.slots, name, &name.order_key()) {
+            Ok(place) => Some(self.slots.remove(place)),
+            Err(_) => None,
+        }
     }
 }

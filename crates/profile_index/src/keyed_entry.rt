@@ -1,14 +1,17 @@
-ghost use Rattle.std.specs.Prelude.{◌≡◌};
+ghost use Rattle.std.specs.Prelude.{◌≡◌, not};
 ghost use Rattle.generic_names.specs.Laws.{IsPattern};
+ghost use Rattle.generic_names.specs.OrderKey.{is_lower};
 
 use crate::entry::Entry;
-use crate::order_bounds::NotBefore;
 use crate::search::is_pattern;
 use generic_names::OrderKey;
+use pages::Test;
+use std::cmp::Ordering;
 use std::marker::Model;
+use std::mem;
 
-/// An entry with the key of its name. The key comes first: behind an `Arc` it lies beside the counts of the owners, and
-/// a step of a search reads nothing else.
+/// An entry with the key of its name. The key comes first, and a step of a search reads nothing else; behind an `Arc`
+/// it lies beside the counts of the owners.
 #[derive(Drop)]
 pub(crate) struct KeyedEntry<T> {
     /// The key of the entry's name.
@@ -31,18 +34,24 @@ impl<T> Model for KeyedEntry<T> {
 }
 
 impl<T> KeyedEntry<T> {
+    ghost use Rattle.std.specs.Cmp.Lexicographic.{slice_cmp};
+    ghost use Rattle.std.specs.Ordering.{nat_cmp};
     ghost use Rattle.generic_names.specs.OrderKey.{order_key};
 
     /// An entry, whose key is computed here.
     pub(crate) fn of(entry: Entry<T>) -> KeyedEntry<T>
-        ensures entry { result ≡ entry }
-        ensures named { IsPattern result.name }
+        ensures { result ≡ entry }
+    {
+        KeyedEntry::with_key(entry.name.order_key(), entry)
+    }
+
+    /// An entry, of whose name this is the key.
+    pub(crate) fn with_key(key: OrderKey, entry: Entry<T>) -> KeyedEntry<T>
+        requires { key ≡ order_key entry.name.text }
+        ensures { result ≡ entry }
     {
         is_pattern(&entry.name);
-        KeyedEntry {
-            key: entry.name.order_key(),
-            entry,
-        }
+        KeyedEntry { key, entry }
     }
 
     /// The entry.
@@ -60,10 +69,64 @@ impl<T> KeyedEntry<T> {
         &self.key
     }
 
-    /// The bound that lies at its name.
-    pub(crate) fn bound(&self) -> NotBefore<'_>
-        ensures { result ≡ self.now.name }
+    /// Whether its key is lower than this one.
+    pub(crate) fn is_lower(&self, key: &OrderKey) -> bool
+        ensures { result ≡ is_lower self.now.name key.now }
     {
-        NotBefore::of(&self.entry.name, &self.key)
+        self.key.is_before(key)
+    }
+
+    /// Which is lower, its key or this one.
+    pub(crate) fn order(&self, key: &OrderKey) -> Ordering
+        ensures { result ≡ slice_cmp nat_cmp (order_key self.now.name.text) key.now }
+    {
+        self.key.order(key)
+    }
+
+    /// Puts another item in the place of its own, which it gives back. The name and the key stay.
+    pub(crate) fn replace(&mut self, item: T) -> T
+        ensures item { result ≡ self.old.item }
+        ensures entry { self.new ≡ record { name = self.old.name; item = item } }
+    {
+        mem::replace(&mut self.entry.item, item)
+    }
+
+    /// The item, without its name.
+    pub(crate) fn into_item(self) -> T
+        ensures { result ≡ self.item }
+    {
+        self.entry.item
+    }
+}
+
+/// Whether the name of an entry has no lower key than this one.
+#[derive(Drop)]
+pub(crate) struct NotLower<'a> {
+    /// The key.
+    key: &'a OrderKey,
+}
+
+impl<'a> Model for NotLower<'a> {
+    ghost use Rattle.std.specs.Prelude.{ℕ, List};
+
+    ghost Value = { List ℕ };
+
+    ghost view = { λ t. t.key.now };
+}
+
+impl<'a> NotLower<'a> {
+    /// The test by this key.
+    pub(crate) fn than(key: &'a OrderKey) -> NotLower<'a>
+        ensures { result ≡ key.now }
+    {
+        NotLower { key }
+    }
+}
+
+impl<T> Test<KeyedEntry<T>> for NotLower<'_> {
+    ghost passes = { λ key e. not (is_lower e.name key) };
+
+    fn passes(&self, entry: &KeyedEntry<T>) -> bool {
+        !entry.is_lower(self.key)
     }
 }

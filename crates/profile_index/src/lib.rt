@@ -1,13 +1,13 @@
 //! Profiles in the order of specificity, and the one that decides on a name.
 //!
-//! An [`Index`] keeps an item under each name, and finds the most specific name that covers a resource without looking at
-//! all of them; `class_profiles` keeps the profiles of a class in one. An entry comes in without memory where `reserve` made
-//! room before. [`Steps`] counts the comparisons of the search for a very name, of which there are as many as the number of
-//! entries has binary digits.
+//! An [`Index`] keeps an item under each name, and finds the most specific name that covers a resource without looking
+//! at all of them; `class_profiles` keeps the profiles of a class in one. An entry comes in without memory where
+//! `reserve` made room before. [`Steps`] counts the comparisons of the search for a very name, of which there are as
+//! many as the number of entries has binary digits. A [`SharedIndex`] doesn't change: a changed version is an index of
+//! its own, and shares the rest with the one before.
 //!
-//! A [`SharedIndex`] doesn't change: a changed version is an index of its own, and shares the rest with the one before. Each
-//! of its entries lies behind the key of its name, and a search computes the key of what it looks for once, so that a step of
-//! it is one comparison of bytes.
+//! In both an entry lies behind the key of its name, and a search computes the key of what it looks for once, so that a
+//! step of it is one comparison of bytes.
 //!
 //! ```
 //! let mut index = Index::new(alloc)?;
@@ -22,7 +22,6 @@ mod entry_list;
 mod entry_slots;
 mod index;
 mod keyed_entry;
-mod order_bounds;
 mod search;
 mod shared_index;
 mod steps;

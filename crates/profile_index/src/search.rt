@@ -1,17 +1,23 @@
 ghost use Rattle.std.specs.Prelude.{◌≡◌, ℕ, ◌+◌, ◌-◌, ◌*◌, ◌^◌, ◌<◌, ◌≤◌, true, false, List, length, get_or, IfOk, IfErr};
 ghost use Rattle.std.specs.List.{AllWithin};
 ghost use Rattle.std.specs.Str.{bytes_eq};
+ghost use Rattle.std.specs.Ordering.{nat_cmp};
+ghost use Rattle.std.specs.Cmp.Lexicographic.{slice_cmp};
 ghost use Rattle.generic_names.specs.Covers.{covers};
-ghost use Rattle.generic_names.specs.Before.{before, order};
+ghost use Rattle.generic_names.specs.Spelled.{first_qualifier};
+ghost use Rattle.generic_names.specs.Gap.{is_below};
 ghost use Rattle.generic_names.specs.Laws.{IsResource, IsPattern};
 ghost use Rattle.generic_names.specs.Best.{IsInOrder, AreNamed};
-ghost use Rattle.profile_index.specs.Indexed.{name_of, has_name, AreOf};
+ghost use Rattle.generic_names.specs.OrderKey.{order_key};
+ghost use Rattle.profile_index.specs.declared.entry.Entry.{Entry};
+ghost use Rattle.profile_index.specs.Indexed.{name_of, has_name, is_under, AreOf};
 ghost use Rattle.profile_index.specs.Places.{IsFirst, IsThere, IsMissing};
 
 use crate::entry_list::EntryList;
 use crate::entry_slots::EntrySlots;
+use crate::keyed_entry::KeyedEntry;
 use crate::steps::Steps;
-use generic_names::{Pattern, Resource};
+use generic_names::{Gap, OrderKey, Pattern, Resource, first_qualifier};
 use std::cmp::Ordering;
 use std::sync::ledger::Ledger;
 
@@ -39,47 +45,65 @@ pub(crate) fn first_that_covers<T, E: EntryList<T>>(list: &E, name: &Resource) -
     ensures first { IsFirst (λ e. covers e.name name.now) (E.entries list.now) result }
 {
     is_resource(name);
-    let mut place = list.end_of_those_before(&Pattern::discrete(name));
+    let mut place = list.end_below(&name.order_key());
     while place < list.len() {
         let pattern = &list.entry(place).name;
         if pattern.covers(name) {
             return Some(place);
         }
         place = match pattern.gap(name) {
-            Some(gap) => list.end_of_gap(place, &gap),
+            Some(gap) => end_of_gap(list, place, &gap),
             None => place + 1,
         };
     }
     None
 }
 
-/// The place of a name, or else the one that it would have.
-pub(crate) fn place_for<T, E: EntryList<T>>(list: &E, name: &Pattern) -> Result<usize, usize>
+/// Where the entries end that lie before the end of a gap, from a place on at which one does.
+fn end_of_gap<T, E: EntryList<T>>(list: &E, from: usize, gap: &Gap) -> usize
     requires ordered { IsInOrder name_of (E.entries list.now) }
     requires named { AreNamed name_of (E.entries list.now) }
-    requires kinds { AreOf name.now.kind (E.entries list.now) }
-    ensures there { IfOk result (λ place. IsThere name.now (E.entries list.now) place) }
-    ensures missing { IfErr result (λ place. IsMissing name.now (E.entries list.now) place) }
+    requires within { from < length (E.entries list.now) }
+    requires begun { (d : Entry T) → is_below (get_or (E.entries list.now) from d).name gap.now ≡ true }
+    ensures onward { from < result }
+    ensures within { result ≤ length (E.entries list.now) }
+    ensures below { AllWithin (λ e. is_below e.name gap.now ≡ true) (E.entries list.now) from result }
 {
-    place_at(list, name, list.end_of_those_before(name))
+    list.end_below(&gap.order_key())
 }
 
-/// The same, from the place where the entries that are before the name end.
-pub(crate) fn place_at<T, E: EntryList<T>>(
+/// The first entry whose name has that first qualifier.
+pub(crate) fn first_under<T, E: EntryList<T>>(list: &E, qualifier: &[u8]) -> Option<usize>
+    requires ordered { IsInOrder name_of (E.entries list.now) }
+    requires named { AreNamed name_of (E.entries list.now) }
+    requires fits { length qualifier.now ≤ 246 }
+    ensures { IsFirst (is_under qualifier.now) (E.entries list.now) result }
+{
+    let place = list.end_below(&OrderKey::of_qualifier(qualifier));
+    if place == list.len() {
+        return None;
+    }
+    if has_first_qualifier(&list.entry(place).name, qualifier) {
+        return Some(place);
+    }
+    None
+}
+
+/// The place of a name, or else the one that it would have. The key is that of the name.
+pub(crate) fn place_for<T, E: EntryList<T>>(
     list: &E,
     name: &Pattern,
-    place: usize,
+    key: &OrderKey,
 ) -> Result<usize, usize>
     requires ordered { IsInOrder name_of (E.entries list.now) }
     requires named { AreNamed name_of (E.entries list.now) }
     requires kinds { AreOf name.now.kind (E.entries list.now) }
-    requires within { place ≤ length (E.entries list.now) }
-    requires below { AllWithin (λ e. before e.name name.now ≡ true) (E.entries list.now) 0 place }
-    requires above { AllWithin (λ e. before e.name name.now ≡ false) (E.entries list.now) place (length (E.entries list.now)) }
-    ensures there { IfOk result (λ at. IsThere name.now (E.entries list.now) at) }
-    ensures missing { IfErr result (λ at. IsMissing name.now (E.entries list.now) at) }
+    requires key { key.now ≡ order_key name.now.text }
+    ensures there { IfOk result (λ place. IsThere name.now (E.entries list.now) place) }
+    ensures missing { IfErr result (λ place. IsMissing name.now (E.entries list.now) place) }
 {
     is_pattern(name);
+    let place = list.end_below(key);
     if place == list.len() {
         return Err(place);
     }
@@ -103,12 +127,13 @@ pub(crate) fn place_of<T, L: Ledger>(
     ensures cost { 2 ^ (steps.new - steps.old) ≤ 2 * length slots.now.entries + 1 }
 {
     is_resource(name);
+    let key = name.order_key();
     let mut low = 0;
     let mut size = slots.len();
     while size > 0 {
         let half = size / 2;
         let middle = low + half;
-        match counted(&slots.entry(middle).name, name, steps) {
+        match counted(slots.keyed(middle), &key, steps) {
             Ordering::Equal => return Some(middle),
             Ordering::Less => {
                 low = middle + 1;
@@ -120,14 +145,14 @@ pub(crate) fn place_of<T, L: Ledger>(
     None
 }
 
-/// Which of the two names comes first. Every comparison of names in `place_of` is made here and counted.
-fn counted<L: Ledger>(pattern: &Pattern, name: &Resource, steps: &mut Steps<L>) -> Ordering
-    requires { pattern.now.kind ≡ name.now.kind }
-    ensures order { result ≡ order pattern.now name.now }
+/// Which is lower, the key of an entry's name or this one. Every comparison of names in `place_of` is made here and
+/// counted.
+fn counted<T, L: Ledger>(entry: &KeyedEntry<T>, key: &OrderKey, steps: &mut Steps<L>) -> Ordering
+    ensures order { result ≡ slice_cmp nat_cmp (order_key entry.now.name.text) key.now }
     ensures counted { steps.new ≡ steps.old + 1 }
 {
     steps.tick();
-    pattern.order_of_name(name)
+    entry.order(key)
 }
 
 /// Whether both have one text.
@@ -135,4 +160,11 @@ fn have_one_text(first: &Pattern, second: &Pattern) -> bool
     ensures { result ≡ bytes_eq first.now.text second.now.text }
 {
     first.text() == second.text()
+}
+
+/// Whether a name has that first qualifier.
+fn has_first_qualifier(name: &Pattern, qualifier: &[u8]) -> bool
+    ensures { result ≡ bytes_eq (first_qualifier name.now.text) qualifier.now }
+{
+    first_qualifier(name.text()) == qualifier
 }

@@ -4,19 +4,18 @@ ghost use Rattle.profile_index.specs.Indexed.{name_of, AreOf};
 ghost use Rattle.profile_index.specs.Places.{IsThere, IsMissing};
 
 use crate::entry::Entry;
-use crate::entry_list::end_before;
 use crate::index::NoMemory;
 use crate::keyed_entry::KeyedEntry;
-use crate::search::{first_that_covers, place_at, place_for};
+use crate::search::{first_that_covers, place_for};
 use generic_names::{Pattern, Resource};
 use pages::Pages;
 use std::alloc::Global;
 use std::marker::Model;
 use std::sync::Arc;
 
-/// Entries in the order of specificity of their names, which are of one kind. An index doesn't change: a changed version is
-/// one of its own, and shares with this one all but what leads to the change. Each entry is kept with the key of its name, by
-/// which searches go. A call that answers [`NoMemory`] leaves nothing behind.
+/// Entries in the order of specificity of their names, which are of one kind. An index doesn't change: a changed
+/// version is one of its own, and shares with this one all but what leads to the change. Each entry is kept with the
+/// key of its name, by which searches go. A call that answers [`NoMemory`] leaves nothing behind.
 #[derive(Drop)]
 pub struct SharedIndex<T: Drop> {
     /// The entries in the order, each with its key.
@@ -104,7 +103,7 @@ impl<T: Drop> SharedIndex<T> {
         requires { AreOf name.now.kind self.now }
         ensures { IsPlaceOf self.now (find (has_name name.now) self.now) result }
     {
-        match place_for(&self.entries, name) {
+        match place_for(&self.entries, name, &name.order_key()) {
             Ok(place) => Some(place),
             Err(_) => None,
         }
@@ -122,7 +121,7 @@ impl<T: Drop> SharedIndex<T> {
         ensures kinds { IfOk result (λ index. AreOf name.kind index) }
     {
         let entry = KeyedEntry::of(Entry { name, item });
-        let place = place_of_entry(&self.entries, &entry);
+        let place = place_for(&self.entries, &entry.entry().name, entry.key());
         let shared = Arc::new(alloc, entry)?;
         match place {
             Ok(place) => Ok(SharedIndex {
@@ -140,26 +139,11 @@ impl<T: Drop> SharedIndex<T> {
         ensures entries { IfOk result (λ index. index ≡ without name.now self.now) }
         ensures kinds { IfOk result (λ index. AreOf name.now.kind index) }
     {
-        match place_for(&self.entries, name) {
+        match place_for(&self.entries, name, &name.order_key()) {
             Ok(place) => Ok(SharedIndex {
                 entries: self.entries.with_removed(alloc, place)?,
             }),
             Err(_) => self.share(alloc),
         }
     }
-}
-
-/// The place of an entry's name, or else the one that it would have, by the key that the entry has already.
-fn place_of_entry<T: Drop>(
-    entries: &Pages<KeyedEntry<T>>,
-    entry: &KeyedEntry<T>,
-) -> Result<usize, usize>
-    requires ordered { IsInOrder name_of entries.now }
-    requires named { AreNamed name_of entries.now }
-    requires kinds { AreOf entry.now.name.kind entries.now }
-    ensures there { IfOk result (λ place. IsThere entry.now.name entries.now place) }
-    ensures missing { IfErr result (λ place. IsMissing entry.now.name entries.now place) }
-{
-    let end = end_before(entries, &entry.bound());
-    place_at(entries, &entry.entry().name, end)
 }

@@ -1,4 +1,4 @@
-ghost use Rattle.std.specs.Prelude.{◌≡◌, ◌<◌, IfOk};
+ghost use Rattle.std.specs.Prelude.{◌≡◌, ◌<◌, ◌≤◌, length, IfOk};
 ghost use Rattle.generic_names.specs.declared.kind.NameKind.TheVariants.{General};
 ghost use Rattle.profile_index.specs.Indexed.{AreOf};
 
@@ -183,6 +183,40 @@ fn finds_very_names(rt: HostRuntime) -> Result<(), Fail> {
     let absent = [b"A.C".as_slice(), b"C", b"D", b"AA"];
     assert_eq!(rt; count_with_a_ledger(&index, &there), 4);
     assert_eq!(rt; count_with_a_ledger(&index, &absent), 0);
+    Ok(())
+}
+
+/// Whether the first entry under that qualifier has that name; there is none where it is empty.
+fn is_first_under(index: &Index<u32>, qualifier: &[u8], name: &[u8]) -> bool
+    requires { length qualifier.now ≤ 246 }
+{
+    match index.first_under(qualifier) {
+        Some(place) => index.at(place).0.text() == name,
+        None => name.is_empty(),
+    }
+}
+
+/// The names under one first qualifier are found behind those that are lower, and a qualifier that is only the front of
+/// another isn't taken for it.
+#[test]
+fn finds_the_first_under_a_qualifier(rt: HostRuntime) -> Result<(), Fail> {
+    let mut index = Index::new(rt.alloc())?;
+    for name in [
+        b"AB.**".as_slice(),
+        b"AB",
+        b"AB.C",
+        b"A%.X",
+        b"ABC.D",
+        b"**.Z",
+    ] {
+        let _added = add(&mut index, name, 1)?;
+    }
+    assert!(rt; is_first_under(&index, b"AB", b"AB.C"));
+    assert!(rt; is_first_under(&index, b"ABC", b"ABC.D"));
+    assert!(rt; is_first_under(&index, b"A%", b"A%.X"));
+    assert!(rt; is_first_under(&index, b"**", b"**.Z"));
+    assert!(rt; is_first_under(&index, b"A", b""));
+    assert!(rt; is_first_under(&index, b"Z", b""));
     Ok(())
 }
 

@@ -11,6 +11,7 @@ use Rattle.racf_profiles.specs.Edits.{changed}
 use Rattle.racf_profiles.specs.Lookup.{is_profile, user_of, class_of, profile_of}
 use Rattle.racf_profiles.specs.LawfulProfiles.{kind_in, IsProfile}
 use Rattle.racf_profiles.specs.Lawful.{AreLawful}
+use Rattle.racf_profiles.proofs.Found.{all-found}
 use Rattle.row_tables.specs.Tables.{Tables}
 use Rattle.row_tables.specs.Applying.{CanApply, HasRoom}
 use Rattle.command_parser.specs.declared.commands.Issuer.{Issuer}
@@ -26,7 +27,6 @@ use Rattle.command_effects.specs.Edits.{edits_of}
 use Rattle.command_conflicts.specs.Conflicts.{first_met, conflicts}
 use Rattle.command_conflicts.specs.ProfileConflicts.{r_define_conflicts, r_define_requirements, r_define_limits, permit_conflicts}
 use Rattle.command_conflicts.proofs.Unmet.{each_unmet}
-use Rattle.lawful_commands.proofs.RowLists.{all-found}
 use Rattle.lawful_commands.proofs.FieldFacts.{data_set-lawful, class_profile-lawful}
 use Rattle.lawful_commands.proofs.GroupCommands.{can_remove, not_root}
 use Rattle.lawful_commands.proofs.Kept.{found-named}

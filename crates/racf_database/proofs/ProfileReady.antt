@@ -1,5 +1,5 @@
 -- What a command on profiles makes can be made without memory, where the rows after it are lawful and room was taken.
-use Rattle.std.proofs.Common.{◌≡◌, ℕ, ◌<◌, ◌≤◌, true, false, ◌||◌, List, [], ◌∷◌, ◌++◌, length, Option, None, Some, is_some, bytes_eq, refl, sym, ap, subst, ◌∙◌, arith}
+use Rattle.std.proofs.Common.{◌≡◌, ℕ, ◌<◌, ◌≤◌, true, false, not, ◌&&◌, ◌||◌, List, [], ◌∷◌, ◌++◌, length, Option, None, Some, is_some, bytes_eq, refl, sym, ap, subst, ◌∙◌, arith}
 use Rattle.std.specs.Prelude.{find, IfSome}
 use Rattle.std.specs.List.{AllByRecursion, list_any}
 use Rattle.generic_names.specs.Spelled.{Spelled}
@@ -17,13 +17,14 @@ use Rattle.racf_profiles.specs.Limits.{most_class_profiles, most_profiles, most_
 use Rattle.racf_profiles.specs.Lookup.{is_class, class_of, profile_of}
 use Rattle.racf_profiles.specs.LawfulProfiles.{AreClasses, AreProfiles, kind_in}
 use Rattle.racf_profiles.specs.Lawful.{AreLawful}
+use Rattle.racf_profiles.proofs.States.{same_class}
+use Rattle.racf_profiles.proofs.Found.{all-found}
 use Rattle.group_tree.proofs.Rows.{itself}
 use Rattle.row_tables.specs.Tables.{Tables, classes_in}
-use Rattle.row_tables.specs.Applying.{CanApply, HasRoom, puts_into}
+use Rattle.row_tables.specs.Applying.{CanApply, HasRoom, adds_into}
 use Rattle.class_profiles.specs.Classes.{room_in, CanPutIn}
 use Rattle.command_effects.specs.Edits.{put_changed, put_options}
-use Rattle.lawful_commands.proofs.RowLists.{all-found}
-use Rattle.lawful_commands.proofs.ProfileRows.{PutsAreCounted, class-named, found-at_class, found-profile, new-kind}
+use Rattle.lawful_commands.proofs.ProfileRows.{PutsAreCounted, found-at_class, found-profile, new-kind}
 
 -- What holds behind a profile that is put, where the rows after the whole change are lawful.
 pub record IsPlaced (members : List Member) (options : Options) (rows : Rows) : Type 0 where
@@ -46,11 +47,14 @@ module _ (tables : Tables) where
       let found = found-at_class class (with_profile profile) (λ r. refl) row tables.rows.classes here in
       let few : length (put_profile profile row.profiles) ≤ most_class_profiles =
       (all-found (λ (r : ClassRow). AreProfiles (kind_in r.name) r.profiles) (is_class class) (at_class class (with_profile profile) tables.rows.classes) (with_profile profile row) is.classes.lawful found).few in
-      let free : length (PutProfile class profile ∷ put_options members options) ≤ room_in class (classes_in tables) =
-      room.profiles class (ap (λ b. b || list_any (puts_into class) (put_options members options)) (itself class)) (ap is_some here) in (
+      let free : profile_of class profile.name tables.rows ≡ None → length (PutProfile class profile ∷ put_options members options) ≤ room_in class (classes_in tables) =
+      λ none. room.profiles class
+      (ap (λ b. b && not (is_some (profile_of class profile.name tables.rows)) || list_any (adds_into class tables.rows) (put_options members options)) (itself class)
+      ∙ ap (λ o. not (is_some o) || list_any (adds_into class tables.rows) (put_options members options)) none)
+      (ap is_some here) in (
         record {
           kind = kind;
-          room = λ none. omega (arith, free);
+          room = λ none. let one = free none in omega (arith, one);
           few_in_class = subst (λ (o : Option ClassRow). IfSome o (λ (r : ClassRow). length (put_profile profile r.profiles) ≤ most_class_profiles)) (sym here) few;
           few = is.few_profiles;
           few_entries = is.few_entries;
@@ -65,7 +69,7 @@ module _ (tables : Tables) where
     one-ready members options old found room after =
         let there = found-profile one puts passed_on class name tables.rows old found in
         profile-ready class (change old) members options there.0 there.1
-        (new-kind one puts passed_on tables.rows lawful class name there.0 there.1 old (change old) there.2 (keeps old) ∙ ap kind_in (class-named class tables.rows.classes there.0 there.1)) room after
+        (new-kind one puts passed_on tables.rows lawful class name there.0 there.1 old (change old) there.2 (keeps old) ∙ ap kind_in (same_class class there.0 tables.rows.classes there.1)) room after
 
     pub changed-ready : (members : List Member) (options : Options) (o : Option Profile) → profile_of class name tables.rows ≡ o → HasRoom tables (put_changed class change o ++ put_options members options)
         → AreLawful (changed (put_changed class change o ++ put_options members options) tables.rows) → CanApply tables (put_changed class change o ++ put_options members options)

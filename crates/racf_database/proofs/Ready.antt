@@ -1,6 +1,6 @@
 -- What a command on users or groups makes can be made without memory, where the rows after it are lawful and room was
 -- taken.
-use Rattle.std.proofs.Common.{◌≡◌, ℕ, ◌<◌, ◌≤◌, Bool, ◌&&◌, List, [], ◌∷◌, length, Option, None, Some, IsSome, is_some, refl, sym, ap, subst, ◌∙◌, arith, inl, inr}
+use Rattle.std.proofs.Common.{◌≡◌, ℕ, ◌<◌, ◌≤◌, Bool, false, not, ◌&&◌, ◌||◌, List, [], ◌∷◌, length, Option, None, Some, IsSome, is_some, refl, sym, ap, subst, ◌∙◌, arith, inl, inr}
 use Rattle.std.specs.Prelude.{find, MatchOption, ◌⊎◌}
 use Rattle.std.specs.Option.{option_or}
 use Rattle.racf_profiles.specs.declared.users.User.{User}
@@ -27,7 +27,14 @@ use Rattle.lawful_commands.proofs.GroupCommands.{free, can_add, can_move, can_re
 module _ (tables : Tables) where
   -- ---- a user is put
   put_user-ready : (user : User) → HasRoom tables (PutUser user ∷ []) → AreLawful (changed (PutUser user ∷ []) tables.rows) → CanApply tables (PutUser user ∷ [])
-  put_user-ready user room after = (record { room = λ none. omega (arith, room.users); few_users = after.users.few; few_connections = after.few_connections }, tt)
+  put_user-ready user room after = (
+    record {
+      room = λ none. let one = room.users (ap (λ o. not (is_some o) || false) none) in omega (arith, one);
+      few_users = after.users.few;
+      few_connections = after.few_connections;
+    },
+    tt,
+  )
 
   pub new_user-ready : (user : User) → HasRoom tables (PutUser user ∷ []) → AreLawful (changed (PutUser user ∷ []) tables.rows) → CanApply tables (PutUser user ∷ [])
   new_user-ready = put_user-ready
@@ -43,7 +50,7 @@ module _ (tables : Tables) where
         let new : CanAddGroup (groups_in tables) (new_group issuer c) = record {
           below = refl;
           can = λ superior e. subst (CanAdd tables.rows.groups c.group) (injected (group_or_current issuer c.supgroup) superior e) (can_add issuer c tables.rows lawful met);
-          room = omega (arith, room.groups);
+          room = let one = room.groups (ap (λ o. not (is_some o) || false) (free issuer c tables.rows lawful met).1) in omega (arith, one);
         } in
         (subst (λ o. MatchOption o (CanAddGroup (groups_in tables) (new_group issuer c)) (λ (old : Group). (old.superior ≡ (new_group issuer c).superior) ⊎ CanMoveGroup tables.rows.groups (new_group issuer c))) (sym (free issuer c tables.rows lawful met).1) new, tt)
       where

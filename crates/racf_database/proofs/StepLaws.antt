@@ -6,7 +6,8 @@ use Rattle.racf_profiles.specs.declared.groups.Group.{Group}
 use Rattle.racf_profiles.specs.declared.rows.Rows.{Rows}
 use Rattle.racf_profiles.specs.Lookup.{user_of, group_of, is_user, is_group}
 use Rattle.racf_profiles.specs.Edits.{put_row, changed}
-use Rattle.group_tree.proofs.Rows.{same, find-passes}
+use Rattle.racf_profiles.proofs.States.{find-passes}
+use Rattle.group_tree.proofs.Rows.{same}
 use Rattle.command_parser.specs.declared.commands.Issuer.{Issuer}
 use Rattle.command_parser.specs.declared.fields.AddUser.{AddUser}
 use Rattle.command_parser.specs.declared.fields.AddGroup.{AddGroup}
@@ -26,7 +27,7 @@ use Rattle.command_conflicts.proofs.Unmet.{each_unmet, name_free}
 put_user-at : (change : User → User) → ((user : User) → (change user).id ≡ user.id) → (id : List ℕ) (users : List User) (user : User) → find (is_user id) users ≡ Some user
     → put_row (is_user (change user).id) (change user) users ≡ at_row (is_user id) change users
 put_user-at change keeps id users user found =
-    ap (λ n. put_row (is_user n) (change user) users) (keeps user ∙ same user.id id (find-passes (is_user id) users user found))
+    ap (λ n. put_row (is_user n) (change user) users) (keeps user ∙ same user.id id (find-passes (is_user id) user users found))
     ∙ put_row-at_row (is_user id) change user users found
 
 changed-users : (change : User → User) → ((user : User) → (change user).id ≡ user.id) → (id : List ℕ) (rows : Rows)
@@ -44,7 +45,7 @@ changed-groups change keeps id rows = by (group_of id rows) refl
     by : (o : Option Group) → group_of id rows ≡ o → changed (put_group change o) rows ≡ record rows { groups = at_row (is_group id) change rows.groups }
     by None none = sym (ap (λ (gs : List Group). record rows { groups = gs }) (at_row-absent (is_group id) change rows.groups none))
     by (Some group) found =
-        ap (λ n. record rows { groups = put_row (is_group n) (change group) rows.groups }) (keeps group ∙ same group.id id (find-passes (is_group id) rows.groups group found))
+        ap (λ n. record rows { groups = put_row (is_group n) (change group) rows.groups }) (keeps group ∙ same group.id id (find-passes (is_group id) group rows.groups found))
         ∙ ap (λ (gs : List Group). record rows { groups = gs }) (put_row-at_row (is_group id) change group rows.groups found)
 
 -- ---- the name of what ADDUSER and ADDGROUP define is free

@@ -1,5 +1,6 @@
--- How a database is kept: its tables, and the change that was prepared.
+-- How a database is kept: its tables, and the change that was prepared, as contracts alone see it.
 use Rattle.std.specs.Prelude.{MatchOption}
+use Rattle.std.specs.Option.{option_map}
 use Rattle.racf_profiles.specs.declared.edits.Change.{Change}
 use Rattle.racf_profiles.specs.Edits.{changed}
 use Rattle.racf_profiles.specs.Lawful.{AreLawful}
@@ -9,7 +10,7 @@ use Rattle.racf_database.specs.declared.database.Database.TheInside.{Inside}
 use Rattle.racf_database.specs.Contents.{Contents}
 
 abbrev pub contents_of : Inside → Contents
-contents_of database = record { rows = database.tables.rows; prepared = database.prepared }
+contents_of database = record { rows = database.tables.rows; prepared = option_map (λ snapshot. snapshot.value) database.prepared }
 
 -- The change can be applied without memory, and leaves lawful rows.
 pub record IsReady (tables : Tables) (change : Change) : Type 0 where
@@ -19,4 +20,4 @@ pub record IsReady (tables : Tables) (change : Change) : Type 0 where
 -- The rows are lawful, and what was prepared is ready.
 pub record IsKept (database : Inside) : Type 0 where
   pub lawful : AreLawful database.tables.rows
-  pub ready : MatchOption database.prepared (Unit {0}) (IsReady database.tables)
+  pub ready : MatchOption (contents_of database).prepared (Unit {0}) (IsReady database.tables)

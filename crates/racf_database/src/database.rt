@@ -16,6 +16,7 @@ use racf_profiles::{Change, Group, NoMemory, Profile, Rows, User, View};
 use row_tables::RowTables;
 use std::alloc::Global;
 use std::marker::Model;
+use std::snapshot::Snapshot;
 
 /// The users, groups, connections and profiles of a database, which are lawful at any time. Users and groups are
 /// found by name in one look-up, whatever their number, and a profile by a search in the order of its class's. Every
@@ -26,8 +27,9 @@ use std::marker::Model;
 pub struct Database {
     /// The rows. What holds of the rows of every database holds of them.
     pub(crate) tables: RowTables,
-    /// The change that was prepared last and isn't applied. It can be applied without memory, and leaves lawful rows.
-    pub(crate) prepared: Option<Change>,
+    /// The change that was prepared last and isn't applied, as contracts see it: the value itself is its owner's. It can
+    /// be applied without memory, and leaves lawful rows.
+    pub(crate) prepared: Option<Snapshot<Change>>,
 }
 
 impl Model for Database {

@@ -11,18 +11,19 @@ ghost use Rattle.command_conflicts.specs.Conflicts.{conflict_of};
 
 use crate::database::Database;
 use class_profiles::laws::puts_are_counted;
+use command_effects::edits_of;
 use command_effects::laws::commands_edit_rows_alone;
-use command_effects::{copies, edits_of};
 use command_parser::laws::fields_of_a_text_are_lawful;
 use command_parser::{Command, Issuer, printed_is_read};
 use generic_names::laws::{order_is_total, text_reads_back};
 use lawful_commands::commands_leave_lawful_rows;
 use racf_profiles::{Change, Edits, NoMemory};
 use std::alloc::Global;
+use std::snapshot::Snapshot;
 
 impl Database {
-    /// The change that the command makes. It stays prepared until another is, or until it is applied. It is kept
-    /// twice, here and in what is answered.
+    /// The change that the command makes. It stays prepared until another is, or until it is applied. What is prepared
+    /// is known to contracts alone: no row is kept for it.
     ///
     /// # Errors
     ///
@@ -55,13 +56,11 @@ impl Database {
         text_reads_back();
         puts_are_counted();
         let edits = edits_of(alloc, &self.tables, issuer, command)?;
-        let kept = copies(alloc, edits.as_slice())?;
         self.tables.reserve(edits.as_slice())?;
-        self.prepared = Some(Change {
-            edits: Edits { items: kept },
-        });
-        Ok(Change {
+        let change = Change {
             edits: Edits { items: edits },
-        })
+        };
+        self.prepared = Some(Snapshot::of(&change));
+        Ok(change)
     }
 }

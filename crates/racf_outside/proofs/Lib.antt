@@ -1,4 +1,4 @@
-mod Bytes
+pub mod Bytes
 mod HeldLaws
 pub mod LineLaws
 mod LineRows

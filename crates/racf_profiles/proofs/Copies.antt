@@ -2,7 +2,7 @@
 use Rattle.std.proofs.Common.{◌≡◌, ℕ, Bool, true, false, cond, not, ◌&&◌, List, [], ◌∷◌, map, Option, Some, None, is_some, bytes_eq, refl, sym, ◌∙◌, ap, ⊎_elim}
 use Rattle.std.specs.List.{find, filter, list_all}
 use Rattle.std.specs.Option.{option_map_or}
-use Rattle.std.proofs.lemmas.Bool.{cases_Bool}
+use Rattle.std.proofs.lemmas.Bool.{cases_Bool, and_parts, not-true}
 use Rattle.std.proofs.lemmas.Slice.Eq.{bytes_eq-Decides}
 use Rattle.racf_profiles.specs.declared.class_rows.ClassRow.{ClassRow}
 use Rattle.racf_profiles.specs.declared.rows.Rows.{Rows}
@@ -11,12 +11,10 @@ use Rattle.racf_profiles.specs.declared.edits.Edit.TheVariants.{PutUser, DropUse
 use Rattle.racf_profiles.specs.Lookup.{is_class, class_of}
 use Rattle.racf_profiles.specs.Edits.{put_row, drop_row, at_class, with_profile, without_profile, with_flags, with_listed, edited, changed}
 use Rattle.racf_profiles.specs.State.{State, ListedCopy, HaveCopies, is_copy_of, copy_of_class, is_listed, is_none_listed, is_of_copies, restart, edited_state, changed_state}
-use Rattle.racf_profiles.proofs.Found.{all_head, all_tail, find-hit, find-miss}
-use Rattle.racf_profiles.proofs.EditLaws.{put_row-found, put_row-others, at_class-absent, same_name}
-use Rattle.racf_profiles.proofs.States.{find-passes, copies_of, copies_of-others, copies_of-listed, at_class-hit, at_class-miss, at_class-found, listed_in, listed_in-hit, listed_in-miss, edit-listed, edit-copies, not-false}
-
-same : (a b : List ℕ) → bytes_eq a b ≡ true → a ≡ b
-same a b h = (bytes_eq-Decides a b).0 h
+use Rattle.racf_profiles.proofs.Found.{find-hit, find-miss}
+use Rattle.racf_profiles.proofs.EditLaws.{put_row-found, put_row-others, at_class-absent}
+use Rattle.racf_profiles.proofs.States.{find-passes, copies_of, copies_of-others, copies_of-listed, at_class-hit, at_class-miss, at_class-found, listed_in, listed_in-hit, listed_in-miss, edit-listed, edit-copies}
+use Rattle.racf_profiles.proofs.Named.{same, itself}
 
 -- ---- a restart
 pub restart-copied : (name : List ℕ) (classes : List ClassRow) → listed_in name classes ≡ true → is_some (find (is_copy_of name) (copies_of classes)) ≡ true
@@ -60,7 +58,7 @@ module _ (name other : List ℕ) (copies : List ListedCopy) where
       (λ (own : bytes_eq other name ≡ true).
       let one : other ≡ name = same other name own in
       ap (λ n. is_some (find (is_copy_of n) (put_row (is_copy_of other) copy copies))) (sym one)
-      ∙ ap is_some (put_row-found (is_copy_of other) copy copies (ap (λ n. bytes_eq n other) named ∙ same_name other)))
+      ∙ ap is_some (put_row-found (is_copy_of other) copy copies (ap (λ n. bytes_eq n other) named ∙ itself other)))
       (λ (differ : bytes_eq other name ≡ false).
       ap is_some (put_row-others (is_copy_of other) (is_copy_of name) copy copies (ap (λ n. bytes_eq n name) named ∙ differ) (apart-copies differ)) ∙ before differ)
       (cases_Bool (bytes_eq other name))
@@ -118,8 +116,8 @@ none_in classes = list_all (λ (class : ClassRow). not class.listed) classes
 none-copies : (classes : List ClassRow) → none_in classes ≡ true → copies_of classes ≡ []
 none-copies [] none = refl
 none-copies (class ∷ classes) none =
-    ap (λ b. map copy_of_class (cond b (class ∷ filter (λ (c : ClassRow). c.listed) classes) (filter (λ (c : ClassRow). c.listed) classes))) (not-false class.listed (all_head (not class.listed) (none_in classes) none))
-    ∙ none-copies classes (all_tail (not class.listed) (none_in classes) none)
+    ap (λ b. map copy_of_class (cond b (class ∷ filter (λ (c : ClassRow). c.listed) classes) (filter (λ (c : ClassRow). c.listed) classes))) (not-true class.listed (and_parts (not class.listed) (none_in classes) none).0)
+    ∙ none-copies classes (and_parts (not class.listed) (none_in classes) none).1
 
 none-at_class : (name : List ℕ) (change : ClassRow → ClassRow) (classes : List ClassRow) → ((class : ClassRow) → (change class).listed ≡ class.listed) → none_in (at_class name change classes) ≡ none_in classes
 none-at_class name change [] keeps = refl
@@ -146,7 +144,7 @@ others edits = list_all (λ (edit : Edit). not (is_of_copies edit)) edits
 pub changed-none : (edits : List Edit) (rows : Rows) → is_none_listed rows ≡ true → others edits ≡ true → is_none_listed (changed edits rows) ≡ true
 changed-none [] rows none all = none
 changed-none (edit ∷ edits) rows none all =
-    changed-none edits (edited edit rows) (edit-none edit rows (not-false (is_of_copies edit) (all_head (not (is_of_copies edit)) (others edits) all)) ∙ none) (all_tail (not (is_of_copies edit)) (others edits) all)
+    changed-none edits (edited edit rows) (edit-none edit rows (not-true (is_of_copies edit) (and_parts (not (is_of_copies edit)) (others edits) all).0) ∙ none) (and_parts (not (is_of_copies edit)) (others edits) all).1
 
 with_copies : (rows : Rows) (a b : List ListedCopy) → a ≡ b → let x : State = record { rows = rows; copies = a } in let y : State = record { rows = rows; copies = b } in x ≡ y
 with_copies rows a b e = ap (λ copies. let s : State = record { rows = rows; copies = copies } in s) e
@@ -159,9 +157,9 @@ edit-restart edit rows other none =
 pub changed-restart : (edits : List Edit) (rows : Rows) → is_none_listed rows ≡ true → others edits ≡ true → changed_state edits (restart rows) ≡ restart (changed edits rows)
 changed-restart [] rows none all = refl
 changed-restart (edit ∷ edits) rows none all =
-    let other = not-false (is_of_copies edit) (all_head (not (is_of_copies edit)) (others edits) all) in
+    let other = not-true (is_of_copies edit) (and_parts (not (is_of_copies edit)) (others edits) all).0 in
     ap (changed_state edits) (edit-restart edit rows other none)
-    ∙ changed-restart edits (edited edit rows) (edit-none edit rows other ∙ none) (all_tail (not (is_of_copies edit)) (others edits) all)
+    ∙ changed-restart edits (edited edit rows) (edit-none edit rows other ∙ none) (and_parts (not (is_of_copies edit)) (others edits) all).1
 
 -- ---- the rows of a state
 pub changed-rows : (edits : List Edit) (state : State) → (changed_state edits state).rows ≡ changed edits state.rows

@@ -1,6 +1,6 @@
 -- What edits leave, by induction on the rows.
-use Rattle.std.proofs.Common.{◌≡◌, ℕ, Bool, true, false, cond, List, [], ◌∷◌, Some, None, option_and_then, refl, sym, ◌∙◌, ap, ⊎_elim}
-use Rattle.std.specs.List.{find}
+use Rattle.std.proofs.Common.{◌≡◌, ℕ, ◌≤◌, Bool, true, false, cond, List, [], ◌∷◌, length, Some, None, option_and_then, refl, sym, ◌∙◌, ap, arith, ⊎_elim}
+use Rattle.std.specs.List.{find, AllByRecursion}
 use Rattle.std.specs.Str.{bytes_eq}
 use Rattle.std.proofs.lemmas.Bool.{cases_Bool}
 use Rattle.std.proofs.lemmas.Slice.Eq.{bytes_eq-Decides}
@@ -17,6 +17,23 @@ drop_row-absent p (x ∷ xs) absent = ⊎_elim
     (λ (hit : p x ≡ true). let found : Some x ≡ None = sym (find-hit p x xs hit) ∙ absent in cc)
     (λ (miss : p x ≡ false). ap (λ b. cond b xs (x ∷ drop_row p xs)) miss ∙ ap (λ rows. x ∷ rows) (drop_row-absent p xs (sym (find-miss p x xs miss) ∙ absent)))
     (cases_Bool (p x))
+
+-- What is so of each row is so where one goes.
+pub all-drop_row : {X : Type 0} (P : X → Type 0) (goes : X → Bool) (xs : List X) → AllByRecursion P xs → AllByRecursion P (drop_row goes xs)
+all-drop_row P goes [] all = tt
+all-drop_row P goes (x ∷ xs) all = by (goes x) (all-drop_row P goes xs all.1)
+  where
+    by : (b : Bool) → AllByRecursion P (drop_row goes xs) → AllByRecursion P (cond b xs (x ∷ drop_row goes xs))
+    by true rest = all.1
+    by false rest = (all.0, rest)
+
+pub length-drop_row : {X : Type 0} (goes : X → Bool) (xs : List X) → length (drop_row goes xs) ≤ length xs
+length-drop_row goes [] = omega arith
+length-drop_row goes (x ∷ xs) = by (goes x) (length-drop_row goes xs)
+  where
+    by : (b : Bool) → length (drop_row goes xs) ≤ length xs → length (cond b xs (x ∷ drop_row goes xs)) ≤ length (x ∷ xs)
+    by true rest = omega arith
+    by false rest = omega (arith, rest)
 
 -- A class that isn't there isn't changed.
 pub at_class-absent : (name : List ℕ) (change : ClassRow → ClassRow) (classes : List ClassRow) → find (is_class name) classes ≡ None → at_class name change classes ≡ classes
@@ -54,9 +71,6 @@ put_row-others p q x (y ∷ ys) isnt apart = ⊎_elim
     (λ (hit : p y ≡ true). ap (λ b. find q (cond b (x ∷ ys) (y ∷ put_row p x ys))) hit ∙ find-miss q x ys isnt ∙ sym (find-miss q y ys (apart y hit)))
     (λ (miss : p y ≡ false). ap (λ b. find q (cond b (x ∷ ys) (y ∷ put_row p x ys))) miss ∙ ap (λ o. cond (q y) (Some y) o) (put_row-others p q x ys isnt apart))
     (cases_Bool (p y))
-
-pub same_name : (name : List ℕ) → bytes_eq name name ≡ true
-same_name name = (bytes_eq-Decides name name).1 refl
 
 -- Who has the one name hasn't the other.
 pub other_name : (name one other : List ℕ) → bytes_eq one other ≡ false → bytes_eq name one ≡ true → bytes_eq name other ≡ false

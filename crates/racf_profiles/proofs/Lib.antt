@@ -5,3 +5,5 @@ pub mod EditLaws
 pub mod OrderedProfiles
 pub mod States
 pub mod Copies
+pub mod Places
+pub mod IdNames

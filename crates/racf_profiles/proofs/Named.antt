@@ -1,12 +1,21 @@
 -- Rows of any type in a map, each under its own name, as the list of the map's values.
-use Rattle.std.proofs.Common.{◌≡◌, ℕ, Bool, cond, map, List, [], ◌∷◌, Some, bytes_eq, refl, ap, ◌∙◌}
+use Rattle.std.proofs.Common.{◌≡◌, ℕ, Bool, true, cond, map, List, [], ◌∷◌, Some, bytes_eq, refl, ap, ◌∙◌}
 use Rattle.std.specs.Prelude.{find}
 use Rattle.std.specs.Map.{keys_of, values_of, lookup}
 use Rattle.std.specs.Cmp.Lexicographic.{nat_list_eq_equiv}
+use Rattle.std.proofs.lemmas.Slice.Eq.{bytes_eq-Decides}
+
+-- ---- names
+pub same : (x y : List ℕ) → bytes_eq x y ≡ true → x ≡ y
+same x y = (bytes_eq-Decides x y).0
+
+pub itself : (x : List ℕ) → bytes_eq x x ≡ true
+itself x = (bytes_eq-Decides x x).1 refl
 
 pub turned : (x y : List ℕ) → bytes_eq x y ≡ bytes_eq y x
 turned = nat_list_eq_equiv.symm
 
+-- ---- rows
 module _ {X : Type 0} (name : X → List ℕ) where
   -- each row stands under its own name
   abbrev pub IsNamed : List (List ℕ × X) → Type 0

@@ -2,7 +2,7 @@
 use Rattle.std.proofs.Common.{◌≡◌, ◌↔◌, ℕ, Bool, true, false, cond, not, List, [], ◌∷◌, map, Option, Some, None, IsSome, option_map, refl, sym, ◌∙◌, ap, ⊎_elim}
 use Rattle.std.specs.List.{find, filter, list_all}
 use Rattle.std.specs.Option.{option_map_or}
-use Rattle.std.proofs.lemmas.Bool.{cases_Bool}
+use Rattle.std.proofs.lemmas.Bool.{cases_Bool, and_parts, not-true}
 use Rattle.racf_profiles.specs.declared.profiles.Profile.{Profile}
 use Rattle.racf_profiles.specs.declared.class_rows.ClassRow.{ClassRow}
 use Rattle.racf_profiles.specs.declared.rows.Rows.{Rows}
@@ -11,8 +11,9 @@ use Rattle.racf_profiles.specs.declared.edits.Edit.TheVariants.{PutUser, DropUse
 use Rattle.racf_profiles.specs.Lookup.{is_class, class_of}
 use Rattle.racf_profiles.specs.Edits.{put_row, at_class, with_profile, without_profile, with_flags, with_listed, edited}
 use Rattle.racf_profiles.specs.State.{State, ListedCopy, is_copy_of, copy_of_class, copy_of, effective, is_listed, is_of_copies, edited_state, changed_state}
-use Rattle.racf_profiles.proofs.Found.{find-hit, find-miss, all_head, all_tail}
+use Rattle.racf_profiles.proofs.Found.{find-hit, find-miss}
 use Rattle.racf_profiles.proofs.EditLaws.{put_row-found}
+use Rattle.racf_profiles.proofs.Named.{same}
 
 -- What is found passes the test.
 pub find-passes : {X : Type 0} (p : X → Bool) (x : X) (xs : List X) → find p xs ≡ Some x → p x ≡ true
@@ -21,6 +22,10 @@ find-passes p x (y ∷ ys) found = ⊎_elim
     (λ (hit : p y ≡ true). let some : Some y ≡ Some x = sym (find-hit p y ys hit) ∙ found in let same : y ≡ x = cc in sym (ap p same) ∙ hit)
     (λ (miss : p y ≡ false). find-passes p x ys (sym (find-miss p y ys miss) ∙ found))
     (cases_Bool (p y))
+
+-- A class that is found has the name that was sought.
+pub same_class : (name : List ℕ) (row : ClassRow) (rows : List ClassRow) → find (is_class name) rows ≡ Some row → row.name ≡ name
+same_class name row rows found = same row.name name (find-passes (is_class name) row rows found)
 
 -- The copies that a restart makes.
 abbrev pub copies_of : List ClassRow → List ListedCopy
@@ -154,17 +159,13 @@ edit-copies (PutClass class active global log) state other = refl
 edit-copies (ListCopy class) state other = cc
 edit-copies (Unlist class) state other = cc
 
-pub not-false : (b : Bool) → not b ≡ true → b ≡ false
-not-false true h = sym h
-not-false false h = refl
-
 pub effective-left : (name : List ℕ) (edits : List Edit) (state : State) → is_listed name state.rows ≡ true → list_all (λ (edit : Edit). not (is_of_copies edit)) edits ≡ true
     → effective name (changed_state edits state) ≡ effective name state
 effective-left name [] state listed others = refl
 effective-left name (edit ∷ edits) state listed others =
-    let other : is_of_copies edit ≡ false = not-false (is_of_copies edit) (all_head _ _ others) in
+    let other : is_of_copies edit ≡ false = not-true (is_of_copies edit) (and_parts _ _ others).0 in
     let stays : is_listed name (edited edit state.rows) ≡ true = edit-listed name edit state.rows other ∙ listed in
-    effective-left name edits (edited_state edit state) stays (all_tail (not (is_of_copies edit)) _ others)
+    effective-left name edits (edited_state edit state) stays (and_parts (not (is_of_copies edit)) _ others).1
     ∙ effective-copy name (class_of name (edited edit state.rows)) (copy_of name (edited_state edit state).copies) stays
     ∙ ap (λ copies. Some (copy_of name copies)) (edit-copies edit state other)
     ∙ sym (effective-copy name (class_of name state.rows) (copy_of name state.copies) listed)

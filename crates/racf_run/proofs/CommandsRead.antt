@@ -1,14 +1,12 @@
 -- The command that was read is the one that the text spells.
-use Rattle.std.proofs.Common.{◌≡◌, ℕ, Bool, false, List, None, Some, Ok, Err, refl, sym, ◌∙◌, ap, subst}
-use Rattle.std.specs.Prelude.{Option, Result, ◌↔◌}
-use Rattle.std.specs.Option.{option_and_then}
-use Rattle.std.specs.Result.{result_ok, result_err}
+use Rattle.std.proofs.Common.{◌≡◌, ℕ, Bool, false, List, None, Some, Ok, Err, refl, sym, ◌∙◌, subst}
+use Rattle.std.specs.Prelude.{◌↔◌}
 use Rattle.command_values.specs.declared.faults.Syntax.{Syntax}
-use Rattle.command_grammar.specs.Reading.{Generic}
 use Rattle.command_grammar.specs.Canon.{spelled}
 use Rattle.command_parser.specs.declared.fields.CommandFields.{CommandFields}
 use Rattle.command_parser.specs.Canonical.{given_by, Spells, fault}
-use Rattle.command_parser.specs.CommandOf.{command_of, command_in}
+use Rattle.command_parser.specs.CommandOf.{command_in}
+use Rattle.racf_desk.proofs.TextLaws.{none_by}
 use Rattle.racf_run.specs.declared.reply.Refusal.{Refusal}
 use Rattle.racf_run.specs.declared.reply.Refusal.TheVariants as refusal
 use Rattle.racf_run.specs.Commands.{issuer, is_other_command, read_command}
@@ -20,11 +18,6 @@ reads_command by text c other is tests fails one spells =
     let spells_here : Spells issuer.id text c = subst (λ (id : List ℕ). Spells id text c) is spells in
     let found : command_in issuer.id text ≡ Some c = one.0 spells_here in
     rw (sym tests ∙ fails) (rw found refl)
-
--- a text with a first fault spells none
-none_by : (r : Result Generic Syntax) (e : Syntax) → result_err r ≡ Some e → option_and_then command_of (result_ok r) ≡ None
-none_by (Ok view) e h = cc
-none_by (Err other) e h = refl
 
 pub reads_fault : (by text : List ℕ) (e : Syntax) (other : Bool) → by ≡ issuer.id → other ≡ is_other_command text → other ≡ false → fault by text ≡ Some e → Err (refusal.Syntax e) ≡ read_command text
 unfolding read_command

@@ -9,6 +9,7 @@ use Rattle.access_levels.specs.Spelling.{is_id_byte, id_of}
 use Rattle.generic_names.specs.Spelled.{Spelled}
 use Rattle.racf_profiles.specs.declared.fixed_classes.NameForm.{NameForm}
 use Rattle.racf_profiles.specs.declared.fixed_classes.NameForm.TheVariants as forms
+use Rattle.racf_profiles.proofs.Found.{all-found}
 use Rattle.command_words.specs.declared.quoting.Quoting.TheVariants.{Ignored}
 use Rattle.command_words.specs.Bytes.{is_faulty_byte}
 use Rattle.command_words.specs.ValuedWords.{faulty_at}
@@ -16,7 +17,7 @@ use Rattle.command_values.specs.ProfileNames.{profile_in, form_in}
 use Rattle.command_values.proofs.Names.{id_of-ok, group_of-ok}
 use Rattle.command_values.proofs.Patterns.{dataset-named, general-named, class-named}
 use Rattle.command_parser.specs.LawfulFields.{IsId, IsGroupName, IsDataSetProfile, IsClassProfile, IsAnyProfile}
-use Rattle.lawful_commands.proofs.RowLists.{all_pass-each, all-found}
+use Rattle.lawful_commands.proofs.RowLists.{all_pass-each}
 use Rattle.racf_run.proofs.PrintedLaws.{AllDigits, decimal-AllDigits}
 
 -- whether a text has no line feed

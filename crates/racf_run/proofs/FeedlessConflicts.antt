@@ -92,7 +92,7 @@ use Rattle.command_conflicts.specs.Conflicts.{
   conflict_of,
 }
 use Rattle.lawful_commands.proofs.FieldFacts.{each-all}
-use Rattle.racf_run.specs.Replies.{kind_words, conflict_words}
+use Rattle.racf_desk.specs.Words.{kind_words, conflict_words}
 use Rattle.racf_run.proofs.Feedless.{IsFeedless, joined, decimal-feedless, read_id-feedless, id-feedless, group-feedless, data_set-feedless, class_profile-feedless, any_profile-feedless, always, if-map, if-then, if-found, if-given, if-ok}
 use Rattle.racf_run.proofs.FeedlessRows.{IsFeedlessUser, IsFeedlessGroup, IsFeedlessProfile, IsFeedlessWho, AreFeedlessProfiles, AreFeedless, ids-feedless, groups-feedless, whos-feedless, current-feedless, owner-feedless}
 

@@ -21,6 +21,7 @@ use Rattle.racf_profiles.specs.Lookup.{is_user, is_group, is_class, is_profile, 
 use Rattle.racf_profiles.specs.Names.{is_to}
 use Rattle.racf_profiles.specs.Edits.{put_profile, at_class, with_profile, without_profile}
 use Rattle.racf_profiles.proofs.OrderedProfiles.{all-put_profile}
+use Rattle.racf_profiles.proofs.EditLaws.{all-drop_row}
 use Rattle.row_tables.specs.Tables.{first_rows}
 use Rattle.command_values.specs.declared.values.Reset.{Reset}
 use Rattle.command_values.specs.declared.values.Reset.TheVariants as reset
@@ -30,11 +31,12 @@ use Rattle.command_parser.specs.declared.fields.CommandFields.{CommandFields}
 use Rattle.command_parser.specs.declared.fields.CommandFields.TheVariants as command
 use Rattle.command_parser.specs.declared.profile_fields.Permit.{Permit}
 use Rattle.command_parser.specs.LawfulFields.{IsId, IsGroupName, IsNamedOne, AreWhosOfPermit, IsPort, AreLawfulFields}
-use Rattle.command_effects.specs.UserEffects.{new_user, altered_user, new_group, altered_group, altered_connection, connects_after, connected_user, removed_user, group_or_current, owner_or_issuer}
+use Rattle.command_parser.specs.Issuers.{group_or_current}
+use Rattle.command_effects.specs.UserEffects.{new_user, altered_user, new_group, altered_group, altered_connection, connects_after, connected_user, removed_user, owner_or_issuer}
 use Rattle.command_effects.specs.ProfileEffects.{dataset, new_data_set, altered_data_set, new_resource, altered_resource, profile_put, profile_dropped, profile_changed}
 use Rattle.command_effects.specs.PermitEffects.{standard_reset, conditional_reset, with_entry, with_conditional, standard_entries, conditional_entries, permitted_profile, level_of}
 use Rattle.command_effects.specs.Effects.{step}
-use Rattle.lawful_commands.proofs.RowLists.{all-push, all-drop, all-filter, all-at, all-put}
+use Rattle.lawful_commands.proofs.RowLists.{all-push, all-filter, all-at, all-put}
 use Rattle.lawful_commands.proofs.FieldFacts.{each-all}
 use Rattle.lawful_commands.proofs.ProfileRows.{all-at_class}
 use Rattle.racf_run.proofs.Feedless.{IsFeedless, id-feedless, group-feedless, data_set-feedless, class_profile-feedless, if-given, if-found, if-then}
@@ -107,7 +109,7 @@ module _ (class : List ℕ) (rows : Rows) (are : AreFeedless rows) where
   dropped-rows name = record {
     users = are.users;
     groups = are.groups;
-    classes = all-at_class AreFeedlessProfiles class (without_profile name) rows.classes (λ row found h. all-drop IsFeedlessProfile (is_profile name) row.profiles h) are.classes;
+    classes = all-at_class AreFeedlessProfiles class (without_profile name) rows.classes (λ row found h. all-drop_row IsFeedlessProfile (is_profile name) row.profiles h) are.classes;
   }
 
   changed-rows : (name : Spelled) (change : Profile → Profile) → ((old : Profile) → IsFeedlessProfile old → IsFeedlessProfile (change old)) → AreFeedless (profile_changed class name change rows)
@@ -201,7 +203,7 @@ module _ (issuer : Issuer) (issuer_id : IsFeedless issuer.id) (issuer_group : Is
     groups = are.groups;
     classes = are.classes;
   }
-  step-feedless (command.DelUser c) rows f are = record { users = all-drop IsFeedlessUser (is_user c.user) rows.users are.users; groups = are.groups; classes = are.classes }
+  step-feedless (command.DelUser c) rows f are = record { users = all-drop_row IsFeedlessUser (is_user c.user) rows.users are.users; groups = are.groups; classes = are.classes }
   step-feedless (command.AddGroup c) rows f are = record {
     users = are.users;
     groups = all-push IsFeedlessGroup rows.groups (new_group issuer c) are.groups (record { id = group-feedless c.group f.group; owner = owner-feedless c.owner f.owner });
@@ -212,7 +214,7 @@ module _ (issuer : Issuer) (issuer_id : IsFeedless issuer.id) (issuer_group : Is
     groups = all-at IsFeedlessGroup (is_group c.group) (altered_group c) rows.groups (λ group found h. record { id = h.id; owner = if-given c.owner group.owner (ids-feedless c.owner f.owner) h.owner }) are.groups;
     classes = are.classes;
   }
-  step-feedless (command.DelGroup c) rows f are = record { users = are.users; groups = all-drop IsFeedlessGroup (is_group c.group) rows.groups are.groups; classes = are.classes }
+  step-feedless (command.DelGroup c) rows f are = record { users = are.users; groups = all-drop_row IsFeedlessGroup (is_group c.group) rows.groups are.groups; classes = are.classes }
   step-feedless (command.Connect c) rows f are = record {
     users = all-at IsFeedlessUser (is_user c.user) (connected_user issuer c) rows.users
         (λ user found h. record { id = h.id; groups = connects-feedless c (group_or_current issuer c.group) user.connects (current-feedless c.group f.group) h.groups }) are.users;
@@ -221,7 +223,7 @@ module _ (issuer : Issuer) (issuer_id : IsFeedless issuer.id) (issuer_group : Is
   }
   step-feedless (command.Remove c) rows f are = record {
     users = all-at IsFeedlessUser (is_user c.user) (removed_user issuer c) rows.users
-        (λ user found h. record { id = h.id; groups = all-drop (λ (connection : Connection). IsFeedless connection.group) (is_to (group_or_current issuer c.group)) user.connects h.groups }) are.users;
+        (λ user found h. record { id = h.id; groups = all-drop_row (λ (connection : Connection). IsFeedless connection.group) (is_to (group_or_current issuer c.group)) user.connects h.groups }) are.users;
     groups = are.groups;
     classes = are.classes;
   }

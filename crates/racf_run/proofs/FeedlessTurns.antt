@@ -6,6 +6,7 @@ use Rattle.std.proofs.lemmas.List.Sums.{AllPass-from_list_all}
 use Rattle.racf_outside.specs.Lines.{NoFeed}
 use Rattle.racf_profiles.specs.declared.rows.Rows.{Rows}
 use Rattle.racf_profiles.specs.State.{restart}
+use Rattle.racf_profiles.proofs.EditLaws.{all-drop_row}
 use Rattle.acee.specs.declared.acee.Acee.{Acee}
 use Rattle.acee.specs.declared.request.VerifyRequest.{VerifyRequest}
 use Rattle.acee.specs.declared.request.VerifyFault.{VerifyFault}
@@ -29,12 +30,13 @@ use Rattle.request_files.specs.Acees.{is_named, acee_named, put_refusal, most_ac
 use Rattle.request_files.specs.Answers.{numbered, refused_words, unbuilt_words, verified_words, verify_fault_words, deleted_words, decision_words, answer_line, never_line}
 use Rattle.request_files.specs.Grammar.{Access, Line, Verify, Auth, Fastauth, Delete, After, Skip, read}
 use Rattle.request_files.specs.Worked as request
-use Rattle.lawful_commands.proofs.RowLists.{all-push, all-drop}
+use Rattle.lawful_commands.proofs.RowLists.{all-push}
 use Rattle.racf_run.specs.declared.statement.Statement.{Statement}
 use Rattle.racf_run.specs.declared.statement.Statement.TheVariants as item
 use Rattle.racf_run.specs.declared.reply.Refusal.{Refusal}
 use Rattle.racf_run.specs.declared.reply.Refusal.TheVariants as refusal
-use Rattle.racf_run.specs.Replies.{syntax_words, refusal_words, reply_line}
+use Rattle.racf_desk.specs.Words.{syntax_words}
+use Rattle.racf_run.specs.Replies.{refusal_words, reply_line}
 use Rattle.racf_run.specs.Commands.{issuer, is_other_command, found_command, read_command, most_number, unless_spent, conflict_refusal, refusal_of}
 use Rattle.racf_run.specs.Requests.{is_unbuilt_line}
 use Rattle.racf_run.specs.Stream as s
@@ -115,7 +117,7 @@ module _ (number : ℕ) (rows : Rows) (acees : List NamedAcee) (are : AreFeedles
   works-delete name None h = works-refused (NoAcee name) h
   works-delete name (Some acee) h = record {
     line = line number deleted_words refl;
-    acees = all-drop (λ (entry : NamedAcee). IsFeedlessAcee entry.acee) (is_named name) acees groups;
+    acees = all-drop_row (λ (entry : NamedAcee). IsFeedlessAcee entry.acee) (is_named name) acees groups;
   }
 
   works-line : (read : Line) → IsFeedlessLine read → Works number (request.line_worked (s.imaged number rows) acees read)

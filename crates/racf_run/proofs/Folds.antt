@@ -1,7 +1,7 @@
 -- A machine's state and output over one list of items and then another.
 use Rattle.std.proofs.Common.{◌≡◌, ℕ, List, [], ◌∷◌, ◌++◌, None, Some, refl, sym, ◌∙◌, ap, append_assoc, append-nil}
 use Rattle.std.specs.Prelude.{Option}
-use Rattle.std.specs.Io.KnownBytes.{prepend_known, append_known}
+use Rattle.std.specs.Io.KnownBytes.{append_known}
 use Rattle.racf_run.specs.Runs.{Machine, after, output}
 
 pub after-append : {S I : Type 0} (m : Machine S I) (items more : List I) (s : S) → after m (items ++ more) s ≡ after m more (after m items s)
@@ -20,11 +20,3 @@ append_known-append (Some bytes) xs ys = ap Some (sym (append_assoc bytes xs ys)
 pub append_known-nil : (known : Option (List ℕ)) → append_known known [] ≡ known
 append_known-nil None = refl
 append_known-nil (Some bytes) = ap Some (append-nil bytes)
-
-pub prepend_known-append : (xs ys : List ℕ) (known : Option (List ℕ)) → prepend_known (xs ++ ys) known ≡ prepend_known xs (prepend_known ys known)
-prepend_known-append xs ys None = refl
-prepend_known-append xs ys (Some bytes) = ap Some (append_assoc xs ys bytes)
-
-pub prepend_known-nil : (known : Option (List ℕ)) → prepend_known [] known ≡ known
-prepend_known-nil None = refl
-prepend_known-nil (Some bytes) = refl

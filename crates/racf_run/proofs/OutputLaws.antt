@@ -1,7 +1,8 @@
 -- The output of an input as the lines of its statements, and its status as what they say.
-use Rattle.std.proofs.Common.{◌≡◌, ℕ, Bool, true, false, ◌||◌, List, [], ◌∷◌, ◌++◌, refl, ◌∙◌, ap}
+use Rattle.std.proofs.Common.{◌≡◌, ℕ, Bool, true, false, ◌||◌, List, [], ◌∷◌, ◌++◌, refl, sym, ◌∙◌, ap}
 use Rattle.std.specs.Prelude.{map, if◌then◌else◌}
 use Rattle.std.specs.List.{concat, list_any}
+use Rattle.std.proofs.Math.Bool.{or-false, or_assoc}
 use Rattle.racf_run.specs.declared.statement.Statement.{Statement}
 use Rattle.racf_run.specs.declared.status.Status.TheVariants.{Done, Refusals}
 use Rattle.racf_run.specs.Runs.{after, output}
@@ -20,17 +21,9 @@ unfolding stream
 turns-append [] more s = refl
 turns-append (i ∷ done) more s = ap (λ rest. record { item = i; before = s } ∷ rest) (turns-append done more (step i s))
 
-or_none : (b : Bool) → b ≡ (b || false)
-or_none true = refl
-or_none false = refl
-
-or_assoc : (a b c : Bool) → ((a || b) || c) ≡ (a || (b || c))
-or_assoc true b c = refl
-or_assoc false b c = refl
-
 any_says : (items : List Statement) (s : State) → (after stream items s).has_refused ≡ (s.has_refused || list_any says_refused (map printed (turns items s)))
 unfolding stream
-any_says [] s = or_none s.has_refused
+any_says [] s = sym (or-false s.has_refused)
 any_says (i ∷ items) s =
     any_says items (step i s)
     ∙ ap (λ b. b || list_any says_refused (map printed (turns items (step i s)))) (item_says i s)

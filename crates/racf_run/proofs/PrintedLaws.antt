@@ -4,8 +4,9 @@ use Rattle.std.specs.Prelude.{◌==◌, nat_eq, nat_le, Option, Result, codes, d
 use Rattle.std.specs.Fmt.{digits, digits_onto, digit_glyph}
 use Rattle.std.specs.List.{starts_with}
 use Rattle.std.proofs.Math.Nat.{mod-lt}
-use Rattle.std.proofs.lemmas.Bool.{ne_eqb}
+use Rattle.std.proofs.lemmas.Bool.{ne_eqb, or_right}
 use Rattle.std.proofs.lemmas.Bool.Decides.{nat_tests}
+use Rattle.std.proofs.Math.Bool.{or-false}
 use Rattle.acee.specs.declared.acee.Acee.{Acee}
 use Rattle.acee.specs.declared.request.VerifyRequest.{VerifyRequest}
 use Rattle.acee.specs.declared.request.VerifyFault.{VerifyFault}
@@ -176,25 +177,17 @@ module _ (image : Imaged) (acees : List NamedAcee) where
 abbrev Says : State → Answer → Type 0
 Says before a = a.state.has_refused ≡ (before.has_refused || says_refused a.text)
 
-or_true : (b : Bool) → true ≡ (b || true)
-or_true true = refl
-or_true false = refl
-
-or_false : (b : Bool) → b ≡ (b || false)
-or_false true = refl
-or_false false = refl
-
 says_either : (before : State) (b : Bool) (x y : Answer) → Says before x → Says before y → Says before (if b then x else y)
 says_either before true x y p q = p
 says_either before false x y p q = q
 
 says_refuse : (why : Refusal) (before : State) → Says before (s.refuse why before)
 unfolding reply_line
-says_refuse why before = or_true before.has_refused ∙ ap (λ b. before.has_refused || b) (sym (refused_says before.number (refusal_words why)))
+says_refuse why before = sym (or_right before.has_refused true refl) ∙ ap (λ b. before.has_refused || b) (sym (refused_says before.number (refusal_words why)))
 
 says_accept : (fields : CommandFields) (before : State) → Says before (s.accept fields before)
 unfolding reply_line
-says_accept fields before = or_false before.has_refused ∙ ap (λ b. before.has_refused || b) (sym (numbered_says (before.number + 1) (codes "ACCEPTED")))
+says_accept fields before = sym (or-false before.has_refused) ∙ ap (λ b. before.has_refused || b) (sym (numbered_says (before.number + 1) (codes "ACCEPTED")))
 
 says_unless : (why : Option Refusal) (fields : CommandFields) (before : State) → Says before (s.unless_refused why fields before)
 says_unless (Some why) fields before = says_refuse why before

@@ -23,9 +23,9 @@ use Rattle.racf_run.specs.Joining.{role_of, last_command}
 use Rattle.racf_run.specs.NextStatement.{IsWalked, TakesStatements, TakesFront, TakesTooMuch, NextsStatement}
 use Rattle.racf_run.specs.NextRole.{EndsCommand, GivesRole, NextsRole, ReadsRole, ReadsEnd}
 use Rattle.racf_run.specs.Script.{stream}
-use Rattle.racf_run.proofs.Folds.{prepend_known-append, prepend_known-nil}
 use Rattle.racf_run.proofs.FrontLaws.{IsFront, IsFront-none, IsFront-more, IsFront-walked, IsFront-last_front, IsFront-last, IsFront-end, IsFront-none_whole, no_items}
 use Rattle.racf_outside.proofs.Rises.{Rose-later}
+use Rattle.racf_outside.proofs.Bytes.{prepend-append, prepend-nil}
 
 -- Whether anything was read of the statement.
 abbrev pub HasBegun : Option Front → List ℕ → Reader → Reader → Type 0
@@ -45,7 +45,7 @@ pub Taken-none : (reader : Reader) → Taken None reader reader
 Taken-none reader =
     record {
       bytes = [];
-      taken = sym (prepend_known-nil reader.unread);
+      taken = sym (prepend-nil reader.unread);
       counted = omega arith;
       has_begun = refl;
       goes_on = λ e. IsFront-none;
@@ -62,7 +62,7 @@ some_bytes bytes raw false some = omega (arith, length-append bytes (raw ++ 10 �
 some_bytes bytes raw true some = omega (arith, length-append bytes (raw ++ []), length-append raw [], some refl)
 
 taken_more : (begun : Option Front) (old mid new : Reader) (more : List ℕ) → (w : Taken begun old mid) → mid.unread ≡ prepend_known more new.unread → old.unread ≡ prepend_known (w.bytes ++ more) new.unread
-taken_more begun old mid new more w h = w.taken ∙ ap (λ known. prepend_known w.bytes known) h ∙ sym (prepend_known-append w.bytes more new.unread)
+taken_more begun old mid new more w h = w.taken ∙ ap (λ known. prepend_known w.bytes known) h ∙ sym (prepend-append w.bytes more new.unread)
 
 counted_more : (begun : Option Front) (old mid new : Reader) (more : List ℕ) → (w : Taken begun old mid) → new.passed ≡ mid.passed + length more → new.passed ≡ old.passed + length (w.bytes ++ more)
 counted_more begun old mid new more w h = omega (arith, h, w.counted, length-append w.bytes more)

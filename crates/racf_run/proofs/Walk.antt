@@ -6,11 +6,12 @@ use Rattle.std.specs.Io.KnownBytes.{prepend_known, append_known}
 use Rattle.std.proofs.lemmas.List.{take-append-le, take_all}
 use Rattle.racf_outside.specs.Reader.{Reader, at_start}
 use Rattle.racf_outside.specs.Next.{TakesEnd}
+use Rattle.racf_outside.proofs.Bytes.{prepend-append, prepend-nil}
 use Rattle.racf_run.specs.declared.status.Status.TheVariants.{Done, Refusals, ReadFault, WriteFault, NoMemory, InputTooLong}
 use Rattle.racf_run.specs.Runs.{Machine, after, output, BeginsWith, Ran, WroteAll}
 use Rattle.racf_run.specs.Gathering.{Settles, IsCutShort}
 use Rattle.racf_run.specs.NextStatement.{IsWalked, IsLast, TakesStatements, TakesFront, TakesTooMuch}
-use Rattle.racf_run.proofs.Folds.{after-append, output-append, append_known-append, append_known-nil, prepend_known-append, prepend_known-nil}
+use Rattle.racf_run.proofs.Folds.{after-append, output-append, append_known-append, append_known-nil}
 use Rattle.racf_run.proofs.CutLaws.{IsFrontOf, cut_in, begins_before}
 
 -- The reader has given the items `done`, the machine stands at s, and the sink, which held `before`, holds `now`; the
@@ -32,7 +33,7 @@ Walk-none m source before faults =
     record {
       read = [];
       done = [];
-      given = sym (prepend_known-nil source);
+      given = sym (prepend-nil source);
       counted = refl;
       goes_on = λ h. record { whole = λ more. refl; all = λ more. refl };
       last = λ h. cc;
@@ -60,7 +61,7 @@ Walk-items m items bytes source old new s t before now gathered more w taken wor
     record {
       read = w.read ++ bytes;
       done = w.done ++ items;
-      given = w.given ∙ ap (λ known. prepend_known w.read known) taken.taken ∙ sym (prepend_known-append w.read bytes new.unread);
+      given = w.given ∙ ap (λ known. prepend_known w.read known) taken.taken ∙ sym (prepend-append w.read bytes new.unread);
       counted = taken.counted ∙ ap (λ n. n + length bytes) w.counted ∙ sym (length-append w.read bytes);
       goes_on = λ h. IsWalked-more m w.read bytes w.done items (w.goes_on taken.begun) (taken.goes_on h);
       last = λ h. IsWalked-last m w.read bytes w.done items new.unread (w.goes_on taken.begun) (taken.last h);
@@ -176,7 +177,7 @@ Walk-read_fault m bytes source old new s before now then gathered w wrote front 
       read = w.read ++ bytes;
       more = new.unread;
       written = output m w.done m.start;
-      given = w.given ∙ ap (λ known. prepend_known w.read known) front.taken ∙ sym (prepend_known-append w.read bytes new.unread);
+      given = w.given ∙ ap (λ known. prepend_known w.read known) front.taken ∙ sym (prepend-append w.read bytes new.unread);
       gained = written_all m source old s before now then gathered w wrote;
       wrote =
           record {
@@ -197,7 +198,7 @@ Walk-too_long m bytes next source left old new s before now then gathered w wrot
       given =
           w.given
           ∙ ap (λ known. prepend_known w.read known) much.taken
-          ∙ sym (prepend_known-append w.read (bytes ++ next ∷ []) new.unread)
+          ∙ sym (prepend-append w.read (bytes ++ next ∷ []) new.unread)
           ∙ ap (λ bs. prepend_known bs new.unread) (sym (append_assoc w.read bytes (next ∷ [])));
       gained = written_all m source old s before now then gathered w wrote;
       wrote =

@@ -1,5 +1,5 @@
 -- What a command is answered by: why it is refused, or that it is accepted.
-use Rattle.std.specs.Prelude.{ℕ, ◌^◌, Bool, ◌||◌, nat_le, Option, None, Some, Result, Ok, Err, List, map, codes, unwrap_or, refl, if◌then◌else◌}
+use Rattle.std.specs.Prelude.{ℕ, Bool, ◌||◌, nat_le, Option, None, Some, Result, Ok, Err, List, map, codes, unwrap_or, refl, if◌then◌else◌}
 use Rattle.std.specs.Str.{bytes_eq}
 use Rattle.command_words.specs.Bytes.{upper}
 use Rattle.command_words.specs.FrontWords.{first_word}
@@ -13,6 +13,7 @@ use Rattle.command_parser.specs.CommandOf.{command_in}
 use Rattle.racf_profiles.specs.declared.rows.Rows.{Rows}
 use Rattle.command_conflicts.specs.declared.conflict.Conflict.{Conflict}
 use Rattle.command_conflicts.specs.Conflicts.{conflict_of}
+pub use Rattle.racf_desk.specs.Outcome.{most_number}
 use Rattle.racf_run.specs.declared.reply.Refusal.{Refusal}
 use Rattle.racf_run.specs.declared.reply.Refusal.TheVariants as refusal
 
@@ -39,10 +40,6 @@ unfoldable pub read_command : List ℕ → Result CommandFields Refusal
 read_command text =
     if is_other_command text then Err refusal.NotBuilt
     else found_command (command_in issuer.id text) (fault issuer.id text)
-
--- the last number that a command gets
-abbrev pub most_number : ℕ
-most_number = 2 ^ 62
 
 -- Why a command is refused, with this number before it and over these rows, if it is: what it conflicts with, and
 -- behind that the numbers are spent.

@@ -16,7 +16,6 @@ mod input;
 mod joining;
 pub mod laws;
 mod mark;
-mod refusal_words;
 mod replies;
 mod reply;
 mod requests;

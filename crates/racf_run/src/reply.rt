@@ -3,10 +3,10 @@
 ghost use Rattle.std.specs.Prelude.{◌≡◌, ◌++◌, OnOk};
 ghost use Rattle.racf_run.specs.Replies.{refusal_words, reply_words, reply_line};
 
-use crate::refusal_words::{write_conflict, write_syntax};
 use command_parser::Syntax;
 use itoa::Buffer;
 use racf_database::Conflict;
+use racf_desk::Refusal as OfCommand;
 use std::alloc::AllocError;
 
 /// Why a line was refused.
@@ -39,13 +39,10 @@ impl Refusal {
         ensures { OnOk result (out.new.items ≡ out.old.items ++ refusal_words self.now) }
     {
         match self {
-            Refusal::Syntax(fault) => {
-                out.extend_from_slice(b"SYNTAX ")?;
-                write_syntax(fault, out)
-            }
-            Refusal::Conflict(conflict) => write_conflict(conflict, out),
-            Refusal::NumberSpent => out.extend_from_slice(b"NUMBERSPENT"),
-            Refusal::NotBuilt => write_conflict(&Conflict::NotBuilt, out),
+            Refusal::Syntax(fault) => OfCommand::Syntax(*fault).write(out),
+            Refusal::Conflict(conflict) => OfCommand::Conflict(*conflict).write(out),
+            Refusal::NumberSpent => OfCommand::NumberSpent.write(out),
+            Refusal::NotBuilt => OfCommand::Conflict(Conflict::NotBuilt).write(out),
             Refusal::LineTooLong => out.extend_from_slice(b"LINETOOLONG"),
         }
     }

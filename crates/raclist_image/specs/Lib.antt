@@ -1,7 +1,6 @@
 pub mod Imaged
 pub mod Facts
 pub mod Flags
-pub mod KeptProfiles
 pub mod KeptClasses
 pub mod KeptState
 pub mod KeptImage

@@ -23,13 +23,11 @@ pub struct ClassImage {
 }
 
 impl Model for ClassImage {
-    ghost use Rattle.raclist_image.specs.Imaged.{ClassImaged};
+    ghost use Rattle.class_profiles.specs.Table.{ProfilesOfKind};
 
-    ghost Value = { ClassImaged };
+    ghost Value = { ProfilesOfKind };
 
-    ghost use Rattle.raclist_image.specs.KeptProfiles.{profiles_in};
-
-    ghost view = { profiles_in };
+    ghost view = { λ image. image.profiles };
 }
 
 impl ClassImage {

@@ -1,4 +1,5 @@
 mod LineRows
 mod RequestRows
+mod IssuerRows
 pub mod NumberLaws
 pub mod RowLaws

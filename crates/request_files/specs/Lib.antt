@@ -1,5 +1,6 @@
 pub mod Spellings
 pub mod Grammar
+pub mod IssuerLines
 pub mod Seen
 pub mod Answers
 pub mod Acees

@@ -42,7 +42,8 @@ module _ (image : Imaged) (acees : List NamedAcee) where
   abbrev pub unbuilt : Outcome
   unbuilt = refused_with (numbered image.generation unbuilt_words)
 
-  -- VERIFY puts the ACEE of a user who is verified. It asks whether one can be put before it verifies. A label isn't built.
+  -- VERIFY puts the ACEE of a user who is verified. It asks whether one can be put before it verifies. A label isn't
+  -- built.
   abbrev pub verify_told : List ℕ → Result Acee VerifyFault → Outcome
   verify_told name (Ok acee) = record { text = numbered image.generation verified_words; refused = false; acees = with_acee name acee acees }
   verify_told name (Err fault) = answered (numbered image.generation (verify_fault_words fault))

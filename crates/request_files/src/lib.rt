@@ -2,7 +2,7 @@
 //!
 //! [`read_line`] reads a [`RequestLine`] or its refusal, [`respond`] works it on an image and an [`AceeTable`], and writes
 //! the answer. The checks of VERIFY and the decisions are those of `acee` and `decision`; `racf_run` hands the lines of a
-//! stream on.
+//! stream on. [`read_issuer`] reads the line of a stream that names the issuer of its commands.
 //!
 //! ```
 //! let mut acees = AceeTable::new(alloc)?;
@@ -13,6 +13,7 @@
 
 mod acees;
 mod answers;
+mod issuer_line;
 mod line;
 mod next_words;
 mod numbers;
@@ -23,6 +24,7 @@ mod working;
 
 pub use acees::{AceeTable, NamedAcee};
 pub use answers::{answer_text, unbuilt_word};
+pub use issuer_line::{NamedIssuer, read_issuer};
 pub use line::{LineRefusal, RequestLine, read_line};
 pub use working::respond;
 

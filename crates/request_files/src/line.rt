@@ -47,7 +47,7 @@ pub enum LineRefusal {
 }
 
 /// The most bytes of a line.
-const LONGEST: usize = 4096;
+pub(crate) const LONGEST: usize = 4096;
 
 /// What a line asks for. Words are parted by blanks and tabs, and letters are folded to upper case:
 /// `VERIFY a user`, with `GROUP(g)`, `APPL(x)`, `SECLABEL(l)` and one of `TERMINAL(t)`, `CONSOLE(c)`, `JESINPUT(j)` and

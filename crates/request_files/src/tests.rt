@@ -1,7 +1,7 @@
 //! Lines with what they ask for and with the places of what doesn't fit, and the life of an ACEE. What is answered to lines
 //! is tested through the program, on stored streams.
 
-use crate::{AceeTable, LineRefusal, RequestLine, read_line};
+use crate::{AceeTable, LineRefusal, NamedIssuer, RequestLine, read_issuer, read_line};
 use access_levels::{Attributes, Categories, Id};
 use acee::{Acee, AceeGroups};
 use std::alloc::Global;
@@ -48,6 +48,50 @@ fn words_that_do_not_fit(rt: HostRuntime) {
     for (line, place) in rows {
         assert_eq!(rt; bad_place(line), place);
     }
+}
+
+/// Where a line that names the issuer is bad, or 0.
+fn bad_issuer(line: &[u8]) -> u32 {
+    match read_issuer(line) {
+        Err(LineRefusal::BadLine(place)) => place,
+        _ => 0,
+    }
+}
+
+#[test]
+fn issuers_that_do_not_fit(rt: HostRuntime) {
+    let rows: [(&[u8], u32); 8] = [
+        (b"*ISSUER", 8),
+        (b"*ISSUER  ", 10),
+        (b"*ISSUER 9X", 9),
+        (b"*ISSUER A,GROUP(B)", 9),
+        (b"*ISSUER A GROUP", 11),
+        (b"*ISSUER A GROUP (B)", 11),
+        (b"*ISSUER A GROUP(TOOLONGID)", 11),
+        (b" *ISSUER A GROUP(B) X", 21),
+    ];
+    for (line, place) in rows {
+        assert_eq!(rt; bad_issuer(line), place);
+    }
+}
+
+#[test]
+fn issuers_that_are_named(rt: HostRuntime) -> Result<(), Fail> {
+    let ann = Id::read(b"ANN")?;
+    let sys1 = Id::read(b"SYS1")?;
+    assert!(rt;
+        read_issuer(b"*ISSUER ann")
+            == Ok(NamedIssuer {
+                id: ann,
+                group: None
+            })
+    );
+    let named = NamedIssuer {
+        id: ann,
+        group: Some(sys1),
+    };
+    assert!(rt; read_issuer(b"\t*issuer\tAnn  Group(sys1) ") == Ok(named));
+    Ok(())
 }
 
 /// What a line asks for.

@@ -13,6 +13,7 @@ use Rattle.group_tree.specs.Groups.{GroupTree, at_group}
 use Rattle.group_tree.specs.Answers.{CanAdd, AddRefused, CanMove, MoveRefused, OwnerRefused, CanRemove, RemoveRefused}
 use Rattle.group_tree.proofs.Rows.{same, itself, turned}
 use Rattle.group_tree.proofs.Edits.{one_there}
+use Rattle.group_tree.proofs.Stored.{at_group-absent}
 use Rattle.row_tables.specs.ChangedRow.{at_row}
 use Rattle.row_tables.proofs.RowLaws.{put_row-at_row}
 
@@ -45,10 +46,6 @@ module _ {X : Type 0} (it : X → Bool) where
       by false f rest = ap (λ ys. x ∷ ys) (rest f)
 
 module _ (id : List ℕ) (change : Group → Group) where
-  unnamed : (groups : List Group) → AllByRecursion (λ y. bytes_eq id y ≡ false) (map (λ (g : Group). g.id) groups) → at_group id change groups ≡ groups
-  unnamed [] h = refl
-  unnamed (g ∷ gs) h = ap (λ b. cond b (change g) g ∷ at_group id change gs) (turned g.id id ∙ h.0) ∙ ap (λ rest. g ∷ rest) (unnamed gs h.1)
-
   -- where no two groups have one name, the change is of one
   pub at_group-at_row : (groups : List Group) → IsDistinct bytes_eq (map (λ (g : Group). g.id) groups) → at_group id change groups ≡ at_row (is_group id) change groups
   at_group-at_row [] distinct = refl
@@ -58,7 +55,7 @@ module _ (id : List ℕ) (change : Group → Group) where
       by true t rest =
           let others : AllByRecursion (λ y. bytes_eq id y ≡ false) (map (λ (h : Group). h.id) gs) =
           subst (λ n. AllByRecursion (λ y. bytes_eq n y ≡ false) (map (λ (h : Group). h.id) gs)) (same g.id id t) (IsDistinct-head bytes_eq g.id (map (λ (h : Group). h.id) gs) distinct) in
-          ap (λ rest. change g ∷ rest) (unnamed gs others)
+          ap (λ rest. change g ∷ rest) (at_group-absent change id gs others)
       by false t rest = ap (λ ys. g ∷ ys) rest
 
   pub at_group-put_row : (groups : List Group) (old : Group) → IsDistinct bytes_eq (map (λ (g : Group). g.id) groups) → find_group groups id ≡ Some old → at_group id change groups ≡ put_row (is_group id) (change old) groups

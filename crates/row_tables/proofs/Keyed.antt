@@ -1,5 +1,5 @@
 -- Rows of any type in a map, each under its own name: one more, and one less.
-use Rattle.std.proofs.Common.{◌≡◌, ℕ, Bool, true, false, cond, map, List, [], ◌∷◌, bytes_eq, refl, sym, ap, ◌∙◌}
+use Rattle.std.proofs.Common.{◌≡◌, ℕ, Bool, true, false, cond, List, [], ◌∷◌, bytes_eq, refl, sym, ap, ◌∙◌}
 use Rattle.std.specs.Map.{keys_of, values_of, remove_entry}
 use Rattle.indexmap.specs.IndexMap.{insert_entry}
 use Rattle.racf_profiles.specs.Edits.{put_row, drop_row}

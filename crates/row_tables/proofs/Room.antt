@@ -1,5 +1,5 @@
 -- The room that edits leave, and edits that can be made where there is more.
-use Rattle.std.proofs.Common.{◌≡◌, ◌⊎◌, ℕ, zero, suc, ◌+◌, ◌-◌, ◌<◌, ◌≤◌, Bool, true, false, cond, List, [], ◌∷◌, Option, None, Some, refl, sym, ap, subst, ◌∙◌, arith, bytes_eq}
+use Rattle.std.proofs.Common.{◌≡◌, ◌⊎◌, ℕ, ◌+◌, ◌≤◌, Bool, true, false, cond, List, [], ◌∷◌, Option, None, Some, refl, sym, ap, subst, ◌∙◌, arith, bytes_eq}
 use Rattle.std.specs.Prelude.{MatchOption}
 use Rattle.std.proofs.lemmas.Slice.Eq.{bytes_eq-Decides}
 use Rattle.racf_profiles.specs.declared.groups.Group.{Group}
@@ -10,9 +10,7 @@ use Rattle.racf_profiles.specs.declared.edits.Edit.{Edit}
 use Rattle.racf_profiles.specs.declared.edits.Edit.TheVariants.{PutUser, DropUser, PutGroup, DropGroup, PutProfile, DropProfile, PutOptions, PutClass, List as ListCopy, Unlist}
 use Rattle.racf_profiles.specs.Lookup.{is_class, find_group}
 use Rattle.racf_profiles.specs.Edits.{at_class, with_profile, without_profile, with_flags, with_listed, edited, changed}
-use Rattle.group_tree.specs.Groups.{GroupTree}
-use Rattle.class_profiles.specs.Classes.{ClassList, CanPutIn, room_among}
-use Rattle.row_tables.specs.UserList.{CanPut}
+use Rattle.class_profiles.specs.Classes.{room_among}
 use Rattle.row_tables.specs.Tables.{Tables}
 use Rattle.row_tables.specs.Applying.{CanMake, CanApply, CanAddGroup, CanMoveGroup, HasAtLeast, tables_after, less_room, one_less, puts_into, puts_user, puts_group}
 

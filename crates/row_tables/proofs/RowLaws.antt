@@ -35,14 +35,6 @@ module _ {X : Type 0} (it : X → Bool) where
             omega (arith, rest, sum_by-cons weight x (drop_row it xs), sum_by-cons weight x xs) in
             now
 
-  pub length-drop_row-le : (rows : List X) → length (drop_row it rows) ≤ length rows
-  length-drop_row-le [] = omega arith
-  length-drop_row-le (x ∷ xs) = by (it x) (length-drop_row-le xs)
-    where
-      by : (b : Bool) → length (drop_row it xs) ≤ length xs → length (cond b xs (x ∷ drop_row it xs)) ≤ length (x ∷ xs)
-      by true rest = omega arith
-      by false rest = omega (arith, rest)
-
   -- a row that is there, put in its place
   pub put_row-at_row : (change : X → X) (row : X) (rows : List X) → find it rows ≡ Some row → put_row it (change row) rows ≡ at_row it change rows
   put_row-at_row change row [] found = cc

@@ -1,14 +1,15 @@
 -- When edits can be made without memory.
-use Rattle.std.specs.Prelude.{◌≡◌, ◌≢◌, ◌⊎◌, ℕ, ◌-◌, ◌<◌, ◌≤◌, Bool, true, false, if◌then◌else◌, length, List, [], ◌∷◌, Some, MatchOption, IsSome, IsTrue, find}
+use Rattle.std.specs.Prelude.{◌≡◌, ◌≢◌, ◌⊎◌, ℕ, ◌-◌, ◌<◌, ◌≤◌, Bool, true, false, not, ◌&&◌, if◌then◌else◌, length, List, [], ◌∷◌, Some, MatchOption, is_some, IsSome, IsTrue, find}
 use Rattle.std.specs.List.{list_any}
 use Rattle.std.specs.Str.{bytes_eq}
 use Rattle.racf_profiles.specs.declared.groups.Group.{Group}
 use Rattle.racf_profiles.specs.declared.class_rows.ClassRow.{ClassRow}
 use Rattle.racf_profiles.specs.declared.options.Options.{Options}
+use Rattle.racf_profiles.specs.declared.rows.Rows.{Rows}
 use Rattle.racf_profiles.specs.declared.edits.Edit.{Edit}
 use Rattle.racf_profiles.specs.declared.edits.Edit.TheVariants.{PutUser, DropUser, PutGroup, DropGroup, PutProfile, DropProfile, PutOptions, PutClass, List as ListCopy, Unlist}
 use Rattle.racf_profiles.specs.NewDatabase.{sys1}
-use Rattle.racf_profiles.specs.Lookup.{is_class, find_group}
+use Rattle.racf_profiles.specs.Lookup.{is_user, is_class, find_group, profile_of}
 use Rattle.racf_profiles.specs.Edits.{edited}
 use Rattle.racf_profiles.specs.Limits.{most_categories}
 use Rattle.group_tree.specs.Groups.{GroupTree}
@@ -98,9 +99,28 @@ abbrev pub CanApply : Tables → List Edit → Type 0
 CanApply tables [] = Unit {0}
 CanApply tables (edit ∷ edits) = CanMake tables edit × CanApply (tables_after edit tables) edits
 
--- There is room for as many more users and groups as there are edits, and for as many profiles in each class that one
--- of them puts a profile into.
-pub record HasRoom (tables : Tables) (edits : List Edit) : Type 0 where
-  pub users : length edits ≤ tables.spare_users
-  pub groups : length edits ≤ tables.spare_groups
-  pub profiles : (class : List ℕ) → IsTrue (list_any (puts_into class) edits) → IsSome (find (is_class class) tables.rows.classes) → length edits ≤ room_in class (classes_in tables)
+-- ---- an edit adds a row where it puts one that isn't there
+abbrev pub adds : Rows → Edit → Bool
+adds rows (PutUser user) = not (is_some (find (is_user user.id) rows.users))
+adds rows (PutGroup group) = not (is_some (find_group rows.groups group.id))
+adds rows (PutProfile class profile) = not (is_some (profile_of class profile.name rows))
+adds rows edit = false
+
+abbrev pub adds_user : Rows → Edit → Bool
+adds_user rows edit = puts_user edit && adds rows edit
+
+abbrev pub adds_group : Rows → Edit → Bool
+adds_group rows edit = puts_group edit && adds rows edit
+
+abbrev pub adds_into : List ℕ → Rows → Edit → Bool
+adds_into class rows edit = puts_into class edit && adds rows edit
+
+-- Where edits add users, groups or profiles of a class, there is room for this many of them.
+pub record HasRoomFor (more : ℕ) (edits : List Edit) (tables : Tables) : Type 0 where
+  pub users : IsTrue (list_any (adds_user tables.rows) edits) → more ≤ tables.spare_users
+  pub groups : IsTrue (list_any (adds_group tables.rows) edits) → more ≤ tables.spare_groups
+  pub profiles : (class : List ℕ) → IsTrue (list_any (adds_into class tables.rows) edits) → IsSome (find (is_class class) tables.rows.classes) → more ≤ room_in class (classes_in tables)
+
+-- Where edits add rows of a kind, there is room for as many of it as there are edits.
+abbrev pub HasRoom : Tables → List Edit → Type 0
+HasRoom tables edits = HasRoomFor (length edits) edits tables

@@ -1,17 +1,15 @@
 //! The tables: the rows of a database, by name.
-ghost use Rattle.std.specs.Prelude.{◌≡◌, ℕ, ◌≤◌, List, length, find, IsTrue, IsSome, IfOk, OnOk};
+ghost use Rattle.std.specs.Prelude.{◌≡◌, ◌≤◌, [], ◌∷◌, length, IsTrue, IfOk, OnOk, OnErr};
 ghost use Rattle.std.specs.List.{list_any};
 ghost use Rattle.racf_profiles.specs.NewDatabase.{no_options};
-ghost use Rattle.racf_profiles.specs.Lookup.{is_class};
 ghost use Rattle.racf_profiles.specs.Names.{connections};
 ghost use Rattle.racf_profiles.specs.Counts.{profile_count, entry_count};
 ghost use Rattle.racf_profiles.specs.Tree.{IsTree};
 ghost use Rattle.racf_profiles.specs.LawfulUsers.{AreUsers};
 ghost use Rattle.racf_profiles.specs.LawfulProfiles.{AreClasses};
 ghost use Rattle.racf_profiles.specs.Limits.{most_connections_in_all, most_profiles, most_entries_in_all, most_categories};
-ghost use Rattle.class_profiles.specs.Classes.{room_in};
 ghost use Rattle.row_tables.specs.Tables.{first_rows};
-ghost use Rattle.row_tables.specs.Applying.{HasRoom, puts_into};
+ghost use Rattle.row_tables.specs.Applying.{HasRoom, HasRoomFor, HasAtLeast, adds};
 
 use crate::user_table::UserTable;
 use access_levels::Id;
@@ -130,21 +128,53 @@ impl RowTables {
         })
     }
 
-    /// Makes room for as many more users and groups as there are edits, and for as many profiles in each class that
-    /// one of them puts a profile into.
+    /// Makes room for the rows that edits add: where one of them puts a user, a group or a profile of a class that isn't
+    /// there, room for as many of these as there are edits.
     ///
     /// # Errors
     ///
-    /// Want of memory: the rows are as they were.
+    /// Want of memory, where an edit adds a row: the rows are as they were.
     pub fn reserve(&mut self, edits: &[Edit]) -> Result<(), NoMemory>
         ensures rows { self.new.rows ≡ self.old.rows }
         ensures room { OnOk result (HasRoom self.new edits.now) }
+        ensures err { OnErr result (IsTrue (list_any (adds self.old.rows) edits.now)) }
     {
-        self.users.reserve(edits.len())?;
-        let Ok(()) = self.tree.reserve(edits.len()) else {
-            return Err(AllocError);
-        };
-        reserve_profiles(&mut self.classes, edits)
+        let more = edits.len();
+        for edit in edits {
+            self.reserve_for(edit, more)?;
+        }
+        Ok(())
+    }
+
+    /// Makes room for this many rows of the kind that the edit adds, if it adds one.
+    fn reserve_for(&mut self, edit: &Edit, more: usize) -> Result<(), NoMemory>
+        ensures kept { HasAtLeast self.old self.new }
+        ensures room { OnOk result (HasRoomFor more (edit.now ∷ []) self.new) }
+        ensures err { OnErr result (IsTrue (adds self.old.rows edit.now)) }
+    {
+        if !self.adds(edit) {
+            return Ok(());
+        }
+        match edit {
+            Edit::PutUser(_) => self.users.reserve(more),
+            Edit::PutGroup(_) => reserve_groups(&mut self.tree, more),
+            Edit::PutProfile(class, _) => self.classes.reserve(*class, more),
+            _ => Ok(()),
+        }
+    }
+
+    /// Whether the edit puts a row that isn't there.
+    fn adds(&self, edit: &Edit) -> bool
+        ensures { result ≡ adds self.now.rows edit.now }
+    {
+        match edit {
+            Edit::PutUser(user) => self.users.get(user.id).is_none(),
+            Edit::PutGroup(group) => self.tree.get(group.id).is_none(),
+            Edit::PutProfile(class, profile) => {
+                self.classes.profile(*class, &profile.name).is_none()
+            }
+            _ => false,
+        }
     }
 }
 
@@ -164,27 +194,15 @@ impl View for RowTables {
     }
 }
 
-/// Makes room for the profiles that edits put.
-fn reserve_profiles(classes: &mut ClassTables, edits: &[Edit]) -> Result<(), NoMemory>
-    ensures classes { classes.new.classes ≡ classes.old.classes }
-    ensures room { OnOk result ((class : List ℕ) → IsTrue (list_any (puts_into class) edits.now) → IsSome (find (is_class class) classes.old.classes) → length edits.now ≤ room_in class classes.new) }
+/// Makes room for this many groups.
+fn reserve_groups(tree: &mut Tree, more: usize) -> Result<(), NoMemory>
+    ensures groups { tree.new.groups ≡ tree.old.groups }
+    ensures room { OnOk result (more ≤ tree.new.spare) }
+    ensures kept { tree.old.spare ≤ tree.new.spare }
 {
-    let more = edits.len();
-    for edit in edits {
-        reserve_in(classes, edit, more)?;
-    }
-    Ok(())
-}
-
-/// Makes room for this many profiles in the class that the edit puts one into, if it does.
-fn reserve_in(classes: &mut ClassTables, edit: &Edit, more: usize) -> Result<(), NoMemory>
-    ensures classes { classes.new.classes ≡ classes.old.classes }
-    ensures room { OnOk result ((class : List ℕ) → IsTrue (puts_into class edit.now) → IsSome (find (is_class class) classes.old.classes) → more ≤ room_in class classes.new) }
-    ensures kept { (class : List ℕ) → room_in class classes.old ≤ room_in class classes.new }
-{
-    match edit {
-        Edit::PutProfile(class, _) => classes.reserve(*class, more),
-        _ => Ok(()),
+    match tree.reserve(more) {
+        Ok(()) => Ok(()),
+        Err(_) => Err(AllocError),
     }
 }
 

@@ -3,11 +3,12 @@ use Rattle.std.proofs.Common.{◌≡◌, ℕ, Bool, true, false, not, cond, List
 use Rattle.std.specs.List.{filter, find, list_all}
 use Rattle.std.specs.Str.{bytes_eq}
 use Rattle.std.proofs.lemmas.Slice.Eq.{bytes_eq-Decides}
+use Rattle.std.proofs.lemmas.Bool.{and_from}
 use Rattle.sorted_rows.specs.Sorted.{is_before, has_key, with_row, without_row}
 use Rattle.sorted_rows.proofs.KeyLaws.{before_not_behind, same_not_behind, other_behind}
-use Rattle.sorted_rows.proofs.RowLaws.{both, list_all_weaker, filter_passes, find_past}
+use Rattle.sorted_rows.proofs.RowLaws.{list_all_weaker, filter_passes, find_past}
 
--- keys that differ do so both ways
+-- keys that differ do so and_from ways
 pub turned : (a b : List ℕ) → bytes_eq a b ≡ false → bytes_eq b a ≡ false
 turned a b e =
     elim (bytes_eq b a) as (λ r. bytes_eq b a ≡ r → r ≡ false) [
@@ -91,7 +92,7 @@ module _ {R : Type 0} (key : R → List ℕ) where
     other e =
         elim (is_before k (key row)) as (λ b. is_before k (key row) ≡ b → find (has_key key k) (with_row key row rows) ≡ find (has_key key k) rows) [
           | true ↦ λ h. (
-              find_in_front (has_key key k) front (row ∷ back) (both (not (has_key key k row)) _ (ap not e) (not_behind (before_not_behind k (key row) h)))
+              find_in_front (has_key key k) front (row ∷ back) (and_from (not (has_key key k row)) _ (ap not e) (not_behind (before_not_behind k (key row) h)))
               ∙ find_kept (has_key key k) (λ x. is_before (key x) (key row)) (λ x f. subst (λ a. is_before a (key row) ≡ true) (sym (same k x f)) h) rows)
           | false ↦ λ h. (
               let h_row : is_before (key row) k ≡ true = other_behind k (key row) h (turned (key row) k e) in

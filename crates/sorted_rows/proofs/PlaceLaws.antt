@@ -3,11 +3,12 @@ use Rattle.std.proofs.Common.{◌≡◌, ◌+◌, ◌<◌, ℕ, Bool, true, fals
 use Rattle.std.specs.List.{filter, find, list_all, slice_get, position_or_len, insert, remove}
 use Rattle.std.proofs.lemmas.List.{take-append-drop}
 use Rattle.std.proofs.lemmas.List.Elements.{filter-append}
+use Rattle.std.proofs.lemmas.Bool.{not-true, and_from}
 use Rattle.pages.specs.Rising.{Rises}
 use Rattle.sorted_rows.specs.Sorted.{is_before, IsInOrder, has_key, with_row, without_row}
 use Rattle.sorted_rows.specs.Found.{is_from, IsFoundAt, IsMissingAt}
 use Rattle.sorted_rows.proofs.KeyLaws.{before_not_behind, from_before, before_not_same, behind_not_same, same_not_before, same_not_behind, other_behind}
-use Rattle.sorted_rows.proofs.RowLaws.{fails, both, list_all_weaker, filter_all, filter_none, find_past}
+use Rattle.sorted_rows.proofs.RowLaws.{list_all_weaker, filter_all, filter_none, find_past}
 
 one_plus : (n : ℕ) → 1 + n ≡ suc n
 one_plus n = omega arith
@@ -18,7 +19,7 @@ module _ {R : Type 0} (key : R → List ℕ) (k : List ℕ) where
   rises_in_order [] h = tt
   rises_in_order (x ∷ xs) h = (
     λ e. list_all_weaker (λ y. is_before (key x) (key y)) (is_from key k)
-        (λ y f. ap not (before_not_behind k (key y) (from_before k (key x) (key y) (fails (is_before (key x) k) e) f))) xs h.0,
+        (λ y f. ap not (before_not_behind k (key y) (from_before k (key x) (key y) (not-true (is_before (key x) k) e) f))) xs h.0,
     rises_in_order xs h.1,
   )
 
@@ -41,12 +42,12 @@ module _ {R : Type 0} (key : R → List ℕ) (k : List ℕ) where
       elim (is_before (key x) k) as (λ b. is_before (key x) k ≡ b → Parts (x ∷ xs) (position_or_len (is_from key k) (x ∷ xs)) (position_or_len (is_from key k) (x ∷ xs))) [
         | true ↦ λ e. (let on = place_on x xs e in
             let ih = missing_parts xs h.1 (λ row g. other row (ap (λ n. slice_get (x ∷ xs) n) on ∙ g)) in
-            subst (λ n. Parts (x ∷ xs) n n) (sym on) (record { front = both (is_before (key x) k) _ e ih.front; back = ih.back }))
+            subst (λ n. Parts (x ∷ xs) n n) (sym on) (record { front = and_from (is_before (key x) k) _ e ih.front; back = ih.back }))
         | false ↦ λ e. (let here = place_here x xs e in
             let own = other_behind (key x) k e (other x (ap (λ n. slice_get (x ∷ xs) n) here)) in
             subst (λ n. Parts (x ∷ xs) n n) (sym here) (record {
               front = refl;
-              back = both (is_before k (key x)) _ own (list_all_weaker (λ y. is_before (key x) (key y)) (λ y. is_before k (key y)) (λ y f. from_before k (key x) (key y) e f) xs h.0);
+              back = and_from (is_before k (key x)) _ own (list_all_weaker (λ y. is_before (key x) (key y)) (λ y. is_before k (key y)) (λ y f. from_before k (key x) (key y) e f) xs h.0);
             }))
       ] refl
 
@@ -71,7 +72,7 @@ module _ {R : Type 0} (key : R → List ℕ) (k : List ℕ) where
               whole = ap (λ l. x ∷ l) ih.whole;
               at = ih.at;
               same = ih.same;
-              parts = record { front = both (is_before (key x) k) _ e ih.parts.front; back = ih.parts.back };
+              parts = record { front = and_from (is_before (key x) k) _ e ih.parts.front; back = ih.parts.back };
             }))
         | false ↦ λ e. (let here = place_here x xs e in
             subst (λ n. Holds (x ∷ xs) n) (sym here) (record {
@@ -184,7 +185,7 @@ module _ {R : Type 0} (key : R → List ℕ) (k : List ℕ) where
         let own_back = same_not_behind (key it.row) k it.same in
         let front =
         keeps_front (λ row. is_before (key row) k) (take n xs) (it.row ∷ rest) it.parts.front
-        (both (not (is_before (key it.row) k)) (list_all (λ row. not (is_before (key row) k)) rest) (ap not own) (not_before rest it.parts.back)) in
+        (and_from (not (is_before (key it.row) k)) (list_all (λ row. not (is_before (key row) k)) rest) (ap not own) (not_before rest it.parts.back)) in
         let back =
         filter-append (λ row. is_before k (key row)) (take n xs) (it.row ∷ rest)
         ∙ ap (λ l. l ++ filter (λ row. is_before k (key row)) (it.row ∷ rest)) (filter_none (λ row. is_before k (key row)) (take n xs) (not_behind (take n xs) it.parts.front))

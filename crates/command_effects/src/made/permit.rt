@@ -47,10 +47,11 @@ fn standard_after(alloc: Global, command: &Permit, old: &[Entry]) -> Result<Vec<
     requires { command.now.delete ≡ false → length (standard_after command.now old.now) ≤ most_entries }
     ensures { IfOk result (λ list. list.items ≡ standard_after command.now old.now) }
 {
-    let list = Vec::from_slice(alloc, standard_reset(command.reset, old))?;
+    let kept = standard_reset(command.reset, old);
+    let whos = command.id.items.as_slice();
     match command.when {
-        Some(_) => Ok(list),
-        None => with_entries(command, list, command.id.items.as_slice()),
+        Some(_) => Vec::from_slice(alloc, kept),
+        None => with_entries(command, copy_with_room(alloc, kept, whos.len())?, whos),
     }
 }
 
@@ -63,13 +64,24 @@ fn conditional_after(
     requires { command.now.delete ≡ false → length (conditional_after command.now old.now) ≤ most_entries }
     ensures { IfOk result (λ list. list.items ≡ conditional_after command.now old.now) }
 {
-    let list = Vec::from_slice(alloc, conditional_reset(command.reset, old))?;
+    let kept = conditional_reset(command.reset, old);
+    let whos = command.id.items.as_slice();
     match command.when {
         Some(condition) => {
-            with_conditionals(command, &condition, list, command.id.items.as_slice())
+            let list = copy_with_room(alloc, kept, whos.len())?;
+            with_conditionals(command, &condition, list, whos)
         }
-        None => Ok(list),
+        None => Vec::from_slice(alloc, kept),
     }
+}
+
+/// The list, copied, with room for this many entries more, so that it is copied once.
+fn copy_with_room<T: Copy>(alloc: Global, list: &[T], more: usize) -> Result<Vec<T>, NoMemory>
+    ensures { IfOk result (λ copy. copy.items ≡ list.now) }
+{
+    let mut copy = Vec::with_capacity(alloc, list.len().saturating_add(more))?;
+    copy.extend_from_slice(list)?;
+    Ok(copy)
 }
 
 /// A standard list after RESET.

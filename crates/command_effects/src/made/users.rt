@@ -5,7 +5,7 @@ ghost use Rattle.command_effects.specs.Effects.{new_user, first_attributes, alte
 use super::classes::{classes_after, with_classes};
 use super::connects::{connects_after, first_connects, without_connect};
 use super::security::{label_given, level_given, with_categories, without_categories};
-use super::{group_or_current, owner_or_issuer, switched};
+use super::{owner_or_issuer, switched};
 use access_levels::{Attributes, Categories, Id, Text};
 use command_parser::{AddUser, AltUser, Connect, Ids, Issuer, Remove};
 use racf_profiles::{Classes, Connects, NoMemory, User};
@@ -21,7 +21,7 @@ pub(crate) fn new_user(
 ) -> Result<User, NoMemory>
     ensures { IfOk result (λ user. user ≡ new_user issuer.now command.now tables.now.rows) }
 {
-    let group = group_or_current(issuer, command.dfltgrp);
+    let group = issuer.group_or_current(command.dfltgrp);
     let name = name_or(alloc, &command.name, b"")?;
     let classes = with_classes(alloc, &[], command.clauth.items.as_slice())?;
     let connects = first_connects(alloc, group, command.authority)?;
@@ -84,7 +84,7 @@ pub(crate) fn connected_user(
 ) -> Result<User, NoMemory>
     ensures { IfOk result (λ user. user ≡ connected_user issuer.now command.now old.now) }
 {
-    let group = group_or_current(issuer, command.group);
+    let group = issuer.group_or_current(command.group);
     let items = connects_after(alloc, command, group, old.connects.items.as_slice())?;
     with_connects(alloc, old, Connects { items })
 }
@@ -98,7 +98,7 @@ pub(crate) fn removed_user(
 ) -> Result<User, NoMemory>
     ensures { IfOk result (λ user. user ≡ removed_user issuer.now command.now old.now) }
 {
-    let group = group_or_current(issuer, command.group);
+    let group = issuer.group_or_current(command.group);
     let items = without_connect(alloc, group, old.connects.items.as_slice())?;
     with_connects(alloc, old, Connects { items })
 }

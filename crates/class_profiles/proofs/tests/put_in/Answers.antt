@@ -10,7 +10,7 @@ use Rattle.racf_profiles.specs.LawfulProfiles.{AreClasses, kind_in}
 use Rattle.racf_profiles.specs.Limits.{most_profiles, most_class_profiles, most_entries_in_all}
 use Rattle.class_profiles.specs.Classes.{profile_in}
 use Rattle.racf_profiles.specs.Counts.{profile_count, entry_count, entries_in}
-use Rattle.class_profiles.proofs.Places.{name-found}
+use Rattle.racf_profiles.proofs.States.{same_class}
 use Rattle.class_profiles.proofs.tests.put_in.Goals as goal
 
 pub put-requires : goal.put-requires
@@ -22,7 +22,7 @@ put-requires c =
     let row : ClassRow = c.in-Some.row.now.row in
     let same = c.reserve.ensures.classes in
     let found : find (is_class class) old.classes ≡ Some row = sym c.in-Some.ensures in
-    let kind = ap (λ (n : Spelled). n.kind) c.in-Ok-profile.ensures.name ∙ c.in-Ok.ensures.kind ∙ c.kind.ensures ∙ c.profiles.ensures.kind ∙ ap kind_in (name-found class row old.classes found) in
+    let kind = ap (λ (n : Spelled). n.kind) c.in-Ok-profile.ensures.name ∙ c.in-Ok.ensures.kind ∙ c.kind.ensures ∙ c.profiles.ensures.kind ∙ ap kind_in (same_class class row old.classes found) in
     let there : IsSome (find (is_class class) old.classes) = subst (λ (o : Option ClassRow). IsSome o) (sym found) refl in
     let in_class : length row.profiles < most_class_profiles = omega (arith, c.len.ensures.count, ap length c.profiles-2.ensures.profiles) in
     let in_all : profile_count new.classes < most_profiles = omega (arith, c.count.ensures.count, ap profile_count same) in

@@ -9,7 +9,8 @@ use Rattle.racf_profiles.specs.Lookup.{is_class}
 use Rattle.racf_profiles.specs.Edits.{at_class, with_profile}
 use Rattle.class_profiles.specs.Classes.{ClassList, profile_in, room_in, CanPutIn}
 use Rattle.racf_profiles.specs.Counts.{profile_count, entries_in}
-use Rattle.class_profiles.proofs.Places.{placed, unplaced, read-at, at_class-absent, room-other, room-at, room-set, name-at, got-at}
+use Rattle.racf_profiles.proofs.EditLaws.{at_class-absent}
+use Rattle.class_profiles.proofs.Places.{placed, unplaced, read-at, room-other, room-at, room-set, name-at, got-at}
 use Rattle.class_profiles.proofs.Changes.{can-put, put-few, put-rows, put-lawful, put-counted, put-entries_counted, put-few_profiles, put-few_entries}
 use Rattle.class_profiles.proofs.class_tables.ClassTables.put.Goals as goal
 

@@ -8,8 +8,9 @@ use Rattle.racf_profiles.specs.Lookup.{is_class}
 use Rattle.racf_profiles.specs.Edits.{at_class, without_profile}
 use Rattle.class_profiles.specs.Classes.{ClassList, profile_in, room_in}
 use Rattle.racf_profiles.specs.Counts.{profile_count, entries_in}
+use Rattle.racf_profiles.proofs.EditLaws.{at_class-absent}
 use Rattle.class_profiles.specs.Summed.{rows_in}
-use Rattle.class_profiles.proofs.Places.{spares, placed, unplaced, read-at, at_class-absent, room-kept}
+use Rattle.class_profiles.proofs.Places.{spares, placed, unplaced, read-at, room-kept}
 use Rattle.class_profiles.proofs.Changes.{drop-rows, drop-lawful, drop-counted, drop-entries_counted}
 use Rattle.class_profiles.proofs.class_tables.ClassTables.remove.Goals as goal
 

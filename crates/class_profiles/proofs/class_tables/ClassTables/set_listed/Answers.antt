@@ -4,9 +4,10 @@ use Rattle.std.specs.List.{find}
 use Rattle.racf_profiles.specs.declared.class_rows.ClassRow.{ClassRow}
 use Rattle.racf_profiles.specs.Lookup.{is_class}
 use Rattle.racf_profiles.specs.Edits.{at_class, with_listed}
+use Rattle.racf_profiles.proofs.EditLaws.{at_class-absent}
 use Rattle.class_profiles.specs.Classes.{ClassList, room_in}
 use Rattle.class_profiles.specs.Summed.{rows_in}
-use Rattle.class_profiles.proofs.Places.{spares, placed, unplaced, read-at, at_class-absent, room-kept}
+use Rattle.class_profiles.proofs.Places.{spares, placed, unplaced, read-at, room-kept}
 use Rattle.class_profiles.proofs.Changes.{flag-rows, flag-lawful, flag-counted, flag-entries_counted}
 use Rattle.class_profiles.proofs.class_tables.ClassTables.set_listed.Goals as goal
 

@@ -6,8 +6,8 @@ use Rattle.profile_index.specs.Indexed.{AreOf}
 use Rattle.racf_profiles.specs.declared.profiles.Profile.{Profile}
 use Rattle.racf_profiles.specs.Lookup.{is_profile}
 use Rattle.racf_profiles.specs.Edits.{drop_row}
+use Rattle.racf_profiles.proofs.EditLaws.{drop_row-absent}
 use Rattle.class_profiles.specs.Paired.{entry_of, items_of}
-use Rattle.class_profiles.proofs.Order.{drop_row-absent}
 use Rattle.class_profiles.proofs.Pairs.{kinds-paired, none-named, of_kind-kind, of_kind-test, taken-items, taken-paired, taken-lawful}
 use Rattle.class_profiles.proofs.shared_profiles.SharedProfiles.without_profile.Goals as goal
 

@@ -3,8 +3,8 @@ use Rattle.std.proofs.Common.{◌≡◌, ◌∙◌, ◌+◌, Option, None, ap, s
 use Rattle.std.specs.List.{find}
 use Rattle.racf_profiles.specs.declared.profiles.Profile.{Profile}
 use Rattle.racf_profiles.specs.Lookup.{is_profile}
+use Rattle.racf_profiles.proofs.EditLaws.{drop_row-absent}
 use Rattle.class_profiles.specs.Paired.{items_of}
-use Rattle.class_profiles.proofs.Order.{drop_row-absent}
 use Rattle.class_profiles.proofs.Pairs.{none-named}
 use Rattle.class_profiles.proofs.table.ProfileTable.remove.Goals as goal
 

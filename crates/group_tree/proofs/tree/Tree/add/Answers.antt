@@ -1,11 +1,12 @@
 use Rattle.std.proofs.Common.{◌≡◌, ◌∙◌, None, Some, ap, sym, subst, arith}
 use Rattle.indexmap.specs.IndexMap.{values}
+use Rattle.access_levels.proofs.Options.{none_from_is_some}
 use Rattle.racf_profiles.specs.declared.groups.Group.{Group}
 use Rattle.group_tree.specs.Groups.{with_group}
 use Rattle.racf_profiles.specs.Lookup.{find_group}
 use Rattle.racf_profiles.specs.Tree.{IsTree}
 use Rattle.group_tree.specs.Answers.{CanAdd}
-use Rattle.group_tree.proofs.Edits.{tree-with_group, one_there, none_from_is_some}
+use Rattle.group_tree.proofs.Edits.{tree-with_group, one_there}
 use Rattle.group_tree.proofs.Stored.{looked, pushed}
 use Rattle.group_tree.proofs.tree.Tree.add.Goals as goal
 

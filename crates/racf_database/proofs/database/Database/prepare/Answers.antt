@@ -44,9 +44,9 @@ invariant_of-self-2 c =
     let free : conflict_of issuer fields tables.rows ≡ None = ap (conflict_of issuer fields) (same ∙ ap (λ v. v.rows) c.self.view_is) ∙ c.requires in
     let met : first_met (conflicts issuer fields tables.rows) ≡ None = behind (is_unbuilt fields) (conflicts issuer fields tables.rows) free in
     let of_rows : c.in_ok-edits.edits.items ≡ edits_of issuer fields tables.rows = c.in_ok-edits.ensures ∙ sym (ap (edits_of issuer fields) same) in
-    let made : c.in_ok-kept.kept.items ≡ edits_of issuer fields tables.rows = c.in_ok-kept.ensures ∙ c.as_slice.ensures.value ∙ of_rows in
+    let made : c.of.result.value.edits ≡ edits_of issuer fields tables.rows = ap (λ change. change.edits) c.of.ensures ∙ of_rows in
     let own : AreLawfulFields fields = c.fields_of_a_text_are_lawful.ensures issuer.id (canonical fields) fields (c.printed_is_read.ensures issuer.id) in
-    let room : HasRoom tables (edits_of issuer fields tables.rows) = subst (HasRoom tables) (c.as_slice-2.ensures.value ∙ of_rows) c.in_ok-reserve.ensures.room in
+    let room : HasRoom tables (edits_of issuer fields tables.rows) = subst (HasRoom tables) (c.as_slice.ensures.value ∙ of_rows) c.in_ok-reserve.ensures.room in
     let after : AreLawful (changed (edits_of issuer fields tables.rows) tables.rows) =
     subst AreLawful (sym (changed-edits_of issuer fields tables.rows met)) (c.commands_leave_lawful_rows.ensures issuer fields tables.rows lawful own free) in
     record {

@@ -1,8 +1,8 @@
 use Rattle.std.proofs.Common.{◌∙◌, Some, None, sym, ap, subst}
 use Rattle.std.specs.Prelude.{find}
 use Rattle.racf_profiles.specs.Lookup.{is_class}
-use Rattle.racf_profiles.proofs.States.{find-passes}
-use Rattle.raclist_image.proofs.Places.{at-is, none-is, found-at, same_class}
+use Rattle.racf_profiles.proofs.States.{same_class}
+use Rattle.racf_profiles.proofs.Places.{at-is, none-is, found-at}
 use Rattle.raclist_image.proofs.classes.ClassList.get.Goals as goal
 
 pub returns-in-Some-clause-class : goal.returns-in-Some-clause-class

@@ -1,5 +1,5 @@
 -- Each edit by the table that makes it.
-use Rattle.std.proofs.Common.{List, refl, ap, true, false, arith}
+use Rattle.std.proofs.Common.{List, refl, ap, arith}
 use Rattle.racf_profiles.specs.declared.users.User.{User}
 use Rattle.racf_profiles.specs.declared.groups.Group.{Group}
 use Rattle.racf_profiles.specs.declared.class_rows.ClassRow.{ClassRow}

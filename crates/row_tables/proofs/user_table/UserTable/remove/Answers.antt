@@ -6,8 +6,8 @@ use Rattle.racf_profiles.specs.Lookup.{is_user}
 use Rattle.racf_profiles.specs.Edits.{drop_row}
 use Rattle.racf_profiles.specs.Names.{connections, special_users, connected_to, special_user_count}
 use Rattle.racf_profiles.proofs.Named.{IsNamed}
+use Rattle.racf_profiles.proofs.EditLaws.{length-drop_row}
 use Rattle.row_tables.proofs.Keyed.{values-remove_entry, named-remove_entry}
-use Rattle.row_tables.proofs.RowLaws.{length-drop_row-le}
 use Rattle.row_tables.proofs.Counts.{part-le, dropped}
 use Rattle.row_tables.proofs.user_table.UserTable.remove.Goals as goal
 
@@ -26,7 +26,7 @@ invariant_of-self c =
       named = subst (IsNamed (λ (user : User). user.id)) (sym c.shift_remove.ensures.entries) (named-remove_entry (λ (user : User). user.id) c.args.id old.entries c.self.invariant.named);
       connections_counted = dropped connected_to _ _ c.args.id _ _ (ap (λ v. v.users) c.self.view_is) c.self.invariant.connections_counted c.share_of-share.ensures.connections ∙ ap connections (sym now);
       special_users_counted = dropped special_user_count _ _ c.args.id _ _ (ap (λ v. v.users) c.self.view_is) c.self.invariant.special_users_counted c.share_of-share.ensures.special_users ∙ ap special_users (sym now);
-      few_users = omega (arith, ap (λ (us : List User). length us) now, length-drop_row-le (is_user c.args.id) (values old), c.self.invariant.few_users);
+      few_users = omega (arith, ap (λ (us : List User). length us) now, length-drop_row (is_user c.args.id) (values old), c.self.invariant.few_users);
       few_connections = omega (arith, c.self.invariant.few_connections);
     }
 

@@ -1,0 +1,5 @@
+mod IssuerLaws
+pub mod TextLaws
+mod MakingLaws
+mod DeskLaws
+mod OutcomeRows

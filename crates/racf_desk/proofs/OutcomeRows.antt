@@ -1,0 +1,101 @@
+-- What commands by several issuers are answered, computed on the definitions.
+use Rattle.std.proofs.Common.{◌≡◌, ℕ, ◌^◌, List, [], ◌∷◌, map, Option, Some, None, Result, Ok, Err, codes, refl}
+use Rattle.command_grammar.specs.Canon.{canon}
+use Rattle.command_values.specs.ProfileNames.{form_in}
+use Rattle.command_grammar.specs.Reading.{parsed}
+use Rattle.command_parser.specs.Fields.{front, behind}
+use Rattle.command_parser.specs.CommandOf.{command_of}
+use Rattle.command_words.specs.Tokens.{tokens}
+use Rattle.command_conflicts.specs.Conflicts.{is_root, has_subgroup, has_connected, has_profile, meets, cycle, owner_not_superior, default_group, last_special, users_full, groups_full, connections_full, user_full, add_user_conflicts, alt_user_conflicts, del_user_conflicts, add_group_conflicts, alt_group_conflicts, del_group_conflicts, connect_conflicts, remove_conflicts}
+use Rattle.command_conflicts.specs.Required.{no_user, no_group, no_owner, no_named_group, no_class, name_taken, not_connected, default_not_connected, unknown_level, unknown_category, never_category, unknown_label}
+use Rattle.command_authority.specs.Requirements.{add_user_requirements, alt_user_requirements, add_group_requirements, alt_group_requirements, del_group_requirements, connect_requirements, remove_requirements}
+use Rattle.command_authority.specs.Authority.{is_met, need}
+use Rattle.raclist_image.specs.Imaged.{Imaged}
+use Rattle.racf_desk.specs.declared.refusal.Refusal.{Refusal}
+use Rattle.racf_desk.specs.declared.outcome.IssuedCommand.{IssuedCommand}
+use Rattle.racf_desk.specs.Outcome.{outcome_in, outcome}
+use Rattle.racf_desk.specs.Position.{first_position, position_after}
+use Rattle.racf_desk.specs.Words.{refusal_words}
+
+-- A command, who gives it, and the group that is named for him if one is.
+record Given : Type 0 where
+  issuer : List ℕ
+  group : Option (List ℕ)
+  text : List ℕ
+
+abbrev words : Result IssuedCommand Refusal → List ℕ
+words (Ok issued) = codes "ACCEPTED"
+words (Err why) = refusal_words why
+
+abbrev told : Imaged → List Given → List (List ℕ)
+told position [] = []
+told position (one ∷ others) = let is = outcome position one.issuer one.group one.text in words is ∷ told (position_after position is) others
+
+abbrev by : List ℕ → List ℕ → Given
+by issuer text = record { issuer = issuer; group = None; text = text }
+
+abbrev prepared : List ℕ → Given
+prepared text = by (codes "IBMUSER") text
+
+abbrev in_group : List ℕ → List ℕ → List ℕ → Given
+in_group issuer group text = record { issuer = issuer; group = Some group; text = text }
+
+-- Group-SPECIAL in D1 reaches SUE, whom D3 owns, until a user owns D2 on the way.
+scope_rows : told first_position (
+    prepared (codes "AG D1 OWNER(SYS1)")
+    ∷ prepared (codes "AG D2 SUPGROUP(D1) OWNER(D1)")
+    ∷ prepared (codes "AG D3 SUPGROUP(D2) OWNER(D2)")
+    ∷ prepared (codes "AU ADM DFLTGRP(D1)")
+    ∷ prepared (codes "CO ADM GROUP(D1) SPECIAL")
+    ∷ prepared (codes "AU SUE DFLTGRP(D3) OWNER(D3)")
+    ∷ by (codes "ADM") (codes "ALU SUE NAME('Sue')")
+    ∷ prepared (codes "ALG D2 OWNER(IBMUSER)")
+    ∷ by (codes "ADM") (codes "ALU SUE REVOKE")
+    ∷ [])
+    ≡ codes "ACCEPTED" ∷ codes "ACCEPTED" ∷ codes "ACCEPTED" ∷ codes "ACCEPTED" ∷ codes "ACCEPTED" ∷ codes "ACCEPTED" ∷ codes "ACCEPTED" ∷ codes "ACCEPTED" ∷ codes "NEED SPECIAL OWNER GROUPSPECIAL" ∷ []
+unfolding canon form_in parsed front behind command_of tokens is_root has_subgroup has_connected has_profile meets cycle owner_not_superior default_group last_special users_full groups_full connections_full user_full add_user_conflicts alt_user_conflicts del_user_conflicts add_group_conflicts alt_group_conflicts del_group_conflicts connect_conflicts remove_conflicts no_user no_group no_owner no_named_group no_class name_taken not_connected default_not_connected unknown_level unknown_category never_category unknown_label add_user_requirements alt_user_requirements add_group_requirements alt_group_requirements del_group_requirements connect_requirements remove_requirements is_met need outcome_in
+scope_rows = refl
+
+-- An issuer is judged as he stands at the command.
+issuer_rows : told first_position (
+    by (codes "ANN") (codes "AG X")
+    ∷ by (codes "ANN") (codes "AX")
+    ∷ prepared (codes "AG G1")
+    ∷ prepared (codes "AG G2")
+    ∷ prepared (codes "AU ANN DFLTGRP(G1) AUTHORITY(JOIN)")
+    ∷ in_group (codes "ANN") (codes "G2") (codes "AG X")
+    ∷ prepared (codes "CO ANN GROUP(G2)")
+    ∷ prepared (codes "ALU ANN DFLTGRP(G2)")
+    ∷ by (codes "ANN") (codes "AG X")
+    ∷ in_group (codes "ANN") (codes "G1") (codes "AG X")
+    ∷ prepared (codes "CO ANN GROUP(G2) REVOKE")
+    ∷ by (codes "ANN") (codes "AG Y")
+    ∷ prepared (codes "ALU ANN REVOKE")
+    ∷ in_group (codes "ANN") (codes "G1") (codes "AG Y")
+    ∷ [])
+    ≡ codes "ISSUERUNKNOWN ANN" ∷ codes "SYNTAX UNKNOWNCOMMAND" ∷ codes "ACCEPTED" ∷ codes "ACCEPTED" ∷ codes "ACCEPTED" ∷ codes "ISSUERNOTCONNECTED G2"
+    ∷ codes "ACCEPTED" ∷ codes "ACCEPTED" ∷ codes "NEED SPECIAL JOIN(G2) OWNER GROUPSPECIAL" ∷ codes "ACCEPTED" ∷ codes "ACCEPTED" ∷ codes "ISSUERNOTCONNECTED G2" ∷ codes "ACCEPTED" ∷ codes "ISSUERREVOKED ANN" ∷ []
+unfolding canon form_in parsed front behind command_of tokens is_root has_subgroup has_connected has_profile meets cycle owner_not_superior default_group last_special users_full groups_full connections_full user_full add_user_conflicts alt_user_conflicts del_user_conflicts add_group_conflicts alt_group_conflicts del_group_conflicts connect_conflicts remove_conflicts no_user no_group no_owner no_named_group no_class name_taken not_connected default_not_connected unknown_level unknown_category never_category unknown_label add_user_requirements alt_user_requirements add_group_requirements alt_group_requirements del_group_requirements connect_requirements remove_requirements is_met need outcome_in
+issuer_rows = refl
+
+-- The needs are told behind the conflicts of names and before the others, and the numbers' end behind all.
+order_rows : told (record first_position { generation = 2 ^ 62 }) (
+    by (codes "IBMUSER") (codes "AU IBMUSER")
+    ∷ by (codes "IBMUSER") (codes "DG SYS1")
+    ∷ by (codes "IBMUSER") (codes "AU JOE")
+    ∷ [])
+    ≡ codes "EXISTS IBMUSER" ∷ codes "ROOT" ∷ codes "NUMBERSPENT" ∷ []
+unfolding canon form_in parsed front behind command_of tokens is_root has_subgroup has_connected has_profile meets cycle owner_not_superior default_group last_special users_full groups_full connections_full user_full add_user_conflicts alt_user_conflicts del_user_conflicts add_group_conflicts alt_group_conflicts del_group_conflicts connect_conflicts remove_conflicts no_user no_group no_owner no_named_group no_class name_taken not_connected default_not_connected unknown_level unknown_category never_category unknown_label add_user_requirements alt_user_requirements add_group_requirements alt_group_requirements del_group_requirements connect_requirements remove_requirements is_met need outcome_in
+order_rows = refl
+
+need_rows : told first_position (
+    prepared (codes "AU ANN")
+    ∷ by (codes "ANN") (codes "AU IBMUSER")
+    ∷ by (codes "ANN") (codes "DG SYS1")
+    ∷ by (codes "ANN") (codes "RE IBMUSER GROUP(SYS1)")
+    ∷ by (codes "ANN") (codes "AU CAT")
+    ∷ [])
+    ≡ codes "ACCEPTED" ∷ codes "EXISTS IBMUSER" ∷ codes "NEED SPECIAL OWNER GROUPSPECIAL" ∷ codes "NEED SPECIAL CONNECT(SYS1) OWNER GROUPSPECIAL"
+    ∷ codes "NEED SPECIAL CLAUTH(USER)+JOIN(SYS1) CLAUTH(USER)+OWNER CLAUTH(USER)+GROUPSPECIAL" ∷ []
+unfolding canon form_in parsed front behind command_of tokens is_root has_subgroup has_connected has_profile meets cycle owner_not_superior default_group last_special users_full groups_full connections_full user_full add_user_conflicts alt_user_conflicts del_user_conflicts add_group_conflicts alt_group_conflicts del_group_conflicts connect_conflicts remove_conflicts no_user no_group no_owner no_named_group no_class name_taken not_connected default_not_connected unknown_level unknown_category never_category unknown_label add_user_requirements alt_user_requirements add_group_requirements alt_group_requirements del_group_requirements connect_requirements remove_requirements is_met need outcome_in
+need_rows = refl

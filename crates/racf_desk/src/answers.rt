@@ -1,0 +1,34 @@
+//! What a desk answers.
+
+use crate::refusal::Refusal;
+use access_levels::Text;
+use command_parser::Issuer;
+use racf_profiles::Change;
+use raclist_image::Image;
+use std::sync::Arc;
+
+/// What is made of a command that is accepted, with all memory that it takes.
+#[derive(Drop)]
+pub struct Ready {
+    /// The command's number: how many commands will have been accepted with it.
+    pub number: u64,
+    /// Who gave it, with the group that was current for him.
+    pub issuer: Issuer,
+    /// Its canonical text.
+    pub text: Text,
+    /// Its edits of the rows.
+    pub change: Change,
+    /// The state behind it, with the number.
+    pub image: Arc<Image>,
+}
+
+/// The answer to a command. Each number is that of the commands that were accepted so far.
+#[derive(Drop)]
+pub enum Reply {
+    /// The command was accepted, and counts in the number.
+    Accepted(u64),
+    /// The command was refused, and changed nothing.
+    Refused(u64, Refusal),
+    /// Memory was wanting, and nothing has changed.
+    NoMemory,
+}

@@ -60,13 +60,14 @@ fn bad_issuer(line: &[u8]) -> u32 {
 
 #[test]
 fn issuers_that_do_not_fit(rt: HostRuntime) {
-    let rows: [(&[u8], u32); 8] = [
+    let rows: [(&[u8], u32); 9] = [
         (b"*ISSUER", 8),
         (b"*ISSUER  ", 10),
-        (b"*ISSUER 9X", 9),
+        (b"*ISSUER A.B", 9),
         (b"*ISSUER A,GROUP(B)", 9),
         (b"*ISSUER A GROUP", 11),
         (b"*ISSUER A GROUP (B)", 11),
+        (b"*ISSUER A GROUP(9X)", 11),
         (b"*ISSUER A GROUP(TOOLONGID)", 11),
         (b" *ISSUER A GROUP(B) X", 21),
     ];

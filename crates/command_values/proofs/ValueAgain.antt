@@ -14,7 +14,7 @@ use Rattle.access_levels.specs.declared.levels.Level.TheVariants.{NoAccess, Exec
 use Rattle.access_levels.specs.declared.authorities.GroupAuthority.{GroupAuthority}
 use Rattle.access_levels.specs.declared.authorities.GroupAuthority.TheVariants.{MayUse, MayCreate, MayConnect, MayJoin}
 use Rattle.access_levels.specs.Spelling.{id_of}
-use Rattle.command_words.specs.declared.quoting.Quoting.TheVariants.{Ignored, Outside, Inside}
+use Rattle.command_words.specs.declared.quoting.Quoting.TheVariants.{Ignored, Outside}
 use Rattle.command_words.specs.Quotes.{doubled}
 use Rattle.command_words.specs.Tokens.{within, group_end, tokens, tokens_from}
 use Rattle.command_words.specs.ValuedWords.{ValuedWord, Alone, valued_words, opens_value, faulty_at}
@@ -99,26 +99,14 @@ unquoted-doubled : (front t : List ℕ) → unquoted false front (doubled t ++ 3
 unquoted-doubled front [] = ap Some (sym (append-nil front))
 unquoted-doubled front (b ∷ t) = unquoted-one front t b (b == 39) refl (λ f. unquoted-doubled f t)
 
--- in its quotes no byte is looked at
-unseen-one : (o p b : ℕ) (t : List ℕ) (c : Bool) → (b == 39) ≡ c
-    → ((p : ℕ) → faulty_at (Inside o) p (doubled t ++ 39 ∷ []) ≡ None)
-    → faulty_at (Inside o) p (doubled (b ∷ t) ++ 39 ∷ []) ≡ None
-unseen-one o p b t true quote more = rw quote (more (suc (suc p)))
-unseen-one o p b t false other more = rw other (rw other (more (suc p)))
-
-unseen : (o p : ℕ) (t : List ℕ) → faulty_at (Inside o) p (doubled t ++ 39 ∷ []) ≡ None
-unseen o p [] = refl
-unseen o p (b ∷ t) = unseen-one o p b t (b == 39) refl (λ n. unseen o n t)
-
 name_text-quoted : (t : List ℕ) → is_name t ≡ true → name_text (quoted t) ≡ Some t
 name_text-quoted t h = ap if_name (unquoted-doubled [] t) ∙ rw h refl
 
 single_name : (at : Scope) (p q : ℕ) (t : List ℕ) → is_name t ≡ true → single at kinds.Name p (valued_words (tokens (within q (quoted t)))) ≡ Ok (contents.Name t)
 unfolding tokens
 single_name at p q t h =
-    let sound : faulty_at Outside (suc q) (quoted t) ≡ None = unseen (suc q) (suc (suc q)) t in
     let text : name_text (quoted t) ≡ Some t = name_text-quoted t h in
-    ap (λ ts. single at kinds.Name p (valued_words ts)) (quoted_token false (suc q) t) ∙ rw (sound, text) refl
+    ap (λ ts. single at kinds.Name p (valued_words ts)) (quoted_token false (suc q) t) ∙ rw text refl
 
 -- names parted by blanks
 more_ends : (xs : List (List ℕ)) → EndsWord (more_text xs)

@@ -1,10 +1,24 @@
 -- The words of a value: each is refused at its first faulty byte before it is judged.
-use Rattle.std.specs.Prelude.{ℕ, List, [], ◌∷◌, unwrap_or, Option, None, Some, Result, Ok, Err}
+use Rattle.std.specs.Prelude.{ℕ, ◌==◌, Bool, false, if◌then◌else◌, List, [], ◌∷◌, unwrap_or, Option, None, Some, Result, Ok, Err}
 use Rattle.command_words.specs.declared.quoting.Quoting.{Quoting}
+use Rattle.command_words.specs.declared.quoting.Quoting.TheVariants.{Outside}
 use Rattle.command_words.specs.ValuedWords.{ValuedWord, Alone, Valued, Unclosed, Parenthesis, faulty_at}
 use Rattle.command_values.specs.declared.faults.Syntax.{Syntax}
 use Rattle.command_values.specs.declared.faults.Syntax.TheVariants as faults
 use Rattle.command_values.specs.Results.{◌>>=◌}
+
+-- Where quotes count, a word that begins with one is a text in quotes: whatever stands in it, it is judged as a whole.
+abbrev pub begins_with_quote : List ℕ → Bool
+begins_with_quote [] = false
+begins_with_quote (b ∷ w) = b == 39
+
+abbrev pub is_in_quotes : Quoting → List ℕ → Bool
+is_in_quotes Outside w = begins_with_quote w
+is_in_quotes q w = false
+
+-- The first faulty byte of any other word that begins at p.
+abbrev pub fault_in : Quoting → ℕ → List ℕ → Option ℕ
+fault_in q p w = if is_in_quotes q w then None else faulty_at q p w
 
 -- A word with a faulty byte is refused at that byte before it is judged.
 abbrev pub clean_if : Option ℕ → List ℕ → Result (List ℕ) Syntax
@@ -12,13 +26,13 @@ clean_if None w = Ok w
 clean_if (Some place) w = Err (faults.BadValue place)
 
 abbrev pub clean : Quoting → ℕ → List ℕ → Result (List ℕ) Syntax
-clean q p w = clean_if (faulty_at q p w) w
+clean q p w = clean_if (fault_in q p w) w
 
 -- where an item is refused: at its first faulty byte, else where it begins
 abbrev pub refused_at : Quoting → ValuedWord → ℕ
-refused_at q (Alone p w) = unwrap_or (faulty_at q p w) p
-refused_at q (Valued p w t) = unwrap_or (faulty_at q p w) p
-refused_at q (Unclosed p w place) = unwrap_or (faulty_at q p w) p
+refused_at q (Alone p w) = unwrap_or (fault_in q p w) p
+refused_at q (Valued p w t) = unwrap_or (fault_in q p w) p
+refused_at q (Unclosed p w place) = unwrap_or (fault_in q p w) p
 refused_at q (Parenthesis p) = p
 
 -- a word of a value, which has no value of its own, with its place

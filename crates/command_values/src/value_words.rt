@@ -5,17 +5,38 @@ ghost use Rattle.command_words.specs.Tokens.{tokens};
 ghost use Rattle.command_words.specs.ValuedWords.{valued_words, IsValuedInReach};
 ghost use Rattle.command_words.specs.Pieces.{seen_valued};
 ghost use Rattle.command_values.specs.Results.{Finds};
-ghost use Rattle.command_values.specs.WordsOfValues.{clean, refused_at as refusal_of, word_of as word_in, stray as stray_in, held as held_in, unless_stray as unless_stray_in};
+ghost use Rattle.command_values.specs.WordsOfValues.{is_in_quotes, fault_in, clean, refused_at as refusal_of, word_of as word_in, stray as stray_in, held as held_in, unless_stray as unless_stray_in};
 
 use crate::faults::Syntax;
 use command_words::{Quoting, Tokens, ValuedWord, faulty_at};
+
+/// A text in quotes, where quotes count. It is judged as a whole.
+fn is_in_quotes(quoting: Quoting, word: &[u8]) -> bool
+    ensures { result ≡ is_in_quotes quoting word.now }
+{
+    match quoting {
+        Quoting::Outside => word.starts_with(b"'"),
+        _ => false,
+    }
+}
+
+/// The place of the first faulty byte of a word that isn't in quotes.
+fn fault_in(quoting: Quoting, place: u32, word: &[u8]) -> Option<u32>
+    requires { place + length word.now < 2 ^ 30 }
+    ensures { result ≡ fault_in quoting place word.now }
+{
+    if is_in_quotes(quoting, word) {
+        return None;
+    }
+    faulty_at(quoting, place, word)
+}
 
 /// The word, unless it has a faulty byte: that is refused at its place.
 pub fn clean<'a>(quoting: Quoting, place: u32, word: &'a [u8]) -> Result<&'a [u8], Syntax>
     requires { place + length word.now < 2 ^ 30 }
     ensures { Finds (λ x. x.now) result (clean quoting place word.now) }
 {
-    match faulty_at(quoting, place, word) {
+    match fault_in(quoting, place, word) {
         Some(fault) => Err(Syntax::BadValue(fault)),
         None => Ok(word),
     }
@@ -27,9 +48,9 @@ pub fn refused_at(quoting: Quoting, item: ValuedWord<'_>) -> u32
     ensures { result ≡ refusal_of quoting (seen_valued item.entry) }
 {
     match item {
-        ValuedWord::Alone(place, word) => faulty_at(quoting, place, word).unwrap_or(place),
-        ValuedWord::Valued(place, word, _) => faulty_at(quoting, place, word).unwrap_or(place),
-        ValuedWord::Unclosed(place, word, _) => faulty_at(quoting, place, word).unwrap_or(place),
+        ValuedWord::Alone(place, word) => fault_in(quoting, place, word).unwrap_or(place),
+        ValuedWord::Valued(place, word, _) => fault_in(quoting, place, word).unwrap_or(place),
+        ValuedWord::Unclosed(place, word, _) => fault_in(quoting, place, word).unwrap_or(place),
         ValuedWord::Parenthesis(place) => place,
     }
 }

@@ -1,12 +1,13 @@
 -- Texts without a line feed: names that were read, numbers, and what is made of such texts.
-use Rattle.std.proofs.Common.{◌≡◌, ℕ, suc, ◌≤◌, Bool, true, false, cond, not, ◌&&◌, List, [], ◌∷◌, ◌++◌, Option, None, Some, Result, Ok, Err, refl, sym, ap, subst, ◌∙◌, true≢false, arith}
+use Rattle.std.proofs.Common.{◌≡◌, ℕ, suc, ◌≤◌, Bool, true, false, cond, not, ◌&&◌, List, [], ◌∷◌, ◌++◌, Option, None, Some, Result, Ok, Err, refl, sym, ap, subst, ◌∙◌, zero, take, true≢false, arith}
 use Rattle.std.specs.Prelude.{◌==◌, IfSome, find, unwrap_or, option_map, option_and_then, decimal}
 use Rattle.std.specs.List.{AllByRecursion, list_all}
+use Rattle.std.specs.Option.{option_or}
 use Rattle.std.specs.Result.{result_ok}
-use Rattle.std.proofs.lemmas.Bool.{eqb-true, ne_eqb}
+use Rattle.std.proofs.lemmas.Bool.{eqb-true, ne_eqb, and_parts, and_from}
 use Rattle.std.proofs.lemmas.List.Folds.{list_all-append}
-use Rattle.access_levels.specs.Spelling.{is_id_byte, id_of}
-use Rattle.generic_names.specs.Spelled.{Spelled}
+use Rattle.access_levels.specs.Spelling.{is_id_byte, id_of, group_of}
+use Rattle.generic_names.specs.Spelled.{Spelled, first_qualifier}
 use Rattle.racf_profiles.specs.declared.fixed_classes.NameForm.{NameForm}
 use Rattle.racf_profiles.specs.declared.fixed_classes.NameForm.TheVariants as forms
 use Rattle.racf_profiles.proofs.Found.{all-found}
@@ -41,6 +42,17 @@ other_byte p never b h = by (b == 10) refl
 of_bytes : (p : ℕ → Bool) → p 10 ≡ false → (text : List ℕ) → list_all p text ≡ true → IsFeedless text
 of_bytes p never text h = all_pass-each p (λ byte. not (byte == 10)) (other_byte p never) text h
 
+-- a front of a text
+front : (n : ℕ) (text : List ℕ) → IsFeedless text → IsFeedless (take n text)
+front zero text h = refl
+front (suc n) [] h = refl
+front (suc n) (b ∷ bs) h =
+    let parts = and_parts (not (b == 10)) (is_feedless bs) h in
+    and_from (not (b == 10)) (is_feedless (take n bs)) parts.0 (front n bs parts.1)
+
+pub qualifier-feedless : (name : List ℕ) → IsFeedless name → IsFeedless (first_qualifier name)
+qualifier-feedless name h = front _ name h
+
 -- ---- numbers
 digits-feedless : (ds : List ℕ) → AllDigits ds → IsFeedless ds
 digits-feedless [] h = refl
@@ -61,8 +73,11 @@ read_id-feedless text id h =
 pub id-feedless : (id : List ℕ) → IsId id → IsFeedless id
 id-feedless id h = read_id-feedless id id h
 
+pub read_group-feedless : (text group : List ℕ) → group_of text ≡ Ok group → IsFeedless group
+read_group-feedless text group h = read_id-feedless text group (group_of-ok text group h).1
+
 pub group-feedless : (group : List ℕ) → IsGroupName group → IsFeedless group
-group-feedless group h = id-feedless group (group_of-ok group group h).1
+group-feedless group h = read_group-feedless group group h
 
 -- ---- names of profiles
 faultless : (c : Bool) (p : ℕ) (rest : Option ℕ) → cond c (Some p) rest ≡ None → (c ≡ false) × (rest ≡ None)
@@ -100,6 +115,10 @@ either P false x y h k = k
 pub always : {X Q : Type 0} (o : Option X) → Q → IfSome o (λ x. Q)
 always None h = tt
 always (Some x) h = h
+
+pub if-either : {X : Type 0} (P : X → Type 0) (a b : Option X) → IfSome a P → IfSome b P → IfSome (option_or a b) P
+if-either P None b h k = k
+if-either P (Some x) b h k = h
 
 pub if-map : {X Y : Type 0} (Q : Y → Type 0) (f : X → Y) (o : Option X) → IfSome o (λ x. Q (f x)) → IfSome (option_map f o) Q
 if-map Q f None h = h

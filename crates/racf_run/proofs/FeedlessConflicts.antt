@@ -34,6 +34,8 @@ use Rattle.command_conflicts.specs.declared.conflict.Named.TheVariants as named
 use Rattle.command_conflicts.specs.declared.conflict.Holder.TheVariants.{Subgroup, Connected, Profile as ProfileOf}
 use Rattle.command_conflicts.specs.declared.conflict.Limit.{Limit}
 use Rattle.command_conflicts.specs.declared.conflict.Limit.TheVariants as kind
+use Rattle.command_conflicts.specs.Numbers as numbers
+use Rattle.command_conflicts.specs.Numbers.{is_early}
 use Rattle.command_conflicts.specs.Unbuilt.{is_unbuilt}
 use Rattle.command_conflicts.specs.Required.{if_met, first_met, over, no_user, no_group, no_owner, no_named_group, no_class, name_taken, not_connected, default_not_connected, unknown_level, unknown_category, never_category, unknown_label}
 use Rattle.command_conflicts.specs.ProfileConflicts.{
@@ -90,6 +92,7 @@ use Rattle.command_conflicts.specs.Conflicts.{
   conflicts,
   tests,
   conflict_of,
+  first_conflict_of,
 }
 use Rattle.lawful_commands.proofs.FieldFacts.{each-all}
 use Rattle.racf_desk.specs.Words.{kind_words, conflict_words}
@@ -367,10 +370,25 @@ module _ (issuer : Issuer) (issuer_id : IsFeedless issuer.id) (issuer_group : Is
       let class = id-feedless c.class f.class in
       (permitted-test _ _ rows (whos-feedless c.id f.id), (profile-test _ _ rows class (any_profile-feedless c.class c.profile f.profile), (such_class-test _ rows class, (standard-test issuer _ rows, (conditional-test issuer _ rows, (entries-test issuer _ rows, tt))))))
 
+  all-tests : (c : CommandFields) (rows : Rows) → AreLawfulFields c → AreFeedless rows → AllByRecursion IsFeedlessTest (tests issuer c rows)
+  all-tests c rows f are = (met (is_unbuilt c) NotBuilt refl, each-test c rows f are)
+
   pub conflict-feedless : (c : CommandFields) (rows : Rows) → AreLawfulFields c → AreFeedless rows → IsFeedlessTest (conflict_of issuer c rows)
-  conflict-feedless c rows f are = first (tests issuer c rows) (met (is_unbuilt c) NotBuilt refl, each-test c rows f are)
+  conflict-feedless c rows f are = first (tests issuer c rows) (all-tests c rows f are)
     where
       first : (list : List (Option Conflict)) → AllByRecursion IsFeedlessTest list → IsFeedlessTest (first_met list)
       first [] h = none
       first (None ∷ list) h = first list h.1
       first (Some conflict ∷ list) h = h.0
+
+  pub early-feedless : (c : CommandFields) (rows : Rows) → AreLawfulFields c → AreFeedless rows → IsFeedlessTest (first_conflict_of issuer c rows)
+  early-feedless c rows f are = first (tests issuer c rows) (all-tests c rows f are)
+    where
+      first : (list : List (Option Conflict)) → AllByRecursion IsFeedlessTest list → IsFeedlessTest (find is_early (numbers.met list))
+      first [] h = none
+      first (None ∷ list) h = first list h.1
+      first (Some conflict ∷ list) h = by (is_early conflict)
+        where
+          by : (b : Bool) → IsFeedlessTest (cond b (Some conflict) (find is_early (numbers.met list)))
+          by true = h.0
+          by false = first list h.1

@@ -1,8 +1,8 @@
 -- The words of a decision hold no line feed, nor do the groups of the ACEE of a user who is verified.
-use Rattle.std.proofs.Common.{◌≡◌, ℕ, zero, suc, Bool, true, false, not, List, [], ◌∷◌, ◌++◌, Option, None, Some, Result, Ok, Err, refl, sym, subst, bytes_eq, codes}
+use Rattle.std.proofs.Common.{◌≡◌, ℕ, zero, suc, Bool, true, false, cond, not, List, [], ◌∷◌, ◌++◌, Option, None, Some, Result, Ok, Err, refl, sym, subst, bytes_eq, codes}
 use Rattle.std.specs.Prelude.{IfSome, IfOk, find, filter, position, slice_get, option_and_then, unwrap_or, decimal}
-use Rattle.std.specs.Option.{option_or}
 use Rattle.std.specs.List.{AllByRecursion}
+use Rattle.std.proofs.lemmas.Option.{IfSome_then}
 use Rattle.access_levels.specs.declared.levels.Level.{Level}
 use Rattle.access_levels.specs.declared.levels.Level.TheVariants.{NoAccess}
 use Rattle.access_levels.specs.declared.entries.PortClass.{PortClass}
@@ -27,8 +27,7 @@ use Rattle.racf_profiles.specs.declared.class_rows.ClassRow.{ClassRow}
 use Rattle.racf_profiles.specs.declared.options.Options.{Options}
 use Rattle.racf_profiles.specs.declared.rows.Rows.{Rows}
 use Rattle.racf_profiles.specs.Lookup.{is_class, is_user, class_of, user_of}
-use Rattle.racf_profiles.specs.State.{effective, restart}
-use Rattle.racf_profiles.proofs.States.{effective_in-live}
+use Rattle.racf_profiles.specs.State.{State, copy_of, effective}
 use Rattle.acee.specs.declared.acee.Acee.{Acee}
 use Rattle.acee.specs.declared.groups.AceeGroup.{AceeGroup}
 use Rattle.acee.specs.declared.request.VerifyRequest.{VerifyRequest}
@@ -60,8 +59,8 @@ use Rattle.decision.specs.Table.{
 use Rattle.decision.specs.Verify.{admitted, verified}
 use Rattle.request_files.specs.Answers.{profile_words, found_words, port_words, rule_words, decision_words}
 use Rattle.lawful_commands.proofs.RowLists.{all-filter, all-map}
-use Rattle.racf_run.proofs.Feedless.{IsFeedless, joined, decimal-feedless, either, always, if-map, if-then, if-found}
-use Rattle.racf_run.proofs.FeedlessRows.{IsFeedlessUser, IsFeedlessProfile, IsFeedlessWho, AreFeedlessProfiles, AreFeedless}
+use Rattle.racf_run.proofs.Feedless.{IsFeedless, joined, decimal-feedless, either, always, if-either, if-map, if-then, if-found}
+use Rattle.racf_run.proofs.FeedlessRows.{IsFeedlessUser, IsFeedlessProfile, IsFeedlessWho, AreFeedlessProfiles, AreFeedless, IsFeedlessState, copy-feedless}
 
 -- ---- the words
 level-words : (level : Level) → IsFeedless (level_name level)
@@ -117,10 +116,6 @@ decision-words decision h =
 
 -- ---- the profile that decides
 module _ {A : Type 0} (P : A → Type 0) where
-  or-all : (a b : Option A) → IfSome a P → IfSome b P → IfSome (option_or a b) P
-  or-all None b h k = k
-  or-all (Some x) b h k = h
-
   more-specific : (name_of : A → Spelled) (x : A) (o : Option A) → P x → IfSome o P → P (more_specific name_of x o)
   more-specific name_of x None h k = h
   more-specific name_of x (Some y) h k = either P (before (name_of y) (name_of x)) y x k h
@@ -131,7 +126,7 @@ module _ {A : Type 0} (P : A → Type 0) where
 
   best-all : (name_of : A → Spelled) (xs : List A) (name : Spelled) → AllByRecursion P xs → IfSome (best name_of xs name) P
   best-all name_of xs name h =
-      or-all (find (λ p. bytes_eq (name_of p).text name.text) xs) (most_specific name_of (filter (λ p. covers (name_of p) name) xs))
+      if-either P (find (λ p. bytes_eq (name_of p).text name.text) xs) (most_specific name_of (filter (λ p. covers (name_of p) name) xs))
       (if-found P (λ p. bytes_eq (name_of p).text name.text) xs h)
       (most-specific name_of (filter (λ p. covers (name_of p) name) xs) (all-filter P (λ p. covers (name_of p) name) xs h))
 
@@ -140,15 +135,16 @@ module _ {A : Type 0} (P : A → Type 0) where
   got-all (x ∷ xs) zero h = h.0
   got-all (x ∷ xs) (suc i) h = got-all xs i h.1
 
-effective-feedless : (rows : Rows) (class : List ℕ) → AreFeedless rows → IfSome (effective class (restart rows)) (AllByRecursion IsFeedlessProfile)
-effective-feedless rows class are =
-    subst (λ (o : Option (List Profile)). IfSome o (AllByRecursion IsFeedlessProfile)) (sym (effective_in-live class rows.classes))
-    (if-map (AllByRecursion IsFeedlessProfile) (λ (row : ClassRow). row.profiles) (class_of class rows) (if-found AreFeedlessProfiles (is_class class) rows.classes are.classes))
+effective-feedless : (state : State) (class : List ℕ) → IsFeedlessState state → IfSome (effective class state) (AllByRecursion IsFeedlessProfile)
+effective-feedless state class are =
+    if-map (AllByRecursion IsFeedlessProfile) (λ (row : ClassRow). cond row.listed (copy_of class state.copies) row.profiles) (class_of class state.rows)
+    (IfSome_then (class_of class state.rows) (if-found AreFeedlessProfiles (is_class class) state.rows.classes are.rows.classes)
+    (λ row h. either (AllByRecursion IsFeedlessProfile) row.listed (copy_of class state.copies) row.profiles (copy-feedless class state are) h))
 
-profile_for-feedless : (rows : Rows) (class : List ℕ) (name : Spelled) → AreFeedless rows → IfSome (profile_for (restart rows) class name) IsFeedlessProfile
-profile_for-feedless rows class name are =
+profile_for-feedless : (state : State) (class : List ℕ) (name : Spelled) → IsFeedlessState state → IfSome (profile_for state class name) IsFeedlessProfile
+profile_for-feedless state class name are =
     if-then (AllByRecursion IsFeedlessProfile) IsFeedlessProfile (λ profiles. best (λ (profile : Profile). profile.name) profiles name)
-    (λ profiles h. best-all IsFeedlessProfile (λ (profile : Profile). profile.name) profiles name h) (effective class (restart rows)) (effective-feedless rows class are)
+    (λ profiles h. best-all IsFeedlessProfile (λ (profile : Profile). profile.name) profiles name h) (effective class state) (effective-feedless state class are)
 
 -- ---- the entries
 abbrev IsFeedlessGroupEntry : GroupEntry → Type 0
@@ -215,8 +211,8 @@ of_class rows class = (fits _ rule.NoClass 4 NoAccess tt, (fits _ rule.ClassOff 
 without_profile : (options : Options) (class : List ℕ) → AllByRecursion IsFeedlessCase (cases_without_profile options class)
 without_profile options class = (fits _ rule.ProtectAll 8 NoAccess tt, tt)
 
-module _ (rows : Rows) (acee : Acee) (groups : IsFeedlessAcee acee) (class : List ℕ) (name : Spelled) (asked : Level) where
-  with_profile : (p : Profile) → IsFeedlessProfile p → AllByRecursion IsFeedlessCase (cases_with_profile rows acee class name asked p)
+module _ (state : State) (acee : Acee) (groups : IsFeedlessAcee acee) (class : List ℕ) (name : Spelled) (asked : Level) where
+  with_profile : (p : Profile) → IsFeedlessProfile p → AllByRecursion IsFeedlessCase (cases_with_profile state.rows acee class name asked p)
   with_profile p h = (
     never-case,
     (
@@ -224,17 +220,17 @@ module _ (rows : Rows) (acee : Acee) (groups : IsFeedlessAcee acee) (class : Lis
       (
         with-thing (λ (entry : Entry). Unit {0}) _ (λ (entry : Entry) e. fits _ rule.UserEntry 0 entry.level tt) (user_entry acee p) (always (user_entry acee p) tt),
         (
-          with-thing IsFeedlessGroupEntry _ (λ (entry : GroupEntry) e. fits _ (rule.GroupEntry entry.group) 0 entry.level e) (group_entry rows.options acee p) (group-entry (considered rows.options acee) p.standard h.standard),
+          with-thing IsFeedlessGroupEntry _ (λ (entry : GroupEntry) e. fits _ (rule.GroupEntry entry.group) 0 entry.level e) (group_entry state.rows.options acee p) (group-entry (considered state.rows.options acee) p.standard h.standard),
           (
             with-thing (λ (entry : Entry). Unit {0}) _ (λ (entry : Entry) e. fits _ rule.Star 0 entry.level tt) (star_entry acee p) (always (star_entry acee p) tt),
             (
               fits _ rule.Uacc 0 p.uacc tt,
               (
-                with-thing IsFeedlessConditional _ (λ (entry : CondEntry) e. fits _ (rule.Conditional entry.condition) 0 entry.level e) (conditional_entry rows.options acee p) (conditional-entry rows.options acee p h),
+                with-thing IsFeedlessConditional _ (λ (entry : CondEntry) e. fits _ (rule.Conditional entry.condition) 0 entry.level e) (conditional_entry state.rows.options acee p) (conditional-entry state.rows.options acee p h),
                 (
                   fits _ rule.Operations 0 _ tt,
                   (
-                    with-thing IsFeedless _ (λ (group : List ℕ) e. fits _ (rule.GroupOperations group) 0 _ e) (operating_over rows acee p.owner) (operating-over rows acee p.owner groups),
+                    with-thing IsFeedless _ (λ (group : List ℕ) e. fits _ (rule.GroupOperations group) 0 _ e) (operating_over state.rows acee p.owner) (operating-over state.rows acee p.owner groups),
                     (fits _ rule.Warning 0 _ tt, tt),
                   ),
                 ),
@@ -246,39 +242,39 @@ module _ (rows : Rows) (acee : Acee) (groups : IsFeedlessAcee acee) (class : Lis
     ),
   )
 
-  after-cases : (generation : ℕ) (first : Option Answer) (p : Option Profile) → IsFeedlessCase first → IfSome p IsFeedlessProfile → IsFeedlessDecision (decided_after (restart rows) generation acee class name asked first p)
+  after-cases : (generation : ℕ) (first : Option Answer) (p : Option Profile) → IsFeedlessCase first → IfSome p IsFeedlessProfile → IsFeedlessDecision (decided_after state generation acee class name asked first p)
   after-cases generation (Some answer) p h k = record { rule = h answer refl; profile = tt }
   after-cases generation None None h k = record {
-    rule = chosen (first_answer (cases_without_profile rows.options class)) no_profile (first-case (cases_without_profile rows.options class) (without_profile rows.options class)) tt;
+    rule = chosen (first_answer (cases_without_profile state.rows.options class)) no_profile (first-case (cases_without_profile state.rows.options class) (without_profile state.rows.options class)) tt;
     profile = tt;
   }
   after-cases generation None (Some p) h k = record {
-    rule = chosen (first_answer (cases_with_profile rows acee class name asked p)) (insufficient rows acee class name asked p) (first-case (cases_with_profile rows acee class name asked p) (with_profile p k)) tt;
+    rule = chosen (first_answer (cases_with_profile state.rows acee class name asked p)) (insufficient state.rows acee class name asked p) (first-case (cases_with_profile state.rows acee class name asked p) (with_profile p k)) tt;
     profile = k.name;
   }
 
-  pub decided-words : (generation : ℕ) → AreFeedless rows → IsFeedless (decision_words (decided (restart rows) generation acee class name asked))
+  pub decided-words : (generation : ℕ) → IsFeedlessState state → IsFeedless (decision_words (decided state generation acee class name asked))
   unfolding decided
   decided-words generation are =
-      decision-words _ (after-cases generation (first_answer (cases_of_class rows class)) (profile_for (restart rows) class name) (first-case (cases_of_class rows class) (of_class rows class)) (profile_for-feedless rows class name are))
+      decision-words _ (after-cases generation (first_answer (cases_of_class state.rows class)) (profile_for state class name) (first-case (cases_of_class state.rows class) (of_class state.rows class)) (profile_for-feedless state class name are))
 
 -- ---- VERIFY
 unless-acee : (fault : Option VerifyFault) (acee : Acee) → IsFeedlessAcee acee → IfOk (acee_unless fault acee) IsFeedlessAcee
 unless-acee (Some fault) acee h = tt
 unless-acee None acee h = h
 
-module _ (rows : Rows) (generation : ℕ) (request : VerifyRequest) where
-  of-user : (user : Option User) → IfSome user IsFeedlessUser → IfOk (acee_of_user rows generation request user) IsFeedlessAcee
+module _ (state : State) (generation : ℕ) (request : VerifyRequest) where
+  of-user : (user : Option User) → IfSome user IsFeedlessUser → IfOk (acee_of_user state.rows generation request user) IsFeedlessAcee
   of-user None h = tt
   of-user (Some user) h =
-      unless-acee _ (acee_for rows generation request user)
+      unless-acee _ (acee_for state.rows generation request user)
       (all-map acee_group (λ (group : AceeGroup). IsFeedless group.group) (filter (λ (connection : Connection). not connection.revoked) user.connects) (all-filter (λ (connection : Connection). IsFeedless connection.group) (λ (connection : Connection). not connection.revoked) user.connects h.groups))
 
-  admitted-acee : (r : Result Acee VerifyFault) → IfOk r IsFeedlessAcee → IfOk (admitted (restart rows) generation r) IsFeedlessAcee
+  admitted-acee : (r : Result Acee VerifyFault) → IfOk r IsFeedlessAcee → IfOk (admitted state generation r) IsFeedlessAcee
   admitted-acee (Err fault) h = tt
   admitted-acee (Ok acee) h = unless-acee _ acee h
 
-  pub verified-acee : AreFeedless rows → IfOk (verified (restart rows) generation request) IsFeedlessAcee
+  pub verified-acee : AreFeedless state.rows → IfOk (verified state generation request) IsFeedlessAcee
   unfolding verified acee_of
   verified-acee are =
-      admitted-acee (acee_of (restart rows) generation request) (of-user (user_of request.user rows) (if-found IsFeedlessUser (is_user request.user) rows.users are.users))
+      admitted-acee (acee_of state generation request) (of-user (user_of request.user state.rows) (if-found IsFeedlessUser (is_user request.user) state.rows.users are.users))

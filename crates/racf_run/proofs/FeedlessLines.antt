@@ -2,7 +2,8 @@
 use Rattle.std.proofs.Common.{ℕ, List, [], ◌∷◌, Option, None, Some, Result, Ok, Err, refl, bytes_eq, codes}
 use Rattle.std.specs.Prelude.{nat_eq, nat_lt, IfSome, IfOk, length}
 use Rattle.std.specs.List.{starts_with}
-use Rattle.access_levels.specs.Spelling.{id_of}
+use Rattle.std.specs.Result.{result_map_both}
+use Rattle.access_levels.specs.Spelling.{id_of, group_of, port_class_of}
 use Rattle.generic_names.specs.declared.fault.NameFault.{NameFault}
 use Rattle.generic_names.specs.declared.fault.NameFault.TheVariants as name
 use Rattle.racf_profiles.specs.LawfulProfiles.{kind_in}
@@ -11,8 +12,12 @@ use Rattle.acee.specs.declared.request.VerifyFault.TheVariants as verify
 use Rattle.command_words.specs.LineWords.{LineWord, UnreadLine, line_at}
 use Rattle.request_files.specs.declared.line.LineRefusal.{LineRefusal}
 use Rattle.request_files.specs.declared.line.LineRefusal.TheVariants.{BadLine, NoAcee, AceeExists, AceesFull, BadName, LineTooLong}
-use Rattle.command_values.specs.NamedWords.{id_named}
-use Rattle.request_files.specs.Spellings.{folded, name_word, level_word}
+use Rattle.command_values.specs.NamedWords.{id_named, group_named}
+use Rattle.request_files.specs.declared.operands.Operand.{Operand}
+use Rattle.request_files.specs.declared.operands.Operand.TheVariants as operand
+use Rattle.request_files.specs.declared.issuer_line.NamedIssuer.{NamedIssuer}
+use Rattle.request_files.specs.Spellings.{folded, name_word, level_word, key_of, value_of, port_at, keyed, operand_word}
+use Rattle.request_files.specs.IssuerLines.{group_in, group_word, with_group, issuer_by, issuer_behind, issuer_of_line}
 use Rattle.request_files.specs.Grammar.{
   Access,
   Asked,
@@ -45,7 +50,7 @@ use Rattle.request_files.specs.Grammar.{
   read,
 }
 use Rattle.request_files.specs.Answers.{name_fault_words, refusal_words, verify_fault_words}
-use Rattle.racf_run.proofs.Feedless.{IsFeedless, decimal-feedless, read_id-feedless, either, if-ok}
+use Rattle.racf_run.proofs.Feedless.{IsFeedless, decimal-feedless, read_id-feedless, read_group-feedless, either, always, if-map, if-then, if-ok}
 
 -- ---- what a line names
 abbrev pub IsFeedlessLine : Line → Type 0
@@ -96,6 +101,60 @@ next-id unread = by unread.words
     by (word ∷ words) =
         bound IsFeedless IsFeedlessSaid (fits (id_named word.text) word.place) (λ said. Ok (said, record { words = words; end = unread.end }))
         (fitted (id_named word.text) word.place (if-ok IsFeedless (id_of (folded word.text)) (λ id h. read_id-feedless (folded word.text) id h))) (λ said h. h)
+
+pub record IsFeedlessNamed (issuer : NamedIssuer) : Type 0 where
+  pub id : IsFeedless issuer.id
+  pub group : IfSome issuer.group IsFeedless
+
+abbrev IsFeedlessOperand : Operand → Type 0
+IsFeedlessOperand (operand.Group group) = IsFeedless group
+IsFeedlessOperand other = Unit {0}
+
+key-feedless : (key value : List ℕ) → IfSome (keyed key value) IsFeedlessOperand
+key-feedless key value =
+    either (λ o. IfSome o IsFeedlessOperand) (bytes_eq key (codes "GROUP")) _ _
+    (if-map IsFeedlessOperand operand.Group (group_named value) (if-ok IsFeedless (group_of (folded value)) (λ group h. read_group-feedless (folded value) group h)))
+    (either (λ o. IfSome o IsFeedlessOperand) (bytes_eq key (codes "APPL")) _ _
+    (if-map IsFeedlessOperand operand.Application (id_named value) (always (id_named value) tt))
+    (either (λ o. IfSome o IsFeedlessOperand) (bytes_eq key (codes "SECLABEL")) _ _
+    (if-map IsFeedlessOperand operand.Label (id_named value) (always (id_named value) tt))
+    (if-then (λ class. Unit {0}) IsFeedlessOperand (port_at value)
+    (λ class _. if-map IsFeedlessOperand (λ name. operand.Port record { class = class; name = name }) (id_named value) (always (id_named value) tt)) (port_class_of key) (always (port_class_of key) tt))))
+
+grouped : (word : Operand) → IsFeedlessOperand word → IfSome (group_in word) IsFeedless
+grouped (operand.Group group) h = h
+grouped (operand.Port port) h = tt
+grouped (operand.Application name) h = tt
+grouped (operand.Label label) h = tt
+
+group-feedless : (text : List ℕ) → IfSome (group_word text) IsFeedless
+group-feedless text =
+    if-then IsFeedlessOperand IsFeedless group_in grouped (operand_word text) (if-then (λ value. Unit {0}) IsFeedlessOperand (keyed (key_of text)) (λ value _. key-feedless (key_of text) value) (value_of text) (always (value_of text) tt))
+
+with_group-feedless : (id : List ℕ) (words : List LineWord) → IsFeedless id → IfOk (with_group id words) IsFeedlessNamed
+with_group-feedless id [] h = record { id = h; group = tt }
+with_group-feedless id (word ∷ words) h =
+    bound IsFeedless IsFeedlessNamed (fits (group_word word.text) word.place) (λ group. ended words record { id = id; group = Some group }) (fitted (group_word word.text) word.place (group-feedless word.text))
+    (λ group k. all-said IsFeedlessNamed words (record { id = id; group = Some group }) (record { id = h; group = k }))
+
+issuer_by-feedless : (unread : UnreadLine) → IfOk (issuer_by unread) IsFeedlessNamed
+unfolding issuer_by
+issuer_by-feedless unread =
+    bound IsFeedlessSaid IsFeedlessNamed (next id_named unread) (λ id. with_group id.0 id.1.words) (next-id unread) (λ id h. with_group-feedless id.0 id.1.words h)
+
+issuer_behind-feedless : (words : List LineWord) (end : ℕ) → IfOk (issuer_behind words end) IsFeedlessNamed
+issuer_behind-feedless [] end = tt
+issuer_behind-feedless (verb ∷ words) end = issuer_by-feedless (record { words = words; end = end })
+
+told-place : (r : Result NamedIssuer ℕ) → IfOk r IsFeedlessNamed → IfOk (result_map_both (λ (issuer : NamedIssuer). issuer) BadLine r) IsFeedlessNamed
+told-place (Ok issuer) h = h
+told-place (Err place) h = tt
+
+pub issuer-feedless : (bytes : List ℕ) → IfOk (issuer_of_line bytes) IsFeedlessNamed
+unfolding issuer_of_line
+issuer-feedless bytes =
+    let unread = line_at 1 bytes in
+    either (λ r. IfOk r IsFeedlessNamed) (nat_lt longest_line (length bytes)) (Err LineTooLong) _ tt (told-place (issuer_behind unread.words unread.end) (issuer_behind-feedless unread.words unread.end))
 
 deleted-feedless : (unread : UnreadLine) → IfOk (deleted unread) IsFeedless
 unfolding deleted

@@ -19,6 +19,7 @@ use Rattle.racf_profiles.specs.declared.class_rows.ClassRow.{ClassRow}
 use Rattle.racf_profiles.specs.declared.rows.Rows.{Rows}
 use Rattle.racf_profiles.specs.Lookup.{is_user, is_group, is_class, is_profile, class_of, profile_of}
 use Rattle.racf_profiles.specs.Names.{is_to}
+use Rattle.racf_profiles.specs.State.{State, ListedCopy, is_copy_of, copy_of}
 use Rattle.racf_profiles.specs.Edits.{put_profile, at_class, with_profile, without_profile}
 use Rattle.racf_profiles.proofs.OrderedProfiles.{all-put_profile}
 use Rattle.racf_profiles.proofs.EditLaws.{all-drop_row}
@@ -39,15 +40,17 @@ use Rattle.command_effects.specs.Effects.{step}
 use Rattle.lawful_commands.proofs.RowLists.{all-push, all-filter, all-at, all-put}
 use Rattle.lawful_commands.proofs.FieldFacts.{each-all}
 use Rattle.lawful_commands.proofs.ProfileRows.{all-at_class}
-use Rattle.racf_run.proofs.Feedless.{IsFeedless, id-feedless, group-feedless, data_set-feedless, class_profile-feedless, if-given, if-found, if-then}
+use Rattle.racf_run.proofs.Feedless.{IsFeedless, id-feedless, group-feedless, data_set-feedless, class_profile-feedless, if-either, if-given, if-found, if-then}
 
 -- ---- what may be printed of each row
 pub record IsFeedlessUser (user : User) : Type 0 where
   pub id : IsFeedless user.id
+  pub default_group : IsFeedless user.default_group
   pub groups : AllByRecursion (λ (connection : Connection). IsFeedless connection.group) user.connects
 
 pub record IsFeedlessGroup (group : Group) : Type 0 where
   pub id : IsFeedless group.id
+  pub superior : IfSome group.superior IsFeedless
   pub owner : IsFeedless group.owner
 
 abbrev pub IsFeedlessWho : Who → Type 0
@@ -69,10 +72,22 @@ pub record AreFeedless (rows : Rows) : Type 0 where
 
 pub first-feedless : AreFeedless first_rows
 first-feedless = record {
-  users = (record { id = refl; groups = (refl, tt) }, tt);
-  groups = (record { id = refl; owner = refl }, tt);
+  users = (record { id = refl; default_group = refl; groups = (refl, tt) }, tt);
+  groups = (record { id = refl; superior = tt; owner = refl }, tt);
   classes = (tt, (tt, (tt, (tt, (tt, (tt, (tt, (tt, (tt, (tt, (tt, (tt, (tt, (tt, tt))))))))))))));
 }
+
+-- of a state: its listed copies too
+pub record IsFeedlessState (state : State) : Type 0 where
+  pub rows : AreFeedless state.rows
+  pub copies : AllByRecursion (λ (copy : ListedCopy). AllByRecursion IsFeedlessProfile copy.profiles) state.copies
+
+pub copy-feedless : (class : List ℕ) (state : State) → IsFeedlessState state → AllByRecursion IsFeedlessProfile (copy_of class state.copies)
+copy-feedless class state are = by (find (is_copy_of class) state.copies) (if-found (λ (copy : ListedCopy). AllByRecursion IsFeedlessProfile copy.profiles) (is_copy_of class) state.copies are.copies)
+  where
+    by : (o : Option ListedCopy) → IfSome o (λ (copy : ListedCopy). AllByRecursion IsFeedlessProfile copy.profiles) → AllByRecursion IsFeedlessProfile (option_map_or (λ (copy : ListedCopy). copy.profiles) o [])
+    by None h = tt
+    by (Some copy) h = h
 
 -- ---- the fields of a command that a text spells
 pub ids-feedless : (given : Option (List ℕ)) → IfSome given IsId → IfSome given IsFeedless
@@ -194,36 +209,36 @@ module _ (issuer : Issuer) (issuer_id : IsFeedless issuer.id) (issuer_group : Is
 
   pub step-feedless : (c : CommandFields) (rows : Rows) → AreLawfulFields c → AreFeedless rows → AreFeedless (step issuer c rows)
   step-feedless (command.AddUser c) rows f are = record {
-    users = all-push IsFeedlessUser rows.users (new_user issuer c rows) are.users (record { id = id-feedless c.user f.user; groups = (current-feedless c.dfltgrp f.dfltgrp, tt) });
+    users = all-push IsFeedlessUser rows.users (new_user issuer c rows) are.users (record { id = id-feedless c.user f.user; default_group = current-feedless c.dfltgrp f.dfltgrp; groups = (current-feedless c.dfltgrp f.dfltgrp, tt) });
     groups = are.groups;
     classes = are.classes;
   }
   step-feedless (command.AltUser c) rows f are = record {
-    users = all-at IsFeedlessUser (is_user c.user) (altered_user c rows) rows.users (λ user found h. record { id = h.id; groups = h.groups }) are.users;
+    users = all-at IsFeedlessUser (is_user c.user) (altered_user c rows) rows.users (λ user found h. record { id = h.id; default_group = if-given c.dfltgrp user.default_group (groups-feedless c.dfltgrp f.dfltgrp) h.default_group; groups = h.groups }) are.users;
     groups = are.groups;
     classes = are.classes;
   }
   step-feedless (command.DelUser c) rows f are = record { users = all-drop_row IsFeedlessUser (is_user c.user) rows.users are.users; groups = are.groups; classes = are.classes }
   step-feedless (command.AddGroup c) rows f are = record {
     users = are.users;
-    groups = all-push IsFeedlessGroup rows.groups (new_group issuer c) are.groups (record { id = group-feedless c.group f.group; owner = owner-feedless c.owner f.owner });
+    groups = all-push IsFeedlessGroup rows.groups (new_group issuer c) are.groups (record { id = group-feedless c.group f.group; superior = current-feedless c.supgroup f.supgroup; owner = owner-feedless c.owner f.owner });
     classes = are.classes;
   }
   step-feedless (command.AltGroup c) rows f are = record {
     users = are.users;
-    groups = all-at IsFeedlessGroup (is_group c.group) (altered_group c) rows.groups (λ group found h. record { id = h.id; owner = if-given c.owner group.owner (ids-feedless c.owner f.owner) h.owner }) are.groups;
+    groups = all-at IsFeedlessGroup (is_group c.group) (altered_group c) rows.groups (λ group found h. record { id = h.id; superior = if-either IsFeedless c.supgroup group.superior (groups-feedless c.supgroup f.supgroup) h.superior; owner = if-given c.owner group.owner (ids-feedless c.owner f.owner) h.owner }) are.groups;
     classes = are.classes;
   }
   step-feedless (command.DelGroup c) rows f are = record { users = are.users; groups = all-drop_row IsFeedlessGroup (is_group c.group) rows.groups are.groups; classes = are.classes }
   step-feedless (command.Connect c) rows f are = record {
     users = all-at IsFeedlessUser (is_user c.user) (connected_user issuer c) rows.users
-        (λ user found h. record { id = h.id; groups = connects-feedless c (group_or_current issuer c.group) user.connects (current-feedless c.group f.group) h.groups }) are.users;
+        (λ user found h. record { id = h.id; default_group = h.default_group; groups = connects-feedless c (group_or_current issuer c.group) user.connects (current-feedless c.group f.group) h.groups }) are.users;
     groups = are.groups;
     classes = are.classes;
   }
   step-feedless (command.Remove c) rows f are = record {
     users = all-at IsFeedlessUser (is_user c.user) (removed_user issuer c) rows.users
-        (λ user found h. record { id = h.id; groups = all-drop_row (λ (connection : Connection). IsFeedless connection.group) (is_to (group_or_current issuer c.group)) user.connects h.groups }) are.users;
+        (λ user found h. record { id = h.id; default_group = h.default_group; groups = all-drop_row (λ (connection : Connection). IsFeedless connection.group) (is_to (group_or_current issuer c.group)) user.connects h.groups }) are.users;
     groups = are.groups;
     classes = are.classes;
   }

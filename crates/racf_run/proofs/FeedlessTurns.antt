@@ -1,11 +1,13 @@
 -- Each statement of an input prints nothing or one line, and no line feed stands in its words.
 use Rattle.std.proofs.Common.{◌≡◌, ℕ, ◌+◌, Bool, true, false, cond, not, List, [], ◌∷◌, ◌++◌, Option, None, Some, Result, Ok, Err, refl, sym, subst, true≢false, inl, inr, is_some, length, codes}
-use Rattle.std.specs.Prelude.{◌⊎◌, ◌==◌, nat_le, IfSome, IfOk, find, unwrap_or}
+use Rattle.std.specs.Prelude.{◌⊎◌, ◌==◌, nat_le, IfSome, IfOk, find, option_map, unwrap_or, is_ok}
 use Rattle.std.specs.List.{AllByRecursion}
 use Rattle.std.proofs.lemmas.List.Sums.{AllPass-from_list_all}
 use Rattle.racf_outside.specs.Lines.{NoFeed}
 use Rattle.racf_profiles.specs.declared.rows.Rows.{Rows}
-use Rattle.racf_profiles.specs.State.{restart}
+use Rattle.racf_profiles.specs.Lookup.{is_user, user_of}
+use Rattle.racf_profiles.specs.declared.users.User.{User}
+use Rattle.raclist_image.specs.Imaged.{Imaged}
 use Rattle.racf_profiles.proofs.EditLaws.{all-drop_row}
 use Rattle.acee.specs.declared.acee.Acee.{Acee}
 use Rattle.acee.specs.declared.request.VerifyRequest.{VerifyRequest}
@@ -17,13 +19,21 @@ use Rattle.command_values.specs.declared.faults.Syntax.TheVariants as syntax
 use Rattle.command_values.specs.declared.operand_words.Word.{Word}
 use Rattle.command_values.specs.declared.operand_words.Word.TheVariants as words
 use Rattle.command_values.specs.OperandWords.{spelling_of}
+use Rattle.command_parser.specs.declared.commands.Issuer.{Issuer}
 use Rattle.command_parser.specs.declared.fields.CommandFields.{CommandFields}
 use Rattle.command_parser.specs.CommandOf.{command_in}
 use Rattle.command_parser.specs.Canonical.{fault}
 use Rattle.command_parser.specs.LawfulFields.{AreLawfulFields}
 use Rattle.command_conflicts.specs.declared.conflict.Conflict.{Conflict}
-use Rattle.command_conflicts.specs.Conflicts.{conflict_of}
+use Rattle.command_conflicts.specs.declared.conflict.Conflict.TheVariants.{NotBuilt}
+use Rattle.command_conflicts.specs.Unbuilt.{is_unbuilt}
+use Rattle.command_conflicts.specs.Conflicts.{conflict_of, first_conflict_of}
+use Rattle.command_authority.specs.declared.needs.Need.{Need}
+use Rattle.command_authority.specs.Authority.{need}
+use Rattle.access_levels.specs.Spelling.{group_of}
 use Rattle.request_files.specs.declared.acees.NamedAcee.{NamedAcee}
+use Rattle.request_files.specs.declared.issuer_line.NamedIssuer.{NamedIssuer}
+use Rattle.request_files.specs.IssuerLines.{issuer_of_line}
 use Rattle.request_files.specs.declared.line.LineRefusal.{LineRefusal}
 use Rattle.request_files.specs.declared.line.LineRefusal.TheVariants.{BadLine, NoAcee, AceeExists, AceesFull, BadName, LineTooLong}
 use Rattle.request_files.specs.Acees.{is_named, acee_named, put_refusal, most_acees}
@@ -35,19 +45,27 @@ use Rattle.racf_run.specs.declared.statement.Statement.{Statement}
 use Rattle.racf_run.specs.declared.statement.Statement.TheVariants as item
 use Rattle.racf_run.specs.declared.reply.Refusal.{Refusal}
 use Rattle.racf_run.specs.declared.reply.Refusal.TheVariants as refusal
-use Rattle.racf_desk.specs.Words.{syntax_words}
+use Rattle.racf_desk.specs.declared.refusal.Refusal.{Refusal as OfCommand}
+use Rattle.racf_desk.specs.declared.refusal.Refusal.TheVariants as of_command
+use Rattle.racf_desk.specs.declared.outcome.IssuedCommand.{IssuedCommand}
+use Rattle.racf_desk.specs.Issuers.{current_group, is_connected, issuer_in, unless_not_connected, issuer_among, issuer_of}
+use Rattle.racf_desk.specs.Outcome.{most_number, unless_refused, found_command, command_of_text, unless_unbuilt, built_command, first_of, number_spent, tests_of, unless_met, outcome_in}
+use Rattle.racf_desk.specs.Words.{syntax_words, each_need}
+use Rattle.racf_desk.specs.Words.{refusal_words as command_refusal_words}
 use Rattle.racf_run.specs.Replies.{refusal_words, reply_line}
-use Rattle.racf_run.specs.Commands.{issuer, is_other_command, found_command, read_command, most_number, unless_spent, conflict_refusal, refusal_of}
+use Rattle.racf_run.specs.Commands.{is_other_command}
+use Rattle.racf_run.specs.IssuerLines.{issuer_refusal}
 use Rattle.racf_run.specs.Requests.{is_unbuilt_line}
 use Rattle.racf_run.specs.Stream as s
-use Rattle.racf_run.specs.Stream.{State, Answer}
+use Rattle.racf_run.specs.Stream.{State, Answer, number_of}
 use Rattle.racf_run.specs.Printed.{Turn, turns, input_turns, printed, behind, PrintsOneLine}
 use Rattle.racf_run.specs.Script.{stream}
-use Rattle.racf_run.proofs.Feedless.{IsFeedless, joined, decimal-feedless, either, if-map, if-found}
-use Rattle.racf_run.proofs.FeedlessRows.{AreFeedless, first-feedless, step-feedless}
-use Rattle.racf_run.proofs.FeedlessConflicts.{IsFeedlessTest, conflict-feedless}
+use Rattle.racf_run.proofs.Feedless.{IsFeedless, joined, decimal-feedless, either, if-given, if-map, if-found}
+use Rattle.racf_run.proofs.FeedlessRows.{IsFeedlessUser, AreFeedless, IsFeedlessState, first-feedless, step-feedless}
+use Rattle.racf_run.proofs.FeedlessConflicts.{IsFeedlessTest, conflict-feedless, early-feedless}
+use Rattle.racf_run.proofs.FeedlessNeeds.{need-feedless}
 use Rattle.racf_run.proofs.FeedlessDecisions.{IsFeedlessAcee, decided-words, verified-acee}
-use Rattle.racf_run.proofs.FeedlessLines.{IsFeedlessLine, IsFeedlessRefusal, IsFeedlessRead, read-feedless, refusal-words, verify-words}
+use Rattle.racf_run.proofs.FeedlessLines.{IsFeedlessLine, IsFeedlessRefusal, IsFeedlessRead, IsFeedlessNamed, read-feedless, issuer-feedless, refusal-words, verify-words}
 
 -- ---- a line
 record IsNumbered (number : ℕ) (text : List ℕ) : Type 0 where
@@ -82,54 +100,54 @@ put-feedless name acees h =
     either (λ o. IfSome o IsFeedlessRefusal) (is_some (acee_named name acees)) (Some (AceeExists name)) _ h
     (either (λ o. IfSome o IsFeedlessRefusal) (length acees == most_acees) (Some AceesFull) None tt tt)
 
-module _ (number : ℕ) (rows : Rows) (acees : List NamedAcee) (are : AreFeedless rows) (groups : AreFeedlessAcees acees) where
-  stays : (text : List ℕ) (refused : Bool) → IsLine number text → Works number (record { text = text; refused = refused; acees = acees })
+module _ (position : Imaged) (acees : List NamedAcee) (are : IsFeedlessState position.state) (groups : AreFeedlessAcees acees) where
+  stays : (text : List ℕ) (refused : Bool) → IsLine position.generation text → Works position.generation (record { text = text; refused = refused; acees = acees })
   stays text refused h = record { line = h; acees = groups }
 
-  works-refused : (why : LineRefusal) → IsFeedlessRefusal why → Works number (request.refused (s.imaged number rows) acees why)
-  works-refused why h = stays _ true (line number (refused_words why) (refusal-words why h))
+  works-refused : (why : LineRefusal) → IsFeedlessRefusal why → Works position.generation (request.refused position acees why)
+  works-refused why h = stays _ true (line position.generation (refused_words why) (refusal-words why h))
 
-  works-unbuilt : Works number (request.unbuilt (s.imaged number rows) acees)
-  works-unbuilt = stays _ true (line number unbuilt_words refl)
+  works-unbuilt : Works position.generation (request.unbuilt position acees)
+  works-unbuilt = stays _ true (line position.generation unbuilt_words refl)
 
-  verify-told : (name : List ℕ) (result : Result Acee VerifyFault) → IfOk result IsFeedlessAcee → Works number (request.verify_told (s.imaged number rows) acees name result)
+  verify-told : (name : List ℕ) (result : Result Acee VerifyFault) → IfOk result IsFeedlessAcee → Works position.generation (request.verify_told position acees name result)
   verify-told name (Ok acee) h = record {
-    line = line number verified_words refl;
+    line = line position.generation verified_words refl;
     acees = all-push (λ (entry : NamedAcee). IsFeedlessAcee entry.acee) acees (record { name = name; acee = acee }) groups h;
   }
-  verify-told name (Err fault) h = stays _ false (line number (verify_fault_words fault) (verify-words fault))
+  verify-told name (Err fault) h = stays _ false (line position.generation (verify_fault_words fault) (verify-words fault))
 
-  verify-unless : (name : List ℕ) (asked : VerifyRequest) (why : Option LineRefusal) → IfSome why IsFeedlessRefusal → Works number (request.verify_unless (s.imaged number rows) acees name asked why)
+  verify-unless : (name : List ℕ) (asked : VerifyRequest) (why : Option LineRefusal) → IfSome why IsFeedlessRefusal → Works position.generation (request.verify_unless position acees name asked why)
   verify-unless name asked (Some why) h = works-refused why h
-  verify-unless name asked None h = verify-told name (verified (restart rows) number asked) (verified-acee rows number asked are)
+  verify-unless name asked None h = verify-told name (verified position.state position.generation asked) (verified-acee position.state position.generation asked are.rows)
 
   named-acee : (name : List ℕ) → IfSome (acee_named name acees) IsFeedlessAcee
   named-acee name =
       if-map IsFeedlessAcee (λ (entry : NamedAcee). entry.acee) (find (is_named name) acees) (if-found (λ (entry : NamedAcee). IsFeedlessAcee entry.acee) (is_named name) acees groups)
 
-  works-auth : (name : List ℕ) (access : Access) (acee : Option Acee) → IsFeedless name → IfSome acee IsFeedlessAcee → Works number (request.auth_for (s.imaged number rows) acees name access acee)
+  works-auth : (name : List ℕ) (access : Access) (acee : Option Acee) → IsFeedless name → IfSome acee IsFeedlessAcee → Works position.generation (request.auth_for position acees name access acee)
   unfolding answer_line
   works-auth name access None h k = works-refused (NoAcee name) h
   works-auth name access (Some acee) h k =
-      stays _ false (line number (decision_words (decided (restart rows) number acee access.class access.name access.asked)) (decided-words rows acee k access.class access.name access.asked number are))
+      stays _ false (line position.generation (decision_words (decided position.state position.generation acee access.class access.name access.asked)) (decided-words position.state acee k access.class access.name access.asked position.generation are))
 
-  works-delete : (name : List ℕ) (acee : Option Acee) → IsFeedless name → Works number (request.delete_for (s.imaged number rows) acees name acee)
+  works-delete : (name : List ℕ) (acee : Option Acee) → IsFeedless name → Works position.generation (request.delete_for position acees name acee)
   works-delete name None h = works-refused (NoAcee name) h
   works-delete name (Some acee) h = record {
-    line = line number deleted_words refl;
+    line = line position.generation deleted_words refl;
     acees = all-drop_row (λ (entry : NamedAcee). IsFeedlessAcee entry.acee) (is_named name) acees groups;
   }
 
-  works-line : (read : Line) → IsFeedlessLine read → Works number (request.line_worked (s.imaged number rows) acees read)
+  works-line : (read : Line) → IsFeedlessLine read → Works position.generation (request.line_worked position acees read)
   works-line (Verify name asked) h =
-      either (Works number) (is_some asked.label) _ _ works-unbuilt (verify-unless name asked (put_refusal name acees) (put-feedless name acees h))
+      either (Works position.generation) (is_some asked.label) _ _ works-unbuilt (verify-unless name asked (put_refusal name acees) (put-feedless name acees h))
   works-line (Auth name access) h = works-auth name access (acee_named name acees) h (named-acee name)
   works-line (Fastauth name access) h = works-unbuilt
   works-line (Delete name) h = works-delete name (acee_named name acees) h
-  works-line (After other) h = either (Works number) (nat_le other number) _ _ (stays [] false (inl refl)) (stays (never_line number) true (inr (inr refl)))
+  works-line (After other) h = either (Works position.generation) (nat_le other position.generation) _ _ (stays [] false (inl refl)) (stays (never_line position.generation) true (inr (inr refl)))
   works-line Skip h = stays [] false (inl refl)
 
-  works-read : (read : Result Line LineRefusal) → IsFeedlessRead read → Works number (request.worked (s.imaged number rows) acees read)
+  works-read : (read : Result Line LineRefusal) → IsFeedlessRead read → Works position.generation (request.worked position acees read)
   works-read (Ok read) h = works-line read h
   works-read (Err why) h = works-refused (request.told acees why) (told-feedless acees why h)
 
@@ -150,57 +168,141 @@ syntax-words (syntax.BadValue place) = decimal-feedless place
 syntax-words (syntax.Unclosed place) = decimal-feedless place
 syntax-words syntax.TextTooLong = refl
 
-abbrev IsFeedlessReply : Refusal → Type 0
-IsFeedlessReply why = IsFeedless (refusal_words why)
+abbrev IsFeedlessReply : OfCommand → Type 0
+IsFeedlessReply why = IsFeedless (command_refusal_words why)
 
-spent-words : (number : ℕ) → IfSome (unless_spent number) IsFeedlessReply
-spent-words number = either (λ o. IfSome o IsFeedlessReply) (nat_le most_number number) (Some refusal.NumberSpent) None refl tt
+abbrev IsFeedlessAnswer : Option OfCommand → Type 0
+IsFeedlessAnswer why = IfSome why IsFeedlessReply
 
-conflict-words : (number : ℕ) (o : Option Conflict) → IsFeedlessTest o → IfSome (conflict_refusal o number) IsFeedlessReply
-conflict-words number None h = spent-words number
-conflict-words number (Some conflict) h = h conflict refl
+spent-words : (number : ℕ) → IsFeedlessAnswer (number_spent number)
+spent-words number = either IsFeedlessAnswer (nat_le most_number number) (Some of_command.NumberSpent) None refl tt
+
+conflict-words : (o : Option Conflict) → IsFeedlessTest o → IsFeedlessAnswer (option_map of_command.Conflict o)
+conflict-words None h = tt
+conflict-words (Some conflict) h = h conflict refl
+
+lack-words : (o : Option (List Need)) → IfSome o (λ lacked. IsFeedless (codes "NEED" ++ each_need lacked)) → IsFeedlessAnswer (option_map of_command.Need o)
+lack-words None h = tt
+lack-words (Some lacked) h = h
+
+first-words : (list : List (Option OfCommand)) → AllByRecursion IsFeedlessAnswer list → IsFeedlessAnswer (first_of list)
+first-words [] h = tt
+first-words (None ∷ list) h = first-words list h.1
+first-words (Some why ∷ list) h = h.0
+
+tests-words : (issuer : Issuer) → IsFeedless issuer.id → IsFeedless issuer.group → (number : ℕ) (rows : Rows) (c : CommandFields) → AreLawfulFields c → AreFeedless rows → IsFeedlessAnswer (first_of (tests_of number rows issuer c))
+tests-words issuer id group number rows c f are =
+    first-words (tests_of number rows issuer c) (
+      conflict-words (first_conflict_of issuer c rows) (early-feedless issuer id group c rows f are),
+      (
+        lack-words (need rows issuer c) (need-feedless issuer id group c rows f are),
+        (conflict-words (conflict_of issuer c rows) (conflict-feedless issuer id group c rows f are), (spent-words number, tt)),
+      ),
+    )
+
+-- ---- the issuer of a command
+record IsFeedlessIssuer (issuer : Issuer) : Type 0 where
+  id : IsFeedless issuer.id
+  group : IsFeedless issuer.group
+
+abbrev IsFeedlessFound : Result Issuer OfCommand → Type 0
+IsFeedlessFound (Ok issuer) = IsFeedlessIssuer issuer
+IsFeedlessFound (Err why) = IsFeedlessReply why
+
+issuer-in : (id group : List ℕ) (b : Bool) (is : is_ok (group_of group) ≡ b) → IsFeedless id → IsFeedless group → IsFeedlessFound (issuer_in id group b is)
+issuer-in id group true is h k = record { id = h; group = k }
+issuer-in id group false is h k = k
+
+connected-issuer : (user : User) (id group : List ℕ) → IsFeedless id → IsFeedless group → IsFeedlessFound (unless_not_connected user id group)
+connected-issuer user id group h k =
+    either IsFeedlessFound (is_connected user group) (issuer_in id group (is_ok (group_of group)) refl) (Err (of_command.IssuerNotConnected group)) (issuer-in id group (is_ok (group_of group)) refl h k) k
+
+issuer-among : (o : Option User) (id : List ℕ) (group : Option (List ℕ)) → IfSome o IsFeedlessUser → IsFeedless id → IfSome group IsFeedless → IsFeedlessFound (issuer_among o id group)
+issuer-among None id group h i k = i
+issuer-among (Some user) id group h i k =
+    either IsFeedlessFound user.attributes.revoked (Err (of_command.IssuerRevoked id)) (unless_not_connected user id (current_group user group)) i
+    (connected-issuer user id (current_group user group) i (if-given group user.default_group k h.default_group))
+
+-- ---- the outcome of a command
+record IsFeedlessAccepted (issued : IssuedCommand) : Type 0 where
+  issuer : IsFeedlessIssuer issued.issuer
+  fields : AreLawfulFields issued.command
+
+abbrev IsFeedlessOutcome : Result IssuedCommand OfCommand → Type 0
+IsFeedlessOutcome (Ok issued) = IsFeedlessAccepted issued
+IsFeedlessOutcome (Err why) = IsFeedlessReply why
+
+abbrev IsFeedlessCommand : Result CommandFields OfCommand → Type 0
+IsFeedlessCommand (Ok c) = AreLawfulFields c
+IsFeedlessCommand (Err why) = IsFeedlessReply why
+
+built : (read : Result CommandFields OfCommand) → IsFeedlessCommand read → IsFeedlessCommand (unless_refused read unless_unbuilt)
+built (Err why) h = h
+built (Ok c) h = either IsFeedlessCommand (is_unbuilt c) (Err (of_command.Conflict NotBuilt)) (Ok c) refl h
+
+unless-met : (why : Option OfCommand) (issuer : Issuer) (c : CommandFields) → IsFeedlessAnswer why → IsFeedlessIssuer issuer → AreLawfulFields c → IsFeedlessOutcome (unless_met why issuer c)
+unless-met None issuer c h i f = record { issuer = i; fields = f }
+unless-met (Some why) issuer c h i f = h
+
+issued-outcome : (number : ℕ) (rows : Rows) (c : CommandFields) (found : Result Issuer OfCommand) → AreFeedless rows → AreLawfulFields c → IsFeedlessFound found
+    → IsFeedlessOutcome (unless_refused found (λ issuer. unless_met (first_of (tests_of number rows issuer c)) issuer c))
+issued-outcome number rows c (Err why) are f h = h
+issued-outcome number rows c (Ok issuer) are f h = unless-met (first_of (tests_of number rows issuer c)) issuer c (tests-words issuer h.id h.group number rows c f are) h f
+
+command-outcome : (number : ℕ) (rows : Rows) (id : List ℕ) (group : Option (List ℕ)) (read : Result CommandFields OfCommand) → AreFeedless rows → IsFeedless id → IfSome group IsFeedless → IsFeedlessCommand read
+    → IsFeedlessOutcome (unless_refused read (λ c. unless_refused (issuer_of rows id group) (λ issuer. unless_met (first_of (tests_of number rows issuer c)) issuer c)))
+command-outcome number rows id group (Err why) are i k h = h
+command-outcome number rows id group (Ok c) are i k h =
+    issued-outcome number rows c (issuer_of rows id group) are h (issuer-among (user_of id rows) id group (if-found IsFeedlessUser (is_user id) rows.users are.users) i k)
 
 -- ---- the answer to each statement
 record IsGood (before : State) : Type 0 where
-  rows : AreFeedless before.rows
+  state : IsFeedlessState before.position.state
+  issuer : IsFeedless before.issuer.id
+  group : IfSome before.issuer.group IsFeedless
   acees : AreFeedlessAcees before.acees
 
 record Prints (a : Answer) : Type 0 where
-  line : IsLine a.state.number a.text
+  line : IsLine (number_of a.state) a.text
   good : IsGood a.state
 
-prints-refuse : (why : Refusal) (before : State) → IsFeedlessReply why → IsGood before → Prints (s.refuse why before)
+prints-refuse : (why : Refusal) (before : State) → IsFeedless (refusal_words why) → IsGood before → Prints (s.refuse why before)
 unfolding reply_line
-prints-refuse why before h good = record { line = line before.number (codes "REFUSED " ++ refusal_words why) h; good = record { rows = good.rows; acees = good.acees } }
-
-prints-accept : (c : CommandFields) (before : State) → AreLawfulFields c → IsGood before → Prints (s.accept c before)
-unfolding reply_line
-prints-accept c before f good = record {
-  line = line (before.number + 1) (codes "ACCEPTED") refl;
-  good = record { rows = step-feedless issuer refl refl c before.rows f good.rows; acees = good.acees };
+prints-refuse why before h good = record {
+  line = line (number_of before) (codes "REFUSED " ++ refusal_words why) h;
+  good = record { state = good.state; issuer = good.issuer; group = good.group; acees = good.acees };
 }
 
-prints-unless : (why : Option Refusal) (c : CommandFields) (before : State) → IfSome why IsFeedlessReply → AreLawfulFields c → IsGood before → Prints (s.unless_refused why c before)
-prints-unless (Some why) c before h f good = prints-refuse why before h good
-prints-unless None c before h f good = prints-accept c before f good
+prints-outcome : (o : Result IssuedCommand OfCommand) (before : State) → IsFeedlessOutcome o → IsGood before → Prints (s.answer_outcome o before)
+unfolding reply_line
+prints-outcome (Err why) before h good = prints-refuse (refusal.Command why) before h good
+prints-outcome (Ok issued) before h good = record {
+  line = line (number_of before + 1) (codes "ACCEPTED") refl;
+  good = record {
+    state = record { rows = step-feedless issued.issuer h.issuer.id h.issuer.group issued.command before.position.state.rows h.fields good.state.rows; copies = good.state.copies };
+    issuer = good.issuer;
+    group = good.group;
+    acees = good.acees;
+  };
+}
 
-abbrev IsLawfulRead : Result CommandFields Refusal → Type 0
-IsLawfulRead (Ok c) = AreLawfulFields c
-IsLawfulRead (Err why) = IsFeedlessReply why
-
-prints-read : (r : Result CommandFields Refusal) (before : State) → IsLawfulRead r → IsGood before → Prints (s.process_read r before)
-prints-read (Err why) before h good = prints-refuse why before h good
-prints-read (Ok c) before h good =
-    prints-unless (refusal_of c before.number before.rows) c before (conflict-words before.number (conflict_of issuer c before.rows) (conflict-feedless issuer refl refl c before.rows h good.rows)) h good
-
-prints-with : (o : request.Outcome) (before : State) → Works before.number o → IsGood before → Prints (s.answer_with o before)
-prints-with o before works good = record { line = works.line; good = record { rows = good.rows; acees = works.acees } }
+prints-with : (o : request.Outcome) (before : State) → Works (number_of before) o → IsGood before → Prints (s.answer_with o before)
+prints-with o before works good = record { line = works.line; good = record { state = good.state; issuer = good.issuer; group = good.group; acees = works.acees } }
 
 prints-request : (text : List ℕ) (before : State) → IsGood before → Prints (s.request text before)
 unfolding s.request
 prints-request text before good =
     either Prints (is_unbuilt_line text (read text)) (s.refuse refusal.NotBuilt before) (s.answer_line (read text) before) (prints-refuse refusal.NotBuilt before refl good)
-    (prints-with (request.worked (s.image_of before) before.acees (read text)) before (works-read before.number before.rows before.acees good.rows good.acees (read text) (read-feedless text)) good)
+    (prints-with (request.worked before.position before.acees (read text)) before (works-read before.position before.acees good.state good.acees (read text) (read-feedless text)) good)
+
+-- ---- the lines of issuers
+issuer_refusal-words : (why : LineRefusal) → IsFeedless (refusal_words (issuer_refusal why))
+issuer_refusal-words (BadLine place) = decimal-feedless place
+issuer_refusal-words other = refl
+
+prints-issue : (read : Result NamedIssuer LineRefusal) (before : State) → IfOk read IsFeedlessNamed → IsGood before → Prints (s.issue_by read before)
+prints-issue (Ok issuer) before h good = record { line = inl refl; good = record { state = good.state; issuer = h.id; group = h.group; acees = good.acees } }
+prints-issue (Err why) before h good = prints-refuse (issuer_refusal why) before (issuer_refusal-words why) good
 
 -- ---- the turns of an input
 no_feed : (words : List ℕ) → IsFeedless words → NoFeed words
@@ -216,23 +318,24 @@ one_line turn (inr (inr never)) = inr (inr never)
 
 -- where the fields of a command that a text spells are lawful
 module _ (lawful : (issuer text : List ℕ) (c : CommandFields) → command_in issuer text ≡ Some c → AreLawfulFields c) where
-  command-read : (text : List ℕ) → IsLawfulRead (read_command text)
-  unfolding read_command
-  command-read text = by (is_other_command text)
+  command-read : (id text : List ℕ) → IsFeedlessCommand (built_command id text)
+  command-read id text = built (command_of_text id text) (found (command_in id text) refl)
     where
-      found : (o : Option CommandFields) → command_in issuer.id text ≡ o → IsLawfulRead (found_command o (fault issuer.id text))
-      found (Some c) e = lawful issuer.id text c e
-      found None e = syntax-words (unwrap_or (fault issuer.id text) syntax.UnknownCommand)
+      found : (o : Option CommandFields) → command_in id text ≡ o → IsFeedlessCommand (found_command o (fault id text))
+      found (Some c) e = lawful id text c e
+      found None e = syntax-words (unwrap_or (fault id text) syntax.UnknownCommand)
 
-      by : (b : Bool) → IsLawfulRead (cond b (Err refusal.NotBuilt) (found_command (command_in issuer.id text) (fault issuer.id text)))
-      by true = refl
-      by false = found (command_in issuer.id text) refl
+  prints-command : (text : List ℕ) (before : State) → IsGood before → Prints (s.command text before)
+  unfolding s.command outcome_in
+  prints-command text before good =
+      either Prints (is_other_command text) (s.refuse refusal.NotBuilt before) (s.answer_outcome (s.outcome_of text before) before) (prints-refuse refusal.NotBuilt before refl good)
+      (prints-outcome (s.outcome_of text before) before
+      (command-outcome (number_of before) before.position.state.rows before.issuer.id before.issuer.group (built_command before.issuer.id text) good.state.rows good.issuer good.group (command-read before.issuer.id text)) good)
 
   prints-answer : (i : Statement) (before : State) → IsGood before → Prints (s.answer i before)
-  unfolding s.command
-  prints-answer (item.Command text) before good = prints-read (read_command text) before (command-read text) good
+  prints-answer (item.Command text) before good = prints-command text before good
+  prints-answer (item.Issuer text) before good = prints-issue (issuer_of_line text) before (issuer-feedless text) good
   prints-answer (item.Request text) before good = prints-request text before good
-  prints-answer item.NotBuilt before good = prints-refuse refusal.NotBuilt before refl good
   prints-answer item.LineTooLong before good = prints-refuse refusal.LineTooLong before refl good
 
   turns-from : (items : List Statement) (before : State) → IsGood before → AllByRecursion PrintsOneLine (turns items before)
@@ -244,4 +347,5 @@ module _ (lawful : (issuer text : List ℕ) (c : CommandFields) → command_in i
 
   pub each_line : (bytes : List ℕ) → AllByRecursion PrintsOneLine (input_turns bytes)
   unfolding s.new_stream stream
-  each_line bytes = turns-from (stream.items bytes) s.new_stream (record { rows = first-feedless; acees = tt })
+  each_line bytes =
+      turns-from (stream.items bytes) s.new_stream (record { state = record { rows = first-feedless; copies = tt }; issuer = refl; group = tt; acees = tt })

@@ -2,7 +2,7 @@
 use Rattle.std.proofs.Common.{◌≡◌, ℕ, List, [], ◌∷◌, refl}
 use Rattle.std.specs.Prelude.{codes}
 use Rattle.racf_run.specs.declared.statement.Statement.{Statement}
-use Rattle.racf_run.specs.declared.statement.Statement.TheVariants.{Command, Request, NotBuilt}
+use Rattle.racf_run.specs.declared.statement.Statement.TheVariants.{Command, Issuer, Request}
 use Rattle.racf_run.specs.Statements.{request_of, is_request}
 use Rattle.racf_run.specs.Script.{stream}
 
@@ -27,7 +27,7 @@ unfolding request_of is_request stream
 joins_all = refl
 
 -- A comment doesn't go on, nor does a request; `VERIFY,A` and `*ISSUERX` are commands.
-apart : items (codes "/* x -\n verify a -\n*issuer A-\nVERIFY,A\n*ISSUERX") ≡ Request (codes " verify a -") ∷ NotBuilt ∷ Command (codes "VERIFY,A") ∷ Command (codes "*ISSUERX") ∷ []
+apart : items (codes "/* x -\n verify a -\n*issuer A-\nVERIFY,A\n*ISSUERX") ≡ Request (codes " verify a -") ∷ Issuer (codes "*issuer A-") ∷ Command (codes "VERIFY,A") ∷ Command (codes "*ISSUERX") ∷ []
 unfolding request_of is_request stream
 apart = refl
 

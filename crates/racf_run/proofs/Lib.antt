@@ -4,7 +4,7 @@ pub mod Folds
 pub mod CutLaws
 pub mod Walk
 pub mod MarkLaws
-pub mod CommandsRead
+pub mod Judged
 pub mod FrontLaws
 pub mod StatementLaws
 pub mod Pieces
@@ -15,6 +15,7 @@ pub mod PrintedLaws
 pub mod Feedless
 pub mod FeedlessRows
 pub mod FeedlessConflicts
+pub mod FeedlessNeeds
 pub mod FeedlessDecisions
 pub mod FeedlessLines
 pub mod FeedlessTurns

@@ -6,6 +6,7 @@ use Rattle.std.proofs.lemmas.Bool.{ne_eqb}
 use Rattle.std.proofs.lemmas.List.Sums.{list_all-from_AllPass}
 use Rattle.racf_outside.specs.Lines.{NoFeed}
 use Rattle.generic_names.specs.Spelled.{is_empty}
+use Rattle.racf_run.specs.Stream.{number_of}
 use Rattle.racf_run.specs.Printed.{Turn, printed, behind, PrintsOneLine, prints, split_lines}
 use Rattle.racf_run.proofs.Feedless.{IsFeedless, is_feedless, joined, decimal-feedless}
 
@@ -35,13 +36,13 @@ record IsEnded (text : List ℕ) : Type 0 where
 ended : (turn : Turn) → PrintsOneLine turn → (printed turn ≡ []) ⊎ IsEnded (printed turn)
 ended turn (inl none) = inl none
 ended turn (inr (inl line)) =
-    let number = decimal (behind turn).number in
+    let number = decimal (number_of (behind turn)) in
     inr (record {
       words = (number ++ codes " ") ++ line.words;
-      no_feed = joined (number ++ codes " ") line.words (joined number (codes " ") (decimal-feedless (behind turn).number) refl) (feedless line.words line.no_feed);
+      no_feed = joined (number ++ codes " ") line.words (joined number (codes " ") (decimal-feedless (number_of (behind turn))) refl) (feedless line.words line.no_feed);
       is_text = line.is_line;
     })
-ended turn (inr (inr never)) = inr (record { words = codes "NEVER " ++ decimal (behind turn).number; no_feed = decimal-feedless (behind turn).number; is_text = never })
+ended turn (inr (inr never)) = inr (record { words = codes "NEVER " ++ decimal (number_of (behind turn)); no_feed = decimal-feedless (number_of (behind turn)); is_text = never })
 
 some_bytes : (words : List ℕ) → not (is_empty (words ++ codes "\n")) ≡ true
 some_bytes [] = refl

@@ -23,16 +23,20 @@ use Rattle.request_files.specs.Answers.{numbered, unbuilt_words, verified_words,
 use Rattle.request_files.specs.Acees.{acee_named, put_refusal}
 use Rattle.request_files.specs.Grammar.{Access, Line, Verify, Auth, Fastauth, Delete, After, Skip, read}
 use Rattle.request_files.specs.Worked as request
-use Rattle.command_parser.specs.declared.fields.CommandFields.{CommandFields}
+use Rattle.racf_desk.specs.declared.outcome.IssuedCommand.{IssuedCommand}
+use Rattle.racf_desk.specs.declared.refusal.Refusal.{Refusal as OfCommand}
 use Rattle.racf_run.specs.declared.statement.Statement.{Statement}
 use Rattle.racf_run.specs.declared.statement.Statement.TheVariants as item
 use Rattle.racf_run.specs.declared.reply.Refusal.{Refusal}
 use Rattle.racf_run.specs.declared.reply.Refusal.TheVariants as refusal
 use Rattle.racf_run.specs.Replies.{refusal_words, reply_line}
-use Rattle.racf_run.specs.Commands.{refusal_of, read_command}
+use Rattle.request_files.specs.declared.issuer_line.NamedIssuer.{NamedIssuer}
+use Rattle.request_files.specs.IssuerLines.{issuer_of_line}
+use Rattle.racf_run.specs.Commands.{is_other_command}
+use Rattle.racf_run.specs.IssuerLines.{issuer_refusal}
 use Rattle.racf_run.specs.Requests.{is_unbuilt_line}
 use Rattle.racf_run.specs.Stream as s
-use Rattle.racf_run.specs.Stream.{State, Answer}
+use Rattle.racf_run.specs.Stream.{State, Answer, number_of}
 use Rattle.racf_run.specs.Printed.{behind_blank, says_refused}
 
 -- ---- decimal numbers
@@ -183,23 +187,24 @@ says_either before false x y p q = q
 
 says_refuse : (why : Refusal) (before : State) → Says before (s.refuse why before)
 unfolding reply_line
-says_refuse why before = sym (or_right before.has_refused true refl) ∙ ap (λ b. before.has_refused || b) (sym (refused_says before.number (refusal_words why)))
+says_refuse why before = sym (or_right before.has_refused true refl) ∙ ap (λ b. before.has_refused || b) (sym (refused_says (number_of before) (refusal_words why)))
 
-says_accept : (fields : CommandFields) (before : State) → Says before (s.accept fields before)
+says_accept : (issued : IssuedCommand) (before : State) → Says before (s.accept issued before)
 unfolding reply_line
-says_accept fields before = sym (or-false before.has_refused) ∙ ap (λ b. before.has_refused || b) (sym (numbered_says (before.number + 1) (codes "ACCEPTED")))
+says_accept issued before = sym (or-false before.has_refused) ∙ ap (λ b. before.has_refused || b) (sym (numbered_says (number_of before + 1) (codes "ACCEPTED")))
 
-says_unless : (why : Option Refusal) (fields : CommandFields) (before : State) → Says before (s.unless_refused why fields before)
-says_unless (Some why) fields before = says_refuse why before
-says_unless None fields before = says_accept fields before
-
-says_read : (read : Result CommandFields Refusal) (before : State) → Says before (s.process_read read before)
-says_read (Err why) before = says_refuse why before
-says_read (Ok fields) before = says_unless (refusal_of fields before.number before.rows) fields before
+says_outcome : (o : Result IssuedCommand OfCommand) (before : State) → Says before (s.answer_outcome o before)
+says_outcome (Err why) before = says_refuse (refusal.Command why) before
+says_outcome (Ok issued) before = says_accept issued before
 
 says_command : (text : List ℕ) (before : State) → Says before (s.command text before)
 unfolding s.command
-says_command text before = says_read (read_command text) before
+says_command text before =
+    says_either before (is_other_command text) (s.refuse refusal.NotBuilt before) (s.answer_outcome (s.outcome_of text before) before) (says_refuse refusal.NotBuilt before) (says_outcome (s.outcome_of text before) before)
+
+says_issue : (read : Result NamedIssuer LineRefusal) (before : State) → Says before (s.issue_by read before)
+says_issue (Ok issuer) before = sym (or-false before.has_refused)
+says_issue (Err why) before = says_refuse (issuer_refusal why) before
 
 says_with : (o : request.Outcome) (before : State) → Tells o → Says before (s.answer_with o before)
 says_with o before t = ap (λ b. before.has_refused || b) t
@@ -207,12 +212,12 @@ says_with o before t = ap (λ b. before.has_refused || b) t
 says_request : (text : List ℕ) (before : State) → Says before (s.request text before)
 unfolding s.request
 says_request text before =
-    says_either before (is_unbuilt_line text (read text)) (s.refuse refusal.NotBuilt before) (s.answer_line (read text) before) (says_refuse refusal.NotBuilt before) (says_with (request.worked (s.image_of before) before.acees (read text)) before (tells_worked (s.image_of before) before.acees (read text)))
+    says_either before (is_unbuilt_line text (read text)) (s.refuse refusal.NotBuilt before) (s.answer_line (read text) before) (says_refuse refusal.NotBuilt before) (says_with (request.worked before.position before.acees (read text)) before (tells_worked before.position before.acees (read text)))
 
 says_answer : (i : Statement) (before : State) → Says before (s.answer i before)
 says_answer (item.Command text) before = says_command text before
 says_answer (item.Request text) before = says_request text before
-says_answer item.NotBuilt before = says_refuse refusal.NotBuilt before
+says_answer (item.Issuer text) before = says_issue (issuer_of_line text) before
 says_answer item.LineTooLong before = says_refuse refusal.LineTooLong before
 
 pub item_says : (i : Statement) (before : State) → (s.step i before).has_refused ≡ (before.has_refused || says_refused (s.text i before))

@@ -5,7 +5,7 @@ use Rattle.racf_outside.specs.Lines.{NoFeed}
 use Rattle.generic_names.specs.Spelled.{is_empty}
 use Rattle.request_files.specs.Answers.{numbered, never_line}
 use Rattle.racf_run.specs.declared.statement.Statement.{Statement}
-use Rattle.racf_run.specs.Stream.{State, step, text}
+use Rattle.racf_run.specs.Stream.{State, number_of, step, text}
 use Rattle.racf_run.specs.Script.{stream}
 
 -- A statement at its turn: what stands before it.
@@ -34,10 +34,10 @@ behind turn = step turn.item turn.before
 pub record PrintsWords (turn : Turn) : Type 0 where
   pub words : List ℕ
   pub no_feed : NoFeed words
-  pub is_line : printed turn ≡ numbered (behind turn).number words
+  pub is_line : printed turn ≡ numbered (number_of (behind turn)) words
 
 abbrev pub PrintsOneLine : Turn → Type 0
-PrintsOneLine turn = (printed turn ≡ []) ⊎ (PrintsWords turn ⊎ (printed turn ≡ never_line (behind turn).number))
+PrintsOneLine turn = (printed turn ≡ []) ⊎ (PrintsWords turn ⊎ (printed turn ≡ never_line (number_of (behind turn))))
 
 -- whether anything is printed at a turn
 abbrev pub prints : Turn → Bool

@@ -1,8 +1,7 @@
--- The text of each reply to a command.
+-- The text of each reply to a command or to the line of an issuer.
 use Rattle.std.specs.Prelude.{ℕ, List, ◌++◌, codes, decimal}
-use Rattle.command_conflicts.specs.declared.conflict.Conflict.TheVariants as conflict
-use Rattle.racf_desk.specs.declared.refusal.Refusal.TheVariants as of_command
 use Rattle.racf_desk.specs.Words as words
+use Rattle.request_files.specs.Answers.{unbuilt_word}
 use Rattle.racf_run.specs.declared.reply.Refusal.{Refusal}
 use Rattle.racf_run.specs.declared.reply.Refusal.TheVariants as refusal
 use Rattle.racf_run.specs.declared.reply.Reply.{Reply}
@@ -10,10 +9,8 @@ use Rattle.racf_run.specs.declared.reply.Reply.TheVariants.{Accepted, Refused}
 
 -- why a line was refused
 abbrev pub refusal_words : Refusal → List ℕ
-refusal_words (refusal.Syntax fault) = words.refusal_words (of_command.Syntax fault)
-refusal_words (refusal.Conflict conflict) = words.refusal_words (of_command.Conflict conflict)
-refusal_words refusal.NumberSpent = words.refusal_words of_command.NumberSpent
-refusal_words refusal.NotBuilt = words.refusal_words (of_command.Conflict conflict.NotBuilt)
+refusal_words (refusal.Command why) = words.refusal_words why
+refusal_words refusal.NotBuilt = unbuilt_word
 refusal_words refusal.LineTooLong = codes "LINETOOLONG"
 
 abbrev pub reply_words : Reply → List ℕ

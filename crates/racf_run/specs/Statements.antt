@@ -6,7 +6,7 @@ use Rattle.command_words.specs.Bytes.{is_blank_byte, upper}
 use Rattle.command_words.specs.FrontWords as words
 use Rattle.command_words.specs.declared.front_words.Parting.TheVariants.{Line}
 use Rattle.racf_run.specs.declared.statement.Statement.{Statement}
-use Rattle.racf_run.specs.declared.statement.Statement.TheVariants.{Request, NotBuilt}
+use Rattle.racf_run.specs.declared.statement.Statement.TheVariants.{Issuer, Request}
 
 -- A line of blanks and tabs alone, and a comment, whose first two bytes are `/*`, are skipped.
 abbrev pub is_skipped : List ℕ → Bool
@@ -28,6 +28,6 @@ is_issuer text = bytes_eq (first_word text) (codes "*ISSUER")
 abbrev pub is_fastauth : List ℕ → Bool
 is_fastauth text = bytes_eq (first_word text) (codes "FASTAUTH")
 
--- A line of the issuer isn't built. Each other one of them asks for an answer.
+-- A line of the issuer names him. Each other one of them asks for an answer.
 unfoldable pub request_of : List ℕ → Statement
-request_of text = if is_issuer text then NotBuilt else Request text
+request_of text = if is_issuer text then Issuer text else Request text

@@ -1,34 +1,40 @@
 -- The stream: what stands between two lines, and the answer to each statement.
-use Rattle.std.specs.Prelude.{◌≡◌, ℕ, ◌+◌, Bool, true, false, ◌||◌, Option, Some, None, Result, Ok, Err, List, [], ◌++◌, if◌then◌else◌}
+use Rattle.std.specs.Prelude.{◌≡◌, ℕ, ◌+◌, Bool, true, false, ◌||◌, Result, Ok, Err, List, [], ◌++◌, if◌then◌else◌}
 use Rattle.racf_run.specs.declared.statement.Statement.{Statement}
 use Rattle.racf_run.specs.declared.statement.Statement.TheVariants as item
 use Rattle.racf_run.specs.declared.reply.Refusal.{Refusal}
 use Rattle.racf_run.specs.declared.reply.Refusal.TheVariants as refusal
 use Rattle.racf_run.specs.declared.reply.Reply.TheVariants.{Accepted, Refused}
-use Rattle.command_parser.specs.declared.fields.CommandFields.{CommandFields}
-use Rattle.racf_profiles.specs.declared.rows.Rows.{Rows}
-use Rattle.racf_profiles.specs.State.{restart}
-use Rattle.row_tables.specs.Tables.{first_rows}
-use Rattle.command_effects.specs.Effects
 use Rattle.raclist_image.specs.Imaged.{Imaged}
+use Rattle.racf_desk.specs.declared.refusal.Refusal.{Refusal as OfCommand}
+use Rattle.racf_desk.specs.declared.outcome.IssuedCommand.{IssuedCommand}
+use Rattle.racf_desk.specs.Outcome.{outcome}
+use Rattle.racf_desk.specs.Position.{first_position, position_behind}
 use Rattle.request_files.specs.declared.acees.NamedAcee.{NamedAcee}
+use Rattle.request_files.specs.declared.issuer_line.NamedIssuer.{NamedIssuer}
 use Rattle.request_files.specs.declared.line.LineRefusal.{LineRefusal}
 use Rattle.request_files.specs.Grammar.{Line, read}
+use Rattle.request_files.specs.IssuerLines.{issuer_of_line}
 use Rattle.request_files.specs.Worked.{Outcome, worked}
 use Rattle.racf_run.specs.Replies.{reply_line}
-use Rattle.racf_run.specs.Commands.{issuer, refusal_of, read_command}
+use Rattle.racf_run.specs.Commands.{is_other_command}
+use Rattle.racf_run.specs.IssuerLines.{first_issuer, issuer_refusal}
 use Rattle.racf_run.specs.Requests.{is_unbuilt_line}
 
--- The number counts the accepted commands. The rows are the database's; beside them stand the ACEEs in use, each under
--- its name.
+-- The position is that of the desk: the number of accepted commands, and the rows that they led to. Beside it stand who
+-- gives the commands, and the ACEEs in use, each under its name.
 pub record State : Type 0 where
-  pub number : ℕ
+  pub position : Imaged
+  pub issuer : NamedIssuer
   pub has_refused : Bool
-  pub rows : Rows
   pub acees : List NamedAcee
 
+-- the number of the commands that were accepted so far
+abbrev pub number_of : State → ℕ
+number_of s = s.position.generation
+
 unfoldable pub new_stream : State
-new_stream = record { number = 0; has_refused = false; rows = first_rows; acees = [] }
+new_stream = record { position = first_position; issuer = first_issuer; has_refused = false; acees = [] }
 
 -- A statement is answered by a text, and leaves a state.
 pub record Answer : Type 0 where
@@ -40,53 +46,50 @@ pub record DoesAs (a : Answer) (state : State) (old new : List ℕ) : Type 0 whe
   pub left : state ≡ a.state
   pub wrote : new ≡ old ++ a.text
 
--- A refusal changes nothing, but that a line was refused.
+-- A refusal changes nothing, but that a line was refused. The number of the commands accepted so far is printed.
 abbrev pub refuse : Refusal → State → Answer
-refuse why s = record { state = record s { has_refused = true }; text = reply_line s.number (Refused why) }
+refuse why s = record { state = record s { has_refused = true }; text = reply_line (number_of s) (Refused why) }
 
--- What a request is answered by: the image of the rows as they stand, with the number of commands that were accepted so
--- far. The copy of every listed class is equal to its live profiles there.
-abbrev pub imaged : ℕ → Rows → Imaged
-imaged number rows = record { state = restart rows; generation = number }
-
-abbrev pub image_of : State → Imaged
-image_of s = imaged s.number s.rows
-
--- A request changes the ACEEs alone, and whether a line was refused.
+-- A request is answered at the position as it stands. It changes the ACEEs alone, and whether a line was refused.
 abbrev pub answer_with : Outcome → State → Answer
 answer_with outcome s = record { state = record s { has_refused = s.has_refused || outcome.refused; acees = outcome.acees }; text = outcome.text }
 
 abbrev pub answer_line : Result Line LineRefusal → State → Answer
-answer_line line s = answer_with (worked (image_of s) s.acees line) s
+answer_line line s = answer_with (worked s.position s.acees line) s
 
 -- What isn't built comes behind a line that doesn't fit, and before every other refusal.
 unfoldable pub request : List ℕ → State → Answer
 request text s = if is_unbuilt_line text (read text) then refuse refusal.NotBuilt s else answer_line (read text) s
 
--- A command is refused, or it is accepted: then it is counted, and the rows are as it leaves them. The number that is
--- printed is the one behind the command.
-abbrev pub accept : CommandFields → State → Answer
-accept fields s = record { state = record s { number = s.number + 1; rows = Effects.step issuer fields s.rows }; text = reply_line (s.number + 1) Accepted }
+-- A command that isn't refused is accepted: then the position is the one behind it, and its number is printed.
+abbrev pub accept : IssuedCommand → State → Answer
+accept issued s = record { state = record s { position = position_behind s.position issued }; text = reply_line (number_of s + 1) Accepted }
 
-abbrev pub unless_refused : Option Refusal → CommandFields → State → Answer
-unless_refused (Some why) fields s = refuse why s
-unless_refused None fields s = accept fields s
+abbrev pub answer_outcome : Result IssuedCommand OfCommand → State → Answer
+answer_outcome (Ok issued) s = accept issued s
+answer_outcome (Err why) s = refuse (refusal.Command why) s
 
-abbrev pub process_command : CommandFields → State → Answer
-process_command fields s = unless_refused (refusal_of fields s.number s.rows) fields s
-
-abbrev pub process_read : Result CommandFields Refusal → State → Answer
-process_read (Err why) s = refuse why s
-process_read (Ok fields) s = process_command fields s
+-- A command's outcome is that at the position, where the issuer gives it who was named last.
+abbrev pub outcome_of : List ℕ → State → Result IssuedCommand OfCommand
+outcome_of text s = outcome s.position s.issuer.id s.issuer.group text
 
 unfoldable pub command : List ℕ → State → Answer
-command text s = process_read (read_command text) s
+command text s = if is_other_command text then refuse refusal.NotBuilt s else answer_outcome (outcome_of text s) s
+
+-- A line that names an issuer who fits prints nothing, whoever he is: he is judged at each command. One that doesn't fit
+-- is refused, and the issuer stays.
+abbrev pub issue_by : Result NamedIssuer LineRefusal → State → Answer
+issue_by (Ok issuer) s = record { state = record s { issuer = issuer }; text = [] }
+issue_by (Err why) s = refuse (issuer_refusal why) s
+
+abbrev pub name_issuer : List ℕ → State → Answer
+name_issuer text s = issue_by (issuer_of_line text) s
 
 -- the answer to each statement
 abbrev pub answer : Statement → State → Answer
 answer (item.Command text) s = command text s
+answer (item.Issuer text) s = name_issuer text s
 answer (item.Request text) s = request text s
-answer item.NotBuilt s = refuse refusal.NotBuilt s
 answer item.LineTooLong s = refuse refusal.LineTooLong s
 
 -- what stands after a statement

@@ -1,10 +1,10 @@
 //! Laws of the definitions, for a reader of an output. The functions do nothing: their contracts are what is proved.
 
-ghost use Rattle.std.specs.Prelude.{◌≡◌, ℕ, List, ◌∷◌, ◌++◌, map, filter, None, Some, Ok, if◌then◌else◌};
+ghost use Rattle.std.specs.Prelude.{◌≡◌, ℕ, false, List, ◌∷◌, ◌++◌, map, filter, None, Some, Ok, unwrap_or, if◌then◌else◌};
+ghost use Rattle.std.specs.Result.{result_ok};
 ghost use Rattle.std.specs.List.{AllByRecursion, concat, list_any};
 ghost use Rattle.decision.specs.Table.{decided};
 ghost use Rattle.decision.specs.Verify.{verified};
-ghost use Rattle.racf_profiles.specs.State.{restart};
 ghost use Rattle.acee.specs.declared.acee.Acee.{Acee};
 ghost use Rattle.acee.specs.declared.request.VerifyRequest.{VerifyRequest};
 ghost use Rattle.request_files.specs.Acees.{acee_named, put_refusal};
@@ -12,12 +12,15 @@ ghost use Rattle.request_files.specs.Answers.{answer_line};
 ghost use Rattle.request_files.specs.Grammar.{Access, Auth, Verify, read};
 ghost use Rattle.request_files.specs.Worked.{verify_told};
 ghost use Rattle.racf_run.specs.declared.statement.Statement.{Statement};
-ghost use Rattle.racf_run.specs.declared.statement.Statement.TheVariants.{Request};
+ghost use Rattle.racf_run.specs.declared.statement.Statement.TheVariants.{Command, Issuer, Request};
 ghost use Rattle.racf_run.specs.declared.status.Status.TheVariants.{Done, Refusals};
 ghost use Rattle.racf_run.specs.Runs.{after};
 ghost use Rattle.racf_run.specs.Script.{stream, script_output, script_status};
-ghost use Rattle.racf_run.specs.Stream.{image_of, step};
-ghost use Rattle.racf_run.specs.Printed.{Turn, input_turns, turns, printed, PrintsOneLine, prints, split_lines};
+ghost use Rattle.racf_run.specs.Commands.{is_other_command};
+ghost use Rattle.request_files.specs.IssuerLines.{issuer_of_line};
+ghost use Rattle.racf_run.specs.Stream.{number_of, step, answer_outcome, outcome_of};
+ghost use Rattle.racf_desk.specs.Position.{position_after};
+ghost use Rattle.racf_run.specs.Printed.{Turn, input_turns, turns, printed, behind, PrintsOneLine, prints, split_lines};
 ghost use Rattle.racf_run.specs.Printed.{says_refused};
 
 use command_parser::laws::{fields_of_a_text_are_lawful, one_command_is_spelled};
@@ -38,21 +41,33 @@ pub fn an_item_prints_one_line()
     fields_of_a_text_are_lawful();
 }
 
-/// The line of an AUTH whose ACEE is in use is the decision that the table gives for that ACEE on the rows of its turn,
-/// with the number of the commands before it; that of a VERIFY that can put an ACEE is what `verified` gives there.
+/// The line of an AUTH whose ACEE is in use is the decision that the table gives for that ACEE at the position of its
+/// turn, with the number of the commands before it; that of a VERIFY that can put an ACEE is what `verified` gives there.
 pub fn requests_are_decided()
     ensures auth { (turn : Turn) (line acee : List ℕ) (access : Access) (user : Acee) → turn.item ≡ Request line →
         read line ≡ Ok (Auth acee access) → acee_named acee turn.before.acees ≡ Some user →
-        printed turn ≡ answer_line turn.before.number
-        (decided (restart turn.before.rows) turn.before.number user access.class access.name access.asked) }
+        printed turn ≡ answer_line (number_of turn.before)
+        (decided turn.before.position.state (number_of turn.before) user access.class access.name access.asked) }
     ensures verify { (turn : Turn) (line acee : List ℕ) (asked : VerifyRequest) → turn.item ≡ Request line →
         read line ≡ Ok (Verify acee asked) → asked.label ≡ None → put_refusal acee turn.before.acees ≡ None →
-        printed turn ≡ (verify_told (image_of turn.before) turn.before.acees acee
-        (verified (restart turn.before.rows) turn.before.number asked)).text }
+        printed turn ≡ (verify_told turn.before.position turn.before.acees acee
+        (verified turn.before.position.state (number_of turn.before) asked)).text }
 {}
 
 /// A run over a whole input ends with the status of refusals exactly where a line of its output says REFUSED or NEVER.
 pub fn the_status_is_what_the_lines_say()
     ensures { (bytes : List ℕ) → script_status bytes ≡
         (if list_any says_refused (map printed (input_turns bytes)) then Refusals else Done) }
+{}
+
+/// A command that is built has its outcome at the position of its turn, where the issuer of its turn gives it: that is
+/// printed, and the position behind the turn is the one behind that outcome. A line of an issuer who fits is the issuer of
+/// the next turns; one that doesn't fit changes no issuer.
+pub fn commands_are_judged()
+    ensures told { (turn : Turn) (text : List ℕ) → turn.item ≡ Command text → is_other_command text ≡ false →
+        printed turn ≡ (answer_outcome (outcome_of text turn.before) turn.before).text }
+    ensures moved { (turn : Turn) (text : List ℕ) → turn.item ≡ Command text → is_other_command text ≡ false →
+        (behind turn).position ≡ position_after turn.before.position (outcome_of text turn.before) }
+    ensures named { (turn : Turn) (line : List ℕ) → turn.item ≡ Issuer line →
+        (behind turn).issuer ≡ unwrap_or (result_ok (issuer_of_line line)) turn.before.issuer }
 {}

@@ -2,8 +2,8 @@
 //! the program, over a shelf of named inputs and outputs.
 //!
 //! The principal functions are `racf`, the top call over a shelf of `racf_outside`, and `script` between one source and
-//! one sink; both answer with a `Status`. The commands are worked by `racf_database`, the requests by `request_files`.
-//! `laws` is for a reader of an output.
+//! one sink; both answer with a `Status`. Commands are given at the desk of `racf_desk`, requests are answered by
+//! `request_files` on the desk's image. `laws` is for a reader of an output.
 //!
 //! ```text
 //! let (status, source) = script(alloc, source, &mut sink);
@@ -13,6 +13,7 @@
 
 mod commands;
 mod input;
+mod issuer;
 mod joining;
 pub mod laws;
 mod mark;

@@ -1,23 +1,18 @@
-//! The replies to commands, and to lines that are too long or aren't built, as they are printed.
+//! The replies to commands and to issuers, and to lines that are too long or aren't built, as they are printed.
 
 ghost use Rattle.std.specs.Prelude.{◌≡◌, ◌++◌, OnOk};
 ghost use Rattle.racf_run.specs.Replies.{refusal_words, reply_words, reply_line};
 
-use command_parser::Syntax;
 use itoa::Buffer;
-use racf_database::Conflict;
 use racf_desk::Refusal as OfCommand;
+use request_files::unbuilt_word;
 use std::alloc::AllocError;
 
 /// Why a line was refused.
-#[derive(Clone, Copy)]
+#[derive(Drop)]
 pub enum Refusal {
-    /// The text of a command spells none: its first fault.
-    Syntax(Syntax),
-    /// What the command conflicts with.
-    Conflict(Conflict),
-    /// As many commands were accepted as there are numbers.
-    NumberSpent,
+    /// Why the command is refused at its position, or the place of the word by which a line names no issuer.
+    Command(OfCommand),
     /// This program doesn't have what the line asks for.
     NotBuilt,
     /// A line of more than 4,096 bytes.
@@ -25,7 +20,7 @@ pub enum Refusal {
 }
 
 /// What is printed for a line, after the number.
-#[derive(Clone, Copy)]
+#[derive(Drop)]
 pub enum Reply {
     /// The command was worked.
     Accepted,
@@ -39,10 +34,8 @@ impl Refusal {
         ensures { OnOk result (out.new.items ≡ out.old.items ++ refusal_words self.now) }
     {
         match self {
-            Refusal::Syntax(fault) => OfCommand::Syntax(*fault).write(out),
-            Refusal::Conflict(conflict) => OfCommand::Conflict(*conflict).write(out),
-            Refusal::NumberSpent => OfCommand::NumberSpent.write(out),
-            Refusal::NotBuilt => OfCommand::Conflict(Conflict::NotBuilt).write(out),
+            Refusal::Command(why) => why.write(out),
+            Refusal::NotBuilt => out.extend_from_slice(unbuilt_word()),
             Refusal::LineTooLong => out.extend_from_slice(b"LINETOOLONG"),
         }
     }

@@ -24,15 +24,15 @@ impl Model for LineText {
     ghost view = { λ text. text.bytes.items };
 }
 
-/// What a stream asks for at once: a command, whose lines are joined, or a request, which is one line.
+/// What a stream asks for at once: a command, whose lines are joined, or a request or an issuer, which is one line.
 #[derive(Drop)]
 pub enum Statement {
     /// A command (z/OS Security Server RACF Command Language Reference).
     Command(LineText),
+    /// A line that names who gives the commands behind it (this product's own).
+    Issuer(LineText),
     /// A request (RACROUTE Macro Reference: VERIFY, AUTH, FASTAUTH), or `DELETE` or `*AFTER` (this product's own).
     Request(LineText),
-    /// A line that names the issuer, which this program doesn't have.
-    NotBuilt,
     /// A line of more than 4,096 bytes, and with it the command that it was to go on with.
     LineTooLong,
 }
@@ -58,16 +58,16 @@ impl LineText {
 impl Statement {
     ghost use Rattle.racf_run.specs.Statements.{request_of};
 
-    /// What the line of a request asks for. Takes memory for its text.
+    /// What the line of a request or of an issuer asks for. Takes memory for its text.
     #[tactic(auto, unfolding(crate::specs::Statements::request_of))]
     pub(crate) fn request(alloc: Global, text: &[u8]) -> Result<Statement, AllocError>
         ensures { IfOk result (λ item. item ≡ request_of text.now) }
     {
+        let line = LineText::new(Vec::from_slice(alloc, text)?);
         if is_issuer(text) {
-            return Ok(Statement::NotBuilt);
+            return Ok(Statement::Issuer(line));
         }
-        let bytes = Vec::from_slice(alloc, text)?;
-        Ok(Statement::Request(LineText::new(bytes)))
+        Ok(Statement::Request(line))
     }
 }
 

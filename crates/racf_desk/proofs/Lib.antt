@@ -1,5 +1,4 @@
 mod IssuerLaws
 pub mod TextLaws
 mod MakingLaws
-mod DeskLaws
 mod OutcomeRows

@@ -5,13 +5,13 @@ ghost use Rattle.std.specs.Arc.{arc_value};
 use crate::answers::{Ready, Reply};
 use crate::making::make;
 use crate::outcome::{IssuedCommand, outcome_in};
-use access_levels::{Id, Text};
-use command_parser::Issuer;
+use access_levels::Id;
 use racf_database::Database;
 use racf_profiles::NoMemory;
 use raclist_image::Image;
 use std::alloc::Global;
 use std::marker::Model;
+use std::snapshot::Snapshot;
 use std::sync::Arc;
 
 /// A database at which commands are given, with the image of its rows. To the layer above it is its position and what was
@@ -22,19 +22,9 @@ pub struct Desk {
     database: Database,
     /// The image of the rows, with the number of commands that led to them.
     image: Arc<Image>,
-    /// What `judge` made last. It stands while the database has its edits prepared, and until the next judgement.
-    made: Option<KeptReady>,
-}
-
-/// What a desk knows again of what it made.
-#[derive(Drop)]
-struct KeptReady {
-    /// Who gave the command.
-    issuer: Issuer,
-    /// The command's canonical text.
-    text: Text,
-    /// The image behind it, whose number is the command's.
-    image: Arc<Image>,
+    /// What `judge` made last and isn't installed, as contracts see it: the value itself is its owner's. Its edits are
+    /// those that the database has prepared.
+    made: Option<Snapshot<Ready>>,
 }
 
 impl Model for Desk {
@@ -113,10 +103,7 @@ impl Desk {
         let Ok(ready) = make(alloc, &mut self.database, &self.image, &issued) else {
             return Err(Reply::NoMemory);
         };
-        let Ok(kept) = KeptReady::of(alloc, &ready) else {
-            return Err(Reply::NoMemory);
-        };
-        self.made = Some(kept);
+        self.made = Some(Snapshot::of(&ready));
         Ok(ready)
     }
 
@@ -134,6 +121,7 @@ impl Desk {
             image,
             ..
         } = ready;
+        self.made.take();
         self.image = image;
         self.database.apply(change);
         number
@@ -148,20 +136,5 @@ impl Desk {
             Ok(ready) => Reply::Accepted(self.install(ready)),
             Err(reply) => reply,
         }
-    }
-}
-
-impl KeptReady {
-    /// What is known again of what was made.
-    fn of(alloc: Global, ready: &Ready) -> Result<KeptReady, NoMemory>
-        ensures issuer { IfOk result (λ kept. kept.issuer ≡ ready.now.issuer) }
-        ensures text { IfOk result (λ kept. kept.text ≡ ready.now.text) }
-        ensures image { IfOk result (λ kept. arc_value kept.image ≡ arc_value ready.now.image) }
-    {
-        Ok(KeptReady {
-            issuer: ready.issuer,
-            text: Text::of(alloc, ready.text.bytes())?,
-            image: Arc::try_clone(&ready.image)?,
-        })
     }
 }

@@ -27,6 +27,6 @@ mod words;
 
 pub use answers::{Ready, Reply};
 pub use desk::Desk;
-pub use outcome::IssuedCommand;
+pub use outcome::{IssuedCommand, MOST_NUMBER};
 pub use racf_profiles::NoMemory;
 pub use refusal::Refusal;

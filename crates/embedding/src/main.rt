@@ -1,4 +1,4 @@
-//! The example of docs/EMBEDDING.md as a whole program: it makes a database, gives it commands, makes the image, verifies
+//! The example of docs/EMBEDDING.md as a whole program: it makes a desk, gives it commands by two issuers, verifies
 //! two users and decides on two requests, and prints each step. Who puts the libraries into a program of his own may
 //! begin with a copy of it.
 //!
@@ -10,58 +10,62 @@
 use access_levels::{Id, Level};
 use acee::{Acee, VerifyRequest};
 use anyhow::{Result, anyhow};
-use command_parser::{Issuer, parse};
 use decision::{Request, auth, verify};
 use generic_names::{NameKind, Resource};
-use racf_database::{Conflict, Database};
-use racf_profiles::{FixedClass, ibmuser, sys1};
+use racf_desk::{Desk, Refusal, Reply};
+use racf_profiles::FixedClass;
 use raclist_image::Image;
 
-/// The commands. PAX is no user, so the last of them is refused.
-const COMMANDS: [&str; 5] = [
-    "ADDGROUP PAY OWNER(SYS1)",
-    "ADDUSER ANN DFLTGRP(PAY)",
-    "ADDSD 'PAY.**' UACC(NONE)",
-    "PERMIT 'PAY.**' ID(PAY) ACCESS(READ)",
-    "PERMIT 'PAY.**' ID(PAX) ACCESS(UPDATE)",
+/// The commands, with who gives each. PAX is no user, and the data set is not ANN's, so the last two are refused.
+const COMMANDS: [(&str, &str); 6] = [
+    ("IBMUSER", "ADDGROUP PAY OWNER(SYS1)"),
+    ("IBMUSER", "ADDUSER ANN DFLTGRP(PAY)"),
+    ("IBMUSER", "ADDSD 'PAY.**' UACC(NONE)"),
+    ("IBMUSER", "PERMIT 'PAY.**' ID(PAY) ACCESS(READ)"),
+    ("IBMUSER", "PERMIT 'PAY.**' ID(PAX) ACCESS(UPDATE)"),
+    ("ANN", "PERMIT 'PAY.**' ID(ANN) ACCESS(UPDATE)"),
 ];
 
 /// Goes through the steps, from a new database to two users' requests.
 fn main(rt: HostRuntime) -> Result<()> {
-    let mut database = Database::new(rt.alloc())?;
-    for text in COMMANDS {
-        give(&rt, &mut database, text)?;
+    let mut desk = Desk::new(rt.alloc())?;
+    for (issuer, text) in COMMANDS {
+        give(&rt, &mut desk, identifier(issuer)?, text)?;
     }
-    let rows = database.to_rows(rt.alloc())?;
-    let image = Image::of(rt.alloc(), &rows, 1)?;
+    let image = desk.image();
     println!(rt; "the image has {} users", image.user_count())?;
-    show_user(&rt, &image, "ANN")?;
-    show_user(&rt, &image, "BOB")
+    show_user(&rt, image, "ANN")?;
+    show_user(&rt, image, "BOB")
 }
 
-/// Gives a command as IBMUSER in SYS1.
-fn give(rt: &(impl Print + AllocGlobal), database: &mut Database, text: &str) -> Result<()> {
-    let issuer = Issuer::new(ibmuser(), sys1()).ok_or_else(|| anyhow!("no issuer"))?;
-    let Ok(command) = parse(rt.alloc(), issuer.id, text.as_bytes()) else {
-        return Err(anyhow!("no command"));
-    };
-    match database.check(&issuer, &command) {
-        Err(Conflict::NoUser(_)) => println!(rt; "refused, no such user: {text}")?,
-        Err(_) => println!(rt; "refused: {text}")?,
-        Ok(()) => {
-            // Memory alone can be wanting here, and nothing in `apply`.
-            let change = database.prepare(rt.alloc(), &issuer, &command)?;
-            database.apply(change);
-            println!(rt; "accepted: {text}")?;
+/// The ID that is spelled so.
+fn identifier(text: &str) -> Result<Id> {
+    Id::read(text.as_bytes()).map_err(|_| anyhow!("no identifier"))
+}
+
+/// Gives a command, by this issuer in his default group.
+fn give(rt: &(impl Print + AllocGlobal), desk: &mut Desk, issuer: Id, text: &str) -> Result<()> {
+    match desk.execute(rt.alloc(), issuer, None, text.as_bytes()) {
+        Reply::Accepted(number) => println!(rt; "{number} accepted: {text}")?,
+        Reply::Refused(number, refusal) => {
+            println!(rt; "{number} refused, {}: {text}", words(rt, &refusal)?)?;
         }
+        Reply::NoMemory => return Err(anyhow!("no memory")),
     }
     Ok(())
+}
+
+/// The words of a refusal.
+fn words(rt: &impl AllocGlobal, refusal: &Refusal) -> Result<String> {
+    let mut words = Vec::new(rt.alloc());
+    refusal.write(&mut words)?;
+    String::from_utf8(words).map_err(|_| anyhow!("no text"))
 }
 
 /// Verifies a user, and decides on two requests of his.
 fn show_user(rt: &(impl Print + AllocGlobal), image: &Image, user: &str) -> Result<()> {
     let request = VerifyRequest {
-        user: Id::read(user.as_bytes()).map_err(|_| anyhow!("no identifier"))?,
+        user: identifier(user)?,
         group: None,
         port: None,
         application: None,

@@ -96,7 +96,7 @@ use Rattle.command_conflicts.specs.Conflicts.{
 }
 use Rattle.lawful_commands.proofs.FieldFacts.{each-all}
 use Rattle.racf_desk.specs.Words.{kind_words, conflict_words}
-use Rattle.racf_run.proofs.Feedless.{IsFeedless, joined, decimal-feedless, read_id-feedless, id-feedless, group-feedless, data_set-feedless, class_profile-feedless, any_profile-feedless, always, if-map, if-then, if-found, if-given, if-ok}
+use Rattle.racf_run.proofs.Feedless.{IsFeedless, joined, decimal-feedless, read_id-feedless, id-feedless, group-feedless, data_set-feedless, class_profile-feedless, any_profile-feedless, either, always, if-map, if-then, if-found, if-given, if-ok}
 use Rattle.racf_run.proofs.FeedlessRows.{IsFeedlessUser, IsFeedlessGroup, IsFeedlessProfile, IsFeedlessWho, AreFeedlessProfiles, AreFeedless, ids-feedless, groups-feedless, whos-feedless, current-feedless, owner-feedless}
 
 -- a test that tells only conflicts without a line feed
@@ -332,6 +332,17 @@ altered-feedless : (c : AltGroup) (o : Option Group) → IfSome c.owner IsFeedle
 altered-feedless c None h k = tt
 altered-feedless c (Some group) h k = if-given c.owner group.owner h k.owner
 
+-- the first conflict that is met, and the first of those that are told early
+first-test : (list : List (Option Conflict)) → AllByRecursion IsFeedlessTest list → IsFeedlessTest (first_met list)
+first-test [] h = none
+first-test (None ∷ list) h = first-test list h.1
+first-test (Some conflict ∷ list) h = h.0
+
+early-test : (list : List (Option Conflict)) → AllByRecursion IsFeedlessTest list → IsFeedlessTest (find is_early (numbers.met list))
+early-test [] h = none
+early-test (None ∷ list) h = early-test list h.1
+early-test (Some conflict ∷ list) h = either IsFeedlessTest (is_early conflict) (Some conflict) (find is_early (numbers.met list)) h.0 (early-test list h.1)
+
 module _ (issuer : Issuer) (issuer_id : IsFeedless issuer.id) (issuer_group : IsFeedless issuer.group) where
   each-test : (c : CommandFields) (rows : Rows) → AreLawfulFields c → AreFeedless rows → AllByRecursion IsFeedlessTest (conflicts issuer c rows)
   unfolding add_user_conflicts alt_user_conflicts del_user_conflicts add_group_conflicts alt_group_conflicts del_group_conflicts connect_conflicts remove_conflicts add_sd_requirements add_sd_limits alt_sd_conflicts del_sd_conflicts r_define_requirements r_define_limits r_alter_conflicts r_delete_conflicts permit_conflicts
@@ -374,21 +385,7 @@ module _ (issuer : Issuer) (issuer_id : IsFeedless issuer.id) (issuer_group : Is
   all-tests c rows f are = (met (is_unbuilt c) NotBuilt refl, each-test c rows f are)
 
   pub conflict-feedless : (c : CommandFields) (rows : Rows) → AreLawfulFields c → AreFeedless rows → IsFeedlessTest (conflict_of issuer c rows)
-  conflict-feedless c rows f are = first (tests issuer c rows) (all-tests c rows f are)
-    where
-      first : (list : List (Option Conflict)) → AllByRecursion IsFeedlessTest list → IsFeedlessTest (first_met list)
-      first [] h = none
-      first (None ∷ list) h = first list h.1
-      first (Some conflict ∷ list) h = h.0
+  conflict-feedless c rows f are = first-test (tests issuer c rows) (all-tests c rows f are)
 
   pub early-feedless : (c : CommandFields) (rows : Rows) → AreLawfulFields c → AreFeedless rows → IsFeedlessTest (first_conflict_of issuer c rows)
-  early-feedless c rows f are = first (tests issuer c rows) (all-tests c rows f are)
-    where
-      first : (list : List (Option Conflict)) → AllByRecursion IsFeedlessTest list → IsFeedlessTest (find is_early (numbers.met list))
-      first [] h = none
-      first (None ∷ list) h = first list h.1
-      first (Some conflict ∷ list) h = by (is_early conflict)
-        where
-          by : (b : Bool) → IsFeedlessTest (cond b (Some conflict) (find is_early (numbers.met list)))
-          by true = h.0
-          by false = first list h.1
+  early-feedless c rows f are = early-test (tests issuer c rows) (all-tests c rows f are)

@@ -13,8 +13,6 @@ use Rattle.command_words.specs.LineWords.{LineWord, UnreadLine, line_at}
 use Rattle.request_files.specs.declared.line.LineRefusal.{LineRefusal}
 use Rattle.request_files.specs.declared.line.LineRefusal.TheVariants.{BadLine, NoAcee, AceeExists, AceesFull, BadName, LineTooLong}
 use Rattle.command_values.specs.NamedWords.{id_named, group_named}
-use Rattle.request_files.specs.declared.operands.Operand.{Operand}
-use Rattle.request_files.specs.declared.operands.Operand.TheVariants as operand
 use Rattle.request_files.specs.declared.issuer_line.NamedIssuer.{NamedIssuer}
 use Rattle.request_files.specs.Spellings.{folded, name_word, level_word, key_of, value_of, port_at, keyed, operand_word}
 use Rattle.request_files.specs.IssuerLines.{group_in, group_word, with_group, issuer_by, issuer_behind, issuer_of_line}
@@ -106,30 +104,21 @@ pub record IsFeedlessNamed (issuer : NamedIssuer) : Type 0 where
   pub id : IsFeedless issuer.id
   pub group : IfSome issuer.group IsFeedless
 
-abbrev IsFeedlessOperand : Operand → Type 0
-IsFeedlessOperand (operand.Group group) = IsFeedless group
-IsFeedlessOperand other = Unit {0}
-
-key-feedless : (key value : List ℕ) → IfSome (keyed key value) IsFeedlessOperand
+key-feedless : (key value : List ℕ) → IfSome (keyed key value) (λ word. IfSome (group_in word) IsFeedless)
 key-feedless key value =
-    either (λ o. IfSome o IsFeedlessOperand) (bytes_eq key (codes "GROUP")) _ _
-    (if-map IsFeedlessOperand operand.Group (group_named value) (if-ok IsFeedless (group_of (folded value)) (λ group h. read_group-feedless (folded value) group h)))
-    (either (λ o. IfSome o IsFeedlessOperand) (bytes_eq key (codes "APPL")) _ _
-    (if-map IsFeedlessOperand operand.Application (id_named value) (always (id_named value) tt))
-    (either (λ o. IfSome o IsFeedlessOperand) (bytes_eq key (codes "SECLABEL")) _ _
-    (if-map IsFeedlessOperand operand.Label (id_named value) (always (id_named value) tt))
-    (if-then (λ class. Unit {0}) IsFeedlessOperand (port_at value)
-    (λ class _. if-map IsFeedlessOperand (λ name. operand.Port record { class = class; name = name }) (id_named value) (always (id_named value) tt)) (port_class_of key) (always (port_class_of key) tt))))
-
-grouped : (word : Operand) → IsFeedlessOperand word → IfSome (group_in word) IsFeedless
-grouped (operand.Group group) h = h
-grouped (operand.Port port) h = tt
-grouped (operand.Application name) h = tt
-grouped (operand.Label label) h = tt
+    either (λ o. IfSome o (λ word. IfSome (group_in word) IsFeedless)) (bytes_eq key (codes "GROUP")) _ _
+    (if-map (λ word. IfSome (group_in word) IsFeedless) _ (group_named value) (if-ok IsFeedless (group_of (folded value)) (λ group h. read_group-feedless (folded value) group h)))
+    (either (λ o. IfSome o (λ word. IfSome (group_in word) IsFeedless)) (bytes_eq key (codes "APPL")) _ _
+    (if-map (λ word. IfSome (group_in word) IsFeedless) _ (id_named value) (always (id_named value) tt))
+    (either (λ o. IfSome o (λ word. IfSome (group_in word) IsFeedless)) (bytes_eq key (codes "SECLABEL")) _ _
+    (if-map (λ word. IfSome (group_in word) IsFeedless) _ (id_named value) (always (id_named value) tt))
+    (if-then (λ class. Unit {0}) (λ word. IfSome (group_in word) IsFeedless) (port_at value)
+    (λ class _. if-map (λ word. IfSome (group_in word) IsFeedless) _ (id_named value) (always (id_named value) tt)) (port_class_of key) (always (port_class_of key) tt))))
 
 group-feedless : (text : List ℕ) → IfSome (group_word text) IsFeedless
 group-feedless text =
-    if-then IsFeedlessOperand IsFeedless group_in grouped (operand_word text) (if-then (λ value. Unit {0}) IsFeedlessOperand (keyed (key_of text)) (λ value _. key-feedless (key_of text) value) (value_of text) (always (value_of text) tt))
+    if-then (λ word. IfSome (group_in word) IsFeedless) IsFeedless group_in (λ word h. h) (operand_word text)
+    (if-then (λ value. Unit {0}) (λ word. IfSome (group_in word) IsFeedless) (keyed (key_of text)) (λ value _. key-feedless (key_of text) value) (value_of text) (always (value_of text) tt))
 
 with_group-feedless : (id : List ℕ) (words : List LineWord) → IsFeedless id → IfOk (with_group id words) IsFeedlessNamed
 with_group-feedless id [] h = record { id = h; group = tt }

@@ -15,6 +15,7 @@ use Rattle.command_parser.specs.declared.commands.Issuer.{Issuer}
 use Rattle.command_parser.specs.declared.fields.CommandFields.{CommandFields}
 use Rattle.command_parser.specs.declared.fields.CommandFields.TheVariants as command
 use Rattle.command_parser.specs.LawfulFields.{AreLawfulFields}
+use Rattle.command_parser.specs.Issuers.{group_or_current}
 use Rattle.command_authority.specs.declared.needs.Need.{Need}
 use Rattle.command_authority.specs.declared.needs.Need.TheVariants as needs
 use Rattle.command_authority.specs.declared.requirement.Target.{Target}
@@ -124,10 +125,10 @@ module _ (issuer : Issuer) (issuer_id : IsFeedless issuer.id) (issuer_group : Is
   each-requirement (command.AddUser c) rows f are = ((tt, (current-feedless issuer issuer_id issuer_group c.dfltgrp f.dfltgrp, (tt, (tt, tt)))), ((tt, tt), tt))
   each-requirement (command.AltUser c) rows f are = (over_target, ((tt, tt), ((tt, tt), tt)))
   each-requirement (command.DelUser c) rows f are = (over_target, tt)
-  each-requirement (command.AddGroup c) rows f are = (below-feedless _ (current-feedless issuer issuer_id issuer_group c.supgroup f.supgroup), tt)
+  each-requirement (command.AddGroup c) rows f are = (below-feedless (group_or_current issuer c.supgroup) (current-feedless issuer issuer_id issuer_group c.supgroup f.supgroup), tt)
   each-requirement (command.AltGroup c) rows f are =
-      (over_target, (below-feedless _ (if-given c.supgroup c.group (groups-feedless c.supgroup f.supgroup) (group-feedless c.group f.group)), tt))
-  each-requirement (command.DelGroup c) rows f are = (leaving-feedless _ (superior-feedless c.group rows are), tt)
+      (over_target, (below-feedless (unwrap_or c.supgroup c.group) (if-given c.supgroup c.group (groups-feedless c.supgroup f.supgroup) (group-feedless c.group f.group)), tt))
+  each-requirement (command.DelGroup c) rows f are = (leaving-feedless (option_and_then (λ (row : Group). row.superior) (group_of c.group rows)) (superior-feedless c.group rows are), tt)
   each-requirement (command.Connect c) rows f are =
       ((tt, (current-feedless issuer issuer_id issuer_group c.group f.group, (tt, (tt, tt)))), (giving-feedless c.authority, ((tt, (tt, tt)), tt)))
   each-requirement (command.Remove c) rows f are = ((tt, (current-feedless issuer issuer_id issuer_group c.group f.group, (tt, (tt, tt)))), tt)

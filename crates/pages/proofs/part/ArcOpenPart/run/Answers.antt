@@ -2,7 +2,7 @@ use Rattle.std.proofs.Common.{◌≤◌, ◌+◌, ◌++◌, ◌∙◌, ◌∷◌
 use Rattle.std.specs.List.{flat_map}
 use Rattle.std.specs.Arc.{arc_value}
 use Rattle.pages.proofs.Singles.{length-singles, drop_singles}
-use Rattle.pages.proofs.part.ArcPart.run.Goals as goal
+use Rattle.pages.proofs.part.ArcOpenPart.run.Goals as goal
 
 pub split_at-requires : goal.split_at-requires
 split_at-requires g c = omega (arith, length-singles arc_value c.args.parts.now, c.requires)

@@ -2,7 +2,7 @@ use Rattle.std.proofs.Common.{◌≡◌, ◌≤◌, ◌+◌, ◌++◌, ◌∙◌
 use Rattle.std.specs.List.{flat_map}
 use Rattle.std.specs.Arc.{arc_value}
 use Rattle.pages.proofs.Seams.{drop_within, length_up_to}
-use Rattle.pages.proofs.shared_page.SharedPagePart.run.Goals as goal
+use Rattle.pages.proofs.shared_page.SharedPageOpenPart.run.Goals as goal
 
 pub returns-clause-within : goal.returns-clause-within
 returns-clause-within g c =

@@ -22,6 +22,7 @@ mod table;
 pub use class_table::ClassTable;
 pub use class_tables::ClassTables;
 pub use limits::{MOST_CLASS_PROFILES, MOST_ENTRIES_IN_ALL, MOST_PROFILES};
+pub use profile_index::Made;
 pub use racf_profiles::NoMemory;
 pub use shared_profiles::SharedProfiles;
 pub use table::ProfileTable;

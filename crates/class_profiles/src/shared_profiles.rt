@@ -8,10 +8,11 @@ ghost use Rattle.racf_profiles.specs.LawfulProfiles.{AreProfiles};
 ghost use Rattle.racf_profiles.specs.Limits.{most_class_profiles};
 ghost use Rattle.class_profiles.specs.Table.{best_profile, IsPlaceOf};
 ghost use Rattle.class_profiles.specs.Paired.{entry_of};
+ghost use Rattle.profile_index.specs.Buckets.{most_placed};
 
 use crate::table::{is_spelled, of_kind};
 use generic_names::{NameKind, Pattern, Resource};
-use profile_index::{Entry, SharedIndex};
+use profile_index::{Entry, Made, SharedIndex};
 use racf_profiles::{NoMemory, Profile};
 use std::alloc::Global;
 use std::marker::Model;
@@ -107,36 +108,61 @@ impl SharedProfiles {
         self.profiles.find(name)
     }
 
-    /// The table with a profile in the place of the one of its name, or else at its place in the order.
-    pub fn with_profile(&self, alloc: Global, profile: Profile) -> Result<SharedProfiles, NoMemory>
+    /// The table with a profile in the place of the one of its name, or else at its place in the order; and the lengths of
+    /// the names in the buckets that were made anew for it.
+    pub fn with_profile(
+        &self,
+        alloc: Global,
+        profile: Profile,
+    ) -> Result<Made<SharedProfiles>, NoMemory>
         requires kind { profile.name.kind ≡ self.now.kind }
         requires few { length (put_profile profile self.now.profiles) ≤ most_class_profiles }
-        ensures kind { IfOk result (λ table. table.kind ≡ self.now.kind) }
-        ensures profiles { IfOk result (λ table. table.profiles ≡ put_profile profile self.now.profiles) }
+        ensures kind { IfOk result (λ made. made.what.kind ≡ self.now.kind) }
+        ensures profiles { IfOk result (λ made. made.what.profiles ≡ put_profile profile self.now.profiles) }
+        ensures placed { IfOk result (λ made. made.placed ≤ most_placed) }
     {
         racf_profiles::laws::puts_keep_the_order();
         let name = profile.name;
         is_spelled(&name);
-        Ok(SharedProfiles {
+        let made = self.profiles.put(alloc, name, profile)?;
+        let what = SharedProfiles {
             kind: self.kind,
-            profiles: self.profiles.with_entry(alloc, name, profile)?,
+            profiles: made.what,
+        };
+        Ok(Made {
+            what,
+            placed: made.placed,
         })
     }
 
-    /// The table without the profile of that very name, or the same where there is none.
-    pub fn without_profile(&self, alloc: Global, name: &Pattern) -> Result<SharedProfiles, NoMemory>
-        ensures kind { IfOk result (λ table. table.kind ≡ self.now.kind) }
-        ensures profiles { IfOk result (λ table. table.profiles ≡ drop_row (is_profile name.now) self.now.profiles) }
+    /// The table without the profile of that very name, or the same where there is none; and the lengths of the names in the
+    /// bucket that was made anew for it.
+    pub fn without_profile(
+        &self,
+        alloc: Global,
+        name: &Pattern,
+    ) -> Result<Made<SharedProfiles>, NoMemory>
+        ensures kind { IfOk result (λ made. made.what.kind ≡ self.now.kind) }
+        ensures profiles { IfOk result (λ made. made.what.profiles ≡ drop_row (is_profile name.now) self.now.profiles) }
+        ensures placed { IfOk result (λ made. made.placed ≤ most_placed) }
     {
         generic_names::laws::order_is_total();
         generic_names::laws::text_reads_back();
-        match of_kind(self.kind, name) {
-            Some(name) => Ok(SharedProfiles {
-                kind: self.kind,
-                profiles: self.profiles.without(alloc, &name)?,
-            }),
-            None => self.share(alloc),
-        }
+        let Some(name) = of_kind(self.kind, name) else {
+            return Ok(Made {
+                what: self.share(alloc)?,
+                placed: 0,
+            });
+        };
+        let made = self.profiles.remove(alloc, &name)?;
+        let what = SharedProfiles {
+            kind: self.kind,
+            profiles: made.what,
+        };
+        Ok(Made {
+            what,
+            placed: made.placed,
+        })
     }
 
     /// The place of the profile of that very name.

@@ -1,13 +1,13 @@
 -- What contracts see of a region, by its fields.
-use Rattle.std.proofs.Common.{◌≡◌, ℕ, ◌+◌, ◌<◌, ◌≤◌, Bool, true, false, ltb, List, [], ◌∷◌, ◌++◌, length, get_or, Some, sym, ap, ◌∙◌, arith, ⊎_elim}
-use Rattle.std.specs.Prelude.{◌&&◌, IsTrue, slice_range}
+use Rattle.std.proofs.Common.{◌≡◌, ℕ, suc, ◌+◌, ◌<◌, ◌≤◌, Bool, true, false, ltb, List, [], ◌∷◌, ◌++◌, length, get_or, Some, sym, ap, ◌∙◌, arith, ⊎_elim}
+use Rattle.std.specs.Prelude.{◌&&◌, IsTrue, slice_range, slice_get}
 use Rattle.std.proofs.lemmas.Bool.{cases_Bool, false≢true, and_parts, and_left, leb-true, ltb-true, le-leb, lt-leb, eqb-true}
 use Rattle.dataspace.specs.declared.spot.Spot.{Spot}
 use Rattle.dataspace.specs.declared.region.Region.TheInside.{Inside}
 use Rattle.dataspace.specs.Placed.{used, fits, text_at, has, IsWithinRoom}
 use Rattle.dataspace.specs.Kept.{IsKept, seen, texts_of, end_of, start_of, is_row, is_before}
 use Rattle.dataspace.proofs.SpotLaws.{had-text}
-use Rattle.dataspace.proofs.RowLaws.{used-texts, length-texts, texts-placed, text-bytes, row-had, none-had, only-row}
+use Rattle.dataspace.proofs.RowLaws.{row-text, end-within, rising-at, used-texts, length-texts, texts-placed, text-bytes, row-had, none-had, only-row}
 
 pub used-seen : (region : Inside) → IsKept region → used (seen region).texts ≡ length region.bytes.items
 used-seen region h = omega (arith, h.whole, used-texts region.bytes.items 0 region.ends.items h.rising (omega (arith, h.whole)))
@@ -53,6 +53,14 @@ had-seen region h spot had =
       made.0,
       found.1 ∙ ap (λ (text : List ℕ). Some text) (sym made.1),
     )
+
+-- The text of a row, which starts and ends within the bytes.
+pub row-seen : (region : Inside) → IsKept region → (row : ℕ) → row < length region.ends.items → (start_of region.ends.items row ≤ get_or region.ends.items row 0) × (get_or region.ends.items row 0 ≤ length region.bytes.items) × (slice_get (seen region).texts row ≡ Some (slice_range region.bytes.items (start_of region.ends.items row) (get_or region.ends.items row 0)))
+row-seen region h row below = (
+  rising-at 0 region.ends.items h.rising row (suc row) (omega arith) (omega arith),
+  omega (arith, end-within 0 region.ends.items h.rising row below, h.whole),
+  row-text region.bytes.items 0 region.ends.items row below,
+)
 
 -- A text placed behind the others is the last in the list.
 pub placed-seen : (region : Inside) → IsKept region → (text bytes ends : List ℕ) (end : ℕ) → bytes ≡ region.bytes.items ++ text → ends ≡ region.ends.items ++ end ∷ [] → end ≡ length region.bytes.items + length text → texts_of bytes ends ≡ (seen region).texts ++ text ∷ []

@@ -1,6 +1,6 @@
 -- Texts as they are kept: bytes, and where each text ends.
 use Rattle.std.proofs.Common.{◌≡◌, ℕ, zero, suc, ◌+◌, ◌-◌, ◌<◌, ◌≤◌, true, false, List, [], ◌∷◌, ◌++◌, length, get_or, take, drop, Option, Some, refl, sym, ap, ◌∙◌, arith, ⊎_elim, ltb}
-use Rattle.std.specs.Prelude.{slice_range, is_some}
+use Rattle.std.specs.Prelude.{slice_range, slice_get, is_some}
 use Rattle.std.proofs.lemmas.Bool.{cases_Bool, cases_lt, false≢true, and_parts, and_from, or_cases, or_parts, or_from, or_left, or_right, eqb-true, eq-eqb, ltb-true, ltb-false, lt-ltb, le-ltb, false_from_ne_true}
 use Rattle.std.proofs.lemmas.List.{length-drop, length-take-le, take-append-le, drop-append-le, take_all, drop_at}
 use Rattle.std.proofs.lemmas.Option.{none-some, same_Some}
@@ -77,6 +77,17 @@ texts-placed bytes text ends end rising whole is =
     ∙ ap (λ (n : ℕ). texts_from bytes 0 ends ++ slice_range (bytes ++ text) n end ∷ []) whole
     ∙ ap (λ (n : ℕ). texts_from bytes 0 ends ++ slice_range (bytes ++ text) (length bytes) n ∷ []) is
     ∙ ap (λ (x : List ℕ). texts_from bytes 0 ends ++ x ∷ []) (range-new bytes text)
+
+-- the text of a row is made of the bytes from where it starts to where it ends
+pub row-text : (bytes : List ℕ) (start : ℕ) (ends : List ℕ) (row : ℕ) → row < length ends → slice_get (texts_from bytes start ends) row ≡ Some (slice_range bytes (get_or (start ∷ ends) row 0) (get_or ends row 0))
+row-text bytes start [] row below = absurd (omega arith)
+row-text bytes start (end ∷ ends) zero below = refl
+row-text bytes start (end ∷ ends) (suc row) below = row-text bytes end ends row (omega arith)
+
+pub end-within : (start : ℕ) (ends : List ℕ) → AreRising start ends → (row : ℕ) → row < length ends → get_or ends row 0 ≤ end_of start ends
+end-within start [] rising row below = absurd (omega arith)
+end-within start (end ∷ ends) rising zero below = end-above end ends rising.1
+end-within start (end ∷ ends) rising (suc row) below = end-within end ends rising.1 row (omega arith)
 
 -- ---- spots
 further : (bytes : List ℕ) (start end : ℕ) (ends : List ℕ) (spot : Spot) → start ≤ end → end ≤ length bytes → is_here spot start (slice_range bytes start end) ≡ false → text_from start (texts_from bytes start (end ∷ ends)) spot ≡ text_from end (texts_from bytes end ends) spot

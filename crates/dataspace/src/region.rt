@@ -1,9 +1,9 @@
 //! A region of texts.
-ghost use Rattle.std.specs.Prelude.{◌≡◌, ℕ, ◌+◌, ◌^◌, ◌<◌, ◌≤◌, ◌↔◌, List, [], ◌∷◌, ◌++◌, length, IsTrue, IsOk, IfOk, Some};
+ghost use Rattle.std.specs.Prelude.{◌≡◌, ℕ, ◌+◌, ◌^◌, ◌<◌, ◌≤◌, ◌↔◌, List, [], ◌∷◌, ◌++◌, length, slice_get, IsTrue, IsOk, IfOk, Some};
 ghost use Rattle.dataspace.specs.Placed.{Placed, IsWithinRoom, used, fits, spot_behind, text_at, has, IsSpotOf};
 ghost use Rattle.dataspace.specs.declared.spot.Spot.{Spot};
 
-use crate::rows::{first_not_before, is_row};
+use crate::rows::{end_of, first_not_before, is_row, start_of};
 use crate::spot::Spot;
 use std::alloc::{AllocError, Global};
 use std::marker::Model;
@@ -82,6 +82,16 @@ impl Region {
     {
         let start = spot.start as usize;
         let end = start + spot.length as usize;
+        &self.bytes[start..end]
+    }
+
+    /// The text that was placed as the one of this number, from 0, since the region was made or cleared.
+    pub fn row(&self, row: usize) -> &[u8]
+        requires { row < length self.now.texts }
+        ensures { slice_get self.now.texts row ≡ Some result.now }
+    {
+        let start = start_of(&self.ends, row);
+        let end = end_of(&self.ends, row);
         &self.bytes[start..end]
     }
 

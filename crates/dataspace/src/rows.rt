@@ -1,15 +1,23 @@
 //! The rows of a region: for each text, where it ends. A text starts where the one before it ends.
-ghost use Rattle.std.specs.Prelude.{◌≡◌, ℕ, ◌<◌, ◌≤◌, true, false, length};
+ghost use Rattle.std.specs.Prelude.{◌≡◌, ℕ, ◌<◌, ◌≤◌, true, false, length, slice_index};
 ghost use Rattle.dataspace.specs.Kept.{start_of, is_before, is_row, AreRising};
 
 use crate::spot::Spot;
 
 /// Where the text of a row starts.
-fn start_of(ends: &[u32], row: usize) -> usize
+pub(crate) fn start_of(ends: &[u32], row: usize) -> usize
     requires { row < length ends.now }
     ensures { result ≡ start_of ends.now row }
 {
     if row == 0 { 0 } else { ends[row - 1] as usize }
+}
+
+/// Where the text of a row ends.
+pub(crate) fn end_of(ends: &[u32], row: usize) -> usize
+    requires { row < length ends.now }
+    ensures { result ≡ slice_index ends.now row }
+{
+    ends[row] as usize
 }
 
 /// Whether a row starts or ends before a spot does.

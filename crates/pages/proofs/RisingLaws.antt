@@ -1,5 +1,5 @@
 -- Where a test holds from some place on.
-use Rattle.std.proofs.Common.{◌≡◌, ◌+◌, ◌-◌, ◌<◌, ℕ, Bool, true, false, not, cond, ◌||◌, ◌&&◌, List, [], ◌∷◌, ◌++◌, length, take, drop, get_or, Some, ap, sym, subst, ◌∙◌, refl, zero, suc, zero-add, length-append, arith}
+use Rattle.std.proofs.Common.{◌≡◌, ◌+◌, ◌-◌, ◌<◌, ℕ, Bool, true, false, not, cond, ◌||◌, List, [], ◌∷◌, ◌++◌, length, take, drop, get_or, Some, ap, sym, subst, ◌∙◌, refl, zero, suc, zero-add, length-append, arith}
 use Rattle.std.specs.List.{flat_map, slice_get, list_any, list_all, position_or_len}
 use Rattle.std.proofs.lemmas.List.Folds.{list_all-append}
 use Rattle.std.proofs.lemmas.Option.{slice_get_within}

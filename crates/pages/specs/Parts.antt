@@ -1,5 +1,5 @@
 -- Words of the crate's own functions: how a page is kept, and what takes the place of a part.
-use Rattle.std.specs.Prelude.{◌≡◌, ℕ, ◌-◌, ◌<◌, ◌≤◌, List, [], ◌++◌, length, Some, slice_get}
+use Rattle.std.specs.Prelude.{◌≡◌, ℕ, ◌-◌, ◌<◌, ◌≤◌, List, [], ◌++◌, length, slice_get}
 use Rattle.pages.specs.declared.part.Change.{Change}
 use Rattle.pages.specs.declared.part.Change.TheVariants.{Gone, One, Two}
 
@@ -16,9 +16,10 @@ change_len Gone = 0
 change_len (One a) = 1
 change_len (Two a b) = 2
 
--- a page counts its items, of which there are some, has at most 64 parts, and keeps the last item
-pub record IsPage {T : Type 0} (items : List T) (count parts : ℕ) (last : T) : Type 0 where
+-- A page counts its items, of which there are some, has at most 64 parts, and keeps the last part, whose last item is its own
+-- last.
+pub record IsPage {T : Type 0} (items : List T) (count parts : ℕ) (last : List T) : Type 0 where
   pub counted : count ≡ length items
   pub some : 0 < count
   pub most : parts ≤ 64
-  pub ends : slice_get items (length items - 1) ≡ Some last
+  pub ends : slice_get items (length items - 1) ≡ slice_get last (length last - 1)

@@ -17,6 +17,7 @@
 //! ```
 #![tactic(auto)]
 
+mod keyed_part;
 mod pages;
 mod part;
 mod search;
@@ -25,7 +26,10 @@ mod splice;
 mod test;
 mod walk;
 
+pub use keyed_part::KeyedPart;
 pub use pages::{NoMemory, Pages};
+pub use part::{Change, Made, Part};
+pub use shared_page::SharedPage;
 pub use test::Test;
 pub use walk::Walk;
 

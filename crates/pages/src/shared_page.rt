@@ -1,14 +1,16 @@
-ghost use Rattle.std.specs.Prelude.{◌≡◌, ℕ, ◌+◌, ◌-◌, ◌^◌, ◌<◌, ◌≤◌, List, [], ◌∷◌, ◌++◌, length, map, drop, take, insert, remove, IfOk, Some, slice_set, slice_get, slice_index_or, vec_len, unwrap_or, Option};
-ghost use Rattle.std.specs.List.{flat_map};
+ghost use Rattle.std.specs.Prelude.{◌≡◌, ℕ, ◌+◌, ◌-◌, ◌^◌, ◌<◌, ◌≤◌, List, [], ◌∷◌, ◌++◌, length, map, drop, take, insert, remove, option_map, IfOk, Some, slice_set, slice_get, slice_index_or, vec_len, unwrap_or, Option};
+ghost use Rattle.std.specs.List.{flat_map, position_or_len};
 ghost use Rattle.std.specs.Arc.{arc_value};
 ghost use Rattle.pages.specs.Parts.{change_items};
+ghost use Rattle.pages.specs.Rising.{Rises, reaches};
 
-use crate::part::{Change, Part};
-use crate::search::{first_of, last_of};
+use crate::keyed_part::KeyedPart;
+use crate::part::{Change, Made, OpenPart, Part};
+use crate::search::{ByKey, ByTest, first_of, is_number, last_part};
 use crate::splice::{inserted, item_at, removed, replaced, share_all};
 use crate::test::Test;
 use std::alloc::{AllocError, Global};
-use std::marker::Model;
+use std::marker::{Model, PhantomData};
 use std::sync::Arc;
 
 /// The most parts of a page.
@@ -18,15 +20,18 @@ const MOST: usize = 64;
 const PACKED: usize = 48;
 
 /// A page that versions of a list share. It has its own number of items beside it, so that a place is found by the numbers
-/// of the pages of one level, which stand in a row; and its last item, so that a search by a test reads nothing below it.
+/// of the pages of one level, which stand in a row; and its last part, so that a step of a search goes to the last item or
+/// key at once.
 #[derive(Drop)]
-pub(crate) struct SharedPage<T: Drop, P: Part<T>> {
+pub struct SharedPage<T: Drop, P: Part<T>> {
     /// How many items are below.
     len: usize,
     /// At most 64 parts, with an item below at least.
     parts: Arc<Vec<P>>,
-    /// The last item below.
-    last: Arc<T>,
+    /// The last of these parts.
+    last: P,
+    /// What the items are, of which it holds none itself.
+    of: PhantomData<T>,
 }
 
 impl<T: Drop, P: Part<T>> Model for SharedPage<T, P> {
@@ -39,7 +44,7 @@ impl<T: Drop, P: Part<T>> Model for SharedPage<T, P> {
 
     ghost view = { λ page. flat_map P.items (arc_value page.parts).items };
 
-    ghost invariant = { λ page. IsPage (flat_map P.items (arc_value page.parts).items) page.len (vec_len (arc_value page.parts)) (arc_value page.last) };
+    ghost invariant = { λ page. IsPage (flat_map P.items (arc_value page.parts).items) page.len (vec_len (arc_value page.parts)) (P.items page.last) };
 }
 
 impl<T: Drop, P: Part<T>> SharedPage<T, P> {
@@ -64,11 +69,12 @@ impl<T: Drop, P: Part<T>> SharedPage<T, P> {
         if len == 0 {
             return Ok(None);
         }
-        let last = Arc::try_clone(last_of(&parts))?;
+        let last = last_part(&parts).share()?;
         Ok(Some(SharedPage {
             len,
             parts: Arc::new(alloc, parts)?,
             last,
+            of: PhantomData,
         }))
     }
 
@@ -106,17 +112,31 @@ impl<T: Drop, P: Part<T>> SharedPage<T, P> {
 impl<T: Drop, P: Part<T>> Part<T> for SharedPage<T, P> {
     ghost items = { λ page. page };
 
-    fn of(alloc: Global, item: Arc<T>) -> Result<SharedPage<T, P>, AllocError>
-        ensures { IfOk result (λ page. page ≡ arc_value item ∷ []) }
+    ghost most_placed = { P.most_placed };
+
+    fn of(alloc: Global, item: Arc<T>) -> Result<Made<SharedPage<T, P>>, AllocError>
+        ensures items { IfOk result (λ made. made.what ≡ arc_value item ∷ []) }
+        ensures placed { IfOk result (λ made. made.placed ≤ P.most_placed) }
     {
-        let last = Arc::try_clone(&item)?;
+        let made = P::of(alloc, item)?;
+        let last = made.what.share()?;
         let mut parts = Vec::new(alloc);
-        parts.push(P::of(alloc, item)?)?;
-        Ok(SharedPage {
+        parts.push(made.what)?;
+        let what = SharedPage {
             len: 1,
             parts: Arc::new(alloc, parts)?,
             last,
+            of: PhantomData,
+        };
+        Ok(Made {
+            what,
+            placed: made.placed,
         })
+    }
+
+    fn packed(alloc: Global, all: &[Arc<T>]) -> Result<Vec<SharedPage<T, P>>, AllocError> {
+        let parts = P::packed(alloc, all)?;
+        packed(alloc, &parts)
     }
 
     fn len(&self) -> usize {
@@ -135,7 +155,8 @@ impl<T: Drop, P: Part<T>> Part<T> for SharedPage<T, P> {
         Ok(SharedPage {
             len: self.len,
             parts: Arc::try_clone(&self.parts)?,
-            last: Arc::try_clone(&self.last)?,
+            last: self.last.share()?,
+            of: PhantomData,
         })
     }
 
@@ -154,17 +175,8 @@ impl<T: Drop, P: Part<T>> Part<T> for SharedPage<T, P> {
         unreachable!()
     }
 
-    fn last(&self) -> &Arc<T> {
-        &self.last
-    }
-
-    fn first<Q: Test<T>>(&self, test: &Q) -> usize {
-        first_of(self.parts(), test)
-    }
-
-    fn run(parts: &[SharedPage<T, P>], place: usize) -> &[Arc<T>] {
-        let (k, rest) = SharedPage::locate(parts, place);
-        P::run(parts[k].parts(), rest)
+    fn takes(&self, item: &T) -> bool {
+        self.last.takes(item)
     }
 
     fn with_replaced(
@@ -172,16 +184,22 @@ impl<T: Drop, P: Part<T>> Part<T> for SharedPage<T, P> {
         alloc: Global,
         place: usize,
         item: Arc<T>,
-    ) -> Result<SharedPage<T, P>, AllocError>
+    ) -> Result<Made<SharedPage<T, P>>, AllocError>
         requires { place < length self.now }
-        ensures { IfOk result (λ page. page ≡ slice_set self.now place (arc_value item)) }
+        ensures items { IfOk result (λ made. made.what ≡ slice_set self.now place (arc_value item)) }
+        ensures placed { IfOk result (λ made. made.placed ≤ P.most_placed) }
     {
-        let parts = replaced(alloc, self.parts(), place, item)?;
-        let last = Arc::try_clone(last_of(&parts))?;
-        Ok(SharedPage {
+        let made = replaced(alloc, self.parts(), place, item)?;
+        let last = last_part(&made.what).share()?;
+        let what = SharedPage {
             len: self.len,
-            parts: Arc::new(alloc, parts)?,
+            parts: Arc::new(alloc, made.what)?,
             last,
+            of: PhantomData,
+        };
+        Ok(Made {
+            what,
+            placed: made.placed,
         })
     }
 
@@ -190,32 +208,61 @@ impl<T: Drop, P: Part<T>> Part<T> for SharedPage<T, P> {
         alloc: Global,
         place: usize,
         item: Arc<T>,
-    ) -> Result<Change<SharedPage<T, P>>, AllocError>
+    ) -> Result<Made<Change<SharedPage<T, P>>>, AllocError>
         requires place { place ≤ length self.now }
         requires room { length self.now + 1 < 2 ^ 64 }
-        ensures { IfOk result (λ change. change_items (λ page. page) change ≡ insert self.now place (arc_value item)) }
+        ensures items { IfOk result (λ made. change_items (λ page. page) made.what ≡ insert self.now place (arc_value item)) }
+        ensures placed { IfOk result (λ made. made.placed ≤ P.most_placed) }
     {
-        let parts = inserted(alloc, self.parts(), place, item)?;
-        SharedPage::one_or_two(alloc, parts)
+        let made = inserted(alloc, self.parts(), place, item)?;
+        Ok(Made {
+            what: SharedPage::one_or_two(alloc, made.what)?,
+            placed: made.placed,
+        })
     }
 
     fn with_removed(
         &self,
         alloc: Global,
         place: usize,
-    ) -> Result<Change<SharedPage<T, P>>, AllocError> {
-        let parts = removed(alloc, self.parts(), place)?;
-        SharedPage::one_or_two(alloc, parts)
+    ) -> Result<Made<Change<SharedPage<T, P>>>, AllocError> {
+        let made = removed(alloc, self.parts(), place)?;
+        Ok(Made {
+            what: SharedPage::one_or_two(alloc, made.what)?,
+            placed: made.placed,
+        })
     }
 }
 
-/// That a count is a number, which bounds each place. It does nothing: a proof has the bound of a count once it is read.
-pub(crate) fn is_number(_count: usize)
-    ensures { _count < 2 ^ 64 }
-{}
+impl<T: Drop, P: OpenPart<T>> OpenPart<T> for SharedPage<T, P> {
+    fn last(&self) -> &Arc<T> {
+        self.last.last()
+    }
+
+    fn first<Q: Test<T>>(&self, test: &Q) -> usize {
+        first_of(self.parts(), &ByTest { test })
+    }
+
+    fn run(parts: &[SharedPage<T, P>], place: usize) -> &[Arc<T>] {
+        let (k, rest) = SharedPage::locate(parts, place);
+        P::run(parts[k].parts(), rest)
+    }
+}
+
+impl<T: Drop, P: KeyedPart<T>> KeyedPart<T> for SharedPage<T, P> {
+    ghost key_of = { P.key_of };
+
+    fn last_key(&self) -> &[u8] {
+        self.last.last_key()
+    }
+
+    fn first_by_key(&self, key: &[u8]) -> usize {
+        first_of(self.parts(), &ByKey { key })
+    }
+}
 
 /// The parts in pages that are full by three quarters, so that the next inserts don't split them.
-pub(crate) fn packed<T: Drop, P: Part<T>>(
+fn packed<T: Drop, P: Part<T>>(
     alloc: Global,
     parts: &[P],
 ) -> Result<Vec<SharedPage<T, P>>, AllocError>

@@ -3,7 +3,7 @@ ghost use Rattle.std.specs.List.{flat_map};
 ghost use Rattle.std.specs.Arc.{arc_value};
 ghost use Rattle.pages.specs.Parts.{change_items, change_len};
 
-use crate::part::{Change, Part};
+use crate::part::{Change, Made, Part};
 use std::alloc::{AllocError, Global};
 use std::sync::Arc;
 
@@ -52,18 +52,24 @@ pub(crate) fn replaced<T: Drop, P: Part<T>>(
     parts: &[P],
     place: usize,
     item: Arc<T>,
-) -> Result<Vec<P>, AllocError>
+) -> Result<Made<Vec<P>>, AllocError>
     requires { place < length (flat_map P.items parts.now) }
-    ensures items { IfOk result (λ new. flat_map P.items new.items ≡ slice_set (flat_map P.items parts.now) place (arc_value item)) }
-    ensures len { IfOk result (λ new. vec_len new ≡ length parts.now) }
+    ensures items { IfOk result (λ made. flat_map P.items made.what.items ≡ slice_set (flat_map P.items parts.now) place (arc_value item)) }
+    ensures len { IfOk result (λ made. vec_len made.what ≡ length parts.now) }
+    ensures placed { IfOk result (λ made. made.placed ≤ P.most_placed) }
 {
     let (k, rest) = P::locate(parts, place);
-    let part = parts[k].with_replaced(alloc, rest, item)?;
-    spliced(alloc, parts, k, Change::One(part))
+    let made = parts[k].with_replaced(alloc, rest, item)?;
+    let what = spliced(alloc, parts, k, Change::One(made.what))?;
+    Ok(Made {
+        what,
+        placed: made.placed,
+    })
 }
 
-/// The part into which an item comes, and the place in it. An item between two parts comes into the first.
-fn gap_at<T: Drop, P: Part<T>>(parts: &[P], place: usize) -> (usize, usize)
+/// The part into which an item comes, and the place in it. An item between two parts comes into the first where that takes
+/// it, and else into the second.
+fn gap_at<T: Drop, P: Part<T>>(parts: &[P], place: usize, item: &T) -> (usize, usize)
     requires some { 0 < length parts.now }
     requires place { place ≤ length (flat_map P.items parts.now) }
     ensures part { result.0 < length parts.now }
@@ -74,6 +80,10 @@ fn gap_at<T: Drop, P: Part<T>>(parts: &[P], place: usize) -> (usize, usize)
         return (0, 0);
     }
     let (k, rest) = P::locate(parts, place - 1);
+    let part = &parts[k];
+    if k + 1 < parts.len() && rest + 1 == part.len() && !part.takes(item) {
+        return (k + 1, 0);
+    }
     (k, rest + 1)
 }
 
@@ -83,20 +93,38 @@ pub(crate) fn inserted<T: Drop, P: Part<T>>(
     parts: &[P],
     place: usize,
     item: Arc<T>,
-) -> Result<Vec<P>, AllocError>
+) -> Result<Made<Vec<P>>, AllocError>
     requires place { place ≤ length (flat_map P.items parts.now) }
     requires room { length (flat_map P.items parts.now) + 1 < 2 ^ 64 }
-    ensures items { IfOk result (λ new. flat_map P.items new.items ≡ insert (flat_map P.items parts.now) place (arc_value item)) }
-    ensures len { IfOk result (λ new. vec_len new ≤ length parts.now + 1) }
+    ensures items { IfOk result (λ made. flat_map P.items made.what.items ≡ insert (flat_map P.items parts.now) place (arc_value item)) }
+    ensures len { IfOk result (λ made. vec_len made.what ≤ length parts.now + 1) }
+    ensures placed { IfOk result (λ made. made.placed ≤ P.most_placed) }
 {
     if parts.is_empty() {
-        let mut new = Vec::new(alloc);
-        new.push(P::of(alloc, item)?)?;
-        return Ok(new);
+        return only(alloc, item);
     }
-    let (k, rest) = gap_at(parts, place);
-    let change = parts[k].with_inserted(alloc, rest, item)?;
-    spliced(alloc, parts, k, change)
+    let (k, rest) = gap_at(parts, place, &item);
+    let made = parts[k].with_inserted(alloc, rest, item)?;
+    let what = spliced(alloc, parts, k, made.what)?;
+    Ok(Made {
+        what,
+        placed: made.placed,
+    })
+}
+
+/// One part of one item.
+fn only<T: Drop, P: Part<T>>(alloc: Global, item: Arc<T>) -> Result<Made<Vec<P>>, AllocError>
+    ensures items { IfOk result (λ made. flat_map P.items made.what.items ≡ arc_value item ∷ []) }
+    ensures len { IfOk result (λ made. vec_len made.what ≡ 1) }
+    ensures placed { IfOk result (λ made. made.placed ≤ P.most_placed) }
+{
+    let made = P::of(alloc, item)?;
+    let mut what = Vec::new(alloc);
+    what.push(made.what)?;
+    Ok(Made {
+        what,
+        placed: made.placed,
+    })
 }
 
 /// The parts without the item at a place.
@@ -104,14 +132,19 @@ pub(crate) fn removed<T: Drop, P: Part<T>>(
     alloc: Global,
     parts: &[P],
     place: usize,
-) -> Result<Vec<P>, AllocError>
+) -> Result<Made<Vec<P>>, AllocError>
     requires { place < length (flat_map P.items parts.now) }
-    ensures items { IfOk result (λ new. flat_map P.items new.items ≡ remove (flat_map P.items parts.now) place) }
-    ensures len { IfOk result (λ new. vec_len new ≤ length parts.now + 1) }
+    ensures items { IfOk result (λ made. flat_map P.items made.what.items ≡ remove (flat_map P.items parts.now) place) }
+    ensures len { IfOk result (λ made. vec_len made.what ≤ length parts.now + 1) }
+    ensures placed { IfOk result (λ made. made.placed ≤ P.most_placed) }
 {
     let (k, rest) = P::locate(parts, place);
-    let change = parts[k].with_removed(alloc, rest)?;
-    spliced(alloc, parts, k, change)
+    let made = parts[k].with_removed(alloc, rest)?;
+    let what = spliced(alloc, parts, k, made.what)?;
+    Ok(Made {
+        what,
+        placed: made.placed,
+    })
 }
 
 /// The item at a place.

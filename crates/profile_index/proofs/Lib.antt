@@ -5,3 +5,4 @@ mod RisingLaws
 mod KeyLaws
 mod UnderLaws
 mod SlotLaws
+mod BucketLaws

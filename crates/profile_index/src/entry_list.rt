@@ -5,10 +5,10 @@ ghost use Rattle.generic_names.specs.OrderKey.{is_lower};
 ghost use Rattle.profile_index.specs.Indexed.{name_of};
 ghost use Rattle.profile_index.specs.declared.entry.Entry.{Entry};
 
+use crate::bucket::Bucket;
 use crate::entry::Entry;
-use crate::keyed_entry::{KeyedEntry, NotLower};
 use generic_names::OrderKey;
-use pages::Pages;
+use pages::{Pages, SharedPage};
 
 /// Entries by their places, and the search among them.
 pub(crate) trait EntryList<T> {
@@ -32,7 +32,11 @@ pub(crate) trait EntryList<T> {
         ensures above { AllWithin (λ e. is_lower e.name key.now ≡ false) (entries self.now) result (length (entries self.now)) };
 }
 
-impl<T: Drop> EntryList<T> for Pages<KeyedEntry<T>> {
+/// Entries in pages, whose leaves are buckets. A class has as many buckets as first qualifiers, so that a level of pages
+/// stands between these and the top.
+pub(crate) type SharedEntries<T> = Pages<Entry<T>, SharedPage<Entry<T>, Bucket<T>>>;
+
+impl<T: Drop> EntryList<T> for SharedEntries<T> {
     ghost entries = { λ list. list };
 
     fn len(&self) -> usize {
@@ -40,10 +44,10 @@ impl<T: Drop> EntryList<T> for Pages<KeyedEntry<T>> {
     }
 
     fn entry(&self, place: usize) -> &Entry<T> {
-        self.at(place).entry()
+        self.at(place)
     }
 
     fn end_below(&self, key: &OrderKey) -> usize {
-        self.first(&NotLower::than(key))
+        self.first_by_key(key.as_bytes())
     }
 }

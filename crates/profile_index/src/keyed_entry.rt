@@ -1,17 +1,15 @@
-ghost use Rattle.std.specs.Prelude.{◌≡◌, not};
+ghost use Rattle.std.specs.Prelude.{◌≡◌};
 ghost use Rattle.generic_names.specs.Laws.{IsPattern};
 ghost use Rattle.generic_names.specs.OrderKey.{is_lower};
 
 use crate::entry::Entry;
 use crate::search::is_pattern;
 use generic_names::OrderKey;
-use pages::Test;
 use std::cmp::Ordering;
 use std::marker::Model;
 use std::mem;
 
-/// An entry with the key of its name. The key comes first, and a step of a search reads nothing else; behind an `Arc`
-/// it lies beside the counts of the owners.
+/// An entry with the key of its name. The key comes first, and a step of a search reads nothing else.
 #[derive(Drop)]
 pub(crate) struct KeyedEntry<T> {
     /// The key of the entry's name.
@@ -37,13 +35,6 @@ impl<T> KeyedEntry<T> {
     ghost use Rattle.std.specs.Cmp.Lexicographic.{slice_cmp};
     ghost use Rattle.std.specs.Ordering.{nat_cmp};
     ghost use Rattle.generic_names.specs.OrderKey.{order_key};
-
-    /// An entry, whose key is computed here.
-    pub(crate) fn of(entry: Entry<T>) -> KeyedEntry<T>
-        ensures { result ≡ entry }
-    {
-        KeyedEntry::with_key(entry.name.order_key(), entry)
-    }
 
     /// An entry, of whose name this is the key.
     pub(crate) fn with_key(key: OrderKey, entry: Entry<T>) -> KeyedEntry<T>
@@ -96,37 +87,5 @@ impl<T> KeyedEntry<T> {
         ensures { result ≡ self.item }
     {
         self.entry.item
-    }
-}
-
-/// Whether the name of an entry has no lower key than this one.
-#[derive(Drop)]
-pub(crate) struct NotLower<'a> {
-    /// The key.
-    key: &'a OrderKey,
-}
-
-impl<'a> Model for NotLower<'a> {
-    ghost use Rattle.std.specs.Prelude.{ℕ, List};
-
-    ghost Value = { List ℕ };
-
-    ghost view = { λ t. t.key.now };
-}
-
-impl<'a> NotLower<'a> {
-    /// The test by this key.
-    pub(crate) fn than(key: &'a OrderKey) -> NotLower<'a>
-        ensures { result ≡ key.now }
-    {
-        NotLower { key }
-    }
-}
-
-impl<T> Test<KeyedEntry<T>> for NotLower<'_> {
-    ghost passes = { λ key e. not (is_lower e.name key) };
-
-    fn passes(&self, entry: &KeyedEntry<T>) -> bool {
-        !entry.is_lower(self.key)
     }
 }

@@ -6,8 +6,9 @@
 //! many as the number of entries has binary digits. A [`SharedIndex`] doesn't change: a changed version is an index of
 //! its own, and shares the rest with the one before.
 //!
-//! In both an entry lies behind the key of its name, and a search computes the key of what it looks for once, so that a
-//! step of it is one comparison of bytes.
+//! In both a name's place in the order is kept as bytes, its key, and a search computes the key of what it looks for once, so
+//! that a step of it is one comparison of bytes. An [`Index`] keeps each entry behind its key, and a [`SharedIndex`] keeps up
+//! to 64 entries of one first qualifier in a bucket, with their keys in one region.
 //!
 //! ```
 //! let mut index = Index::new(alloc)?;
@@ -17,6 +18,8 @@
 //! ```
 #![tactic(auto)]
 
+mod bucket;
+mod bucket_rows;
 mod entry;
 mod entry_list;
 mod entry_slots;
@@ -28,6 +31,7 @@ mod steps;
 
 pub use entry::Entry;
 pub use index::{Index, NoMemory};
+pub use pages::Made;
 pub use shared_index::SharedIndex;
 pub use steps::Steps;
 

@@ -1,25 +1,27 @@
-ghost use Rattle.std.specs.Prelude.{◌≡◌, ◌<◌, [], length, find, IfOk, IfErr, Some, slice_get};
+ghost use Rattle.std.specs.Prelude.{◌≡◌, ◌<◌, ◌≤◌, [], length, find, IfOk, IfErr, Some, slice_get};
 ghost use Rattle.generic_names.specs.Best.{best, IsInOrder, AreNamed};
+ghost use Rattle.profile_index.specs.Buckets.{most_placed};
 ghost use Rattle.profile_index.specs.Indexed.{name_of, AreOf};
 ghost use Rattle.profile_index.specs.Places.{IsThere, IsMissing};
 
 use crate::entry::Entry;
+use crate::entry_list::SharedEntries;
 use crate::index::NoMemory;
-use crate::keyed_entry::KeyedEntry;
-use crate::search::{first_that_covers, place_for};
+use crate::search::{first_that_covers, is_pattern, place_for};
 use generic_names::{Pattern, Resource};
-use pages::Pages;
+use pages::{Made, Pages};
 use std::alloc::Global;
 use std::marker::Model;
 use std::sync::Arc;
 
 /// Entries in the order of specificity of their names, which are of one kind. An index doesn't change: a changed
-/// version is one of its own, and shares with this one all but what leads to the change. Each entry is kept with the
-/// key of its name, by which searches go. A call that answers [`NoMemory`] leaves nothing behind.
+/// version is one of its own, and shares with this one all but what leads to the change. Entries stand in buckets by the
+/// first qualifiers of their names, with the keys of a bucket's names in one region, by which searches go. A call that answers
+/// [`NoMemory`] leaves nothing behind.
 #[derive(Drop)]
 pub struct SharedIndex<T: Drop> {
-    /// The entries in the order, each with its key.
-    entries: Pages<KeyedEntry<T>>,
+    /// The entries in the order.
+    entries: SharedEntries<T>,
 }
 
 impl<T: Drop> Model for SharedIndex<T> {
@@ -43,7 +45,7 @@ impl<T: Drop> SharedIndex<T> {
         ensures { result ≡ [] }
     {
         SharedIndex {
-            entries: Pages::new(alloc),
+            entries: Pages::empty(alloc),
         }
     }
 
@@ -55,10 +57,10 @@ impl<T: Drop> SharedIndex<T> {
     {
         let mut shared = Vec::with_capacity(alloc, entries.len())?;
         for entry in entries {
-            shared.push(Arc::new(alloc, KeyedEntry::of(entry))?)?;
+            shared.push(Arc::new(alloc, entry)?)?;
         }
         Ok(SharedIndex {
-            entries: Pages::of_shared(alloc, &shared)?,
+            entries: Pages::packed(alloc, &shared)?,
         })
     }
 
@@ -85,7 +87,7 @@ impl<T: Drop> SharedIndex<T> {
         requires { place < length self.now }
         ensures { slice_get self.now place ≡ Some (record { name = result.0.now; item = result.1.now }) }
     {
-        let entry = self.entries.at(place).entry();
+        let entry = self.entries.at(place);
         (&entry.name, &entry.item)
     }
 
@@ -120,17 +122,7 @@ impl<T: Drop> SharedIndex<T> {
         ensures entries { IfOk result (λ index. index ≡ put_entry (record { name = name; item = item }) self.now) }
         ensures kinds { IfOk result (λ index. AreOf name.kind index) }
     {
-        let entry = KeyedEntry::of(Entry { name, item });
-        let place = place_for(&self.entries, &entry.entry().name, entry.key());
-        let shared = Arc::new(alloc, entry)?;
-        match place {
-            Ok(place) => Ok(SharedIndex {
-                entries: self.entries.with_replaced(alloc, place, shared)?,
-            }),
-            Err(place) => Ok(SharedIndex {
-                entries: self.entries.with_inserted(alloc, place, shared)?,
-            }),
-        }
+        Ok(self.put(alloc, name, item)?.what)
     }
 
     /// The index without the entry of a name, or the same where there is none.
@@ -139,11 +131,57 @@ impl<T: Drop> SharedIndex<T> {
         ensures entries { IfOk result (λ index. index ≡ without name.now self.now) }
         ensures kinds { IfOk result (λ index. AreOf name.now.kind index) }
     {
-        match place_for(&self.entries, name, &name.order_key()) {
-            Ok(place) => Ok(SharedIndex {
-                entries: self.entries.with_removed(alloc, place)?,
-            }),
-            Err(_) => self.share(alloc),
+        Ok(self.remove(alloc, name)?.what)
+    }
+
+    /// The index with an entry, as `with_entry` makes it, and the lengths of the names in the buckets that were made anew for
+    /// it: they are those of one bucket, and of two where the entry split one.
+    pub fn put(
+        &self,
+        alloc: Global,
+        name: Pattern,
+        item: T,
+    ) -> Result<Made<SharedIndex<T>>, NoMemory>
+        requires { AreOf name.kind self.now }
+        ensures entries { IfOk result (λ made. made.what ≡ put_entry (record { name = name; item = item }) self.now) }
+        ensures kinds { IfOk result (λ made. AreOf name.kind made.what) }
+        ensures placed { IfOk result (λ made. made.placed ≤ most_placed) }
+    {
+        is_pattern(&name);
+        let place = place_for(&self.entries, &name, &name.order_key());
+        let shared = Arc::new(alloc, Entry { name, item })?;
+        match place {
+            Ok(place) => Ok(made_of(self.entries.replace(alloc, place, shared)?)),
+            Err(place) => Ok(made_of(self.entries.insert(alloc, place, shared)?)),
         }
+    }
+
+    /// The index without an entry, as `without` makes it, and the lengths of the names in the bucket that was made anew for it.
+    pub fn remove(&self, alloc: Global, name: &Pattern) -> Result<Made<SharedIndex<T>>, NoMemory>
+        requires { AreOf name.now.kind self.now }
+        ensures entries { IfOk result (λ made. made.what ≡ without name.now self.now) }
+        ensures kinds { IfOk result (λ made. AreOf name.now.kind made.what) }
+        ensures placed { IfOk result (λ made. made.placed ≤ most_placed) }
+    {
+        match place_for(&self.entries, name, &name.order_key()) {
+            Ok(place) => Ok(made_of(self.entries.remove(alloc, place)?)),
+            Err(_) => Ok(Made {
+                what: self.share(alloc)?,
+                placed: 0,
+            }),
+        }
+    }
+}
+
+/// An index of these entries, and what was placed for them.
+fn made_of<T: Drop>(made: Made<SharedEntries<T>>) -> Made<SharedIndex<T>>
+    requires ordered { IsInOrder name_of made.what }
+    requires named { AreNamed name_of made.what }
+    ensures what { result.what ≡ made.what }
+    ensures placed { result.placed ≡ made.placed }
+{
+    Made {
+        what: SharedIndex { entries: made.what },
+        placed: made.placed,
     }
 }

@@ -2,7 +2,7 @@ ghost use Rattle.std.specs.Prelude.{◌≡◌, ◌<◌, ◌≤◌, length, IfOk}
 ghost use Rattle.generic_names.specs.declared.kind.NameKind.TheVariants.{General};
 ghost use Rattle.profile_index.specs.Indexed.{AreOf};
 
-use crate::{Entry, Index, NoMemory, SharedIndex, Steps};
+use crate::{Entry, Index, Made, NoMemory, SharedIndex, Steps};
 use generic_names::{NameKind, Pattern, Resource};
 use std::alloc::Global;
 use std::marker::Brand;
@@ -432,5 +432,51 @@ fn changes_like_an_index(rt: HostRuntime) -> Result<(), Fail> {
         (1, 2)
     );
     assert!(rt; index.share(rt.alloc())?.find_named(&name).is_some());
+    Ok(())
+}
+
+/// An index with 1 under a name of general resources.
+fn put_one(
+    alloc: Global,
+    index: &SharedIndex<u32>,
+    text: &[u8],
+) -> Result<Made<SharedIndex<u32>>, Fail>
+    requires { AreOf General index.now }
+    ensures { IfOk result (λ made. AreOf General made.what) }
+{
+    let name = Pattern::read(NameKind::General, text)?;
+    Ok(index.put(alloc, name, 1)?)
+}
+
+/// A change makes anew the bucket of the name's first qualifier, or the one of generic first qualifiers; a bucket of 64 that
+/// takes one more becomes two.
+#[test]
+fn makes_one_bucket_anew(rt: HostRuntime) -> Result<(), Fail> {
+    let alloc = rt.alloc();
+    let mut index = SharedIndex::new(alloc);
+    for (text, placed) in [
+        (b"A.B".as_slice(), 3),
+        (b"B.C", 3),
+        (b"A.**", 7),
+        (b"*.C", 3),
+        (b"**", 5),
+        (b"A.B", 7),
+        (b"C", 1),
+    ] {
+        let made = put_one(alloc, &index, text)?;
+        assert_eq!(rt; made.placed, placed);
+        index = made.what;
+    }
+    for number in 0..66 {
+        let text = format!(in alloc; "D.E{number:06}")?;
+        let made = put_one(alloc, &index, text.as_bytes())?;
+        let placed = match number {
+            64 => 65 * 9,
+            65 => 34 * 9,
+            _ => (number + 1) * 9,
+        };
+        assert_eq!(rt; made.placed, placed);
+        index = made.what;
+    }
     Ok(())
 }

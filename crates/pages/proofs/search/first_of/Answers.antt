@@ -15,7 +15,7 @@ total-before-requires g c =
 
 pub returns-then-k-parts : goal.returns-then-k-parts
 returns-then-k-parts g c =
-    let passes = g.Q.Test.passes c.args.test.now in
+    let passes = g.Q.Probe.passes c.args.probe.now in
     let f = g.P.Part.items in
     let ps = c.args.parts.now in
     let k = c.first_part-k.result in
@@ -23,8 +23,8 @@ returns-then-k-parts g c =
     ∙ sym (position_of_none passes (flat_map f (take k ps)) c.first_part-k.ensures.none)
     ∙ ap (λ l. position_or_len passes (flat_map f l)) (take_all k ps (omega arith))
 
-pub first-requires : goal.first-requires
-first-requires g c = rises_part (g.Q.Test.passes c.args.test.now) g.P.Part.items c.args.parts.now c.first_part-k.result c.index-parts-k.result c.index-parts-k.is (omega arith) c.requires.rises
+pub first_in-requires : goal.first_in-requires
+first_in-requires g c = rises_part (g.Q.Probe.passes c.args.probe.now) g.P.Part.items c.args.parts.now c.first_part-k.result c.index-parts-k.result c.index-parts-k.is (omega arith) c.requires.rises
 
 pub overflow_add-result : goal.overflow_add-result
 overflow_add-result g c =
@@ -33,12 +33,12 @@ overflow_add-result g c =
     let p = c.index-parts-k.result in
     let k = c.first_part-k.result in
     let up_to = length_up_to f ps k 0 (length (flat_map f (take k ps)) + 0) p c.index-parts-k.is (omega arith) refl in
-    let size = prefix_len-le-length (λ x. not (g.Q.Test.passes c.args.test.now x)) (f p) in
-    omega (arith, up_to, size, c.total-before.ensures, c.first.ensures, c.requires.room)
+    let size = prefix_len-le-length (λ x. not (g.Q.Probe.passes c.args.probe.now x)) (f p) in
+    omega (arith, up_to, size, c.total-before.ensures, c.first_in.ensures, c.requires.room)
 
 pub returns : goal.returns
 returns g c =
-    let passes = g.Q.Test.passes c.args.test.now in
+    let passes = g.Q.Probe.passes c.args.probe.now in
     let f = g.P.Part.items in
     let ps = c.args.parts.now in
     let k = c.first_part-k.result in
@@ -46,4 +46,4 @@ returns g c =
     let at : k < length ps = omega arith in
     let some = subst (λ r. list_any passes (f r) ≡ true) (sym c.index-parts-k.is) (c.first_part-k.ensures.some p at) in
     let found = found_in_part passes f ps k p c.index-parts-k.is at c.first_part-k.ensures.none some in
-    omega (arith, found, c.total-before.ensures, c.first.ensures)
+    omega (arith, found, c.total-before.ensures, c.first_in.ensures)

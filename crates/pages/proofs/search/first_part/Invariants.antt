@@ -6,8 +6,8 @@ abbrev pub invariant-loop-low : goal.invariant-loop-low
 invariant-loop-low g l = record {
   ordered : l.low ≤ l.high;
   within : l.high ≤ length l.parts;
-  none : list_any (g.Q.Test.passes l.test) (flat_map g.P.Part.items (take l.low l.parts)) ≡ false;
-  some : (d : _) → l.high < length l.parts → list_any (g.Q.Test.passes l.test) (g.P.Part.items (get_or l.parts l.high d)) ≡ true;
+  none : list_any (g.Q.Probe.passes l.probe) (flat_map g.P.Part.items (take l.low l.parts)) ≡ false;
+  some : (d : _) → l.high < length l.parts → list_any (g.Q.Probe.passes l.probe) (g.P.Part.items (get_or l.parts l.high d)) ≡ true;
 }
 
 abbrev pub decreases-loop-low : goal.decreases-loop-low

@@ -1,0 +1,23 @@
+-- Words of buckets: the keys of entries, and the lengths of their names.
+use Rattle.std.specs.Prelude.{◌≡◌, ℕ, ◌<◌, ◌≤◌, List, length, sum_by}
+use Rattle.generic_names.specs.OrderKey.{order_key}
+use Rattle.profile_index.specs.declared.entry.Entry.{Entry}
+
+module _ {T : Type 0} where
+  -- the key of an entry's name
+  abbrev pub key_of : Entry T → List ℕ
+  key_of e = order_key e.name.text
+
+  -- the lengths of the names of entries, summed
+  abbrev pub names_length : List (Entry T) → ℕ
+  names_length entries = sum_by (λ e. length e.name.text) entries
+
+-- a bucket counts its entries, of which there is one at least, and 64 at most
+pub record IsBucket {A : Type 0} (entries : List A) (count : ℕ) : Type 0 where
+  pub counted : count ≡ length entries
+  pub some : 0 < count
+  pub most : count ≤ 64
+
+-- The most bytes of names that lie in the buckets which one change makes anew: those of a full one, and of the new name.
+abbrev pub most_placed : ℕ
+most_placed = 15990

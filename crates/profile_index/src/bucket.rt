@@ -1,0 +1,325 @@
+//! The leaves of a shared index.
+ghost use Rattle.std.specs.Prelude.{◌≡◌, ℕ, ◌+◌, ◌-◌, ◌*◌, ◌^◌, ◌<◌, ◌≤◌, [], ◌∷◌, ◌++◌, length, map, take, drop, true, false, IfOk, Some, slice_set, slice_get, option_map};
+ghost use Rattle.std.specs.List.{flat_map, insert, remove, list_any, position_or_len};
+ghost use Rattle.std.specs.Arc.{arc_value};
+ghost use Rattle.std.specs.Ordering.{nat_cmp, is_lt};
+ghost use Rattle.std.specs.Cmp.Lexicographic.{slice_cmp};
+ghost use Rattle.pages.specs.Parts.{change_items};
+ghost use Rattle.pages.specs.Rising.{Rises, reaches};
+ghost use Rattle.profile_index.specs.Buckets.{key_of, most_placed};
+
+use crate::bucket_rows::{BucketRows, names_length};
+use crate::entry::Entry;
+use generic_names::{Pattern, first_qualifier};
+use pages::{Change, KeyedPart, Made, Part};
+use std::alloc::{AllocError, Global};
+use std::marker::Model;
+use std::sync::Arc;
+
+/// The most entries of a bucket.
+const MOST: usize = 64;
+
+/// The entries of a bucket that is packed, so that the next ones that come in don't split it.
+const PACKED: usize = 48;
+
+/// Up to 64 entries that stand together, shared by versions of an index. Their names have one first qualifier, or first
+/// qualifiers that are generic; where there are more of them, they stand in several buckets. That is how buckets are cut, and no
+/// search rests on it.
+#[derive(Drop)]
+pub(crate) struct Bucket<T: Drop> {
+    /// How many entries there are.
+    len: usize,
+    /// The entries, with the keys of their names.
+    rows: Arc<BucketRows<T>>,
+}
+
+impl<T: Drop> Model for Bucket<T> {
+    ghost use Rattle.std.specs.Prelude.{List};
+    ghost use Rattle.std.specs.Arc.{arc_value};
+    ghost use Rattle.profile_index.specs.declared.entry.Entry.{Entry};
+    ghost use Rattle.profile_index.specs.Buckets.{IsBucket};
+
+    ghost Value = { List (Entry T) };
+
+    ghost view = { λ bucket. arc_value bucket.rows };
+
+    ghost invariant = { λ bucket. IsBucket (arc_value bucket.rows) bucket.len };
+}
+
+impl<T: Drop> Bucket<T> {
+    /// A bucket of these entries.
+    fn holding(alloc: Global, rows: BucketRows<T>) -> Result<Bucket<T>, AllocError>
+        requires some { 0 < length rows }
+        requires most { length rows ≤ 64 }
+        ensures { IfOk result (λ bucket. bucket ≡ rows) }
+    {
+        let len = rows.entries().len();
+        Ok(Bucket {
+            len,
+            rows: Arc::new(alloc, rows)?,
+        })
+    }
+
+    /// The entries, with the keys of their names.
+    fn rows(&self) -> &BucketRows<T>
+        ensures rows { result.now ≡ self.now }
+        ensures some { 0 < length self.now }
+        ensures most { length self.now ≤ 64 }
+    {
+        &self.rows
+    }
+
+    /// How many bytes the names have.
+    fn names_length(&self) -> usize
+        ensures { result ≤ 246 * length self.now }
+    {
+        names_length(self.rows().entries())
+    }
+
+    /// Whether a name has its place in this bucket, going by an entry of it.
+    fn is_for(&self, place: usize, name: &Pattern) -> bool
+        requires { place < length self.now }
+    {
+        have_one_bucket(&self.rows().at(place).name, name)
+    }
+
+    /// The bucket with one more entry, where it isn't full.
+    fn grown(
+        &self,
+        alloc: Global,
+        place: usize,
+        entry: Arc<Entry<T>>,
+    ) -> Result<Bucket<T>, AllocError>
+        requires place { place ≤ length self.now }
+        requires few { length self.now < 64 }
+        ensures { IfOk result (λ bucket. bucket ≡ insert self.now place (arc_value entry)) }
+    {
+        let rows = self.rows().with_entry(alloc, place, place, entry)?;
+        Bucket::holding(alloc, rows)
+    }
+
+    /// A full bucket in two halves, with one more entry in one of them.
+    fn split(
+        &self,
+        alloc: Global,
+        place: usize,
+        entry: Arc<Entry<T>>,
+    ) -> Result<(Bucket<T>, Bucket<T>), AllocError>
+        requires place { place ≤ length self.now }
+        requires full { length self.now ≡ 64 }
+        ensures { IfOk result (λ halves. halves.0 ++ halves.1 ≡ insert self.now place (arc_value entry)) }
+    {
+        let half = MOST / 2;
+        let front = Bucket::holding(alloc, self.rows().part(alloc, 0, half)?)?;
+        let back = Bucket::holding(alloc, self.rows().part(alloc, half, MOST)?)?;
+        if place <= half {
+            return Ok((front.grown(alloc, place, entry)?, back));
+        }
+        let back = back.grown(alloc, place - half, entry)?;
+        Ok((front, back))
+    }
+}
+
+impl<T: Drop> Part<Entry<T>> for Bucket<T> {
+    ghost items = { λ bucket. bucket };
+
+    ghost most_placed = { most_placed };
+
+    fn of(alloc: Global, item: Arc<Entry<T>>) -> Result<Made<Bucket<T>>, AllocError>
+        ensures items { IfOk result (λ made. made.what ≡ arc_value item ∷ []) }
+        ensures placed { IfOk result (λ made. made.placed ≤ most_placed) }
+    {
+        let rows = BucketRows::one(alloc, item)?;
+        let what = Bucket::holding(alloc, rows)?;
+        let placed = what.names_length();
+        Ok(Made { what, placed })
+    }
+
+    fn packed(alloc: Global, all: &[Arc<Entry<T>>]) -> Result<Vec<Bucket<T>>, AllocError> {
+        let mut buckets = Vec::new(alloc);
+        let mut rest = all;
+        while !rest.is_empty() {
+            let (front, back) = rest.split_at(run_of(rest));
+            let rows = BucketRows::of(alloc, front)?;
+            buckets.push(Bucket::holding(alloc, rows)?)?;
+            rest = back;
+        }
+        Ok(buckets)
+    }
+
+    fn len(&self) -> usize {
+        self.len
+    }
+
+    fn total(parts: &[Bucket<T>]) -> usize {
+        let mut total = 0;
+        for bucket in parts {
+            total += bucket.len;
+        }
+        total
+    }
+
+    fn share(&self) -> Result<Bucket<T>, AllocError> {
+        Ok(Bucket {
+            len: self.len,
+            rows: Arc::try_clone(&self.rows)?,
+        })
+    }
+
+    fn at(&self, place: usize) -> &Arc<Entry<T>> {
+        self.rows().at(place)
+    }
+
+    fn locate(parts: &[Bucket<T>], place: usize) -> (usize, usize) {
+        let mut rest = place;
+        for (k, bucket) in parts.iter().enumerate() {
+            if rest < bucket.len {
+                return (k, rest);
+            }
+            rest -= bucket.len;
+        }
+        unreachable!()
+    }
+
+    fn takes(&self, item: &Entry<T>) -> bool {
+        self.is_for(self.len - 1, &item.name)
+    }
+
+    fn with_replaced(
+        &self,
+        alloc: Global,
+        place: usize,
+        item: Arc<Entry<T>>,
+    ) -> Result<Made<Bucket<T>>, AllocError>
+        requires { place < length self.now }
+        ensures items { IfOk result (λ made. made.what ≡ slice_set self.now place (arc_value item)) }
+        ensures placed { IfOk result (λ made. made.placed ≤ most_placed) }
+    {
+        let rows = self.rows().with_entry(alloc, place, place + 1, item)?;
+        let what = Bucket::holding(alloc, rows)?;
+        let placed = what.names_length();
+        Ok(Made { what, placed })
+    }
+
+    fn with_inserted(
+        &self,
+        alloc: Global,
+        place: usize,
+        item: Arc<Entry<T>>,
+    ) -> Result<Made<Change<Bucket<T>>>, AllocError>
+        requires place { place ≤ length self.now }
+        requires room { length self.now + 1 < 2 ^ 64 }
+        ensures items { IfOk result (λ made. change_items (λ bucket. bucket) made.what ≡ insert self.now place (arc_value item)) }
+        ensures placed { IfOk result (λ made. made.placed ≤ most_placed) }
+    {
+        let last = self.len - 1;
+        if place == 0 && !self.is_for(0, &item.name) {
+            let made = Bucket::of(alloc, item)?;
+            return Ok(two(made.what, self.share()?, made.placed));
+        }
+        if place > last && !self.is_for(last, &item.name) {
+            let made = Bucket::of(alloc, item)?;
+            return Ok(two(self.share()?, made.what, made.placed));
+        }
+        if self.len < MOST {
+            let bucket = self.grown(alloc, place, item)?;
+            let placed = bucket.names_length();
+            return Ok(Made {
+                what: Change::One(bucket),
+                placed,
+            });
+        }
+        let (front, back) = self.split(alloc, place, item)?;
+        let placed = front.names_length() + back.names_length();
+        Ok(two(front, back, placed))
+    }
+
+    fn with_removed(
+        &self,
+        alloc: Global,
+        place: usize,
+    ) -> Result<Made<Change<Bucket<T>>>, AllocError> {
+        if self.len == 1 {
+            return Ok(Made {
+                what: Change::Gone,
+                placed: 0,
+            });
+        }
+        let rows = self.rows().without(alloc, place)?;
+        let bucket = Bucket::holding(alloc, rows)?;
+        let placed = bucket.names_length();
+        Ok(Made {
+            what: Change::One(bucket),
+            placed,
+        })
+    }
+}
+
+impl<T: Drop> KeyedPart<Entry<T>> for Bucket<T> {
+    ghost key_of = { key_of };
+
+    fn last_key(&self) -> &[u8] {
+        self.rows().key(self.len - 1)
+    }
+
+    fn first_by_key(&self, key: &[u8]) -> usize {
+        let rows = self.rows();
+        let mut low = 0;
+        let mut high = self.len;
+        while low < high {
+            let middle = low + (high - low) / 2;
+            if is_lower(rows.key(middle), key) {
+                low = middle + 1;
+            } else {
+                high = middle;
+            }
+        }
+        low
+    }
+}
+
+/// Two buckets in place of one, for which so many bytes of names were placed.
+fn two<T: Drop>(front: Bucket<T>, back: Bucket<T>, placed: usize) -> Made<Change<Bucket<T>>>
+    ensures items { change_items (λ bucket. bucket) result.what ≡ front ++ back }
+    ensures placed { result.placed ≡ placed }
+{
+    Made {
+        what: Change::Two(front, back),
+        placed,
+    }
+}
+
+/// Whether a key is lower than another.
+fn is_lower(key: &[u8], other: &[u8]) -> bool
+    ensures { result ≡ is_lt (slice_cmp nat_cmp key.now other.now) }
+{
+    key.cmp(other).is_lt()
+}
+
+/// How many of these entries, from the first on, stand in one bucket that is packed.
+fn run_of<T>(entries: &[Arc<Entry<T>>]) -> usize
+    requires { 0 < length entries.now }
+    ensures some { 0 < result }
+    ensures most { result ≤ 64 }
+    ensures within { result ≤ length entries.now }
+{
+    let most = entries.len().min(PACKED);
+    for count in 1..most {
+        if !have_one_bucket(&entries[0].name, &entries[count].name) {
+            return count;
+        }
+    }
+    most
+}
+
+/// Whether two names stand in one bucket: they have one first qualifier, or both a generic one.
+fn have_one_bucket(first: &Pattern, second: &Pattern) -> bool {
+    let one = first_qualifier(first.text());
+    let other = first_qualifier(second.text());
+    one == other || (is_generic(one) && is_generic(other))
+}
+
+/// Whether a qualifier has a generic character.
+fn is_generic(qualifier: &[u8]) -> bool {
+    qualifier.iter().any(|byte| *byte == b'%' || *byte == b'*')
+}

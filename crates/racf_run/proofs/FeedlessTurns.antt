@@ -311,7 +311,7 @@ no_feed words h k d below = other _ (AllPass-from_list_all (λ byte. not (byte =
     other : (byte : ℕ) → not (byte == 10) ≡ true → byte ≡ 10 → ⊥
     other byte h e = true≢false (sym (subst (λ (n : ℕ). not (n == 10) ≡ true) e h))
 
-one_line : (turn : Turn) → IsLine (behind turn).number (printed turn) → PrintsOneLine turn
+one_line : (turn : Turn) → IsLine (number_of (behind turn)) (printed turn) → PrintsOneLine turn
 one_line turn (inl none) = inl none
 one_line turn (inr (inl is)) = inr (inl (record { words = is.words; no_feed = no_feed is.words is.feedless; is_line = is.is_line }))
 one_line turn (inr (inr never)) = inr (inr never)

@@ -1,12 +1,12 @@
 -- The words of what an issuer lacks hold no line feed: a need names what the command names, or what the rows hold.
-use Rattle.std.proofs.Common.{ℕ, Bool, true, false, cond, not, List, [], ◌∷◌, ◌++◌, Option, None, Some, refl, codes, bytes_eq}
-use Rattle.std.specs.Prelude.{IfSome, find, option_map, option_and_then, unwrap_or}
+use Rattle.std.proofs.Common.{ℕ, Bool, true, false, not, List, [], ◌∷◌, ◌++◌, Option, None, Some, refl, codes, bytes_eq}
+use Rattle.std.specs.Prelude.{IfSome, find, option_and_then, unwrap_or}
 use Rattle.std.specs.List.{AllByRecursion}
 use Rattle.std.proofs.lemmas.Option.{IfSome_then}
 use Rattle.access_levels.specs.declared.authorities.GroupAuthority.{GroupAuthority}
 use Rattle.access_levels.specs.declared.authorities.GroupAuthority.TheVariants.{MayUse}
 use Rattle.access_levels.specs.Level.{authority_name}
-use Rattle.generic_names.specs.Spelled.{Spelled, first_qualifier}
+use Rattle.generic_names.specs.Spelled.{Spelled}
 use Rattle.generic_names.specs.Covers.{is_generic}
 use Rattle.racf_profiles.specs.declared.groups.Group.{Group}
 use Rattle.racf_profiles.specs.declared.rows.Rows.{Rows}
@@ -18,7 +18,6 @@ use Rattle.command_parser.specs.LawfulFields.{AreLawfulFields}
 use Rattle.command_parser.specs.Issuers.{group_or_current}
 use Rattle.command_authority.specs.declared.needs.Need.{Need}
 use Rattle.command_authority.specs.declared.needs.Need.TheVariants as needs
-use Rattle.command_authority.specs.declared.requirement.Target.{Target}
 use Rattle.command_authority.specs.declared.requirement.Requirement.{Requirement}
 use Rattle.command_authority.specs.Authority.{is_met, need}
 use Rattle.command_authority.specs.Requirements.{

@@ -20,7 +20,7 @@ use Rattle.racf_profiles.specs.declared.rows.Rows.{Rows}
 use Rattle.racf_profiles.specs.Lookup.{is_user, is_group, is_class, is_profile, class_of, profile_of}
 use Rattle.racf_profiles.specs.Names.{is_to}
 use Rattle.racf_profiles.specs.State.{State, ListedCopy, is_copy_of, copy_of}
-use Rattle.racf_profiles.specs.Edits.{put_profile, at_class, with_profile, without_profile}
+use Rattle.racf_profiles.specs.Edits.{with_profile, without_profile}
 use Rattle.racf_profiles.proofs.OrderedProfiles.{all-put_profile}
 use Rattle.racf_profiles.proofs.EditLaws.{all-drop_row}
 use Rattle.row_tables.specs.Tables.{first_rows}

@@ -4,7 +4,6 @@ use Rattle.std.specs.Prelude.{Option, Result, Ok, Err, ◌⊎◌}
 use Rattle.std.specs.Borrow.{Bor}
 use Rattle.std.specs.Option.{option_to_list}
 use Rattle.std.specs.Io.KnownBytes.{prepend_known}
-use Rattle.racf_outside.specs.Causes.{Rose}
 use Rattle.racf_outside.specs.Lines.{Text, TooLong, line_of, NoFeed}
 use Rattle.racf_outside.specs.Reader.{Reader}
 use Rattle.racf_outside.specs.Next as line

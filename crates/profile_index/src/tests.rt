@@ -480,3 +480,21 @@ fn makes_one_bucket_anew(rt: HostRuntime) -> Result<(), Fail> {
     }
     Ok(())
 }
+
+/// Each of 1,000 names stands alone in the bucket of its first qualifier, and a change of one places that name again.
+#[test]
+fn places_one_name_of_a_thousand(rt: HostRuntime) -> Result<(), Fail> {
+    let alloc = rt.alloc();
+    let mut index = SharedIndex::new(alloc);
+    let mut placed: usize = 0;
+    for number in 1..1_001 {
+        let text = format!(in alloc; "U{number:06}.**")?;
+        let made = put_one(alloc, &index, text.as_bytes())?;
+        placed = placed.saturating_add(made.placed);
+        index = made.what;
+    }
+    assert_eq!(rt; placed, 10_000);
+    let made = put_one(alloc, &index, b"U000500.**")?;
+    assert_eq!(rt; (made.placed, made.what.len()), (10, 1_000));
+    Ok(())
+}

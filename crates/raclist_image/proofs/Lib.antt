@@ -1,3 +1,4 @@
 pub mod Places
 pub mod PutKinds
 pub mod Copied
+mod Placing

@@ -4,3 +4,4 @@ pub mod Flags
 pub mod KeptClasses
 pub mod KeptState
 pub mod KeptImage
+pub mod PlacedNames

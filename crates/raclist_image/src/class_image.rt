@@ -1,15 +1,16 @@
 //! The profiles of one class in an image.
-ghost use Rattle.std.specs.Prelude.{◌≡◌, ◌<◌, length, Some, IfOk, IsSomeAnd, option_map};
+ghost use Rattle.std.specs.Prelude.{◌≡◌, ◌<◌, ◌≤◌, length, Some, IfOk, IsSomeAnd, option_map};
 ghost use Rattle.std.specs.List.{slice_get};
 ghost use Rattle.racf_profiles.specs.declared.profiles.Profile.{Profile};
 ghost use Rattle.racf_profiles.specs.Lookup.{is_profile};
 ghost use Rattle.racf_profiles.specs.Edits.{put_profile, drop_row};
 ghost use Rattle.racf_profiles.specs.LawfulProfiles.{AreProfiles};
 ghost use Rattle.class_profiles.specs.Table.{best_profile, IsPlaceOf};
+ghost use Rattle.profile_index.specs.Buckets.{most_placed};
 ghost use Rattle.raclist_image.specs.Facts.{AreFacts};
 
 use crate::facts::Facts;
-use class_profiles::SharedProfiles;
+use class_profiles::{Made, SharedProfiles};
 use generic_names::{NameKind, Pattern, Resource};
 use racf_profiles::{NoMemory, Profile};
 use std::alloc::Global;
@@ -74,31 +75,44 @@ impl ClassImage {
         facts_of(self.profiles.at(place))
     }
 
-    /// The image with the profile, copied, in the place of the one of its name, or else at its place in the order.
+    /// The image with the profile, copied, in the place of the one of its name, or else at its place in the order; and the
+    /// lengths of the names in the buckets that were made anew for it.
     pub(crate) fn with_profile(
         &self,
         alloc: Global,
         profile: &Profile,
-    ) -> Result<ClassImage, NoMemory>
+    ) -> Result<Made<ClassImage>, NoMemory>
         requires { AreProfiles self.now.kind (put_profile profile.now self.now.profiles) }
-        ensures { IfOk result (λ image. image ≡ record { kind = self.now.kind; profiles = put_profile profile.now self.now.profiles }) }
+        ensures image { IfOk result (λ made. made.what ≡ record { kind = self.now.kind; profiles = put_profile profile.now self.now.profiles }) }
+        ensures placed { IfOk result (λ made. made.placed ≤ most_placed) }
     {
         let copy = profile.copy(alloc)?;
-        Ok(ClassImage {
-            profiles: self.profiles.with_profile(alloc, copy)?,
+        let made = self.profiles.with_profile(alloc, copy)?;
+        let what = ClassImage {
+            profiles: made.what,
+        };
+        Ok(Made {
+            what,
+            placed: made.placed,
         })
     }
 
-    /// The image without the profile of that very name.
+    /// The image without the profile of that very name, and the lengths of the names in the bucket that was made anew for it.
     pub(crate) fn without_profile(
         &self,
         alloc: Global,
         name: &Pattern,
-    ) -> Result<ClassImage, NoMemory>
-        ensures { IfOk result (λ image. image ≡ record { kind = self.now.kind; profiles = drop_row (is_profile name.now) self.now.profiles }) }
+    ) -> Result<Made<ClassImage>, NoMemory>
+        ensures image { IfOk result (λ made. made.what ≡ record { kind = self.now.kind; profiles = drop_row (is_profile name.now) self.now.profiles }) }
+        ensures placed { IfOk result (λ made. made.placed ≤ most_placed) }
     {
-        Ok(ClassImage {
-            profiles: self.profiles.without_profile(alloc, name)?,
+        let made = self.profiles.without_profile(alloc, name)?;
+        let what = ClassImage {
+            profiles: made.what,
+        };
+        Ok(Made {
+            what,
+            placed: made.placed,
         })
     }
 }

@@ -1,16 +1,18 @@
 //! The classes of an image.
-ghost use Rattle.std.specs.Prelude.{◌≡◌, ◌<◌, length, position, find, slice_get, Some, IfOk, IfSome, OnOk};
+ghost use Rattle.std.specs.Prelude.{◌≡◌, ◌<◌, ◌≤◌, length, position, find, slice_get, Some, IfOk, IfSome, OnOk};
 ghost use Rattle.std.specs.Arc.{arc_value};
 ghost use Rattle.std.specs.Option.{option_copied};
 ghost use Rattle.racf_profiles.specs.declared.class_rows.ClassRow.{ClassRow};
 ghost use Rattle.racf_profiles.specs.Lookup.{is_class, is_profile};
 ghost use Rattle.racf_profiles.specs.Edits.{put_profile, drop_row, at_class, with_profile, without_profile, with_flags, with_listed};
 ghost use Rattle.racf_profiles.specs.LawfulProfiles.{AreProfiles, AreClasses, kind_in};
+ghost use Rattle.profile_index.specs.Buckets.{most_placed};
 ghost use Rattle.raclist_image.specs.Flags.{flags_of_row};
 
 use crate::class_image::ClassImage;
 use crate::flags::ClassFlags;
 use access_levels::Id;
+use class_profiles::Made;
 use generic_names::Pattern;
 use racf_profiles::{ClassRow, LogOption, NoMemory, Profile, allows_operations, kind_in};
 use std::alloc::Global;
@@ -96,28 +98,38 @@ impl ClassEntry {
         })
     }
 
-    /// The class with a profile put.
-    fn with_profile(&self, alloc: Global, profile: &Profile) -> Result<ClassEntry, NoMemory>
+    /// The class with a profile put, and the lengths of the names in the buckets that were made anew for it.
+    fn with_profile(&self, alloc: Global, profile: &Profile) -> Result<Made<ClassEntry>, NoMemory>
         requires { AreProfiles (kind_in self.now.name) (put_profile profile.now self.now.profiles) }
-        ensures { IfOk result (λ class. class ≡ with_profile profile.now self.now) }
+        ensures class { IfOk result (λ made. made.what ≡ with_profile profile.now self.now) }
+        ensures placed { IfOk result (λ made. made.placed ≤ most_placed) }
     {
-        let profiles = self.profiles.with_profile(alloc, profile)?;
-        Ok(ClassEntry {
+        let made = self.profiles.with_profile(alloc, profile)?;
+        let what = ClassEntry {
             name: self.name,
             flags: self.flags,
-            profiles: Arc::new(alloc, profiles)?,
+            profiles: Arc::new(alloc, made.what)?,
+        };
+        Ok(Made {
+            what,
+            placed: made.placed,
         })
     }
 
-    /// The class without the profile of that name.
-    fn without_profile(&self, alloc: Global, name: &Pattern) -> Result<ClassEntry, NoMemory>
-        ensures { IfOk result (λ class. class ≡ without_profile name.now self.now) }
+    /// The class without the profile of that name, and the lengths of the names in the bucket that was made anew for it.
+    fn without_profile(&self, alloc: Global, name: &Pattern) -> Result<Made<ClassEntry>, NoMemory>
+        ensures class { IfOk result (λ made. made.what ≡ without_profile name.now self.now) }
+        ensures placed { IfOk result (λ made. made.placed ≤ most_placed) }
     {
-        let profiles = self.profiles.without_profile(alloc, name)?;
-        Ok(ClassEntry {
+        let made = self.profiles.without_profile(alloc, name)?;
+        let what = ClassEntry {
             name: self.name,
             flags: self.flags,
-            profiles: Arc::new(alloc, profiles)?,
+            profiles: Arc::new(alloc, made.what)?,
+        };
+        Ok(Made {
+            what,
+            placed: made.placed,
         })
     }
 
@@ -236,39 +248,42 @@ impl ClassList {
         }
     }
 
-    /// Puts a profile into a class.
+    /// Puts a profile into a class, and answers the lengths of the names in the buckets that were made anew for it.
     pub(crate) fn put_profile(
         &mut self,
         alloc: Global,
         class: Id,
         profile: &Profile,
-    ) -> Result<(), NoMemory>
+    ) -> Result<usize, NoMemory>
         requires { AreClasses (at_class class (with_profile profile.now) self.old) }
-        ensures { OnOk result (self.new ≡ at_class class (with_profile profile.now) self.old) }
+        ensures classes { OnOk result (self.new ≡ at_class class (with_profile profile.now) self.old) }
+        ensures placed { IfOk result (λ placed. placed ≤ most_placed) }
     {
         let Some(place) = self.place(class) else {
-            return Ok(());
+            return Ok(0);
         };
-        let entry = self.at(place).with_profile(alloc, profile)?;
-        self.classes[place] = entry;
-        Ok(())
+        let made = self.at(place).with_profile(alloc, profile)?;
+        self.classes[place] = made.what;
+        Ok(made.placed)
     }
 
-    /// Takes the profile of that very name out of a class, if there is one.
+    /// Takes the profile of that very name out of a class, if there is one, and answers the lengths of the names in the bucket
+    /// that was made anew for it.
     pub(crate) fn remove_profile(
         &mut self,
         alloc: Global,
         class: Id,
         name: &Pattern,
-    ) -> Result<(), NoMemory>
-        ensures { OnOk result (self.new ≡ at_class class (without_profile name.now) self.old) }
+    ) -> Result<usize, NoMemory>
+        ensures classes { OnOk result (self.new ≡ at_class class (without_profile name.now) self.old) }
+        ensures placed { IfOk result (λ placed. placed ≤ most_placed) }
     {
         let Some(place) = self.place(class) else {
-            return Ok(());
+            return Ok(0);
         };
-        let entry = self.at(place).without_profile(alloc, name)?;
-        self.classes[place] = entry;
-        Ok(())
+        let made = self.at(place).without_profile(alloc, name)?;
+        self.classes[place] = made.what;
+        Ok(made.placed)
     }
 
     /// Sets whether a class is active, whether the global access table is used for it, and its log option.

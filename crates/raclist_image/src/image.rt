@@ -1,5 +1,5 @@
 //! The image of a state.
-ghost use Rattle.std.specs.Prelude.{◌≡◌, ◌↔◌, ◌<◌, length, slice_get, Some, IfOk, IfSome, IsSome, IsTrue, option_map};
+ghost use Rattle.std.specs.Prelude.{◌≡◌, ◌↔◌, ◌<◌, ◌≤◌, length, slice_get, Some, IfOk, IfSome, IsSome, IsTrue, option_map};
 ghost use Rattle.std.specs.Arc.{arc_value};
 ghost use Rattle.std.specs.Option.{option_copied};
 ghost use Rattle.racf_profiles.specs.Lookup.{user_of, group_of, class_of};
@@ -9,11 +9,14 @@ ghost use Rattle.racf_profiles.specs.Scope.{InScopeProfile};
 ghost use Rattle.racf_profiles.specs.LawfulProfiles.{kind_in};
 ghost use Rattle.racf_profiles.specs.Lawful.{AreLawful, LeaveLawfulClasses};
 ghost use Rattle.raclist_image.specs.Flags.{flags_of};
+ghost use Rattle.raclist_image.specs.PlacedNames.{names_placed, most_placed_by};
 
 use crate::class_image::ClassImage;
 use crate::flags::ClassFlags;
+use crate::names::names_length;
 use crate::state::ImageState;
 use access_levels::Id;
+use class_profiles::Made;
 use group_tree::{in_scope_group, in_scope_user};
 use racf_profiles::{Change, Group, NoMemory, Options, Rows, User};
 use std::alloc::Global;
@@ -28,6 +31,8 @@ pub struct Image {
     state: ImageState,
     /// How many commands were accepted before this state.
     generation: u64,
+    /// The lengths of the profile names in the buckets that were made anew when this image was made.
+    placed: usize,
 }
 
 impl Model for Image {
@@ -49,9 +54,7 @@ impl Image {
         requires { AreLawful rows.now }
         ensures { IfOk result (λ image. arc_value image ≡ record { state = restart rows.now; generation = generation }) }
     {
-        racf_profiles::laws::listed_classes_have_copies();
-        let state = ImageState::of(alloc, rows)?;
-        Ok(Arc::new(alloc, Image { state, generation })?)
+        Ok(Image::made_of(alloc, rows, generation)?.what)
     }
 
     /// The image of the state behind these edits, made in their order, with its number. What the edits don't lead to has
@@ -66,11 +69,65 @@ impl Image {
         requires lawful { AreLawful (changed change.now.edits self.now.state.rows) }
         ensures { IfOk result (λ image. arc_value image ≡ record { state = changed_state change.now.edits self.now.state; generation = generation }) }
     {
+        Ok(self.made_after(alloc, change, generation)?.what)
+    }
+
+    /// The image of these rows, as `of` makes it, and what it placed: the names of all profiles, each in its bucket.
+    pub fn made_of(
+        alloc: Global,
+        rows: &Rows,
+        generation: u64,
+    ) -> Result<Made<Arc<Image>>, NoMemory>
+        requires { AreLawful rows.now }
+        ensures image { IfOk result (λ made. arc_value made.what ≡ record { state = restart rows.now; generation = generation }) }
+        ensures placed { IfOk result (λ made. made.placed ≡ names_placed rows.now) }
+    {
+        racf_profiles::laws::listed_classes_have_copies();
+        let state = ImageState::of(alloc, rows)?;
+        let placed = names_length(&rows.classes.items)?;
+        let image = Image {
+            state,
+            generation,
+            placed,
+        };
+        Ok(Made {
+            what: Arc::new(alloc, image)?,
+            placed,
+        })
+    }
+
+    /// The image of the state behind these edits, as `after` makes it, and what it placed: the names of the buckets that each
+    /// edit of a profile made anew.
+    pub fn made_after(
+        &self,
+        alloc: Global,
+        change: &Change,
+        generation: u64,
+    ) -> Result<Made<Arc<Image>>, NoMemory>
+        requires classes { LeaveLawfulClasses change.now.edits self.now.state.rows }
+        requires lawful { AreLawful (changed change.now.edits self.now.state.rows) }
+        ensures image { IfOk result (λ made. arc_value made.what ≡ record { state = changed_state change.now.edits self.now.state; generation = generation }) }
+        ensures placed { IfOk result (λ made. made.placed ≤ most_placed_by change.now.edits) }
+    {
         racf_profiles::laws::rows_are_changed();
         racf_profiles::laws::listed_classes_have_copies();
         let mut state = self.state.share(alloc)?;
-        state.make_all(alloc, change.edits.items.as_slice())?;
-        Ok(Arc::new(alloc, Image { state, generation })?)
+        let placed = state.make_all(alloc, change.edits.items.as_slice())?;
+        let image = Image {
+            state,
+            generation,
+            placed,
+        };
+        Ok(Made {
+            what: Arc::new(alloc, image)?,
+            placed,
+        })
+    }
+
+    /// The lengths of the profile names, summed over the buckets that were made anew when this image was made: what `made_of` or
+    /// `made_after` answered beside it.
+    pub fn placed(&self) -> usize {
+        self.placed
     }
 
     /// How many commands were accepted before this state.

@@ -19,12 +19,14 @@ mod copies;
 mod facts;
 mod flags;
 mod image;
+mod names;
 mod rows;
 mod state;
 #[cfg(test)]
 mod tests;
 
 pub use class_image::ClassImage;
+pub use class_profiles::Made;
 pub use facts::Facts;
 pub use flags::ClassFlags;
 pub use image::Image;

@@ -1,5 +1,5 @@
 //! The state that an image holds, and what an edit makes of it.
-ghost use Rattle.std.specs.Prelude.{◌≡◌, ◌<◌, length, slice_get, Some, IfOk, OnOk};
+ghost use Rattle.std.specs.Prelude.{◌≡◌, ◌<◌, ◌≤◌, length, slice_get, Some, IsOk, IfOk, OnOk};
 ghost use Rattle.std.specs.Arc.{arc_value};
 ghost use Rattle.std.specs.Option.{option_copied};
 ghost use Rattle.racf_profiles.specs.declared.edits.Edit.TheVariants as edits;
@@ -10,6 +10,7 @@ ghost use Rattle.racf_profiles.specs.Lawful.{AreLawful, LeaveLawfulClasses};
 ghost use Rattle.racf_profiles.specs.LawfulProfiles.{AreClasses};
 ghost use Rattle.racf_profiles.specs.LawfulUsers.{AreUsers};
 ghost use Rattle.racf_profiles.specs.Tree.{IsTree};
+ghost use Rattle.raclist_image.specs.PlacedNames.{placed_at_most, most_placed_by};
 
 use crate::classes::ClassList;
 use crate::copies::CopyList;
@@ -120,35 +121,38 @@ impl ImageState {
         &self.options
     }
 
-    /// Makes edits in their order.
-    pub(crate) fn make_all(&mut self, alloc: Global, edits: &[Edit]) -> Result<(), NoMemory>
+    /// Makes edits in their order, and answers the lengths of the profile names in the buckets that each made anew.
+    pub(crate) fn make_all(&mut self, alloc: Global, edits: &[Edit]) -> Result<usize, NoMemory>
         requires { LeaveLawfulClasses edits.now self.old.rows }
-        ensures { OnOk result (self.new ≡ changed_state edits.now self.old) }
+        ensures state { OnOk result (self.new ≡ changed_state edits.now self.old) }
+        ensures placed { IfOk result (λ placed. placed ≤ most_placed_by edits.now) }
     {
+        let mut placed: usize = 0;
         for edit in edits {
-            self.make(alloc, edit)?;
+            placed = placed.saturating_add(self.make(alloc, edit)?);
         }
-        Ok(())
+        Ok(placed)
     }
 
     /// Makes an edit. An edit that names what isn't there changes nothing.
-    fn make(&mut self, alloc: Global, edit: &Edit) -> Result<(), NoMemory>
+    fn make(&mut self, alloc: Global, edit: &Edit) -> Result<usize, NoMemory>
         requires { AreClasses (edited edit.now self.old.rows).classes }
-        ensures { OnOk result (self.new ≡ edited_state edit.now self.old) }
+        ensures state { OnOk result (self.new ≡ edited_state edit.now self.old) }
+        ensures placed { IfOk result (λ placed. placed ≤ placed_at_most edit.now) }
     {
         match edit {
-            Edit::PutUser(user) => self.put_user(alloc, user),
-            Edit::DropUser(id) => self.drop_user(alloc, *id),
-            Edit::PutGroup(group) => self.put_group(alloc, group),
-            Edit::DropGroup(id) => self.drop_group(alloc, *id),
+            Edit::PutUser(user) => none_placed(self.put_user(alloc, user)),
+            Edit::DropUser(id) => none_placed(self.drop_user(alloc, *id)),
+            Edit::PutGroup(group) => none_placed(self.put_group(alloc, group)),
+            Edit::DropGroup(id) => none_placed(self.drop_group(alloc, *id)),
             Edit::PutProfile(class, profile) => self.classes.put_profile(alloc, *class, profile),
             Edit::DropProfile(class, name) => self.classes.remove_profile(alloc, *class, name),
-            Edit::PutOptions(options) => self.put_options(alloc, options),
+            Edit::PutOptions(options) => none_placed(self.put_options(alloc, options)),
             Edit::PutClass(class, active, global, log) => {
-                self.classes.set_flags(*class, *active, *global, *log)
+                none_placed(self.classes.set_flags(*class, *active, *global, *log))
             }
-            Edit::List(class) => self.list(*class),
-            Edit::Unlist(class) => self.unlist(*class),
+            Edit::List(class) => none_placed(self.list(*class)),
+            Edit::Unlist(class) => none_placed(self.unlist(*class)),
         }
     }
 
@@ -254,4 +258,13 @@ fn groups_of(alloc: Global, groups: &[Group]) -> Result<Arc<DefinedRows<GroupRow
         items.push(GroupRow { group: *group })?;
     }
     Ok(Arc::new(alloc, DefinedRows::of(alloc, items)?)?)
+}
+
+/// That an edit made no bucket of profiles anew.
+fn none_placed(made: Result<(), NoMemory>) -> Result<usize, NoMemory>
+    ensures ok { IsOk result → IsOk made }
+    ensures none { IfOk result (λ placed. placed ≡ 0) }
+{
+    made?;
+    Ok(0)
 }

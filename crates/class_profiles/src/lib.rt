@@ -1,5 +1,5 @@
-//! The profiles of each class, [`ClassTables`], and of one class, [`ProfileTable`]; and [`SharedProfiles`], those of one
-//! class in a table that doesn't change, whose changed versions share what they have in common.
+//! The profiles of each class, [`ClassTables`], and of one class, [`ProfileTable`]; and [`SharedProfiles`], those of
+//! one class in a table that doesn't change, whose changed versions share what they have in common.
 //!
 //! Rows are those of `racf_profiles`, and the order of profiles is kept by `profile_index`. The tables of a database
 //! hold the classes; an image has a table for each class.

@@ -17,8 +17,8 @@ use racf_profiles::{NoMemory, Profile};
 use std::alloc::Global;
 use std::marker::Model;
 
-/// The profiles of one class in the order of specificity, each name but once, all names of one kind. A table doesn't change:
-/// a changed version is one of its own, and shares with this one all but what leads to the change.
+/// The profiles of one class in the order of specificity, each name but once, all names of one kind. A table doesn't
+/// change: a changed version is one of its own, and shares with this one all but what leads to the change.
 #[derive(Drop)]
 pub struct SharedProfiles {
     /// The kind of all the names.
@@ -108,8 +108,8 @@ impl SharedProfiles {
         self.profiles.find(name)
     }
 
-    /// The table with a profile in the place of the one of its name, or else at its place in the order; and the lengths of
-    /// the names in the buckets that were made anew for it.
+    /// The table with a profile in the place of the one of its name, or else at its place in the order; and the lengths
+    /// of the names in the buckets that were made anew for it.
     pub fn with_profile(
         &self,
         alloc: Global,
@@ -135,8 +135,8 @@ impl SharedProfiles {
         })
     }
 
-    /// The table without the profile of that very name, or the same where there is none; and the lengths of the names in the
-    /// bucket that was made anew for it.
+    /// The table without the profile of that very name, or the same where there is none; and the lengths of the names
+    /// in the bucket that was made anew for it.
     pub fn without_profile(
         &self,
         alloc: Global,

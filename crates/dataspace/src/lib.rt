@@ -1,8 +1,9 @@
 //! Room for texts, taken once: a region holds texts one behind another, and gives each back by its spot.
 //!
-//! A [`Region`] takes all its memory when it is made, so that placing a text takes none. A [`Spot`] is where a text stands,
-//! in eight bytes, and stays good until the region is cleared; who knows which text it is reads it by its number, [`Region::row`].
-//! This crate stands on no other of the product. `profile_index` keeps the keys of a bucket's names in a region.
+//! A [`Region`] takes all its memory when it is made, so that placing a text takes none. A [`Spot`] is where a text
+//! stands, in eight bytes, and stays good until the region is cleared; who knows which text it is reads it by its
+//! number, [`Region::row`]. This crate stands on no other of the product. `profile_index` keeps the keys of a bucket's
+//! names in a region.
 //!
 //! ```
 //! let mut region = Region::with_room(alloc, 6, 2)?;

@@ -4,8 +4,8 @@ ghost use Rattle.pages.specs.Rising.{Rises, reaches};
 
 use crate::part::Part;
 
-/// A part whose items have keys, which are bytes, and which is searched by these. Where the keys lie is the part's affair: no
-/// step of a search reads an item.
+/// A part whose items have keys, which are bytes, and which is searched by these. Where the keys lie is the part's
+/// affair: no step of a search reads an item.
 pub trait KeyedPart<T: Drop>: Part<T> {
     ghost key_of: { T → List ℕ };
 

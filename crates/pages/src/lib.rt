@@ -7,12 +7,13 @@
 //! and [`Pages::iter`] gives the items in order. Items are held as `Arc`s: who has one already hands it in, and
 //! `shared_at` gives it out again.
 //!
-//! The leaves are pages of items where nothing else is said. A crate above may keep its items in leaves of its own kind, a
-//! [`Part`]: it says where a leaf is cut, may have keys by which a search goes, a [`KeyedPart`], and counts what it places for
-//! a change, which [`Pages::insert`], [`Pages::replace`] and [`Pages::remove`] answer beside the list, in a [`Made`].
+//! The leaves are pages of items where nothing else is said. A crate above may keep its items in leaves of its own
+//! kind, a [`Part`]: it says where a leaf is cut, may have keys by which a search goes, a [`KeyedPart`], and counts
+//! what it places for a change, which [`Pages::insert`], [`Pages::replace`] and [`Pages::remove`] answer beside the
+//! list, in a [`Made`].
 //!
-//! `sorted_rows` and the shared index of `profile_index` stand on this crate; the images of `raclist_image` keep users and
-//! groups in the one, by `defined_rows`, and profiles in the other, by `class_profiles`.
+//! `sorted_rows` and the shared index of `profile_index` stand on this crate; the images of `raclist_image` keep users
+//! and groups in the one, by `defined_rows`, and profiles in the other, by `class_profiles`.
 //!
 //! ```
 //! let list = Pages::of(alloc, vec![in alloc; "ANN", "PAY"]?)?;

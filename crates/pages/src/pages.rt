@@ -20,11 +20,11 @@ pub type NoMemory = AllocError;
 /// A list of items in order, which doesn't change. A changed version is a list of its own, and shares with this one all
 /// pages but those that lead to the change. A call that answers [`NoMemory`] leaves nothing behind.
 ///
-/// The leaves `L` say how a page keeps its items: a [`SharedPage`] of them, where nothing else is said, or a [`Part`] of the
-/// caller's own.
+/// The leaves `L` say how a page keeps its items: a [`SharedPage`] of them, where nothing else is said, or a [`Part`]
+/// of the caller's own.
 ///
-/// Pages are not merged: after many removals a list has as many pages at the top as before, and [`Pages::packed`] makes it
-/// dense again.
+/// Pages are not merged: after many removals a list has as many pages at the top as before, and [`Pages::packed`] makes
+/// it dense again.
 #[derive(Drop)]
 pub struct Pages<T: Drop, L: Part<T> = SharedPage<T, Arc<T>>> {
     /// The pages of leaves, in order, any number of them.
@@ -206,8 +206,8 @@ impl<T: Drop, L: Part<T>> Pages<T, L> {
 }
 
 impl<T: Drop, L: KeyedPart<T>> Pages<T, L> {
-    /// The first place whose key isn't lower than this one, or the number of items. It compares as many keys as the number of
-    /// items has binary digits, and a few more.
+    /// The first place whose key isn't lower than this one, or the number of items. It compares as many keys as the
+    /// number of items has binary digits, and a few more.
     pub fn first_by_key(&self, key: &[u8]) -> usize
         requires { Rises (reaches L.key_of key.now) self.now }
         ensures place { result ≡ position_or_len (reaches L.key_of key.now) self.now }

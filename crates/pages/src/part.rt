@@ -8,8 +8,8 @@ use crate::test::Test;
 use std::alloc::{AllocError, Global};
 use std::sync::Arc;
 
-/// What a page holds: an item, a leaf with items kept in a way of its own, or a page below it. A part doesn't change, and
-/// what takes its place shares with it what it can.
+/// What a page holds: an item, a leaf with items kept in a way of its own, or a page below it. A part doesn't change,
+/// and what takes its place shares with it what it can.
 pub trait Part<T: Drop>: Drop {
     ghost items: { Self → List T };
 
@@ -50,8 +50,8 @@ pub trait Part<T: Drop>: Drop {
         ensures start { length (flat_map items (take result.0 parts.now)) + result.1 ≡ place }
         ensures within { (d : Self) → result.1 < length (items (slice_index_or parts.now result.0 d)) };
 
-    /// Whether an item that comes in behind the last one is to stand in this part, and not in the one behind it. It is a
-    /// hint: where the item stands in the list doesn't depend on it.
+    /// Whether an item that comes in behind the last one is to stand in this part, and not in the one behind it. It is
+    /// a hint: where the item stands in the list doesn't depend on it.
     fn takes(&self, item: &T) -> bool;
 
     /// The same with another item at a place.
@@ -111,8 +111,8 @@ pub enum Change<P> {
     Two(P, P),
 }
 
-/// What was made, and what its leaves placed for it: the bytes, say, that those of them took which aren't shared. A leaf says
-/// itself what it counts.
+/// What was made, and what its leaves placed for it: the bytes, say, that those of them took which aren't shared. A
+/// leaf says itself what it counts.
 #[derive(Drop)]
 pub struct Made<C> {
     pub what: C,

@@ -103,7 +103,8 @@ pub(crate) fn first_of<T: Drop, P: Part<T>, Q: Probe<T, P>>(parts: &[P], probe: 
     before + probe.first_in(&parts[k])
 }
 
-/// That a count is a number, which bounds each place. It does nothing: a proof has the bound of a count once it is read.
+/// That a count is a number, which bounds each place. It does nothing: a proof has the bound of a count once it is
+/// read.
 pub(crate) fn is_number(_count: usize)
     ensures { _count < 2 ^ 64 }
 {}

@@ -19,9 +19,9 @@ const MOST: usize = 64;
 /// The parts of a page that is packed.
 const PACKED: usize = 48;
 
-/// A page that versions of a list share. It has its own number of items beside it, so that a place is found by the numbers
-/// of the pages of one level, which stand in a row; and its last part, so that a step of a search goes to the last item or
-/// key at once.
+/// A page that versions of a list share. It has its own number of items beside it, so that a place is found by the
+/// numbers of the pages of one level, which stand in a row; and its last part, so that a step of a search goes to the
+/// last item or key at once.
 #[derive(Drop)]
 pub struct SharedPage<T: Drop, P: Part<T>> {
     /// How many items are below.

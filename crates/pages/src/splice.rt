@@ -67,8 +67,8 @@ pub(crate) fn replaced<T: Drop, P: Part<T>>(
     })
 }
 
-/// The part into which an item comes, and the place in it. An item between two parts comes into the first where that takes
-/// it, and else into the second.
+/// The part into which an item comes, and the place in it. An item between two parts comes into the first where that
+/// takes it, and else into the second.
 fn gap_at<T: Drop, P: Part<T>>(parts: &[P], place: usize, item: &T) -> (usize, usize)
     requires some { 0 < length parts.now }
     requires place { place ≤ length (flat_map P.items parts.now) }

@@ -18,6 +18,7 @@ pub record IsBucket {A : Type 0} (entries : List A) (count : ℕ) : Type 0 where
   pub some : 0 < count
   pub most : count ≤ 64
 
--- The most bytes of names that lie in the buckets which one change makes anew: those of a full one, and of the new name.
+-- The most bytes of names that lie in the buckets which one change makes anew: those of a full one, and of the new
+-- name.
 abbrev pub most_placed : ℕ
 most_placed = 15990

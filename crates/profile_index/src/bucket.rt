@@ -23,8 +23,8 @@ const MOST: usize = 64;
 const PACKED: usize = 48;
 
 /// Up to 64 entries that stand together, shared by versions of an index. Their names have one first qualifier, or first
-/// qualifiers that are generic; where there are more of them, they stand in several buckets. That is how buckets are cut, and no
-/// search rests on it.
+/// qualifiers that are generic; where there are more of them, they stand in several buckets. That is how buckets are
+/// cut, and no search rests on it.
 #[derive(Drop)]
 pub(crate) struct Bucket<T: Drop> {
     /// How many entries there are.

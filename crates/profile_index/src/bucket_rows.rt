@@ -14,8 +14,8 @@ use std::sync::Arc;
 /// The most bytes of keys in one region.
 const MOST_BYTES: usize = 4_294_967_295;
 
-/// Entries in their order, with the keys of their names in one region. A key lies there and nowhere else. The region is made
-/// once, with room for all of them.
+/// Entries in their order, with the keys of their names in one region. A key lies there and nowhere else. The region is
+/// made once, with room for all of them.
 #[derive(Drop)]
 pub(crate) struct BucketRows<T: Drop> {
     /// The keys of the entries' names, in the order of the entries.
@@ -171,7 +171,8 @@ impl<T: Drop> BucketRows<T> {
     }
 }
 
-/// How many bytes the keys of these entries take, for which room is made. A `push` tells by itself whether there is room.
+/// How many bytes the keys of these entries take, for which room is made. A `push` tells by itself whether there is
+/// room.
 fn key_bytes<T>(entries: &[Arc<Entry<T>>]) -> usize {
     let mut bytes: usize = 0;
     for entry in entries {

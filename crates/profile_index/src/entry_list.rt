@@ -32,8 +32,8 @@ pub(crate) trait EntryList<T> {
         ensures above { AllWithin (λ e. is_lower e.name key.now ≡ false) (entries self.now) result (length (entries self.now)) };
 }
 
-/// Entries in pages, whose leaves are buckets. A class has as many buckets as first qualifiers, so that a level of pages
-/// stands between these and the top.
+/// Entries in pages, whose leaves are buckets. A class has as many buckets as first qualifiers, so that a level of
+/// pages stands between these and the top.
 pub(crate) type SharedEntries<T> = Pages<Entry<T>, SharedPage<Entry<T>, Bucket<T>>>;
 
 impl<T: Drop> EntryList<T> for SharedEntries<T> {

@@ -6,9 +6,9 @@
 //! many as the number of entries has binary digits. A [`SharedIndex`] doesn't change: a changed version is an index of
 //! its own, and shares the rest with the one before.
 //!
-//! In both a name's place in the order is kept as bytes, its key, and a search computes the key of what it looks for once, so
-//! that a step of it is one comparison of bytes. An [`Index`] keeps each entry behind its key, and a [`SharedIndex`] keeps up
-//! to 64 entries of one first qualifier in a bucket, with their keys in one region.
+//! In both a name's place in the order is kept as bytes, its key, and a search computes the key of what it looks for
+//! once, so that a step of it is one comparison of bytes. An [`Index`] keeps each entry behind its key, and a
+//! [`SharedIndex`] keeps up to 64 entries of one first qualifier in a bucket, with their keys in one region.
 //!
 //! ```
 //! let mut index = Index::new(alloc)?;

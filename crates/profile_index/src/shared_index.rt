@@ -15,9 +15,9 @@ use std::marker::Model;
 use std::sync::Arc;
 
 /// Entries in the order of specificity of their names, which are of one kind. An index doesn't change: a changed
-/// version is one of its own, and shares with this one all but what leads to the change. Entries stand in buckets by the
-/// first qualifiers of their names, with the keys of a bucket's names in one region, by which searches go. A call that answers
-/// [`NoMemory`] leaves nothing behind.
+/// version is one of its own, and shares with this one all but what leads to the change. Entries stand in buckets by
+/// the first qualifiers of their names, with the keys of a bucket's names in one region, by which searches go. A call
+/// that answers [`NoMemory`] leaves nothing behind.
 #[derive(Drop)]
 pub struct SharedIndex<T: Drop> {
     /// The entries in the order.
@@ -134,8 +134,8 @@ impl<T: Drop> SharedIndex<T> {
         Ok(self.remove(alloc, name)?.what)
     }
 
-    /// The index with an entry, as `with_entry` makes it, and the lengths of the names in the buckets that were made anew for
-    /// it: they are those of one bucket, and of two where the entry split one.
+    /// The index with an entry, as `with_entry` makes it, and the lengths of the names in the buckets that were made
+    /// anew for it: they are those of one bucket, and of two where the entry split one.
     pub fn put(
         &self,
         alloc: Global,
@@ -156,7 +156,8 @@ impl<T: Drop> SharedIndex<T> {
         }
     }
 
-    /// The index without an entry, as `without` makes it, and the lengths of the names in the bucket that was made anew for it.
+    /// The index without an entry, as `without` makes it, and the lengths of the names in the bucket that was made anew
+    /// for it.
     pub fn remove(&self, alloc: Global, name: &Pattern) -> Result<Made<SharedIndex<T>>, NoMemory>
         requires { AreOf name.now.kind self.now }
         ensures entries { IfOk result (λ made. made.what ≡ without name.now self.now) }

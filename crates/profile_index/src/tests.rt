@@ -448,8 +448,8 @@ fn put_one(
     Ok(index.put(alloc, name, 1)?)
 }
 
-/// A change makes anew the bucket of the name's first qualifier, or the one of generic first qualifiers; a bucket of 64 that
-/// takes one more becomes two.
+/// A change makes anew the bucket of the name's first qualifier, or the one of generic first qualifiers; a bucket of 64
+/// that takes one more becomes two.
 #[test]
 fn makes_one_bucket_anew(rt: HostRuntime) -> Result<(), Fail> {
     let alloc = rt.alloc();

@@ -33,8 +33,8 @@ abbrev pub unless_refused : {X Y : Type 0} → Result X Refusal → (X → Resul
 unless_refused (Ok x) next = next x
 unless_refused (Err why) next = Err why
 
--- 1. The command that the text spells where this issuer gives it. A text that spells none always has a first fault. A text
--- is faulty too where the canonical text of what it spells would be too long.
+-- 1. The command that the text spells where this issuer gives it. A text that spells none always has a first fault. A
+-- text is faulty too where the canonical text of what it spells would be too long.
 abbrev pub found_command : Option CommandFields → Option Syntax → Result CommandFields Refusal
 found_command (Some command) fault = Ok command
 found_command None fault = Err (refusal.Syntax (unwrap_or fault UnknownCommand))

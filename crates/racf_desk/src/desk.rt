@@ -14,8 +14,9 @@ use std::marker::Model;
 use std::snapshot::Snapshot;
 use std::sync::Arc;
 
-/// A database at which commands are given, with the image of its rows. To the layer above it is its position and what was
-/// made last. A command is judged, made and installed, one after another; nothing is copied but what a command leads to.
+/// A database at which commands are given, with the image of its rows. To the layer above it is its position and what
+/// was made last. A command is judged, made and installed, one after another; nothing is copied but what a command
+/// leads to.
 #[derive(Drop)]
 pub struct Desk {
     /// The rows. Of what was made last it has the edits prepared.
@@ -74,8 +75,8 @@ impl Desk {
     }
 
     /// Judges a command, and makes what `install` puts in place: it takes all memory that the command needs. The issuer
-    /// is named by his ID, and by the group that is to be current for him, else his default group is. The position stays
-    /// as it is, and what was made before doesn't stand any longer.
+    /// is named by his ID, and by the group that is to be current for him, else his default group is. The position
+    /// stays as it is, and what was made before doesn't stand any longer.
     ///
     /// # Errors
     ///
@@ -107,8 +108,8 @@ impl Desk {
         Ok(ready)
     }
 
-    /// Puts in place what was made last, and answers its number. It takes no memory, and the time that the change takes in
-    /// the database.
+    /// Puts in place what was made last, and answers its number. It takes no memory, and the time that the change takes
+    /// in the database.
     pub fn install(&mut self, ready: Ready) -> u64
         requires { self.old.made ≡ Some (made_in ready) }
         ensures number { result ≡ ready.number }

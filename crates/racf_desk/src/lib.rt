@@ -1,9 +1,9 @@
 //! The desk: one command after another, judged as its issuer stands at that command, made and installed.
 //!
 //! A [`Desk`] has the database and the image of its rows. [`Desk::judge`] tests a command in a fixed order, takes all
-//! memory and makes the next image; [`Desk::install`] puts it in place and takes none; [`Desk::execute`] is the two. The
-//! commands are those of `command_parser`; `racf_database` says what they conflict with and `command_authority` who may
-//! give them. [`Refusal::write`] has the words of every refusal.
+//! memory and makes the next image; [`Desk::install`] puts it in place and takes none; [`Desk::execute`] is the two.
+//! The commands are those of `command_parser`; `racf_database` says what they conflict with and `command_authority` who
+//! may give them. [`Refusal::write`] has the words of every refusal.
 //!
 //! ```
 //! let mut desk = Desk::new(alloc)?;

@@ -13,7 +13,8 @@ use racf_database::{Conflict, Database};
 use racf_profiles::NoMemory;
 use std::alloc::{AllocError, Global};
 
-/// The last number that a command gets (this product's own limit). A desk that stands there refuses every further command.
+/// The last number that a command gets (this product's own limit). A desk that stands there refuses every further
+/// command.
 pub const MOST_NUMBER: u64 = 1 << 62;
 
 /// A command, and who gives it with which current group.

@@ -12,8 +12,8 @@ use Rattle.racf_run.specs.declared.reply.Refusal.TheVariants as refusal
 abbrev pub first_issuer : NamedIssuer
 first_issuer = record { id = codes "IBMUSER"; group = None }
 
--- The word that doesn't fit is told as a value that is bad at its place. Of the other faults of a line one alone can come,
--- that it is too long.
+-- The word that doesn't fit is told as a value that is bad at its place. Of the other faults of a line one alone can
+-- come, that it is too long.
 abbrev pub issuer_refusal : LineRefusal → Refusal
 issuer_refusal (BadLine place) = refusal.Command (of_command.Syntax (BadValue place))
 issuer_refusal other = refusal.LineTooLong

@@ -76,8 +76,8 @@ outcome_of text s = outcome s.position s.issuer.id s.issuer.group text
 unfoldable pub command : List ℕ → State → Answer
 command text s = if is_other_command text then refuse refusal.NotBuilt s else answer_outcome (outcome_of text s) s
 
--- A line that names an issuer who fits prints nothing, whoever he is: he is judged at each command. One that doesn't fit
--- is refused, and the issuer stays.
+-- A line that names an issuer who fits prints nothing, whoever he is: he is judged at each command. One that doesn't
+-- fit is refused, and the issuer stays.
 abbrev pub issue_by : Result NamedIssuer LineRefusal → State → Answer
 issue_by (Ok issuer) s = record { state = record s { issuer = issuer }; text = [] }
 issue_by (Err why) s = refuse (issuer_refusal why) s

@@ -26,8 +26,8 @@ ghost use Rattle.racf_run.specs.Printed.{says_refused};
 use command_parser::laws::{fields_of_a_text_are_lawful, one_command_is_spelled};
 
 /// The output of a whole input is what its statements print at their turns, in order. Whatever the input's bytes, each
-/// prints nothing or one line, so that the lines of the output are what is printed at the turns that print anything. The
-/// state at a statement's turn is that behind the statements before it.
+/// prints nothing or one line, so that the lines of the output are what is printed at the turns that print anything.
+/// The state at a statement's turn is that behind the statements before it.
 pub fn an_item_prints_one_line()
     ensures whole { (bytes : List ℕ) → script_output bytes ≡ concat (map printed (input_turns bytes)) }
     ensures line { (bytes : List ℕ) → AllByRecursion PrintsOneLine (input_turns bytes) }
@@ -42,7 +42,8 @@ pub fn an_item_prints_one_line()
 }
 
 /// The line of an AUTH whose ACEE is in use is the decision that the table gives for that ACEE at the position of its
-/// turn, with the number of the commands before it; that of a VERIFY that can put an ACEE is what `verified` gives there.
+/// turn, with the number of the commands before it; that of a VERIFY that can put an ACEE is what `verified` gives
+/// there.
 pub fn requests_are_decided()
     ensures auth { (turn : Turn) (line acee : List ℕ) (access : Access) (user : Acee) → turn.item ≡ Request line →
         read line ≡ Ok (Auth acee access) → acee_named acee turn.before.acees ≡ Some user →
@@ -61,8 +62,8 @@ pub fn the_status_is_what_the_lines_say()
 {}
 
 /// A command that is built has its outcome at the position of its turn, where the issuer of its turn gives it: that is
-/// printed, and the position behind the turn is the one behind that outcome. A line of an issuer who fits is the issuer of
-/// the next turns; one that doesn't fit changes no issuer.
+/// printed, and the position behind the turn is the one behind that outcome. A line of an issuer who fits is the issuer
+/// of the next turns; one that doesn't fit changes no issuer.
 pub fn commands_are_judged()
     ensures told { (turn : Turn) (text : List ℕ) → turn.item ≡ Command text → is_other_command text ≡ false →
         printed turn ≡ (answer_outcome (outcome_of text turn.before) turn.before).text }

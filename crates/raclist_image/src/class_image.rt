@@ -75,8 +75,8 @@ impl ClassImage {
         facts_of(self.profiles.at(place))
     }
 
-    /// The image with the profile, copied, in the place of the one of its name, or else at its place in the order; and the
-    /// lengths of the names in the buckets that were made anew for it.
+    /// The image with the profile, copied, in the place of the one of its name, or else at its place in the order; and
+    /// the lengths of the names in the buckets that were made anew for it.
     pub(crate) fn with_profile(
         &self,
         alloc: Global,
@@ -97,7 +97,8 @@ impl ClassImage {
         })
     }
 
-    /// The image without the profile of that very name, and the lengths of the names in the bucket that was made anew for it.
+    /// The image without the profile of that very name, and the lengths of the names in the bucket that was made anew
+    /// for it.
     pub(crate) fn without_profile(
         &self,
         alloc: Global,

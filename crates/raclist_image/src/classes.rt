@@ -116,7 +116,8 @@ impl ClassEntry {
         })
     }
 
-    /// The class without the profile of that name, and the lengths of the names in the bucket that was made anew for it.
+    /// The class without the profile of that name, and the lengths of the names in the bucket that was made anew for
+    /// it.
     fn without_profile(&self, alloc: Global, name: &Pattern) -> Result<Made<ClassEntry>, NoMemory>
         ensures class { IfOk result (λ made. made.what ≡ without_profile name.now self.now) }
         ensures placed { IfOk result (λ made. made.placed ≤ most_placed) }
@@ -181,8 +182,8 @@ fn flags_of_row(row: &ClassRow) -> ClassFlags
     }
 }
 
-/// The classes in their order. A version that was changed shares with the one before the profiles of all classes but the
-/// changed ones.
+/// The classes in their order. A version that was changed shares with the one before the profiles of all classes but
+/// the changed ones.
 #[derive(Drop)]
 pub(crate) struct ClassList {
     /// The fourteen classes.
@@ -267,8 +268,8 @@ impl ClassList {
         Ok(made.placed)
     }
 
-    /// Takes the profile of that very name out of a class, if there is one, and answers the lengths of the names in the bucket
-    /// that was made anew for it.
+    /// Takes the profile of that very name out of a class, if there is one, and answers the lengths of the names in the
+    /// bucket that was made anew for it.
     pub(crate) fn remove_profile(
         &mut self,
         alloc: Global,

@@ -57,8 +57,8 @@ impl Image {
         Ok(Image::made_of(alloc, rows, generation)?.what)
     }
 
-    /// The image of the state behind these edits, made in their order, with its number. What the edits don't lead to has
-    /// one more owner, so that the time grows with the edits, and hardly with the rows.
+    /// The image of the state behind these edits, made in their order, with its number. What the edits don't lead to
+    /// has one more owner, so that the time grows with the edits, and hardly with the rows.
     pub fn after(
         &self,
         alloc: Global,
@@ -96,8 +96,8 @@ impl Image {
         })
     }
 
-    /// The image of the state behind these edits, as `after` makes it, and what it placed: the names of the buckets that each
-    /// edit of a profile made anew.
+    /// The image of the state behind these edits, as `after` makes it, and what it placed: the names of the buckets
+    /// that each edit of a profile made anew.
     pub fn made_after(
         &self,
         alloc: Global,
@@ -124,8 +124,8 @@ impl Image {
         })
     }
 
-    /// The lengths of the profile names, summed over the buckets that were made anew when this image was made: what `made_of` or
-    /// `made_after` answered beside it.
+    /// The lengths of the profile names, summed over the buckets that were made anew when this image was made: what
+    /// `made_of` or `made_after` answered beside it.
     pub fn placed(&self) -> usize {
         self.placed
     }

@@ -1,8 +1,8 @@
 //! Images: the state that decisions read. An image never changes, so many may read it at once.
 //!
-//! An [`Image`] is made of the rows of a database with the number of commands that led to them, or by [`Image::after`] of
-//! the image before and a command's edits, with which it shares what these don't lead to; contracts see it as its state
-//! and number. A [`ClassImage`] has the profiles of a class, and finds the one that decides on a name. `acee` and
+//! An [`Image`] is made of the rows of a database with the number of commands that led to them, or by [`Image::after`]
+//! of the image before and a command's edits, with which it shares what these don't lead to; contracts see it as its
+//! state and number. A [`ClassImage`] has the profiles of a class, and finds the one that decides on a name. `acee` and
 //! `decision` read images, `racf_database` has the rows that they are made of. No call that reads takes memory.
 //!
 //! ```

@@ -192,7 +192,7 @@ fn with_name(
         return table.share(alloc);
     }
     let profile = profile(alloc, name, uacc)?;
-    table.with_profile(alloc, profile)
+    Ok(table.with_profile(alloc, profile)?.what)
 }
 
 /// The place of the profile that decides on a resource.
@@ -241,7 +241,7 @@ fn change(
         1 => Level::Read,
         _ => {
             table.remove(&pattern);
-            return shared.without_profile(alloc, &pattern);
+            return Ok(shared.without_profile(alloc, &pattern)?.what);
         }
     };
     if !put(alloc, table, name, uacc) {
@@ -288,7 +288,7 @@ fn versions_of_profiles(rt: HostRuntime) -> Result<(), Fail> {
     assert_eq!(rt; (first.len(), second.len()), (1, 2));
     let name = Pattern::read(NameKind::DataSet, b"SYS1.**");
     let name = name.ok().ok_or("a lawful name")?;
-    let third = second.without_profile(alloc, &name)?;
+    let third = second.without_profile(alloc, &name)?.what;
     assert!(rt; second.get(&name).is_some() && third.get(&name).is_none());
     assert_eq!(rt; count_changes(alloc, 300)?, 300);
     Ok(())

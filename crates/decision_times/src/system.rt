@@ -1,58 +1,53 @@
-//! A database and the image that was made of it last.
+//! A database, and the image of it that is asked.
 
 use anyhow::{Result, anyhow};
-use command_parser::{Issuer, parse};
-use racf_database::Database;
-use racf_profiles::{ibmuser, sys1};
+use followed_images::{Followed, Outcome, TakenImage};
 use raclist_image::Image;
 use std::alloc::Global;
-use std::sync::Arc;
 
-/// A database and the image that was made of it last.
+/// A database, and the image of it that is asked.
 #[derive(Drop)]
 pub(crate) struct System {
-    /// The database, as the commands have left it.
-    database: Database,
-    /// The image that was made last; none before the first.
-    image: Option<Arc<Image>>,
+    /// The database, as the commands have left it, and the image that follows them.
+    followed: Followed,
+    /// The image that is asked; none before the first.
+    asked: Option<TakenImage>,
 }
 
 impl System {
-    /// A new database, without an image.
+    /// A new database, without an image that is asked.
     pub(crate) fn new(alloc: Global) -> Result<System> {
-        let database = Database::new(alloc)?;
         Ok(System {
-            database,
-            image: None,
+            followed: Followed::new(alloc)?,
+            asked: None,
         })
     }
 
-    /// Parses, checks, prepares and applies a command.
+    /// Gives a command, behind which the next image is made of the one before.
     pub(crate) fn command(&mut self, alloc: Global, text: &str) -> Result<()> {
-        let issuer = Issuer::new(ibmuser(), sys1()).ok_or_else(|| anyhow!("no issuer"))?;
-        let Ok(command) = parse(alloc, issuer.id, text.as_bytes()) else {
-            return Err(anyhow!("no command"));
-        };
-        match self.database.check(&issuer, &command) {
-            Err(_) => return Err(anyhow!("a command in conflict")),
-            Ok(()) => {}
+        match self.followed.give(alloc, text.as_bytes())? {
+            Outcome::Accepted => Ok(()),
+            Outcome::Faulty(_) => Err(anyhow!("no command")),
+            Outcome::Refused(_) => Err(anyhow!("a command in conflict")),
         }
-        let change = self.database.prepare(alloc, &issuer, &command)?;
-        self.database.apply(change);
+    }
+
+    /// Asks an image that is made of all rows from here on.
+    pub(crate) fn ask_rows(&mut self, alloc: Global) -> Result<()> {
+        self.asked = Some(self.followed.image_of_rows(alloc, 0)?);
         Ok(())
     }
 
-    /// Makes the image of the database as it stands.
-    pub(crate) fn make_image(&mut self, alloc: Global) -> Result<()> {
-        let rows = self.database.to_rows(alloc)?;
-        self.image = Some(Image::of(alloc, &rows, 0)?);
+    /// Asks the image that followed the commands from here on.
+    pub(crate) fn ask_follower(&mut self) -> Result<()> {
+        self.asked = Some(self.followed.take()?);
         Ok(())
     }
 
-    /// The image that was made last.
+    /// The image that is asked.
     pub(crate) fn image(&self) -> Result<&Image> {
-        match &self.image {
-            Some(image) => Ok(image),
+        match &self.asked {
+            Some(taken) => Ok(taken.image()),
             None => Err(anyhow!("no image")),
         }
     }

@@ -1,38 +1,19 @@
 //! Commands, given to a database.
 
-use crate::followed::Followed;
-use anyhow::{Result, anyhow};
-use command_parser::{Command, Issuer, ParseFault, parse};
-use racf_database::Conflict;
-use racf_profiles::{ibmuser, sys1};
+use anyhow::Result;
+use command_conflicts::Conflict;
+use followed_images::{Followed, Outcome};
 
-/// Gives a command to the database as IBMUSER in SYS1, and prints why it is refused, if so.
+/// Gives a command to the database, and prints why it is refused, if so.
 pub(crate) fn give(
     rt: &(impl Print + AllocGlobal),
     database: &mut Followed,
     text: &str,
 ) -> Result<()> {
-    let issuer = Issuer::new(ibmuser(), sys1()).ok_or_else(|| anyhow!("no issuer"))?;
-    match parse(rt.alloc(), issuer.id, text.as_bytes()) {
-        Ok(command) => give_command(rt, database, &issuer, &command),
-        Err(ParseFault::Syntax(fault)) => {
-            println!(rt; "refused {fault:?}: {text}")?;
-            Ok(())
-        }
-        Err(ParseFault::NoMemory) => Err(anyhow!("no memory for a command")),
-    }
-}
-
-/// Gives a command that was read.
-fn give_command(
-    rt: &(impl Print + AllocGlobal),
-    database: &mut Followed,
-    issuer: &Issuer,
-    command: &Command,
-) -> Result<()> {
-    match database.check(issuer, command) {
-        Err(conflict) => println!(rt; "refused {}", conflict_word(&conflict))?,
-        Ok(()) => database.accept(rt.alloc(), issuer, command)?,
+    match database.give(rt.alloc(), text.as_bytes())? {
+        Outcome::Accepted => {}
+        Outcome::Faulty(fault) => println!(rt; "refused {fault:?}: {text}")?,
+        Outcome::Refused(conflict) => println!(rt; "refused {}", conflict_word(&conflict))?,
     }
     Ok(())
 }

@@ -2,9 +2,7 @@
 ghost use Rattle.std.specs.Prelude.{◌<◌, length};
 
 use crate::equal::{is_same_facts, is_same_options, is_same_user_of};
-use crate::row_words::text;
 use access_levels::Id;
-use anyhow::Result;
 use decision::Request;
 use raclist_image::{ClassImage, Image};
 
@@ -17,96 +15,96 @@ pub(crate) struct Asked {
     pub(crate) resources: Vec<Request>,
 }
 
-/// Whether two images answer alike. Each answer in which they differ is printed.
-pub(crate) fn agree(rt: &impl Print, one: &Image, other: &Image, asked: &Asked) -> Result<bool> {
-    let of_all = whole_agree(rt, one, other)?;
-    let by_place = places_agree(rt, one, other)?;
-    let by_name = names_agree(rt, one, other, asked.ids.as_slice())?;
-    let by_cover = covers_agree(rt, one, other, asked.resources.as_slice())?;
-    Ok(of_all && by_place && by_name && by_cover)
+/// What two images answer differently.
+#[derive(Clone, Copy)]
+pub(crate) enum Difference<'a> {
+    /// The number, the options or the number of users.
+    Whole,
+    /// The user at this place.
+    Place(usize),
+    /// The user or the group of that name, the class of that name, or what is in scope of that group.
+    Name(&'a Id),
+    /// The profile that decides on this resource.
+    Cover(&'a Request),
+}
+
+/// The first answer in which two images differ, if they do.
+pub(crate) fn difference<'a>(
+    one: &Image,
+    other: &Image,
+    asked: &'a Asked,
+) -> Option<Difference<'a>> {
+    if !is_same_whole(one, other) {
+        return Some(Difference::Whole);
+    }
+    if let Some(place) = differing_place(one, other) {
+        return Some(Difference::Place(place));
+    }
+    if let Some(id) = differing_name(one, other, asked.ids.as_slice()) {
+        return Some(Difference::Name(id));
+    }
+    match differing_cover(one, other, asked.resources.as_slice()) {
+        Some(resource) => Some(Difference::Cover(resource)),
+        None => None,
+    }
 }
 
 /// Whether the numbers, the options and the numbers of users are the same.
-fn whole_agree(rt: &impl Print, one: &Image, other: &Image) -> Result<bool> {
-    let same = one.generation() == other.generation()
+fn is_same_whole(one: &Image, other: &Image) -> bool {
+    one.generation() == other.generation()
         && is_same_options(one.options(), other.options())
-        && one.user_count() == other.user_count();
-    if !same {
-        println!(rt; "differs: number, options or number of users")?;
-    }
-    Ok(same)
+        && one.user_count() == other.user_count()
 }
 
-/// Whether the users at each place are the same.
-fn places_agree(rt: &impl Print, one: &Image, other: &Image) -> Result<bool> {
-    let mut same = true;
+/// The first place at which the users differ. Where one image has fewer users, its places alone are asked.
+fn differing_place(one: &Image, other: &Image) -> Option<usize> {
     for place in 0..one.user_count().min(other.user_count()) {
         if !is_same_user_of(Some(one.user_at(place)), Some(other.user_at(place))) {
-            println!(rt; "differs: user at {place}")?;
-            same = false;
+            return Some(place);
         }
     }
-    Ok(same)
+    None
 }
 
-/// Whether the images answer alike to each ID.
-fn names_agree(rt: &impl Print, one: &Image, other: &Image, ids: &[Id]) -> Result<bool> {
-    let mut same = true;
+/// The first ID to which the images answer differently.
+fn differing_name<'a>(one: &Image, other: &Image, ids: &'a [Id]) -> Option<&'a Id> {
     for id in ids {
-        let rows = rows_agree(rt, one, other, *id)?;
-        let classes = classes_agree(rt, one, other, *id)?;
-        let scopes = scopes_agree(rt, one, other, *id, ids)?;
-        same = same && rows && classes && scopes;
+        let same = is_same_user_of(one.user(*id), other.user(*id))
+            && one.group(*id) == other.group(*id)
+            && is_same_class(one, other, *id)
+            && is_same_scope(one, other, *id, ids);
+        if !same {
+            return Some(id);
+        }
     }
-    Ok(same)
+    None
 }
 
-/// Whether the users and the groups of that name are the same.
-fn rows_agree(rt: &impl Print, one: &Image, other: &Image, id: Id) -> Result<bool> {
-    let same = is_same_user_of(one.user(id), other.user(id)) && one.group(id) == other.group(id);
-    if !same {
-        println!(rt; "differs: user or group {}", text(id.text()))?;
-    }
-    Ok(same)
-}
-
-/// Whether what is in scope of the group `top` is the same. Where neither image has the group nothing is asked.
-fn scopes_agree(
-    rt: &impl Print,
-    one: &Image,
-    other: &Image,
-    top: Id,
-    owners: &[Id],
-) -> Result<bool> {
-    let mut same = true;
+/// Whether the same is in scope of the group `top`. Where neither image has the group nothing is asked.
+fn is_same_scope(one: &Image, other: &Image, top: Id, owners: &[Id]) -> bool {
     if one.group(top).is_none() && other.group(top).is_none() {
-        return Ok(same);
+        return true;
     }
     for owner in owners {
         if one.in_scope(top, *owner) != other.in_scope(top, *owner) {
-            println!(rt; "differs: scope of {}", text(top.text()))?;
-            same = false;
+            return false;
         }
     }
-    Ok(same)
+    true
 }
 
 /// Whether the classes of that name have the same flags and the same profiles.
-fn classes_agree(rt: &impl Print, one: &Image, other: &Image, class: Id) -> Result<bool> {
-    let same = one.class(class) == other.class(class)
+fn is_same_class(one: &Image, other: &Image, class: Id) -> bool {
+    one.class(class) == other.class(class)
         && match (one.effective(class), other.effective(class)) {
-            (Some(one), Some(other)) => is_same_class(one, other),
+            (Some(one), Some(other)) => has_same_profiles(one, other),
             (None, None) => true,
             _ => false,
-        };
-    if !same {
-        println!(rt; "differs: class {}", text(class.text()))?;
-    }
-    Ok(same)
+        }
 }
 
 /// Whether two classes have the same profiles, place by place.
-fn is_same_class(one: &ClassImage, other: &ClassImage) -> bool {
+fn has_same_profiles(one: &ClassImage, other: &ClassImage) -> bool {
     let count = one.len();
     if other.len() != count {
         return false;
@@ -129,27 +127,21 @@ fn is_same_profile(one: &ClassImage, other: &ClassImage, place: usize) -> bool
     name.text() == other_name.text() && is_same_facts(&one.facts(place), &other.facts(place))
 }
 
-/// Whether the same profile decides on each resource.
-fn covers_agree(
-    rt: &impl Print,
+/// The first resource on which another profile decides.
+fn differing_cover<'a>(
     one: &Image,
     other: &Image,
-    resources: &[Request],
-) -> Result<bool> {
-    let mut same = true;
+    resources: &'a [Request],
+) -> Option<&'a Request> {
     for resource in resources {
         if place_of(one, resource) != place_of(other, resource) {
-            println!(rt; "differs: profile of {}", text(resource.name.text()))?;
-            same = false;
+            return Some(resource);
         }
     }
-    Ok(same)
+    None
 }
 
 /// The place of the profile that decides on a resource.
 fn place_of(image: &Image, resource: &Request) -> Option<usize> {
-    match image.effective(resource.class) {
-        Some(profiles) => profiles.find(&resource.name),
-        None => None,
-    }
+    image.effective(resource.class)?.find(&resource.name)
 }

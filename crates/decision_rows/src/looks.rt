@@ -1,71 +1,69 @@
 //! What an image has, printed.
 
-use crate::row_words::{id, id_text, parted, request_to_read, text};
-use access_levels::Id;
+use crate::row_words::{NOTHING, id, id_text, parted, request_to_read, text};
 use anyhow::Result;
-use racf_profiles::User;
 use raclist_image::{Facts, Image};
 
 /// Prints the number of an image and of its users, the options, and the first and the last user.
 pub(crate) fn print_image(rt: &impl Print, image: &Image) -> Result<()> {
-    print!(rt; "image {}", image.generation())?;
-    print_options(rt, image)?;
-    let count = image.user_count();
-    print!(rt; " users={count}")?;
-    if count > 0 {
-        let first = text(image.user_at(0).id.text());
-        let last = text(image.user_at(count - 1).id.text());
-        print!(rt; " {first}..{last}")?;
-    }
-    println!(rt; "")?;
-    Ok(())
-}
-
-/// Prints the options of the whole system.
-fn print_options(rt: &impl Print, image: &Image) -> Result<()> {
     let options = image.options();
-    print!(rt; " grplist={}", options.grplist)?;
-    print!(rt; " protectall={}", options.protectall)?;
-    print!(rt; " mls={}", options.mls)?;
-    print!(rt; " categories={}", options.categories.items.len())?;
+    let count = image.user_count();
+    println!(rt;
+        "image {} grplist={} protectall={} mls={} categories={} users={count} {}..{}",
+        image.generation(),
+        options.grplist,
+        options.protectall,
+        options.mls,
+        options.categories.items.len(),
+        user_text(image, 0),
+        user_text(image, count.saturating_sub(1))
+    )?;
     Ok(())
 }
 
-/// Prints a user.
-pub(crate) fn print_user(rt: &impl Print, image: &Image, id: Id) -> Result<()> {
-    match image.user(id) {
-        Some(user) => print_found_user(rt, user),
-        None => none(rt),
+/// The name of the user at a place, if there is one.
+fn user_text(image: &Image, place: usize) -> &str {
+    if place < image.user_count() {
+        text(image.user_at(place).id.text())
+    } else {
+        NOTHING
     }
 }
 
-/// Prints a user who is there.
-fn print_found_user(rt: &impl Print, user: &User) -> Result<()> {
-    print!(rt; "user {}", text(user.id.text()))?;
-    print!(rt; " default={}", text(user.default_group.text()))?;
-    print!(rt; " owner={}", text(user.owner.text()))?;
-    println!(rt; " connections={}", user.connects.items.len())?;
+/// Prints the user of that name.
+pub(crate) fn print_user(rt: &impl Print, image: &Image, row: &str) -> Result<()> {
+    let Some(user) = image.user(id(row)?) else {
+        return print_none(rt);
+    };
+    println!(rt;
+        "user {} default={} owner={} connections={}",
+        text(user.id.text()),
+        text(user.default_group.text()),
+        text(user.owner.text()),
+        user.connects.items.len()
+    )?;
     Ok(())
 }
 
-/// Prints a group.
-pub(crate) fn print_group(rt: &impl Print, image: &Image, id: Id) -> Result<()> {
-    let Some(group) = image.group(id) else {
-        return none(rt);
+/// Prints the group of that name.
+pub(crate) fn print_group(rt: &impl Print, image: &Image, row: &str) -> Result<()> {
+    let Some(group) = image.group(id(row)?) else {
+        return print_none(rt);
     };
-    print!(rt; "group {}", text(group.id.text()))?;
-    print!(rt; " superior={}", id_text(&group.superior))?;
-    println!(rt; " owner={}", text(group.owner.text()))?;
+    println!(rt;
+        "group {} superior={} owner={}",
+        text(group.id.text()),
+        id_text(&group.superior),
+        text(group.owner.text())
+    )?;
     Ok(())
 }
 
-/// Prints the flags of a class, and how many profiles it has.
-pub(crate) fn print_class(rt: &impl Print, image: &Image, class: Id) -> Result<()> {
-    let Some(flags) = image.class(class) else {
-        return none(rt);
-    };
-    let Some(profiles) = image.effective(class) else {
-        return none(rt);
+/// Prints the flags of the class of that name, and how many profiles it has.
+pub(crate) fn print_class(rt: &impl Print, image: &Image, row: &str) -> Result<()> {
+    let class = id(row)?;
+    let (Some(flags), Some(profiles)) = (image.class(class), image.effective(class)) else {
+        return print_none(rt);
     };
     println!(rt; "{flags:?} profiles={}", profiles.len())?;
     Ok(())
@@ -73,42 +71,41 @@ pub(crate) fn print_class(rt: &impl Print, image: &Image, class: Id) -> Result<(
 
 /// Prints the profile of a class that decides on a name.
 pub(crate) fn print_profile(rt: &impl Print, image: &Image, row: &str) -> Result<()> {
-    let (class, name) = parted(row);
-    let request = request_to_read(id(class)?, name)?;
+    let request = request_to_read(row)?;
     let Some(profiles) = image.effective(request.class) else {
-        return none(rt);
+        return print_none(rt);
     };
     match profiles.find(&request.name) {
-        Some(place) => {
-            let name = profiles.name(place);
-            print_facts(rt, text(name.text()), &profiles.facts(place))
-        }
-        None => none(rt),
+        Some(place) => print_facts(rt, profiles.name(place).text(), &profiles.facts(place)),
+        None => print_none(rt),
     }
 }
 
-/// Prints what a decision reads of a profile.
-fn print_facts(rt: &impl Print, name: &str, facts: &Facts<'_>) -> Result<()> {
-    print!(rt; "profile {name} owner={}", text(facts.owner.text()))?;
-    print!(rt; " uacc={}", text(facts.uacc.name()))?;
-    print!(rt; " warning={}", facts.warning)?;
-    print!(rt; " entries={}", facts.standard.len())?;
-    print!(rt; " conditional={}", facts.conditional.len())?;
-    print!(rt; " level={}", facts.level)?;
-    println!(rt; " label={}", id_text(&facts.label))?;
+/// Prints what a decision reads of the profile of that name.
+fn print_facts(rt: &impl Print, name: &[u8], facts: &Facts<'_>) -> Result<()> {
+    println!(rt;
+        "profile {} owner={} uacc={} warning={} entries={} conditional={} level={} label={}",
+        text(name),
+        text(facts.owner.text()),
+        text(facts.uacc.name()),
+        facts.warning,
+        facts.standard.len(),
+        facts.conditional.len(),
+        facts.level,
+        id_text(&facts.label)
+    )?;
     Ok(())
 }
 
 /// Prints whether a profile of that owner is in scope of the group.
 pub(crate) fn print_scope(rt: &impl Print, image: &Image, row: &str) -> Result<()> {
     let (group, owner) = parted(row);
-    let is_in_scope = image.in_scope(id(group)?, id(owner)?);
-    println!(rt; "in scope: {is_in_scope}")?;
+    println!(rt; "in scope: {}", image.in_scope(id(group)?, id(owner)?))?;
     Ok(())
 }
 
 /// Prints that the image has none.
-fn none(rt: &impl Print) -> Result<()> {
+fn print_none(rt: &impl Print) -> Result<()> {
     println!(rt; "none")?;
     Ok(())
 }

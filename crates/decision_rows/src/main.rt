@@ -12,7 +12,7 @@
 //!
 //! Rows that compare the image that follows the database with one that is made of all its rows:
 //! - `N id`, `R class name`: names an ID, or a resource, that both are asked for from here on;
-//! - `E`: asks both by each call that reads an image, and prints each answer in which they differ;
+//! - `E`: asks both by each call that reads an image, and prints the first answer in which they differ;
 //! - `T`: prints in how many of the comparisons since the last `T` no answer differed.
 //!
 //! Rows that ask the image, and print what it has, or `none`:
@@ -40,24 +40,20 @@ mod answers;
 mod commands;
 mod compared;
 mod equal;
-mod followed;
 mod looks;
 mod row_words;
-#[cfg(test)]
-mod tests;
 
 use access_levels::Id;
 use acee::{VerifyFault, VerifyRequest};
 use anyhow::{Result, anyhow};
 use commands::give;
-use compared::{Asked, agree};
+use compared::{Asked, Difference, difference};
 use decision::{Request, auth, verify};
-use followed::Followed;
+use followed_images::{Followed, TakenImage};
 use raclist_image::Image;
 use request_files::{AceeTable, RequestLine, read_line};
-use row_words::{id, parted, request_to_read};
+use row_words::{id, parted, request_to_read, text};
 use std::alloc::Global;
-use std::sync::Arc;
 
 /// What the rows have made.
 #[derive(Drop)]
@@ -65,7 +61,7 @@ struct Session {
     /// The database that the commands change, and the image that follows it.
     database: Followed,
     /// The image that rows ask.
-    image: Option<Arc<Image>>,
+    image: Option<TakenImage>,
     /// The ACEEs of those who were verified.
     acees: AceeTable,
     /// What images are asked for where they are compared.
@@ -104,9 +100,9 @@ impl Session {
             "R" => self.ask_for_resource(rest),
             "E" => self.compare(rt),
             "T" => self.tell_same(rt),
-            "U" => looks::print_user(rt, self.image()?, id(rest)?),
-            "G" => looks::print_group(rt, self.image()?, id(rest)?),
-            "K" => looks::print_class(rt, self.image()?, id(rest)?),
+            "U" => looks::print_user(rt, self.image()?, rest),
+            "G" => looks::print_group(rt, self.image()?, rest),
+            "K" => looks::print_class(rt, self.image()?, rest),
             "P" => looks::print_profile(rt, self.image()?, rest),
             "S" => looks::print_scope(rt, self.image()?, rest),
             _ => self.answer(rt, row),
@@ -122,18 +118,18 @@ impl Session {
 
     /// Makes the image of the database under a number.
     fn make_image(&mut self, rt: &(impl Print + AllocGlobal), number: &str) -> Result<()> {
-        let number = number.parse::<u64>()?;
-        let rows = self.database.to_rows(rt.alloc())?;
-        let image = Image::of(rt.alloc(), &rows, number)?;
-        looks::print_image(rt, &image)?;
+        let image = self
+            .database
+            .image_of_rows(rt.alloc(), number.parse::<u64>()?)?;
+        looks::print_image(rt, image.image())?;
         self.image = Some(image);
         Ok(())
     }
 
     /// Takes the image that follows the database.
     fn take_image(&mut self, rt: &impl Print) -> Result<()> {
-        let image = Arc::try_clone(self.database.image())?;
-        looks::print_image(rt, &image)?;
+        let image = self.database.take()?;
+        looks::print_image(rt, image.image())?;
         self.image = Some(image);
         Ok(())
     }
@@ -146,22 +142,23 @@ impl Session {
 
     /// Has both images asked for a resource of a class.
     fn ask_for_resource(&mut self, row: &str) -> Result<()> {
-        let (class, name) = parted(row);
-        self.asked
-            .resources
-            .push(request_to_read(id(class)?, name)?)?;
+        self.asked.resources.push(request_to_read(row)?)?;
         Ok(())
     }
 
     /// Compares the image that follows the database with one that is made of all its rows.
     fn compare(&mut self, rt: &(impl Print + AllocGlobal)) -> Result<()> {
-        let rows = self.database.to_rows(rt.alloc())?;
-        let image = Image::of(rt.alloc(), &rows, self.database.number())?;
+        let whole = self
+            .database
+            .image_of_rows(rt.alloc(), self.database.number())?;
         self.compared = self.compared.saturating_add(1);
-        if agree(rt, self.database.image(), &image, &self.asked)? {
-            self.same = self.same.saturating_add(1);
+        match difference(self.database.image(), whole.image(), &self.asked) {
+            Some(found) => print_difference(rt, &found),
+            None => {
+                self.same = self.same.saturating_add(1);
+                Ok(())
+            }
         }
-        Ok(())
     }
 
     /// Prints in how many comparisons no answer differed, and begins to count anew.
@@ -222,10 +219,23 @@ impl Session {
     /// The image that was made last.
     fn image(&self) -> Result<&Image> {
         match &self.image {
-            Some(image) => Ok(image),
+            Some(image) => Ok(image.image()),
             None => Err(anyhow!("no image")),
         }
     }
+}
+
+/// Prints in which answer two images differ.
+fn print_difference(rt: &impl Print, found: &Difference<'_>) -> Result<()> {
+    match found {
+        Difference::Whole => println!(rt; "differs: number, options or number of users")?,
+        Difference::Place(place) => println!(rt; "differs: user at {place}")?,
+        Difference::Name(id) => println!(rt; "differs: {}", text(id.text()))?,
+        Difference::Cover(resource) => {
+            println!(rt; "differs: profile of {}", text(resource.name.text()))?
+        }
+    }
+    Ok(())
 }
 
 /// Works the rows of standard input.

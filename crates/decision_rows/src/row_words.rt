@@ -13,23 +13,28 @@ pub(crate) const NOTHING: &str = "-";
 
 /// The first word of a row and the rest, which is empty where there is no other word.
 pub(crate) fn parted(row: &str) -> (&str, &str) {
-    match row.split_once(' ') {
-        Some(parts) => parts,
-        None => (row, ""),
-    }
+    row.split_once(' ').unwrap_or((row, ""))
 }
 
 /// The identifier that a word spells.
 pub(crate) fn id(word: &str) -> Result<Id> {
-    Id::read(word.as_bytes()).map_err(|_| anyhow!("no identifier: {word}"))
+    match Id::read(word.as_bytes()) {
+        Ok(id) => Ok(id),
+        Err(_) => Err(anyhow!("no identifier: {word}")),
+    }
 }
 
-/// A request to read a resource, whose name is of the kind that the class has.
-pub(crate) fn request_to_read(class: Id, name: &str) -> Result<Request> {
-    let name = Resource::read(kind_in(class), name.as_bytes()).map_err(|_| anyhow!(
-        "no name: {name}"
-    ))?;
-    Request::new(class, name, Level::Read).ok_or_else(|| anyhow!("no request"))
+/// A request to read a resource, by its class and its name, which is of the kind that the class has.
+pub(crate) fn request_to_read(row: &str) -> Result<Request> {
+    let (class, name) = parted(row);
+    let class = id(class)?;
+    let Ok(name) = Resource::read(kind_in(class), name.as_bytes()) else {
+        return Err(anyhow!("no name: {row}"));
+    };
+    match Request::new(class, name, Level::Read) {
+        Some(request) => Ok(request),
+        None => Err(anyhow!("no request: {row}")),
+    }
 }
 
 /// The text of a name.
@@ -50,17 +55,19 @@ pub(crate) fn port_text(alloc: Global, port: &Condition) -> Result<String, Alloc
     format!(in alloc; "{}({})", text(port.class.name()), text(port.name.text()))
 }
 
-/// The words, parted by commas.
-pub(crate) fn joined(alloc: Global, words: &[String]) -> Result<String, AllocError> {
-    let mut line = String::new(alloc);
-    for word in words {
-        if !line.is_empty() {
-            line.push(',')?;
-        }
-        line.push_str(word.as_str())?;
+/// Writes a word behind the others, parted by a comma.
+pub(crate) fn add_word(words: &mut String, word: &str) -> Result<(), AllocError> {
+    if !words.is_empty() {
+        words.push(',')?;
     }
-    if line.is_empty() {
-        line.push_str(NOTHING)?;
+    words.push_str(word)
+}
+
+/// The words as they are printed.
+pub(crate) fn shown(words: &String) -> &str {
+    if words.is_empty() {
+        NOTHING
+    } else {
+        words.as_str()
     }
-    Ok(line)
 }

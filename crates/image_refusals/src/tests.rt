@@ -1,0 +1,297 @@
+//! Images, ACEEs and decisions where memory is wanting. Run alone, these tests have ample memory; the script
+//! `tests/refusals` runs them with allocations refused behind the line that they print first.
+
+use access_levels::{Condition, Id, Level, PortClass};
+use acee::{Acee, VerifyFault, VerifyRequest};
+use decision::{Decision, Request, Rule, auth, verify};
+use followed_images::{Followed, Outcome, TakenImage};
+use generic_names::Resource;
+use racf_profiles::{FixedClass, User, ibmuser, kind_in, sys1};
+use raclist_image::{Facts, Image};
+use std::alloc::Global;
+use std::test::Fail;
+
+/// A group and a user of three connections, of which one is revoked and one has group-OPERATIONS; and two profiles.
+const COMMANDS: [&[u8]; 9] = [
+    b"ADDGROUP PAY OWNER(SYS1)",
+    b"ADDGROUP DEV OWNER(SYS1)",
+    b"ADDUSER JOE DFLTGRP(PAY) AUDITOR",
+    b"CONNECT JOE GROUP(SYS1) OPERATIONS",
+    b"CONNECT JOE GROUP(DEV) REVOKE",
+    b"RDEFINE FACILITY PAY.** OWNER(PAY)",
+    b"RDEFINE FACILITY PAY.RUN OWNER(JOE) UACC(UPDATE)",
+    b"PERMIT PAY.** CLASS(FACILITY) ID(PAY) ACCESS(READ)",
+    b"PERMIT PAY.** CLASS(FACILITY) ID(JOE) ACCESS(UPDATE) WHEN(TERMINAL(T1))",
+];
+
+/// Commands that put a row of each kind, change it and take it out.
+const NEXT_COMMANDS: [&[u8]; 10] = [
+    b"ADDGROUP NEW OWNER(SYS1)",
+    b"ADDUSER JIM DFLTGRP(NEW)",
+    b"CONNECT JIM GROUP(DEV)",
+    b"ALTGROUP NEW OWNER(JIM)",
+    b"RDEFINE FACILITY DEV.RUN OWNER(DEV)",
+    b"PERMIT DEV.RUN CLASS(FACILITY) ID(JIM) ACCESS(READ)",
+    b"RDELETE FACILITY DEV.RUN",
+    b"ALTGROUP NEW OWNER(SYS1)",
+    b"DELUSER JIM",
+    b"DELGROUP NEW",
+];
+
+/// Gives the commands in turn, until memory is wanting, and answers how many were accepted. None of them may be refused.
+fn give_all(database: &mut Followed, alloc: Global, commands: &[&[u8]]) -> Result<u64, Fail> {
+    let mut accepted = 0_u64;
+    for text in commands {
+        match database.give(alloc, text) {
+            Ok(Outcome::Accepted) => accepted = accepted.saturating_add(1),
+            Ok(_) => return Err("a command was refused".into()),
+            Err(_) => return Ok(accepted),
+        }
+    }
+    Ok(accepted)
+}
+
+/// A database in which the commands were accepted.
+fn small_database(alloc: Global) -> Result<Followed, Fail> {
+    let mut database = Followed::new(alloc)?;
+    if give_all(&mut database, alloc, &COMMANDS)? != 9 {
+        return Err("no memory for the commands".into());
+    }
+    Ok(database)
+}
+
+/// The image of all its rows, under the number 7.
+fn small_image(alloc: Global) -> Result<TakenImage, Fail> {
+    Ok(small_database(alloc)?.image_of_rows(alloc, 7)?)
+}
+
+/// The names that the tests speak of, each read once.
+#[derive(Clone, Copy)]
+struct Names {
+    joe: Id,
+    pay: Id,
+    terminal: Id,
+}
+
+impl Names {
+    fn read() -> Result<Names, Fail> {
+        Ok(Names {
+            joe: Id::read(b"JOE")?,
+            pay: Id::read(b"PAY")?,
+            terminal: Id::read(b"T1")?,
+        })
+    }
+}
+
+/// JOE at the terminal T1.
+fn joe_at_terminal(names: &Names) -> VerifyRequest {
+    VerifyRequest {
+        user: names.joe,
+        group: None,
+        port: Some(Condition {
+            class: PortClass::Terminal,
+            name: names.terminal,
+        }),
+        application: None,
+        label: None,
+    }
+}
+
+/// Whether that is the user JOE, as the commands made him.
+fn is_joe(user: &User, names: &Names) -> bool {
+    user.id == names.joe && user.default_group == names.pay && user.connects.items.len() == 3
+}
+
+/// Whether the users, the groups and the options are those that the commands made.
+fn has_rows(image: &Image, names: &Names) -> bool {
+    let (Some(joe), Some(pay)) = (image.user(names.joe), image.group(names.pay)) else {
+        return false;
+    };
+    is_joe(joe, names)
+        && pay.superior == Some(sys1())
+        && image.user_count() == 2
+        && is_joe(image.user_at(1), names)
+        && image.user(names.pay).is_none()
+        && image.group(names.joe).is_none()
+        && image.in_scope(sys1(), names.pay)
+        && !image.in_scope(names.pay, ibmuser())
+        && !image.options().grplist
+        && !image.options().protectall
+}
+
+/// A request to read a resource of FACILITY.
+fn to_read(name: &[u8]) -> Result<Request, Fail> {
+    let class = FixedClass::Facility.id();
+    let name = Resource::read(kind_in(class), name)?;
+    Ok(Request::new(class, name, Level::Read).ok_or("a request")?)
+}
+
+/// What a decision reads of the profile that decides on a resource.
+fn facts_for<'a>(image: &'a Image, request: &Request) -> Option<Facts<'a>> {
+    let profiles = image.effective(request.class)?;
+    Some(profiles.facts(profiles.find(&request.name)?))
+}
+
+/// Whether the profile that decides on a resource has that universal access, and so many entries in each of its lists.
+fn has_facts(image: &Image, request: &Request, uacc: Level, entries: usize) -> bool {
+    match facts_for(image, request) {
+        Some(facts) => {
+            facts.uacc == uacc
+                && facts.standard.len() == entries
+                && facts.conditional.len() == entries
+        }
+        None => false,
+    }
+}
+
+/// The resources that the tests ask about: covered by PAY.RUN, by PAY.** and by no profile.
+#[derive(Drop)]
+struct Resources {
+    run: Request,
+    other: Request,
+    none: Request,
+}
+
+impl Resources {
+    fn read() -> Result<Resources, Fail> {
+        Ok(Resources {
+            run: to_read(b"PAY.RUN")?,
+            other: to_read(b"PAY.A.B")?,
+            none: to_read(b"DEV.RUN")?,
+        })
+    }
+}
+
+/// Whether the class and its profiles are those that the commands made.
+fn has_profiles(image: &Image, asked: &Resources) -> bool {
+    let class = FixedClass::Facility.id();
+    let (Some(flags), Some(profiles)) = (image.class(class), image.effective(class)) else {
+        return false;
+    };
+    flags.active
+        && !flags.listed
+        && !flags.operations
+        && profiles.len() == 2
+        && has_facts(image, &asked.run, Level::Update, 0)
+        && has_facts(image, &asked.other, Level::NoAccess, 1)
+}
+
+/// Whether the groups are those of JOE's connections that aren't revoked.
+fn has_groups(acee: &Acee, names: &Names) -> bool {
+    match acee.groups.as_slice() {
+        [pay, sys] => {
+            pay.group == names.pay
+                && !pay.operations
+                && sys.group == sys1()
+                && sys.operations
+                && acee.groups.names().len() == 2
+        }
+        _ => false,
+    }
+}
+
+/// Whether the ACEE is that of JOE at his terminal.
+fn is_acee_of_joe(acee: &Acee, names: &Names) -> bool {
+    acee.user == names.joe
+        && acee.current == names.pay
+        && has_groups(acee, names)
+        && acee.attributes.auditor
+        && !acee.attributes.special
+        && acee.port == joe_at_terminal(names).port
+        && acee.application.is_none()
+        && acee.label.is_none()
+        && acee.generation == 7
+}
+
+/// Whether a decision has that return code and that rule.
+fn is_decided(decision: &Decision, rc: u8, rule: Rule) -> bool {
+    decision.rc == rc && decision.rule == rule
+}
+
+/// Whether the rules by which JOE may read are those of the access lists and of the universal access.
+fn decides(image: &Image, acee: &Acee, asked: &Resources) -> bool {
+    is_decided(&auth(image, acee, &asked.run), 0, Rule::Uacc)
+        && is_decided(
+            &auth(image, acee, &asked.other),
+            0,
+            Rule::GroupEntry(acee.current),
+        )
+        && is_decided(&auth(image, acee, &asked.none), 4, Rule::NoProfile)
+}
+
+/// No call that reads an image, and no decision, takes memory.
+#[test]
+fn reads_without_memory(rt: HostRuntime) -> Result<(), Fail> {
+    let names = Names::read()?;
+    let asked = Resources::read()?;
+    let taken = small_image(rt.alloc())?;
+    let image = taken.image();
+    let Ok(acee) = verify(rt.alloc(), image, &joe_at_terminal(&names)) else {
+        return Err("an ACEE".into());
+    };
+    println!(rt; "FROM HERE")?;
+    assert!(rt; image.generation() == 7);
+    assert!(rt; has_rows(image, &names));
+    assert!(rt; has_profiles(image, &asked));
+    assert!(rt; decides(image, &acee, &asked));
+    Ok(())
+}
+
+/// An image is whole, or memory is wanting.
+#[test]
+fn image_of_rows(rt: HostRuntime) -> Result<(), Fail> {
+    let names = Names::read()?;
+    let asked = Resources::read()?;
+    let database = small_database(rt.alloc())?;
+    println!(rt; "FROM HERE")?;
+    match database.image_of_rows(rt.alloc(), 7) {
+        Ok(taken) => {
+            assert!(rt; taken.image().generation() == 7);
+            assert!(rt; has_rows(taken.image(), &names));
+            assert!(rt; has_profiles(taken.image(), &asked));
+            println!(rt; "MADE")?;
+        }
+        Err(_) => println!(rt; "NO MEMORY")?,
+    }
+    Ok(())
+}
+
+/// An ACEE is whole, or memory is wanting.
+#[test]
+fn verified_user(rt: HostRuntime) -> Result<(), Fail> {
+    let names = Names::read()?;
+    let taken = small_image(rt.alloc())?;
+    let request = joe_at_terminal(&names);
+    println!(rt; "FROM HERE")?;
+    match verify(rt.alloc(), taken.image(), &request) {
+        Ok(acee) => {
+            assert!(rt; is_acee_of_joe(&acee, &names));
+            println!(rt; "MADE")?;
+        }
+        Err(fault) => {
+            assert!(rt; matches!(fault, VerifyFault::NoMemory));
+            println!(rt; "NO MEMORY")?;
+        }
+    }
+    Ok(())
+}
+
+/// The image behind each command is made, or memory is wanting: then the number and the image are those before it.
+#[test]
+fn images_behind_commands(rt: HostRuntime) -> Result<(), Fail> {
+    let names = Names::read()?;
+    let asked = Resources::read()?;
+    let mut database = small_database(rt.alloc())?;
+    println!(rt; "FROM HERE")?;
+    let accepted = give_all(&mut database, rt.alloc(), &NEXT_COMMANDS)?;
+    assert!(rt; database.number() == accepted.saturating_add(9));
+    assert!(rt; database.image().generation() == database.number());
+    if accepted < 10 {
+        println!(rt; "NO MEMORY")?;
+        return Ok(());
+    }
+    assert!(rt; has_rows(database.image(), &names));
+    assert!(rt; has_profiles(database.image(), &asked));
+    println!(rt; "MADE")?;
+    Ok(())
+}

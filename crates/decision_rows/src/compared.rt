@@ -29,7 +29,7 @@ pub(crate) enum Difference<'a> {
 }
 
 /// The first answer in which two images differ, if they do.
-pub(crate) fn difference<'a>(
+pub(crate) fn first_difference<'a>(
     one: &Image,
     other: &Image,
     asked: &'a Asked,

@@ -47,7 +47,7 @@ use access_levels::Id;
 use acee::{VerifyFault, VerifyRequest};
 use anyhow::{Result, anyhow};
 use commands::give;
-use compared::{Asked, Difference, difference};
+use compared::{Asked, Difference, first_difference};
 use decision::{Request, auth, verify};
 use followed_images::{Followed, TakenImage};
 use raclist_image::Image;
@@ -152,7 +152,7 @@ impl Session {
             .database
             .image_of_rows(rt.alloc(), self.database.number())?;
         self.compared = self.compared.saturating_add(1);
-        match difference(self.database.image(), whole.image(), &self.asked) {
+        match first_difference(self.database.image(), whole.image(), &self.asked) {
             Some(found) => print_difference(rt, &found),
             None => {
                 self.same = self.same.saturating_add(1);

@@ -2,9 +2,8 @@
 //! one costs. Each row of standard input is a letter and words; each is worked at once.
 //!
 //! Rows that make what is asked:
-//! - `C command`: gives a command to the database, as IBMUSER in the group SYS1, and makes the next image of the one before;
-//! - `I`: makes an image of all rows as they stand, which the rows below read until the next `I` or `J`;
-//! - `J`: takes the image that followed the commands in its place;
+//! - `C command`: gives a command to the database, as IBMUSER in the group SYS1;
+//! - `I`: makes the image of the database as it stands, which the rows below read until the next `I`;
 //! - `V user`, `V user group`: adds the ACEE of a user, which is known by its place from 0;
 //! - `Q place level class name`: adds a question: whether the user of the ACEE at that place may have that access;
 //! - `E user-or-group level`: puts an entry into an access list of its own, which no profile has;
@@ -59,8 +58,7 @@ impl Bench {
         let (verb, rest) = parted(row);
         match verb {
             "C" => self.system.command(rt.alloc(), rest),
-            "I" => self.system.ask_rows(rt.alloc()),
-            "J" => self.system.ask_follower(),
+            "I" => self.system.make_image(rt.alloc()),
             "V" => self.verify(rt.alloc(), rest),
             "Q" => self.question(rest),
             "E" => self.entry(rest),

@@ -1,53 +1,58 @@
-//! A database, and the image of it that is asked.
+//! A database and the image that was made of it last.
 
 use anyhow::{Result, anyhow};
-use followed_images::{Followed, Outcome, TakenImage};
+use command_parser::{Issuer, parse};
+use racf_database::Database;
+use racf_profiles::{ibmuser, sys1};
 use raclist_image::Image;
 use std::alloc::Global;
+use std::sync::Arc;
 
-/// A database, and the image of it that is asked.
+/// A database and the image that was made of it last.
 #[derive(Drop)]
 pub(crate) struct System {
-    /// The database, as the commands have left it, and the image that follows them.
-    followed: Followed,
-    /// The image that is asked; none before the first.
-    asked: Option<TakenImage>,
+    /// The database, as the commands have left it.
+    database: Database,
+    /// The image that was made last; none before the first.
+    image: Option<Arc<Image>>,
 }
 
 impl System {
-    /// A new database, without an image that is asked.
+    /// A new database, without an image.
     pub(crate) fn new(alloc: Global) -> Result<System> {
+        let database = Database::new(alloc)?;
         Ok(System {
-            followed: Followed::new(alloc)?,
-            asked: None,
+            database,
+            image: None,
         })
     }
 
-    /// Gives a command, behind which the next image is made of the one before.
+    /// Parses, checks, prepares and applies a command.
     pub(crate) fn command(&mut self, alloc: Global, text: &str) -> Result<()> {
-        match self.followed.give(alloc, text.as_bytes())? {
-            Outcome::Accepted => Ok(()),
-            Outcome::Faulty(_) => Err(anyhow!("no command")),
-            Outcome::Refused(_) => Err(anyhow!("a command in conflict")),
+        let issuer = Issuer::new(ibmuser(), sys1()).ok_or_else(|| anyhow!("no issuer"))?;
+        let Ok(command) = parse(alloc, issuer.id, text.as_bytes()) else {
+            return Err(anyhow!("no command"));
+        };
+        match self.database.check(&issuer, &command) {
+            Err(_) => return Err(anyhow!("a command in conflict")),
+            Ok(()) => {}
         }
-    }
-
-    /// Asks an image that is made of all rows from here on.
-    pub(crate) fn ask_rows(&mut self, alloc: Global) -> Result<()> {
-        self.asked = Some(self.followed.image_of_rows(alloc, 0)?);
+        let change = self.database.prepare(alloc, &issuer, &command)?;
+        self.database.apply(change);
         Ok(())
     }
 
-    /// Asks the image that followed the commands from here on.
-    pub(crate) fn ask_follower(&mut self) -> Result<()> {
-        self.asked = Some(self.followed.take()?);
+    /// Makes the image of the database as it stands.
+    pub(crate) fn make_image(&mut self, alloc: Global) -> Result<()> {
+        let rows = self.database.to_rows(alloc)?;
+        self.image = Some(Image::of(alloc, &rows, 0)?);
         Ok(())
     }
 
-    /// The image that is asked.
+    /// The image that was made last.
     pub(crate) fn image(&self) -> Result<&Image> {
-        match &self.asked {
-            Some(taken) => Ok(taken.image()),
+        match &self.image {
+            Some(image) => Ok(image),
             None => Err(anyhow!("no image")),
         }
     }

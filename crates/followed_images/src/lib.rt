@@ -14,8 +14,6 @@
 
 mod followed;
 mod taken;
-#[cfg(test)]
-mod tests;
 
 pub use followed::{Followed, Outcome};
 pub use taken::TakenImage;

@@ -1,4 +1,4 @@
-//! Images, ACEEs and decisions where memory is wanting. Run alone, these tests have ample memory; the script
+//! Images, ACEEs and decisions where memory is wanting, and what an image places. Run alone, these tests have ample memory; the script
 //! `tests/refusals` runs them with allocations refused behind the line that they print first.
 
 use access_levels::{Condition, Id, Level, PortClass};
@@ -293,5 +293,32 @@ fn images_behind_commands(rt: HostRuntime) -> Result<(), Fail> {
     assert!(rt; has_rows(database.image(), &names));
     assert!(rt; has_profiles(database.image(), &asked));
     println!(rt; "MADE")?;
+    Ok(())
+}
+
+/// A user, and a profile of his data sets whose name has ten bytes; whether both commands were accepted.
+fn give_profile(database: &mut Followed, alloc: Global, number: u32) -> Result<bool, Fail> {
+    let user = format!(in alloc; "ADDUSER U{number:06}")?;
+    let profile = format!(in alloc; "ADDSD 'U{number:06}.**'")?;
+    Ok(give_all(database, alloc, &[user.as_bytes(), profile.as_bytes()])? == 2)
+}
+
+/// An image of all rows places the name of each profile, and the one behind a PERMIT those of the profile's bucket alone,
+/// which holds the data sets of one user.
+#[test]
+fn places_one_name_of_a_thousand(rt: HostRuntime) -> Result<(), Fail> {
+    let alloc = rt.alloc();
+    let mut database = Followed::new(alloc)?;
+    let mut given = 0_u32;
+    for number in 1..=1_000u32 {
+        if give_profile(&mut database, alloc, number)? {
+            given = given.saturating_add(1);
+        }
+    }
+    assert_eq!(rt; given, 1_000);
+    assert_eq!(rt; database.image_of_rows(alloc, 0)?.image().placed(), 10_000);
+    let permit: [&[u8]; 1] = [b"PERMIT 'U000500.**' ID(U000001) ACCESS(READ)"];
+    assert_eq!(rt; give_all(&mut database, alloc, &permit)?, 1);
+    assert_eq!(rt; database.image().placed(), 10);
     Ok(())
 }

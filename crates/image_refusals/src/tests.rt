@@ -1,5 +1,5 @@
-//! Images, ACEEs and decisions where memory is wanting, and what an image places. Run alone, these tests have ample memory; the script
-//! `tests/refusals` runs them with allocations refused behind the line that they print first.
+//! Images, ACEEs and decisions where memory is wanting, and what an image places. Run alone, these tests have ample
+//! memory; the script `tests/refusals` runs them with allocations refused behind the line that they print first.
 
 use access_levels::{Condition, Id, Level, PortClass};
 use acee::{Acee, VerifyFault, VerifyRequest};
@@ -38,7 +38,8 @@ const NEXT_COMMANDS: [&[u8]; 10] = [
     b"DELGROUP NEW",
 ];
 
-/// Gives the commands in turn, until memory is wanting, and answers how many were accepted. None of them may be refused.
+/// Gives the commands in turn, until memory is wanting, and answers how many were accepted. None of them may be
+/// refused.
 fn give_all(database: &mut Followed, alloc: Global, commands: &[&[u8]]) -> Result<u64, Fail> {
     let mut accepted = 0_u64;
     for text in commands {
@@ -303,8 +304,8 @@ fn give_profile(database: &mut Followed, alloc: Global, number: u32) -> Result<b
     Ok(give_all(database, alloc, &[user.as_bytes(), profile.as_bytes()])? == 2)
 }
 
-/// An image of all rows places the name of each profile, and the one behind a PERMIT those of the profile's bucket alone,
-/// which holds the data sets of one user.
+/// An image of all rows places the name of each profile, and the one behind a PERMIT those of the profile's bucket
+/// alone, which holds the data sets of one user.
 #[test]
 fn places_one_name_of_a_thousand(rt: HostRuntime) -> Result<(), Fail> {
     let alloc = rt.alloc();

@@ -22,15 +22,16 @@ use Rattle.command_values.specs.declared.values.Known.{Known}
 use Rattle.command_grammar.specs.Table.{operands_of}
 use Rattle.command_values.specs.Values.{name_of, unless_dataset}
 use Rattle.command_grammar.specs.Reading.{Slots, has_word}
-use Rattle.command_values.specs.LawfulValues.{Each, AreNames, AreNamed, Fits, Suits}
+use Rattle.command_values.specs.declared.log_options.LogClause.{LogClause}
+use Rattle.command_values.specs.LawfulValues.{Each, AreNames, AreNamed, IsClause, Fits, Suits}
 use Rattle.command_grammar.specs.Lawful.{FitsAll, SuitsAll, IsLawful}
 use Rattle.command_values.proofs.Names.{name-plain, name-group}
 use Rattle.command_values.proofs.Patterns.{dataset-named, class-named}
 use Rattle.command_parser.specs.declared.fields.CommandFields.{CommandFields}
 use Rattle.command_parser.specs.declared.fields.CommandFields.TheVariants as command
-use Rattle.command_parser.specs.Operands.{id_value, name_value, ids_value, audit_value, whos_value, when_value, members_value, member_names_value}
+use Rattle.command_parser.specs.Operands.{id_value, name_value, ids_value, audit_value, whos_value, when_value, members_value, member_names_value, log_clauses_value}
 use Rattle.command_parser.specs.Canonical.{generic_view}
-use Rattle.command_parser.specs.LawfulFields.{IsId, IsGroupName, IsUserName, IsClauthWord, IsAudit, IsNamedOne, AreWhosOfPermit, IsPort, AreMembersOf, AreMemberNamesOf, AreLawfulFields}
+use Rattle.command_parser.specs.LawfulFields.{IsId, IsGroupName, IsUserName, IsClauthWord, IsAudit, IsNamedOne, AreWhosOfPermit, IsPort, AreMembersOf, AreMemberNamesOf, IsLogClause, AreLawfulFields}
 
 -- where the operand with this word stands among the rows
 abbrev place : Word → List Operand → ℕ
@@ -140,6 +141,14 @@ member-names-given : (class : List ℕ) (n : Spelled) (ns : List Spelled) → If
 member-names-given class n [] h = tt
 member-names-given class n (x ∷ xs) h = h
 
+each-log-clause : (cs : List LogClause) → Each IsClause cs → Each IsLogClause cs
+each-log-clause [] h = tt
+each-log-clause (c ∷ cs) h = (each-id c.classes h.0.1, each-log-clause cs h.1)
+
+log-clauses-given : (cs : List LogClause) → IfFits kinds.LogOptions (log_clauses_value cs) → Each IsLogClause cs
+log-clauses-given [] h = tt
+log-clauses-given (c ∷ cs) h = each-log-clause (c ∷ cs) h.2
+
 pub fields-lawful : (c : CommandFields) → IsLawful (generic_view c) → AreLawfulFields c
 fields-lawful (command.AddUser a) lawful =
     let fits = λ (w : Word). fits-at (place w (operands_of verbs.AddUser)) (operands_of verbs.AddUser) (generic_view (command.AddUser a)).slots lawful.fits_operands in
@@ -245,4 +254,16 @@ fields-lawful (command.Permit a) lawful =
       profile = lawful.suits_positions.0;
       id = whos-given a.id (fits words.Id);
       when = when-given a.when (fits words.When);
+    }
+fields-lawful (command.SetRopts a) lawful =
+    let fits = λ (w : Word). fits-at (place w (operands_of verbs.SetRopts)) (operands_of verbs.SetRopts) (generic_view (command.SetRopts a)).slots lawful.fits_operands in
+    record {
+      classact = ids-given a.classact (fits words.Classact);
+      noclassact = ids-given a.noclassact (fits words.Noclassact);
+      raclist = ids-given a.raclist (fits words.Raclist);
+      noraclist = ids-given a.noraclist (fits words.Noraclist);
+      global = ids-given a.global (fits words.Global);
+      noglobal = ids-given a.noglobal (fits words.Noglobal);
+      generic = ids-given a.generic (fits words.Generic);
+      logoptions = log-clauses-given a.logoptions (fits words.Logoptions);
     }

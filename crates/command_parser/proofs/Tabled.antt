@@ -30,6 +30,7 @@ words-tabled (command.RDefine a) = refl
 words-tabled (command.RAlter a) = refl
 words-tabled (command.RDelete a) = refl
 words-tabled (command.Permit a) = refl
+words-tabled (command.SetRopts a) = refl
 
 -- the table writes what stands with the same words
 one-written : (o : Operand) (w : Word) (v : Option Content) (os : List Operand) (gs : List Given) → w ≡ o.word → table_text os (values_of gs) ≡ operands_text gs

@@ -19,15 +19,17 @@ use Rattle.command_grammar.specs.CommandTable.{user, group, data_set_profile, cl
 use Rattle.command_values.specs.declared.values.Content.{Content}
 use Rattle.command_values.specs.declared.values.Content.TheVariants as contents
 use Rattle.command_values.specs.declared.values.Reset.{Reset}
+use Rattle.command_values.specs.declared.log_options.LogClause.{LogClause}
 use Rattle.command_parser.specs.declared.fields.CommandFields.{CommandFields}
 use Rattle.command_parser.specs.declared.fields.CommandFields.TheVariants as fields
 use Rattle.command_grammar.specs.Reading.{Generic, Slots, means_read, completed}
 use Rattle.command_values.specs.LawfulValues.{Fits}
 use Rattle.command_grammar.specs.Lawful.{FitsAll, FitsPositions, IsLawful}
 use Rattle.command_grammar.specs.Table.{positions_of, operands_of}
-use Rattle.command_parser.specs.Operands.{flag_value, id_value, authority_value, name_value, ids_value, level_value, audit_value, reset_value, whos_value, when_value, members_value, member_names_value}
+use Rattle.command_parser.specs.Operands.{flag_value, id_value, authority_value, name_value, ids_value, level_value, audit_value, reset_value, whos_value, when_value, members_value, member_names_value, failures_value, log_clauses_value}
 use Rattle.command_parser.specs.Canonical.{generic_view}
-use Rattle.command_parser.specs.Fields.{front, behind, flag_in, id_in, authority_in, name_in, ids_in, level_in, audit_in, reset_in, whos_in, when_in, members_in, member_names_in, add_user_in, alt_user_in, add_group_in, alt_group_in, connect_in, remove_in}
+use Rattle.command_parser.specs.Fields.{front, behind, flag_in, id_in, authority_in, name_in, ids_in, level_in, audit_in, reset_in, whos_in, when_in, members_in, member_names_in, log_clauses_in, add_user_in, alt_user_in, add_group_in, alt_group_in, connect_in, remove_in}
+use Rattle.command_parser.specs.OptionFields.{set_ropts_in}
 use Rattle.command_parser.specs.ProfileFields.{add_sd_in, alt_sd_in, r_define_in, r_alter_in, permit_in}
 use Rattle.command_parser.specs.CommandOf.{command_by, command_of}
 
@@ -79,6 +81,14 @@ member_names_in-value : (xs : List Spelled) → member_names_in (member_names_va
 member_names_in-value [] = refl
 member_names_in-value (x ∷ xs) = refl
 
+failures_in-value : (b : Bool) → flag_in (failures_value b) ≡ b
+failures_in-value true = refl
+failures_in-value false = refl
+
+log_clauses_in-value : (xs : List LogClause) → log_clauses_in (log_clauses_value xs) ≡ xs
+log_clauses_in-value [] = refl
+log_clauses_in-value (x ∷ xs) = refl
+
 -- a command is read back from its view
 pub command_of-generic : (c : CommandFields) → command_of (generic_view c) ≡ Some c
 unfolding command_of front behind
@@ -97,6 +107,7 @@ command_of-generic (fields.RDefine c) = simp (flag_in-value, id_in-value, ids_in
 command_of-generic (fields.RAlter c) = simp (flag_in-value, id_in-value, ids_in-value, level_in-value, audit_in-value, members_in-value, member_names_in-value)
 command_of-generic (fields.RDelete c) = refl
 command_of-generic (fields.Permit c) = simp (flag_in-value, level_in-value, reset_in-value, whos_in-value, when_in-value)
+command_of-generic (fields.SetRopts c) = simp (flag_in-value, failures_in-value, ids_in-value, log_clauses_in-value)
 
 -- the slot of the field that is read from a slot of this kind
 again : ValueKind → Option Content → Option Content
@@ -119,6 +130,8 @@ again kinds.When s = when_value (when_in s)
 again kinds.AddedMembers s = members_value (members_in s)
 again kinds.DroppedMembers s = member_names_value (member_names_in s)
 again kinds.Generic s = None
+again kinds.Failures s = failures_value (flag_in s)
+again kinds.LogOptions s = log_clauses_value (log_clauses_in s)
 
 again-none : (k : ValueKind) → again k None ≡ None
 unfolding again
@@ -141,6 +154,8 @@ again-none kinds.When = refl
 again-none kinds.AddedMembers = refl
 again-none kinds.DroppedMembers = refl
 again-none kinds.Generic = refl
+again-none kinds.Failures = refl
+again-none kinds.LogOptions = refl
 
 again-some : (k : ValueKind) (v : Content) → Fits k v → again k (Some v) ≡ Some v
 unfolding again
@@ -164,6 +179,8 @@ again-some kinds.Whos (contents.Whos (x ∷ xs)) h = refl
 again-some kinds.When (contents.When condition) h = refl
 again-some kinds.AddedMembers (contents.Members (x ∷ xs)) h = refl
 again-some kinds.DroppedMembers (contents.MemberNames (x ∷ xs)) h = refl
+again-some kinds.Failures contents.Failures h = refl
+again-some kinds.LogOptions (contents.LogOptions (x ∷ xs)) h = refl
 again-some k v h = absurd h
 
 -- the same of all slots
@@ -314,6 +331,8 @@ viewed_by verbs.Permit words slots at fits names =
     let w = is_profile words at in
     let class = class_given slots names.0 names.1 fits in
     viewed verbs.Permit words (contents.Profile w.0 ∷ []) slots w.1 (permit_viewed w.0 class.0 slots class.1 fits)
+viewed_by verbs.SetRopts [] slots at fits names = record { command = fields.SetRopts (set_ropts_in slots); read = refl; view = seen_again verbs.SetRopts [] slots fits }
+viewed_by verbs.SetRopts (word ∷ words) slots at fits names = absurd at
 
 -- PERMIT's class is filled in where it isn't named
 first_some : (c : Bool) (v : Content) (xs ys zs : Slots) → cond c (Some v ∷ xs) (Some v ∷ ys) ≡ None ∷ zs → ⊥

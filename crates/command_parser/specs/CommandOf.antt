@@ -11,7 +11,8 @@ use Rattle.command_grammar.specs.Canon.{spelled}
 use Rattle.command_parser.specs.declared.fields.CommandFields.{CommandFields}
 use Rattle.command_parser.specs.declared.fields.CommandFields.TheVariants as fields
 use Rattle.command_parser.specs.Canonical.{given_by}
-use Rattle.command_parser.specs.Fields.{found_for, id_in, only_id, only_profile, class_and_profile, add_user_in, alt_user_in, add_group_in, alt_group_in, connect_in, remove_in}
+use Rattle.command_parser.specs.Fields.{found_for, id_in, no_word, only_id, only_profile, class_and_profile, add_user_in, alt_user_in, add_group_in, alt_group_in, connect_in, remove_in}
+use Rattle.command_parser.specs.OptionFields.{set_ropts_in}
 use Rattle.command_parser.specs.ProfileFields.{add_sd_in, alt_sd_in, r_define_in, r_alter_in, permit_in}
 
 -- The command of each verb: its positional words must be those that it takes. PERMIT always names its class.
@@ -31,6 +32,7 @@ command_by verbs.RDefine names slots = option_map (λ both. fields.RDefine (r_de
 command_by verbs.RAlter names slots = option_map (λ both. fields.RAlter (r_alter_in both.0 both.1 slots)) (class_and_profile names)
 command_by verbs.RDelete names slots = option_map (λ both. fields.RDelete (record { class = both.0; profile = both.1 })) (class_and_profile names)
 command_by verbs.Permit names slots = option_and_then (λ name. option_map (λ class. fields.Permit (permit_in name class slots)) (id_in (found_for verbs.Permit slots words.Class))) (only_profile names)
+command_by verbs.SetRopts names slots = option_map (λ none. fields.SetRopts (set_ropts_in slots)) (no_word names)
 
 -- The command of which this is the table's view, if there is one.
 unfoldable pub command_of : Generic → Option CommandFields

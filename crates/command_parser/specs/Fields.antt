@@ -10,6 +10,7 @@ use Rattle.racf_profiles.specs.declared.profiles.Member.{Member}
 use Rattle.command_values.specs.declared.values.Content.{Content}
 use Rattle.command_values.specs.declared.values.Content.TheVariants as contents
 use Rattle.command_values.specs.declared.values.Reset.{Reset}
+use Rattle.command_values.specs.declared.log_options.LogClause.{LogClause}
 use Rattle.command_parser.specs.declared.fields.AddUser.{AddUser}
 use Rattle.command_parser.specs.declared.fields.AltUser.{AltUser}
 use Rattle.command_parser.specs.declared.fields.AddGroup.{AddGroup}
@@ -91,7 +92,15 @@ abbrev pub member_names_in : Option Content → List Spelled
 member_names_in (Some (contents.MemberNames xs)) = xs
 member_names_in others = []
 
--- the positional words of a command: a name alone, a profile alone, a class and a profile
+abbrev pub log_clauses_in : Option Content → List LogClause
+log_clauses_in (Some (contents.LogOptions xs)) = xs
+log_clauses_in others = []
+
+-- the positional words of a command: none, a name alone, a profile alone, a class and a profile
+abbrev pub no_word : List Content → Option (Unit {0})
+no_word [] = Some tt
+no_word others = None
+
 abbrev pub only_id : List Content → Option (List ℕ)
 only_id (contents.Id w ∷ []) = Some w
 only_id others = None

@@ -27,6 +27,8 @@ use Rattle.command_parser.specs.declared.profile_fields.RDefine.{RDefine}
 use Rattle.command_parser.specs.declared.profile_fields.RAlter.{RAlter}
 use Rattle.command_parser.specs.declared.profile_fields.RDelete.{RDelete}
 use Rattle.command_parser.specs.declared.profile_fields.Permit.{Permit}
+use Rattle.command_parser.specs.declared.option_fields.SetRopts.{SetRopts}
+use Rattle.command_values.specs.declared.log_options.LogClause.{LogClause}
 
 -- a word with an ID's spelling, and one with a group name's
 abbrev pub IsId : List ℕ → Type 0
@@ -81,6 +83,10 @@ AreMembersOf class n (m ∷ ms) = AreMembers (member_form (Some class) (Some n))
 abbrev pub AreMemberNamesOf : List ℕ → Spelled → List Spelled → Type 0
 AreMemberNamesOf class n [] = Unit {0}
 AreMemberNamesOf class n (x ∷ xs) = AreDropped (member_form (Some class) (Some n)) (x ∷ xs)
+
+-- a word of LOGOPTIONS, with words that have an ID's spelling
+abbrev pub IsLogClause : LogClause → Type 0
+IsLogClause clause = Each IsId clause.classes
 
 -- ADDUSER
 pub record IsLawfulAddUser (a : AddUser) : Type 0 where
@@ -190,6 +196,17 @@ pub record IsLawfulPermit (a : Permit) : Type 0 where
   pub id : AreWhosOfPermit a.id
   pub when : IfSome a.when IsPort
 
+-- SETROPTS, whose classes need not be in the table
+pub record IsLawfulSetRopts (a : SetRopts) : Type 0 where
+  pub classact : Each IsId a.classact
+  pub noclassact : Each IsId a.noclassact
+  pub raclist : Each IsId a.raclist
+  pub noraclist : Each IsId a.noraclist
+  pub global : Each IsId a.global
+  pub noglobal : Each IsId a.noglobal
+  pub generic : Each IsId a.generic
+  pub logoptions : Each IsLogClause a.logoptions
+
 -- What holds of the fields of a command that a text spells.
 abbrev pub AreLawfulFields : CommandFields → Type 0
 AreLawfulFields (command.AddUser a) = IsLawfulAddUser a
@@ -207,3 +224,4 @@ AreLawfulFields (command.RDefine a) = IsLawfulRDefine a
 AreLawfulFields (command.RAlter a) = IsLawfulRAlter a
 AreLawfulFields (command.RDelete a) = IsLawfulRDelete a
 AreLawfulFields (command.Permit a) = IsLawfulPermit a
+AreLawfulFields (command.SetRopts a) = IsLawfulSetRopts a

@@ -10,6 +10,7 @@ use Rattle.racf_profiles.specs.declared.profiles.Member.{Member}
 use Rattle.command_values.specs.declared.values.Content.{Content}
 use Rattle.command_values.specs.declared.values.Content.TheVariants as contents
 use Rattle.command_values.specs.declared.values.Reset.{Reset}
+use Rattle.command_values.specs.declared.log_options.LogClause.{LogClause}
 use Rattle.command_parser.specs.declared.fields.AddUser.{AddUser}
 use Rattle.command_parser.specs.declared.fields.AltUser.{AltUser}
 use Rattle.command_parser.specs.declared.fields.AddGroup.{AddGroup}
@@ -22,6 +23,7 @@ use Rattle.command_parser.specs.declared.profile_fields.DelSd.{DelSd}
 use Rattle.command_parser.specs.declared.profile_fields.RDefine.{RDefine}
 use Rattle.command_parser.specs.declared.profile_fields.RAlter.{RAlter}
 use Rattle.command_parser.specs.declared.profile_fields.Permit.{Permit}
+use Rattle.command_parser.specs.declared.option_fields.SetRopts.{SetRopts}
 use Rattle.command_parser.specs.declared.fields.CommandFields.{CommandFields}
 use Rattle.command_parser.specs.declared.fields.CommandFields.TheVariants as command
 use Rattle.command_values.specs.declared.operand_words.Word.{Word}
@@ -79,6 +81,15 @@ members_value (member ∷ members) = Some (contents.Members (member ∷ members)
 abbrev pub member_names_value : List Spelled → Option Content
 member_names_value [] = None
 member_names_value (name ∷ names) = Some (contents.MemberNames (name ∷ names))
+
+-- of PROTECTALL and MLS whether they stand
+abbrev pub failures_value : Bool → Option Content
+failures_value true = Some contents.Failures
+failures_value false = None
+
+abbrev pub log_clauses_value : List LogClause → Option Content
+log_clauses_value [] = None
+log_clauses_value (clause ∷ clauses) = Some (contents.LogOptions (clause ∷ clauses))
 
 -- an operand's word and its value, if the operand was given
 abbrev pub Given : Type 0
@@ -202,6 +213,19 @@ operands_of_permit a =
     ∷ given words.Delete (flag_value a.delete) ∷ given words.When (when_value a.when)
     ∷ given words.Generic None ∷ []
 
+-- SETROPTS
+abbrev pub operands_of_set_ropts : SetRopts → List Given
+operands_of_set_ropts a =
+    given words.Classact (ids_value a.classact) ∷ given words.Noclassact (ids_value a.noclassact)
+    ∷ given words.Grplist (flag_value a.grplist) ∷ given words.Nogrplist (flag_value a.nogrplist)
+    ∷ given words.Protectall (failures_value a.protectall)
+    ∷ given words.Noprotectall (flag_value a.noprotectall) ∷ given words.Mls (failures_value a.mls)
+    ∷ given words.Nomls (flag_value a.nomls) ∷ given words.Raclist (ids_value a.raclist)
+    ∷ given words.Noraclist (ids_value a.noraclist) ∷ given words.Global (ids_value a.global)
+    ∷ given words.Noglobal (ids_value a.noglobal) ∷ given words.Generic (ids_value a.generic)
+    ∷ given words.Refresh (flag_value a.refresh)
+    ∷ given words.Logoptions (log_clauses_value a.logoptions) ∷ []
+
 -- A command's verb, its positional words, and its operands.
 abbrev pub verb_of : CommandFields → Verb
 verb_of (command.AddUser a) = verbs.AddUser
@@ -219,6 +243,7 @@ verb_of (command.RDefine a) = verbs.RDefine
 verb_of (command.RAlter a) = verbs.RAlter
 verb_of (command.RDelete a) = verbs.RDelete
 verb_of (command.Permit a) = verbs.Permit
+verb_of (command.SetRopts a) = verbs.SetRopts
 
 abbrev pub names_of : CommandFields → List Content
 names_of (command.AddUser a) = contents.Id a.user ∷ []
@@ -236,6 +261,7 @@ names_of (command.RDefine a) = contents.Id a.class ∷ contents.Profile a.profil
 names_of (command.RAlter a) = contents.Id a.class ∷ contents.Profile a.profile ∷ []
 names_of (command.RDelete a) = contents.Id a.class ∷ contents.Profile a.profile ∷ []
 names_of (command.Permit a) = contents.Profile a.profile ∷ []
+names_of (command.SetRopts a) = []
 
 abbrev pub operands_of_command : CommandFields → List Given
 operands_of_command (command.AddUser a) = operands_of_add_user a
@@ -253,6 +279,7 @@ operands_of_command (command.RDefine a) = operands_of_r_define a
 operands_of_command (command.RAlter a) = operands_of_r_alter a
 operands_of_command (command.RDelete a) = []
 operands_of_command (command.Permit a) = operands_of_permit a
+operands_of_command (command.SetRopts a) = operands_of_set_ropts a
 
 -- the values alone, of the commands whose rules ask whether any stands
 abbrev pub slots_of_alt_user : AltUser → Slots
@@ -263,3 +290,6 @@ slots_of_alt_sd a = values_of (operands_of_alt_sd a)
 
 abbrev pub slots_of_r_alter : RAlter → Slots
 slots_of_r_alter a = values_of (operands_of_r_alter a)
+
+abbrev pub slots_of_set_ropts : SetRopts → Slots
+slots_of_set_ropts a = values_of (operands_of_set_ropts a)

@@ -3,10 +3,11 @@
 ghost use Rattle.std.specs.Prelude.{◌≡◌};
 ghost use Rattle.command_grammar.specs.Lawful.{IsLawful};
 ghost use Rattle.command_grammar.specs.Parts.{generic};
-ghost use Rattle.command_parser.specs.Fields.{only_id as only_id_in, only_profile as only_profile_in, class_and_profile as class_and_profile_in};
+ghost use Rattle.command_parser.specs.Fields.{only_id as only_id_in, only_profile as only_profile_in, class_and_profile as class_and_profile_in, no_word as no_word_in};
 ghost use Rattle.command_parser.specs.CommandOf.{command_of};
 ghost use Rattle.command_parser.specs.Canonical.{generic_view};
 
+use crate::convert_options::set_ropts;
 use crate::convert_profiles::{add_sd, alt_sd, permit, r_alter, r_define};
 use crate::convert_users::{add_group, add_user, alt_group, alt_user, connect, remove};
 use crate::fields::{CommandFields, DelGroup, DelUser};
@@ -47,6 +48,13 @@ fn class_and_profile(words: &[Content]) -> Option<(Id, Pattern)>
     }
 }
 
+/// Nothing, where no positional word stands.
+fn no_word(words: &[Content]) -> Option<()>
+    ensures { result ≡ no_word_in words.now }
+{
+    if words.is_empty() { Some(()) } else { None }
+}
+
 /// The command of which this is the table's view, if there is one.
 #[tactic(auto, unfolding(crate::specs::CommandOf::command_of))]
 fn command_in_parts(alloc: Global, parts: Parts) -> Option<CommandFields>
@@ -83,6 +91,10 @@ fn command_in_parts(alloc: Global, parts: Parts) -> Option<CommandFields>
             CommandFields::RDelete(RDelete { class, profile })
         }
         Verb::Permit => CommandFields::Permit(permit(alloc, only_profile(words)?, slots)?),
+        Verb::SetRopts => {
+            no_word(words)?;
+            CommandFields::SetRopts(set_ropts(alloc, slots))
+        }
     })
 }
 

@@ -3,6 +3,7 @@
 //! An operand that takes no value is a `bool`, a list of names is empty where it wasn't given, and every other operand is
 //! an `Option` of its value. An operand and the one that takes it back, as SPECIAL and NOSPECIAL, are two fields.
 
+use crate::option_fields::SetRopts;
 use crate::profile_fields::{AddSd, AltSd, DelSd, Permit, RAlter, RDefine, RDelete};
 use access_levels::{GroupAuthority, Id, Text};
 use command_values::Ids;
@@ -25,6 +26,7 @@ pub enum CommandFields {
     RAlter(RAlter),
     RDelete(RDelete),
     Permit(Permit),
+    SetRopts(SetRopts),
 }
 
 /// ADDUSER defines a user (z/OS Security Server RACF Command Language Reference, ADDUSER).

@@ -15,18 +15,23 @@
 
 mod commands;
 mod convert;
+mod convert_options;
 mod convert_profiles;
 mod convert_users;
 mod fields;
 pub mod laws;
+mod option_fields;
 mod profile_fields;
 mod slots;
 
-pub use command_values::{Ids, MemberNames, ParseFault, Reset, Syntax, Whos, Word};
+pub use command_values::{
+    Ids, LogClause, LogClauses, MemberNames, ParseFault, Reset, Syntax, Whos, Word,
+};
 pub use commands::{Command, Issuer, NoMemory, parse, print, printed_is_read};
 pub use fields::{
     AddGroup, AddUser, AltGroup, AltUser, CommandFields, Connect, DelGroup, DelUser, Remove,
 };
+pub use option_fields::SetRopts;
 pub use profile_fields::{AddSd, AltSd, DelSd, Permit, RAlter, RDefine, RDelete};
 
 #[cfg(test)]

@@ -1,10 +1,10 @@
 //! The values of a command's operands, taken one after another in the order of the table.
 
 ghost use Rattle.std.specs.Prelude.{◌≡◌};
-ghost use Rattle.command_parser.specs.Fields.{front, behind, flag_in, id_in, authority_in, name_in, ids_in, level_in, audit_in, reset_in, whos_in, when_in, members_in, member_names_in};
+ghost use Rattle.command_parser.specs.Fields.{front, behind, flag_in, id_in, authority_in, name_in, ids_in, level_in, audit_in, reset_in, whos_in, when_in, members_in, member_names_in, log_clauses_in};
 
 use access_levels::{Condition, GroupAuthority, Id, Level, Text};
-use command_values::{Content, Ids, MemberNames, Reset, Whos};
+use command_values::{Content, Ids, LogClauses, MemberNames, Reset, Whos};
 use racf_profiles::{AuditRule, Members};
 use std::alloc::Global;
 use std::marker::Model;
@@ -165,6 +165,19 @@ impl Slots {
         match self.take() {
             Some(Content::Members(members)) => members,
             _ => Members {
+                items: Vec::new(alloc),
+            },
+        }
+    }
+
+    /// The words of LOGOPTIONS in front; none where there is no list.
+    pub fn log_clauses(&mut self, alloc: Global) -> LogClauses
+        ensures value { result ≡ log_clauses_in (front self.old) }
+        ensures rest { self.new ≡ behind self.old }
+    {
+        match self.take() {
+            Some(Content::LogOptions(clauses)) => clauses,
+            _ => LogClauses {
                 items: Vec::new(alloc),
             },
         }

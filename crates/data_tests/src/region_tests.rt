@@ -1,4 +1,5 @@
-use crate::{Region, Spot};
+//! Two texts in a region of six bytes and two rows, and the region cleared.
+use dataspace::{Region, Spot};
 use std::test::Fail;
 
 /// Whether a region has a text at a spot.

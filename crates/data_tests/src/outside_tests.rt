@@ -1,6 +1,6 @@
 //! Tables of inputs and their lines, and each form once.
 
-use crate::{
+use racf_outside::{
     Failed, Failing, FileShelf, Line, LineFault, Lines, MemoryShelf, MemorySource, NeverSink,
     NeverSource, Shelf, Sink, Source,
 };

@@ -1,6 +1,7 @@
+//! Edits of a table with the keys that are then there, and a table beside an array.
 ghost use Rattle.std.specs.Prelude.{◌≡◌, ◌≤◌, ℕ};
 
-use crate::{Keyed, NoMemory, SortedRows};
+use sorted_rows::{Keyed, NoMemory, SortedRows};
 use std::alloc::Global;
 use std::sync::Arc;
 use std::test::Fail;

@@ -1,6 +1,8 @@
+//! Rows that an independent program computed: faults, covers, before and resolve; and order keys.
+
 mod rows;
 
-use crate::{MemberName, NameFault, NameKind, Pattern, Resource};
+use generic_names::{MemberName, NameFault, NameKind, Pattern, Resource};
 use rows::{BEFORE, COVERS, FAULTS, IN_ORDER, RESOLVE};
 use std::test::Fail;
 

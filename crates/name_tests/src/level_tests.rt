@@ -1,5 +1,5 @@
 //! Each call once, and the spellings as a table.
-use crate::{Categories, GroupAuthority, Id, IdFault, Level, PortClass, Text};
+use access_levels::{Categories, GroupAuthority, Id, IdFault, Level, PortClass, Text};
 use std::test::Fail;
 
 /// The refusal of a byte at that place, from 1.

@@ -1,7 +1,9 @@
 //! Entries put in and taken away up to the limit, and answers with ties, by few and many groups and by
 //! ports.
-use crate::{Found, ListFault, answer, answer_when, permit, permit_when, withdraw, withdraw_when};
 use access_levels::{CondEntry, Condition, Entry, Id, Level, PortClass, Who};
+use access_lists::{
+    Found, ListFault, answer, answer_when, permit, permit_when, withdraw, withdraw_when,
+};
 use std::alloc::Global;
 use std::test::Fail;
 

@@ -1,9 +1,10 @@
+//! Indices beside a plain scan and beside each other, large ones, and the names that changes place.
 ghost use Rattle.std.specs.Prelude.{◌≡◌, ◌<◌, ◌≤◌, length, IfOk};
 ghost use Rattle.generic_names.specs.declared.kind.NameKind.TheVariants.{General};
 ghost use Rattle.profile_index.specs.Indexed.{AreOf};
 
-use crate::{Entry, Index, Made, NoMemory, SharedIndex, Steps};
 use generic_names::{NameKind, Pattern, Resource};
+use profile_index::{Entry, Index, Made, NoMemory, SharedIndex, Steps};
 use std::alloc::Global;
 use std::marker::Brand;
 use std::sync::ledger::{Blank, Ledger};

@@ -1,10 +1,10 @@
 //! A new database and copies with ample memory, and the class table against its source.
-use crate::{
+use access_levels::{Categories, Entry, Level, Who};
+use generic_names::{NameKind, Pattern};
+use racf_profiles::{
     AuditRule, CondEntries, Entries, FixedClass, Member, Members, NameForm, Profile, Rows, View,
     class_facts, ibmuser, kind_in, sys1,
 };
-use access_levels::{Categories, Entry, Level, Who};
-use generic_names::{NameKind, Pattern};
 use std::alloc::Global;
 use std::test::Fail;
 

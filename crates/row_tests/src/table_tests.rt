@@ -1,7 +1,7 @@
 //! New tables with ample memory: room for edits of each kind, and all rows.
-use crate::RowTables;
 use access_levels::Id;
 use racf_profiles::{Edit, Group, LogOption, User, View, ibmuser, sys1};
+use row_tables::RowTables;
 use std::alloc::Global;
 use std::test::Fail;
 

@@ -11,7 +11,7 @@ use Rattle.racf_profiles.specs.Limits.{most_profiles, most_class_profiles, most_
 use Rattle.class_profiles.specs.Classes.{profile_in}
 use Rattle.racf_profiles.specs.Counts.{profile_count, entry_count, entries_in}
 use Rattle.racf_profiles.proofs.States.{same_class}
-use Rattle.class_profiles.proofs.tests.put_in.Goals as goal
+use Rattle.row_tests.proofs.class_tests.put_in.Goals as goal
 
 pub put-requires : goal.put-requires
 put-requires c =

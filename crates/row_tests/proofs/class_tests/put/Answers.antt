@@ -4,7 +4,7 @@ use Rattle.generic_names.specs.Spelled.{Spelled}
 use Rattle.racf_profiles.specs.Edits.{put_profile}
 use Rattle.racf_profiles.specs.Limits.{most_class_profiles}
 use Rattle.class_profiles.specs.Table.{ProfileList}
-use Rattle.class_profiles.proofs.tests.put.Goals as goal
+use Rattle.row_tests.proofs.class_tests.put.Goals as goal
 
 pub put-requires : goal.put-requires
 put-requires c =

@@ -1,6 +1,6 @@
 use Rattle.std.proofs.Common.{◌≡◌, take, length}
 use Rattle.racf_profiles.specs.Tree.{IsTree}
-use Rattle.group_tree.proofs.tests.made_anew.Given as goal
+use Rattle.row_tests.proofs.tree_tests.made_anew.Given as goal
 
 -- the groups so far
 abbrev pub invariant-loop-place : goal.invariant-loop-place

@@ -3,7 +3,7 @@ use Rattle.std.proofs.Common.{◌∙◌, ◌<◌, ◌≤◌, ap, arith, length}
 use Rattle.generic_names.specs.Spelled.{Spelled}
 use Rattle.racf_profiles.specs.Edits.{put_profile}
 use Rattle.racf_profiles.specs.Limits.{most_class_profiles}
-use Rattle.class_profiles.proofs.tests.with_name.Goals as goal
+use Rattle.row_tests.proofs.class_tests.with_name.Goals as goal
 
 pub with_profile-requires-clause-few : goal.with_profile-requires-clause-few
 with_profile-requires-clause-few c =

@@ -2,12 +2,12 @@
 ghost use Rattle.std.specs.Prelude.{◌≡◌, IfOk};
 ghost use Rattle.racf_profiles.specs.Counts.{entries_in};
 
-use crate::laws::{counts_are_enough, puts_are_counted};
-use crate::{
+use access_levels::{Categories, Entry, Id, Level, Who};
+use class_profiles::laws::{counts_are_enough, puts_are_counted};
+use class_profiles::{
     ClassTables, MOST_CLASS_PROFILES, MOST_ENTRIES_IN_ALL, MOST_PROFILES, NoMemory, ProfileTable,
     SharedProfiles,
 };
-use access_levels::{Categories, Entry, Id, Level, Who};
 use generic_names::{NameKind, Pattern, Resource};
 use racf_profiles::{AuditRule, CondEntries, Entries, FixedClass, Members, Profile, sys1};
 use std::alloc::Global;

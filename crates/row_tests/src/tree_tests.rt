@@ -1,9 +1,9 @@
 //! Scope over a group that a user owns, each fault, and a full tree.
 ghost use Rattle.std.specs.Prelude.{◌∷◌, [], false};
 
-use crate::{Tree, TreeFault};
 use access_levels::{Attributes, Categories, Id, Text};
 use generic_names::Pattern;
+use group_tree::{Tree, TreeFault};
 use racf_profiles::{Classes, Connects, Group, Profile, User, View};
 use std::alloc::Global;
 use std::test::Fail;

@@ -28,6 +28,3 @@ pub use fields::{
     AddGroup, AddUser, AltGroup, AltUser, CommandFields, Connect, DelGroup, DelUser, Remove,
 };
 pub use profile_fields::{AddSd, AltSd, DelSd, Permit, RAlter, RDefine, RDelete};
-
-#[cfg(test)]
-mod tests;

@@ -1,5 +1,6 @@
-use crate::{printed, read};
+//! Texts with their canonical texts, and each fault of the grammar.
 use access_levels::Id;
+use command_grammar::{printed, read};
 use command_values::{Context, ParseFault, Syntax, Word};
 use std::process::Abort;
 use std::test::Fail;

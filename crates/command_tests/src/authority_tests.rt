@@ -1,6 +1,6 @@
 //! What issuers lack for commands of every kind, and how needs are told.
-use crate::{Need, authorised};
 use access_levels::{Attributes, Categories, Entry, GroupAuthority, Id, Level, Text, Who};
+use command_authority::{Need, authorised};
 use command_parser::{Issuer, parse};
 use generic_names::{NameKind, Pattern};
 use group_tree::Tree;

@@ -1,5 +1,6 @@
-use crate::{ParseFault, Syntax, Word, parse, print};
+//! A text of each command with its canonical text, and each fault.
 use access_levels::Id;
+use command_parser::{ParseFault, Syntax, Word, parse, print};
 use std::process::Abort;
 use std::test::Fail;
 

@@ -1,6 +1,6 @@
 //! A new database with ample memory. What `prepare` answers to each command is asked by `decision_rows` and by the
-//! streams; which conflict a command meets is computed on the definitions, in `proofs`.
-use crate::Database;
+//! streams; which conflict a command meets is computed on the definitions, in the proofs of `racf_database`.
+use racf_database::Database;
 use std::test::Fail;
 
 #[test]

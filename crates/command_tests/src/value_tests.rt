@@ -1,7 +1,8 @@
-use crate::{
+//! Values of each kind, how they are written, and where they are refused.
+use access_levels::Id;
+use command_values::{
     Known, ParseFault, Scope, Syntax, ValueKind, any_named, bare, one, push_content, value,
 };
-use access_levels::Id;
 use command_words::Tokens;
 use generic_names::Pattern;
 use std::alloc::Global;

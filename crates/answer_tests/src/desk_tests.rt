@@ -1,7 +1,7 @@
 //! Commands by several issuers, one after another: the words of each answer, and where the desk stands behind them.
 
-use crate::{Desk, Reply};
 use access_levels::Id;
+use racf_desk::{Desk, Reply};
 use racf_profiles::ibmuser;
 use std::alloc::Global;
 use std::process::Abort;

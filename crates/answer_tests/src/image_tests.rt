@@ -5,10 +5,10 @@ ghost use Rattle.generic_names.specs.Faults.{pattern_of};
 ghost use Rattle.generic_names.specs.declared.kind.NameKind.{NameKind};
 ghost use Rattle.racf_profiles.specs.LawfulProfiles.{AreProfiles};
 
-use crate::class_image::ClassImage;
 use access_levels::{Categories, Entry, Id, Level, Who};
 use generic_names::{NameKind, Pattern, Resource};
 use racf_profiles::{AuditRule, CondEntries, Entries, Members, Profile, Profiles};
+use raclist_image::ClassImage;
 use std::alloc::Global;
 use std::test::Fail;
 

@@ -1,13 +1,12 @@
+//! Streams with their outputs, stops at each fault and in mid-stream, and limits.
 ghost use Rattle.std.specs.Prelude.{◌≡◌, map, None, Some, IfSome, IsTrue, string_bytes};
 ghost use Rattle.racf_run.specs.Racf.{script_files};
 ghost use Rattle.racf_run.specs.Script.{script_output, is_whole};
 
-use crate::scripts::script;
-use crate::status::Status;
-use crate::top::racf;
 use racf_outside::{
     Failed, Failing, FileShelf, MemoryShelf, MemorySink, MemorySource, Shelf, Source,
 };
+use racf_run::{Status, racf, script};
 use std::alloc::{AllocError, Global};
 use std::test::Fail;
 

@@ -1,9 +1,9 @@
 //! Lines with what they ask for and with the places of what doesn't fit, and the life of an ACEE. What is answered to lines
 //! is tested through the program, on stored streams.
 
-use crate::{AceeTable, LineRefusal, NamedIssuer, RequestLine, read_issuer, read_line};
 use access_levels::{Attributes, Categories, Id};
 use acee::{Acee, AceeGroups};
+use request_files::{AceeTable, LineRefusal, NamedIssuer, RequestLine, read_issuer, read_line};
 use std::alloc::Global;
 use std::test::Fail;
 

@@ -80,8 +80,8 @@ fn class_image(rt: HostRuntime) -> Result<(), Fail> {
     Ok(())
 }
 
-/// An image of profiles is whole, or memory is wanting: the script `tests/refusals` runs this with allocations refused behind the
-/// line that it prints first.
+/// An image of profiles is whole, or memory is wanting: the script `tests/refusals` runs this with allocations refused
+/// behind the line that it prints first.
 #[test]
 fn image_of_profiles(rt: HostRuntime) -> Result<(), Fail> {
     let profiles = facilities(rt.alloc())?;

@@ -1,5 +1,5 @@
-//! Lines with what they ask for and with the places of what doesn't fit, and the life of an ACEE. What is answered to lines
-//! is tested through the program, on stored streams.
+//! Lines with what they ask for and with the places of what doesn't fit, and the life of an ACEE. What is answered to
+//! lines is tested through the program, on stored streams.
 
 use access_levels::{Attributes, Categories, Id};
 use acee::{Acee, AceeGroups};

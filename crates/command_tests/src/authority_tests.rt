@@ -35,7 +35,8 @@ impl View for Seen<'_> {
     }
 }
 
-/// SYS1, and below it DIV, DEPT and TEAM, each below the one before, and G1. Each is owned by its superior group, DEPT by the owner given.
+/// SYS1, and below it DIV, DEPT and TEAM, each below the one before, and G1. Each is owned by its superior group, DEPT
+/// by the owner given.
 fn tree(alloc: Global, owner: &[u8]) -> Result<Tree, Fail> {
     let mut tree = Tree::new(alloc)?;
     for (group, superior, owner) in [

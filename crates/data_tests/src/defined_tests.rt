@@ -61,8 +61,8 @@ fn shows(
     Ok(keys_of(alloc, table)?.as_slice() == keys && number_of(table, &name) == number)
 }
 
-/// Rows that come, are replaced and go, each with the keys that are then there, and the number of one of them. The table
-/// before each change stays as it was.
+/// Rows that come, are replaced and go, each with the keys that are then there, and the number of one of them. The
+/// table before each change stays as it was.
 #[test]
 fn worked_rows(rt: HostRuntime) -> Result<(), Fail> {
     let alloc = rt.alloc();

@@ -8,8 +8,8 @@ use racf_profiles::{Classes, Connects, Group, Profile, User, View};
 use std::alloc::Global;
 use std::test::Fail;
 
-/// SYS1, and below it DIV, DEPT, TEAM and UNIT, each below the one before. The user ADM owns TEAM; the superior group owns
-/// each other.
+/// SYS1, and below it DIV, DEPT, TEAM and UNIT, each below the one before. The user ADM owns TEAM; the superior group
+/// owns each other.
 const THREE_LEVELS: [(&[u8], &[u8], &[u8]); 4] = [
     (b"DIV", b"SYS1", b"SYS1"),
     (b"DEPT", b"DIV", b"DIV"),

@@ -24,61 +24,55 @@ fn assert_fault(rt: &(impl AllocGlobal + Abort), text: &[u8], fault: Syntax) -> 
 
 #[test]
 fn reads_commands_on_users_and_groups(rt: HostRuntime) -> Result<(), Fail> {
-    assert_written(
-        &rt,
-        b"au u ow(x) name('It''s')",
-        b"ADDUSER U NAME('It''s') OWNER(X)",
-    )?;
-    assert_written(&rt, b"ALU U RESUME NOSP", b"ALTUSER U NOSPECIAL RESUME")?;
-    assert_written(&rt, b"DU (U)", b"DELUSER U")?;
-    assert_written(
-        &rt,
-        b"AG G OWNER(B),SUP(A)",
-        b"ADDGROUP G SUPGROUP(A) OWNER(B)",
-    )?;
-    assert_written(
-        &rt,
-        b"ALG G OWNER(B) SUP(A)",
-        b"ALTGROUP G SUPGROUP(A) OWNER(B)",
-    )?;
-    assert_written(&rt, b"DG G", b"DELGROUP G")?;
-    assert_written(
-        &rt,
-        b"CO U AUTH(JOIN) G(G)",
-        b"CONNECT U GROUP(G) AUTHORITY(JOIN)",
-    )?;
-    assert_written(&rt, b"RE U GROUP(G)", b"REMOVE U GROUP(G)")
+    let rows: [(&[u8], &[u8]); 8] = [
+        (
+            b"au u ow(x) name('It''s')",
+            b"ADDUSER U NAME('It''s') OWNER(X)",
+        ),
+        (b"ALU U RESUME NOSP", b"ALTUSER U NOSPECIAL RESUME"),
+        (b"DU (U)", b"DELUSER U"),
+        (b"AG G OWNER(B),SUP(A)", b"ADDGROUP G SUPGROUP(A) OWNER(B)"),
+        (b"ALG G OWNER(B) SUP(A)", b"ALTGROUP G SUPGROUP(A) OWNER(B)"),
+        (b"DG G", b"DELGROUP G"),
+        (
+            b"CO U AUTH(JOIN) G(G)",
+            b"CONNECT U GROUP(G) AUTHORITY(JOIN)",
+        ),
+        (b"RE U GROUP(G)", b"REMOVE U GROUP(G)"),
+    ];
+    for (text, written) in rows {
+        assert_written(&rt, text, written)?;
+    }
+    Ok(())
 }
 
 #[test]
 fn reads_commands_on_profiles(rt: HostRuntime) -> Result<(), Fail> {
-    assert_written(
-        &rt,
-        b"AD DATA.* UACC(READ) GEN",
-        b"ADDSD 'JOE.DATA.*' UACC(READ)",
-    )?;
-    assert_written(
-        &rt,
-        b"ALD 'A.B' AUDIT(ALL)",
-        b"ALTDSD 'A.B' AUDIT(SUCCESS(READ) FAILURES(READ))",
-    )?;
-    assert_written(&rt, b"DD 'A.B'", b"DELDSD 'A.B'")?;
-    assert_written(
-        &rt,
-        b"RDEF SECDATA SECLEVEL ADDM(LOW/9)",
-        b"RDEFINE SECDATA SECLEVEL ADDMEM(LOW/9)",
-    )?;
-    assert_written(
-        &rt,
-        b"RALT GLOBAL APPL DELM(X)",
-        b"RALTER GLOBAL APPL DELMEM(X)",
-    )?;
-    assert_written(&rt, b"RDEL APPL X", b"RDELETE APPL X")?;
-    assert_written(
-        &rt,
-        b"PE 'A.B' ID(U V) WHEN(CONSOLE(C1)) RESET",
-        b"PERMIT 'A.B' CLASS(DATASET) RESET(ALL) ID(U V) ACCESS(READ) WHEN(CONSOLE(C1))",
-    )
+    let rows: [(&[u8], &[u8]); 7] = [
+        (
+            b"AD DATA.* UACC(READ) GEN",
+            b"ADDSD 'JOE.DATA.*' UACC(READ)",
+        ),
+        (
+            b"ALD 'A.B' AUDIT(ALL)",
+            b"ALTDSD 'A.B' AUDIT(SUCCESS(READ) FAILURES(READ))",
+        ),
+        (b"DD 'A.B'", b"DELDSD 'A.B'"),
+        (
+            b"RDEF SECDATA SECLEVEL ADDM(LOW/9)",
+            b"RDEFINE SECDATA SECLEVEL ADDMEM(LOW/9)",
+        ),
+        (b"RALT GLOBAL APPL DELM(X)", b"RALTER GLOBAL APPL DELMEM(X)"),
+        (b"RDEL APPL X", b"RDELETE APPL X"),
+        (
+            b"PE 'A.B' ID(U V) WHEN(CONSOLE(C1)) RESET",
+            b"PERMIT 'A.B' CLASS(DATASET) RESET(ALL) ID(U V) ACCESS(READ) WHEN(CONSOLE(C1))",
+        ),
+    ];
+    for (text, written) in rows {
+        assert_written(&rt, text, written)?;
+    }
+    Ok(())
 }
 
 #[test]

@@ -63,15 +63,13 @@ fn is_full(put: Result<(), ListFault>) -> bool {
 fn puts_in_place_or_last(rt: HostRuntime) -> Result<(), Fail> {
     let mut list = Vec::new(rt.alloc());
     let (joe, ann) = (id(b"JOE")?, id(b"ANN")?);
-    permit(&mut list, entry(b"JOE", Level::Read)?)
-        .ok()
-        .ok_or("room")?;
-    permit(&mut list, entry(b"ANN", Level::Update)?)
-        .ok()
-        .ok_or("room")?;
-    permit(&mut list, entry(b"JOE", Level::Alter)?)
-        .ok()
-        .ok_or("room")?;
+    for (user, level) in [
+        (b"JOE".as_slice(), Level::Read),
+        (b"ANN", Level::Update),
+        (b"JOE", Level::Alter),
+    ] {
+        permit(&mut list, entry(user, level)?).ok().ok_or("room")?;
+    }
     assert_eq!(rt; list.len(), 2);
     assert_eq!(rt; rank_for(list.as_slice(), joe), 5);
     assert_eq!(rt; rank_for(list.as_slice(), ann), 3);

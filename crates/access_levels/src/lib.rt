@@ -26,6 +26,3 @@ pub use entries::{Attributes, CondEntry, Condition, Entry, PortClass, Who};
 pub use ids::{Id, IdFault};
 pub use levels::Level;
 pub use texts::Text;
-
-#[cfg(test)]
-mod tests;

@@ -21,6 +21,3 @@ pub use edits::{
     ListFault, MOST_ENTRIES, is_for_under, is_same_port, is_same_who, permit, permit_when,
     withdraw, withdraw_when,
 };
-
-#[cfg(test)]
-mod tests;

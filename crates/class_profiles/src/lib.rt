@@ -26,6 +26,3 @@ pub use profile_index::Made;
 pub use racf_profiles::NoMemory;
 pub use shared_profiles::SharedProfiles;
 pub use table::ProfileTable;
-
-#[cfg(test)]
-mod tests;

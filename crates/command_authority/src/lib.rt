@@ -26,6 +26,3 @@ mod users;
 pub use judge::authorised;
 pub use needs::{Need, Needs};
 pub use requirement::{Requirement, Target};
-
-#[cfg(test)]
-mod tests;

@@ -22,6 +22,3 @@ mod table;
 pub use printing::printed;
 pub use reading::{LONGEST, Parts, read};
 pub use table::{Operand, Position, Verb};
-
-#[cfg(test)]
-mod tests;

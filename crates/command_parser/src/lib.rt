@@ -33,6 +33,3 @@ pub use fields::{
 };
 pub use option_fields::SetRopts;
 pub use profile_fields::{AddSd, AltSd, DelSd, Permit, RAlter, RDefine, RDelete};
-
-#[cfg(test)]
-mod tests;

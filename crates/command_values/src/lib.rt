@@ -36,6 +36,3 @@ pub use value_printing::push_content;
 pub use value_reading::{bare, one, value};
 pub use value_words::{clean, held, unless_stray};
 pub use values::{Content, Context, Ids, Known, MemberNames, Reset, Scope, Whos};
-
-#[cfg(test)]
-mod tests;

@@ -20,6 +20,3 @@ mod spot;
 
 pub use region::{NoMemory, Region};
 pub use spot::Spot;
-
-#[cfg(test)]
-mod tests;

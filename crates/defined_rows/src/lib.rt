@@ -17,6 +17,3 @@ mod rows;
 
 pub use rows::DefinedRows;
 pub use sorted_rows::{Keyed, NoMemory};
-
-#[cfg(test)]
-mod tests;

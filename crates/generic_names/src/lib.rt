@@ -38,6 +38,3 @@ pub use order_key::OrderKey;
 pub use pattern::Pattern;
 pub use qualifiers::first_qualifier;
 pub use resource::Resource;
-
-#[cfg(test)]
-mod tests;

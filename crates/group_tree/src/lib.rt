@@ -15,8 +15,6 @@ mod climb;
 mod faults;
 pub mod laws;
 mod scope;
-#[cfg(test)]
-mod tests;
 mod tree;
 
 pub use climb::GroupList;

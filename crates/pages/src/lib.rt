@@ -37,6 +37,3 @@ pub use part::{Change, Made, Part};
 pub use shared_page::SharedPage;
 pub use test::Test;
 pub use walk::Walk;
-
-#[cfg(test)]
-mod tests;

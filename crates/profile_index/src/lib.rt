@@ -34,6 +34,3 @@ pub use index::{Index, NoMemory};
 pub use pages::Made;
 pub use shared_index::SharedIndex;
 pub use steps::Steps;
-
-#[cfg(test)]
-mod tests;

@@ -24,6 +24,3 @@ pub use row_tables::{
     MOST_CATEGORIES, MOST_CONNECTIONS, MOST_CONNECTIONS_IN_ALL, MOST_GROUPS, MOST_MEMBERS,
     MOST_USERS,
 };
-
-#[cfg(test)]
-mod tests;

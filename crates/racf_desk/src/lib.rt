@@ -21,8 +21,6 @@ mod issuers;
 mod making;
 mod outcome;
 mod refusal;
-#[cfg(test)]
-mod tests;
 mod words;
 
 pub use answers::{Ready, Reply};

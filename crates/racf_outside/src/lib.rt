@@ -26,8 +26,6 @@ mod outputs;
 mod scanner;
 mod shelf;
 mod streams;
-#[cfg(test)]
-mod tests;
 
 pub use files::{FileShelf, FileSink, FileSource};
 pub use lines::{Line, LineFault, Lines};

@@ -40,6 +40,3 @@ pub use view::View;
 
 /// The answer of a call that got no memory.
 pub type NoMemory = std::alloc::AllocError;
-
-#[cfg(test)]
-mod tests;

@@ -24,8 +24,6 @@ mod scripts;
 mod statement;
 mod status;
 mod stream;
-#[cfg(test)]
-mod tests;
 mod top;
 
 pub use scripts::script;

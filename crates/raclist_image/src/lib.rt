@@ -22,8 +22,6 @@ mod image;
 mod names;
 mod rows;
 mod state;
-#[cfg(test)]
-mod tests;
 
 pub use class_image::ClassImage;
 pub use class_profiles::Made;

@@ -27,6 +27,3 @@ pub use answers::{answer_text, unbuilt_word};
 pub use issuer_line::{NamedIssuer, read_issuer};
 pub use line::{LineRefusal, RequestLine, read_line};
 pub use working::respond;
-
-#[cfg(test)]
-mod tests;

@@ -24,6 +24,3 @@ pub use tables::RowTables;
 pub use user_table::{
     UserTable, connections_added, connections_with, is_connected_to, is_special_user,
 };
-
-#[cfg(test)]
-mod tests;

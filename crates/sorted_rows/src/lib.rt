@@ -21,6 +21,3 @@ mod rows;
 pub use keyed::Keyed;
 pub use pages::{NoMemory, Walk};
 pub use rows::SortedRows;
-
-#[cfg(test)]
-mod tests;

@@ -1,0 +1,13 @@
+//! No code, but tests: commands from their text to what their issuer lacks, and a new database.
+#![tactic(auto)]
+
+#[cfg(test)]
+mod authority_tests;
+#[cfg(test)]
+mod database_tests;
+#[cfg(test)]
+mod grammar_tests;
+#[cfg(test)]
+mod parser_tests;
+#[cfg(test)]
+mod value_tests;

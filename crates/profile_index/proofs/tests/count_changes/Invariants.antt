@@ -1,6 +1,0 @@
-use Rattle.generic_names.specs.declared.kind.NameKind.TheVariants.{General}
-use Rattle.profile_index.specs.Indexed.{AreOf}
-use Rattle.profile_index.proofs.tests.count_changes.Given as goal
-
-abbrev pub invariant-loop-change_number : goal.invariant-loop-change_number
-invariant-loop-change_number l = record { kinds : AreOf General l.index.entries; same : AreOf General l.shared }

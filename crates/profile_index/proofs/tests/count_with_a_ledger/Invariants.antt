@@ -1,4 +1,0 @@
-use Rattle.profile_index.proofs.tests.count_with_a_ledger.Given as goal
-
-abbrev pub ghosts-count_named : goal.ghosts-count_named
-ghosts-count_named a = record { name = a.blank.name; parts = a.blank.parts }

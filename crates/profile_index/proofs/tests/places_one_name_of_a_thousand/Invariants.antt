@@ -1,6 +1,0 @@
-use Rattle.generic_names.specs.declared.kind.NameKind.TheVariants.{General}
-use Rattle.profile_index.specs.Indexed.{AreOf}
-use Rattle.profile_index.proofs.tests.places_one_name_of_a_thousand.Given as goal
-
-abbrev pub invariant-loop-number : goal.invariant-loop-number
-invariant-loop-number g l = AreOf General l.index

@@ -75,6 +75,13 @@ impl ClassTables {
         self.entries
     }
 
+    /// All classes, in the order of the class table.
+    pub fn as_slice(&self) -> &[ClassTable]
+        ensures { rows_in result.now ≡ self.now.classes }
+    {
+        &self.classes
+    }
+
     /// The class of that name, found among the fourteen by comparing names.
     pub fn class(&self, name: Id) -> Option<&ClassTable>
         ensures { option_map (λ class. class.row) (option_copied result) ≡ find (is_class name) self.now.classes }

@@ -1,5 +1,10 @@
 -- The edits that a command makes: each is the whole new row, or drops one.
-use Rattle.std.specs.Prelude.{ℕ, List, [], ◌∷◌, ◌++◌, Option, None, Some}
+use Rattle.std.specs.Prelude.{ℕ, Bool, ◌&&◌, ◌||◌, not, List, [], ◌∷◌, ◌++◌, map, if◌then◌else◌, Option, None, Some}
+use Rattle.std.specs.List.{filter, list_any}
+use Rattle.racf_profiles.specs.declared.class_rows.ClassRow.{ClassRow}
+use Rattle.command_values.specs.declared.log_options.LogClause.{LogClause}
+use Rattle.command_parser.specs.declared.option_fields.SetRopts.{SetRopts}
+use Rattle.command_effects.specs.OptionEffects.{names_class, set_class, set_options}
 use Rattle.racf_profiles.specs.declared.users.User.{User}
 use Rattle.racf_profiles.specs.declared.groups.Group.{Group}
 use Rattle.racf_profiles.specs.declared.profiles.Profile.{Profile}
@@ -7,7 +12,7 @@ use Rattle.racf_profiles.specs.declared.profiles.Member.{Member}
 use Rattle.racf_profiles.specs.declared.options.Options.{Options}
 use Rattle.racf_profiles.specs.declared.rows.Rows.{Rows}
 use Rattle.racf_profiles.specs.declared.edits.Edit.{Edit}
-use Rattle.racf_profiles.specs.declared.edits.Edit.TheVariants.{PutUser, DropUser, PutGroup, DropGroup, PutProfile, DropProfile, PutOptions}
+use Rattle.racf_profiles.specs.declared.edits.Edit.TheVariants.{PutUser, DropUser, PutGroup, DropGroup, PutProfile, DropProfile, PutOptions, PutClass, List as ListCopy, Unlist}
 use Rattle.racf_profiles.specs.Lookup.{user_of, group_of, profile_of}
 use Rattle.command_parser.specs.declared.commands.Issuer.{Issuer}
 use Rattle.command_parser.specs.declared.fields.CommandFields.{CommandFields}
@@ -63,6 +68,30 @@ edits_of_r_delete c = DropProfile c.class c.profile ∷ []
 abbrev pub edits_of_permit : Permit → Rows → List Edit
 edits_of_permit c rows = put_changed c.class (permitted_profile c) (profile_of c.class c.profile rows)
 
+-- SETROPTS puts the options and the flags of the classes that it names, and then makes and drops listed copies: RACLIST
+-- makes one of a class that isn't listed, and with REFRESH one anew.
+abbrev pub sets_options : SetRopts → Bool
+sets_options c = c.grplist || c.nogrplist || c.protectall || c.noprotectall || c.mls || c.nomls
+
+abbrev pub sets_flags : SetRopts → ClassRow → Bool
+sets_flags c class = names_class c.classact class || names_class c.noclassact class || names_class c.global class || names_class c.noglobal class || list_any (λ (clause : LogClause). names_class clause.classes class) c.logoptions
+
+abbrev pub lists : SetRopts → ClassRow → Bool
+lists c class = names_class c.raclist class && (c.refresh || not class.listed)
+
+abbrev pub unlists : SetRopts → ClassRow → Bool
+unlists c class = names_class c.noraclist class
+
+abbrev pub put_flags : ClassRow → Edit
+put_flags class = PutClass class.name class.active class.global class.log
+
+abbrev pub edits_of_set_ropts : SetRopts → Rows → List Edit
+edits_of_set_ropts c rows =
+    (if sets_options c then PutOptions (set_options c rows.options) ∷ [] else [])
+    ++ (map (λ (class : ClassRow). put_flags (set_class c class)) (filter (sets_flags c) rows.classes)
+    ++ (map (λ (class : ClassRow). ListCopy class.name) (filter (lists c) rows.classes)
+    ++ map (λ (class : ClassRow). Unlist class.name) (filter (unlists c) rows.classes)))
+
 abbrev pub edits_of : Issuer → CommandFields → Rows → List Edit
 edits_of issuer (fields.AddUser c) rows = PutUser (new_user issuer c rows) ∷ []
 edits_of issuer (fields.AltUser c) rows = put_user (altered_user c rows) (user_of c.user rows)
@@ -79,3 +108,4 @@ edits_of issuer (fields.RDefine c) rows = edits_of_r_define issuer c rows
 edits_of issuer (fields.RAlter c) rows = edits_of_r_alter c rows
 edits_of issuer (fields.RDelete c) rows = edits_of_r_delete c
 edits_of issuer (fields.Permit c) rows = edits_of_permit c rows
+edits_of issuer (fields.SetRopts c) rows = edits_of_set_ropts c rows

@@ -8,6 +8,7 @@ use Rattle.command_parser.specs.declared.fields.CommandFields.{CommandFields}
 use Rattle.command_parser.specs.declared.fields.CommandFields.TheVariants as fields
 use Rattle.command_effects.specs.ProfileEffects.{after_add_sd, after_alt_sd, after_del_sd, after_r_define, after_r_alter, after_r_delete}
 use Rattle.command_effects.specs.PermitEffects.{after_permit}
+use Rattle.command_effects.specs.OptionEffects.{after_set_ropts}
 pub use Rattle.command_effects.specs.UserEffects.{switched, with_class, without_classes, owner_or_issuer, new_connection, first_attributes, new_user, attributes_after, level_after, label_after, altered_user, new_group, altered_group, altered_connection, connects_after, connected_user, removed_user}
 pub use Rattle.command_parser.specs.Issuers.{group_or_current}
 pub use Rattle.row_tables.specs.ChangedRow.{at_row}
@@ -30,3 +31,4 @@ step issuer (fields.RDefine c) rows = after_r_define issuer c rows
 step issuer (fields.RAlter c) rows = after_r_alter c rows
 step issuer (fields.RDelete c) rows = after_r_delete c rows
 step issuer (fields.Permit c) rows = after_permit c rows
+step issuer (fields.SetRopts c) rows = after_set_ropts c rows

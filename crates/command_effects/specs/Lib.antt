@@ -4,5 +4,6 @@ pub mod Members
 pub mod ProfileEffects
 pub mod Operands
 pub mod PermitEffects
+pub mod OptionEffects
 pub mod Effects
 pub mod Edits

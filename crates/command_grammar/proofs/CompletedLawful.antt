@@ -12,7 +12,7 @@ use Rattle.command_values.specs.declared.values.Content.{Content}
 use Rattle.command_values.specs.declared.values.Content.TheVariants as contents
 use Rattle.command_values.specs.declared.values.Known.{Known}
 use Rattle.command_grammar.specs.Table.{operands_of}
-use Rattle.command_grammar.specs.Reading.{Slots, row_at, is_generic_kind, permits, generic_place, cleared, with_class, means_read, with_access, completed, missing}
+use Rattle.command_grammar.specs.Reading.{Slots, row_at, is_generic_kind, permits, generic_place, cleared, with_class, means_read, with_access, completed, lacking}
 use Rattle.command_grammar.specs.Lawful.{FitsAll, SuitsAll, first_known}
 use Rattle.command_values.proofs.ValueLawful.{FitsHere}
 use Rattle.command_grammar.proofs.OperandsLawful.{Holds, HoldsAll, HoldsAll-tail}
@@ -108,7 +108,7 @@ cleared-again (Some k) ss = set-twice ss k
 -- what completing changes nothing of
 pub record IsSettled (v : Verb) (ss : Slots) : Type 0 where
   pub again : completed v (completed v ss) ≡ completed v ss
-  pub lacks : missing v (completed v ss) ≡ missing v ss
+  pub lacks : lacking v (completed v ss) ≡ lacking v ss
   pub class : first_known v (completed v ss) ≡ first_known v ss
 
 -- PERMIT has seven slots
@@ -145,11 +145,13 @@ seven-slots known ss h = seven-of ss (holds-length (operands_of verbs.Permit) ss
 
 settled-permit : (c r i a d w g : Option Content) → IsSettled verbs.Permit (c ∷ (r ∷ (i ∷ (a ∷ (d ∷ (w ∷ (g ∷ [])))))))
 settled-permit None r None a d w g = record { again = refl; lacks = refl; class = refl }
-settled-permit None r (Some i) None None w g = record { again = refl; lacks = refl; class = refl }
+settled-permit None r (Some i) None None None g = record { again = refl; lacks = refl; class = refl }
+settled-permit None r (Some i) None None (Some w) g = record { again = refl; lacks = refl; class = refl }
 settled-permit None r (Some i) None (Some d) w g = record { again = refl; lacks = refl; class = refl }
 settled-permit None r (Some i) (Some a) d w g = record { again = refl; lacks = refl; class = refl }
 settled-permit (Some c) r None a d w g = record { again = refl; lacks = refl; class = refl }
-settled-permit (Some c) r (Some i) None None w g = record { again = refl; lacks = refl; class = refl }
+settled-permit (Some c) r (Some i) None None None g = record { again = refl; lacks = refl; class = refl }
+settled-permit (Some c) r (Some i) None None (Some w) g = record { again = refl; lacks = refl; class = refl }
 settled-permit (Some c) r (Some i) None (Some d) w g = record { again = refl; lacks = refl; class = refl }
 settled-permit (Some c) r (Some i) (Some a) d w g = record { again = refl; lacks = refl; class = refl }
 

@@ -21,7 +21,7 @@ mod table;
 
 pub use printing::printed;
 pub use reading::{LONGEST, Parts, read};
-pub use table::{Operand, Position, Verb};
+pub use table::{Needed, Operand, Position, Verb};
 
 #[cfg(test)]
 mod tests;

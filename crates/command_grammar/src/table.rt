@@ -1,10 +1,12 @@
-//! The table of commands: how each is called, its positional words and its operands, in the order in which they are
-//! written (z/OS Security Server RACF Command Language Reference; the order is this product's own).
+//! The table of commands: how each is called, its positional words, its operands in the order in which they are written,
+//! and which of them exclude one another or are needed (z/OS Security Server RACF Command Language Reference; the order
+//! is this product's own).
 //!
 //! The reader, the printer and the laws about them all go by this table. A further command is a variant of `Verb`, its
 //! names and its rows.
 
-ghost use Rattle.std.specs.Prelude.{◌≡◌};
+ghost use Rattle.std.specs.Prelude.{◌≡◌, map};
+ghost use Rattle.command_grammar.specs.Parts.{needed as needed_row};
 
 use crate::operand_rows::{
     ADDCATEGORY, AUDITOR, AUTHORITY, CLAUTH, DELCATEGORY, DFLTGRP, GROUP, NAME, NOAUDITOR,
@@ -13,8 +15,8 @@ use crate::operand_rows::{
 };
 use crate::profile_table::{
     ADDSD_EXCLUDED, ADDSD_OPERANDS, ALTDSD_EXCLUDED, ALTDSD_OPERANDS, CLASS_POSITIONS,
-    DATASET_POSITION, DELDSD_OPERANDS, PERMIT_EXCLUDED, PERMIT_OPERANDS, PERMIT_POSITION,
-    RALTER_EXCLUDED, RALTER_OPERANDS, RDEFINE_EXCLUDED, RDEFINE_OPERANDS,
+    DATASET_POSITION, DELDSD_OPERANDS, PERMIT_EXCLUDED, PERMIT_NEEDED, PERMIT_OPERANDS,
+    PERMIT_POSITION, RALTER_EXCLUDED, RALTER_OPERANDS, RDEFINE_EXCLUDED, RDEFINE_OPERANDS,
 };
 use command_values::{ValueKind, Word};
 
@@ -69,6 +71,16 @@ pub struct Position {
 pub struct Operand {
     pub word: Word,
     pub kind: ValueKind,
+}
+
+/// Operands of which a command needs one: always, or where an operand that asks for it stands.
+#[derive(Clone, Copy, Debug, PartialEq, Eq)]
+pub struct Needed {
+    /// The operands that ask for it; `None` is always.
+    pub asked_by: Option<&'static [Word]>,
+    pub one_of: &'static [Word],
+    /// The word that a refusal names.
+    pub missing: Word,
 }
 
 /// The positional word of a command that names a user.
@@ -182,7 +194,7 @@ pub const CONNECT_EXCLUDED: [(Word, Word); 4] = [
 pub const REMOVE_OPERANDS: [Operand; 1] = [GROUP];
 
 impl Verb {
-    ghost use Rattle.command_grammar.specs.Table.{full_name, short_name, positions_of, operands_of, excluded_of};
+    ghost use Rattle.command_grammar.specs.Table.{full_name, short_name, positions_of, operands_of, excluded_of, needed_of};
 
     /// The command's full name.
     pub fn full_name(self) -> &'static [u8]
@@ -296,6 +308,16 @@ impl Verb {
             Verb::RAlter => &RALTER_EXCLUDED,
             Verb::RDelete => &[],
             Verb::Permit => &PERMIT_EXCLUDED,
+        }
+    }
+
+    /// The operands that the command needs, in the order in which they are judged.
+    pub fn needed(self) -> &'static [Needed]
+        ensures { map needed_row result.now ≡ needed_of self }
+    {
+        match self {
+            Verb::Permit => &PERMIT_NEEDED,
+            _ => &[],
         }
     }
 }

@@ -7,14 +7,14 @@ use Rattle.access_levels.specs.declared.levels.Level.TheVariants.{NoAccess, Exec
 use Rattle.access_levels.specs.Level.{level_name}
 use Rattle.racf_profiles.specs.declared.profiles.AuditRule.{AuditRule}
 use Rattle.command_words.specs.declared.quoting.Quoting.TheVariants.{Outside}
-use Rattle.command_words.specs.Tokens.{Word, within, group_end, tokens, tokens_from}
+use Rattle.command_words.specs.Tokens.{within, group_end, tokens, tokens_from}
 use Rattle.command_words.specs.ValuedWords.{ValuedWord, Valued, valued_words}
-use Rattle.command_words.proofs.Letters.{is_letter, Outside-steady}
-use Rattle.command_words.proofs.Spelled.{is_calm, word_token, group_token, group_end-calm, group_end-nested}
+use Rattle.command_words.proofs.Spelled.{is_calm, group_end-calm, group_end-nested}
 use Rattle.command_values.specs.declared.faults.Syntax.TheVariants as faults
 use Rattle.command_values.specs.declared.audits.AuditWord.{AuditWord}
 use Rattle.command_values.specs.declared.audits.AuditWord.TheVariants as audited
 use Rattle.command_values.specs.Results.{◌>>=◌, or_fault}
+use Rattle.command_values.proofs.WordItems.{valued_items}
 use Rattle.command_values.specs.Audits.{audit_word_name, so_far, with_word, is_audit_level, audit_level, with_level, audit_word, audit_more, audits, audit_rule, half_text, halves_text, audit_text, is_half, is_audit_rule}
 
 pub level_calm : (l : Level) → list_all is_calm (level_name l) ≡ true
@@ -24,14 +24,6 @@ level_calm Read = refl
 level_calm Update = refl
 level_calm Control = refl
 level_calm Alter = refl
-
--- a word and its level
-half_items : (tied : Bool) (p b : ℕ) (w rest : List ℕ) (l : Level) → list_all is_letter (b ∷ w) ≡ true
-    → valued_words (tokens_from Outside tied 0 p (b ∷ (w ++ (40 ∷ (level_name l ++ 41 ∷ rest))))) ≡ Valued p (b ∷ w) (within (p + length (b ∷ w)) (level_name l)) ∷ valued_words (tokens_from Outside false 0 (p + length (b ∷ w) + length (level_name l) + 2) rest)
-half_items tied p b w rest l letters =
-    ap valued_words (word_token Outside Outside-steady tied p b w (40 ∷ (level_name l ++ 41 ∷ rest)) letters refl
-    ∙ ap (λ ts. Word p (b ∷ w) ∷ ts) (group_token Outside true (p + length (b ∷ w)) (level_name l) rest
-    (group_end-calm (p + length (b ∷ w)) (suc (p + length (b ∷ w))) (level_name l) rest (level_calm l))))
 
 level-again : (p n : ℕ) (l : Level) → is_audit_level l ≡ true → audit_level p (valued_words (tokens (within n (level_name l)))) ≡ Ok l
 unfolding tokens
@@ -73,13 +65,13 @@ success_items : (tied : Bool) (p : ℕ) (l : Level) (rest : List ℕ)
     → valued_words (tokens_from Outside tied 0 p (half_text (audit_word_name audited.Success) l ++ rest)) ≡ Valued p (audit_word_name audited.Success) (within (p + 7) (level_name l)) ∷ valued_words (tokens_from Outside false 0 (p + 7 + length (level_name l) + 2) rest)
 success_items tied p l rest =
     ap (λ bs. valued_words (tokens_from Outside tied 0 p (audit_word_name audited.Success ++ (40 ∷ bs)))) (append_assoc (level_name l) (41 ∷ []) rest)
-    ∙ half_items tied p 83 (85 ∷ 67 ∷ 67 ∷ 69 ∷ 83 ∷ 83 ∷ []) rest l refl
+    ∙ valued_items tied p (audit_word_name audited.Success) (level_name l) rest tt refl (level_calm l)
 
 failures_items : (tied : Bool) (p : ℕ) (l : Level) (rest : List ℕ)
     → valued_words (tokens_from Outside tied 0 p (half_text (audit_word_name audited.Failures) l ++ rest)) ≡ Valued p (audit_word_name audited.Failures) (within (p + 8) (level_name l)) ∷ valued_words (tokens_from Outside false 0 (p + 8 + length (level_name l) + 2) rest)
 failures_items tied p l rest =
     ap (λ bs. valued_words (tokens_from Outside tied 0 p (audit_word_name audited.Failures ++ (40 ∷ bs)))) (append_assoc (level_name l) (41 ∷ []) rest)
-    ∙ half_items tied p 70 (65 ∷ 73 ∷ 76 ∷ 85 ∷ 82 ∷ 69 ∷ 83 ∷ []) rest l refl
+    ∙ valued_items tied p (audit_word_name audited.Failures) (level_name l) rest tt refl (level_calm l)
 
 alone : (text : List ℕ) → text ++ [] ≡ text → (tied : Bool) (p : ℕ) (is : List ValuedWord) → valued_words (tokens_from Outside tied 0 p (text ++ [])) ≡ is → valued_words (tokens_from Outside tied 0 p text) ≡ is
 alone text same tied p is h = ap (λ bs. valued_words (tokens_from Outside tied 0 p bs)) (sym same) ∙ h

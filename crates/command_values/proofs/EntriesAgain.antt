@@ -11,10 +11,10 @@ use Rattle.access_levels.specs.Level.{port_class_name}
 use Rattle.access_levels.specs.Spelling.{id_of, port_class_of}
 use Rattle.command_words.specs.declared.quoting.Quoting.TheVariants.{Ignored, Outside}
 use Rattle.command_words.specs.Bytes.{upper}
-use Rattle.command_words.specs.Tokens.{Word, within, group_end, tokens, tokens_from}
+use Rattle.command_words.specs.Tokens.{within, group_end, tokens}
 use Rattle.command_words.specs.ValuedWords.{Valued, valued_words, faulty_at}
 use Rattle.command_words.proofs.Letters.{is_letter, Outside-steady}
-use Rattle.command_words.proofs.Spelled.{is_calm, word_token, word_alone, group_token, group_end-calm, group_end-nested, calm-letters}
+use Rattle.command_words.proofs.Spelled.{is_calm, word_alone, group_end-nested, calm-letters}
 use Rattle.command_values.specs.declared.value_kinds.ValueKind.TheVariants as kinds
 use Rattle.command_values.specs.Results.{◌>>=◌}
 use Rattle.command_values.specs.WordsOfValues.{unless_stray}
@@ -22,6 +22,8 @@ use Rattle.command_values.specs.Entries.{more_whos_text, whos_text, port_name, p
 use Rattle.command_values.specs.Values.{name_of, more_text, ids_text}
 use Rattle.command_values.specs.LawfulValues.{AreNames, AreNamed, AreWhos}
 use Rattle.command_values.proofs.Names.{name-plain}
+use Rattle.command_values.proofs.Patterns.{IsSome}
+use Rattle.command_values.proofs.WordItems.{valued_items}
 
 -- the names of users and groups
 pub ids_of : List Who → List (List ℕ)
@@ -70,12 +72,17 @@ port_calm Console = refl
 port_calm Jesinput = refl
 port_calm Appcport = refl
 
-port_items : (q b : ℕ) (w inside : List ℕ) → list_all is_letter (b ∷ w) ≡ true → list_all is_calm inside ≡ true
-    → valued_words (tokens_from Outside false 0 (suc q) (b ∷ (w ++ (40 ∷ (inside ++ 41 ∷ []))))) ≡ Valued (suc q) (b ∷ w) (within (suc q + length (b ∷ w)) inside) ∷ []
-port_items q b w inside letters calm =
-    ap valued_words (word_token Outside Outside-steady false (suc q) b w (40 ∷ (inside ++ 41 ∷ [])) letters refl
-    ∙ ap (λ ts. Word (suc q) (b ∷ w) ∷ ts) (group_token Outside true (suc q + length (b ∷ w)) inside []
-    (group_end-calm (suc q + length (b ∷ w)) (suc (suc q + length (b ∷ w))) inside [] calm)))
+port_letters : (c : PortClass) → IsSome (port_class_name c) × (list_all is_letter (port_class_name c) ≡ true)
+port_letters Terminal = (tt, refl)
+port_letters Console = (tt, refl)
+port_letters Jesinput = (tt, refl)
+port_letters Appcport = (tt, refl)
+
+port_named : (c : PortClass) (p : ℕ) → (faulty_at Ignored p (port_class_name c) ≡ None) × (port_class_of (map upper (port_class_name c)) ≡ Some c)
+port_named Terminal p = (refl, refl)
+port_named Console p = (refl, refl)
+port_named Jesinput p = (refl, refl)
+port_named Appcport p = (refl, refl)
 
 port_name-again : (p n : ℕ) (x : List ℕ) → name_of kinds.Id x ≡ Some x → port_name p (valued_words (tokens (within n x))) ≡ Ok x
 unfolding tokens
@@ -91,23 +98,14 @@ port_one : (p q n : ℕ) (name : List ℕ) (c : PortClass) (x : List ℕ) → na
 port_one p q n name c x h sound class =
     rw (sound, class) (ap (λ r. (r >>= λ y. Ok (record { class = c; name = y })) >>= λ d. unless_stray None d) (port_name-again (suc q) n x h))
 
-port-again : (p q : ℕ) (c : PortClass) (x : List ℕ) → name_of kinds.Id x ≡ Some x → port p (valued_words (tokens (within q (port_text (record { class = c; name = x }))))) ≡ Ok (record { class = c; name = x })
-unfolding tokens
-port-again p q Terminal x h =
-    ap (port p) (port_items q 84 (69 ∷ 82 ∷ 77 ∷ 73 ∷ 78 ∷ 65 ∷ 76 ∷ []) x refl (calm-letters x (name-plain kinds.Id x x h).letters))
-    ∙ port_one p q (suc q + 8) (port_class_name Terminal) Terminal x h refl refl
-port-again p q Console x h =
-    ap (port p) (port_items q 67 (79 ∷ 78 ∷ 83 ∷ 79 ∷ 76 ∷ 69 ∷ []) x refl (calm-letters x (name-plain kinds.Id x x h).letters))
-    ∙ port_one p q (suc q + 7) (port_class_name Console) Console x h refl refl
-port-again p q Jesinput x h =
-    ap (port p) (port_items q 74 (69 ∷ 83 ∷ 73 ∷ 78 ∷ 80 ∷ 85 ∷ 84 ∷ []) x refl (calm-letters x (name-plain kinds.Id x x h).letters))
-    ∙ port_one p q (suc q + 8) (port_class_name Jesinput) Jesinput x h refl refl
-port-again p q Appcport x h =
-    ap (port p) (port_items q 65 (80 ∷ 80 ∷ 67 ∷ 80 ∷ 79 ∷ 82 ∷ 84 ∷ []) x refl (calm-letters x (name-plain kinds.Id x x h).letters))
-    ∙ port_one p q (suc q + 8) (port_class_name Appcport) Appcport x h refl refl
-
 pub port_again : (p q : ℕ) (c : Condition) → name_of kinds.Id c.name ≡ Some c.name → port p (valued_words (tokens (within q (port_text c)))) ≡ Ok c
-port_again p q c h = port-again p q c.class c.name h
+unfolding tokens
+port_again p q c h =
+    let name : List ℕ = port_class_name c.class in
+    let letters = port_letters c.class in
+    let named = port_named c.class (suc q) in
+    ap (port p) (valued_items false (suc q) name c.name [] letters.0 letters.1 (calm-letters c.name (name-plain kinds.Id c.name c.name h).letters))
+    ∙ port_one p q (suc q + length name) name c.class c.name h named.0 named.1
 
 pub port_ends : (outer p : ℕ) (c : Condition) (rest : List ℕ) → name_of kinds.Id c.name ≡ Some c.name → group_end outer Outside 0 p (port_text c ++ 41 ∷ rest) ≡ Ok (p + length (port_text c))
 port_ends outer p c rest h =

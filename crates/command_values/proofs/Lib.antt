@@ -1,10 +1,16 @@
 pub mod Names
 pub mod NameBytes
 pub mod Patterns
+pub mod WordItems
+pub mod ListEnds
+pub mod NamesLawful
+pub mod NamesAgain
+pub mod ClausePlaces
+pub mod LogOptionsLawful
+pub mod LogOptionsAgain
 pub mod AuditAgain
 pub mod EntriesAgain
 pub mod MemberParts
-pub mod WordItems
 pub mod MembersAgain
 pub mod ValueAgain
 pub mod Outcomes

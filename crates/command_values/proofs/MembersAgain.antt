@@ -1,5 +1,5 @@
 -- Members are read again from how they are written.
-use Rattle.std.proofs.Common.{◌≡◌, ℕ, zero, suc, ◌+◌, ◌<◌, List, [], ◌∷◌, ◌++◌, length, map, Bool, true, false, cond, not, ◌&&◌, ◌||◌, Option, None, Some, Ok, refl, sym, ap, subst, ◌∙◌, arith, add-zero, append_assoc, length-append}
+use Rattle.std.proofs.Common.{◌≡◌, ℕ, zero, suc, ◌+◌, ◌<◌, List, [], ◌∷◌, ◌++◌, length, map, Bool, true, false, cond, not, ◌&&◌, ◌||◌, Option, None, Some, Ok, refl, sym, ap, subst, ◌∙◌, arith, append_assoc}
 use Rattle.std.specs.Prelude.{◌==◌, nat_le, is_none, is_ok}
 use Rattle.std.specs.List.{list_all}
 use Rattle.std.specs.Result.{result_ok}
@@ -17,7 +17,7 @@ use Rattle.generic_names.specs.Spelled.{Spelled}
 use Rattle.generic_names.specs.Faults.{member_of}
 use Rattle.racf_profiles.specs.declared.profiles.Member.{Member}
 use Rattle.racf_profiles.specs.declared.profiles.Member.TheVariants as member
-use Rattle.command_words.specs.declared.quoting.Quoting.TheVariants.{Ignored, Outside, Met}
+use Rattle.command_words.specs.declared.quoting.Quoting.TheVariants.{Ignored, Outside}
 use Rattle.command_words.specs.Bytes.{is_faulty_byte, upper}
 use Rattle.command_words.specs.Tokens.{Word, within, group_end, tokens, tokens_from}
 use Rattle.command_words.specs.ValuedWords.{ValuedWord, Alone, valued_words, opens_value, faulty_at}
@@ -33,10 +33,7 @@ use Rattle.command_values.proofs.Names.{plain_name, all_of}
 use Rattle.command_values.proofs.Patterns.{IsSome, IsPlainText, is_sound_byte, sound-letters, sound-faultless, member-named-so, in-quotes}
 use Rattle.command_values.proofs.MemberParts.{parted-last}
 use Rattle.command_values.proofs.WordItems.{word_items}
-
--- what a word of a list is followed by
-abbrev pub IsBehind : List ℕ → Type 0
-IsBehind rest = (outer n o : ℕ) → group_end outer (Met o) 0 n rest ≡ group_end outer Outside 0 n rest
+use Rattle.command_values.proofs.ListEnds.{IsBehind, IsPassed, list_end, each-so}
 
 -- a word as a list has it
 pub record IsWordText (w : List ℕ) : Type 0 where
@@ -288,44 +285,18 @@ module _ {X : Type 0} (read : List ℕ → Option X) (text : X → List ℕ) whe
       ∙ list_step [] (suc q) x (valued_words (tokens_from Outside true 0 (suc q + length (text x)) (more_text (map text xs)))) h.0
       ∙ list_again (x ∷ []) true (suc q + length (text x)) xs h.1
 
-  list_behind : (xs : List X) (rest : List ℕ) → IsBehind (more_text (map text xs) ++ 41 ∷ rest)
-  list_behind [] rest = λ outer n o. refl
-  list_behind (x ∷ xs) rest = λ outer n o. refl
-
-  more_end : (outer p : ℕ) (xs : List X) (rest : List ℕ) → Each (IsGood read text) xs → group_end outer Outside 0 p (more_text (map text xs) ++ 41 ∷ rest) ≡ Ok (p + length (more_text (map text xs)))
-  more_end outer p [] rest h = ap Ok (sym (add-zero p))
-  more_end outer p (x ∷ xs) rest h =
-      let count : suc p + length (text x) + length (more_text (map text xs)) ≡ p + length (32 ∷ (text x ++ more_text (map text xs))) = omega (arith, length-append (text x) (more_text (map text xs))) in
-      ap (λ bs. group_end outer Outside 0 (suc p) bs) (append_assoc (text x) (more_text (map text xs)) (41 ∷ rest))
-      ∙ h.0.word.passes outer (suc p) (more_text (map text xs) ++ 41 ∷ rest) (list_behind xs rest)
-      ∙ more_end outer (suc p + length (text x)) xs rest h.1
-      ∙ ap Ok count
-
-  pub list_end : (outer p : ℕ) (xs : List X) (rest : List ℕ) → AreSome xs → Each (IsGood read text) xs → group_end outer Outside 0 p (ids_text (map text xs) ++ 41 ∷ rest) ≡ Ok (p + length (ids_text (map text xs)))
-  list_end outer p [] rest some h = absurd some
-  list_end outer p (x ∷ xs) rest some h =
-      let count : p + length (text x) + length (more_text (map text xs)) ≡ p + length (text x ++ more_text (map text xs)) = omega (arith, length-append (text x) (more_text (map text xs))) in
-      ap (λ bs. group_end outer Outside 0 p bs) (append_assoc (text x) (more_text (map text xs)) (41 ∷ rest))
-      ∙ h.0.word.passes outer p (more_text (map text xs) ++ 41 ∷ rest) (list_behind xs rest)
-      ∙ more_end outer (p + length (text x)) xs rest h.1
-      ∙ ap Ok count
-
-each-good : {X : Type 0} (P Q : X → Type 0) → ((x : X) → P x → Q x) → (xs : List X) → Each P xs → Each Q xs
-each-good P Q implies [] h = tt
-each-good P Q implies (x ∷ xs) h = (implies x h.0, each-good P Q implies xs h.1)
-
 pub added_again : (form : Option MemberForm) (p q : ℕ) (ms : List Member) → AreSome ms → AreMembers form ms → added form p (valued_words (tokens (within q (ids_text (map member_text ms))))) ≡ Ok ms
 added_again None p q ms some h = absurd h
-added_again (Some form) p q ms some h = some_again (member_in form) member_text p q ms some (each-good (IsMember form) (IsGood (member_in form) member_text) (member-good form) ms h)
+added_again (Some form) p q ms some h = some_again (member_in form) member_text p q ms some (each-so (IsMember form) (IsGood (member_in form) member_text) (member-good form) ms h)
 
 pub dropped_again : (form : Option MemberForm) (p q : ℕ) (ns : List Spelled) → AreSome ns → AreDropped form ns → dropped form p (valued_words (tokens (within q (ids_text (map profile_text ns))))) ≡ Ok ns
 dropped_again None p q ns some h = absurd h
-dropped_again (Some form) p q ns some h = some_again (dropped_in form) profile_text p q ns some (each-good (IsDropped form) (IsGood (dropped_in form) profile_text) (dropped-good form) ns h)
+dropped_again (Some form) p q ns some h = some_again (dropped_in form) profile_text p q ns some (each-so (IsDropped form) (IsGood (dropped_in form) profile_text) (dropped-good form) ns h)
 
 pub added_end : (form : Option MemberForm) (outer p : ℕ) (ms : List Member) (rest : List ℕ) → AreSome ms → AreMembers form ms → group_end outer Outside 0 p (ids_text (map member_text ms) ++ 41 ∷ rest) ≡ Ok (p + length (ids_text (map member_text ms)))
 added_end None outer p ms rest some h = absurd h
-added_end (Some form) outer p ms rest some h = list_end (member_in form) member_text outer p ms rest some (each-good (IsMember form) (IsGood (member_in form) member_text) (member-good form) ms h)
+added_end (Some form) outer p ms rest some h = list_end member_text outer p ms rest some (each-so (IsMember form) (IsPassed member_text) (λ m lawful. (member-good form m lawful).word.passes) ms h)
 
 pub dropped_end : (form : Option MemberForm) (outer p : ℕ) (ns : List Spelled) (rest : List ℕ) → AreSome ns → AreDropped form ns → group_end outer Outside 0 p (ids_text (map profile_text ns) ++ 41 ∷ rest) ≡ Ok (p + length (ids_text (map profile_text ns)))
 dropped_end None outer p ns rest some h = absurd h
-dropped_end (Some form) outer p ns rest some h = list_end (dropped_in form) profile_text outer p ns rest some (each-good (IsDropped form) (IsGood (dropped_in form) profile_text) (dropped-good form) ns h)
+dropped_end (Some form) outer p ns rest some h = list_end profile_text outer p ns rest some (each-so (IsDropped form) (IsPassed profile_text) (λ n lawful. (dropped-good form n lawful).word.passes) ns h)

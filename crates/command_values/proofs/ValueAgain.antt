@@ -3,7 +3,6 @@ use Rattle.std.proofs.Common.{◌≡◌, ℕ, suc, ◌+◌, List, [], ◌∷◌,
 use Rattle.std.specs.Prelude.{◌==◌, bytes_eq, codes}
 use Rattle.std.specs.List.{list_all}
 use Rattle.std.proofs.lemmas.List.{append-nil}
-use Rattle.std.proofs.lemmas.List.Folds.{list_all-append}
 use Rattle.std.proofs.lemmas.Bool.{eqb-true}
 use Rattle.std.proofs.lemmas.Slice.Eq.{bytes_eq-Decides}
 use Rattle.access_levels.specs.declared.entries.Who.{Who}
@@ -17,8 +16,8 @@ use Rattle.access_levels.specs.Spelling.{id_of}
 use Rattle.command_words.specs.declared.quoting.Quoting.TheVariants.{Ignored, Outside}
 use Rattle.command_words.specs.Quotes.{doubled}
 use Rattle.command_words.specs.Tokens.{within, group_end, tokens, tokens_from}
-use Rattle.command_words.specs.ValuedWords.{ValuedWord, Alone, valued_words, opens_value, faulty_at}
-use Rattle.command_words.proofs.Letters.{is_letter, Outside-steady, EndsWord}
+use Rattle.command_words.specs.ValuedWords.{ValuedWord, Alone, valued_words, faulty_at}
+use Rattle.command_words.proofs.Letters.{Outside-steady}
 use Rattle.command_words.proofs.Spelled.{is_calm, quoted, word_token, word_alone, quoted_token, group_end-calm, group_end-quoted, calm-letters}
 use Rattle.command_values.specs.declared.value_kinds.ValueKind.{ValueKind}
 use Rattle.command_values.specs.declared.value_kinds.ValueKind.TheVariants as kinds
@@ -32,6 +31,8 @@ use Rattle.command_values.specs.Values.{name_of, is_name, if_name, unquoted, nam
 use Rattle.command_values.specs.LawfulValues.{AreNames, IsNonEmpty, AreWhos, Fits, Suits}
 use Rattle.command_values.proofs.Names.{IsPlainName, name-plain}
 use Rattle.command_values.proofs.WordItems.{word_items}
+use Rattle.command_values.proofs.NamesAgain.{more_ends, no_empty, more_opens, names_step, names_again, some_names_again, ids_calm}
+use Rattle.command_values.proofs.LogOptionsAgain.{log_clauses_again, log_clauses_end}
 use Rattle.command_values.specs.Entries.{whos_text}
 use Rattle.command_values.specs.declared.values.Known.{Known}
 use Rattle.command_values.specs.Members.{member_form}
@@ -78,6 +79,10 @@ single_reset at p q resets.All = refl
 single_reset at p q resets.Standard = refl
 single_reset at p q resets.When = refl
 
+single_failures : (at : Scope) (p q : ℕ) → single at kinds.Failures p (valued_words (tokens (within q (codes "FAILURES")))) ≡ Ok contents.Failures
+unfolding tokens
+single_failures at p q = refl
+
 single_authority : (at : Scope) (p q : ℕ) (a : GroupAuthority) → single at kinds.Authority p (valued_words (tokens (within q (authority_name a)))) ≡ Ok (contents.Authority a)
 unfolding tokens
 single_authority at p q MayUse = refl
@@ -108,47 +113,8 @@ single_name at p q t h =
     let text : name_text (quoted t) ≡ Some t = name_text-quoted t h in
     ap (λ ts. single at kinds.Name p (valued_words ts)) (quoted_token false (suc q) t) ∙ rw text refl
 
--- names parted by blanks
-more_ends : (xs : List (List ℕ)) → EndsWord (more_text xs)
-more_ends [] = tt
-more_ends (x ∷ xs) = refl
-
-no_empty : (k : ValueKind) → name_of k [] ≡ Some [] → ⊥
-no_empty k h = let no : id_of [] ≡ Ok [] = (name-plain k [] [] h).spelled in cc
-
-more_opens : (k : ValueKind) (p : ℕ) (tied : Bool) (xs : List (List ℕ)) → AreNames k xs → opens_value (tokens_from Outside tied 0 p (more_text xs)) ≡ false
-more_opens k p tied [] h = refl
-more_opens k p tied ([] ∷ xs) h = absurd (no_empty k h.0)
-more_opens k p tied ((b ∷ w) ∷ xs) h =
-    ap opens_value (word_token Outside Outside-steady false (suc p) b w (more_text xs) (name-plain k (b ∷ w) (b ∷ w) h.0).letters (more_ends xs))
-
-names_step : (k : ValueKind) (front : List (List ℕ)) (tied : Bool) (p : ℕ) (x : List ℕ) (xs : List (List ℕ)) → name_of k x ≡ Some x → AreNames k xs
-    → names k front (valued_words (tokens_from Outside tied 0 p (x ++ more_text xs))) ≡ names k (front ++ x ∷ []) (valued_words (tokens_from Outside true 0 (p + length x) (more_text xs)))
-names_step k front tied p [] xs h hs = absurd (no_empty k h)
-names_step k front tied p (b ∷ w) xs h hs =
-    let plain = name-plain k (b ∷ w) (b ∷ w) h in
-    let sound : faulty_at Ignored p (b ∷ w) ≡ None = plain.sound p in
-    ap (λ ts. names k front (valued_words ts)) (word_token Outside Outside-steady tied p b w (more_text xs) plain.letters (more_ends xs))
-    ∙ ap (names k front) (word_items (tokens_from Outside true 0 (p + length (b ∷ w)) (more_text xs)) p (b ∷ w) (more_opens k (p + length (b ∷ w)) true xs hs))
-    ∙ rw (sound, h) refl
-
-names_again : (k : ValueKind) (front : List (List ℕ)) (tied : Bool) (p : ℕ) (xs : List (List ℕ)) → AreNames k xs
-    → names k front (valued_words (tokens_from Outside tied 0 p (more_text xs))) ≡ Ok (front ++ xs)
-names_again k front tied p [] h = ap Ok (sym (append-nil front))
-names_again k front tied p (x ∷ xs) h =
-    names_step k front false (suc p) x xs h.0 h.1 ∙ names_again k (front ++ x ∷ []) true (suc p + length x) xs h.1 ∙ ap Ok (append_assoc front (x ∷ []) xs)
-
--- the first item of a list is there
-several-some : (k : ValueKind) (p : ℕ) (is : List ValuedWord) (x : List ℕ) (xs : List (List ℕ)) → names k [] is ≡ Ok (x ∷ xs) → several k p is ≡ Ok (contents.Ids (x ∷ xs))
-several-some k p [] x xs h = cc
-several-some k p (i ∷ is) x xs h = rw h refl
-
 several_again : (k : ValueKind) (p q : ℕ) (xs : List (List ℕ)) → IsNonEmpty xs → AreNames k xs → several k p (valued_words (tokens (within q (ids_text xs)))) ≡ Ok (contents.Ids xs)
-unfolding tokens
-several_again k p q [] some h = absurd some
-several_again k p q (x ∷ xs) some h =
-    several-some k p (valued_words (tokens_from Outside false 0 (suc q) (x ++ more_text xs))) x xs
-    (names_step k [] false (suc q) x xs h.0 h.1 ∙ names_again k (x ∷ []) true (suc q + length x) xs h.1)
+several_again k p q xs some h = ap (λ r. r >>= λ xs. Ok (contents.Ids xs)) (some_names_again k p q xs some h)
 
 -- users and groups: a word that is no `*`, and the names with it
 not_star : (b : ℕ) (w : List ℕ) → id_of (b ∷ w) ≡ Ok (b ∷ w) → bytes_eq (b ∷ w) (codes "*") ≡ false
@@ -209,6 +175,8 @@ IsShown (contents.When c) = Unit {0}
 IsShown (contents.Members ms) = Unit {0}
 IsShown (contents.MemberNames ns) = Unit {0}
 IsShown (contents.Generic g) = Unit {0}
+IsShown contents.Failures = Unit {0}
+IsShown (contents.LogOptions cs) = Unit {0}
 
 pub value-again : (at : Scope) (k : ValueKind) (p q : ℕ) (v : Content) → Fits k v → IsShown v → Suits at.known k v → value at k p (valued_words (tokens (within q (text_of v)))) ≡ Ok v
 value-again at kinds.Flag p q contents.Flag h shown suits = absurd shown
@@ -229,19 +197,11 @@ value-again at kinds.Whos p q (contents.Whos ws) h shown suits = ap (λ r. r >>=
 value-again at kinds.When p q (contents.When c) h shown suits = ap (λ r. r >>= λ c. Ok (contents.When c)) (port_again p q c h)
 value-again at kinds.AddedMembers p q (contents.Members ms) h shown suits = ap (λ r. r >>= λ ms. Ok (contents.Members ms)) (added_again (member_form at.known.class at.known.profile) p q ms h suits)
 value-again at kinds.DroppedMembers p q (contents.MemberNames ns) h shown suits = ap (λ r. r >>= λ ns. Ok (contents.MemberNames ns)) (dropped_again (member_form at.known.class at.known.profile) p q ns h suits)
+value-again at kinds.Failures p q contents.Failures h shown suits = single_failures at p q
+value-again at kinds.LogOptions p q (contents.LogOptions cs) h shown suits = ap (λ r. r >>= λ cs. Ok (contents.LogOptions cs)) (log_clauses_again p q cs h)
 value-again at k p q v h shown suits = absurd h
 
 -- where the parenthesis of a value that was written closes
-more_calm : (k : ValueKind) (xs : List (List ℕ)) → AreNames k xs → list_all is_calm (more_text xs) ≡ true
-more_calm k [] h = refl
-more_calm k (x ∷ xs) h =
-    list_all-append is_calm x (more_text xs) ∙ rw (calm-letters x (name-plain k x x h.0).letters, more_calm k xs h.1) refl
-
-ids_calm : (k : ValueKind) (xs : List (List ℕ)) → AreNames k xs → list_all is_calm (ids_text xs) ≡ true
-ids_calm k [] h = refl
-ids_calm k (x ∷ xs) h =
-    list_all-append is_calm x (more_text xs) ∙ rw (calm-letters x (name-plain k x x h.0).letters, more_calm k xs h.1) refl
-
 authority_calm : (a : GroupAuthority) → list_all is_calm (authority_name a) ≡ true
 authority_calm MayUse = refl
 authority_calm MayCreate = refl
@@ -280,4 +240,6 @@ value-ends known kinds.Whos (contents.Whos ws) outer p rest h shown suits = whos
 value-ends known kinds.When (contents.When c) outer p rest h shown suits = port_ends outer p c rest h
 value-ends known kinds.AddedMembers (contents.Members ms) outer p rest h shown suits = added_end (member_form known.class known.profile) outer p ms rest h suits
 value-ends known kinds.DroppedMembers (contents.MemberNames ns) outer p rest h shown suits = dropped_end (member_form known.class known.profile) outer p ns rest h suits
+value-ends known kinds.Failures contents.Failures outer p rest h shown suits = group_end-calm outer p (codes "FAILURES") rest refl
+value-ends known kinds.LogOptions (contents.LogOptions cs) outer p rest h shown suits = log_clauses_end outer p cs rest h
 value-ends known k v outer p rest h shown suits = absurd h

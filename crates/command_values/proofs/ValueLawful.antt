@@ -1,5 +1,5 @@
 -- A value that is read fits its kind, and suits what stands in front.
-use Rattle.std.proofs.Common.{◌≡◌, ℕ, List, [], ◌∷◌, ◌++◌, map, Bool, true, false, cond, Option, None, Some, Ok, refl, ap, subst, ◌∙◌}
+use Rattle.std.proofs.Common.{◌≡◌, ℕ, List, [], ◌∷◌, map, Bool, true, false, cond, Option, None, Some, Ok, refl, ap, subst, ◌∙◌}
 use Rattle.std.specs.Prelude.{◌==◌, bytes_eq, codes}
 use Rattle.std.specs.Result.{result_ok}
 use Rattle.access_levels.specs.Spelling.{id_of, authority_of, level_of, port_class_of}
@@ -24,13 +24,15 @@ use Rattle.command_values.specs.ProfileNames.{dataset_profile, class_profile, da
 use Rattle.command_values.specs.Members.{member_form, added, dropped}
 use Rattle.command_values.specs.Entries.{port_name, port_of, port}
 use Rattle.command_values.specs.Audits.{audit_rule}
-use Rattle.command_values.specs.Values.{name_of, is_name, if_name, unquoted, name_text, reset_of, star_or, whos, one, quotes_of, single, names, several, value}
+use Rattle.command_values.specs.Values.{name_of, is_name, if_name, unquoted, name_text, reset_of, star_or, whos, one, quotes_of, single, names, some_names, several, failures_of, log_clauses, value}
 use Rattle.command_values.specs.LawfulValues.{AreNames, IsNonEmpty, Fits, AreNamed, AreWhos, Suits}
 use Rattle.command_values.proofs.Names.{name-again}
 use Rattle.command_values.proofs.Patterns.{dataset-named, class-named}
 use Rattle.command_values.proofs.Outcomes.{bind-ok, or_fault-ok, unless_stray-ok}
 use Rattle.command_values.proofs.AuditLawful.{audit-fits}
 use Rattle.command_values.proofs.MembersLawful.{added-fit, dropped-fit}
+use Rattle.command_values.proofs.NamesLawful.{some_names-fit}
+use Rattle.command_values.proofs.LogOptionsLawful.{log_clauses-fit}
 
 if_name-some : (o : Option (List ℕ)) (t : List ℕ) → if_name o ≡ Some t → is_name t ≡ true
 if_name-some None t h = cc
@@ -61,6 +63,13 @@ dataset-fits issuer w n h = text-fits (dataset_text issuer w) h
     text-fits : (o : Option (List ℕ)) → profile_of_text o ≡ Some n → dataset_profile n.text ≡ Some n
     text-fits None h = cc
     text-fits (Some t) h = ap dataset_profile (dataset-named t n h).text ∙ h
+
+failures-some : (w : List ℕ) (v : Content) → failures_of w ≡ Some v → contents.Failures ≡ v
+failures-some w v h = failures-one (bytes_eq w (codes "FAILURES")) h
+  where
+    failures-one : (c : Bool) → cond c (Some contents.Failures) None ≡ Some v → contents.Failures ≡ v
+    failures-one true h = cc
+    failures-one false h = cc
 
 pub one-fits : (at : Scope) (k : ValueKind) (p : ℕ) (w : List ℕ) (v : Content) → one at k p w ≡ Ok v → FitsHere at.known k v
 one-fits at kinds.Id p w v h =
@@ -100,6 +109,9 @@ one-fits at kinds.ClassProfile p w v h =
     let same : contents.Profile read.0 ≡ v = cc in
     let named = or_fault-ok (class_profile at.known.class (map upper w)) (faults.BadValue p) read.0 read.1 in
     along-here at.known kinds.ClassProfile (contents.Profile read.0) v same (tt, ap (class_profile at.known.class) (class-named at.known.class (map upper w) read.0 named).text ∙ named)
+one-fits at kinds.Failures p w v h =
+    along-here at.known kinds.Failures contents.Failures v (failures-some (map upper w) v (or_fault-ok (failures_of (map upper w)) (faults.BadValue p) v h)) (tt, tt)
+one-fits at kinds.LogOptions p w v h = cc
 one-fits at kinds.Flag p w v h = cc
 one-fits at kinds.Ids p w v h = cc
 one-fits at kinds.Classes p w v h = cc
@@ -117,34 +129,11 @@ single-fits at k p is v h =
     let read = bind-ok (one at k word.0.0 word.0.1) (λ v. unless_stray word.0.2 v) v word.2 in
     along-here at.known k read.0 v (unless_stray-ok word.0.2 read.0 v read.2) (one-fits at k word.0.0 word.0.1 read.0 read.1)
 
-AreNames-push : (k : ValueKind) (front : List (List ℕ)) (x : List ℕ) → AreNames k front → name_of k x ≡ Some x → AreNames k (front ++ x ∷ [])
-AreNames-push k [] x h one = (one, tt)
-AreNames-push k (y ∷ front) x h one = (h.0, AreNames-push k front x h.1 one)
-
-IsNonEmpty-push : (front : List (List ℕ)) (x : List ℕ) → IsNonEmpty (front ++ x ∷ [])
-IsNonEmpty-push [] x = tt
-IsNonEmpty-push (y ∷ front) x = tt
-
-names-fit : (k : ValueKind) (front : List (List ℕ)) (is : List ValuedWord) (xs : List (List ℕ)) → names k front is ≡ Ok xs → IsNonEmpty front → AreNames k front → IsNonEmpty xs × AreNames k xs
-names-fit k front [] xs h some are =
-    let same : front ≡ xs = cc in
-    subst (λ (ys : List (List ℕ)). IsNonEmpty ys × AreNames k ys) same (some, are)
-names-fit k front (i ∷ is) xs h some are =
-    let word = bind-ok (word_of Ignored i) (λ w. or_fault (name_of k w.1) (faults.BadValue w.0) >>= λ x. names k (front ++ x ∷ []) is) xs h in
-    let read = bind-ok (or_fault (name_of k word.0.1) (faults.BadValue word.0.0)) (λ x. names k (front ++ x ∷ []) is) xs word.2 in
-    let again = name-again k word.0.1 read.0 (or_fault-ok (name_of k word.0.1) (faults.BadValue word.0.0) read.0 read.1) in
-    names-fit k (front ++ read.0 ∷ []) is xs read.2 (IsNonEmpty-push front read.0) (AreNames-push k front read.0 are again)
-
--- a list has one name at least
 several-fits : (k : ValueKind) (p : ℕ) (is : List ValuedWord) (v : Content) → several k p is ≡ Ok v → (xs : List (List ℕ)) × (contents.Ids xs ≡ v) × IsNonEmpty xs × AreNames k xs
-several-fits k p [] v h = cc
-several-fits k p (i ∷ is) v h =
-    let list = bind-ok (names k [] (i ∷ is)) (λ xs. Ok (contents.Ids xs)) v h in
+several-fits k p is v h =
+    let list = bind-ok (some_names k p is) (λ xs. Ok (contents.Ids xs)) v h in
     let same : contents.Ids list.0 ≡ v = cc in
-    let word = bind-ok (word_of Ignored i) (λ w. or_fault (name_of k w.1) (faults.BadValue w.0) >>= λ x. names k (x ∷ []) is) list.0 list.1 in
-    let read = bind-ok (or_fault (name_of k word.0.1) (faults.BadValue word.0.0)) (λ x. names k (x ∷ []) is) list.0 word.2 in
-    let again = name-again k word.0.1 read.0 (or_fault-ok (name_of k word.0.1) (faults.BadValue word.0.0) read.0 read.1) in
-    let fit = names-fit k (read.0 ∷ []) is list.0 read.2 tt (again, tt) in
+    let fit = some_names-fit k p is list.0 list.1 in
     (list.0, same, fit.0, fit.1)
 
 -- users and groups, and a port of entry
@@ -160,11 +149,9 @@ star-fit : (c : Bool) (i : ValuedWord) (is : List ValuedWord) (ws : List Who) �
 star-fit true i is ws h = subst (λ (us : List Who). AreWhos us) (unless_stray-ok (stray Ignored is) (Star ∷ []) ws h) tt
 star-fit false i is ws h =
     let read = bind-ok (names kinds.Ids [] (i ∷ is)) (λ xs. Ok (map Named xs)) ws h in
-    let list = several-fits kinds.Ids 0 (i ∷ is) (contents.Ids read.0) (ap (λ r. r >>= λ xs. Ok (contents.Ids xs)) read.1) in
-    let whole : contents.Ids list.0 ≡ contents.Ids read.0 = list.1 in
-    let ids : list.0 ≡ read.0 = cc in
+    let fit = some_names-fit kinds.Ids 0 (i ∷ is) read.0 read.1 in
     let same : map Named read.0 ≡ ws = cc in
-    subst (λ (us : List Who). AreWhos us) (ap (map Named) ids ∙ same) (whos-of list.0 list.2 list.3)
+    subst (λ (us : List Who). AreWhos us) same (whos-of read.0 fit.0 fit.1)
 
 whos-fit : (p : ℕ) (is : List ValuedWord) (ws : List Who) → whos p is ≡ Ok ws → AreWhos ws
 whos-fit p [] ws h = cc
@@ -228,6 +215,11 @@ value-fits at kinds.Authority p is v h = single-fits at kinds.Authority p is v h
 value-fits at kinds.Name p is v h = single-fits at kinds.Name p is v h
 value-fits at kinds.Level p is v h = single-fits at kinds.Level p is v h
 value-fits at kinds.Reset p is v h = single-fits at kinds.Reset p is v h
+value-fits at kinds.Failures p is v h = single-fits at kinds.Failures p is v h
+value-fits at kinds.LogOptions p is v h =
+    let read = bind-ok (log_clauses p is) (λ cs. Ok (contents.LogOptions cs)) v h in
+    let same : contents.LogOptions read.0 ≡ v = cc in
+    along-here at.known kinds.LogOptions (contents.LogOptions read.0) v same (log_clauses-fit p is read.0 read.1, tt)
 value-fits at kinds.Flag p is v h = cc
 value-fits at kinds.DataSetProfile p is v h = cc
 value-fits at kinds.ClassProfile p is v h = cc

@@ -1,5 +1,5 @@
 -- Whose entries PERMIT means, and at which port of entry.
-use Rattle.std.specs.Prelude.{ℕ, List, [], ◌∷◌, ◌++◌, find, codes, bytes_eq, Option, Result, Ok, Err}
+use Rattle.std.specs.Prelude.{ℕ, List, [], ◌∷◌, ◌++◌, codes, Result, Ok, Err}
 use Rattle.access_levels.specs.declared.entries.Who.{Who}
 use Rattle.access_levels.specs.declared.entries.Who.TheVariants.{Star, Named}
 use Rattle.access_levels.specs.declared.entries.Condition.{Condition}

@@ -19,6 +19,8 @@ use Rattle.command_values.specs.ProfileNames.{dataset_profile, class_profile, an
 use Rattle.command_values.specs.Audits.{is_audit_rule}
 use Rattle.command_values.specs.Members.{member_form, if_number, id_name}
 use Rattle.command_values.specs.Values.{name_of, is_name}
+use Rattle.command_values.specs.declared.log_options.LogClause.{LogClause}
+use Rattle.command_values.specs.LogOptions.{is_in_order}
 
 -- names that are written as they are read
 abbrev pub AreNames : ValueKind → List (List ℕ) → Type 0
@@ -69,6 +71,13 @@ abbrev pub AreDropped : Option MemberForm → List Spelled → Type 0
 AreDropped None ns = ⊥
 AreDropped (Some form) ns = Each (IsDropped form) ns
 
+-- words of LOGOPTIONS in their order, each with one class or more
+abbrev pub IsClause : LogClause → Type 0
+IsClause clause = IsNonEmpty clause.classes × AreNames kinds.Ids clause.classes
+
+abbrev pub AreClauses : List LogClause → Type 0
+AreClauses cs = AreSome cs × (is_in_order cs ≡ true) × Each IsClause cs
+
 -- a value of its kind
 abbrev pub Fits : ValueKind → Content → Type 0
 Fits kinds.Flag contents.Flag = Unit {0}
@@ -89,6 +98,8 @@ Fits kinds.Whos (contents.Whos ws) = AreWhos ws
 Fits kinds.When (contents.When c) = name_of kinds.Id c.name ≡ Some c.name
 Fits kinds.AddedMembers (contents.Members ms) = AreSome ms
 Fits kinds.DroppedMembers (contents.MemberNames ns) = AreSome ns
+Fits kinds.Failures contents.Failures = Unit {0}
+Fits kinds.LogOptions (contents.LogOptions cs) = AreClauses cs
 Fits k v = ⊥
 
 -- A value that depends on the words in front: the name of a profile on its class, its members on both.

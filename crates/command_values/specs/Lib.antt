@@ -6,5 +6,6 @@ pub mod ProfileNames
 pub mod Audits
 pub mod Entries
 pub mod Members
+pub mod LogOptions
 pub mod Values
 pub mod LawfulValues

@@ -8,7 +8,8 @@ use Rattle.command_words.specs.declared.quoting.Quoting.{Quoting}
 use Rattle.command_words.specs.declared.quoting.Quoting.TheVariants.{Ignored, Outside}
 use Rattle.command_words.specs.Bytes.{upper}
 use Rattle.command_words.specs.Quotes.{doubled}
-use Rattle.command_words.specs.ValuedWords.{ValuedWord}
+use Rattle.command_words.specs.Tokens.{tokens}
+use Rattle.command_words.specs.ValuedWords.{ValuedWord, Alone, Valued, Unclosed, Parenthesis, valued_words}
 use Rattle.command_values.specs.declared.faults.Syntax.{Syntax}
 use Rattle.command_values.specs.declared.faults.Syntax.TheVariants as faults
 use Rattle.command_values.specs.declared.value_kinds.ValueKind.{ValueKind}
@@ -20,11 +21,14 @@ use Rattle.command_values.specs.declared.values.Reset.TheVariants as resets
 use Rattle.command_values.specs.declared.values.Scope.{Scope}
 use Rattle.command_values.specs.Results.{◌>>=◌, or_fault}
 use Rattle.command_values.specs.NamedWords.{id_named, group_named, level_named, authority_named}
-use Rattle.command_values.specs.WordsOfValues.{word_of, stray, held, unless_stray}
+use Rattle.command_values.specs.WordsOfValues.{clean, refused_at, word_of, stray, held, unless_stray}
 use Rattle.command_values.specs.ProfileNames.{dataset_named, class_profile, profile_text}
 use Rattle.command_values.specs.Audits.{audit_rule, audit_text}
 use Rattle.command_values.specs.Members.{member_form, added, dropped, member_text}
 use Rattle.command_values.specs.Entries.{whos_text, port, port_text}
+use Rattle.command_values.specs.declared.log_options.LogClause.{LogClause}
+use Rattle.command_values.specs.LogOptions.{log_option_name, log_option_of, unless_given, put_clause}
+use Rattle.racf_profiles.specs.declared.class_rows.LogOption.{LogOption}
 use Rattle.access_levels.specs.declared.entries.Who.{Who}
 use Rattle.access_levels.specs.declared.entries.Who.TheVariants.{Star, Named}
 
@@ -76,6 +80,10 @@ all_resets = resets.All ∷ resets.Standard ∷ resets.When ∷ []
 abbrev pub reset_of : List ℕ → Option Reset
 reset_of w = find (λ r. bytes_eq w (reset_name r)) all_resets
 
+-- PROTECTALL and MLS hold FAILURES, the only word that fits.
+abbrev pub failures_of : List ℕ → Option Content
+failures_of w = if bytes_eq w (codes "FAILURES") then Some contents.Failures else None
+
 -- the value that the word at place p is
 abbrev pub one : Scope → ValueKind → ℕ → List ℕ → Result Content Syntax
 one at kinds.Id p w = or_fault (name_of kinds.Id w) (faults.BadValue p) >>= λ x. Ok (contents.Id x)
@@ -87,6 +95,7 @@ one at kinds.Level p w = or_fault (level_named w) (faults.BadValue p) >>= λ l. 
 one at kinds.DataSetProfile p w = or_fault (dataset_named at.issuer w) (faults.BadValue p) >>= λ n. Ok (contents.Profile n)
 one at kinds.ClassProfile p w = or_fault (class_profile at.known.class (map upper w)) (faults.BadValue p) >>= λ n. Ok (contents.Profile n)
 one at kinds.Reset p w = or_fault (reset_of (map upper w)) (faults.BadValue p) >>= λ r. Ok (contents.Reset r)
+one at kinds.Failures p w = or_fault (failures_of (map upper w)) (faults.BadValue p)
 one at k p w = Err (faults.BadValue p)
 
 -- In the quotes of a user's name any byte may stand, and the name as a whole is judged.
@@ -104,9 +113,12 @@ names k front [] = Ok front
 names k front (i ∷ is) = word_of Ignored i >>= λ w. or_fault (name_of k w.1) (faults.BadValue w.0) >>= λ x. names k (front ++ x ∷ []) is
 
 -- a list of one name or more
+abbrev pub some_names : ValueKind → ℕ → List ValuedWord → Result (List (List ℕ)) Syntax
+some_names k p [] = Err (faults.BadValue p)
+some_names k p (i ∷ is) = names k [] (i ∷ is)
+
 abbrev pub several : ValueKind → ℕ → List ValuedWord → Result Content Syntax
-several k p [] = Err (faults.BadValue p)
-several k p (i ∷ is) = names k [] (i ∷ is) >>= λ xs. Ok (contents.Ids xs)
+several k p is = some_names k p is >>= λ xs. Ok (contents.Ids xs)
 
 -- Users and groups; `*` stands alone.
 abbrev pub star_or : Bool → ValuedWord → List ValuedWord → Result (List Who) Syntax
@@ -116,6 +128,26 @@ star_or false i is = names kinds.Ids [] (i ∷ is) >>= λ xs. Ok (map Named xs)
 abbrev pub whos : ℕ → List ValuedWord → Result (List Who) Syntax
 whos p [] = Err (faults.BadValue p)
 whos p (i ∷ is) = word_of Ignored i >>= λ w. star_or (bytes_eq w.1 (codes "*")) i is
+
+-- LOGOPTIONS: the word at place p, where it wasn't given before
+abbrev pub log_option_at : List LogClause → ℕ → List ℕ → Result LogOption Syntax
+log_option_at clauses p w = clean Ignored p w >>= λ w. or_fault (unless_given clauses (log_option_of (map upper w))) (faults.BadValue p)
+
+-- a word with one class or more in its parentheses, behind those of `clauses`
+abbrev pub clause_at : List LogClause → ValuedWord → Result LogClause Syntax
+clause_at clauses (Valued p w t) = log_option_at clauses p w >>= λ option. some_names kinds.Ids p (valued_words (tokens t)) >>= λ xs. Ok (record { option = option; classes = xs })
+clause_at clauses (Alone p w) = Err (faults.BadValue (refused_at Ignored (Alone p w)))
+clause_at clauses (Unclosed p w place) = Err (faults.BadValue (refused_at Ignored (Unclosed p w place)))
+clause_at clauses (Parenthesis p) = Err (faults.BadValue p)
+
+abbrev pub clauses_from : List LogClause → List ValuedWord → Result (List LogClause) Syntax
+clauses_from clauses [] = Ok clauses
+clauses_from clauses (i ∷ is) = clause_at clauses i >>= λ clause. clauses_from (put_clause clause clauses) is
+
+-- one of them or more
+abbrev pub log_clauses : ℕ → List ValuedWord → Result (List LogClause) Syntax
+log_clauses p [] = Err (faults.BadValue p)
+log_clauses p (i ∷ is) = clauses_from [] (i ∷ is)
 
 -- The value that stands in the parentheses behind an operand at place p.
 abbrev pub value : Scope → ValueKind → ℕ → List ValuedWord → Result Content Syntax
@@ -133,6 +165,8 @@ value at kinds.Whos p is = whos p is >>= λ ws. Ok (contents.Whos ws)
 value at kinds.When p is = port p is >>= λ c. Ok (contents.When c)
 value at kinds.AddedMembers p is = added (member_form at.known.class at.known.profile) p is >>= λ ms. Ok (contents.Members ms)
 value at kinds.DroppedMembers p is = dropped (member_form at.known.class at.known.profile) p is >>= λ ns. Ok (contents.MemberNames ns)
+value at kinds.Failures p is = single at kinds.Failures p is
+value at kinds.LogOptions p is = log_clauses p is >>= λ cs. Ok (contents.LogOptions cs)
 value at k p is = Err (faults.BadValue p)
 
 -- GENERIC stands with a generic name alone; where the name isn't known yet it is judged later, at its place.
@@ -140,11 +174,13 @@ abbrev pub generic_at : Option Spelled → ℕ → Result Content Syntax
 generic_at None p = Ok (contents.Generic p)
 generic_at (Some n) p = if is_generic n then Ok (contents.Generic p) else Err (faults.BadValue p)
 
--- An operand alone stands for itself where it takes no value, RESET for RESET(ALL); else its value lacks.
+-- An operand alone stands for itself where it takes no value, RESET for RESET(ALL), PROTECTALL and MLS for theirs with
+-- FAILURES; else its value lacks.
 abbrev pub bare : Scope → ValueKind → ℕ → Result Content Syntax
 bare at kinds.Flag p = Ok contents.Flag
 bare at kinds.Reset p = Ok (contents.Reset resets.All)
 bare at kinds.Generic p = generic_at at.known.profile p
+bare at kinds.Failures p = Ok contents.Failures
 bare at k p = Err (faults.BadValue p)
 
 -- names parted by one blank: the first, and those behind it
@@ -155,6 +191,10 @@ more_text (x ∷ xs) = 32 ∷ (x ++ more_text xs)
 abbrev pub ids_text : List (List ℕ) → List ℕ
 ids_text [] = []
 ids_text (x ∷ xs) = x ++ more_text xs
+
+-- a word of LOGOPTIONS with its classes
+abbrev pub clause_text : LogClause → List ℕ
+clause_text clause = log_option_name clause.option ++ (40 ∷ (ids_text clause.classes ++ 41 ∷ []))
 
 -- how a value is written
 abbrev pub text_of : Content → List ℕ
@@ -172,3 +212,5 @@ text_of (contents.When c) = port_text c
 text_of (contents.Members ms) = ids_text (map member_text ms)
 text_of (contents.MemberNames ns) = ids_text (map profile_text ns)
 text_of (contents.Generic p) = []
+text_of contents.Failures = codes "FAILURES"
+text_of (contents.LogOptions cs) = ids_text (map clause_text cs)

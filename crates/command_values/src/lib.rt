@@ -15,6 +15,7 @@
 mod audits;
 mod entries;
 mod faults;
+mod log_options;
 mod members;
 mod named_words;
 mod operand_words;
@@ -26,6 +27,7 @@ mod value_words;
 mod values;
 
 pub use faults::{ParseFault, Syntax};
+pub use log_options::{LogClause, LogClauses};
 pub use named_words::{group_named, id_named, level_named, port_class_named};
 pub use operand_words::{Word, is_same};
 pub use profile_names::{any_named, is_unclosed};

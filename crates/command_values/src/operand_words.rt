@@ -75,7 +75,7 @@ pub enum Word {
     Audit,
     /// GLOBALAUDIT, which accesses are logged on an auditor's demand.
     Globalaudit,
-    /// GENERIC says that the profile is generic.
+    /// GENERIC says that the profile is generic; in SETROPTS, the classes whose generic profiles are meant.
     Generic,
     /// ADDMEM, members that are added.
     Addmem,
@@ -91,10 +91,38 @@ pub enum Word {
     Delete,
     /// WHEN, the port of entry at which entries count.
     When,
+    /// CLASSACT, classes that are used in decisions from now on.
+    Classact,
+    /// NOCLASSACT, classes that are no longer used.
+    Noclassact,
+    /// GRPLIST lets all groups of a user count.
+    Grplist,
+    /// NOGRPLIST lets his current group count alone.
+    Nogrplist,
+    /// PROTECTALL refuses data sets that no profile covers.
+    Protectall,
+    /// NOPROTECTALL takes that back.
+    Noprotectall,
+    /// MLS keeps users from writing down from a security label to a lower one.
+    Mls,
+    /// NOMLS takes that back.
+    Nomls,
+    /// RACLIST, classes that decisions read from a copy of their profiles.
+    Raclist,
+    /// NORACLIST, classes whose copy is dropped.
+    Noraclist,
+    /// GLOBAL, classes for which the global access table is asked.
+    Global,
+    /// NOGLOBAL, classes for which it is no longer asked.
+    Noglobal,
+    /// REFRESH makes anew what RACLIST, GLOBAL and GENERIC name.
+    Refresh,
+    /// LOGOPTIONS, what is logged of accesses to a class.
+    Logoptions,
 }
 
 /// The words in full, in the order of the variants.
-const SPELLINGS: [&[u8]; 42] = [
+const SPELLINGS: [&[u8]; 56] = [
     b"USER",
     b"GROUP",
     b"NAME",
@@ -137,6 +165,20 @@ const SPELLINGS: [&[u8]; 42] = [
     b"ACCESS",
     b"DELETE",
     b"WHEN",
+    b"CLASSACT",
+    b"NOCLASSACT",
+    b"GRPLIST",
+    b"NOGRPLIST",
+    b"PROTECTALL",
+    b"NOPROTECTALL",
+    b"MLS",
+    b"NOMLS",
+    b"RACLIST",
+    b"NORACLIST",
+    b"GLOBAL",
+    b"NOGLOBAL",
+    b"REFRESH",
+    b"LOGOPTIONS",
 ];
 
 impl Word {
@@ -150,9 +192,9 @@ impl Word {
     }
 }
 
-/// Whether two words are one.
+/// Whether two words are one: they are spelled alike.
 pub fn is_same(one: Word, other: Word) -> bool
     ensures { result ≡ same_word one other }
 {
-    one == other
+    one.spelling() == other.spelling()
 }

@@ -41,4 +41,8 @@ pub enum ValueKind {
     DroppedMembers,
     /// No value, and a generic name as the profile's. It leaves no trace in the command.
     Generic,
+    /// FAILURES, which is meant too where no value is given.
+    Failures,
+    /// Words of LOGOPTIONS, each with one class or more, whether or not the table has it.
+    LogOptions,
 }

@@ -6,8 +6,9 @@ ghost use Rattle.command_values.specs.ProfileNames.{profile_text};
 ghost use Rattle.command_values.specs.Audits.{half_text, audit_text};
 ghost use Rattle.command_values.specs.Members.{number_text, member_text};
 ghost use Rattle.command_values.specs.Entries.{who_text, whos_text, port_text};
-ghost use Rattle.command_values.specs.Values.{ids_text, text_of};
+ghost use Rattle.command_values.specs.Values.{ids_text, clause_text, text_of};
 
+use crate::log_options::{LogClause, log_option_name};
 use crate::values::Content;
 use access_levels::{Condition, Id, Level, Text, Who};
 use generic_names::{MemberName, NameKind, Pattern};
@@ -211,6 +212,32 @@ fn push_member_names(out: &mut Vec<u8>, names: &[MemberName]) -> Result<(), Allo
     Ok(())
 }
 
+/// Writes a word of LOGOPTIONS with its classes.
+fn push_clause(out: &mut Vec<u8>, clause: &LogClause) -> Result<(), AllocError>
+    ensures { OnOk result (out.new.items ≡ out.old.items ++ clause_text clause.now) }
+{
+    out.extend_from_slice(log_option_name(clause.option))?;
+    out.push(b'(')?;
+    push_ids(out, &clause.classes.items)?;
+    out.push(b')')?;
+    Ok(())
+}
+
+/// Words of LOGOPTIONS parted by one blank.
+fn push_clauses(out: &mut Vec<u8>, clauses: &[LogClause]) -> Result<(), AllocError>
+    ensures { OnOk result (out.new.items ≡ out.old.items ++ ids_text (map clause_text clauses.now)) }
+{
+    let Some((first, rest)) = clauses.split_first() else {
+        return Ok(());
+    };
+    push_clause(out, first)?;
+    for clause in rest {
+        out.push(b' ')?;
+        push_clause(out, clause)?;
+    }
+    Ok(())
+}
+
 /// Writes a value, without the parentheses of an operand.
 pub fn push_content(out: &mut Vec<u8>, content: &Content) -> Result<(), AllocError>
     ensures { OnOk result (out.new.items ≡ out.old.items ++ text_of content.now) }
@@ -230,5 +257,7 @@ pub fn push_content(out: &mut Vec<u8>, content: &Content) -> Result<(), AllocErr
         Content::Members(members) => push_members(out, &members.items),
         Content::MemberNames(names) => push_member_names(out, &names.items),
         Content::Generic(_) => Ok(()),
+        Content::Failures => out.extend_from_slice(b"FAILURES"),
+        Content::LogOptions(clauses) => push_clauses(out, &clauses.items),
     }
 }

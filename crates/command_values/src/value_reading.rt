@@ -8,11 +8,12 @@ ghost use Rattle.command_words.specs.Tokens.{tokens};
 ghost use Rattle.command_words.specs.ValuedWords.{valued_words};
 ghost use Rattle.command_values.specs.Results.{Gives, Finds};
 ghost use Rattle.command_values.specs.NamedWords.{id_named as id_in};
-ghost use Rattle.command_values.specs.Values.{unless_dataset, name_of as name_in, name_text, is_name as names_user, is_printable, unquoted as text_between, reset_of, one as one_of, quotes_of as quoting_of, single as single_of, names as names_of, several as several_of, value as value_of, generic_at as generic_in, bare as bare_of};
+ghost use Rattle.command_values.specs.Values.{unless_dataset, name_of as name_in, name_text, is_name as names_user, is_printable, unquoted as text_between, reset_of, failures_of, one as one_of, quotes_of as quoting_of, single as single_of, names as names_of, some_names as some_names_of, several as several_of, value as value_of, generic_at as generic_in, bare as bare_of};
 
 use crate::audits::audit_rule;
 use crate::entries::{port, whos};
 use crate::faults::{ParseFault, Syntax};
+use crate::log_options::log_clauses;
 use crate::members::{added, dropped, member_form};
 use crate::named_words::{authority_named, group_named, id_named, level_named};
 use crate::profile_names::{class_profile, dataset_named};
@@ -77,6 +78,7 @@ pub fn bare(at: &Scope, kind: ValueKind, place: u32) -> Result<Content, Syntax>
     match kind {
         ValueKind::Flag => Ok(Content::Flag),
         ValueKind::Reset => Ok(Content::Reset(Reset::All)),
+        ValueKind::Failures => Ok(Content::Failures),
         ValueKind::Generic => generic_at(at.known.profile, place),
         _ => Err(Syntax::BadValue(place)),
     }
@@ -155,6 +157,17 @@ fn reset_named(word: &[u8]) -> Option<Reset>
         .find(|reset| is_spelled(word, reset.name()))
 }
 
+/// FAILURES, where a word spells it.
+fn failures_named(word: &[u8]) -> Option<Content>
+    ensures { result ≡ failures_of (map upper word.now) }
+{
+    if is_spelled(word, b"FAILURES") {
+        Some(Content::Failures)
+    } else {
+        None
+    }
+}
+
 /// The value that a word is.
 pub fn one(
     alloc: Global,
@@ -180,6 +193,7 @@ pub fn one(
             Ok(Content::Profile(class_profile(alloc, at.known.class, word)?.ok_or(bad)?))
         }
         ValueKind::Reset => Ok(Content::Reset(reset_named(word).ok_or(bad)?)),
+        ValueKind::Failures => Ok(failures_named(word).ok_or(bad)?),
         _ => Err(ParseFault::Syntax(bad)),
     }
 }
@@ -215,6 +229,21 @@ pub fn names(alloc: Global, kind: ValueKind, inner: Tokens<'_>) -> Result<Ids, P
 }
 
 /// A list of one name or more. Where there is none it is refused at `place`.
+pub fn some_names(
+    alloc: Global,
+    kind: ValueKind,
+    place: u32,
+    inner: Tokens<'_>,
+) -> Result<Ids, ParseFault>
+    ensures { Gives (λ xs. xs) result (some_names_of kind place (valued_words (tokens inner.entry))) }
+{
+    if inner.split_valued().is_none() {
+        return Err(ParseFault::Syntax(Syntax::BadValue(place)));
+    }
+    names(alloc, kind, inner)
+}
+
+/// The same as a value.
 fn several(
     alloc: Global,
     kind: ValueKind,
@@ -223,10 +252,7 @@ fn several(
 ) -> Result<Content, ParseFault>
     ensures { Gives (λ v. v) result (several_of kind place (valued_words (tokens inner.entry))) }
 {
-    if inner.split_valued().is_none() {
-        return Err(ParseFault::Syntax(Syntax::BadValue(place)));
-    }
-    Ok(Content::Ids(names(alloc, kind, inner)?))
+    Ok(Content::Ids(some_names(alloc, kind, place, inner)?))
 }
 
 /// The value in the parentheses behind an operand at `place`.
@@ -260,6 +286,8 @@ pub fn value(
             let form = member_form(&at.known);
             Ok(Content::MemberNames(dropped(alloc, form, place, inner)?))
         }
+        ValueKind::Failures => single(alloc, at, kind, place, inner),
+        ValueKind::LogOptions => Ok(Content::LogOptions(log_clauses(alloc, place, inner)?)),
         _ => Err(ParseFault::Syntax(Syntax::BadValue(place))),
     }
 }

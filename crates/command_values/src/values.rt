@@ -1,5 +1,6 @@
 //! The values of positional words and operands.
 
+use crate::log_options::LogClauses;
 use access_levels::{Condition, GroupAuthority, Id, Level, Text, Who};
 use generic_names::{MemberName, Pattern};
 use racf_profiles::{AuditRule, Members};
@@ -109,6 +110,10 @@ pub enum Content {
     MemberNames(MemberNames),
     /// GENERIC, at its place. No command that was read has it.
     Generic(u32),
+    /// FAILURES.
+    Failures,
+    /// What is logged of accesses to classes.
+    LogOptions(LogClauses),
 }
 
 /// What the reading of a command depends on beside its text.

@@ -91,6 +91,7 @@ completed-fits known verbs.Remove ss h = none-fits known (operands_of verbs.Remo
 completed-fits known verbs.RDefine ss h = none-fits known (operands_of verbs.RDefine) ss h refl
 completed-fits known verbs.RAlter ss h = none-fits known (operands_of verbs.RAlter) ss h refl
 completed-fits known verbs.RDelete ss h = none-fits known (operands_of verbs.RDelete) ss h refl
+completed-fits known verbs.SetRopts ss h = none-fits known (operands_of verbs.SetRopts) ss h refl
 completed-fits known verbs.AddSd ss h = cleared-fits known (operands_of verbs.AddSd) ss 8 h refl
 completed-fits known verbs.AltSd ss h = cleared-fits known (operands_of verbs.AltSd) ss 12 h refl
 completed-fits known verbs.DelSd ss h = cleared-fits known (operands_of verbs.DelSd) ss 0 h refl
@@ -170,6 +171,7 @@ settled-slots known verbs.DelSd ss h = record { again = cleared-again (generic_p
 settled-slots known verbs.RDefine ss h = record { again = cleared-again (generic_place (operands_of verbs.RDefine)) ss; lacks = refl; class = refl }
 settled-slots known verbs.RAlter ss h = record { again = cleared-again (generic_place (operands_of verbs.RAlter)) ss; lacks = refl; class = refl }
 settled-slots known verbs.RDelete ss h = record { again = cleared-again (generic_place (operands_of verbs.RDelete)) ss; lacks = refl; class = refl }
+settled-slots known verbs.SetRopts ss h = record { again = cleared-again (generic_place (operands_of verbs.SetRopts)) ss; lacks = refl; class = refl }
 settled-slots known verbs.Permit ss h =
     let seven = seven-slots known ss h in
     subst (λ (xs : Slots). IsSettled verbs.Permit xs) (sym seven.are) (settled-permit seven.s0 seven.s1 seven.s2 seven.s3 seven.s4 seven.s5 seven.s6)

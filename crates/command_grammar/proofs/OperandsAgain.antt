@@ -62,6 +62,8 @@ value-then_ends (contents.When c) rest h = refl
 value-then_ends (contents.Members ms) rest h = refl
 value-then_ends (contents.MemberNames ns) rest h = refl
 value-then_ends (contents.Generic g) rest h = refl
+value-then_ends contents.Failures rest h = refl
+value-then_ends (contents.LogOptions cs) rest h = refl
 
 pub operands-apart : (os : List Operand) (ss : Slots) → IsApart (operands_text os ss)
 operands-apart [] [] = nil-apart
@@ -100,6 +102,8 @@ bare-again at kinds.When p h = absurd h
 bare-again at kinds.AddedMembers p h = absurd h
 bare-again at kinds.DroppedMembers p h = absurd h
 bare-again at kinds.Generic p h = absurd h
+bare-again at kinds.Failures p h = absurd h
+bare-again at kinds.LogOptions p h = absurd h
 
 -- what an operand's text is read as: an item, and the text behind it
 pub record IsReadAs (known : Known) (o : Operand) (v : Content) (rest : List ℕ) (tied : Bool) (p : ℕ) : Type 0 where
@@ -165,6 +169,8 @@ no-profile kinds.When n other h = h
 no-profile kinds.AddedMembers n other h = h
 no-profile kinds.DroppedMembers n other h = h
 no-profile kinds.Generic n other h = h
+no-profile kinds.Failures n other h = h
+no-profile kinds.LogOptions n other h = h
 
 operand-read : (known : Known) (o : Operand) (v : Content) (rest : List ℕ) (tied : Bool) (p : ℕ) → not (is_profile_kind o.kind) ≡ true → Fits o.kind v → Suits known o.kind v → IsApart rest → IsReadAs known o v rest tied p
 operand-read known o contents.Flag rest tied p other h suits apart = flag-read known o rest tied p h apart
@@ -181,6 +187,8 @@ operand-read known o (contents.When c) rest tied p other h suits apart = valued-
 operand-read known o (contents.Members ms) rest tied p other h suits apart = valued-read known o (contents.Members ms) rest tied p h suits tt refl
 operand-read known o (contents.MemberNames ns) rest tied p other h suits apart = valued-read known o (contents.MemberNames ns) rest tied p h suits tt refl
 operand-read known o (contents.Generic g) rest tied p other h suits apart = valued-read known o (contents.Generic g) rest tied p h suits tt refl
+operand-read known o contents.Failures rest tied p other h suits apart = valued-read known o contents.Failures rest tied p h suits tt refl
+operand-read known o (contents.LogOptions cs) rest tied p other h suits apart = valued-read known o (contents.LogOptions cs) rest tied p h suits tt refl
 
 -- The rows from os on: what stands before them was read, and their slots are empty.
 operands_again : (at : Scope) (rows pre os : List Operand) (front ss : Slots) (k : ℕ) (tied : Bool) (p : ℕ) → rows ≡ pre ++ os → length pre ≡ k → length front ≡ k → AreFound rows k os → FitsAll os ss → SuitsAll at.known os ss

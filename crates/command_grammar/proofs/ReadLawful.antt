@@ -164,6 +164,7 @@ body-lawful at verbs.DelSd ts g h = plain-lawful at verbs.DelSd ts g refl h
 body-lawful at verbs.RDefine ts g h = plain-lawful at verbs.RDefine ts g refl h
 body-lawful at verbs.RAlter ts g h = plain-lawful at verbs.RAlter ts g refl h
 body-lawful at verbs.RDelete ts g h = plain-lawful at verbs.RDelete ts g refl h
+body-lawful at verbs.SetRopts ts g h = plain-lawful at verbs.SetRopts ts g refl h
 body-lawful at verbs.Permit ts g h = late-lawful at ts g h
 
 command-lawful : (at : Context) (ts us : List Token) (g : Generic) → command_at at ts us ≡ Ok g → IsLawful g

@@ -17,7 +17,8 @@ use Rattle.command_values.specs.declared.values.Content.TheVariants as contents
 abbrev pub commands : List Verb
 commands =
     verbs.AddUser ∷ verbs.AltUser ∷ verbs.DelUser ∷ verbs.AddGroup ∷ verbs.AltGroup ∷ verbs.DelGroup ∷ verbs.Connect ∷ verbs.Remove
-    ∷ verbs.AddSd ∷ verbs.AltSd ∷ verbs.DelSd ∷ verbs.RDefine ∷ verbs.RAlter ∷ verbs.RDelete ∷ verbs.Permit ∷ []
+    ∷ verbs.AddSd ∷ verbs.AltSd ∷ verbs.DelSd ∷ verbs.RDefine ∷ verbs.RAlter ∷ verbs.RDelete ∷ verbs.Permit
+    ∷ verbs.SetRopts ∷ []
 
 -- An operand of a command, and the value that it has where it isn't given, if there is one.
 pub record OperandRow : Type 0 where
@@ -73,8 +74,8 @@ pub record CommandRow : Type 0 where
   pub excluded : List (Word × Word)
   pub needed : List Needed
 
--- The table. RESET alone is RESET(ALL), and a word of AUDIT or GLOBALAUDIT without a level has READ; ACCESS has its
--- default where ID stands without DELETE.
+-- The table. RESET alone is RESET(ALL), PROTECTALL and MLS alone are theirs with FAILURES, and a word of AUDIT or
+-- GLOBALAUDIT without a level has READ; ACCESS has its default where ID stands without DELETE.
 abbrev pub row_of : Verb → CommandRow
 row_of verbs.AddUser = record {
   name = codes "ADDUSER";
@@ -249,4 +250,23 @@ row_of verbs.Permit = record {
   needed =
       record { asked_by = None; one_of = words.Id ∷ words.Reset ∷ []; missing = words.Id }
       ∷ record { asked_by = Some (words.Access ∷ words.Delete ∷ words.When ∷ []); one_of = words.Id ∷ []; missing = words.Id } ∷ [];
+}
+row_of verbs.SetRopts = record {
+  name = codes "SETROPTS";
+  abbreviation = codes "SETR";
+  positions = [];
+  operands =
+      takes words.Classact kinds.Ids ∷ takes words.Noclassact kinds.Ids ∷ flag words.Grplist ∷ flag words.Nogrplist
+      ∷ takes words.Protectall kinds.Failures ∷ flag words.Noprotectall ∷ takes words.Mls kinds.Failures
+      ∷ flag words.Nomls ∷ takes words.Raclist kinds.Ids ∷ takes words.Noraclist kinds.Ids
+      ∷ takes words.Global kinds.Ids ∷ takes words.Noglobal kinds.Ids ∷ takes words.Generic kinds.Ids
+      ∷ flag words.Refresh ∷ takes words.Logoptions kinds.LogOptions ∷ [];
+  excluded =
+      (words.Grplist, words.Nogrplist) ∷ (words.Protectall, words.Noprotectall) ∷ (words.Mls, words.Nomls)
+      ∷ (words.Refresh, words.Classact) ∷ (words.Refresh, words.Noclassact) ∷ (words.Refresh, words.Grplist)
+      ∷ (words.Refresh, words.Nogrplist) ∷ (words.Refresh, words.Protectall) ∷ (words.Refresh, words.Noprotectall)
+      ∷ (words.Refresh, words.Mls) ∷ (words.Refresh, words.Nomls) ∷ (words.Refresh, words.Noraclist)
+      ∷ (words.Refresh, words.Noglobal) ∷ (words.Refresh, words.Logoptions) ∷ [];
+  needed =
+      record { asked_by = Some (words.Refresh ∷ []); one_of = words.Raclist ∷ words.Generic ∷ words.Global ∷ []; missing = words.Raclist } ∷ [];
 }

@@ -17,6 +17,7 @@ mod operands;
 mod printing;
 mod profile_table;
 mod reading;
+mod setropts_table;
 mod table;
 
 pub use printing::printed;

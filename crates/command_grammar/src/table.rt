@@ -18,6 +18,7 @@ use crate::profile_table::{
     DATASET_POSITION, DELDSD_OPERANDS, PERMIT_EXCLUDED, PERMIT_NEEDED, PERMIT_OPERANDS,
     PERMIT_POSITION, RALTER_EXCLUDED, RALTER_OPERANDS, RDEFINE_EXCLUDED, RDEFINE_OPERANDS,
 };
+use crate::setropts_table::{SETROPTS_EXCLUDED, SETROPTS_NEEDED, SETROPTS_OPERANDS};
 use command_values::{ValueKind, Word};
 
 /// The commands.
@@ -38,10 +39,11 @@ pub enum Verb {
     RAlter,
     RDelete,
     Permit,
+    SetRopts,
 }
 
 /// The commands in the order of the table.
-pub const VERBS: [Verb; 15] = [
+pub const VERBS: [Verb; 16] = [
     Verb::AddUser,
     Verb::AltUser,
     Verb::DelUser,
@@ -57,6 +59,7 @@ pub const VERBS: [Verb; 15] = [
     Verb::RAlter,
     Verb::RDelete,
     Verb::Permit,
+    Verb::SetRopts,
 ];
 
 /// A positional word: the word that a refusal names it by, and what it is.
@@ -216,6 +219,7 @@ impl Verb {
             Verb::RAlter => b"RALTER".as_slice(),
             Verb::RDelete => b"RDELETE".as_slice(),
             Verb::Permit => b"PERMIT".as_slice(),
+            Verb::SetRopts => b"SETROPTS".as_slice(),
         }
     }
 
@@ -239,6 +243,7 @@ impl Verb {
             Verb::RAlter => b"RALT".as_slice(),
             Verb::RDelete => b"RDEL".as_slice(),
             Verb::Permit => b"PE".as_slice(),
+            Verb::SetRopts => b"SETR".as_slice(),
         }
     }
 
@@ -262,6 +267,7 @@ impl Verb {
             Verb::RAlter => &CLASS_POSITIONS,
             Verb::RDelete => &CLASS_POSITIONS,
             Verb::Permit => &PERMIT_POSITION,
+            Verb::SetRopts => &[],
         }
     }
 
@@ -285,6 +291,7 @@ impl Verb {
             Verb::RAlter => &RALTER_OPERANDS,
             Verb::RDelete => &[],
             Verb::Permit => &PERMIT_OPERANDS,
+            Verb::SetRopts => &SETROPTS_OPERANDS,
         }
     }
 
@@ -308,6 +315,7 @@ impl Verb {
             Verb::RAlter => &RALTER_EXCLUDED,
             Verb::RDelete => &[],
             Verb::Permit => &PERMIT_EXCLUDED,
+            Verb::SetRopts => &SETROPTS_EXCLUDED,
         }
     }
 
@@ -317,6 +325,7 @@ impl Verb {
     {
         match self {
             Verb::Permit => &PERMIT_NEEDED,
+            Verb::SetRopts => &SETROPTS_NEEDED,
             _ => &[],
         }
     }

@@ -18,7 +18,7 @@ use Rattle.command_parser.specs.declared.fields.CommandFields.TheVariants as fie
 use Rattle.command_parser.specs.declared.profile_fields.Permit.{Permit}
 use Rattle.command_effects.specs.Effects.{step}
 use Rattle.command_conflicts.specs.declared.conflict.Conflict.{Conflict}
-use Rattle.command_conflicts.specs.declared.conflict.Conflict.TheVariants.{NotBuilt, NoUser, NoGroup, NoProfile, NoClass, Exists, NotConnected, Root, InUse, Cycle, OwnerNotSuperior, NotGeneric, DefaultGroup, LastSpecial, UnknownName, Full}
+use Rattle.command_conflicts.specs.declared.conflict.Conflict.TheVariants.{NotBuilt, NoUser, NoGroup, NoProfile, NoClass, Exists, NotConnected, Root, InUse, Cycle, OwnerNotSuperior, NotGeneric, NotListed, ClassFixed, DefaultGroup, LastSpecial, UnknownName, Full}
 use Rattle.racf_profiles.specs.Limits.{most_list_entries, most_members}
 use Rattle.command_conflicts.specs.declared.conflict.Limit.{Limit}
 use Rattle.command_conflicts.specs.declared.conflict.Limit.TheVariants.{Entries, Members}
@@ -54,6 +54,7 @@ use Rattle.command_conflicts.specs.ProfileConflicts.{
   r_delete_conflicts,
   permit_conflicts,
 }
+use Rattle.command_conflicts.specs.OptionConflicts.{absent_class, class_without_generic, unlisted_class, never_listed_class, always_active_class, set_ropts_conflicts}
 use Rattle.command_conflicts.specs.Conflicts.{
   has_subgroup,
   has_connected,
@@ -258,6 +259,27 @@ categories-number : (issuer : Issuer) (command : CommandFields) (rows : Rows) �
 unfolding categories_full
 categories-number issuer command rows = over-number _ _ _
 
+-- ---- of options
+absent-number : (classes : List (List ℕ)) (rows : Rows) → HasNumber 4 (absent_class classes rows)
+unfolding absent_class
+absent-number classes rows = number-map 4 NoClass (λ x. refl) _
+
+without_generic-number : (classes : List (List ℕ)) → HasNumber 11 (class_without_generic classes)
+unfolding class_without_generic
+without_generic-number classes = number-map 11 NotGeneric (λ x. refl) _
+
+unlisted-number : (classes : List (List ℕ)) (rows : Rows) → HasNumber 12 (unlisted_class classes rows)
+unfolding unlisted_class
+unlisted-number classes rows = number-map 12 NotListed (λ x. refl) _
+
+always_active-number : (classes : List (List ℕ)) → HasNumber 13 (always_active_class classes)
+unfolding always_active_class
+always_active-number classes = number-map 13 ClassFixed (λ x. refl) _
+
+never_listed-number : (classes : List (List ℕ)) → HasNumber 13 (never_listed_class classes)
+unfolding never_listed_class
+never_listed-number classes = number-map 13 ClassFixed (λ x. refl) _
+
 -- ---- each command's tests, with their numbers
 abbrev numbers_of : CommandFields → List ℕ
 numbers_of (fields.AddUser c) = 1 ∷ 2 ∷ 4 ∷ 5 ∷ 16 ∷ 16 ∷ 16 ∷ 17 ∷ 17 ∷ 17 ∷ []
@@ -275,9 +297,10 @@ numbers_of (fields.RDefine c) = 1 ∷ 4 ∷ 4 ∷ 5 ∷ 11 ∷ 16 ∷ 16 ∷ 16 
 numbers_of (fields.RAlter c) = 1 ∷ 3 ∷ 4 ∷ 16 ∷ 16 ∷ 16 ∷ 16 ∷ 17 ∷ 17 ∷ []
 numbers_of (fields.RDelete c) = 3 ∷ 4 ∷ []
 numbers_of (fields.Permit c) = 1 ∷ 3 ∷ 4 ∷ 17 ∷ 17 ∷ 17 ∷ []
+numbers_of (fields.SetRopts c) = 4 ∷ 4 ∷ 4 ∷ 4 ∷ 4 ∷ 4 ∷ 4 ∷ 4 ∷ 11 ∷ 12 ∷ 12 ∷ 13 ∷ 13 ∷ []
 
 are_numbered : (issuer : Issuer) (command : CommandFields) (rows : Rows) → AreNumbered (conflicts issuer command rows) (numbers_of command)
-unfolding add_user_conflicts alt_user_conflicts del_user_conflicts add_group_conflicts alt_group_conflicts del_group_conflicts connect_conflicts remove_conflicts add_sd_requirements add_sd_limits alt_sd_conflicts del_sd_conflicts r_define_requirements r_define_limits r_alter_conflicts r_delete_conflicts permit_conflicts
+unfolding add_user_conflicts alt_user_conflicts del_user_conflicts add_group_conflicts alt_group_conflicts del_group_conflicts connect_conflicts remove_conflicts add_sd_requirements add_sd_limits alt_sd_conflicts del_sd_conflicts r_define_requirements r_define_limits r_alter_conflicts r_delete_conflicts permit_conflicts set_ropts_conflicts
 are_numbered issuer (fields.AddUser c) rows = (owner-number _ rows, (group-number _ rows, (class-number _ rows, (taken-number _ rows, (level-number _ rows, (category-number _ rows, (label-number _ rows, (users-number issuer _ rows, (user_full-number _, (connections-number issuer _ rows, tt))))))))))
 are_numbered issuer (fields.AltUser c) rows = (user-number _ rows, (owner-number _ rows, (named_group-number _ rows, (class-number _ rows, (class-number _ rows, (default_connected-number _ _ rows, (special-number issuer _ _ rows, (level-number _ rows, (category-number _ rows, (never-number _ rows, (label-number _ rows, tt)))))))))))
 are_numbered issuer (fields.DelUser c) rows = (user-number _ rows, (has_profile-number _ rows, (special-number issuer _ _ rows, tt)))
@@ -293,6 +316,7 @@ are_numbered issuer (fields.RDefine c) rows = (owner-number _ rows, (resource_cl
 are_numbered issuer (fields.RAlter c) rows = (owner-number _ rows, (resource_profile-number _ _ rows, (resource_class-number _ rows, (level-number _ rows, (category-number _ rows, (never-number _ rows, (label-number _ rows, (members-number issuer _ _ _ rows, (categories-number issuer _ rows, tt)))))))))
 are_numbered issuer (fields.RDelete c) rows = (resource_profile-number _ _ rows, (resource_class-number _ rows, tt))
 are_numbered issuer (fields.Permit c) rows = (permitted-number _ _ rows, (profile-number _ _ rows, (such_class-number _ rows, (standard-number issuer _ rows, (conditional-number issuer _ rows, (entries-number issuer _ rows, tt))))))
+are_numbered issuer (fields.SetRopts c) rows = (absent-number _ rows, (absent-number _ rows, (absent-number _ rows, (absent-number _ rows, (absent-number _ rows, (absent-number _ rows, (absent-number _ rows, (absent-number _ rows, (without_generic-number _, (unlisted-number _ rows, (unlisted-number _ rows, (always_active-number _, (never_listed-number _, tt)))))))))))))
 
 sorted : (command : CommandFields) → are_sorted (0 ∷ numbers_of command) ≡ true
 sorted (fields.AddUser c) = refl
@@ -310,6 +334,7 @@ sorted (fields.RDefine c) = refl
 sorted (fields.RAlter c) = refl
 sorted (fields.RDelete c) = refl
 sorted (fields.Permit c) = refl
+sorted (fields.SetRopts c) = refl
 
 pub tests-ascending : (issuer : Issuer) (command : CommandFields) (rows : Rows) → is_ascending (met (tests issuer command rows)) ≡ true
 tests-ascending issuer command rows = met-ascending (tests issuer command rows) (0 ∷ numbers_of command) (number-if_met (is_unbuilt command) NotBuilt, are_numbered issuer command rows) (sorted command)

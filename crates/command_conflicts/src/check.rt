@@ -3,12 +3,14 @@ ghost use Rattle.std.specs.Prelude.{◌≡◌, None, Some, if◌then◌else◌};
 ghost use Rattle.std.specs.Result.{result_err};
 ghost use Rattle.command_effects.specs.ProfileEffects.{dataset};
 ghost use Rattle.command_conflicts.specs.ProfileConflicts.{add_sd_requirements, new_profile_limits, add_sd_conflicts, alt_sd_conflicts, del_sd_conflicts, r_define_requirements, new_resource_limits, r_define_conflicts, r_alter_conflicts, r_delete_conflicts, permit_conflicts};
+ghost use Rattle.command_conflicts.specs.OptionConflicts.{set_ropts_conflicts};
 ghost use Rattle.command_conflicts.specs.Numbers.{is_early};
 ghost use Rattle.command_conflicts.specs.Conflicts.{conflict_of, first_conflict_of, conflicts, first_met, add_user_conflicts, alt_user_conflicts, del_user_conflicts, add_group_conflicts, alt_group_conflicts, del_group_conflicts, connect_conflicts, remove_conflicts};
 
 mod groups;
 mod members;
 mod names;
+mod options;
 mod permit;
 mod profiles;
 mod security;
@@ -20,6 +22,7 @@ use command_effects::dataset;
 use command_parser::{
     AddGroup, AddSd, AddUser, AltGroup, AltSd, AltUser, Command, CommandFields, Connect, DelGroup,
     DelSd, DelUser, Issuer, Permit, RAlter, RDefine, RDelete, Remove,
+    SetRopts,
 };
 use groups::{
     check_altered_owner, check_cycle, check_group_fits, check_new_owner, check_no_subgroup,
@@ -30,6 +33,10 @@ use names::{
     check_classes, check_connected, check_default_connected, check_free, check_group,
     check_named_group, check_no_profile, check_none_connected, check_not_default, check_owner,
     check_user,
+};
+use options::{
+    check_generic_classes, check_known_classes, check_listed_anew, check_listed_classes,
+    check_logged_classes, check_not_always_active, check_refreshed,
 };
 use permit::{check_conditional_fits, check_entries_fit, check_permitted, check_standard_fits};
 use profiles::{
@@ -124,6 +131,7 @@ fn check_fields(tables: &RowTables, issuer: &Issuer, fields: &CommandFields) -> 
         CommandFields::RAlter(command) => check_r_alter(tables, issuer, command),
         CommandFields::RDelete(command) => check_r_delete(tables, command),
         CommandFields::Permit(command) => check_permit(tables, issuer, command),
+        CommandFields::SetRopts(command) => check_set_ropts(tables, command),
     }
 }
 
@@ -387,5 +395,27 @@ fn check_permit(tables: &RowTables, issuer: &Issuer, command: &Permit) -> Result
         check_standard_fits(tables, issuer, command),
         check_conditional_fits(tables, issuer, command),
         check_entries_fit(tables, issuer, command),
+    ]
+}
+
+/// The tests of SETROPTS, in their order.
+#[tactic(auto, unfolding(crate::specs::OptionConflicts::set_ropts_conflicts))]
+fn check_set_ropts(tables: &RowTables, command: &SetRopts) -> Result<(), Conflict>
+    ensures { result_err result ≡ first_met (set_ropts_conflicts command.now tables.now.rows) }
+{
+    first_conflict![
+        check_known_classes(tables, &command.classact),
+        check_known_classes(tables, &command.noclassact),
+        check_known_classes(tables, &command.raclist),
+        check_known_classes(tables, &command.noraclist),
+        check_known_classes(tables, &command.global),
+        check_known_classes(tables, &command.noglobal),
+        check_known_classes(tables, &command.generic),
+        check_logged_classes(tables, command),
+        check_generic_classes(&command.generic),
+        check_refreshed(tables, command),
+        check_listed_classes(tables, &command.noraclist),
+        check_not_always_active(&command.noclassact),
+        check_listed_anew(command),
     ]
 }

@@ -167,7 +167,7 @@ pub(super) fn check_generic(class: Id, name: &Pattern) -> Result<(), Conflict>
 }
 
 /// Whether the class has generic profiles.
-fn has_generic(class: Id) -> bool
+pub(super) fn has_generic(class: Id) -> bool
     ensures { result ≡ has_generic class }
 {
     match class_facts(class) {

@@ -21,8 +21,7 @@ use crate::unbuilt::is_unbuilt;
 use command_effects::dataset;
 use command_parser::{
     AddGroup, AddSd, AddUser, AltGroup, AltSd, AltUser, Command, CommandFields, Connect, DelGroup,
-    DelSd, DelUser, Issuer, Permit, RAlter, RDefine, RDelete, Remove,
-    SetRopts,
+    DelSd, DelUser, Issuer, Permit, RAlter, RDefine, RDelete, Remove, SetRopts,
 };
 use groups::{
     check_altered_owner, check_cycle, check_group_fits, check_new_owner, check_no_subgroup,

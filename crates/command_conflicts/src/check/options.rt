@@ -29,10 +29,7 @@ pub(super) fn check_known_classes(tables: &RowTables, classes: &Ids) -> Result<(
 
 /// Each class of LOGOPTIONS is in the table.
 #[tactic(auto, unfolding(crate::specs::OptionConflicts::absent_class))]
-pub(super) fn check_logged_classes(
-    tables: &RowTables,
-    command: &SetRopts,
-) -> Result<(), Conflict>
+pub(super) fn check_logged_classes(tables: &RowTables, command: &SetRopts) -> Result<(), Conflict>
     ensures { result_err result ≡ absent_class (logged_classes command.now) tables.now.rows }
 {
     match first_absent_logged(tables, command.logoptions.items.as_slice()) {

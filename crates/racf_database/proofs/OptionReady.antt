@@ -24,7 +24,7 @@ use Rattle.command_effects.proofs.SetRoptsEdits.{set_ropts-rows}
 use Rattle.command_conflicts.specs.OptionConflicts.{refreshed, unlisted_class, set_ropts_conflicts}
 use Rattle.command_conflicts.specs.Conflicts.{first_met}
 use Rattle.command_conflicts.proofs.Unmet.{each_unmet}
-use Rattle.lawful_commands.proofs.RowLists.{both-each, all-each, passes-all}
+use Rattle.lawful_commands.proofs.RowLists.{both-each, all-both, all-each, passes-all}
 use Rattle.lawful_commands.proofs.OptionCommands.{unmapped, never-named}
 
 -- ---- each class is found by its name
@@ -74,10 +74,6 @@ always-apply : (edits : List Edit) (tables : Tables) → AllByRecursion AlwaysCa
 always-apply [] tables can = tt
 always-apply (edit ∷ edits) tables can = (can.0 tables, always-apply edits (tables_after edit tables) can.1)
 
-always-both : (first last : List Edit) → AllByRecursion AlwaysCan first → AllByRecursion AlwaysCan last → AllByRecursion AlwaysCan (first ++ last)
-always-both [] last can more = more
-always-both (edit ∷ edits) last can more = (can.0, always-both edits last can.1 more)
-
 always-each : (edit : ClassRow → Edit) → ((class : ClassRow) → AlwaysCan (edit class)) → (classes : List ClassRow) → AllByRecursion AlwaysCan (map edit classes)
 always-each edit can [] = tt
 always-each edit can (class ∷ classes) = (can class, always-each edit can classes)
@@ -89,9 +85,9 @@ set_ropts-ready tables c lawful =
     let listed : List Edit = map (λ (class : ClassRow). ListCopy class.name) (filter (lists c) tables.rows.classes) in
     let unlisted : List Edit = map (λ (class : ClassRow). Unlist class.name) (filter (unlists c) tables.rows.classes) in
     always-apply (edits_of_set_ropts c tables.rows) tables
-    (always-both (cond (sets_options c) (PutOptions options ∷ []) []) (flags ++ (listed ++ unlisted)) (options-can (sets_options c) options lawful.categories.few)
-    (always-both flags (listed ++ unlisted) (always-each (λ class. put_flags (set_class c class)) (λ class tables. tt) (filter (sets_flags c) tables.rows.classes))
-    (always-both listed unlisted (always-each (λ (class : ClassRow). ListCopy class.name) (λ class tables. tt) (filter (lists c) tables.rows.classes)) (always-each (λ (class : ClassRow). Unlist class.name) (λ class tables. tt) (filter (unlists c) tables.rows.classes)))))
+    (all-both AlwaysCan (cond (sets_options c) (PutOptions options ∷ []) []) (flags ++ (listed ++ unlisted)) (options-can (sets_options c) options lawful.categories.few)
+    (all-both AlwaysCan flags (listed ++ unlisted) (always-each (λ class. put_flags (set_class c class)) (λ class tables. tt) (filter (sets_flags c) tables.rows.classes))
+    (all-both AlwaysCan listed unlisted (always-each (λ (class : ClassRow). ListCopy class.name) (λ class tables. tt) (filter (lists c) tables.rows.classes)) (always-each (λ (class : ClassRow). Unlist class.name) (λ class tables. tt) (filter (unlists c) tables.rows.classes)))))
   where
     options-can : (b : Bool) (options : Options) → length options.categories ≤ most_categories → AllByRecursion AlwaysCan (cond b (PutOptions options ∷ []) [])
     options-can true options few = ((λ tables. few), tt)

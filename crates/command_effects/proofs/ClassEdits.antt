@@ -1,6 +1,7 @@
 -- Edits of classes, each of the class of its name: what one made for each class that passes a test makes of all.
 use Rattle.std.proofs.Common.{◌≡◌, ℕ, Bool, true, false, cond, ◌&&◌, not, List, [], ◌∷◌, ◌++◌, map, refl, sym, ap, subst, ◌∙◌}
 use Rattle.std.specs.List.{filter, list_all, AllByRecursion}
+use Rattle.std.specs.Prelude.{⊤}
 use Rattle.std.specs.Str.{bytes_eq}
 use Rattle.std.proofs.lemmas.Bool.{and_parts, not-true}
 use Rattle.std.proofs.lemmas.Slice.Eq.{bytes_eq-Decides}
@@ -13,9 +14,9 @@ use Rattle.racf_profiles.specs.Edits.{at_class, edited, changed}
 use Rattle.racf_profiles.specs.LawfulProfiles.{AreClasses, AreProfiles, kind_in}
 use Rattle.racf_profiles.specs.Lawful.{LeaveLawfulClasses}
 
-pub changed-both : (first then : List Edit) (rows : Rows) → changed (first ++ then) rows ≡ changed then (changed first rows)
-changed-both [] then rows = refl
-changed-both (edit ∷ edits) then rows = changed-both edits then (edited edit rows)
+pub changed-both : (first last : List Edit) (rows : Rows) → changed (first ++ last) rows ≡ changed last (changed first rows)
+changed-both [] last rows = refl
+changed-both (edit ∷ edits) last rows = changed-both edits last (edited edit rows)
 
 -- ---- names
 -- no two of these names are the same
@@ -62,7 +63,7 @@ other-passing test class row (other ∷ others) same apart = by (test other) (ot
 -- ---- an edit for each class that passes, each a change of the class of its name
 module _ (edit : ClassRow → Edit) (change : ClassRow → ClassRow → ClassRow)
     (does : (class : ClassRow) (rows : Rows) → edited (edit class) rows ≡ record rows { classes = at_class class.name (change class) rows.classes }) (keeps : (class row : ClassRow) → (change class row).name ≡ row.name) where
-  run : List ClassRow → List ClassRow → List ClassRow
+  abbrev run : List ClassRow → List ClassRow → List ClassRow
   run [] rows = rows
   run (class ∷ classes) rows = run classes (at_class class.name (change class) rows)
 
@@ -77,28 +78,28 @@ module _ (edit : ClassRow → Edit) (change : ClassRow → ClassRow → ClassRow
       ap (λ b. run classes (cond b (change class row ∷ rows) (row ∷ at_class class.name (change class) rows))) other.0 ∙ run-other row (at_class class.name (change class) rows) classes other.1
 
   module _ (test : ClassRow → Bool) (now : ClassRow → ClassRow) (named : (class : ClassRow) → (now class).name ≡ class.name) where
-    run-each : (classes : List ClassRow) → AreApart classes → run (filter test classes) (map now classes) ≡ map (λ (class : ClassRow). cond (test class) (change class (now class)) (now class)) classes
+    abbrev after : ClassRow → ClassRow
+    after class = cond (test class) (change class (now class)) (now class)
+
+    run-each : (classes : List ClassRow) → AreApart classes → run (filter test classes) (map now classes) ≡ map after classes
     run-each [] apart = refl
     run-each (class ∷ classes) apart = by (test class) (run-each classes apart.1)
       where
-        then : List ClassRow
-        then = map (λ (one : ClassRow). cond (test one) (change one (now one)) (now one)) classes
-
-        front : (row : ClassRow) → row.name ≡ class.name → run (filter test classes) (map now classes) ≡ then → run (filter test classes) (row ∷ map now classes) ≡ row ∷ then
+        front : (row : ClassRow) → row.name ≡ class.name → run (filter test classes) (map now classes) ≡ map after classes → run (filter test classes) (row ∷ map now classes) ≡ row ∷ map after classes
         front row same rest = run-other row (map now classes) (filter test classes) (other-passing test class row classes same apart.0) ∙ ap (λ rows. row ∷ rows) rest
 
         own : is_class class.name (now class) ≡ true
         own = (bytes_eq-Decides (now class).name class.name).1 (named class)
 
-        by : (b : Bool) → run (filter test classes) (map now classes) ≡ then
-            → run (cond b (class ∷ filter test classes) (filter test classes)) (now class ∷ map now classes) ≡ cond b (change class (now class)) (now class) ∷ then
+        by : (b : Bool) → run (filter test classes) (map now classes) ≡ map after classes
+            → run (cond b (class ∷ filter test classes) (filter test classes)) (now class ∷ map now classes) ≡ cond b (change class (now class)) (now class) ∷ map after classes
         by true rest =
             ap (λ b. run (filter test classes) (cond b (change class (now class) ∷ map now classes) (now class ∷ at_class class.name (change class) (map now classes)))) own
             ∙ front (change class (now class)) (keeps class (now class) ∙ named class) rest
         by false rest = front (now class) (named class) rest
 
     pub changed-each : (classes : List ClassRow) (rows : Rows) → AreApart classes → rows.classes ≡ map now classes
-        → changed (map edit (filter test classes)) rows ≡ record rows { classes = map (λ (class : ClassRow). cond (test class) (change class (now class)) (now class)) classes }
+        → changed (map edit (filter test classes)) rows ≡ record rows { classes = map after classes }
     changed-each classes rows apart is =
         changed-run (filter test classes) rows ∙ ap (λ (all : List ClassRow). record rows { classes = all }) (ap (run (filter test classes)) is ∙ run-each classes apart)
 
@@ -110,9 +111,9 @@ pub leave-classes : (edits : List Edit) (rows : Rows) → AllByRecursion KeepsCl
 leave-classes [] rows keep lawful = tt
 leave-classes (edit ∷ edits) rows keep lawful = let next = keep.0 rows lawful in (next, leave-classes edits (edited edit rows) keep.1 next)
 
-pub keep-both : (first then : List Edit) → AllByRecursion KeepsClasses first → AllByRecursion KeepsClasses then → AllByRecursion KeepsClasses (first ++ then)
-keep-both [] then keep keep_then = keep_then
-keep-both (edit ∷ edits) then keep keep_then = (keep.0, keep-both edits then keep.1 keep_then)
+pub keep-both : (first last : List Edit) → AllByRecursion KeepsClasses first → AllByRecursion KeepsClasses last → AllByRecursion KeepsClasses (first ++ last)
+keep-both [] last keep keep_last = keep_last
+keep-both (edit ∷ edits) last keep keep_last = (keep.0, keep-both edits last keep.1 keep_last)
 
 pub keep-each : (edit : ClassRow → Edit) → ((class : ClassRow) → KeepsClasses (edit class)) → (classes : List ClassRow) → AllByRecursion KeepsClasses (map edit classes)
 keep-each edit keeps [] = tt

@@ -20,16 +20,16 @@ use Rattle.command_effects.proofs.ClassEdits.{changed-both, changed-each, lawful
 
 module _ (c : SetRopts) where
   -- ---- the edits, in four parts
-  options_edits : Rows → List Edit
+  abbrev options_edits : Rows → List Edit
   options_edits rows = cond (sets_options c) (PutOptions (set_options c rows.options) ∷ []) []
 
-  flags_edit : ClassRow → Edit
+  abbrev flags_edit : ClassRow → Edit
   flags_edit class = put_flags (set_class c class)
 
-  list_edit : ClassRow → Edit
+  abbrev list_edit : ClassRow → Edit
   list_edit class = ListCopy class.name
 
-  unlist_edit : ClassRow → Edit
+  abbrev unlist_edit : ClassRow → Edit
   unlist_edit class = Unlist class.name
 
   -- ---- the classes stay lawful behind each
@@ -37,11 +37,11 @@ module _ (c : SetRopts) where
   keep-options rows = by (sets_options c)
     where
       by : (b : Bool) → AllByRecursion KeepsClasses (cond b (PutOptions (set_options c rows.options) ∷ []) [])
-      by true = (λ before lawful. lawful, tt)
+      by true = ((λ before lawful. lawful), tt)
       by false = tt
 
   keep-flags : (class : ClassRow) → KeepsClasses (flags_edit class)
-  keep-flags class rows lawful = let set = set_class c class in lawful-kept class.name (with_flags set.active set.global set.log) (λ row. refl) (λ row holds. holds) rows.classes lawful
+  keep-flags class rows lawful = let set : ClassRow = set_class c class in lawful-kept class.name (with_flags set.active set.global set.log) (λ row. refl) (λ row holds. holds) rows.classes lawful
 
   keep-listed : (class : ClassRow) → KeepsClasses (list_edit class)
   keep-listed class rows lawful = lawful-kept class.name (with_listed true) (λ row. refl) (λ row holds. holds) rows.classes lawful
@@ -66,14 +66,14 @@ module _ (c : SetRopts) where
 
   options-unset : (options : Options) → sets_options c ≡ false → options ≡ set_options c options
   options-unset options none =
-      let a = or_parts c.grplist (c.nogrplist || c.protectall || c.noprotectall || c.mls || c.nomls) none in
-      let b = or_parts c.nogrplist (c.protectall || c.noprotectall || c.mls || c.nomls) a.1 in
-      let d = or_parts c.protectall (c.noprotectall || c.mls || c.nomls) b.1 in
-      let e = or_parts c.noprotectall (c.mls || c.nomls) d.1 in
-      let f = or_parts c.mls c.nomls e.1 in
-      sym (ap (λ on. record options { grplist = on; protectall = switched c.protectall c.noprotectall options.protectall; mls = switched c.mls c.nomls options.mls }) (unset c.grplist c.nogrplist options.grplist a.0 b.0)
-      ∙ ap (λ on. record options { protectall = on; mls = switched c.mls c.nomls options.mls }) (unset c.protectall c.noprotectall options.protectall d.0 e.0)
-      ∙ ap (λ on. record options { mls = on }) (unset c.mls c.nomls options.mls f.0 f.1))
+      let f = or_parts (c.grplist || c.nogrplist || c.protectall || c.noprotectall || c.mls) c.nomls none in
+      let e = or_parts (c.grplist || c.nogrplist || c.protectall || c.noprotectall) c.mls f.0 in
+      let d = or_parts (c.grplist || c.nogrplist || c.protectall) c.noprotectall e.0 in
+      let b = or_parts (c.grplist || c.nogrplist) c.protectall d.0 in
+      let a = or_parts c.grplist c.nogrplist b.0 in
+      sym (ap (λ on. record options { grplist = on; protectall = switched c.protectall c.noprotectall options.protectall; mls = switched c.mls c.nomls options.mls }) (unset c.grplist c.nogrplist options.grplist a.0 a.1)
+      ∙ ap (λ on. record options { protectall = on; mls = switched c.mls c.nomls options.mls }) (unset c.protectall c.noprotectall options.protectall b.1 d.1)
+      ∙ ap (λ on. record options { mls = on }) (unset c.mls c.nomls options.mls e.1 f.1))
 
   log-unset : (clauses : List LogClause) (class : ClassRow) (log : LogOption) → list_any (λ (clause : LogClause). names_class clause.classes class) clauses ≡ false → log_after clauses class log ≡ log
   log-unset [] class log none = refl
@@ -82,22 +82,22 @@ module _ (c : SetRopts) where
       ap (λ b. log_after clauses class (cond b clause.option log)) parts.0 ∙ log-unset clauses class log parts.1
 
   abbrev flagged : ClassRow → ClassRow
-  flagged class = let set = set_class c class in with_flags set.active set.global set.log class
+  flagged class = let set : ClassRow = set_class c class in with_flags set.active set.global set.log class
 
   flags-unset : (class : ClassRow) → sets_flags c class ≡ false → class ≡ flagged class
   flags-unset class none =
-      let set = set_class c class in
+      let set : ClassRow = set_class c class in
       let logged = list_any (λ (clause : LogClause). names_class clause.classes class) c.logoptions in
       let on = names_class c.classact class in
       let off = names_class c.noclassact class in
       let global = names_class c.global class in
       let noglobal = names_class c.noglobal class in
-      let a = or_parts on (off || global || noglobal || logged) none in
-      let b = or_parts off (global || noglobal || logged) a.1 in
-      let d = or_parts global (noglobal || logged) b.1 in
-      let e = or_parts noglobal logged d.1 in
-      sym (ap (λ is. with_flags is set.global set.log class) (unset on off class.active a.0 b.0)
-      ∙ ap (λ is. with_flags class.active is set.log class) (unset (global && not c.refresh) noglobal class.global (ap (λ is. is && not c.refresh) d.0) e.0)
+      let e = or_parts (on || off || global || noglobal) logged none in
+      let d = or_parts (on || off || global) noglobal e.0 in
+      let b = or_parts (on || off) global d.0 in
+      let a = or_parts on off b.0 in
+      sym (ap (λ is. with_flags is set.global set.log class) (unset on off class.active a.0 a.1)
+      ∙ ap (λ is. with_flags class.active is set.log class) (unset (global && not c.refresh) noglobal class.global (ap (λ is. is && not c.refresh) b.1) d.1)
       ∙ ap (λ is. with_flags class.active class.global is class) (log-unset c.logoptions class class.log e.1))
 
   -- ---- one class behind the three kinds of edits
@@ -177,7 +177,7 @@ module _ (c : SetRopts) where
       ∙ ap (changed (flags ++ (listed ++ unlisted))) (changed-options rows)
       ∙ changed-both flags (listed ++ unlisted) set
       ∙ ap (changed (listed ++ unlisted))
-        (changed-each flags_edit (λ class. let made = set_class c class in with_flags made.active made.global made.log) (λ class before. refl) (λ class row. refl) (sets_flags c) (λ class. class) (λ class. refl) classes set apart (map-same classes))
+        (changed-each flags_edit (λ class. let made : ClassRow = set_class c class in with_flags made.active made.global made.log) (λ class before. refl) (λ class row. refl) (sets_flags c) (λ class. class) (λ class. refl) classes set apart (map-same classes))
       ∙ changed-both listed unlisted (record set { classes = map now_flagged classes })
       ∙ ap (changed unlisted)
         (changed-each list_edit (λ class. with_listed true) (λ class before. refl) (λ class row. refl) (lists c) now_flagged name-flagged classes (record set { classes = map now_flagged classes }) apart refl)

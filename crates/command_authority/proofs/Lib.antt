@@ -1,3 +1,4 @@
+pub mod Refreshing
 pub mod AlterLaws
 pub mod SpecialLaws
 pub mod SpelledNames

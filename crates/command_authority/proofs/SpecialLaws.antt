@@ -1,5 +1,5 @@
 -- What SPECIAL is enough for, and that who isn't a user may give no command.
-use Rattle.std.proofs.Common.{◌≡◌, ℕ, Bool, true, false, cond, ◌&&◌, ◌||◌, not, List, [], ◌∷◌, Option, Some, None, option_map, refl, sym, ◌∙◌, ap, ◌⊎◌, inl, inr, subst}
+use Rattle.std.proofs.Common.{◌≡◌, ℕ, Bool, true, false, cond, ◌&&◌, ◌||◌, not, List, [], ◌∷◌, ◌++◌, map, Option, Some, None, option_map, refl, sym, ◌∙◌, ap, ◌⊎◌, inl, inr, subst}
 use Rattle.std.specs.Prelude.{is_some, option_and_then, IsSome, IsSomeAnd, IsTrue}
 use Rattle.std.specs.List.{find, list_any, list_all}
 use Rattle.std.specs.Option.{option_map_or}
@@ -18,10 +18,12 @@ use Rattle.command_authority.specs.declared.requirement.Target.{Target}
 use Rattle.command_authority.specs.declared.requirement.Target.TheVariants as targets
 use Rattle.command_authority.specs.declared.requirement.Requirement.{Requirement}
 use Rattle.command_authority.specs.Operands.{some_stands, alters_attribute, alters_uaudit, alters_group_attribute}
-use Rattle.command_parser.specs.Operands.{slots_of_alt_user}
-use Rattle.command_parser.specs.Operands.{slots_of_alt_sd, slots_of_r_alter}
+use Rattle.command_parser.specs.declared.option_fields.SetRopts.{SetRopts}
+use Rattle.command_parser.specs.Operands.{slots_of_alt_user, slots_of_alt_sd, slots_of_r_alter, slots_of_set_ropts}
+use Rattle.command_parser.specs.LawfulFields.{AreLawfulFields}
+use Rattle.generic_names.specs.Spelled.{is_empty}
 use Rattle.command_parser.specs.Issuers.{group_or_current}
-use Rattle.command_authority.specs.Requirements.{over, over_where, over_members, leaving, giving, requirements, add_user_requirements, alt_user_requirements, del_user_requirements, add_group_requirements, alt_group_requirements, del_group_requirements, connect_requirements, remove_requirements, add_sd_requirements, alt_sd_requirements, del_sd_requirements, r_define_requirements, r_alter_requirements, r_delete_requirements, permit_requirements}
+use Rattle.command_authority.specs.Requirements.{over, over_where, over_members, leaving, giving, requirements, add_user_requirements, alt_user_requirements, del_user_requirements, add_group_requirements, alt_group_requirements, del_group_requirements, connect_requirements, remove_requirements, add_sd_requirements, alt_sd_requirements, del_sd_requirements, r_define_requirements, r_alter_requirements, r_delete_requirements, permit_requirements, refreshing, refreshed_classes, setting, set_ropts_requirements}
 use Rattle.command_authority.specs.Authority.{holds, is_met, first_unmet, need}
 
 -- The needs begin with SPECIAL, or are those of what is the auditor's.
@@ -118,8 +120,16 @@ usual_giving : (group : List ℕ) (o : Option GroupAuthority) (stands : Bool) �
 usual_giving group None stands = refl
 usual_giving group (Some wanted) stands = refl
 
+usual-refreshing : (classes : List (List ℕ)) → list_all is_usual (map refreshing classes) ≡ true
+usual-refreshing [] = refl
+usual-refreshing (class ∷ classes) = usual-refreshing classes
+
+usual-set_ropts : (c : SetRopts) (refresh : Bool) → list_all is_usual (cond refresh (map refreshing (refreshed_classes c)) (setting c)) ≡ true
+usual-set_ropts c true = usual-refreshing (refreshed_classes c)
+usual-set_ropts c false = refl
+
 usual : (rows : Rows) (issuer : Issuer) (command : CommandFields) → list_all is_usual (requirements rows issuer command) ≡ true
-unfolding add_user_requirements alt_user_requirements del_user_requirements add_group_requirements alt_group_requirements del_group_requirements connect_requirements remove_requirements add_sd_requirements alt_sd_requirements del_sd_requirements r_define_requirements r_alter_requirements r_delete_requirements permit_requirements
+unfolding add_user_requirements alt_user_requirements del_user_requirements add_group_requirements alt_group_requirements del_group_requirements connect_requirements remove_requirements add_sd_requirements alt_sd_requirements del_sd_requirements r_define_requirements r_alter_requirements r_delete_requirements permit_requirements set_ropts_requirements
 usual rows issuer (fields.AddUser c) = refl
 usual rows issuer (fields.AltUser c) = refl
 usual rows issuer (fields.DelUser c) = refl
@@ -135,6 +145,7 @@ usual rows issuer (fields.RDefine c) = refl
 usual rows issuer (fields.RAlter c) = refl
 usual rows issuer (fields.RDelete c) = refl
 usual rows issuer (fields.Permit c) = refl
+usual rows issuer (fields.SetRopts c) = usual-set_ropts c c.refresh
 
 -- One requirement stands: the auditor's where nothing else does.
 of_two : (b others : Bool) → (not (b && others) || (b || false)) ≡ true
@@ -145,23 +156,36 @@ of_three : (b others c : Bool) → (not (b && others) || (c || (b || false))) �
 of_three true others c = ap (λ x. not others || x) (or_right c true refl) ∙ or_right (not others) true refl
 of_three false others c = refl
 
-stands : (rows : Rows) (issuer : Issuer) (command : CommandFields) → list_any (λ (r : Requirement). r.stands) (requirements rows issuer command) ≡ true
-unfolding add_user_requirements alt_user_requirements del_user_requirements add_group_requirements alt_group_requirements del_group_requirements connect_requirements remove_requirements add_sd_requirements alt_sd_requirements del_sd_requirements r_define_requirements r_alter_requirements r_delete_requirements permit_requirements
-stands rows issuer (fields.AddUser c) = refl
-stands rows issuer (fields.AltUser c) = of_three (alters_uaudit c) (not (some_stands (slots_of_alt_user (record c { uaudit = false; nouaudit = false })))) (alters_attribute c)
-stands rows issuer (fields.DelUser c) = refl
-stands rows issuer (fields.AddGroup c) = refl
-stands rows issuer (fields.AltGroup c) = refl
-stands rows issuer (fields.DelGroup c) = refl
-stands rows issuer (fields.Connect c) = refl
-stands rows issuer (fields.Remove c) = refl
-stands rows issuer (fields.AddSd c) = refl
-stands rows issuer (fields.AltSd c) = of_two (is_some c.globalaudit) (not (some_stands (slots_of_alt_sd (record c { globalaudit = None }))))
-stands rows issuer (fields.DelSd c) = refl
-stands rows issuer (fields.RDefine c) = refl
-stands rows issuer (fields.RAlter c) = of_two (is_some c.globalaudit) (not (some_stands (slots_of_r_alter (record c { globalaudit = None }))))
-stands rows issuer (fields.RDelete c) = refl
-stands rows issuer (fields.Permit c) = refl
+-- of SETROPTS: with REFRESH a class is named
+one-refreshed : (raclist global generic : List (List ℕ)) → (false || not (is_empty raclist) || not (is_empty global) || not (is_empty generic)) ≡ true → list_any (λ (r : Requirement). r.stands) (map refreshing (raclist ++ (global ++ generic))) ≡ true
+one-refreshed (class ∷ classes) global generic h = refl
+one-refreshed [] (class ∷ classes) generic h = refl
+one-refreshed [] [] (class ∷ classes) h = refl
+one-refreshed [] [] [] h = cc
+
+set_ropts-stands : (c : SetRopts) (refresh : Bool) → (not refresh || not (is_empty c.raclist) || not (is_empty c.global) || not (is_empty c.generic)) ≡ true
+    → list_any (λ (r : Requirement). r.stands) (cond refresh (map refreshing (refreshed_classes c)) (setting c)) ≡ true
+set_ropts-stands c true h = one-refreshed c.raclist c.global c.generic h
+set_ropts-stands c false h = of_two (not (is_empty c.logoptions)) (not (some_stands (slots_of_set_ropts (record c { logoptions = [] }))))
+
+stands : (rows : Rows) (issuer : Issuer) (command : CommandFields) → AreLawfulFields command → list_any (λ (r : Requirement). r.stands) (requirements rows issuer command) ≡ true
+unfolding add_user_requirements alt_user_requirements del_user_requirements add_group_requirements alt_group_requirements del_group_requirements connect_requirements remove_requirements add_sd_requirements alt_sd_requirements del_sd_requirements r_define_requirements r_alter_requirements r_delete_requirements permit_requirements set_ropts_requirements
+stands rows issuer (fields.AddUser c) h = refl
+stands rows issuer (fields.AltUser c) h = of_three (alters_uaudit c) (not (some_stands (slots_of_alt_user (record c { uaudit = false; nouaudit = false })))) (alters_attribute c)
+stands rows issuer (fields.DelUser c) h = refl
+stands rows issuer (fields.AddGroup c) h = refl
+stands rows issuer (fields.AltGroup c) h = refl
+stands rows issuer (fields.DelGroup c) h = refl
+stands rows issuer (fields.Connect c) h = refl
+stands rows issuer (fields.Remove c) h = refl
+stands rows issuer (fields.AddSd c) h = refl
+stands rows issuer (fields.AltSd c) h = of_two (is_some c.globalaudit) (not (some_stands (slots_of_alt_sd (record c { globalaudit = None }))))
+stands rows issuer (fields.DelSd c) h = refl
+stands rows issuer (fields.RDefine c) h = refl
+stands rows issuer (fields.RAlter c) h = of_two (is_some c.globalaudit) (not (some_stands (slots_of_r_alter (record c { globalaudit = None }))))
+stands rows issuer (fields.RDelete c) h = refl
+stands rows issuer (fields.Permit c) h = refl
+stands rows issuer (fields.SetRopts c) h = set_ropts-stands c c.refresh h.refresh
 
 -- ---- the laws
 pub special_law : (rows : Rows) (issuer : Issuer) (command : CommandFields) → IsSomeAnd (user_of issuer.id rows) (λ user. IsTrue user.attributes.special) → (need rows issuer command ≡ None) ⊎ (need rows issuer command ≡ Some (Auditor ∷ []))
@@ -172,6 +196,6 @@ special_law rows issuer command h = by (user_of issuer.id rows) refl h
     by None e h = absurd h
     by (Some user) e h = only rows issuer user e h (requirements rows issuer command) (usual rows issuer command)
 
-pub absent_law : (rows : Rows) (issuer : Issuer) (command : CommandFields) → user_of issuer.id rows ≡ None → IsSome (need rows issuer command)
+pub absent_law : (rows : Rows) (issuer : Issuer) (command : CommandFields) → AreLawfulFields command → user_of issuer.id rows ≡ None → IsSome (need rows issuer command)
 unfolding need
-absent_law rows issuer command h = some_lacks rows issuer h (requirements rows issuer command) (stands rows issuer command)
+absent_law rows issuer command lawful h = some_lacks rows issuer h (requirements rows issuer command) (stands rows issuer command lawful)

@@ -4,6 +4,7 @@ use Rattle.generic_names.specs.Spelled.{is_empty}
 use Rattle.access_levels.specs.declared.levels.Level.{Level}
 use Rattle.racf_profiles.specs.declared.profiles.AuditRule.{AuditRule}
 use Rattle.command_parser.specs.declared.fields.AltUser.{AltUser}
+use Rattle.command_parser.specs.declared.option_fields.SetRopts.{SetRopts}
 
 -- ALTUSER: NAME, DFLTGRP and OWNER; the attributes; REVOKE to NOCLAUTH
 abbrev pub alters_person : AltUser → Bool
@@ -22,3 +23,10 @@ alters_security seclevel noseclevel addcategory delcategory seclabel noseclabel 
 -- of a profile: OWNER to AUDIT
 abbrev pub alters_profile : (owner : Option (List ℕ)) → (uacc : Option Level) → (warning nowarning : Bool) → (audit : Option AuditRule) → Bool
 alters_profile owner uacc warning nowarning audit = is_some owner || is_some uacc || warning || nowarning || is_some audit
+
+-- SETROPTS: a list of classes; an operand that is no list
+abbrev pub sets_classes : SetRopts → Bool
+sets_classes c = not (is_empty c.classact) || not (is_empty c.noclassact) || not (is_empty c.raclist) || not (is_empty c.noraclist) || not (is_empty c.global) || not (is_empty c.noglobal) || not (is_empty c.generic)
+
+abbrev pub sets_switches : SetRopts → Bool
+sets_switches c = c.grplist || c.nogrplist || c.protectall || c.noprotectall || c.mls || c.nomls || c.refresh

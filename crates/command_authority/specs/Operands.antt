@@ -1,6 +1,6 @@
 -- Which operands of a command stand, where its requirements depend on them. By [NO]X the table of commands means X and
 -- NOX.
-use Rattle.std.specs.Prelude.{Bool, false, ◌&&◌, ◌||◌, not, List, Option, None, is_some}
+use Rattle.std.specs.Prelude.{Bool, false, ◌&&◌, ◌||◌, not, List, [], Option, None, is_some}
 use Rattle.std.specs.List.{list_any}
 use Rattle.generic_names.specs.Spelled.{is_empty}
 use Rattle.command_parser.specs.declared.fields.AddUser.{AddUser}
@@ -8,8 +8,9 @@ use Rattle.command_parser.specs.declared.fields.AltUser.{AltUser}
 use Rattle.command_parser.specs.declared.fields.Connect.{Connect}
 use Rattle.command_parser.specs.declared.profile_fields.AltSd.{AltSd}
 use Rattle.command_parser.specs.declared.profile_fields.RAlter.{RAlter}
+use Rattle.command_parser.specs.declared.option_fields.SetRopts.{SetRopts}
 use Rattle.command_parser.specs.Operands.{slots_of_alt_user}
-use Rattle.command_parser.specs.Operands.{slots_of_alt_sd, slots_of_r_alter}
+use Rattle.command_parser.specs.Operands.{slots_of_alt_sd, slots_of_r_alter, slots_of_set_ropts}
 
 -- One of the operands stands.
 abbrev pub some_stands : {X : Type 0} → List (Option X) → Bool
@@ -40,3 +41,7 @@ alt_sd_audits_alone c = is_some c.globalaudit && not (some_stands (slots_of_alt_
 
 abbrev pub r_alter_audits_alone : RAlter → Bool
 r_alter_audits_alone c = is_some c.globalaudit && not (some_stands (slots_of_r_alter (record c { globalaudit = None })))
+
+-- SETROPTS: LOGOPTIONS is the only operand.
+abbrev pub logs_alone : SetRopts → Bool
+logs_alone c = not (is_empty c.logoptions) && not (some_stands (slots_of_set_ropts (record c { logoptions = [] })))

@@ -1,7 +1,7 @@
 -- What each command requires of its issuer: one requirement or more, in this order.
-use Rattle.std.specs.Prelude.{ℕ, Bool, true, not, List, [], ◌∷◌, ◌++◌, Option, None, Some, is_some, option_and_then, unwrap_or, codes, bytes_eq, if◌then◌else◌}
+use Rattle.std.specs.Prelude.{ℕ, Bool, true, not, List, [], ◌∷◌, ◌++◌, map, Option, None, Some, is_some, option_and_then, unwrap_or, codes, bytes_eq, if◌then◌else◌}
 use Rattle.access_levels.specs.declared.authorities.GroupAuthority.{GroupAuthority}
-use Rattle.generic_names.specs.Spelled.{Spelled}
+use Rattle.generic_names.specs.Spelled.{Spelled, is_empty}
 use Rattle.generic_names.specs.Covers.{is_generic}
 use Rattle.racf_profiles.specs.declared.groups.Group.{Group}
 use Rattle.racf_profiles.specs.declared.rows.Rows.{Rows}
@@ -23,6 +23,7 @@ use Rattle.command_parser.specs.declared.profile_fields.RDefine.{RDefine}
 use Rattle.command_parser.specs.declared.profile_fields.RAlter.{RAlter}
 use Rattle.command_parser.specs.declared.profile_fields.RDelete.{RDelete}
 use Rattle.command_parser.specs.declared.profile_fields.Permit.{Permit}
+use Rattle.command_parser.specs.declared.option_fields.SetRopts.{SetRopts}
 use Rattle.command_parser.specs.declared.fields.CommandFields.{CommandFields}
 use Rattle.command_parser.specs.declared.fields.CommandFields.TheVariants as fields
 use Rattle.command_authority.specs.declared.needs.Need.{Need}
@@ -31,7 +32,7 @@ use Rattle.command_authority.specs.declared.requirement.Target.{Target}
 use Rattle.command_authority.specs.declared.requirement.Target.TheVariants as targets
 use Rattle.command_authority.specs.declared.requirement.Requirement.{Requirement}
 use Rattle.generic_names.specs.Spelled.{first_qualifier}
-use Rattle.command_authority.specs.Operands.{gives_attribute, alters_attribute, alters_uaudit, alters_uaudit_alone, alters_group_attribute, alt_sd_audits_alone, r_alter_audits_alone}
+use Rattle.command_authority.specs.Operands.{gives_attribute, alters_attribute, alters_uaudit, alters_uaudit_alone, alters_group_attribute, alt_sd_audits_alone, r_alter_audits_alone, logs_alone}
 
 -- One of these needs has to hold over the target.
 abbrev pub over : Target → List Need → Requirement
@@ -150,6 +151,21 @@ r_delete_requirements c = over_profile true c.class c.profile ∷ []
 unfoldable pub permit_requirements : Permit → List Requirement
 permit_requirements c = over_profile true c.class c.profile ∷ []
 
+-- ---- options
+-- REFRESH is asked of each class that is named: of RACLIST, then of GLOBAL, then of GENERIC.
+abbrev pub refreshing : List ℕ → Requirement
+refreshing class = over targets.Nothing (Special ∷ ClassAuthority class ∷ Auditor ∷ [])
+
+abbrev pub refreshed_classes : SetRopts → List (List ℕ)
+refreshed_classes c = c.raclist ++ (c.global ++ c.generic)
+
+-- LOGOPTIONS is the auditor's, all other operands are not.
+abbrev pub setting : SetRopts → List Requirement
+setting c = over_where (not (logs_alone c)) targets.Nothing (Special ∷ []) ∷ auditing (not (is_empty c.logoptions)) ∷ []
+
+unfoldable pub set_ropts_requirements : SetRopts → List Requirement
+set_ropts_requirements c = if c.refresh then map refreshing (refreshed_classes c) else setting c
+
 -- ---- all
 abbrev pub requirements : Rows → Issuer → CommandFields → List Requirement
 requirements rows issuer (fields.AddUser c) = add_user_requirements issuer c
@@ -167,3 +183,4 @@ requirements rows issuer (fields.RDefine c) = r_define_requirements c
 requirements rows issuer (fields.RAlter c) = r_alter_requirements c
 requirements rows issuer (fields.RDelete c) = r_delete_requirements c
 requirements rows issuer (fields.Permit c) = permit_requirements c
+requirements rows issuer (fields.SetRopts c) = set_ropts_requirements c

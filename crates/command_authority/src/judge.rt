@@ -1,14 +1,16 @@
 //! Whether an issuer may give a command.
-ghost use Rattle.std.specs.Prelude.{◌≡◌, ◌↔◌, ℕ, List, IsTrue};
+ghost use Rattle.std.specs.Prelude.{◌≡◌, ◌↔◌, ℕ, List, map, IsTrue};
 ghost use Rattle.racf_profiles.specs.Scope.{InScopeGroup, InScopeProfile};
 ghost use Rattle.group_tree.specs.ScopeTest.{is_group_in_scope, is_profile_in_scope};
 ghost use Rattle.std.specs.List.{list_any};
 ghost use Rattle.std.specs.Result.{result_err};
+ghost use Rattle.command_authority.specs.Requirements.{refreshing, set_ropts_requirements};
 ghost use Rattle.command_authority.specs.Authority.{may_define_users, holds, is_met, first_unmet, need};
 
 use crate::groups::{add_group, alt_group, connect, del_group, remove};
 use crate::held::{has_authority, has_class};
 use crate::needs::{Need, Needs};
+use crate::options::{refreshing, setting};
 use crate::profiles::{add_sd, alt_sd, del_sd, permit, r_alter, r_define, r_delete};
 use crate::requirement::{Requirement, Target};
 use crate::targets::{
@@ -17,7 +19,7 @@ use crate::targets::{
 use crate::users::{add_user, alt_user, del_user};
 use access_levels::GroupAuthority;
 use command_parser::laws::fields_of_a_text_are_lawful;
-use command_parser::{Command, CommandFields, Issuer, printed_is_read};
+use command_parser::{Command, CommandFields, Issuer, SetRopts, printed_is_read};
 use group_tree::Tree;
 use group_tree::laws::scope_is_tested;
 use racf_profiles::{User, View};
@@ -65,6 +67,7 @@ pub fn authorised<V: View>(
         CommandFields::RAlter(command) => unmet(view, tree, issuer, &r_alter(command)),
         CommandFields::RDelete(command) => unmet(view, tree, issuer, &r_delete(command)),
         CommandFields::Permit(command) => unmet(view, tree, issuer, &permit(command)),
+        CommandFields::SetRopts(command) => unmet_of_set_ropts(view, tree, issuer, command),
     }
 }
 
@@ -83,6 +86,44 @@ fn unmet<V: View>(
         .find(|requirement| !is_met(view, tree, issuer, requirement))
     {
         Some(requirement) => Err(Needs::of(requirement.needs.as_slice())),
+        None => Ok(()),
+    }
+}
+
+/// The needs of the first requirement of SETROPTS that isn't met.
+#[tactic(auto, unfolding(crate::specs::Requirements::set_ropts_requirements))]
+fn unmet_of_set_ropts<V: View>(
+    view: &V,
+    tree: &Tree,
+    issuer: &Issuer,
+    command: &SetRopts,
+) -> Result<(), Needs>
+    requires { tree.now.groups ≡ (V.rows view.now).groups }
+    ensures { result_err result ≡ first_unmet (V.rows view.now) issuer.now (set_ropts_requirements command.now) }
+{
+    if !command.refresh {
+        return unmet(view, tree, issuer, &setting(command));
+    }
+    unmet_of_refresh(view, tree, issuer, &command.raclist.items)?;
+    unmet_of_refresh(view, tree, issuer, &command.global.items)?;
+    unmet_of_refresh(view, tree, issuer, &command.generic.items)
+}
+
+/// The needs of the first class that the issuer may not refresh.
+fn unmet_of_refresh<V: View>(
+    view: &V,
+    tree: &Tree,
+    issuer: &Issuer,
+    classes: &[Id],
+) -> Result<(), Needs>
+    requires { tree.now.groups ≡ (V.rows view.now).groups }
+    ensures { result_err result ≡ first_unmet (V.rows view.now) issuer.now (map refreshing classes.now) }
+{
+    match classes
+        .iter()
+        .find(|class| !is_met(view, tree, issuer, &refreshing(**class)))
+    {
+        Some(class) => Err(refreshing(*class).needs),
         None => Ok(()),
     }
 }

@@ -18,6 +18,7 @@ mod judge;
 pub mod laws;
 mod needs;
 mod operands;
+mod options;
 mod profiles;
 mod requirement;
 mod targets;

@@ -1,11 +1,11 @@
 //! Which operands of a command stand.
 ghost use Rattle.std.specs.Prelude.{◌≡◌, ◌||◌, not};
 ghost use Rattle.generic_names.specs.Spelled.{is_empty};
-ghost use Rattle.command_authority.specs.Operands.{gives_attribute, alters_attribute, alters_uaudit, alters_uaudit_alone, alters_group_attribute, alt_sd_audits_alone, r_alter_audits_alone};
-ghost use Rattle.command_authority.specs.OperandGroups.{alters_person, alters_rights, alters_state, alters_security, alters_profile};
+ghost use Rattle.command_authority.specs.Operands.{gives_attribute, alters_attribute, alters_uaudit, alters_uaudit_alone, alters_group_attribute, alt_sd_audits_alone, r_alter_audits_alone, logs_alone};
+ghost use Rattle.command_authority.specs.OperandGroups.{alters_person, alters_rights, alters_state, alters_security, alters_profile, sets_classes, sets_switches};
 
 use access_levels::{Id, Level};
-use command_parser::{AddUser, AltSd, AltUser, Connect, Ids, RAlter};
+use command_parser::{AddUser, AltSd, AltUser, Connect, Ids, RAlter, SetRopts};
 use racf_profiles::AuditRule;
 
 /// ADDUSER: SPECIAL, OPERATIONS, AUDITOR or CLAUTH stands.
@@ -194,4 +194,37 @@ fn alters_profile(
     ensures { result ≡ alters_profile owner uacc warning nowarning audit }
 {
     owner.is_some() || uacc.is_some() || warning || nowarning || audit.is_some()
+}
+
+/// SETROPTS: LOGOPTIONS is the only operand.
+pub(crate) fn logs_alone(command: &SetRopts) -> bool
+    ensures { result ≡ logs_alone command.now }
+{
+    !command.logoptions.items.is_empty() && !(sets_classes(command) || sets_switches(command))
+}
+
+/// A list of classes stands.
+fn sets_classes(command: &SetRopts) -> bool
+    ensures { result ≡ sets_classes command.now }
+{
+    !command.classact.items.is_empty()
+        || !command.noclassact.items.is_empty()
+        || !command.raclist.items.is_empty()
+        || !command.noraclist.items.is_empty()
+        || !command.global.items.is_empty()
+        || !command.noglobal.items.is_empty()
+        || !command.generic.items.is_empty()
+}
+
+/// An operand stands that is no list.
+fn sets_switches(command: &SetRopts) -> bool
+    ensures { result ≡ sets_switches command.now }
+{
+    command.grplist
+        || command.nogrplist
+        || command.protectall
+        || command.noprotectall
+        || command.mls
+        || command.nomls
+        || command.refresh
 }

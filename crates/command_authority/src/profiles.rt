@@ -125,7 +125,7 @@ fn profile_needs(class: Id, name: &Pattern) -> Needs
 }
 
 /// What GLOBALAUDIT requires.
-fn auditing(stands: bool) -> Requirement
+pub(crate) fn auditing(stands: bool) -> Requirement
     ensures { result ≡ auditing stands }
 {
     over_where(stands, Target::Nothing, Needs::of(&[Need::Auditor]))

@@ -30,6 +30,7 @@ use Rattle.racf_profiles.specs.Names.{is_connected_to, connects_of, special_user
 use Rattle.command_effects.specs.Effects.{group_or_current, new_user, new_group, altered_group, connects_after, step}
 use Rattle.command_conflicts.specs.Unbuilt.{is_unbuilt}
 use Rattle.command_conflicts.specs.Numbers.{met, is_early}
+use Rattle.command_conflicts.specs.OptionConflicts.{set_ropts_conflicts}
 use Rattle.command_conflicts.specs.ProfileConflicts.{add_sd_conflicts, alt_sd_conflicts, del_sd_conflicts, r_define_conflicts, r_alter_conflicts, r_delete_conflicts, permit_conflicts}
 unfoldable pub use Rattle.command_conflicts.specs.Required.{no_user, no_group, no_owner, no_named_group, no_class, name_taken, not_connected, default_not_connected, unknown_level, unknown_category, never_category, unknown_label}
 pub use Rattle.command_conflicts.specs.Required.{if_met, first_met, over}
@@ -201,6 +202,7 @@ conflicts issuer (fields.RDefine c) rows = r_define_conflicts issuer c rows
 conflicts issuer (fields.RAlter c) rows = r_alter_conflicts issuer c rows
 conflicts issuer (fields.RDelete c) rows = r_delete_conflicts c rows
 conflicts issuer (fields.Permit c) rows = permit_conflicts issuer c rows
+conflicts issuer (fields.SetRopts c) rows = set_ropts_conflicts c rows
 
 -- What isn't built comes before all else.
 abbrev pub tests : Issuer → CommandFields → Rows → List (Option Conflict)

@@ -2,4 +2,5 @@ pub mod Numbers
 pub mod Unbuilt
 pub mod Required
 pub mod ProfileConflicts
+pub mod OptionConflicts
 pub mod Conflicts

@@ -12,7 +12,7 @@ use Rattle.command_values.specs.declared.values.Content.{Content}
 use Rattle.command_values.specs.declared.values.Content.TheVariants as contents
 use Rattle.command_values.specs.declared.values.Known.{Known}
 use Rattle.command_grammar.specs.Table.{operands_of}
-use Rattle.command_grammar.specs.Reading.{Slots, row_at, is_generic_kind, permits, generic_place, cleared, with_class, means_read, with_access, completed, missing}
+use Rattle.command_grammar.specs.Reading.{Slots, row_at, is_generic_kind, permits, generic_place, cleared, with_class, means_read, with_access, completed, lacking}
 use Rattle.command_grammar.specs.Lawful.{FitsAll, SuitsAll, first_known}
 use Rattle.command_values.proofs.ValueLawful.{FitsHere}
 use Rattle.command_grammar.proofs.OperandsLawful.{Holds, HoldsAll, HoldsAll-tail}
@@ -91,6 +91,7 @@ completed-fits known verbs.Remove ss h = none-fits known (operands_of verbs.Remo
 completed-fits known verbs.RDefine ss h = none-fits known (operands_of verbs.RDefine) ss h refl
 completed-fits known verbs.RAlter ss h = none-fits known (operands_of verbs.RAlter) ss h refl
 completed-fits known verbs.RDelete ss h = none-fits known (operands_of verbs.RDelete) ss h refl
+completed-fits known verbs.SetRopts ss h = none-fits known (operands_of verbs.SetRopts) ss h refl
 completed-fits known verbs.AddSd ss h = cleared-fits known (operands_of verbs.AddSd) ss 8 h refl
 completed-fits known verbs.AltSd ss h = cleared-fits known (operands_of verbs.AltSd) ss 12 h refl
 completed-fits known verbs.DelSd ss h = cleared-fits known (operands_of verbs.DelSd) ss 0 h refl
@@ -108,7 +109,7 @@ cleared-again (Some k) ss = set-twice ss k
 -- what completing changes nothing of
 pub record IsSettled (v : Verb) (ss : Slots) : Type 0 where
   pub again : completed v (completed v ss) ≡ completed v ss
-  pub lacks : missing v (completed v ss) ≡ missing v ss
+  pub lacks : lacking v (completed v ss) ≡ lacking v ss
   pub class : first_known v (completed v ss) ≡ first_known v ss
 
 -- PERMIT has seven slots
@@ -145,11 +146,13 @@ seven-slots known ss h = seven-of ss (holds-length (operands_of verbs.Permit) ss
 
 settled-permit : (c r i a d w g : Option Content) → IsSettled verbs.Permit (c ∷ (r ∷ (i ∷ (a ∷ (d ∷ (w ∷ (g ∷ [])))))))
 settled-permit None r None a d w g = record { again = refl; lacks = refl; class = refl }
-settled-permit None r (Some i) None None w g = record { again = refl; lacks = refl; class = refl }
+settled-permit None r (Some i) None None None g = record { again = refl; lacks = refl; class = refl }
+settled-permit None r (Some i) None None (Some w) g = record { again = refl; lacks = refl; class = refl }
 settled-permit None r (Some i) None (Some d) w g = record { again = refl; lacks = refl; class = refl }
 settled-permit None r (Some i) (Some a) d w g = record { again = refl; lacks = refl; class = refl }
 settled-permit (Some c) r None a d w g = record { again = refl; lacks = refl; class = refl }
-settled-permit (Some c) r (Some i) None None w g = record { again = refl; lacks = refl; class = refl }
+settled-permit (Some c) r (Some i) None None None g = record { again = refl; lacks = refl; class = refl }
+settled-permit (Some c) r (Some i) None None (Some w) g = record { again = refl; lacks = refl; class = refl }
 settled-permit (Some c) r (Some i) None (Some d) w g = record { again = refl; lacks = refl; class = refl }
 settled-permit (Some c) r (Some i) (Some a) d w g = record { again = refl; lacks = refl; class = refl }
 
@@ -168,6 +171,7 @@ settled-slots known verbs.DelSd ss h = record { again = cleared-again (generic_p
 settled-slots known verbs.RDefine ss h = record { again = cleared-again (generic_place (operands_of verbs.RDefine)) ss; lacks = refl; class = refl }
 settled-slots known verbs.RAlter ss h = record { again = cleared-again (generic_place (operands_of verbs.RAlter)) ss; lacks = refl; class = refl }
 settled-slots known verbs.RDelete ss h = record { again = cleared-again (generic_place (operands_of verbs.RDelete)) ss; lacks = refl; class = refl }
+settled-slots known verbs.SetRopts ss h = record { again = cleared-again (generic_place (operands_of verbs.SetRopts)) ss; lacks = refl; class = refl }
 settled-slots known verbs.Permit ss h =
     let seven = seven-slots known ss h in
     subst (λ (xs : Slots). IsSettled verbs.Permit xs) (sym seven.are) (settled-permit seven.s0 seven.s1 seven.s2 seven.s3 seven.s4 seven.s5 seven.s6)

@@ -1,3 +1,4 @@
+pub mod Needs
 pub mod SuitsNone
 pub mod TableFacts
 pub mod OperandsAgain

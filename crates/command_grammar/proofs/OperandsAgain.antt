@@ -1,17 +1,15 @@
 -- The operands of a lawful command are read again from their texts, and closed as they are.
-use Rattle.std.proofs.Common.{◌≡◌, ℕ, suc, ◌+◌, List, [], ◌∷◌, ◌++◌, length, replicate, Bool, true, false, not, ◌&&◌, None, Some, Ok, Err, refl, sym, ap, subst, ◌∙◌, arith, append_assoc, length-append}
-use Rattle.std.specs.Prelude.{position, slice_set, is_some, if◌then◌else◌}
+use Rattle.std.proofs.Common.{◌≡◌, ℕ, suc, ◌+◌, List, [], ◌∷◌, ◌++◌, length, replicate, Bool, true, false, not, ◌&&◌, None, Some, Ok, refl, sym, ap, subst, ◌∙◌, arith, append_assoc, length-append}
+use Rattle.std.specs.Prelude.{position, slice_set, is_some}
 use Rattle.std.specs.List.{list_all}
 use Rattle.std.proofs.lemmas.List.{get_or_at, set_at}
 use Rattle.generic_names.specs.Spelled.{Spelled}
-use Rattle.command_values.specs.declared.operand_words.Word.TheVariants as words
 use Rattle.command_values.specs.declared.values.Known.{Known}
 use Rattle.command_words.specs.declared.quoting.Quoting.TheVariants.{Ignored}
 use Rattle.command_words.specs.Tokens.{Word, within, tokens_from}
 use Rattle.command_words.specs.ValuedWords.{ValuedWord, Alone, Valued, valued_words, opens_value, faulty_at}
 use Rattle.command_words.proofs.Letters.{is_letter, Ignored-steady, EndsWord}
 use Rattle.command_words.proofs.Spelled.{word_token, group_token}
-use Rattle.command_values.specs.declared.faults.Syntax.TheVariants as faults
 use Rattle.command_values.specs.declared.value_kinds.ValueKind.{ValueKind}
 use Rattle.command_values.specs.declared.value_kinds.ValueKind.TheVariants as kinds
 use Rattle.command_grammar.specs.declared.table.Operand.{Operand}
@@ -22,7 +20,7 @@ use Rattle.command_values.specs.Results.{◌>>=◌}
 use Rattle.command_values.specs.OperandWords.{spelling_of}
 use Rattle.command_grammar.specs.Table.{operands_of}
 use Rattle.command_values.specs.Values.{bare, text_of}
-use Rattle.command_grammar.specs.Reading.{Generic, Slots, is_spelling, row_at, no_operand, is_given, slot_of, operand_at, operands_at, clash, unless_clash, completed, closed, no_slots}
+use Rattle.command_grammar.specs.Reading.{Generic, Slots, is_spelling, row_at, no_operand, is_given, slot_of, operand_at, operands_at, clash, unless_clash, completed, unless_lacking, closed, no_slots}
 use Rattle.command_grammar.specs.Canon.{value_text, operands_text}
 use Rattle.command_values.specs.LawfulValues.{Fits, Suits}
 use Rattle.command_grammar.specs.Lawful.{FitsAll, SuitsAll, IsLawful}
@@ -64,6 +62,8 @@ value-then_ends (contents.When c) rest h = refl
 value-then_ends (contents.Members ms) rest h = refl
 value-then_ends (contents.MemberNames ns) rest h = refl
 value-then_ends (contents.Generic g) rest h = refl
+value-then_ends contents.Failures rest h = refl
+value-then_ends (contents.LogOptions cs) rest h = refl
 
 pub operands-apart : (os : List Operand) (ss : Slots) → IsApart (operands_text os ss)
 operands-apart [] [] = nil-apart
@@ -102,6 +102,8 @@ bare-again at kinds.When p h = absurd h
 bare-again at kinds.AddedMembers p h = absurd h
 bare-again at kinds.DroppedMembers p h = absurd h
 bare-again at kinds.Generic p h = absurd h
+bare-again at kinds.Failures p h = absurd h
+bare-again at kinds.LogOptions p h = absurd h
 
 -- what an operand's text is read as: an item, and the text behind it
 pub record IsReadAs (known : Known) (o : Operand) (v : Content) (rest : List ℕ) (tied : Bool) (p : ℕ) : Type 0 where
@@ -167,6 +169,8 @@ no-profile kinds.When n other h = h
 no-profile kinds.AddedMembers n other h = h
 no-profile kinds.DroppedMembers n other h = h
 no-profile kinds.Generic n other h = h
+no-profile kinds.Failures n other h = h
+no-profile kinds.LogOptions n other h = h
 
 operand-read : (known : Known) (o : Operand) (v : Content) (rest : List ℕ) (tied : Bool) (p : ℕ) → not (is_profile_kind o.kind) ≡ true → Fits o.kind v → Suits known o.kind v → IsApart rest → IsReadAs known o v rest tied p
 operand-read known o contents.Flag rest tied p other h suits apart = flag-read known o rest tied p h apart
@@ -183,6 +187,8 @@ operand-read known o (contents.When c) rest tied p other h suits apart = valued-
 operand-read known o (contents.Members ms) rest tied p other h suits apart = valued-read known o (contents.Members ms) rest tied p h suits tt refl
 operand-read known o (contents.MemberNames ns) rest tied p other h suits apart = valued-read known o (contents.MemberNames ns) rest tied p h suits tt refl
 operand-read known o (contents.Generic g) rest tied p other h suits apart = valued-read known o (contents.Generic g) rest tied p h suits tt refl
+operand-read known o contents.Failures rest tied p other h suits apart = valued-read known o contents.Failures rest tied p h suits tt refl
+operand-read known o (contents.LogOptions cs) rest tied p other h suits apart = valued-read known o (contents.LogOptions cs) rest tied p h suits tt refl
 
 -- The rows from os on: what stands before them was read, and their slots are empty.
 operands_again : (at : Scope) (rows pre os : List Operand) (front ss : Slots) (k : ℕ) (tied : Bool) (p : ℕ) → rows ≡ pre ++ os → length pre ≡ k → length front ≡ k → AreFound rows k os → FitsAll os ss → SuitsAll at.known os ss
@@ -216,7 +222,7 @@ operands_again at rows pre (o ∷ os) front (Some v ∷ ss) k tied p whole at_pr
 -- the slots of a lawful command are closed as they are
 pub closed-again : (g : Generic) → IsLawful g → closed g.verb g.slots ≡ Ok g.slots
 closed-again g lawful =
-    ap (λ c. if c then Err (faults.Missing words.Id) else unless_clash (clash g.verb (completed g.verb g.slots)) (completed g.verb g.slots)) lawful.needed
+    ap (λ lack. unless_lacking lack (unless_clash (clash g.verb (completed g.verb g.slots)) (completed g.verb g.slots))) lawful.needed
     ∙ ap (λ ss. unless_clash (clash g.verb ss) ss) lawful.complete
     ∙ ap (λ c. unless_clash c g.slots) lawful.apart
 

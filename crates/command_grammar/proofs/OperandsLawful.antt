@@ -26,6 +26,7 @@ bare-holds : (at : Scope) (k : ValueKind) (p : ℕ) (v : Content) → bare at k 
 bare-holds at kinds.Flag p v h = let same : contents.Flag ≡ v = cc in inr (along-here at.known kinds.Flag contents.Flag v same (tt, tt))
 bare-holds at kinds.Reset p v h = let same : contents.Reset resets.All ≡ v = cc in inr (along-here at.known kinds.Reset (contents.Reset resets.All) v same (tt, tt))
 bare-holds at kinds.Generic p v h = inl refl
+bare-holds at kinds.Failures p v h = let same : contents.Failures ≡ v = cc in inr (along-here at.known kinds.Failures contents.Failures v same (tt, tt))
 bare-holds at kinds.Id p v h = cc
 bare-holds at kinds.Group p v h = cc
 bare-holds at kinds.Authority p v h = cc
@@ -42,6 +43,7 @@ bare-holds at kinds.Whos p v h = cc
 bare-holds at kinds.When p v h = cc
 bare-holds at kinds.AddedMembers p v h = cc
 bare-holds at kinds.DroppedMembers p v h = cc
+bare-holds at kinds.LogOptions p v h = cc
 
 -- operands
 abbrev pub HoldsAll : Known → List Operand → Slots → Type 0

@@ -155,3 +155,5 @@ permit_one at (contents.When c ∷ []) slots tied p lawful = absurd lawful.fits_
 permit_one at (contents.Members ms ∷ []) slots tied p lawful = absurd lawful.fits_positions.0
 permit_one at (contents.MemberNames ns ∷ []) slots tied p lawful = absurd lawful.fits_positions.0
 permit_one at (contents.Generic g ∷ []) slots tied p lawful = absurd lawful.fits_positions.0
+permit_one at (contents.Failures ∷ []) slots tied p lawful = absurd lawful.fits_positions.0
+permit_one at (contents.LogOptions cs ∷ []) slots tied p lawful = absurd lawful.fits_positions.0

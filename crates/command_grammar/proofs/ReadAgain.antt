@@ -107,6 +107,8 @@ one_profile g same lawful = one-in g.positions (subst (λ (ps : List Position). 
     one-in (contents.Members ms ∷ []) h = absurd h.0
     one-in (contents.MemberNames ns ∷ []) h = absurd h.0
     one-in (contents.Generic g ∷ []) h = absurd h.0
+    one-in (contents.Failures ∷ []) h = absurd h.0
+    one-in (contents.LogOptions cs ∷ []) h = absurd h.0
 
 dataset_again : (at : Context) (g : Generic) (tied : Bool) (p : ℕ) → IsLawful g → positions_of g.verb ≡ data_set_profile
     → body_at (begun at) g.verb (tokens_from AtName tied 0 p (positions_text g.positions ++ operands_text (operands_of g.verb) g.slots)) ≡ Ok g

@@ -1,5 +1,5 @@
 -- What is read is lawful.
-use Rattle.std.proofs.Common.{◌≡◌, ℕ, List, [], ◌∷◌, ◌++◌, length, map, Bool, true, false, cond, Option, None, Some, Ok, Err, refl, sym, ap, subst, ◌∙◌, append_assoc}
+use Rattle.std.proofs.Common.{◌≡◌, ℕ, List, [], ◌∷◌, ◌++◌, length, map, Bool, true, false, cond, Option, None, Some, Result, Ok, Err, refl, sym, ap, subst, ◌∙◌, append_assoc}
 use Rattle.std.specs.Prelude.{nat_lt, if◌then◌else◌}
 use Rattle.std.proofs.lemmas.List.{append-nil}
 use Rattle.generic_names.specs.Spelled.{Spelled}
@@ -7,11 +7,11 @@ use Rattle.generic_names.specs.Covers.{is_generic}
 use Rattle.racf_profiles.specs.declared.fixed_classes.NameForm.{NameForm}
 use Rattle.racf_profiles.specs.declared.fixed_classes.NameForm.TheVariants as name_forms
 use Rattle.command_values.specs.declared.operand_words.Word.{Word as OperandWord}
-use Rattle.command_values.specs.declared.operand_words.Word.TheVariants as words
 use Rattle.command_words.specs.declared.quoting.Quoting.TheVariants.{Ignored}
 use Rattle.command_words.specs.Bytes.{upper}
 use Rattle.command_words.specs.Tokens.{Token, Word, Group, Open, Close, tokens, of_command, of_naming_command}
 use Rattle.command_words.specs.ValuedWords.{valued_words}
+use Rattle.command_values.specs.declared.faults.Syntax.{Syntax}
 use Rattle.command_values.specs.declared.faults.Syntax.TheVariants as faults
 use Rattle.command_grammar.specs.declared.table.Verb.{Verb}
 use Rattle.command_grammar.specs.declared.table.Verb.TheVariants as verbs
@@ -27,7 +27,7 @@ use Rattle.command_grammar.specs.Table.{positions_of, operands_of, verb_named}
 use Rattle.command_values.specs.WordsOfValues.{clean, unless_stray}
 use Rattle.command_values.specs.ProfileNames.{profile_in, form_in, named_by_form, any_named, any_profile}
 use Rattle.command_values.specs.Values.{one}
-use Rattle.command_grammar.specs.Reading.{Generic, Slots, placed, position_at, behind, positions_at, operands_at, clash, unless_clash, is_late, completed, missing, closed, no_slots, plain_at, class_in, mark_in, unless_mark, late_word, late_name, late_closed, late_at, body_at, begins_with_name, behind_first, begun, command_at, parsed}
+use Rattle.command_grammar.specs.Reading.{Generic, Slots, placed, position_at, behind, positions_at, operands_at, clash, unless_clash, is_late, completed, lacking, unless_lacking, closed, no_slots, plain_at, class_in, mark_in, unless_mark, late_word, late_name, late_closed, late_at, body_at, begins_with_name, behind_first, begun, command_at, parsed}
 use Rattle.command_grammar.specs.Lawful.{FitsPositions, FitsAll, SuitsPositions, known_last, SuitsAll, class_known, first_known, IsLawful}
 use Rattle.command_values.proofs.Names.{if-err}
 use Rattle.command_grammar.proofs.SuitsNone.{suits-none}
@@ -60,9 +60,13 @@ unless_clash-ok : (c : Option (OperandWord × OperandWord)) (slots ss : Slots) �
 unless_clash-ok None slots ss h = (refl, cc)
 unless_clash-ok (Some both) slots ss h = cc
 
-closed-ok : (v : Verb) (slots ss : Slots) → closed v slots ≡ Ok ss → (missing v slots ≡ false) × (clash v ss ≡ None) × (completed v slots ≡ ss)
+unless_lacking-ok : (lack : Option OperandWord) (r : Result Slots Syntax) (ss : Slots) → unless_lacking lack r ≡ Ok ss → (lack ≡ None) × (r ≡ Ok ss)
+unless_lacking-ok None r ss h = (refl, h)
+unless_lacking-ok (Some w) r ss h = cc
+
+closed-ok : (v : Verb) (slots ss : Slots) → closed v slots ≡ Ok ss → (lacking v slots ≡ None) × (clash v ss ≡ None) × (completed v slots ≡ ss)
 closed-ok v slots ss h =
-    let complete = if-err (missing v slots) (faults.Missing words.Id) (unless_clash (clash v (completed v slots)) (completed v slots)) ss h in
+    let complete = unless_lacking-ok (lacking v slots) (unless_clash (clash v (completed v slots)) (completed v slots)) ss h in
     let apart = unless_clash-ok (clash v (completed v slots)) (completed v slots) ss complete.1 in
     (complete.0, subst (λ (xs : Slots). clash v xs ≡ None) apart.1 apart.0, apart.1)
 
@@ -71,7 +75,7 @@ record AreClosed (known : Known) (v : Verb) (slots ss : Slots) : Type 0 where
   suits : SuitsAll known (operands_of v) ss
   operands : FitsAll (operands_of v) ss
   class : first_known v ss ≡ first_known v slots
-  lacks : missing v ss ≡ false
+  lacks : lacking v ss ≡ None
   whole : completed v ss ≡ ss
   alone : clash v ss ≡ None
 
@@ -84,7 +88,7 @@ closed-slots known v slots ss holds h =
       operands = subst (λ (xs : Slots). FitsAll (operands_of v) xs) ok.2 both.0;
       suits = subst (λ (xs : Slots). SuitsAll known (operands_of v) xs) ok.2 both.1;
       class = ap (first_known v) (sym ok.2) ∙ settled.class;
-      lacks = ap (missing v) (sym ok.2) ∙ settled.lacks ∙ ok.0;
+      lacks = ap (lacking v) (sym ok.2) ∙ settled.lacks ∙ ok.0;
       whole = ap (completed v) (sym ok.2) ∙ settled.again ∙ ok.2;
       alone = ok.1;
     }
@@ -160,6 +164,7 @@ body-lawful at verbs.DelSd ts g h = plain-lawful at verbs.DelSd ts g refl h
 body-lawful at verbs.RDefine ts g h = plain-lawful at verbs.RDefine ts g refl h
 body-lawful at verbs.RAlter ts g h = plain-lawful at verbs.RAlter ts g refl h
 body-lawful at verbs.RDelete ts g h = plain-lawful at verbs.RDelete ts g refl h
+body-lawful at verbs.SetRopts ts g h = plain-lawful at verbs.SetRopts ts g refl h
 body-lawful at verbs.Permit ts g h = late-lawful at ts g h
 
 command-lawful : (at : Context) (ts us : List Token) (g : Generic) → command_at at ts us ≡ Ok g → IsLawful g

@@ -42,6 +42,8 @@ suits-any known kinds.When v h = tt
 suits-any known kinds.AddedMembers v h = cc
 suits-any known kinds.DroppedMembers v h = cc
 suits-any known kinds.Generic v h = tt
+suits-any known kinds.Failures v h = tt
+suits-any known kinds.LogOptions v h = tt
 
 pub suits-none : (known : Known) (os : List Operand) (ss : Slots) → none_members os ≡ true → SuitsAll known os ss
 suits-none known [] ss h = tt

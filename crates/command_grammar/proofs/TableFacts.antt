@@ -74,6 +74,20 @@ spelling-plain words.Id = record { some = tt; letters = refl; sound = λ p. refl
 spelling-plain words.Access = record { some = tt; letters = refl; sound = λ p. refl; folded = refl }
 spelling-plain words.Delete = record { some = tt; letters = refl; sound = λ p. refl; folded = refl }
 spelling-plain words.When = record { some = tt; letters = refl; sound = λ p. refl; folded = refl }
+spelling-plain words.Classact = record { some = tt; letters = refl; sound = λ p. refl; folded = refl }
+spelling-plain words.Noclassact = record { some = tt; letters = refl; sound = λ p. refl; folded = refl }
+spelling-plain words.Grplist = record { some = tt; letters = refl; sound = λ p. refl; folded = refl }
+spelling-plain words.Nogrplist = record { some = tt; letters = refl; sound = λ p. refl; folded = refl }
+spelling-plain words.Protectall = record { some = tt; letters = refl; sound = λ p. refl; folded = refl }
+spelling-plain words.Noprotectall = record { some = tt; letters = refl; sound = λ p. refl; folded = refl }
+spelling-plain words.Mls = record { some = tt; letters = refl; sound = λ p. refl; folded = refl }
+spelling-plain words.Nomls = record { some = tt; letters = refl; sound = λ p. refl; folded = refl }
+spelling-plain words.Raclist = record { some = tt; letters = refl; sound = λ p. refl; folded = refl }
+spelling-plain words.Noraclist = record { some = tt; letters = refl; sound = λ p. refl; folded = refl }
+spelling-plain words.Global = record { some = tt; letters = refl; sound = λ p. refl; folded = refl }
+spelling-plain words.Noglobal = record { some = tt; letters = refl; sound = λ p. refl; folded = refl }
+spelling-plain words.Refresh = record { some = tt; letters = refl; sound = λ p. refl; folded = refl }
+spelling-plain words.Logoptions = record { some = tt; letters = refl; sound = λ p. refl; folded = refl }
 
 pub full_name-plain : (v : Verb) → IsPlainWord (full_name v)
 full_name-plain verbs.AddUser = record { some = tt; letters = refl; sound = λ p. refl; folded = refl }
@@ -91,6 +105,7 @@ full_name-plain verbs.RDefine = record { some = tt; letters = refl; sound = λ p
 full_name-plain verbs.RAlter = record { some = tt; letters = refl; sound = λ p. refl; folded = refl }
 full_name-plain verbs.RDelete = record { some = tt; letters = refl; sound = λ p. refl; folded = refl }
 full_name-plain verbs.Permit = record { some = tt; letters = refl; sound = λ p. refl; folded = refl }
+full_name-plain verbs.SetRopts = record { some = tt; letters = refl; sound = λ p. refl; folded = refl }
 
 pub verb_named-full_name : (v : Verb) → verb_named (full_name v) ≡ Some v
 verb_named-full_name verbs.AddUser = refl
@@ -108,6 +123,7 @@ verb_named-full_name verbs.RDefine = refl
 verb_named-full_name verbs.RAlter = refl
 verb_named-full_name verbs.RDelete = refl
 verb_named-full_name verbs.Permit = refl
+verb_named-full_name verbs.SetRopts = refl
 
 -- the kinds of profiles' names, which no operand has
 abbrev pub is_profile_kind : ValueKind → Bool
@@ -155,6 +171,7 @@ all_found verbs.RDefine = refl
 all_found verbs.RAlter = refl
 all_found verbs.RDelete = refl
 all_found verbs.Permit = refl
+all_found verbs.SetRopts = refl
 
 pub operands-found : (v : Verb) → AreFound (operands_of v) 0 (operands_of v)
 operands-found v = found-tested (operands_of v) 0 (operands_of v) (all_found v)
@@ -180,6 +197,8 @@ is_name_kind kinds.When = false
 is_name_kind kinds.AddedMembers = false
 is_name_kind kinds.DroppedMembers = false
 is_name_kind kinds.Generic = false
+is_name_kind kinds.Failures = false
+is_name_kind kinds.LogOptions = false
 
 -- a command's positional words are names as they are written; or the first is a data set's in quotes; or it is PERMIT's
 pub data Shape (v : Verb) : Type 0 where
@@ -199,6 +218,7 @@ shape verbs.Remove = Plain refl refl refl
 shape verbs.RDefine = Plain refl refl refl
 shape verbs.RAlter = Plain refl refl refl
 shape verbs.RDelete = Plain refl refl refl
+shape verbs.SetRopts = Plain refl refl refl
 shape verbs.AddSd = Quoted refl
 shape verbs.AltSd = Quoted refl
 shape verbs.DelSd = Quoted refl

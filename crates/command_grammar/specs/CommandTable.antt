@@ -1,5 +1,5 @@
 -- The table of commands, as RACF's command language has them: how each is called, its positional words, its operands in
--- the order in which they are written, and the operands that exclude one another.
+-- the order in which they are written, the operands that exclude one another, and those that are needed.
 use Rattle.std.specs.Prelude.{ℕ, List, [], ◌∷◌, codes, Option, None, Some}
 use Rattle.access_levels.specs.declared.levels.Level.TheVariants.{Read}
 use Rattle.command_values.specs.declared.operand_words.Word.{Word}
@@ -17,7 +17,8 @@ use Rattle.command_values.specs.declared.values.Content.TheVariants as contents
 abbrev pub commands : List Verb
 commands =
     verbs.AddUser ∷ verbs.AltUser ∷ verbs.DelUser ∷ verbs.AddGroup ∷ verbs.AltGroup ∷ verbs.DelGroup ∷ verbs.Connect ∷ verbs.Remove
-    ∷ verbs.AddSd ∷ verbs.AltSd ∷ verbs.DelSd ∷ verbs.RDefine ∷ verbs.RAlter ∷ verbs.RDelete ∷ verbs.Permit ∷ []
+    ∷ verbs.AddSd ∷ verbs.AltSd ∷ verbs.DelSd ∷ verbs.RDefine ∷ verbs.RAlter ∷ verbs.RDelete ∷ verbs.Permit
+    ∷ verbs.SetRopts ∷ []
 
 -- An operand of a command, and the value that it has where it isn't given, if there is one.
 pub record OperandRow : Type 0 where
@@ -55,17 +56,26 @@ class_and_profile = is_a words.Class kinds.Class ∷ is_a words.Profile kinds.Cl
 abbrev pub any_profile : List Position
 any_profile = is_a words.Profile kinds.AnyProfile ∷ []
 
--- A command: its full name, its abbreviation, its positional words, its operands, and the pairs of them that exclude
--- one another, in the order of their first words and then of their second ones.
+-- What a command needs: one of these operands, always (None) or where one stands that asks for it; and the word that a
+-- refusal names.
+pub record Needed : Type 0 where
+  pub asked_by : Option (List Word)
+  pub one_of : List Word
+  pub missing : Word
+
+-- A command: its full name, its abbreviation, its positional words, its operands, the pairs of them that exclude one
+-- another, in the order of their first words and then of their second ones, and what it needs, in the order in which
+-- it is judged.
 pub record CommandRow : Type 0 where
   pub name : List ℕ
   pub abbreviation : List ℕ
   pub positions : List Position
   pub operands : List OperandRow
   pub excluded : List (Word × Word)
+  pub needed : List Needed
 
--- The table. RESET alone is RESET(ALL), and a word of AUDIT or GLOBALAUDIT without a level has READ; ACCESS has its
--- default where ID stands without DELETE.
+-- The table. RESET alone is RESET(ALL), PROTECTALL and MLS alone are theirs with FAILURES, and a word of AUDIT or
+-- GLOBALAUDIT without a level has READ; ACCESS has its default where ID stands without DELETE.
 abbrev pub row_of : Verb → CommandRow
 row_of verbs.AddUser = record {
   name = codes "ADDUSER";
@@ -80,6 +90,7 @@ row_of verbs.AddUser = record {
   excluded =
       (words.Special, words.Nospecial) ∷ (words.Operations, words.Nooperations)
       ∷ (words.Auditor, words.Noauditor) ∷ (words.Restricted, words.Norestricted) ∷ [];
+  needed = [];
 }
 row_of verbs.AltUser = record {
   name = codes "ALTUSER";
@@ -98,6 +109,7 @@ row_of verbs.AltUser = record {
       ∷ (words.Auditor, words.Noauditor) ∷ (words.Restricted, words.Norestricted)
       ∷ (words.Uaudit, words.Nouaudit) ∷ (words.Revoke, words.Resume) ∷ (words.Seclevel, words.Noseclevel)
       ∷ (words.Seclabel, words.Noseclabel) ∷ [];
+  needed = [];
 }
 row_of verbs.DelUser = record {
   name = codes "DELUSER";
@@ -105,6 +117,7 @@ row_of verbs.DelUser = record {
   positions = user;
   operands = [];
   excluded = [];
+  needed = [];
 }
 row_of verbs.AddGroup = record {
   name = codes "ADDGROUP";
@@ -113,6 +126,7 @@ row_of verbs.AddGroup = record {
   operands =
       takes words.Supgroup kinds.Group ∷ takes words.Owner kinds.Id ∷ [];
   excluded = [];
+  needed = [];
 }
 row_of verbs.AltGroup = record {
   name = codes "ALTGROUP";
@@ -121,6 +135,7 @@ row_of verbs.AltGroup = record {
   operands =
       takes words.Supgroup kinds.Group ∷ takes words.Owner kinds.Id ∷ [];
   excluded = [];
+  needed = [];
 }
 row_of verbs.DelGroup = record {
   name = codes "DELGROUP";
@@ -128,6 +143,7 @@ row_of verbs.DelGroup = record {
   positions = group;
   operands = [];
   excluded = [];
+  needed = [];
 }
 row_of verbs.Connect = record {
   name = codes "CONNECT";
@@ -140,6 +156,7 @@ row_of verbs.Connect = record {
   excluded =
       (words.Special, words.Nospecial) ∷ (words.Operations, words.Nooperations)
       ∷ (words.Auditor, words.Noauditor) ∷ (words.Revoke, words.Resume) ∷ [];
+  needed = [];
 }
 row_of verbs.Remove = record {
   name = codes "REMOVE";
@@ -148,6 +165,7 @@ row_of verbs.Remove = record {
   operands =
       takes words.Group kinds.Group ∷ [];
   excluded = [];
+  needed = [];
 }
 row_of verbs.AddSd = record {
   name = codes "ADDSD";
@@ -159,6 +177,7 @@ row_of verbs.AddSd = record {
       ∷ takes words.Seclabel kinds.Id ∷ takes words.Generic kinds.Generic ∷ [];
   excluded =
       (words.Warning, words.Nowarning) ∷ [];
+  needed = [];
 }
 row_of verbs.AltSd = record {
   name = codes "ALTDSD";
@@ -172,6 +191,7 @@ row_of verbs.AltSd = record {
   excluded =
       (words.Warning, words.Nowarning) ∷ (words.Seclevel, words.Noseclevel)
       ∷ (words.Seclabel, words.Noseclabel) ∷ [];
+  needed = [];
 }
 row_of verbs.DelSd = record {
   name = codes "DELDSD";
@@ -180,6 +200,7 @@ row_of verbs.DelSd = record {
   operands =
       takes words.Generic kinds.Generic ∷ [];
   excluded = [];
+  needed = [];
 }
 row_of verbs.RDefine = record {
   name = codes "RDEFINE";
@@ -191,6 +212,7 @@ row_of verbs.RDefine = record {
       ∷ takes words.Seclabel kinds.Id ∷ takes words.Addmem kinds.AddedMembers ∷ [];
   excluded =
       (words.Warning, words.Nowarning) ∷ [];
+  needed = [];
 }
 row_of verbs.RAlter = record {
   name = codes "RALTER";
@@ -205,6 +227,7 @@ row_of verbs.RAlter = record {
   excluded =
       (words.Warning, words.Nowarning) ∷ (words.Seclevel, words.Noseclevel)
       ∷ (words.Seclabel, words.Noseclabel) ∷ [];
+  needed = [];
 }
 row_of verbs.RDelete = record {
   name = codes "RDELETE";
@@ -212,6 +235,7 @@ row_of verbs.RDelete = record {
   positions = class_and_profile;
   operands = [];
   excluded = [];
+  needed = [];
 }
 row_of verbs.Permit = record {
   name = codes "PERMIT";
@@ -223,4 +247,26 @@ row_of verbs.Permit = record {
       ∷ flag words.Delete ∷ takes words.When kinds.When ∷ takes words.Generic kinds.Generic ∷ [];
   excluded =
       (words.Access, words.Delete) ∷ [];
+  needed =
+      record { asked_by = None; one_of = words.Id ∷ words.Reset ∷ []; missing = words.Id }
+      ∷ record { asked_by = Some (words.Access ∷ words.Delete ∷ words.When ∷ []); one_of = words.Id ∷ []; missing = words.Id } ∷ [];
+}
+row_of verbs.SetRopts = record {
+  name = codes "SETROPTS";
+  abbreviation = codes "SETR";
+  positions = [];
+  operands =
+      takes words.Classact kinds.Ids ∷ takes words.Noclassact kinds.Ids ∷ flag words.Grplist ∷ flag words.Nogrplist
+      ∷ takes words.Protectall kinds.Failures ∷ flag words.Noprotectall ∷ takes words.Mls kinds.Failures
+      ∷ flag words.Nomls ∷ takes words.Raclist kinds.Ids ∷ takes words.Noraclist kinds.Ids
+      ∷ takes words.Global kinds.Ids ∷ takes words.Noglobal kinds.Ids ∷ takes words.Generic kinds.Ids
+      ∷ flag words.Refresh ∷ takes words.Logoptions kinds.LogOptions ∷ [];
+  excluded =
+      (words.Grplist, words.Nogrplist) ∷ (words.Protectall, words.Noprotectall) ∷ (words.Mls, words.Nomls)
+      ∷ (words.Refresh, words.Classact) ∷ (words.Refresh, words.Noclassact) ∷ (words.Refresh, words.Grplist)
+      ∷ (words.Refresh, words.Nogrplist) ∷ (words.Refresh, words.Protectall) ∷ (words.Refresh, words.Noprotectall)
+      ∷ (words.Refresh, words.Mls) ∷ (words.Refresh, words.Nomls) ∷ (words.Refresh, words.Noraclist)
+      ∷ (words.Refresh, words.Noglobal) ∷ (words.Refresh, words.Logoptions) ∷ [];
+  needed =
+      record { asked_by = Some (words.Refresh ∷ []); one_of = words.Raclist ∷ words.Generic ∷ words.Global ∷ []; missing = words.Raclist } ∷ [];
 }

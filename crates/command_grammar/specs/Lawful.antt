@@ -1,5 +1,5 @@
 -- Which commands a text can spell.
-use Rattle.std.specs.Prelude.{◌≡◌, ℕ, List, [], ◌∷◌, false, Option, None, Some, if◌then◌else◌}
+use Rattle.std.specs.Prelude.{◌≡◌, ℕ, List, [], ◌∷◌, Option, None, Some, if◌then◌else◌}
 use Rattle.command_grammar.specs.declared.table.Position.{Position}
 use Rattle.command_grammar.specs.declared.table.Operand.{Operand}
 use Rattle.command_grammar.specs.declared.table.Verb.{Verb}
@@ -7,7 +7,7 @@ use Rattle.command_values.specs.declared.values.Content.{Content}
 use Rattle.command_values.specs.declared.values.Known.{Known}
 use Rattle.command_values.specs.LawfulValues.{Fits, Suits}
 use Rattle.command_grammar.specs.Table.{positions_of, operands_of}
-use Rattle.command_grammar.specs.Reading.{Generic, Slots, clash, known_behind, is_late, class_in, completed, missing}
+use Rattle.command_grammar.specs.Reading.{Generic, Slots, clash, known_behind, is_late, class_in, completed, lacking}
 
 -- a value for each positional word
 abbrev pub FitsPositions : List Position → List Content → Type 0
@@ -52,6 +52,6 @@ pub record IsLawful (g : Generic) : Type 0 where
   pub fits_operands : FitsAll (operands_of g.verb) g.slots
   pub suits_positions : SuitsPositions (first_known g.verb g.slots) (positions_of g.verb) g.positions
   pub suits_operands : SuitsAll (known_last (first_known g.verb g.slots) (positions_of g.verb) g.positions) (operands_of g.verb) g.slots
-  pub needed : missing g.verb g.slots ≡ false
+  pub needed : lacking g.verb g.slots ≡ None
   pub complete : completed g.verb g.slots ≡ g.slots
   pub apart : clash g.verb g.slots ≡ None

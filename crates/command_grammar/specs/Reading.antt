@@ -1,6 +1,6 @@
 -- How a text is read: the command, its positional words, its operands.
-use Rattle.std.specs.Prelude.{ℕ, List, [], ◌∷◌, ◌++◌, Bool, true, false, ◌&&◌, ◌||◌, not, nat_lt, nat_eq, length, map, bytes_eq, slice_set, replicate, count_by, position, find, if◌then◌else◌, is_some, is_ok, Option, None, Some, Result, Ok, Err}
-use Rattle.std.specs.List.{starts_with, slice_index_or}
+use Rattle.std.specs.Prelude.{ℕ, List, [], ◌∷◌, ◌++◌, Bool, true, false, ◌&&◌, ◌||◌, not, nat_lt, nat_eq, length, map, bytes_eq, slice_set, replicate, count_by, position, find, if◌then◌else◌, is_some, is_ok, Option, None, Some, option_map, Result, Ok, Err}
+use Rattle.std.specs.List.{starts_with, slice_index_or, list_any}
 use Rattle.command_words.specs.declared.quoting.Quoting.TheVariants.{Ignored}
 use Rattle.command_words.specs.Bytes.{upper}
 use Rattle.command_words.specs.Tokens.{Token, Word, Group, Open, Close, tokens, of_command, of_naming_command}
@@ -18,7 +18,8 @@ use Rattle.command_grammar.specs.declared.table.Operand.{Operand}
 use Rattle.command_values.specs.declared.values.Content.{Content}
 use Rattle.command_values.specs.declared.values.Content.TheVariants as contents
 use Rattle.command_values.specs.OperandWords.{spelling_of, same_word}
-use Rattle.command_grammar.specs.Table.{positions_of, operands_of, excluded_of, default_of, verb_named}
+use Rattle.command_grammar.specs.CommandTable.{Needed}
+use Rattle.command_grammar.specs.Table.{positions_of, operands_of, excluded_of, needed_of, default_of, verb_named}
 use Rattle.command_values.specs.Results.{◌>>=◌, or_fault}
 use Rattle.command_values.specs.declared.values.Context.{Context}
 use Rattle.command_values.specs.declared.values.Scope.{Scope}
@@ -194,19 +195,29 @@ completed v slots =
     if is_late (positions_of v) then with_access (with_class (cleared (generic_place (operands_of v)) slots))
     else cleared (generic_place (operands_of v)) slots
 
--- PERMIT needs ID or RESET, and ACCESS, DELETE and WHEN need ID.
-abbrev pub needs_id : Slots → Bool
-needs_id slots = permits words.Access slots || permits words.Delete slots || permits words.When slots
+-- whether one of these operands stands
+abbrev pub any_stands : Verb → List OperandWord → Slots → Bool
+any_stands v ws slots = list_any (λ w. stands v w slots) ws
 
-abbrev pub lacks_id : Slots → Bool
-lacks_id slots = not (permits words.Id slots || (permits words.Reset slots && not (needs_id slots)))
+-- Operands that a command needs lack where they are asked for and none of them stands.
+abbrev pub is_asked : Verb → Option (List OperandWord) → Slots → Bool
+is_asked v None slots = true
+is_asked v (Some ws) slots = any_stands v ws slots
 
-abbrev pub missing : Verb → Slots → Bool
-missing v slots = is_late (positions_of v) && lacks_id slots
+abbrev pub lacks : Verb → Slots → Needed → Bool
+lacks v slots row = is_asked v row.asked_by slots && not (any_stands v row.one_of slots)
+
+-- the word that a refusal names for the first of them
+abbrev pub lacking : Verb → Slots → Option OperandWord
+lacking v slots = option_map (λ (row : Needed). row.missing) (find (lacks v slots) (needed_of v))
+
+abbrev pub unless_lacking : Option OperandWord → Result Slots Syntax → Result Slots Syntax
+unless_lacking None r = r
+unless_lacking (Some w) r = Err (faults.Missing w)
 
 -- What is judged when the whole text was read: the operands that lack, and then those that exclude one another.
 abbrev pub closed : Verb → Slots → Result Slots Syntax
-closed v slots = if missing v slots then Err (faults.Missing words.Id) else unless_clash (clash v (completed v slots)) (completed v slots)
+closed v slots = unless_lacking (lacking v slots) (unless_clash (clash v (completed v slots)) (completed v slots))
 
 -- A command as the table sees it: its positional words, and a slot for each row of its operands.
 pub record Generic : Type 0 where

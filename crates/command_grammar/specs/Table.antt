@@ -6,7 +6,7 @@ use Rattle.command_grammar.specs.declared.table.Position.{Position}
 use Rattle.command_grammar.specs.declared.table.Operand.{Operand}
 use Rattle.command_values.specs.declared.values.Content.{Content}
 use Rattle.command_values.specs.OperandWords.{same_word}
-use Rattle.command_grammar.specs.CommandTable.{OperandRow, row_of, commands}
+use Rattle.command_grammar.specs.CommandTable.{OperandRow, Needed, row_of, commands}
 
 abbrev pub full_name : Verb → List ℕ
 full_name v = (row_of v).name
@@ -22,6 +22,9 @@ operands_of v = map (λ (row : OperandRow). row.operand) (row_of v).operands
 
 abbrev pub excluded_of : Verb → List (Word × Word)
 excluded_of v = (row_of v).excluded
+
+abbrev pub needed_of : Verb → List Needed
+needed_of v = (row_of v).needed
 
 -- the value that an operand has where it isn't given
 abbrev pub default_of : Verb → Word → Option Content

@@ -1,12 +1,13 @@
 //! What is judged when the whole text was read: operands that lack, operands that exclude one another, and the defaults
 //! that the canonical text writes.
 
-ghost use Rattle.std.specs.Prelude.{◌≡◌, ◌<◌, None, length, position, slice_set, slice_index_or, IfSome, option_copied};
+ghost use Rattle.std.specs.Prelude.{◌≡◌, ◌<◌, None, length, find, position, slice_set, slice_index_or, IfSome, option_copied};
 ghost use Rattle.command_grammar.specs.Table.{positions_of};
 ghost use Rattle.command_values.specs.Results.{Finds};
-ghost use Rattle.command_grammar.specs.Reading.{has_word, slot_for as slot_of_word, stands as stands_in, with_slot, permits as permits_in, clash as clash_of, is_generic_kind as leaves_nothing, generic_place as place_of_generic, cleared as cleared_of, is_late_kind as is_judged_late, is_late as judges_late, with_class as class_filled, with_access as access_filled, completed, means_read as reads, needs_id as id_needed, lacks_id as id_lacks, closed as closed_of, class_in as named_class, mark_in as mark_of, late_closed as late_closed_of};
+ghost use Rattle.command_grammar.specs.Parts.{needed};
+ghost use Rattle.command_grammar.specs.Reading.{has_word, slot_for as slot_of_word, stands as stands_in, with_slot, permits as permits_in, clash as clash_of, is_generic_kind as leaves_nothing, generic_place as place_of_generic, cleared as cleared_of, is_late_kind as is_judged_late, is_late as judges_late, with_class as class_filled, with_access as access_filled, completed, means_read as reads, any_stands as any_stands_in, is_asked as is_asked_in, lacks as lacks_in, lacking as lacking_in, closed as closed_of, class_in as named_class, mark_in as mark_of, late_closed as late_closed_of};
 
-use crate::table::{Operand, Verb};
+use crate::table::{Needed, Operand, Verb};
 use access_levels::{Id, Level};
 use command_values::{Content, Syntax, ValueKind, Word, is_same};
 use generic_names::Pattern;
@@ -166,26 +167,51 @@ fn complete(verb: Verb, slots: &mut Slots)
     }
 }
 
-/// Whether ACCESS, DELETE or WHEN was given, which need ID.
-fn needs_id(slots: &[Option<Content>]) -> bool
-    ensures { result ≡ id_needed slots.now }
+/// Whether one of these operands was given.
+fn any_stands(verb: Verb, slots: &[Option<Content>], words: &[Word]) -> bool
+    ensures { result ≡ any_stands_in verb words.now slots.now }
 {
-    permits(slots, Word::Access) || permits(slots, Word::Delete) || permits(slots, Word::When)
+    words.iter().any(|word| stands(verb, slots, *word))
 }
 
-/// Whether PERMIT lacks an ID that it asks for.
-fn lacks_id(slots: &[Option<Content>]) -> bool
-    ensures { result ≡ id_lacks slots.now }
+/// Whether operands of the row are asked for.
+fn is_asked(verb: Verb, slots: &[Option<Content>], row: &Needed) -> bool
+    ensures { result ≡ is_asked_in verb (needed row.now).asked_by slots.now }
 {
-    !(permits(slots, Word::Id) || (permits(slots, Word::Reset) && !needs_id(slots)))
+    match row.asked_by {
+        Some(words) => any_stands(verb, slots, words),
+        None => true,
+    }
+}
+
+/// Whether operands of the row are asked for and none of them was given.
+fn lacks(verb: Verb, slots: &[Option<Content>], row: &Needed) -> bool
+    ensures { result ≡ lacks_in verb slots.now (needed row.now) }
+{
+    is_asked(verb, slots, row) && !any_stands(verb, slots, row.one_of)
+}
+
+/// The first of these rows whose operands lack.
+fn first_lacking(verb: Verb, slots: &[Option<Content>], rows: &[Needed]) -> Option<Needed>
+    ensures { result ≡ find (λ row. lacks_in verb slots.now (needed row)) rows.now }
+{
+    rows.iter().copied().find(|row| lacks(verb, slots, row))
+}
+
+/// The word that a refusal names for the operands that lack.
+#[tactic(auto, using(crate::proofs::Needs::find_mapped))]
+fn lacking(verb: Verb, slots: &[Option<Content>]) -> Option<Word>
+    ensures { result ≡ lacking_in verb slots.now }
+{
+    Some(first_lacking(verb, slots, verb.needed())?.missing)
 }
 
 /// The slots of a command whose whole text was read, with its defaults.
 pub fn closed(verb: Verb, slots: Slots) -> Result<Slots, Syntax>
     ensures { Finds (λ s. s.items) result (closed_of verb slots.items) }
 {
-    if is_late(verb) && lacks_id(&slots) {
-        return Err(Syntax::Missing(Word::Id));
+    if let Some(word) = lacking(verb, &slots) {
+        return Err(Syntax::Missing(word));
     }
     let mut slots = slots;
     complete(verb, &mut slots);

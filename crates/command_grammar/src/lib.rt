@@ -17,8 +17,9 @@ mod operands;
 mod printing;
 mod profile_table;
 mod reading;
+mod setropts_table;
 mod table;
 
 pub use printing::printed;
 pub use reading::{LONGEST, Parts, read};
-pub use table::{Operand, Position, Verb};
+pub use table::{Needed, Operand, Position, Verb};

@@ -5,7 +5,7 @@ use crate::operand_rows::{
     ACCESS, ADDCATEGORY, ADDMEM, AUDIT, CLASS, DELCATEGORY, DELETE, DELMEM, GENERIC, GLOBALAUDIT,
     ID, NOSECLABEL, NOSECLEVEL, NOWARNING, OWNER, RESET, SECLABEL, SECLEVEL, UACC, WARNING, WHEN,
 };
-use crate::table::{Operand, Position};
+use crate::table::{Needed, Operand, Position};
 use command_values::{ValueKind, Word};
 
 /// The positional word of a command that names a data set profile.
@@ -121,3 +121,17 @@ pub const PERMIT_OPERANDS: [Operand; 7] = [CLASS, RESET, ID, ACCESS, DELETE, WHE
 
 /// The operands of PERMIT that exclude one another.
 pub const PERMIT_EXCLUDED: [(Word, Word); 1] = [(Word::Access, Word::Delete)];
+
+/// The operands that PERMIT needs (a static, since its rows hold references).
+pub static PERMIT_NEEDED: [Needed; 2] = [
+    Needed {
+        asked_by: None,
+        one_of: &[Word::Id, Word::Reset],
+        missing: Word::Id,
+    },
+    Needed {
+        asked_by: Some(&[Word::Access, Word::Delete, Word::When]),
+        one_of: &[Word::Id],
+        missing: Word::Id,
+    },
+];

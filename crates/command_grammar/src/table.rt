@@ -1,10 +1,12 @@
-//! The table of commands: how each is called, its positional words and its operands, in the order in which they are
-//! written (z/OS Security Server RACF Command Language Reference; the order is this product's own).
+//! The table of commands: how each is called, its positional words, its operands in the order in which they are written,
+//! and which of them exclude one another or are needed (z/OS Security Server RACF Command Language Reference; the order
+//! is this product's own).
 //!
 //! The reader, the printer and the laws about them all go by this table. A further command is a variant of `Verb`, its
 //! names and its rows.
 
-ghost use Rattle.std.specs.Prelude.{◌≡◌};
+ghost use Rattle.std.specs.Prelude.{◌≡◌, map};
+ghost use Rattle.command_grammar.specs.Parts.{needed as needed_row};
 
 use crate::operand_rows::{
     ADDCATEGORY, AUDITOR, AUTHORITY, CLAUTH, DELCATEGORY, DFLTGRP, GROUP, NAME, NOAUDITOR,
@@ -13,9 +15,10 @@ use crate::operand_rows::{
 };
 use crate::profile_table::{
     ADDSD_EXCLUDED, ADDSD_OPERANDS, ALTDSD_EXCLUDED, ALTDSD_OPERANDS, CLASS_POSITIONS,
-    DATASET_POSITION, DELDSD_OPERANDS, PERMIT_EXCLUDED, PERMIT_OPERANDS, PERMIT_POSITION,
-    RALTER_EXCLUDED, RALTER_OPERANDS, RDEFINE_EXCLUDED, RDEFINE_OPERANDS,
+    DATASET_POSITION, DELDSD_OPERANDS, PERMIT_EXCLUDED, PERMIT_NEEDED, PERMIT_OPERANDS,
+    PERMIT_POSITION, RALTER_EXCLUDED, RALTER_OPERANDS, RDEFINE_EXCLUDED, RDEFINE_OPERANDS,
 };
+use crate::setropts_table::{SETROPTS_EXCLUDED, SETROPTS_NEEDED, SETROPTS_OPERANDS};
 use command_values::{ValueKind, Word};
 
 /// The commands.
@@ -36,10 +39,11 @@ pub enum Verb {
     RAlter,
     RDelete,
     Permit,
+    SetRopts,
 }
 
 /// The commands in the order of the table.
-pub const VERBS: [Verb; 15] = [
+pub const VERBS: [Verb; 16] = [
     Verb::AddUser,
     Verb::AltUser,
     Verb::DelUser,
@@ -55,6 +59,7 @@ pub const VERBS: [Verb; 15] = [
     Verb::RAlter,
     Verb::RDelete,
     Verb::Permit,
+    Verb::SetRopts,
 ];
 
 /// A positional word: the word that a refusal names it by, and what it is.
@@ -69,6 +74,16 @@ pub struct Position {
 pub struct Operand {
     pub word: Word,
     pub kind: ValueKind,
+}
+
+/// Operands of which a command needs one: always, or where an operand that asks for it stands.
+#[derive(Clone, Copy, Debug, PartialEq, Eq)]
+pub struct Needed {
+    /// The operands that ask for it; `None` is always.
+    pub asked_by: Option<&'static [Word]>,
+    pub one_of: &'static [Word],
+    /// The word that a refusal names.
+    pub missing: Word,
 }
 
 /// The positional word of a command that names a user.
@@ -182,7 +197,7 @@ pub const CONNECT_EXCLUDED: [(Word, Word); 4] = [
 pub const REMOVE_OPERANDS: [Operand; 1] = [GROUP];
 
 impl Verb {
-    ghost use Rattle.command_grammar.specs.Table.{full_name, short_name, positions_of, operands_of, excluded_of};
+    ghost use Rattle.command_grammar.specs.Table.{full_name, short_name, positions_of, operands_of, excluded_of, needed_of};
 
     /// The command's full name.
     pub fn full_name(self) -> &'static [u8]
@@ -204,6 +219,7 @@ impl Verb {
             Verb::RAlter => b"RALTER".as_slice(),
             Verb::RDelete => b"RDELETE".as_slice(),
             Verb::Permit => b"PERMIT".as_slice(),
+            Verb::SetRopts => b"SETROPTS".as_slice(),
         }
     }
 
@@ -227,6 +243,7 @@ impl Verb {
             Verb::RAlter => b"RALT".as_slice(),
             Verb::RDelete => b"RDEL".as_slice(),
             Verb::Permit => b"PE".as_slice(),
+            Verb::SetRopts => b"SETR".as_slice(),
         }
     }
 
@@ -250,6 +267,7 @@ impl Verb {
             Verb::RAlter => &CLASS_POSITIONS,
             Verb::RDelete => &CLASS_POSITIONS,
             Verb::Permit => &PERMIT_POSITION,
+            Verb::SetRopts => &[],
         }
     }
 
@@ -273,6 +291,7 @@ impl Verb {
             Verb::RAlter => &RALTER_OPERANDS,
             Verb::RDelete => &[],
             Verb::Permit => &PERMIT_OPERANDS,
+            Verb::SetRopts => &SETROPTS_OPERANDS,
         }
     }
 
@@ -296,6 +315,18 @@ impl Verb {
             Verb::RAlter => &RALTER_EXCLUDED,
             Verb::RDelete => &[],
             Verb::Permit => &PERMIT_EXCLUDED,
+            Verb::SetRopts => &SETROPTS_EXCLUDED,
+        }
+    }
+
+    /// The operands that the command needs, in the order in which they are judged.
+    pub fn needed(self) -> &'static [Needed]
+        ensures { map needed_row result.now ≡ needed_of self }
+    {
+        match self {
+            Verb::Permit => &PERMIT_NEEDED,
+            Verb::SetRopts => &SETROPTS_NEEDED,
+            _ => &[],
         }
     }
 }

@@ -21,17 +21,18 @@ use Rattle.command_values.specs.declared.values.Content.{Content}
 use Rattle.command_values.specs.declared.values.Known.{Known}
 use Rattle.command_grammar.specs.Table.{operands_of}
 use Rattle.command_values.specs.Values.{name_of, unless_dataset}
-use Rattle.command_grammar.specs.Reading.{Slots, has_word}
+use Rattle.command_grammar.specs.Reading.{Slots, has_word, lacking}
 use Rattle.command_values.specs.declared.log_options.LogClause.{LogClause}
 use Rattle.command_values.specs.LawfulValues.{Each, AreNames, AreNamed, IsClause, Fits, Suits}
 use Rattle.command_grammar.specs.Lawful.{FitsAll, SuitsAll, IsLawful}
 use Rattle.command_values.proofs.Names.{name-plain, name-group}
 use Rattle.command_values.proofs.Patterns.{dataset-named, class-named}
+use Rattle.command_parser.specs.declared.option_fields.SetRopts.{SetRopts}
 use Rattle.command_parser.specs.declared.fields.CommandFields.{CommandFields}
 use Rattle.command_parser.specs.declared.fields.CommandFields.TheVariants as command
-use Rattle.command_parser.specs.Operands.{id_value, name_value, ids_value, audit_value, whos_value, when_value, members_value, member_names_value, log_clauses_value}
+use Rattle.command_parser.specs.Operands.{id_value, name_value, ids_value, audit_value, whos_value, when_value, members_value, member_names_value, log_clauses_value, values_of, operands_of_set_ropts}
 use Rattle.command_parser.specs.Canonical.{generic_view}
-use Rattle.command_parser.specs.LawfulFields.{IsId, IsGroupName, IsUserName, IsClauthWord, IsAudit, IsNamedOne, AreWhosOfPermit, IsPort, AreMembersOf, AreMemberNamesOf, IsLogClause, AreLawfulFields}
+use Rattle.command_parser.specs.LawfulFields.{IsId, IsGroupName, IsUserName, IsClauthWord, IsAudit, IsNamedOne, AreWhosOfPermit, IsPort, AreMembersOf, AreMemberNamesOf, IsLogClause, refreshes_some, AreLawfulFields}
 
 -- where the operand with this word stands among the rows
 abbrev place : Word → List Operand → ℕ
@@ -149,6 +150,18 @@ log-clauses-given : (cs : List LogClause) → IfFits kinds.LogOptions (log_claus
 log-clauses-given [] h = tt
 log-clauses-given (c ∷ cs) h = each-log-clause (c ∷ cs) h.2
 
+-- REFRESH needs RACLIST, GLOBAL or GENERIC
+abbrev slots_with : SetRopts → Bool → (raclist global generic : List (List ℕ)) → Slots
+slots_with a refresh raclist global generic = values_of (operands_of_set_ropts (record a { refresh = refresh; raclist = raclist; global = global; generic = generic }))
+
+refresh-given : (a : SetRopts) (refresh : Bool) (raclist global generic : List (List ℕ)) → lacking verbs.SetRopts (slots_with a refresh raclist global generic) ≡ None
+    → refreshes_some (record a { refresh = refresh; raclist = raclist; global = global; generic = generic }) ≡ true
+refresh-given a false raclist global generic h = refl
+refresh-given a true (class ∷ classes) global generic h = refl
+refresh-given a true [] (class ∷ classes) generic h = refl
+refresh-given a true [] [] (class ∷ classes) h = refl
+refresh-given a true [] [] [] h = cc
+
 pub fields-lawful : (c : CommandFields) → IsLawful (generic_view c) → AreLawfulFields c
 fields-lawful (command.AddUser a) lawful =
     let fits = λ (w : Word). fits-at (place w (operands_of verbs.AddUser)) (operands_of verbs.AddUser) (generic_view (command.AddUser a)).slots lawful.fits_operands in
@@ -258,6 +271,7 @@ fields-lawful (command.Permit a) lawful =
 fields-lawful (command.SetRopts a) lawful =
     let fits = λ (w : Word). fits-at (place w (operands_of verbs.SetRopts)) (operands_of verbs.SetRopts) (generic_view (command.SetRopts a)).slots lawful.fits_operands in
     record {
+      refresh = refresh-given a a.refresh a.raclist a.global a.generic lawful.needed;
       classact = ids-given a.classact (fits words.Classact);
       noclassact = ids-given a.noclassact (fits words.Noclassact);
       raclist = ids-given a.raclist (fits words.Raclist);

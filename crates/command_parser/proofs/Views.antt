@@ -180,6 +180,7 @@ again-some kinds.When (contents.When condition) h = refl
 again-some kinds.AddedMembers (contents.Members (x ∷ xs)) h = refl
 again-some kinds.DroppedMembers (contents.MemberNames (x ∷ xs)) h = refl
 again-some kinds.Failures contents.Failures h = refl
+again-some kinds.LogOptions (contents.LogOptions []) h = absurd h.0
 again-some kinds.LogOptions (contents.LogOptions (x ∷ xs)) h = refl
 again-some k v h = absurd h
 

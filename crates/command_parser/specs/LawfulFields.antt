@@ -1,11 +1,11 @@
 -- What the grammar keeps of each command's fields, where a text spells it.
-use Rattle.std.specs.Prelude.{◌≡◌, ℕ, List, [], ◌∷◌, true, false, codes, bytes_eq, IfSome, Some, Ok}
+use Rattle.std.specs.Prelude.{◌≡◌, ℕ, List, [], ◌∷◌, Bool, true, false, ◌||◌, not, codes, bytes_eq, IfSome, IsTrue, Some, Ok}
 use Rattle.access_levels.specs.Spelling.{id_of, group_of}
 use Rattle.access_levels.specs.declared.entries.Who.{Who}
 use Rattle.access_levels.specs.declared.entries.Who.TheVariants.{Star, Named}
 use Rattle.access_levels.specs.declared.entries.Condition.{Condition}
 use Rattle.generic_names.specs.declared.kind.NameKind.TheVariants.{DataSet, General}
-use Rattle.generic_names.specs.Spelled.{Spelled}
+use Rattle.generic_names.specs.Spelled.{Spelled, is_empty}
 use Rattle.racf_profiles.specs.declared.profiles.AuditRule.{AuditRule}
 use Rattle.racf_profiles.specs.declared.profiles.Member.{Member}
 use Rattle.command_values.specs.Values.{is_name}
@@ -196,8 +196,12 @@ pub record IsLawfulPermit (a : Permit) : Type 0 where
   pub id : AreWhosOfPermit a.id
   pub when : IfSome a.when IsPort
 
--- SETROPTS, whose classes need not be in the table
+-- SETROPTS, whose classes need not be in the table; REFRESH stands with RACLIST, GLOBAL or GENERIC
+abbrev pub refreshes_some : SetRopts → Bool
+refreshes_some a = not a.refresh || not (is_empty a.raclist) || not (is_empty a.global) || not (is_empty a.generic)
+
 pub record IsLawfulSetRopts (a : SetRopts) : Type 0 where
+  pub refresh : IsTrue (refreshes_some a)
   pub classact : Each IsId a.classact
   pub noclassact : Each IsId a.noclassact
   pub raclist : Each IsId a.raclist

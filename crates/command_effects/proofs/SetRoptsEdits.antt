@@ -2,6 +2,7 @@
 use Rattle.std.proofs.Common.{◌≡◌, ℕ, Bool, true, false, cond, ◌&&◌, ◌||◌, not, List, [], ◌∷◌, ◌++◌, map, refl, sym, ap, subst, ◌∙◌}
 use Rattle.std.specs.List.{filter, list_all, list_any, AllByRecursion}
 use Rattle.std.proofs.lemmas.Bool.{and_parts, or_parts}
+use Rattle.std.proofs.lemmas.List.{append_assoc}
 use Rattle.racf_profiles.specs.declared.class_rows.ClassRow.{ClassRow}
 use Rattle.racf_profiles.specs.declared.class_rows.LogOption.{LogOption}
 use Rattle.racf_profiles.specs.declared.options.Options.{Options}
@@ -177,9 +178,33 @@ module _ (c : SetRopts) where
       ∙ ap (changed (flags ++ (listed ++ unlisted))) (changed-options rows)
       ∙ changed-both flags (listed ++ unlisted) set
       ∙ ap (changed (listed ++ unlisted))
-        (changed-each flags_edit (λ class. let made : ClassRow = set_class c class in with_flags made.active made.global made.log) (λ class before. refl) (λ class row. refl) (sets_flags c) (λ class. class) (λ class. refl) classes set apart (map-same classes))
+      (changed-each flags_edit (λ class. let made : ClassRow = set_class c class in with_flags made.active made.global made.log) (λ class before. refl) (λ class row. refl) (sets_flags c) (λ class. class) (λ class. refl) classes set apart (map-same classes))
       ∙ changed-both listed unlisted (record set { classes = map now_flagged classes })
       ∙ ap (changed unlisted)
-        (changed-each list_edit (λ class. with_listed true) (λ class before. refl) (λ class row. refl) (lists c) now_flagged name-flagged classes (record set { classes = map now_flagged classes }) apart refl)
+      (changed-each list_edit (λ class. with_listed true) (λ class before. refl) (λ class row. refl) (lists c) now_flagged name-flagged classes (record set { classes = map now_flagged classes }) apart refl)
       ∙ changed-each unlist_edit (λ class. with_listed false) (λ class before. refl) (λ class row. refl) (unlists c) now_listed name-listed classes (record set { classes = map now_listed classes }) apart refl
       ∙ ap (λ (all : List ClassRow). record set { classes = all }) (all-set classes refreshes)
+
+  -- ---- the edits, made part by part
+  module _ (options : Options) (classes : List ClassRow) where
+    abbrev first_part : List Edit
+    first_part = cond (sets_options c) (PutOptions (set_options c options) ∷ []) []
+
+    abbrev flags_part : List Edit
+    flags_part = map flags_edit (filter (sets_flags c) classes)
+
+    abbrev listed_part : List Edit
+    listed_part = map list_edit (filter (lists c) classes)
+
+    abbrev unlisted_part : List Edit
+    unlisted_part = map unlist_edit (filter (unlists c) classes)
+
+    pub parts-joined : (rows : Rows) (one two three all : List Edit) → options ≡ rows.options → classes ≡ rows.classes → one ≡ first_part → two ≡ one ++ flags_part → three ≡ two ++ listed_part → all ≡ three ++ unlisted_part
+        → all ≡ edits_of_set_ropts c rows
+    parts-joined rows one two three all same_options same_classes one_is two_is three_is all_is =
+        all_is
+        ∙ ap (λ edits. edits ++ unlisted_part) (three_is ∙ ap (λ edits. edits ++ listed_part) (two_is ∙ ap (λ edits. edits ++ flags_part) one_is))
+        ∙ append_assoc (first_part ++ flags_part) listed_part unlisted_part
+        ∙ append_assoc first_part flags_part (listed_part ++ unlisted_part)
+        ∙ ap (λ (old : Options). cond (sets_options c) (PutOptions (set_options c old) ∷ []) [] ++ (flags_part ++ (listed_part ++ unlisted_part))) same_options
+        ∙ ap (λ (now : List ClassRow). options_edits rows ++ (map flags_edit (filter (sets_flags c) now) ++ (map list_edit (filter (lists c) now) ++ map unlist_edit (filter (unlists c) now)))) same_classes

@@ -32,11 +32,7 @@ pub(super) fn edits_of_set_ropts(
 }
 
 /// The edit of the options, where the command sets one.
-fn options_set(
-    alloc: Global,
-    command: &SetRopts,
-    options: &Options,
-) -> Result<Vec<Edit>, NoMemory>
+fn options_set(alloc: Global, command: &SetRopts, options: &Options) -> Result<Vec<Edit>, NoMemory>
     ensures { IfOk result (λ edits. edits.items ≡ (if sets_options command.now then PutOptions (set_options command.now options.now) ∷ [] else [])) }
 {
     if !sets_options(command) {

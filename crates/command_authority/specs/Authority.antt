@@ -1,6 +1,6 @@
 -- Who may give which command. A requirement is met where one of its needs holds; what is lacking is the whole list of
 -- the first requirement that isn't met.
-use Rattle.std.specs.Prelude.{Bool, false, ◌&&◌, ◌||◌, not, List, Option, option_map, codes}
+use Rattle.std.specs.Prelude.{ℕ, Bool, false, ◌&&◌, ◌||◌, not, List, Option, option_map, codes}
 use Rattle.std.specs.List.{find, list_any}
 use Rattle.std.specs.Option.{option_map_or}
 use Rattle.access_levels.specs.declared.authorities.GroupAuthority.TheVariants.{MayCreate, MayConnect, MayJoin}
@@ -15,7 +15,7 @@ use Rattle.command_authority.specs.declared.requirement.Target.{Target}
 use Rattle.command_authority.specs.declared.requirement.Requirement.{Requirement}
 use Rattle.command_authority.specs.Held.{has_class, has_authority}
 use Rattle.command_authority.specs.Targets.{is_owner, has_group_special, is_own_data, has_alter_entry, has_authority_in}
-use Rattle.command_authority.specs.Requirements.{requirements}
+use Rattle.command_authority.specs.Requirements.{requirements, refreshing}
 
 -- Class authority in the word USER.
 abbrev pub may_define_users : User → Bool
@@ -45,6 +45,10 @@ is_met rows issuer requirement = not requirement.stands || option_map_or (λ (us
 -- The needs of the first requirement that isn't met; none where the issuer may give the command.
 abbrev pub first_unmet : Rows → Issuer → List Requirement → Option (List Need)
 first_unmet rows issuer list = option_map (λ (requirement : Requirement). requirement.needs) (find (λ requirement. not (is_met rows issuer requirement)) list)
+
+-- A class that the issuer may not refresh.
+abbrev pub is_withheld : Rows → Issuer → List ℕ → Bool
+is_withheld rows issuer class = not (is_met rows issuer (refreshing class))
 
 unfoldable pub need : Rows → Issuer → CommandFields → Option (List Need)
 need rows issuer command = first_unmet rows issuer (requirements rows issuer command)

@@ -2,10 +2,10 @@
 ghost use Rattle.std.specs.Prelude.{◌≡◌, ◌↔◌, ℕ, List, map, IsTrue};
 ghost use Rattle.racf_profiles.specs.Scope.{InScopeGroup, InScopeProfile};
 ghost use Rattle.group_tree.specs.ScopeTest.{is_group_in_scope, is_profile_in_scope};
-ghost use Rattle.std.specs.List.{list_any};
+ghost use Rattle.std.specs.List.{find, list_any};
 ghost use Rattle.std.specs.Result.{result_err};
-ghost use Rattle.command_authority.specs.Requirements.{refreshing, set_ropts_requirements};
-ghost use Rattle.command_authority.specs.Authority.{may_define_users, holds, is_met, first_unmet, need};
+ghost use Rattle.command_authority.specs.Requirements.{refreshing, refreshed_classes, set_ropts_requirements};
+ghost use Rattle.command_authority.specs.Authority.{may_define_users, holds, is_met, first_unmet, is_withheld, need};
 
 use crate::groups::{add_group, alt_group, connect, del_group, remove};
 use crate::held::{has_authority, has_class};
@@ -17,9 +17,9 @@ use crate::targets::{
     groups_are_a_tree, has_alter_entry, has_authority_in, has_group_special, is_own_data, is_owner,
 };
 use crate::users::{add_user, alt_user, del_user};
-use access_levels::GroupAuthority;
+use access_levels::{GroupAuthority, Id};
 use command_parser::laws::fields_of_a_text_are_lawful;
-use command_parser::{Command, CommandFields, Issuer, SetRopts, printed_is_read};
+use command_parser::{Command, CommandFields, Ids, Issuer, SetRopts, printed_is_read};
 use group_tree::Tree;
 use group_tree::laws::scope_is_tested;
 use racf_profiles::{User, View};
@@ -101,31 +101,50 @@ fn unmet_of_set_ropts<V: View>(
     requires { tree.now.groups ≡ (V.rows view.now).groups }
     ensures { result_err result ≡ first_unmet (V.rows view.now) issuer.now (set_ropts_requirements command.now) }
 {
-    if !command.refresh {
-        return unmet(view, tree, issuer, &setting(command));
+    if command.refresh {
+        unmet_of_refresh(view, tree, issuer, command)
+    } else {
+        unmet(view, tree, issuer, &setting(command))
     }
-    unmet_of_refresh(view, tree, issuer, &command.raclist.items)?;
-    unmet_of_refresh(view, tree, issuer, &command.global.items)?;
-    unmet_of_refresh(view, tree, issuer, &command.generic.items)
 }
 
-/// The needs of the first class that the issuer may not refresh.
+/// The needs for the first class that the issuer may not refresh.
 fn unmet_of_refresh<V: View>(
     view: &V,
     tree: &Tree,
     issuer: &Issuer,
-    classes: &[Id],
+    command: &SetRopts,
 ) -> Result<(), Needs>
     requires { tree.now.groups ≡ (V.rows view.now).groups }
-    ensures { result_err result ≡ first_unmet (V.rows view.now) issuer.now (map refreshing classes.now) }
+    ensures { result_err result ≡ first_unmet (V.rows view.now) issuer.now (map refreshing (refreshed_classes command.now)) }
 {
-    match classes
-        .iter()
-        .find(|class| !is_met(view, tree, issuer, &refreshing(**class)))
-    {
-        Some(class) => Err(refreshing(*class).needs),
+    let withheld = first_withheld(view, tree, issuer, &command.raclist)
+        .or(first_withheld(view, tree, issuer, &command.global))
+        .or(first_withheld(view, tree, issuer, &command.generic));
+    match withheld {
+        Some(class) => Err(refreshing(class).needs),
         None => Ok(()),
     }
+}
+
+/// The first of the classes that the issuer may not refresh.
+fn first_withheld<V: View>(view: &V, tree: &Tree, issuer: &Issuer, classes: &Ids) -> Option<Id>
+    requires { tree.now.groups ≡ (V.rows view.now).groups }
+    ensures { result ≡ find (is_withheld (V.rows view.now) issuer.now) classes.now }
+{
+    classes
+        .items
+        .iter()
+        .copied()
+        .find(|class| is_withheld(view, tree, issuer, *class))
+}
+
+/// Whether the issuer may not refresh a class.
+fn is_withheld<V: View>(view: &V, tree: &Tree, issuer: &Issuer, class: Id) -> bool
+    requires { tree.now.groups ≡ (V.rows view.now).groups }
+    ensures { result ≡ is_withheld (V.rows view.now) issuer.now class }
+{
+    !is_met(view, tree, issuer, &refreshing(class))
 }
 
 /// Whether a requirement is met: it doesn't stand, or one of its needs holds.

@@ -1,5 +1,5 @@
 -- What the edits of each command leave as it is.
-use Rattle.std.proofs.Common.{◌≡◌, ℕ, true, not, List, [], ◌∷◌, ◌++◌, Option, Some, None, refl}
+use Rattle.std.proofs.Common.{◌≡◌, ℕ, true, false, not, List, [], ◌∷◌, ◌++◌, Option, Some, None, refl}
 use Rattle.std.specs.List.{list_all}
 use Rattle.racf_profiles.specs.declared.users.User.{User}
 use Rattle.racf_profiles.specs.declared.groups.Group.{Group}
@@ -20,9 +20,10 @@ use Rattle.command_parser.specs.declared.fields.CommandFields.TheVariants as fie
 use Rattle.command_effects.specs.ProfileEffects.{dataset, altered_data_set, new_resource, altered_resource}
 use Rattle.command_effects.specs.PermitEffects.{permitted_profile}
 use Rattle.command_effects.specs.Effects.{altered_user, altered_group, connected_user, removed_user}
-use Rattle.command_effects.specs.Edits.{edits_of, put_user, put_group, put_changed, put_options}
+use Rattle.command_effects.specs.Edits.{edits_of, put_user, put_group, put_changed, put_options, is_set_ropts}
+use Rattle.command_effects.proofs.SetRoptsEdits.{set_ropts-classes}
 
--- ---- no copy is made or dropped
+-- ---- no copy is made or dropped, unless by SETROPTS
 abbrev others : List Edit → Type 0
 others edits = list_all (λ (edit : Edit). not (is_of_copies edit)) edits ≡ true
 
@@ -46,22 +47,23 @@ alone-others : (class : List ℕ) (change : Profile → Profile) (o : Option Pro
 alone-others class change None = refl
 alone-others class change (Some profile) = refl
 
-pub edits-others : (issuer : Issuer) (command : CommandFields) (rows : Rows) → others (edits_of issuer command rows)
-edits-others issuer (fields.AddUser c) rows = refl
-edits-others issuer (fields.AltUser c) rows = user-others (altered_user c rows) (user_of c.user rows)
-edits-others issuer (fields.DelUser c) rows = refl
-edits-others issuer (fields.AddGroup c) rows = refl
-edits-others issuer (fields.AltGroup c) rows = group-others (altered_group c) (group_of c.group rows)
-edits-others issuer (fields.DelGroup c) rows = refl
-edits-others issuer (fields.Connect c) rows = user-others (connected_user issuer c) (user_of c.user rows)
-edits-others issuer (fields.Remove c) rows = user-others (removed_user issuer c) (user_of c.user rows)
-edits-others issuer (fields.AddSd c) rows = refl
-edits-others issuer (fields.AltSd c) rows = alone-others dataset (altered_data_set c rows) (profile_of dataset c.profile rows)
-edits-others issuer (fields.DelSd c) rows = refl
-edits-others issuer (fields.RDefine c) rows = options-others c.addmem rows.options
-edits-others issuer (fields.RAlter c) rows = changed-others c.class (altered_resource c rows) (profile_of c.class c.profile rows) c.addmem rows.options
-edits-others issuer (fields.RDelete c) rows = refl
-edits-others issuer (fields.Permit c) rows = alone-others c.class (permitted_profile c) (profile_of c.class c.profile rows)
+pub edits-others : (issuer : Issuer) (command : CommandFields) (rows : Rows) → is_set_ropts command ≡ false → others (edits_of issuer command rows)
+edits-others issuer (fields.AddUser c) rows other = refl
+edits-others issuer (fields.AltUser c) rows other = user-others (altered_user c rows) (user_of c.user rows)
+edits-others issuer (fields.DelUser c) rows other = refl
+edits-others issuer (fields.AddGroup c) rows other = refl
+edits-others issuer (fields.AltGroup c) rows other = group-others (altered_group c) (group_of c.group rows)
+edits-others issuer (fields.DelGroup c) rows other = refl
+edits-others issuer (fields.Connect c) rows other = user-others (connected_user issuer c) (user_of c.user rows)
+edits-others issuer (fields.Remove c) rows other = user-others (removed_user issuer c) (user_of c.user rows)
+edits-others issuer (fields.AddSd c) rows other = refl
+edits-others issuer (fields.AltSd c) rows other = alone-others dataset (altered_data_set c rows) (profile_of dataset c.profile rows)
+edits-others issuer (fields.DelSd c) rows other = refl
+edits-others issuer (fields.RDefine c) rows other = options-others c.addmem rows.options
+edits-others issuer (fields.RAlter c) rows other = changed-others c.class (altered_resource c rows) (profile_of c.class c.profile rows) c.addmem rows.options
+edits-others issuer (fields.RDelete c) rows other = refl
+edits-others issuer (fields.Permit c) rows other = alone-others c.class (permitted_profile c) (profile_of c.class c.profile rows)
+edits-others issuer (fields.SetRopts c) rows other = cc
 
 -- ---- the classes behind each edit
 module _ (rows : Rows) (lawful : AreClasses rows.classes) where
@@ -108,3 +110,4 @@ module _ (rows : Rows) (lawful : AreClasses rows.classes) where
   edits-classes issuer (fields.RAlter c) after = changed-classes c.class (altered_resource c rows) (profile_of c.class c.profile rows) c.addmem rows.options after
   edits-classes issuer (fields.RDelete c) after = (after, tt)
   edits-classes issuer (fields.Permit c) after = alone-classes c.class (permitted_profile c) (profile_of c.class c.profile rows) after
+  edits-classes issuer (fields.SetRopts c) after = set_ropts-classes c rows lawful

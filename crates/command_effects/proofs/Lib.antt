@@ -3,4 +3,6 @@ pub mod ConnectLaws
 pub mod LengthAfterPuts
 pub mod ListCounts
 pub mod ProfileSteps
+pub mod ClassEdits
+pub mod SetRoptsEdits
 pub mod EditsOfCommands

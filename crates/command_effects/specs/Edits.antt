@@ -1,6 +1,6 @@
 -- The edits that a command makes: each is the whole new row, or drops one.
-use Rattle.std.specs.Prelude.{ℕ, Bool, ◌&&◌, ◌||◌, not, List, [], ◌∷◌, ◌++◌, map, if◌then◌else◌, Option, None, Some}
-use Rattle.std.specs.List.{filter, list_any}
+use Rattle.std.specs.Prelude.{ℕ, Bool, true, false, ◌&&◌, ◌||◌, not, List, [], ◌∷◌, ◌++◌, map, if◌then◌else◌, Option, None, Some}
+use Rattle.std.specs.List.{filter, list_any, list_all}
 use Rattle.racf_profiles.specs.declared.class_rows.ClassRow.{ClassRow}
 use Rattle.command_values.specs.declared.log_options.LogClause.{LogClause}
 use Rattle.command_parser.specs.declared.option_fields.SetRopts.{SetRopts}
@@ -82,6 +82,10 @@ lists c class = names_class c.raclist class && (c.refresh || not class.listed)
 abbrev pub unlists : SetRopts → ClassRow → Bool
 unlists c class = names_class c.noraclist class
 
+-- With REFRESH each class that RACLIST names is listed.
+abbrev pub refreshes_listed : SetRopts → List ClassRow → Bool
+refreshes_listed c classes = list_all (λ (class : ClassRow). not (c.refresh && names_class c.raclist class) || class.listed) classes
+
 abbrev pub put_flags : ClassRow → Edit
 put_flags class = PutClass class.name class.active class.global class.log
 
@@ -91,6 +95,10 @@ edits_of_set_ropts c rows =
     ++ (map (λ (class : ClassRow). put_flags (set_class c class)) (filter (sets_flags c) rows.classes)
     ++ (map (λ (class : ClassRow). ListCopy class.name) (filter (lists c) rows.classes)
     ++ map (λ (class : ClassRow). Unlist class.name) (filter (unlists c) rows.classes)))
+
+abbrev pub is_set_ropts : CommandFields → Bool
+is_set_ropts (fields.SetRopts c) = true
+is_set_ropts command = false
 
 abbrev pub edits_of : Issuer → CommandFields → Rows → List Edit
 edits_of issuer (fields.AddUser c) rows = PutUser (new_user issuer c rows) ∷ []

@@ -9,12 +9,14 @@ ghost use Rattle.command_parser.specs.declared.profile_fields.Permit.{Permit};
 ghost use Rattle.command_effects.specs.PermitEffects.{PermitFits};
 ghost use Rattle.command_effects.specs.Edits.{edits_of, put_user, put_group};
 
+mod options;
 mod profiles;
 
 use crate::made::{
     altered_group, altered_user, connected_user, dataset, new_group, new_user, removed_user,
 };
 use command_parser::{AltGroup, AltUser, Command, CommandFields, Connect, Issuer, Remove};
+use options::edits_of_set_ropts;
 use profiles::{
     edits_of_add_sd, edits_of_alt_sd, edits_of_permit, edits_of_r_alter, edits_of_r_define,
 };
@@ -22,7 +24,8 @@ use racf_profiles::{Edit, NoMemory, View};
 use row_tables::RowTables;
 use std::alloc::Global;
 
-/// The edits that the command makes of these rows: at most one of a row, and behind it one of the options.
+/// The edits that the command makes of these rows: at most one of a row, and behind it one of the options. Those of SETROPTS
+/// are one of the options, then those of the flags of classes, and then those that list and unlist classes.
 ///
 /// # Errors
 ///
@@ -58,6 +61,7 @@ pub fn edits_of(
             Edit::DropProfile(command.class, command.profile),
         ),
         CommandFields::Permit(command) => edits_of_permit(alloc, tables, command),
+        CommandFields::SetRopts(command) => edits_of_set_ropts(alloc, tables, command),
     }
 }
 

@@ -17,6 +17,7 @@ use Rattle.lawful_commands.proofs.FieldFacts.{name-lawful, clauth-lawful, audit-
 use Rattle.lawful_commands.proofs.UserCommands.{add_user-lawful, alt_user-lawful, del_user-lawful, connect-lawful, remove-lawful}
 use Rattle.lawful_commands.proofs.GroupCommands.{add_group-lawful, alt_group-lawful, del_group-lawful}
 use Rattle.lawful_commands.proofs.ProfileRows.{PutsAreCounted, profile-dropped-lawful}
+use Rattle.lawful_commands.proofs.OptionCommands.{set_ropts-lawful}
 use Rattle.lawful_commands.proofs.ProfileCommands.{add_sd-lawful, alt_sd-lawful, r_define-lawful, r_alter-lawful, permit-lawful}
 
 -- the tests behind the first one
@@ -46,6 +47,7 @@ module _ (one : OneIsBefore) (puts : PutsAreCounted) (passed_on : PassedOn) (rea
       r_alter-lawful one puts passed_on issuer c rows lawful (audit-lawful c.audit f.audit) (audit-lawful c.globalaudit f.globalaudit) (members-lawful c.class c.profile f.profile c.addmem f.addmem) h
   unconflicted issuer (command.RDelete c) rows lawful f h = profile-dropped-lawful one puts passed_on rows c.class c.profile lawful
   unconflicted issuer (command.Permit c) rows lawful f h = permit-lawful one puts passed_on issuer c rows lawful h
+  unconflicted issuer (command.SetRopts c) rows lawful f h = set_ropts-lawful c rows h lawful
 
   pub step-lawful : (issuer : Issuer) (c : CommandFields) (rows : Rows) → AreLawful rows → AreLawfulFields c → conflict_of issuer c rows ≡ None → AreLawful (step issuer c rows)
   step-lawful issuer c rows lawful f h = unconflicted issuer c rows lawful f (behind (is_unbuilt c) (conflicts issuer c rows) h)

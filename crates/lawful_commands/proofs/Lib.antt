@@ -10,6 +10,7 @@ pub mod EntryLists
 pub mod ProfileNames
 pub mod ProfileCommands
 pub mod FieldFacts
+pub mod OptionCommands
 pub mod EachCommand
 pub mod NewRows
 pub mod Switches

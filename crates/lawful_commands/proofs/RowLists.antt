@@ -21,6 +21,10 @@ pub all-push : {X : Type 0} (P : X → Type 0) (xs : List X) (x : X) → AllByRe
 all-push P [] x h p = (p, tt)
 all-push P (y ∷ ys) x h p = (h.0, all-push P ys x h.1 p)
 
+pub all-both : {X : Type 0} (P : X → Type 0) (xs ys : List X) → AllByRecursion P xs → AllByRecursion P ys → AllByRecursion P (xs ++ ys)
+all-both P [] ys h k = k
+all-both P (x ∷ xs) ys h k = (h.0, all-both P xs ys h.1 k)
+
 pub all-map : {X K : Type 0} (key : X → K) (P : K → Type 0) (xs : List X) → AllByRecursion (λ x. P (key x)) xs → AllByRecursion P (map key xs)
 all-map key P [] h = tt
 all-map key P (x ∷ xs) h = (h.0, all-map key P xs h.1)

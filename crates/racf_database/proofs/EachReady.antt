@@ -34,6 +34,7 @@ use Rattle.lawful_commands.proofs.ProfileNames.{resource-class}
 use Rattle.lawful_commands.proofs.ProfileRows.{PutsAreCounted, found-profile, is-class}
 use Rattle.lawful_commands.proofs.ProfileCommands.{few-standard, few-conditional}
 use Rattle.racf_database.proofs.Ready.{new_user-ready, user-ready, new_group-ready, group-ready}
+use Rattle.racf_database.proofs.OptionReady.{set_ropts-ready}
 use Rattle.racf_database.proofs.ProfileReady.{profile-ready, changed-ready, alone-ready}
 
 found-row : (o : Option ClassRow) → is_some o ≡ true → (row : ClassRow) × (o ≡ Some row)
@@ -99,3 +100,4 @@ module _ (one : OneIsBefore) (puts : PutsAreCounted) (passed_on : PassedOn) (rea
     can_apply-edits_of issuer (command.RDelete c) f h room after = (tt, tt)
     can_apply-edits_of issuer (command.Permit c) f h room after =
         alone-ready tables one puts passed_on lawful c.class c.profile (permitted_profile c) (λ p. refl) (profile_of c.class c.profile tables.rows) refl room after
+    can_apply-edits_of issuer (command.SetRopts c) f h room after = set_ropts-ready tables c lawful

@@ -1,5 +1,6 @@
 mod CommandRows
 mod ProfileRows
+pub mod OptionReady
 pub mod StepLaws
 pub mod Ready
 pub mod ProfileReady

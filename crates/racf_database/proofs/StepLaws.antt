@@ -21,6 +21,8 @@ use Rattle.command_effects.specs.PermitEffects.{permitted_profile}
 use Rattle.command_effects.proofs.ProfileSteps.{changed-put_changed, changed-r_define, changed-r_alter}
 use Rattle.row_tables.proofs.RowLaws.{put_row-at_row, put_row-new}
 use Rattle.command_effects.proofs.AfterLaws.{at_row-absent}
+use Rattle.racf_profiles.specs.Lawful.{AreLawful}
+use Rattle.racf_database.proofs.OptionReady.{changed-set_ropts}
 use Rattle.command_conflicts.proofs.Unmet.{each_unmet, name_free}
 
 -- ---- a row that is there
@@ -58,19 +60,20 @@ unfolding add_group_conflicts
 add_group-free issuer c rows h = name_free c.group rows (each_unmet (add_group_conflicts issuer c rows) h).1.1.0
 
 -- ---- each command
-pub changed-edits_of : (issuer : Issuer) (command : CommandFields) (rows : Rows) → first_met (conflicts issuer command rows) ≡ None → changed (edits_of issuer command rows) rows ≡ step issuer command rows
-changed-edits_of issuer (fields.AddUser c) rows h = ap (λ (us : List User). record rows { users = us }) (put_row-new (is_user c.user) (new_user issuer c rows) rows.users (add_user-free issuer c rows h).0)
-changed-edits_of issuer (fields.AltUser c) rows h = changed-users (altered_user c rows) (λ user. refl) c.user rows
-changed-edits_of issuer (fields.DelUser c) rows h = refl
-changed-edits_of issuer (fields.AddGroup c) rows h = ap (λ (gs : List Group). record rows { groups = gs }) (put_row-new (is_group c.group) (new_group issuer c) rows.groups (add_group-free issuer c rows h).1)
-changed-edits_of issuer (fields.AltGroup c) rows h = changed-groups (altered_group c) (λ group. refl) c.group rows
-changed-edits_of issuer (fields.DelGroup c) rows h = refl
-changed-edits_of issuer (fields.Connect c) rows h = changed-users (connected_user issuer c) (λ user. refl) c.user rows
-changed-edits_of issuer (fields.Remove c) rows h = changed-users (removed_user issuer c) (λ user. refl) c.user rows
-changed-edits_of issuer (fields.AddSd c) rows h = refl
-changed-edits_of issuer (fields.AltSd c) rows h = changed-put_changed dataset c.profile (altered_data_set c rows) rows
-changed-edits_of issuer (fields.DelSd c) rows h = refl
-changed-edits_of issuer (fields.RDefine c) rows h = changed-r_define issuer c rows
-changed-edits_of issuer (fields.RAlter c) rows h = changed-r_alter c rows
-changed-edits_of issuer (fields.RDelete c) rows h = refl
-changed-edits_of issuer (fields.Permit c) rows h = changed-put_changed c.class c.profile (permitted_profile c) rows
+pub changed-edits_of : (issuer : Issuer) (command : CommandFields) (rows : Rows) → AreLawful rows → first_met (conflicts issuer command rows) ≡ None → changed (edits_of issuer command rows) rows ≡ step issuer command rows
+changed-edits_of issuer (fields.AddUser c) rows lawful h = ap (λ (us : List User). record rows { users = us }) (put_row-new (is_user c.user) (new_user issuer c rows) rows.users (add_user-free issuer c rows h).0)
+changed-edits_of issuer (fields.AltUser c) rows lawful h = changed-users (altered_user c rows) (λ user. refl) c.user rows
+changed-edits_of issuer (fields.DelUser c) rows lawful h = refl
+changed-edits_of issuer (fields.AddGroup c) rows lawful h = ap (λ (gs : List Group). record rows { groups = gs }) (put_row-new (is_group c.group) (new_group issuer c) rows.groups (add_group-free issuer c rows h).1)
+changed-edits_of issuer (fields.AltGroup c) rows lawful h = changed-groups (altered_group c) (λ group. refl) c.group rows
+changed-edits_of issuer (fields.DelGroup c) rows lawful h = refl
+changed-edits_of issuer (fields.Connect c) rows lawful h = changed-users (connected_user issuer c) (λ user. refl) c.user rows
+changed-edits_of issuer (fields.Remove c) rows lawful h = changed-users (removed_user issuer c) (λ user. refl) c.user rows
+changed-edits_of issuer (fields.AddSd c) rows lawful h = refl
+changed-edits_of issuer (fields.AltSd c) rows lawful h = changed-put_changed dataset c.profile (altered_data_set c rows) rows
+changed-edits_of issuer (fields.DelSd c) rows lawful h = refl
+changed-edits_of issuer (fields.RDefine c) rows lawful h = changed-r_define issuer c rows
+changed-edits_of issuer (fields.RAlter c) rows lawful h = changed-r_alter c rows
+changed-edits_of issuer (fields.RDelete c) rows lawful h = refl
+changed-edits_of issuer (fields.Permit c) rows lawful h = changed-put_changed c.class c.profile (permitted_profile c) rows
+changed-edits_of issuer (fields.SetRopts c) rows lawful h = changed-set_ropts c rows h lawful

@@ -29,7 +29,7 @@ use Rattle.command_parser.specs.LawfulFields.{IsId, IsClauthWord, AreLawfulField
 use Rattle.command_effects.specs.UserEffects.{altered_group, new_group}
 use Rattle.command_effects.specs.Effects.{step}
 use Rattle.command_conflicts.specs.declared.conflict.Conflict.{Conflict}
-use Rattle.command_conflicts.specs.declared.conflict.Conflict.TheVariants.{NotBuilt, NoUser, NoGroup, NoProfile, NoClass, Exists, NotConnected, Root, InUse, Cycle, OwnerNotSuperior, NotGeneric, DefaultGroup, LastSpecial, UnknownName, Full}
+use Rattle.command_conflicts.specs.declared.conflict.Conflict.TheVariants.{NotBuilt, NoUser, NoGroup, NoProfile, NoClass, Exists, NotConnected, Root, InUse, Cycle, OwnerNotSuperior, NotGeneric, NotListed, ClassFixed, DefaultGroup, LastSpecial, UnknownName, Full}
 use Rattle.command_conflicts.specs.declared.conflict.Named.TheVariants as named
 use Rattle.command_conflicts.specs.declared.conflict.Holder.TheVariants.{Subgroup, Connected, Profile as ProfileOf}
 use Rattle.command_conflicts.specs.declared.conflict.Limit.{Limit}
@@ -38,6 +38,7 @@ use Rattle.command_conflicts.specs.Numbers as numbers
 use Rattle.command_conflicts.specs.Numbers.{is_early}
 use Rattle.command_conflicts.specs.Unbuilt.{is_unbuilt}
 use Rattle.command_conflicts.specs.Required.{if_met, first_met, over, no_user, no_group, no_owner, no_named_group, no_class, name_taken, not_connected, default_not_connected, unknown_level, unknown_category, never_category, unknown_label}
+use Rattle.command_conflicts.specs.OptionConflicts.{absent_class, class_without_generic, unlisted_class, always_active_class, never_listed_class, set_ropts_conflicts}
 use Rattle.command_conflicts.specs.ProfileConflicts.{
   no_first_qualifier,
   named_unknown,
@@ -97,7 +98,7 @@ use Rattle.command_conflicts.specs.Conflicts.{
 use Rattle.lawful_commands.proofs.FieldFacts.{each-all}
 use Rattle.racf_desk.specs.Words.{kind_words, conflict_words}
 use Rattle.racf_run.proofs.Feedless.{IsFeedless, joined, decimal-feedless, read_id-feedless, id-feedless, group-feedless, data_set-feedless, class_profile-feedless, any_profile-feedless, either, always, if-map, if-then, if-found, if-given, if-ok}
-use Rattle.racf_run.proofs.FeedlessRows.{IsFeedlessUser, IsFeedlessGroup, IsFeedlessProfile, IsFeedlessWho, AreFeedlessProfiles, AreFeedless, ids-feedless, groups-feedless, whos-feedless, current-feedless, owner-feedless}
+use Rattle.racf_run.proofs.FeedlessRows.{IsFeedlessUser, IsFeedlessGroup, IsFeedlessProfile, IsFeedlessWho, AreFeedlessProfiles, AreFeedless, ids-feedless, groups-feedless, names-feedless, logged-feedless, whos-feedless, current-feedless, owner-feedless}
 
 -- a test that tells only conflicts without a line feed
 abbrev pub IsFeedlessTest : Option Conflict → Type 0
@@ -321,10 +322,32 @@ categories-test : (issuer : Issuer) (c : CommandFields) (rows : Rows) → IsFeed
 unfolding categories_full
 categories-test issuer c rows = over-test _ _ _
 
--- ---- each command's tests
-names-feedless : (names : List (List ℕ)) → Each IsId names → AllByRecursion IsFeedless names
-names-feedless = each-all IsId IsFeedless id-feedless
+-- ---- the classes of SETROPTS
+absent-test : (classes : List (List ℕ)) (rows : Rows) → AllByRecursion IsFeedless classes → IsFeedlessTest (absent_class classes rows)
+unfolding absent_class
+absent-test classes rows h = mapped IsFeedless NoClass (λ name is. is) _ (if-found IsFeedless _ classes h)
 
+without_generic-test : (classes : List (List ℕ)) → AllByRecursion IsFeedless classes → IsFeedlessTest (class_without_generic classes)
+unfolding class_without_generic
+without_generic-test classes h = mapped IsFeedless NotGeneric (λ name is. is) _ (if-found IsFeedless _ classes h)
+
+unlisted-test : (classes : List (List ℕ)) (rows : Rows) → AllByRecursion IsFeedless classes → IsFeedlessTest (unlisted_class classes rows)
+unfolding unlisted_class
+unlisted-test classes rows h = mapped IsFeedless NotListed (λ name is. is) _ (if-found IsFeedless _ classes h)
+
+always_active-test : (classes : List (List ℕ)) → AllByRecursion IsFeedless classes → IsFeedlessTest (always_active_class classes)
+unfolding always_active_class
+always_active-test classes h = mapped IsFeedless ClassFixed (λ name is. is) _ (if-found IsFeedless _ classes h)
+
+never_listed-test : (classes : List (List ℕ)) → AllByRecursion IsFeedless classes → IsFeedlessTest (never_listed_class classes)
+unfolding never_listed_class
+never_listed-test classes h = mapped IsFeedless ClassFixed (λ name is. is) _ (if-found IsFeedless _ classes h)
+
+if-feedless : (b : Bool) (names others : List (List ℕ)) → AllByRecursion IsFeedless names → AllByRecursion IsFeedless others → AllByRecursion IsFeedless (cond b names others)
+if-feedless true names others h k = h
+if-feedless false names others h k = k
+
+-- ---- each command's tests
 words-feedless : (names : List (List ℕ)) → Each IsClauthWord names → AllByRecursion IsFeedless names
 words-feedless = each-all IsClauthWord IsFeedless (λ name h. id-feedless name h.0)
 
@@ -345,7 +368,7 @@ early-test (Some conflict ∷ list) h = either IsFeedlessTest (is_early conflict
 
 module _ (issuer : Issuer) (issuer_id : IsFeedless issuer.id) (issuer_group : IsFeedless issuer.group) where
   each-test : (c : CommandFields) (rows : Rows) → AreLawfulFields c → AreFeedless rows → AllByRecursion IsFeedlessTest (conflicts issuer c rows)
-  unfolding add_user_conflicts alt_user_conflicts del_user_conflicts add_group_conflicts alt_group_conflicts del_group_conflicts connect_conflicts remove_conflicts add_sd_requirements add_sd_limits alt_sd_conflicts del_sd_conflicts r_define_requirements r_define_limits r_alter_conflicts r_delete_conflicts permit_conflicts
+  unfolding add_user_conflicts alt_user_conflicts del_user_conflicts add_group_conflicts alt_group_conflicts del_group_conflicts connect_conflicts remove_conflicts add_sd_requirements add_sd_limits alt_sd_conflicts del_sd_conflicts r_define_requirements r_define_limits r_alter_conflicts r_delete_conflicts permit_conflicts set_ropts_conflicts
   each-test (command.AddUser c) rows f are =
       (owner-test _ rows (ids-feedless c.owner f.owner), (group-test _ rows (current-feedless issuer issuer_id issuer_group c.dfltgrp f.dfltgrp), (class-test _ rows (words-feedless c.clauth f.clauth), (taken-test _ rows (id-feedless c.user f.user), (level-test _ rows (ids-feedless c.seclevel f.seclevel), (category-test _ rows (names-feedless c.addcategory f.addcategory), (label-test _ rows (ids-feedless c.seclabel f.seclabel), (users-test issuer _ rows, (user_full-test _, (connections-test issuer _ rows, tt))))))))))
   each-test (command.AltUser c) rows f are =
@@ -380,6 +403,12 @@ module _ (issuer : Issuer) (issuer_id : IsFeedless issuer.id) (issuer_group : Is
   each-test (command.Permit c) rows f are =
       let class = id-feedless c.class f.class in
       (permitted-test _ _ rows (whos-feedless c.id f.id), (profile-test _ _ rows class (any_profile-feedless c.class c.profile f.profile), (such_class-test _ rows class, (standard-test issuer _ rows, (conditional-test issuer _ rows, (entries-test issuer _ rows, tt))))))
+  each-test (command.SetRopts c) rows f are =
+      let raclist = names-feedless c.raclist f.raclist in
+      let noclassact = names-feedless c.noclassact f.noclassact in
+      let noraclist = names-feedless c.noraclist f.noraclist in
+      let generic = names-feedless c.generic f.generic in
+      (absent-test _ rows (names-feedless c.classact f.classact), (absent-test _ rows noclassact, (absent-test _ rows raclist, (absent-test _ rows noraclist, (absent-test _ rows (names-feedless c.global f.global), (absent-test _ rows (names-feedless c.noglobal f.noglobal), (absent-test _ rows generic, (absent-test _ rows (logged-feedless c.logoptions f.logoptions), (without_generic-test _ generic, (unlisted-test _ rows (if-feedless c.refresh c.raclist [] raclist tt), (unlisted-test _ rows noraclist, (always_active-test _ noclassact, (never_listed-test _ (if-feedless c.refresh [] c.raclist tt raclist), tt)))))))))))))
 
   all-tests : (c : CommandFields) (rows : Rows) → AreLawfulFields c → AreFeedless rows → AllByRecursion IsFeedlessTest (tests issuer c rows)
   all-tests c rows f are = (met (is_unbuilt c) NotBuilt refl, each-test c rows f are)

@@ -1,5 +1,5 @@
 -- The words of what an issuer lacks hold no line feed: a need names what the command names, or what the rows hold.
-use Rattle.std.proofs.Common.{ℕ, Bool, true, false, not, List, [], ◌∷◌, ◌++◌, Option, None, Some, refl, codes, bytes_eq}
+use Rattle.std.proofs.Common.{ℕ, Bool, true, false, cond, not, List, [], ◌∷◌, ◌++◌, map, Option, None, Some, refl, codes, bytes_eq}
 use Rattle.std.specs.Prelude.{IfSome, find, option_and_then, unwrap_or}
 use Rattle.std.specs.List.{AllByRecursion}
 use Rattle.std.proofs.lemmas.Option.{IfSome_then}
@@ -14,7 +14,8 @@ use Rattle.racf_profiles.specs.Lookup.{is_group, group_of}
 use Rattle.command_parser.specs.declared.commands.Issuer.{Issuer}
 use Rattle.command_parser.specs.declared.fields.CommandFields.{CommandFields}
 use Rattle.command_parser.specs.declared.fields.CommandFields.TheVariants as command
-use Rattle.command_parser.specs.LawfulFields.{AreLawfulFields}
+use Rattle.command_parser.specs.declared.option_fields.SetRopts.{SetRopts}
+use Rattle.command_parser.specs.LawfulFields.{IsLawfulSetRopts, AreLawfulFields}
 use Rattle.command_parser.specs.Issuers.{group_or_current}
 use Rattle.command_authority.specs.declared.needs.Need.{Need}
 use Rattle.command_authority.specs.declared.needs.Need.TheVariants as needs
@@ -42,11 +43,16 @@ use Rattle.command_authority.specs.Requirements.{
   r_alter_requirements,
   r_delete_requirements,
   permit_requirements,
+  refreshing,
+  refreshed_classes,
+  setting,
+  set_ropts_requirements,
   requirements,
 }
+use Rattle.lawful_commands.proofs.RowLists.{all-both}
 use Rattle.racf_desk.specs.Words.{in_parentheses, need_words, each_need}
 use Rattle.racf_run.proofs.Feedless.{IsFeedless, joined, id-feedless, group-feedless, data_set-feedless, qualifier-feedless, if-found, if-given, if-map, if-then}
-use Rattle.racf_run.proofs.FeedlessRows.{IsFeedlessGroup, AreFeedless, groups-feedless, current-feedless}
+use Rattle.racf_run.proofs.FeedlessRows.{IsFeedlessGroup, AreFeedless, groups-feedless, names-feedless, current-feedless}
 
 -- ---- the words of a need
 abbrev IsFeedlessNeed : Need → Type 0
@@ -118,9 +124,20 @@ superior-feedless : (group : List ℕ) (rows : Rows) → AreFeedless rows → If
 superior-feedless group rows are =
     if-then IsFeedlessGroup IsFeedless (λ (row : Group). row.superior) (λ row h. h.superior) (group_of group rows) (if-found IsFeedlessGroup (is_group group) rows.groups are.groups)
 
+-- of SETROPTS with REFRESH, and without
+refreshing-feedless : (classes : List (List ℕ)) → AllByRecursion IsFeedless classes → AllByRecursion IsFeedlessRequirement (map refreshing classes)
+refreshing-feedless [] h = tt
+refreshing-feedless (class ∷ classes) h = ((tt, (h.0, (tt, tt))), refreshing-feedless classes h.1)
+
+set_ropts-feedless : (c : SetRopts) (refresh : Bool) → IsLawfulSetRopts c → AllByRecursion IsFeedlessRequirement (cond refresh (map refreshing (refreshed_classes c)) (setting c))
+set_ropts-feedless c true f =
+    refreshing-feedless (refreshed_classes c) (all-both IsFeedless c.raclist (c.global ++ c.generic) (names-feedless c.raclist f.raclist)
+    (all-both IsFeedless c.global c.generic (names-feedless c.global f.global) (names-feedless c.generic f.generic)))
+set_ropts-feedless c false f = ((tt, tt), ((tt, tt), tt))
+
 module _ (issuer : Issuer) (issuer_id : IsFeedless issuer.id) (issuer_group : IsFeedless issuer.group) where
   each-requirement : (c : CommandFields) (rows : Rows) → AreLawfulFields c → AreFeedless rows → AllByRecursion IsFeedlessRequirement (requirements rows issuer c)
-  unfolding add_user_requirements alt_user_requirements del_user_requirements add_group_requirements alt_group_requirements del_group_requirements connect_requirements remove_requirements add_sd_requirements r_define_requirements alt_sd_requirements del_sd_requirements r_alter_requirements r_delete_requirements permit_requirements
+  unfolding add_user_requirements alt_user_requirements del_user_requirements add_group_requirements alt_group_requirements del_group_requirements connect_requirements remove_requirements add_sd_requirements r_define_requirements alt_sd_requirements del_sd_requirements r_alter_requirements r_delete_requirements permit_requirements set_ropts_requirements
   each-requirement (command.AddUser c) rows f are = ((tt, (current-feedless issuer issuer_id issuer_group c.dfltgrp f.dfltgrp, (tt, (tt, tt)))), ((tt, tt), tt))
   each-requirement (command.AltUser c) rows f are = (over_target, ((tt, tt), ((tt, tt), tt)))
   each-requirement (command.DelUser c) rows f are = (over_target, tt)
@@ -138,6 +155,7 @@ module _ (issuer : Issuer) (issuer_id : IsFeedless issuer.id) (issuer_group : Is
   each-requirement (command.RAlter c) rows f are = (profile-feedless c.class c.profile, ((tt, tt), tt))
   each-requirement (command.RDelete c) rows f are = (profile-feedless c.class c.profile, tt)
   each-requirement (command.Permit c) rows f are = (profile-feedless c.class c.profile, tt)
+  each-requirement (command.SetRopts c) rows f are = set_ropts-feedless c c.refresh f
 
   pub need-feedless : (c : CommandFields) (rows : Rows) → AreLawfulFields c → AreFeedless rows → IfSome (need rows issuer c) (λ lacked. IsFeedless (codes "NEED" ++ each_need lacked))
   unfolding need

@@ -1,7 +1,7 @@
 -- Rows whose IDs and names hold no line feed, and that each command that a text spells leaves such rows.
 use Rattle.std.proofs.Common.{ℕ, Bool, true, false, cond, not, List, [], ◌∷◌, Option, None, Some, refl}
 use Rattle.std.specs.Prelude.{IfSome, find, filter, fold}
-use Rattle.std.specs.List.{AllByRecursion}
+use Rattle.std.specs.List.{AllByRecursion, flat_map}
 use Rattle.std.specs.Option.{option_map_or}
 use Rattle.std.proofs.lemmas.Option.{IfSome_then}
 use Rattle.access_levels.specs.declared.entries.Who.{Who}
@@ -31,13 +31,16 @@ use Rattle.command_parser.specs.declared.fields.Connect.{Connect}
 use Rattle.command_parser.specs.declared.fields.CommandFields.{CommandFields}
 use Rattle.command_parser.specs.declared.fields.CommandFields.TheVariants as command
 use Rattle.command_parser.specs.declared.profile_fields.Permit.{Permit}
-use Rattle.command_parser.specs.LawfulFields.{IsId, IsGroupName, IsNamedOne, AreWhosOfPermit, IsPort, AreLawfulFields}
+use Rattle.command_values.specs.LawfulValues.{Each}
+use Rattle.command_values.specs.declared.log_options.LogClause.{LogClause}
+use Rattle.command_parser.specs.LawfulFields.{IsId, IsGroupName, IsNamedOne, AreWhosOfPermit, IsPort, IsLogClause, AreLawfulFields}
 use Rattle.command_parser.specs.Issuers.{group_or_current}
 use Rattle.command_effects.specs.UserEffects.{new_user, altered_user, new_group, altered_group, altered_connection, connects_after, connected_user, removed_user, owner_or_issuer}
 use Rattle.command_effects.specs.ProfileEffects.{dataset, new_data_set, altered_data_set, new_resource, altered_resource, profile_put, profile_dropped, profile_changed}
 use Rattle.command_effects.specs.PermitEffects.{standard_reset, conditional_reset, with_entry, with_conditional, standard_entries, conditional_entries, permitted_profile, level_of}
+use Rattle.command_effects.specs.OptionEffects.{set_class}
 use Rattle.command_effects.specs.Effects.{step}
-use Rattle.lawful_commands.proofs.RowLists.{all-push, all-filter, all-at, all-put}
+use Rattle.lawful_commands.proofs.RowLists.{all-push, all-filter, all-at, all-put, all-map, all-both}
 use Rattle.lawful_commands.proofs.FieldFacts.{each-all}
 use Rattle.lawful_commands.proofs.ProfileRows.{all-at_class}
 use Rattle.racf_run.proofs.Feedless.{IsFeedless, id-feedless, group-feedless, data_set-feedless, class_profile-feedless, if-either, if-given, if-found, if-then}
@@ -95,6 +98,13 @@ ids-feedless given h = IfSome_then given h id-feedless
 
 pub groups-feedless : (given : Option (List ℕ)) → IfSome given IsGroupName → IfSome given IsFeedless
 groups-feedless given h = IfSome_then given h group-feedless
+
+pub names-feedless : (names : List (List ℕ)) → Each IsId names → AllByRecursion IsFeedless names
+names-feedless = each-all IsId IsFeedless id-feedless
+
+pub logged-feedless : (clauses : List LogClause) → Each IsLogClause clauses → AllByRecursion IsFeedless (flat_map (λ (clause : LogClause). clause.classes) clauses)
+logged-feedless [] h = tt
+logged-feedless (clause ∷ clauses) h = all-both IsFeedless clause.classes (flat_map (λ (other : LogClause). other.classes) clauses) (names-feedless clause.classes h.0) (logged-feedless clauses h.1)
 
 one-feedless : (who : Who) → IsNamedOne who → IsFeedlessWho who
 one-feedless Star h = tt
@@ -254,3 +264,4 @@ module _ (issuer : Issuer) (issuer_id : IsFeedless issuer.id) (issuer_group : Is
   step-feedless (command.RDelete c) rows f are = dropped-rows c.class rows are c.profile
   step-feedless (command.Permit c) rows f are =
       changed-rows c.class rows are c.profile (permitted_profile c) (permitted-feedless c (whos-feedless c.id f.id) f.when)
+  step-feedless (command.SetRopts c) rows f are = record { users = are.users; groups = are.groups; classes = all-map (set_class c) AreFeedlessProfiles rows.classes are.classes }

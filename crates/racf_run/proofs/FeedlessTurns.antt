@@ -53,7 +53,6 @@ use Rattle.racf_desk.specs.Outcome.{most_number, unless_refused, found_command, 
 use Rattle.racf_desk.specs.Words.{syntax_words, each_need}
 use Rattle.racf_desk.specs.Words.{refusal_words as command_refusal_words}
 use Rattle.racf_run.specs.Replies.{refusal_words, reply_line}
-use Rattle.racf_run.specs.Commands.{is_other_command}
 use Rattle.racf_run.specs.IssuerLines.{issuer_refusal}
 use Rattle.racf_run.specs.Requests.{is_unbuilt_line}
 use Rattle.racf_run.specs.Stream as s
@@ -328,9 +327,8 @@ module _ (lawful : (issuer text : List ℕ) (c : CommandFields) → command_in i
   prints-command : (text : List ℕ) (before : State) → IsGood before → Prints (s.command text before)
   unfolding s.command outcome_in
   prints-command text before good =
-      either Prints (is_other_command text) (s.refuse refusal.NotBuilt before) (s.answer_outcome (s.outcome_of text before) before) (prints-refuse refusal.NotBuilt before refl good)
-      (prints-outcome (s.outcome_of text before) before
-      (command-outcome (number_of before) before.position.state.rows before.issuer.id before.issuer.group (built_command before.issuer.id text) good.state.rows good.issuer good.group (command-read before.issuer.id text)) good)
+      prints-outcome (s.outcome_of text before) before
+      (command-outcome (number_of before) before.position.state.rows before.issuer.id before.issuer.group (built_command before.issuer.id text) good.state.rows good.issuer good.group (command-read before.issuer.id text)) good
 
   prints-answer : (i : Statement) (before : State) → IsGood before → Prints (s.answer i before)
   prints-answer (item.Command text) before good = prints-command text before good

@@ -16,7 +16,6 @@ use Rattle.request_files.specs.declared.line.LineRefusal.{LineRefusal}
 use Rattle.request_files.specs.IssuerLines.{issuer_of_line}
 use Rattle.racf_run.specs.declared.statement.Statement.{Statement}
 use Rattle.racf_run.specs.declared.statement.Statement.TheVariants as item
-use Rattle.racf_run.specs.Commands.{is_other_command}
 use Rattle.racf_run.specs.Stream as s
 use Rattle.racf_run.specs.Stream.{State, Answer, refuse, answer_outcome, outcome_of, issue_by}
 
@@ -32,25 +31,21 @@ accepted (Err why) ready s h = cc
 pub refused : (o : Result IssuedCommand Refusal) (why : Refusal) (s : State) → o ≡ Err why → answer_outcome o s ≡ refuse (refusal.Command why) s
 refused o why s h = ap (λ (x : Result IssuedCommand Refusal). answer_outcome x s) h
 
--- ---- what a command prints that is built, and where it leads
-command_answer : (text : List ℕ) (before : State) → is_other_command text ≡ false → s.command text before ≡ answer_outcome (outcome_of text before) before
-unfolding s.command
-command_answer text before built = rw built refl
-
-pub command_told : (statement : Statement) (text : List ℕ) (before : State) → statement ≡ item.Command text → is_other_command text ≡ false
+-- ---- what a command prints, and where it leads
+pub command_told : (statement : Statement) (text : List ℕ) (before : State) → statement ≡ item.Command text
     → s.text statement before ≡ (answer_outcome (outcome_of text before) before).text
-unfolding s.text
-command_told statement text before is built = ap (λ (i : Statement). (s.answer i before).text) is ∙ ap (λ (a : Answer). a.text) (command_answer text before built)
+unfolding s.text s.command
+command_told statement text before is = ap (λ (i : Statement). (s.answer i before).text) is
 
 led_by : (o : Result IssuedCommand Refusal) (before : State) → (answer_outcome o before).state.position ≡ position_after before.position o
 led_by (Ok issued) before = refl
 led_by (Err why) before = refl
 
-pub command_moved : (statement : Statement) (text : List ℕ) (before : State) → statement ≡ item.Command text → is_other_command text ≡ false
+pub command_moved : (statement : Statement) (text : List ℕ) (before : State) → statement ≡ item.Command text
     → (s.step statement before).position ≡ position_after before.position (outcome_of text before)
-unfolding s.step
-command_moved statement text before is built =
-    ap (λ (i : Statement). (s.answer i before).state.position) is ∙ ap (λ (a : Answer). a.state.position) (command_answer text before built) ∙ led_by (outcome_of text before) before
+unfolding s.step s.command
+command_moved statement text before is =
+    ap (λ (i : Statement). (s.answer i before).state.position) is ∙ led_by (outcome_of text before) before
 
 -- ---- whom the line of an issuer leaves
 issued_by : (read : Result NamedIssuer LineRefusal) (before : State) → (issue_by read before).state.issuer ≡ unwrap_or (result_ok read) before.issuer

@@ -32,7 +32,6 @@ use Rattle.racf_run.specs.declared.reply.Refusal.TheVariants as refusal
 use Rattle.racf_run.specs.Replies.{refusal_words, reply_line}
 use Rattle.request_files.specs.declared.issuer_line.NamedIssuer.{NamedIssuer}
 use Rattle.request_files.specs.IssuerLines.{issuer_of_line}
-use Rattle.racf_run.specs.Commands.{is_other_command}
 use Rattle.racf_run.specs.IssuerLines.{issuer_refusal}
 use Rattle.racf_run.specs.Requests.{is_unbuilt_line}
 use Rattle.racf_run.specs.Stream as s
@@ -199,8 +198,7 @@ says_outcome (Ok issued) before = says_accept issued before
 
 says_command : (text : List ℕ) (before : State) → Says before (s.command text before)
 unfolding s.command
-says_command text before =
-    says_either before (is_other_command text) (s.refuse refusal.NotBuilt before) (s.answer_outcome (s.outcome_of text before) before) (says_refuse refusal.NotBuilt before) (says_outcome (s.outcome_of text before) before)
+says_command text before = says_outcome (s.outcome_of text before) before
 
 says_issue : (read : Result NamedIssuer LineRefusal) (before : State) → Says before (s.issue_by read before)
 says_issue (Ok issuer) before = sym (or-false before.has_refused)

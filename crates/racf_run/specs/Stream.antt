@@ -17,7 +17,6 @@ use Rattle.request_files.specs.Grammar.{Line, read}
 use Rattle.request_files.specs.IssuerLines.{issuer_of_line}
 use Rattle.request_files.specs.Worked.{Outcome, worked}
 use Rattle.racf_run.specs.Replies.{reply_line}
-use Rattle.racf_run.specs.Commands.{is_other_command}
 use Rattle.racf_run.specs.IssuerLines.{first_issuer, issuer_refusal}
 use Rattle.racf_run.specs.Requests.{is_unbuilt_line}
 
@@ -74,7 +73,7 @@ abbrev pub outcome_of : List ℕ → State → Result IssuedCommand OfCommand
 outcome_of text s = outcome s.position s.issuer.id s.issuer.group text
 
 unfoldable pub command : List ℕ → State → Answer
-command text s = if is_other_command text then refuse refusal.NotBuilt s else answer_outcome (outcome_of text s) s
+command text s = answer_outcome (outcome_of text s) s
 
 -- A line that names an issuer who fits prints nothing, whoever he is: he is judged at each command. One that doesn't
 -- fit is refused, and the issuer stays.

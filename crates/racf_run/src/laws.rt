@@ -16,7 +16,6 @@ ghost use Rattle.racf_run.specs.declared.statement.Statement.TheVariants.{Comman
 ghost use Rattle.racf_run.specs.declared.status.Status.TheVariants.{Done, Refusals};
 ghost use Rattle.racf_run.specs.Runs.{after};
 ghost use Rattle.racf_run.specs.Script.{stream, script_output, script_status};
-ghost use Rattle.racf_run.specs.Commands.{is_other_command};
 ghost use Rattle.request_files.specs.IssuerLines.{issuer_of_line};
 ghost use Rattle.racf_run.specs.Stream.{number_of, step, answer_outcome, outcome_of};
 ghost use Rattle.racf_desk.specs.Position.{position_after};
@@ -61,13 +60,13 @@ pub fn the_status_is_what_the_lines_say()
         (if list_any says_refused (map printed (input_turns bytes)) then Refusals else Done) }
 {}
 
-/// A command that is built has its outcome at the position of its turn, where the issuer of its turn gives it: that is
+/// A command has its outcome at the position of its turn, where the issuer of its turn gives it: that is
 /// printed, and the position behind the turn is the one behind that outcome. A line of an issuer who fits is the issuer
 /// of the next turns; one that doesn't fit changes no issuer.
 pub fn commands_are_judged()
-    ensures told { (turn : Turn) (text : List ℕ) → turn.item ≡ Command text → is_other_command text ≡ false →
+    ensures told { (turn : Turn) (text : List ℕ) → turn.item ≡ Command text →
         printed turn ≡ (answer_outcome (outcome_of text turn.before) turn.before).text }
-    ensures moved { (turn : Turn) (text : List ℕ) → turn.item ≡ Command text → is_other_command text ≡ false →
+    ensures moved { (turn : Turn) (text : List ℕ) → turn.item ≡ Command text →
         (behind turn).position ≡ position_after turn.before.position (outcome_of text turn.before) }
     ensures named { (turn : Turn) (line : List ℕ) → turn.item ≡ Issuer line →
         (behind turn).issuer ≡ unwrap_or (result_ok (issuer_of_line line)) turn.before.issuer }

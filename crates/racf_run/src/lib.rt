@@ -11,7 +11,6 @@
 //! ```
 #![tactic(auto)]
 
-mod commands;
 mod input;
 mod issuer;
 mod joining;

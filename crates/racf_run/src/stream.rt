@@ -6,7 +6,6 @@ ghost use Rattle.racf_desk.specs.Made.{made_in};
 ghost use Rattle.racf_run.specs.Replies.{reply_line};
 ghost use Rattle.racf_run.specs.declared.reply.Reply.TheVariants.{Accepted};
 
-use crate::commands::is_other_command;
 use crate::issuer::{first_issuer, issuer_refusal};
 use crate::reply::{Refusal, Reply};
 use crate::requests::is_unbuilt_line;
@@ -41,7 +40,7 @@ impl Model for Stream {
 
 impl Stream {
     ghost use Rattle.request_files.specs.Seen.{line_read};
-    ghost use Rattle.racf_run.specs.Stream.{new_stream, answer, answer_line, request, refuse, command, outcome_of, answer_outcome, name_issuer, DoesAs};
+    ghost use Rattle.racf_run.specs.Stream.{new_stream, answer, answer_line, request, refuse, command, name_issuer, DoesAs};
 
     /// The state before the first line.
     #[tactic(auto, unfolding(crate::specs::Stream::new_stream))]
@@ -81,7 +80,7 @@ impl Stream {
         }
     }
 
-    /// A command: not built, or given at the desk.
+    /// A command, which is given at the desk. What it takes is made, and the text stands whole, before it is installed.
     #[tactic(auto, unfolding(crate::specs::Stream::command))]
     fn command(
         &mut self,
@@ -90,17 +89,6 @@ impl Stream {
         out: &mut Vec<u8>,
     ) -> Result<(), AllocError>
         ensures ok { OnOk result (DoesAs (command text.now self.old) self.new out.old.items out.new.items) }
-        ensures err { OnErr result (self.new ≡ self.old) }
-    {
-        if is_other_command(text.as_slice()) {
-            return self.refuse(Refusal::NotBuilt, out);
-        }
-        self.give(alloc, text, out)
-    }
-
-    /// A command that is given at the desk. What it takes is made, and the text stands whole, before it is installed.
-    fn give(&mut self, alloc: Global, text: &LineText, out: &mut Vec<u8>) -> Result<(), AllocError>
-        ensures ok { OnOk result (DoesAs (answer_outcome (outcome_of text.now self.old) self.old) self.new out.old.items out.new.items) }
         ensures err { OnErr result (self.new ≡ self.old) }
     {
         let NamedIssuer { id, group } = self.issuer;

@@ -1,16 +1,17 @@
-use Rattle.std.proofs.Common.{◌≡◌, ◌∙◌, true, not, List, None, ap, sym, subst}
+use Rattle.std.proofs.Common.{◌≡◌, ◌∙◌, true, false, not, List, None, refl, ap, sym, subst}
 use Rattle.std.specs.List.{list_all}
 use Rattle.racf_profiles.specs.declared.edits.Edit.{Edit}
 use Rattle.racf_profiles.specs.Edits.{changed}
 use Rattle.racf_profiles.specs.State.{is_of_copies}
 use Rattle.racf_profiles.specs.Lawful.{AreLawful, LeaveLawfulClasses}
 use Rattle.row_tables.specs.Applying.{CanApply, HasRoom}
+use Rattle.command_parser.specs.declared.commands.Issuer.{Issuer}
 use Rattle.command_parser.specs.Canonical.{canonical}
 use Rattle.command_parser.specs.LawfulFields.{AreLawfulFields}
 use Rattle.command_parser.specs.declared.fields.CommandFields.{CommandFields}
 use Rattle.command_parser.specs.declared.fields.CommandFields.TheVariants as command
 use Rattle.command_effects.specs.Effects.{step}
-use Rattle.command_effects.specs.Edits.{edits_of}
+use Rattle.command_effects.specs.Edits.{edits_of, is_set_ropts}
 use Rattle.command_conflicts.specs.Unbuilt.{is_unbuilt}
 use Rattle.command_conflicts.specs.Conflicts.{conflict_of, conflicts, first_met}
 use Rattle.lawful_commands.proofs.ProfileRows.{PutsAreCounted}
@@ -48,7 +49,7 @@ invariant_of-self-2 c =
     let own : AreLawfulFields fields = c.fields_of_a_text_are_lawful.ensures issuer.id (canonical fields) fields (c.printed_is_read.ensures issuer.id) in
     let room : HasRoom tables (edits_of issuer fields tables.rows) = subst (HasRoom tables) (c.as_slice.ensures.value ∙ of_rows) c.in_ok-reserve.ensures.room in
     let after : AreLawful (changed (edits_of issuer fields tables.rows) tables.rows) =
-    subst AreLawful (sym (changed-edits_of issuer fields tables.rows met)) (c.commands_leave_lawful_rows.ensures issuer fields tables.rows lawful own free) in
+    subst AreLawful (sym (changed-edits_of issuer fields tables.rows lawful met)) (c.commands_leave_lawful_rows.ensures issuer fields tables.rows lawful own free) in
     record {
       lawful = lawful;
       ready = record {
@@ -62,8 +63,9 @@ returns-clause-step c =
     let issuer = c.args.issuer.now in
     let fields = c.args.command.now in
     let rows = c.args.self.now.rows in
+    let lawful : AreLawful rows = subst AreLawful (ap (λ v. v.rows) c.self.view_is) c.self.invariant.lawful in
     ap (λ (es : List Edit). changed es rows) (c.in_ok-edits.ensures ∙ ap (λ v. edits_of issuer fields v.rows) c.self.view_is)
-    ∙ changed-edits_of issuer fields rows (behind (is_unbuilt fields) (conflicts issuer fields rows) c.requires)
+    ∙ changed-edits_of issuer fields rows lawful (behind (is_unbuilt fields) (conflicts issuer fields rows) c.requires)
 
 pub returns-clause-lawful : goal.returns-clause-lawful
 returns-clause-lawful c =
@@ -73,12 +75,20 @@ returns-clause-lawful c =
     let lawful : AreLawful rows = subst AreLawful (ap (λ v. v.rows) c.self.view_is) c.self.invariant.lawful in
     let own : AreLawfulFields fields = c.fields_of_a_text_are_lawful.ensures issuer.id (canonical fields) fields (c.printed_is_read.ensures issuer.id) in
     let after : AreLawful (changed (edits_of issuer fields rows) rows) =
-    subst AreLawful (sym (changed-edits_of issuer fields rows (behind (is_unbuilt fields) (conflicts issuer fields rows) c.requires))) (c.commands_leave_lawful_rows.ensures issuer fields rows lawful own c.requires) in
+    subst AreLawful (sym (changed-edits_of issuer fields rows lawful (behind (is_unbuilt fields) (conflicts issuer fields rows) c.requires))) (c.commands_leave_lawful_rows.ensures issuer fields rows lawful own c.requires) in
     subst (λ (es : List Edit). AreLawful (changed es rows)) (sym (c.in_ok-edits.ensures ∙ ap (λ v. edits_of issuer fields v.rows) c.self.view_is)) after
+
+-- what isn't built conflicts, and SETROPTS is it
+built : (issuer : Issuer) (command : CommandFields) (rows : Rows) → conflict_of issuer command rows ≡ None → is_set_ropts command ≡ false
+built issuer (command.SetRopts c) rows h = cc
+built issuer command rows h = refl
 
 pub returns-clause-listed : goal.returns-clause-listed
 returns-clause-listed c =
-    subst (λ (es : List Edit). list_all (λ (edit : Edit). not (is_of_copies edit)) es ≡ true) (sym c.in_ok-edits.ensures) (c.commands_edit_rows_alone.ensures.listed c.args.issuer.now c.args.command.now c.self.inside.tables.rows)
+    let issuer = c.args.issuer.now in
+    let fields = c.args.command.now in
+    subst (λ (es : List Edit). list_all (λ (edit : Edit). not (is_of_copies edit)) es ≡ true) (sym c.in_ok-edits.ensures)
+    (c.commands_edit_rows_alone.ensures.listed issuer fields c.self.inside.tables.rows (built issuer fields c.args.self.now.rows c.requires))
 
 pub returns-clause-classes : goal.returns-clause-classes
 returns-clause-classes c =
@@ -88,6 +98,6 @@ returns-clause-classes c =
     let lawful : AreLawful rows = subst AreLawful (ap (λ v. v.rows) c.self.view_is) c.self.invariant.lawful in
     let own : AreLawfulFields fields = c.fields_of_a_text_are_lawful.ensures issuer.id (canonical fields) fields (c.printed_is_read.ensures issuer.id) in
     let after : AreLawful (changed (edits_of issuer fields rows) rows) =
-    subst AreLawful (sym (changed-edits_of issuer fields rows (behind (is_unbuilt fields) (conflicts issuer fields rows) c.requires))) (c.commands_leave_lawful_rows.ensures issuer fields rows lawful own c.requires) in
+    subst AreLawful (sym (changed-edits_of issuer fields rows lawful (behind (is_unbuilt fields) (conflicts issuer fields rows) c.requires))) (c.commands_leave_lawful_rows.ensures issuer fields rows lawful own c.requires) in
     subst (λ (es : List Edit). LeaveLawfulClasses es rows) (sym (c.in_ok-edits.ensures ∙ ap (λ v. edits_of issuer fields v.rows) c.self.view_is))
     (c.commands_edit_rows_alone.ensures.classes issuer fields rows lawful.classes after.classes)

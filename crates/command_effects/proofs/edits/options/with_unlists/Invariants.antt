@@ -1,0 +1,13 @@
+use Rattle.std.proofs.Common.{◌≡◌, ◌++◌, map, drop}
+use Rattle.std.specs.List.{filter}
+use Rattle.racf_profiles.specs.declared.class_rows.ClassRow.{ClassRow}
+use Rattle.racf_profiles.specs.declared.edits.Edit.TheVariants.{Unlist}
+use Rattle.class_profiles.specs.Summed.{rows_in}
+use Rattle.command_effects.specs.Edits.{unlists}
+use Rattle.command_effects.proofs.edits.options.with_unlists.Given as goal
+
+-- the edits so far, and those of the classes that are left
+abbrev pub invariant-loop-class : goal.invariant-loop-class
+invariant-loop-class l =
+    l.edits.items ++ map (λ (class : ClassRow). Unlist class.name) (filter (unlists l.command) (rows_in (drop l.class-index l.classes)))
+    ≡ l.fn.edits.items ++ map (λ (class : ClassRow). Unlist class.name) (filter (unlists l.command) (rows_in l.classes))

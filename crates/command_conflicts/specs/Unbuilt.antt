@@ -37,4 +37,4 @@ is_unbuilt (fields.RAlter c) =
     || is_some c.seclabel || c.noseclabel || names_any c.addmem || names_any c.delmem
 is_unbuilt (fields.RDelete c) = is_unbuilt_class c.class
 is_unbuilt (fields.Permit c) = false
-is_unbuilt (fields.SetRopts c) = true
+is_unbuilt (fields.SetRopts c) = false

@@ -10,8 +10,8 @@ use command_parser::{
 };
 use racf_profiles::Members;
 
-/// Whether a command names a security level, a category, a label or a member, or takes one away; works on a profile of
-/// a class that holds these; or sets options.
+/// Whether a command names a security level, a category, a label or a member, or takes one away; or works on a
+/// profile of a class that holds these.
 pub fn is_unbuilt(fields: &CommandFields) -> bool
     ensures { result ≡ is_unbuilt fields.now }
 {
@@ -23,7 +23,6 @@ pub fn is_unbuilt(fields: &CommandFields) -> bool
         CommandFields::RDefine(command) => is_unbuilt_rdefine(command),
         CommandFields::RAlter(command) => is_unbuilt_ralter(command),
         CommandFields::RDelete(command) => is_unbuilt_class(command.class),
-        CommandFields::SetRopts(_) => true,
         CommandFields::DelUser(_)
         | CommandFields::AddGroup(_)
         | CommandFields::AltGroup(_)
@@ -31,7 +30,8 @@ pub fn is_unbuilt(fields: &CommandFields) -> bool
         | CommandFields::Connect(_)
         | CommandFields::Remove(_)
         | CommandFields::DelSd(_)
-        | CommandFields::Permit(_) => false,
+        | CommandFields::Permit(_)
+        | CommandFields::SetRopts(_) => false,
     }
 }
 

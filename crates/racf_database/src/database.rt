@@ -3,7 +3,7 @@ ghost use Rattle.std.specs.Prelude.{◌≡◌, None, Some, IfOk};
 ghost use Rattle.std.specs.Result.{result_err};
 ghost use Rattle.racf_profiles.specs.Edits.{changed};
 ghost use Rattle.racf_profiles.specs.Lawful.{AreLawful};
-ghost use Rattle.row_tables.specs.Tables.{first_rows};
+ghost use Rattle.racf_profiles.specs.NewDatabase.{new_database};
 ghost use Rattle.command_conflicts.specs.Conflicts.{conflict_of, first_conflict_of};
 
 use access_levels::Id;
@@ -19,8 +19,7 @@ use std::marker::Model;
 use std::snapshot::Snapshot;
 
 /// The users, groups, connections and profiles of a database, which are lawful at any time. Users and groups are
-/// found by name in one look-up, whatever their number, and a profile by a search in the order of its class's. Every
-/// class is active, and the options are off but for the names of categories: no command changes them yet.
+/// found by name in one look-up, whatever their number, and a profile by a search in the order of its class's.
 ///
 /// A command is judged by `check`, then `prepare` takes all memory and answers its edits, and `apply` makes them.
 #[derive(Drop)]
@@ -45,9 +44,9 @@ impl Model for Database {
 }
 
 impl Database {
-    /// A new database, but that every class is active.
+    /// A new database: IBMUSER and SYS1, and DATASET alone active.
     pub fn new(alloc: Global) -> Result<Database, NoMemory>
-        ensures rows { IfOk result (λ database. database.rows ≡ first_rows) }
+        ensures rows { IfOk result (λ database. database.rows ≡ new_database) }
         ensures nothing_prepared { IfOk result (λ database. database.prepared ≡ None) }
     {
         let tables = RowTables::new(alloc)?;

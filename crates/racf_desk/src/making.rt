@@ -13,7 +13,7 @@ use access_levels::Text;
 use command_parser::{Command, print};
 use racf_database::Database;
 use racf_profiles::NoMemory;
-use racf_profiles::laws::unlisted_classes_need_no_copies;
+use racf_profiles::laws::rows_are_changed;
 use raclist_image::Image;
 use std::alloc::Global;
 use std::sync::Arc;
@@ -32,8 +32,8 @@ pub(crate) fn make(
     ensures prepared { IfOk result (λ ready. database.new.prepared ≡ Some ready.change) }
     ensures rows { database.new.rows ≡ database.old.rows }
 {
-    // No command lists a class yet, so the state behind its edits is the one that a restart makes.
-    unlisted_classes_need_no_copies();
+    // The rows of the state behind the edits are those behind them.
+    rows_are_changed();
     let number = image.generation() + 1;
     let text = canonical_text(alloc, &issued.command)?;
     let change = database.prepare(alloc, &issued.issuer, &issued.command)?;

@@ -23,7 +23,7 @@ use Rattle.racf_profiles.specs.State.{State, ListedCopy, is_copy_of, copy_of}
 use Rattle.racf_profiles.specs.Edits.{with_profile, without_profile}
 use Rattle.racf_profiles.proofs.OrderedProfiles.{all-put_profile}
 use Rattle.racf_profiles.proofs.EditLaws.{all-drop_row}
-use Rattle.row_tables.specs.Tables.{first_rows}
+use Rattle.racf_profiles.specs.NewDatabase.{new_database}
 use Rattle.command_values.specs.declared.values.Reset.{Reset}
 use Rattle.command_values.specs.declared.values.Reset.TheVariants as reset
 use Rattle.command_parser.specs.declared.commands.Issuer.{Issuer}
@@ -73,7 +73,7 @@ pub record AreFeedless (rows : Rows) : Type 0 where
   pub groups : AllByRecursion IsFeedlessGroup rows.groups
   pub classes : AllByRecursion AreFeedlessProfiles rows.classes
 
-pub first-feedless : AreFeedless first_rows
+pub first-feedless : AreFeedless new_database
 first-feedless = record {
   users = (record { id = refl; default_group = refl; groups = (refl, tt) }, tt);
   groups = (record { id = refl; superior = tt; owner = refl }, tt);

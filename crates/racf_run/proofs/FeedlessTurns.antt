@@ -60,6 +60,7 @@ use Rattle.racf_run.specs.Stream.{State, Answer, number_of}
 use Rattle.racf_run.specs.Printed.{Turn, turns, input_turns, printed, behind, PrintsOneLine}
 use Rattle.racf_run.specs.Script.{stream}
 use Rattle.racf_run.proofs.Feedless.{IsFeedless, joined, decimal-feedless, either, if-given, if-map, if-found}
+use Rattle.racf_run.proofs.FeedlessCopies.{copies-feedless}
 use Rattle.racf_run.proofs.FeedlessRows.{IsFeedlessUser, AreFeedless, IsFeedlessState, first-feedless, step-feedless}
 use Rattle.racf_run.proofs.FeedlessConflicts.{IsFeedlessTest, conflict-feedless, early-feedless}
 use Rattle.racf_run.proofs.FeedlessNeeds.{need-feedless}
@@ -278,7 +279,7 @@ prints-outcome (Err why) before h good = prints-refuse (refusal.Command why) bef
 prints-outcome (Ok issued) before h good = record {
   line = line (number_of before + 1) (codes "ACCEPTED") refl;
   good = record {
-    state = record { rows = step-feedless issued.issuer h.issuer.id h.issuer.group issued.command before.position.state.rows h.fields good.state.rows; copies = good.state.copies };
+    state = record { rows = step-feedless issued.issuer h.issuer.id h.issuer.group issued.command before.position.state.rows h.fields good.state.rows; copies = copies-feedless issued.command before.position.state good.state };
     issuer = good.issuer;
     group = good.group;
     acees = good.acees;

@@ -14,6 +14,7 @@ pub mod StreamWalk
 pub mod PrintedLaws
 pub mod Feedless
 pub mod FeedlessRows
+pub mod FeedlessCopies
 pub mod FeedlessConflicts
 pub mod FeedlessNeeds
 pub mod FeedlessDecisions

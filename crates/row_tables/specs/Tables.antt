@@ -1,12 +1,10 @@
 -- What contracts see of the tables.
-use Rattle.std.specs.Prelude.{ℕ, Bool, true, List}
+use Rattle.std.specs.Prelude.{ℕ, List}
 use Rattle.racf_profiles.specs.declared.users.User.{User}
 use Rattle.racf_profiles.specs.declared.groups.Group.{Group}
 use Rattle.racf_profiles.specs.declared.class_rows.ClassRow.{ClassRow}
 use Rattle.racf_profiles.specs.declared.options.Options.{Options}
 use Rattle.racf_profiles.specs.declared.rows.Rows.{Rows}
-use Rattle.racf_profiles.specs.declared.fixed_classes.FixedClass.{FixedClass}
-use Rattle.racf_profiles.specs.NewDatabase.{new_rows}
 use Rattle.group_tree.specs.Groups.{GroupTree}
 use Rattle.class_profiles.specs.Classes.{ClassList}
 use Rattle.row_tables.specs.UserList.{UserList}
@@ -30,11 +28,3 @@ groups_in tables = record { groups = tables.rows.groups; spare = tables.spare_gr
 
 abbrev pub classes_in : Tables → ClassList
 classes_in tables = record { classes = tables.rows.classes; spare = tables.spare_profiles }
-
--- No command makes a class active or not yet: each is active.
-abbrev pub is_active : FixedClass → Bool
-is_active class = true
-
--- The rows of a new database.
-abbrev pub first_rows : Rows
-first_rows = new_rows is_active

@@ -1,14 +1,13 @@
 //! The tables: the rows of a database, by name.
 ghost use Rattle.std.specs.Prelude.{◌≡◌, ◌≤◌, [], ◌∷◌, length, IsTrue, IfOk, OnOk, OnErr};
 ghost use Rattle.std.specs.List.{list_any};
-ghost use Rattle.racf_profiles.specs.NewDatabase.{no_options};
+ghost use Rattle.racf_profiles.specs.NewDatabase.{new_database, no_options};
 ghost use Rattle.racf_profiles.specs.Names.{connections};
 ghost use Rattle.racf_profiles.specs.Counts.{profile_count, entry_count};
 ghost use Rattle.racf_profiles.specs.Tree.{IsTree};
 ghost use Rattle.racf_profiles.specs.LawfulUsers.{AreUsers};
 ghost use Rattle.racf_profiles.specs.LawfulProfiles.{AreClasses};
 ghost use Rattle.racf_profiles.specs.Limits.{most_connections_in_all, most_profiles, most_entries_in_all, most_categories};
-ghost use Rattle.row_tables.specs.Tables.{first_rows};
 ghost use Rattle.row_tables.specs.Applying.{HasRoom, HasRoomFor, HasAtLeast, adds};
 
 use crate::user_table::UserTable;
@@ -50,13 +49,13 @@ impl Model for RowTables {
 }
 
 impl RowTables {
-    /// The tables of a new database, but that every class is active.
+    /// The tables of a new database.
     pub fn new(alloc: Global) -> Result<RowTables, NoMemory>
-        ensures { IfOk result (λ tables. tables.rows ≡ first_rows) }
+        ensures { IfOk result (λ tables. tables.rows ≡ new_database) }
     {
         let users = first_users(alloc)?;
         let tree = first_tree(alloc)?;
-        let classes = ClassTables::all_active(alloc)?;
+        let classes = ClassTables::new(alloc)?;
         let options = first_options(alloc);
         Ok(RowTables {
             users,
@@ -221,7 +220,7 @@ fn group_rows(alloc: Global, tree: &Tree) -> Result<Groups, NoMemory>
 
 /// The users of a new database.
 fn first_users(alloc: Global) -> Result<UserTable, NoMemory>
-    ensures { IfOk result (λ table. table.users ≡ first_rows.users) }
+    ensures { IfOk result (λ table. table.users ≡ new_database.users) }
 {
     let rows = Rows::new_database(alloc)?;
     let mut items = rows.users.items;
@@ -235,7 +234,7 @@ fn first_users(alloc: Global) -> Result<UserTable, NoMemory>
 
 /// The tree of a new database.
 fn first_tree(alloc: Global) -> Result<Tree, NoMemory>
-    ensures { IfOk result (λ tree. tree.groups ≡ first_rows.groups) }
+    ensures { IfOk result (λ tree. tree.groups ≡ new_database.groups) }
 {
     match Tree::new(alloc) {
         Ok(tree) => Ok(tree),

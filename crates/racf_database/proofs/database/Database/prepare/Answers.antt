@@ -1,18 +1,16 @@
-use Rattle.std.proofs.Common.{◌≡◌, ◌∙◌, true, false, not, List, None, refl, ap, sym, subst}
+use Rattle.std.proofs.Common.{◌≡◌, ◌∙◌, true, not, List, None, ap, sym, subst}
 use Rattle.std.specs.List.{list_all}
-use Rattle.racf_profiles.specs.declared.rows.Rows.{Rows}
 use Rattle.racf_profiles.specs.declared.edits.Edit.{Edit}
 use Rattle.racf_profiles.specs.Edits.{changed}
 use Rattle.racf_profiles.specs.State.{is_of_copies}
 use Rattle.racf_profiles.specs.Lawful.{AreLawful, LeaveLawfulClasses}
 use Rattle.row_tables.specs.Applying.{CanApply, HasRoom}
-use Rattle.command_parser.specs.declared.commands.Issuer.{Issuer}
 use Rattle.command_parser.specs.Canonical.{canonical}
 use Rattle.command_parser.specs.LawfulFields.{AreLawfulFields}
 use Rattle.command_parser.specs.declared.fields.CommandFields.{CommandFields}
 use Rattle.command_parser.specs.declared.fields.CommandFields.TheVariants as command
 use Rattle.command_effects.specs.Effects.{step}
-use Rattle.command_effects.specs.Edits.{edits_of, is_set_ropts}
+use Rattle.command_effects.specs.Edits.{edits_of}
 use Rattle.command_conflicts.specs.Unbuilt.{is_unbuilt}
 use Rattle.command_conflicts.specs.Conflicts.{conflict_of, conflicts, first_met}
 use Rattle.lawful_commands.proofs.ProfileRows.{PutsAreCounted}
@@ -79,17 +77,10 @@ returns-clause-lawful c =
     subst AreLawful (sym (changed-edits_of issuer fields rows lawful (behind (is_unbuilt fields) (conflicts issuer fields rows) c.requires))) (c.commands_leave_lawful_rows.ensures issuer fields rows lawful own c.requires) in
     subst (λ (es : List Edit). AreLawful (changed es rows)) (sym (c.in_ok-edits.ensures ∙ ap (λ v. edits_of issuer fields v.rows) c.self.view_is)) after
 
--- what isn't built conflicts, and SETROPTS is it
-built : (issuer : Issuer) (command : CommandFields) (rows : Rows) → conflict_of issuer command rows ≡ None → is_set_ropts command ≡ false
-built issuer (command.SetRopts c) rows h = cc
-built issuer command rows h = refl
-
 pub returns-clause-listed : goal.returns-clause-listed
-returns-clause-listed c =
-    let issuer = c.args.issuer.now in
-    let fields = c.args.command.now in
+returns-clause-listed c other =
     subst (λ (es : List Edit). list_all (λ (edit : Edit). not (is_of_copies edit)) es ≡ true) (sym c.in_ok-edits.ensures)
-    (c.commands_edit_rows_alone.ensures.listed issuer fields c.self.inside.tables.rows (built issuer fields c.args.self.now.rows c.requires))
+    (c.commands_edit_rows_alone.ensures.listed c.args.issuer.now c.args.command.now c.self.inside.tables.rows other)
 
 pub returns-clause-classes : goal.returns-clause-classes
 returns-clause-classes c =

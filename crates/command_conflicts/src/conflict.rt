@@ -7,7 +7,8 @@ use generic_names::Pattern;
 /// issuer's authority was judged.
 #[derive(Clone, Copy)]
 pub enum Conflict {
-    /// The command sets a security level, a category, a label or a member, and decisions don't look at these yet.
+    /// The command sets a security level, a category, a label or a member, and decisions don't look at these yet; or it
+    /// is SETROPTS.
     NotBuilt,
     /// No user has this ID; or, of an owner, no user and no group.
     NoUser(Id),

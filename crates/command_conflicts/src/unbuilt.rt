@@ -11,7 +11,7 @@ use command_parser::{
 use racf_profiles::Members;
 
 /// Whether a command names a security level, a category, a label or a member, or takes one away; works on a profile of
-/// a class that holds these; or sets options.
+/// a class that holds these; or is SETROPTS.
 pub fn is_unbuilt(fields: &CommandFields) -> bool
     ensures { result ≡ is_unbuilt fields.now }
 {

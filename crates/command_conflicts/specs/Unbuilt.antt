@@ -15,8 +15,8 @@ abbrev pub is_unbuilt_class : List ℕ → Bool
 is_unbuilt_class name = bytes_eq name (codes "SECDATA") || bytes_eq name (codes "SECLABEL") || bytes_eq name (codes "GLOBAL")
 
 -- A command that names a security level, a category, a label or a member, or takes one away; or that works on a
--- profile of such a class. No profile of such a class can be there, so that PERMIT finds none. SETROPTS isn't carried out
--- yet.
+-- profile of such a class. No profile of such a class can be there, so that PERMIT finds none. SETROPTS isn't carried
+-- out yet.
 abbrev pub is_unbuilt : CommandFields → Bool
 is_unbuilt (fields.AddUser c) = is_some c.seclevel || names_any c.addcategory || is_some c.seclabel
 is_unbuilt (fields.AltUser c) =

@@ -1,4 +1,4 @@
--- The edits that a command makes: each is the whole new row, or drops one.
+-- The edits that a command makes: each is the whole new row, or drops one; of a class it sets flags, lists or unlists.
 use Rattle.std.specs.Prelude.{ℕ, Bool, true, false, ◌&&◌, ◌||◌, not, List, [], ◌∷◌, ◌++◌, map, if◌then◌else◌, Option, None, Some}
 use Rattle.std.specs.List.{filter, list_any, list_all}
 use Rattle.racf_profiles.specs.declared.class_rows.ClassRow.{ClassRow}
@@ -82,10 +82,6 @@ lists c class = names_class c.raclist class && (c.refresh || not class.listed)
 abbrev pub unlists : SetRopts → ClassRow → Bool
 unlists c class = names_class c.noraclist class
 
--- With REFRESH each class that RACLIST names is listed.
-abbrev pub refreshes_listed : SetRopts → List ClassRow → Bool
-refreshes_listed c classes = list_all (λ (class : ClassRow). not (c.refresh && names_class c.raclist class) || class.listed) classes
-
 abbrev pub put_flags : ClassRow → Edit
 put_flags class = PutClass class.name class.active class.global class.log
 
@@ -95,6 +91,10 @@ edits_of_set_ropts c rows =
     ++ (map (λ (class : ClassRow). put_flags (set_class c class)) (filter (sets_flags c) rows.classes)
     ++ (map (λ (class : ClassRow). ListCopy class.name) (filter (lists c) rows.classes)
     ++ map (λ (class : ClassRow). Unlist class.name) (filter (unlists c) rows.classes)))
+
+-- With REFRESH each class that RACLIST names is listed.
+abbrev pub refreshes_listed : SetRopts → List ClassRow → Bool
+refreshes_listed c classes = list_all (λ (class : ClassRow). not (c.refresh && names_class c.raclist class) || class.listed) classes
 
 abbrev pub is_set_ropts : CommandFields → Bool
 is_set_ropts (fields.SetRopts c) = true

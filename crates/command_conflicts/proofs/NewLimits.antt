@@ -1,5 +1,5 @@
 -- The limits of a profile that is new: one more than there are.
-use Rattle.std.proofs.Common.{◌≡◌, ℕ, ◌+◌, List, [], ◌∷◌, Option, None, Some, length, refl, ap, ◌∙◌}
+use Rattle.std.proofs.Common.{◌≡◌, ◌+◌, [], ◌∷◌, Option, None, Some, length, ap, ◌∙◌}
 use Rattle.std.specs.Prelude.{option_and_then}
 use Rattle.racf_profiles.specs.declared.profiles.Profile.{Profile}
 use Rattle.racf_profiles.specs.declared.rows.Rows.{Rows}
@@ -11,7 +11,7 @@ use Rattle.command_parser.specs.declared.commands.Issuer.{Issuer}
 use Rattle.command_parser.specs.declared.profile_fields.AddSd.{AddSd}
 use Rattle.command_parser.specs.declared.profile_fields.RDefine.{RDefine}
 use Rattle.command_effects.specs.ProfileEffects.{dataset, new_data_set, new_resource, profile_put}
-use Rattle.command_effects.specs.Members.{members_after, categories_defined}
+use Rattle.command_effects.specs.Members.{categories_defined}
 use Rattle.command_conflicts.specs.declared.conflict.Conflict.{Conflict}
 use Rattle.command_conflicts.specs.declared.conflict.Limit.TheVariants.{ClassProfiles, Profiles, Members, Categories}
 use Rattle.command_conflicts.specs.Required.{first_met, over}

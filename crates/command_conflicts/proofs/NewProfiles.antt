@@ -1,9 +1,8 @@
 -- The counts after a profile was put, where it is new, and after one that is there was changed.
-use Rattle.std.proofs.Common.{◌≡◌, ◌⊎◌, ℕ, ◌+◌, ◌-◌, ◌≤◌, Bool, true, false, cond, not, ◌||◌, List, [], ◌∷◌, map, Option, None, Some, IsSome, is_some, option_and_then, length, bytes_eq, codes, refl, sym, ap, subst, ◌∙◌, true≢false, arith, ⊎_elim}
+use Rattle.std.proofs.Common.{◌≡◌, ℕ, ◌+◌, ◌≤◌, Bool, true, false, cond, not, ◌||◌, List, [], ◌∷◌, map, Option, None, Some, IsSome, is_some, option_and_then, length, bytes_eq, refl, sym, ap, subst, ◌∙◌, true≢false, arith}
 use Rattle.std.specs.Prelude.{find, sum_by, nat_lt}
-use Rattle.std.specs.List.{AllByRecursion}
 use Rattle.std.specs.Option.{option_map_or}
-use Rattle.std.proofs.lemmas.Bool.{cases_Bool, not-false, or_parts}
+use Rattle.std.proofs.lemmas.Bool.{not-false, or_parts}
 use Rattle.std.proofs.lemmas.Bool.Decides.{nat_tests}
 use Rattle.std.proofs.lemmas.Slice.Eq.{bytes_eq-Decides}
 use Rattle.generic_names.specs.Before.{before}
@@ -24,7 +23,6 @@ use Rattle.access_levels.proofs.Options.{none_from_is_some}
 use Rattle.racf_profiles.proofs.Found.{all-found}
 use Rattle.class_profiles.specs.Classes.{profile_in}
 use Rattle.command_effects.specs.ProfileEffects.{profile_put, profile_changed, dataset}
-use Rattle.command_conflicts.specs.declared.conflict.Conflict.{Conflict}
 use Rattle.command_conflicts.specs.declared.conflict.Conflict.TheVariants.{Full}
 use Rattle.command_conflicts.specs.declared.conflict.Limit.{Limit}
 use Rattle.command_conflicts.specs.Required.{if_met, over}

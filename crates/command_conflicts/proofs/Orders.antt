@@ -1,6 +1,5 @@
 -- The number of each test, and the order of each command's.
-use Rattle.std.proofs.Common.{◌≡◌, ℕ, Bool, true, false, cond, not, ◌&&◌, ◌||◌, List, [], ◌∷◌, Option, None, Some, is_some, option_map, option_and_then, refl, length, bytes_eq, codes}
-use Rattle.std.specs.Prelude.{find}
+use Rattle.std.proofs.Common.{◌≡◌, ℕ, Bool, true, not, ◌&&◌, List, [], ◌∷◌, Option, None, Some, is_some, refl, length, bytes_eq, codes}
 use Rattle.std.specs.Result.{result_ok}
 use Rattle.access_levels.specs.Spelling.{id_of}
 use Rattle.access_levels.specs.declared.entries.Who.{Who}
@@ -11,20 +10,19 @@ use Rattle.racf_profiles.specs.declared.users.Connect.{Connect as Connection}
 use Rattle.racf_profiles.specs.declared.groups.Group.{Group}
 use Rattle.racf_profiles.specs.declared.profiles.Profile.{Profile}
 use Rattle.racf_profiles.specs.declared.rows.Rows.{Rows}
-use Rattle.racf_profiles.specs.Lookup.{user_of, group_of, class_of, profile_of}
+use Rattle.racf_profiles.specs.Lookup.{user_of, class_of, profile_of}
 use Rattle.command_parser.specs.declared.commands.Issuer.{Issuer}
 use Rattle.command_parser.specs.declared.fields.CommandFields.{CommandFields}
 use Rattle.command_parser.specs.declared.fields.CommandFields.TheVariants as fields
 use Rattle.command_parser.specs.declared.profile_fields.Permit.{Permit}
 use Rattle.command_effects.specs.Effects.{step}
-use Rattle.command_conflicts.specs.declared.conflict.Conflict.{Conflict}
-use Rattle.command_conflicts.specs.declared.conflict.Conflict.TheVariants.{NotBuilt, NoUser, NoGroup, NoProfile, NoClass, Exists, NotConnected, Root, InUse, Cycle, OwnerNotSuperior, NotGeneric, NotListed, ClassFixed, DefaultGroup, LastSpecial, UnknownName, Full}
+use Rattle.command_conflicts.specs.declared.conflict.Conflict.TheVariants.{NotBuilt, NoUser, NoGroup, NoProfile, NoClass, Exists, NotConnected, Root, Cycle, OwnerNotSuperior, NotGeneric, NotListed, ClassFixed, DefaultGroup, LastSpecial, UnknownName, Full}
 use Rattle.racf_profiles.specs.Limits.{most_list_entries, most_members}
 use Rattle.command_conflicts.specs.declared.conflict.Limit.{Limit}
 use Rattle.command_conflicts.specs.declared.conflict.Limit.TheVariants.{Entries, Members}
 use Rattle.command_conflicts.specs.Unbuilt.{is_unbuilt}
-use Rattle.command_conflicts.specs.Numbers.{number_of, met, is_ascending}
-use Rattle.command_conflicts.specs.Required.{if_met, over, no_user, no_group, no_owner, no_named_group, no_class, name_taken, not_connected, default_not_connected, unknown_level, unknown_category, never_category, unknown_label}
+use Rattle.command_conflicts.specs.Numbers.{met, is_ascending}
+use Rattle.command_conflicts.specs.Required.{over, no_user, no_group, no_owner, no_named_group, no_class, name_taken, not_connected, default_not_connected, unknown_level, unknown_category, never_category, unknown_label}
 use Rattle.command_conflicts.specs.ProfileConflicts.{
   no_first_qualifier,
   named_unknown,

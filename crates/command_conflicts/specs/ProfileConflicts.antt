@@ -1,5 +1,5 @@
 -- What the commands on profiles conflict with.
-use Rattle.std.specs.Prelude.{ℕ, ◌+◌, ◌-◌, Bool, false, ◌&&◌, ◌||◌, not, List, [], ◌∷◌, ◌++◌, length, Option, None, Some, is_some, find, option_and_then, codes, bytes_eq, if◌then◌else◌}
+use Rattle.std.specs.Prelude.{ℕ, ◌+◌, Bool, false, ◌&&◌, ◌||◌, not, List, [], ◌∷◌, ◌++◌, length, Option, None, Some, is_some, find, option_and_then, codes, bytes_eq, if◌then◌else◌}
 use Rattle.std.specs.Option.{option_map_or}
 use Rattle.std.specs.Result.{result_ok}
 use Rattle.access_levels.specs.Spelling.{id_of}
@@ -8,7 +8,6 @@ use Rattle.access_levels.specs.declared.entries.Who.TheVariants.{Star, Named}
 use Rattle.generic_names.specs.Spelled.{Spelled, first_qualifier}
 use Rattle.generic_names.specs.Covers.{is_generic}
 use Rattle.racf_profiles.specs.declared.profiles.Profile.{Profile}
-use Rattle.racf_profiles.specs.declared.profiles.Member.{Member}
 use Rattle.racf_profiles.specs.declared.fixed_classes.ClassFacts.{ClassFacts}
 use Rattle.racf_profiles.specs.declared.class_rows.ClassRow.{ClassRow}
 use Rattle.racf_profiles.specs.declared.rows.Rows.{Rows}
@@ -30,7 +29,7 @@ use Rattle.command_conflicts.specs.declared.conflict.Conflict.TheVariants.{NoUse
 use Rattle.command_conflicts.specs.declared.conflict.Named.TheVariants as named
 use Rattle.command_conflicts.specs.declared.conflict.Limit.TheVariants.{ClassProfiles, Profiles, Entries, AllEntries, Members, Categories}
 use Rattle.racf_profiles.specs.Names.{is_taken}
-use Rattle.racf_profiles.specs.Counts.{profile_count, entry_count, entries_in}
+use Rattle.racf_profiles.specs.Counts.{profile_count, entry_count}
 use Rattle.command_effects.specs.ProfileEffects.{dataset}
 use Rattle.command_effects.specs.Members.{members_after, categories_defined}
 use Rattle.command_effects.specs.Effects.{step}

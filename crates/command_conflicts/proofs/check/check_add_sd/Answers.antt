@@ -1,5 +1,5 @@
 -- The requirements, and then the limits of a profile that is new.
-use Rattle.std.proofs.Common.{◌≡◌, ◌∙◌, None, Some, sym, ap}
+use Rattle.std.proofs.Common.{◌≡◌, ◌∙◌, None, sym, ap}
 use Rattle.std.specs.Result.{result_err}
 use Rattle.command_conflicts.specs.Required.{first_met}
 use Rattle.command_conflicts.specs.ProfileConflicts.{add_sd_requirements, add_sd_limits}

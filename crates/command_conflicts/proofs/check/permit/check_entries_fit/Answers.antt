@@ -1,8 +1,8 @@
 -- The new entries count in place of the old ones.
-use Rattle.std.proofs.Common.{◌≡◌, ◌∙◌, ◌+◌, ◌-◌, None, length, refl, sym, ap, arith}
+use Rattle.std.proofs.Common.{◌≡◌, ◌∙◌, ◌+◌, length, refl, sym, ap, arith}
 use Rattle.racf_profiles.specs.declared.profiles.Profile.{Profile}
 use Rattle.racf_profiles.specs.declared.rows.Rows.{Rows}
-use Rattle.racf_profiles.specs.Counts.{entry_count, entries_in}
+use Rattle.racf_profiles.specs.Counts.{entry_count}
 use Rattle.racf_profiles.specs.Limits.{most_entries_in_all}
 use Rattle.command_effects.specs.PermitEffects.{permitted_profile, after_permit, standard_after, conditional_after}
 use Rattle.command_conflicts.specs.declared.conflict.Limit.TheVariants.{AllEntries}

@@ -1,5 +1,5 @@
 -- The count of the list that the step makes.
-use Rattle.std.proofs.Common.{◌∙◌, None, length, refl, sym, ap}
+use Rattle.std.proofs.Common.{◌∙◌, length, refl, sym, ap}
 use Rattle.racf_profiles.specs.declared.profiles.Profile.{Profile}
 use Rattle.racf_profiles.specs.Limits.{most_list_entries}
 use Rattle.command_effects.specs.PermitEffects.{permitted_profile, standard_after}

@@ -11,8 +11,10 @@ use raclist_image::{Facts, Image};
 use std::alloc::Global;
 use std::test::Fail;
 
-/// A group and a user of three connections, of which one is revoked and one has group-OPERATIONS; and two profiles.
-const COMMANDS: [&[u8]; 9] = [
+/// A group and a user of three connections, of which one is revoked and one has group-OPERATIONS; and two profiles of a
+/// class that is active.
+const COMMANDS: [&[u8]; 10] = [
+    b"SETROPTS CLASSACT(FACILITY)",
     b"ADDGROUP PAY OWNER(SYS1)",
     b"ADDGROUP DEV OWNER(SYS1)",
     b"ADDUSER JOE DFLTGRP(PAY) AUDITOR",
@@ -24,18 +26,22 @@ const COMMANDS: [&[u8]; 9] = [
     b"PERMIT PAY.** CLASS(FACILITY) ID(JOE) ACCESS(UPDATE) WHEN(TERMINAL(T1))",
 ];
 
-/// Commands that put a row of each kind, change it and take it out.
-const NEXT_COMMANDS: [&[u8]; 10] = [
+/// Commands that put a row of each kind, change it and take it out, and that make a class's listed copy, make it anew and
+/// drop it.
+const NEXT_COMMANDS: [&[u8]; 13] = [
+    b"SETROPTS RACLIST(FACILITY)",
     b"ADDGROUP NEW OWNER(SYS1)",
     b"ADDUSER JIM DFLTGRP(NEW)",
     b"CONNECT JIM GROUP(DEV)",
     b"ALTGROUP NEW OWNER(JIM)",
     b"RDEFINE FACILITY DEV.RUN OWNER(DEV)",
     b"PERMIT DEV.RUN CLASS(FACILITY) ID(JIM) ACCESS(READ)",
+    b"SETROPTS RACLIST(FACILITY) REFRESH",
     b"RDELETE FACILITY DEV.RUN",
     b"ALTGROUP NEW OWNER(SYS1)",
     b"DELUSER JIM",
     b"DELGROUP NEW",
+    b"SETROPTS NORACLIST(FACILITY)",
 ];
 
 /// Gives the commands in turn, until memory is wanting, and answers how many were accepted. None of them may be
@@ -55,7 +61,7 @@ fn give_all(database: &mut Followed, alloc: Global, commands: &[&[u8]]) -> Resul
 /// A database in which the commands were accepted.
 fn small_database(alloc: Global) -> Result<Followed, Fail> {
     let mut database = Followed::new(alloc)?;
-    if give_all(&mut database, alloc, &COMMANDS)? != 9 {
+    if give_all(&mut database, alloc, &COMMANDS)? != 10 {
         return Err("no memory for the commands".into());
     }
     Ok(database)
@@ -285,9 +291,9 @@ fn images_behind_commands(rt: HostRuntime) -> Result<(), Fail> {
     let mut database = small_database(rt.alloc())?;
     println!(rt; "FROM HERE")?;
     let accepted = give_all(&mut database, rt.alloc(), &NEXT_COMMANDS)?;
-    assert!(rt; database.number() == accepted.saturating_add(9));
+    assert!(rt; database.number() == accepted.saturating_add(10));
     assert!(rt; database.image().generation() == database.number());
-    if accepted < 10 {
+    if accepted < 13 {
         println!(rt; "NO MEMORY")?;
         return Ok(());
     }

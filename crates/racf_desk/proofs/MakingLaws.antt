@@ -52,9 +52,9 @@ copies-kept (edit ∷ edits) state h =
     copies-kept edits (edited_state edit state) parts.1 ∙ kept edit parts.0
   where
     kept : (e : Edit) → not (is_of_copies e) ≡ true → copies_after e state ≡ state.copies
-    kept (ListCopy name) no = cc
-    kept (Unlist name) no = cc
-    kept other no = refl
+    kept (ListCopy name) unlisted = cc
+    kept (Unlist name) unlisted = cc
+    kept other unlisted = refl
 
 copies-behind : (issuer : Issuer) (command : CommandFields) (edits : List Edit) (state : State) → edits ≡ edits_of issuer command state.rows
     → (IsFalse (is_set_ropts command) → list_all (λ (edit : Edit). not (is_of_copies edit)) edits ≡ true) → (changed_state edits state).copies ≡ copies_behind command state
@@ -67,7 +67,7 @@ pub behind : (issued : IssuedCommand) (edits : List Edit) (state : State) → ed
     → changed_state edits state ≡ state_behind state issued
 behind issued edits state are step law others =
     ap (λ (rows : Rows). record { rows = rows; copies = (changed_state edits state).copies }) (law ∙ step)
-    ∙ ap (λ (copies : List ListedCopy). record { rows = _; copies = copies }) (copies-behind issued.issuer issued.command edits state are others)
+    ∙ ap (λ (copies : List ListedCopy). record { rows = step issued.issuer issued.command state.rows; copies = copies }) (copies-behind issued.issuer issued.command edits state are others)
 
 -- what is made, field by field
 pub made_is : (position : Imaged) (issued : IssuedCommand) (number : ℕ) (text : List ℕ) (change : Change) (image : Imaged)

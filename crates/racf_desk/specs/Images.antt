@@ -6,5 +6,5 @@ use Rattle.racf_desk.specs.Outcome.{most_number}
 
 -- An image of the rows, whatever its listed copies are, with a number that there is.
 pub record IsImageOf (rows : Rows) (image : Imaged) : Type 0 where
-  pub rows : image.state.rows ≡ rows
+  pub same : image.state.rows ≡ rows
   pub number : image.generation ≤ most_number

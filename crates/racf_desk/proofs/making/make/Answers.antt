@@ -24,7 +24,7 @@ returns-clause-made c =
     let position = arc_value c.args.image.now in
     let issued = c.args.issued.now in
     let change = c.in_ok-change.change in
-    let same = c.requires.image.rows in
+    let same = c.requires.image.same in
     let edits = c.in_ok-change.ensures.edits ∙ sym (ap (edits_of issued.issuer issued.command) same) in
     let made = ap (changed change.edits) same ∙ c.in_ok-change.ensures.step ∙ sym (ap (step issued.issuer issued.command) same) in
     let seen = ap (λ (i : Imaged). i.state) c.deref-2.ensures in
@@ -44,7 +44,7 @@ returns-clause-behind c =
     let unspent = (none_met (first_conflict_of issuer command rows) (need rows issuer command) (conflict_of issuer command rows) position.generation c.requires.accepted).1 in
     let seen = ap (λ (i : Imaged). i.state) c.deref-2.ensures in
     record {
-      rows = ap (λ (i : Imaged). i.state.rows) c.in_ok-image.ensures ∙ ap (λ (s : State). (changed_state change.edits s).rows) seen ∙ c.rows_are_changed.ensures change.edits position.state ∙ ap (changed change.edits) c.requires.image.rows;
+      same = ap (λ (i : Imaged). i.state.rows) c.in_ok-image.ensures ∙ ap (λ (s : State). (changed_state change.edits s).rows) seen ∙ c.rows_are_changed.ensures change.edits position.state ∙ ap (changed change.edits) c.requires.image.same;
       number =
           subst (λ n. n ≤ most_number)
           (sym (ap (λ (i : Imaged). i.generation) c.in_ok-image.ensures ∙ ap (λ n. n + 1) (c.generation-number.ensures ∙ ap (λ (i : Imaged). i.generation) c.deref.ensures)))

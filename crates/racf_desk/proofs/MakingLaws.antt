@@ -65,8 +65,8 @@ copies-behind issuer command edits state are others = copies-kept edits state (o
 pub behind : (issued : IssuedCommand) (edits : List Edit) (state : State) → edits ≡ edits_of issued.issuer issued.command state.rows → changed edits state.rows ≡ step issued.issuer issued.command state.rows
     → (changed_state edits state).rows ≡ changed edits state.rows → (IsFalse (is_set_ropts issued.command) → list_all (λ (edit : Edit). not (is_of_copies edit)) edits ≡ true)
     → changed_state edits state ≡ state_behind state issued
-behind issued edits state are step law others =
-    ap (λ (rows : Rows). record { rows = rows; copies = (changed_state edits state).copies }) (law ∙ step)
+behind issued edits state are makes law others =
+    ap (λ (rows : Rows). record { rows = rows; copies = (changed_state edits state).copies }) (law ∙ makes)
     ∙ ap (λ (copies : List ListedCopy). record { rows = step issued.issuer issued.command state.rows; copies = copies }) (copies-behind issued.issuer issued.command edits state are others)
 
 -- what is made, field by field

@@ -270,7 +270,7 @@ fn lacks_so(
 }
 
 /// IBMUSER, who has SPECIAL and AUDITOR, may give every command.
-const ADMINISTRATOR: [Row; 6] = [
+const ADMINISTRATOR: [Row; 8] = [
     Row {
         text: b"AU CAT SPECIAL CLAUTH(FACILITY)",
         lacks: b"",
@@ -293,6 +293,14 @@ const ADMINISTRATOR: [Row; 6] = [
     },
     Row {
         text: b"RDEF FACILITY F.A",
+        lacks: b"",
+    },
+    Row {
+        text: b"SETR GRPLIST LOGOPTIONS(ALWAYS(FACILITY))",
+        lacks: b"",
+    },
+    Row {
+        text: b"SETR GENERIC(FACILITY) GLOBAL(APPL) REFRESH",
         lacks: b"",
     },
 ];
@@ -360,7 +368,7 @@ fn commands_of_a_group_administrator(rt: HostRuntime) -> Result<(), Fail> {
 }
 
 /// ANN, who has CONNECT in G1.
-const MEMBER: [Row; 14] = [
+const MEMBER: [Row; 20] = [
     Row {
         text: b"AU CAT",
         lacks: b"SPECIAL CLAUTH(USER)+JOIN(G1) CLAUTH(USER)+OWNER CLAUTH(USER)+GROUPSPECIAL ",
@@ -416,6 +424,30 @@ const MEMBER: [Row; 14] = [
     Row {
         text: b"RDEL FACILITY F.A",
         lacks: b"SPECIAL OWNER GROUPSPECIAL ALTER ",
+    },
+    Row {
+        text: b"SETR",
+        lacks: b"SPECIAL ",
+    },
+    Row {
+        text: b"SETR CLASSACT(FACILITY)",
+        lacks: b"SPECIAL ",
+    },
+    Row {
+        text: b"SETR LOGOPTIONS(ALWAYS(FACILITY))",
+        lacks: b"AUDITOR ",
+    },
+    Row {
+        text: b"SETR NOMLS LOGOPTIONS(ALWAYS(FACILITY))",
+        lacks: b"SPECIAL ",
+    },
+    Row {
+        text: b"SETR RACLIST(FACILITY) REFRESH",
+        lacks: b"SPECIAL CLAUTH(FACILITY) AUDITOR ",
+    },
+    Row {
+        text: b"SETR GENERIC(APPL) GLOBAL(OPERCMDS) REFRESH",
+        lacks: b"SPECIAL CLAUTH(OPERCMDS) AUDITOR ",
     },
 ];
 

@@ -22,8 +22,8 @@ use std::alloc::{AllocError, Global};
 use std::marker::Model;
 
 /// The users, groups, connections and profiles of a database. Users and groups are found by name in one look-up,
-/// whatever their number, and a profile by a search in the order of its class's. Every class is active, and the
-/// options are off but for the names of categories: no command changes them yet.
+/// whatever their number, and a profile by a search in the order of its class's. In a new database
+/// DATASET alone is active, and the options are off but for the names of categories.
 #[derive(Drop)]
 pub struct RowTables {
     /// The users with their connections.

@@ -33,7 +33,7 @@ own-found [] apart = tt
 own-found (class ∷ classes) apart = (
   ap (λ b. cond b (Some class) (find (is_class class.name) classes)) (itself class.name),
   both-each (λ (other : ClassRow). is_class other.name class ≡ false) (λ (other : ClassRow). find (is_class other.name) classes ≡ Some other) (λ (other : ClassRow). find (is_class other.name) (class ∷ classes) ≡ Some other)
-  (λ other apart found. ap (λ b. cond b (Some class) (find (is_class other.name) classes)) apart ∙ found) classes apart.0 (own-found classes apart.1),
+      (λ other apart found. ap (λ b. cond b (Some class) (find (is_class other.name) classes)) apart ∙ found) classes apart.0 (own-found classes apart.1),
 )
 
 -- ---- REFRESH is given for listed classes alone

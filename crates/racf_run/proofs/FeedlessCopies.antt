@@ -9,7 +9,7 @@ use Rattle.racf_profiles.specs.declared.options.Options.{Options}
 use Rattle.racf_profiles.specs.declared.edits.Edit.{Edit}
 use Rattle.racf_profiles.specs.declared.edits.Edit.TheVariants.{PutOptions, PutClass, List as ListCopy, Unlist}
 use Rattle.racf_profiles.specs.Lookup.{is_class, class_of}
-use Rattle.racf_profiles.specs.Edits.{put_row, drop_row, with_flags, with_listed}
+use Rattle.racf_profiles.specs.Edits.{put_row, drop_row, at_class, with_flags, with_listed}
 use Rattle.racf_profiles.specs.State.{State, ListedCopy, is_copy_of, copy_of_class, edited_state, changed_state}
 use Rattle.racf_profiles.proofs.EditLaws.{all-drop_row}
 use Rattle.command_parser.specs.declared.option_fields.SetRopts.{SetRopts}
@@ -47,7 +47,7 @@ options-keep options state are = record { rows = record { users = are.rows.users
 flags-keep : (name : List ℕ) (active global : Bool) (log : LogOption) → KeepsState (PutClass name active global log)
 flags-keep name active global log state are = record { rows = with-classes state _ are (all-at_class AreFeedlessProfiles name (with_flags active global log) state.rows.classes (λ row found h. h) are.rows.classes); copies = are.copies }
 
-listed-rows : (name : List ℕ) (listed : Bool) (state : State) → IsFeedlessState state → AreFeedless _
+listed-rows : (name : List ℕ) (listed : Bool) (state : State) → IsFeedlessState state → AreFeedless (record state.rows { classes = at_class name (with_listed listed) state.rows.classes })
 listed-rows name listed state are = with-classes state _ are (all-at_class AreFeedlessProfiles name (with_listed listed) state.rows.classes (λ row found h. h) are.rows.classes)
 
 list-keeps : (name : List ℕ) → KeepsState (ListCopy name)

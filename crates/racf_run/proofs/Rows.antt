@@ -12,8 +12,9 @@ use Rattle.command_parser.specs.CommandOf.{command_of}
 use Rattle.command_words.specs.Tokens.{tokens}
 use Rattle.command_conflicts.specs.Conflicts.{is_root, has_subgroup, has_connected, has_profile, meets, cycle, owner_not_superior, default_group, last_special, users_full, groups_full, connections_full, user_full, add_user_conflicts, alt_user_conflicts, del_user_conflicts, add_group_conflicts, alt_group_conflicts, del_group_conflicts, connect_conflicts, remove_conflicts}
 use Rattle.command_conflicts.specs.ProfileConflicts.{no_first_qualifier, no_permitted, no_such_class, no_resource_class, no_global_class, no_profile, profile_taken, not_generic, class_profiles_full, profiles_full, standard_full, conditional_full, entries_full, members_full, no_resource_profile, add_sd_requirements, add_sd_limits, r_define_requirements, r_define_limits, categories_full, alt_sd_conflicts, del_sd_conflicts, r_alter_conflicts, r_delete_conflicts, permit_conflicts}
+use Rattle.command_conflicts.specs.OptionConflicts.{absent_class, class_without_generic, unlisted_class, never_listed_class, always_active_class, set_ropts_conflicts}
 use Rattle.command_conflicts.specs.Required.{no_user, no_group, no_owner, no_named_group, no_class, name_taken, not_connected, default_not_connected, unknown_level, unknown_category, never_category, unknown_label}
-use Rattle.command_authority.specs.Requirements.{add_user_requirements, alt_user_requirements, del_user_requirements, add_group_requirements, alt_group_requirements, del_group_requirements, connect_requirements, remove_requirements, add_sd_requirements as add_sd_needs, r_define_requirements as r_define_needs, alt_sd_requirements, del_sd_requirements, r_alter_requirements, r_delete_requirements, permit_requirements}
+use Rattle.command_authority.specs.Requirements.{add_user_requirements, alt_user_requirements, del_user_requirements, add_group_requirements, alt_group_requirements, del_group_requirements, connect_requirements, remove_requirements, add_sd_requirements as add_sd_needs, r_define_requirements as r_define_needs, alt_sd_requirements, del_sd_requirements, r_alter_requirements, r_delete_requirements, permit_requirements, set_ropts_requirements}
 use Rattle.command_authority.specs.Authority.{is_met, need}
 use Rattle.racf_desk.specs.Outcome.{outcome_in}
 use Rattle.racf_run.specs.Statements.{request_of, is_request}
@@ -36,24 +37,24 @@ record Prints (input output : List ℕ) (status : Status) : Type 0 where
 
 -- A profile, an ACEE, and what may be answered of them.
 first : Prints
-    (codes "RDEFINE FACILITY BPX.X UACC(READ)\nVERIFY A IBMUSER\nAUTH A FACILITY BPX.X READ\n"
+    (codes "SETR CLASSACT(FACILITY)\nRDEFINE FACILITY BPX.X UACC(READ)\nVERIFY A IBMUSER\nAUTH A FACILITY BPX.X READ\n"
     ++ codes "AUTH A FACILITY BPX.X UPDATE\nAUTH A FACILITY BPX.Y READ\nRDEFINE FACILITY BPX.X UACC(NONE)\n"
     ++ codes "AUTH B FACILITY BPX.X READ\nADDUSER JOE\n")
-    (codes "1 ACCEPTED\n1 0 VERIFIED\n1 0 UACC BPX.X READ\n1 8 INSUFFICIENT BPX.X READ\n1 4 NOPROFILE\n"
-    ++ codes "1 REFUSED EXISTS BPX.X\n1 REFUSED NOACEE B\n2 ACCEPTED\n")
+    (codes "1 ACCEPTED\n2 ACCEPTED\n2 0 VERIFIED\n2 0 UACC BPX.X READ\n2 8 INSUFFICIENT BPX.X READ\n2 4 NOPROFILE\n"
+    ++ codes "2 REFUSED EXISTS BPX.X\n2 REFUSED NOACEE B\n3 ACCEPTED\n")
     Refusals
-unfolding digits canon form_in parsed front behind command_of tokens is_root has_subgroup has_connected has_profile meets cycle owner_not_superior default_group last_special users_full groups_full connections_full user_full add_user_conflicts alt_user_conflicts del_user_conflicts add_group_conflicts alt_group_conflicts del_group_conflicts connect_conflicts remove_conflicts no_first_qualifier no_permitted no_such_class no_resource_class no_global_class no_profile profile_taken not_generic class_profiles_full profiles_full standard_full conditional_full entries_full members_full no_resource_profile add_sd_requirements add_sd_limits r_define_requirements r_define_limits categories_full alt_sd_conflicts del_sd_conflicts r_alter_conflicts r_delete_conflicts permit_conflicts no_user no_group no_owner no_named_group no_class name_taken not_connected default_not_connected unknown_level unknown_category never_category unknown_label add_user_requirements alt_user_requirements del_user_requirements add_group_requirements alt_group_requirements del_group_requirements connect_requirements remove_requirements add_sd_needs r_define_needs alt_sd_requirements del_sd_requirements r_alter_requirements r_delete_requirements permit_requirements is_met need outcome_in issuer_by issuer_of_line request_of is_request reply_line stream new_stream request command step text as_number next deleted number_after asked_by verified_by requested read words_at answer_line acee_of decided verified
+unfolding digits canon form_in parsed front behind command_of tokens is_root has_subgroup has_connected has_profile meets cycle owner_not_superior default_group last_special users_full groups_full connections_full user_full add_user_conflicts alt_user_conflicts del_user_conflicts add_group_conflicts alt_group_conflicts del_group_conflicts connect_conflicts remove_conflicts no_first_qualifier no_permitted no_such_class no_resource_class no_global_class no_profile profile_taken not_generic class_profiles_full profiles_full standard_full conditional_full entries_full members_full no_resource_profile add_sd_requirements add_sd_limits r_define_requirements r_define_limits categories_full alt_sd_conflicts del_sd_conflicts r_alter_conflicts r_delete_conflicts permit_conflicts absent_class class_without_generic unlisted_class never_listed_class always_active_class set_ropts_conflicts no_user no_group no_owner no_named_group no_class name_taken not_connected default_not_connected unknown_level unknown_category never_category unknown_label add_user_requirements alt_user_requirements del_user_requirements add_group_requirements alt_group_requirements del_group_requirements connect_requirements remove_requirements add_sd_needs r_define_needs alt_sd_requirements del_sd_requirements r_alter_requirements r_delete_requirements permit_requirements set_ropts_requirements is_met need outcome_in issuer_by issuer_of_line request_of is_request reply_line stream new_stream request command step text as_number next deleted number_after asked_by verified_by requested read words_at answer_line acee_of decided verified
 first = record { prints = refl; ends = refl }
 
 -- Profiles that cover one name, taken away from the most specific one on.
 profiles : Prints
-    (codes "RDEF FACILITY A.** UACC(READ)\nRDEF FACILITY A.B* UACC(UPDATE)\nRDEF FACILITY A.B\nVERIFY A IBMUSER\n"
+    (codes "SETR CLASSACT(FACILITY)\nRDEF FACILITY A.** UACC(READ)\nRDEF FACILITY A.B* UACC(UPDATE)\nRDEF FACILITY A.B\nVERIFY A IBMUSER\n"
     ++ codes "AUTH A FACILITY A.B READ\nRDEL FACILITY A.B\nAUTH A FACILITY A.B READ\nRDEL FACILITY A.B*\n"
     ++ codes "AUTH A FACILITY A.B READ\nAUTH A FACILITY B READ\n")
-    (codes "1 ACCEPTED\n2 ACCEPTED\n3 ACCEPTED\n3 0 VERIFIED\n3 8 INSUFFICIENT A.B NONE\n4 ACCEPTED\n"
-    ++ codes "4 0 UACC A.B* UPDATE\n5 ACCEPTED\n5 0 UACC A.** READ\n5 4 NOPROFILE\n")
+    (codes "1 ACCEPTED\n2 ACCEPTED\n3 ACCEPTED\n4 ACCEPTED\n4 0 VERIFIED\n4 8 INSUFFICIENT A.B NONE\n5 ACCEPTED\n"
+    ++ codes "5 0 UACC A.B* UPDATE\n6 ACCEPTED\n6 0 UACC A.** READ\n6 4 NOPROFILE\n")
     Done
-unfolding digits canon form_in parsed front behind command_of tokens is_root has_subgroup has_connected has_profile meets cycle owner_not_superior default_group last_special users_full groups_full connections_full user_full add_user_conflicts alt_user_conflicts del_user_conflicts add_group_conflicts alt_group_conflicts del_group_conflicts connect_conflicts remove_conflicts no_first_qualifier no_permitted no_such_class no_resource_class no_global_class no_profile profile_taken not_generic class_profiles_full profiles_full standard_full conditional_full entries_full members_full no_resource_profile add_sd_requirements add_sd_limits r_define_requirements r_define_limits categories_full alt_sd_conflicts del_sd_conflicts r_alter_conflicts r_delete_conflicts permit_conflicts no_user no_group no_owner no_named_group no_class name_taken not_connected default_not_connected unknown_level unknown_category never_category unknown_label add_user_requirements alt_user_requirements del_user_requirements add_group_requirements alt_group_requirements del_group_requirements connect_requirements remove_requirements add_sd_needs r_define_needs alt_sd_requirements del_sd_requirements r_alter_requirements r_delete_requirements permit_requirements is_met need outcome_in issuer_by issuer_of_line request_of is_request reply_line stream new_stream request command step text as_number next deleted number_after asked_by verified_by requested read words_at answer_line acee_of decided verified
+unfolding digits canon form_in parsed front behind command_of tokens is_root has_subgroup has_connected has_profile meets cycle owner_not_superior default_group last_special users_full groups_full connections_full user_full add_user_conflicts alt_user_conflicts del_user_conflicts add_group_conflicts alt_group_conflicts del_group_conflicts connect_conflicts remove_conflicts no_first_qualifier no_permitted no_such_class no_resource_class no_global_class no_profile profile_taken not_generic class_profiles_full profiles_full standard_full conditional_full entries_full members_full no_resource_profile add_sd_requirements add_sd_limits r_define_requirements r_define_limits categories_full alt_sd_conflicts del_sd_conflicts r_alter_conflicts r_delete_conflicts permit_conflicts absent_class class_without_generic unlisted_class never_listed_class always_active_class set_ropts_conflicts no_user no_group no_owner no_named_group no_class name_taken not_connected default_not_connected unknown_level unknown_category never_category unknown_label add_user_requirements alt_user_requirements del_user_requirements add_group_requirements alt_group_requirements del_group_requirements connect_requirements remove_requirements add_sd_needs r_define_needs alt_sd_requirements del_sd_requirements r_alter_requirements r_delete_requirements permit_requirements set_ropts_requirements is_met need outcome_in issuer_by issuer_of_line request_of is_request reply_line stream new_stream request command step text as_number next deleted number_after asked_by verified_by requested read words_at answer_line acee_of decided verified
 profiles = record { prints = refl; ends = refl }
 
 -- A command in two lines, the first faults of three texts, a name that the issuer's ID goes before, and commands that

@@ -1,5 +1,5 @@
 -- What each command makes that meets no conflict can be made without memory, once room was taken.
-use Rattle.std.proofs.Common.{◌≡◌, ℕ, Bool, true, false, cond, List, [], ◌∷◌, Option, None, Some, is_some, bytes_eq, refl, sym, ap, subst, ◌∙◌}
+use Rattle.std.proofs.Common.{◌≡◌, true, cond, [], Option, None, Some, is_some, bytes_eq, refl, sym, ap, ◌∙◌}
 use Rattle.std.specs.Prelude.{IfSome}
 use Rattle.std.specs.List.{list_any}
 use Rattle.generic_names.specs.Laws.{OneIsBefore, PassedOn, ReadsBack}

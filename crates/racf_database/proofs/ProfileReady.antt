@@ -1,7 +1,7 @@
 -- What a command on profiles makes can be made without memory, where the rows after it are lawful and room was taken.
-use Rattle.std.proofs.Common.{◌≡◌, ℕ, ◌<◌, ◌≤◌, true, false, not, ◌&&◌, ◌||◌, List, [], ◌∷◌, ◌++◌, length, Option, None, Some, is_some, bytes_eq, refl, sym, ap, subst, ◌∙◌, arith}
-use Rattle.std.specs.Prelude.{find, IfSome}
-use Rattle.std.specs.List.{AllByRecursion, list_any}
+use Rattle.std.proofs.Common.{◌≡◌, ℕ, ◌≤◌, not, ◌&&◌, ◌||◌, List, [], ◌∷◌, ◌++◌, length, Option, None, Some, is_some, refl, sym, ap, subst, ◌∙◌, arith}
+use Rattle.std.specs.Prelude.{IfSome}
+use Rattle.std.specs.List.{list_any}
 use Rattle.generic_names.specs.Spelled.{Spelled}
 use Rattle.generic_names.specs.Laws.{OneIsBefore, PassedOn}
 use Rattle.racf_profiles.specs.declared.profiles.Profile.{Profile}
@@ -9,7 +9,6 @@ use Rattle.racf_profiles.specs.declared.profiles.Member.{Member}
 use Rattle.racf_profiles.specs.declared.class_rows.ClassRow.{ClassRow}
 use Rattle.racf_profiles.specs.declared.options.Options.{Options}
 use Rattle.racf_profiles.specs.declared.rows.Rows.{Rows}
-use Rattle.racf_profiles.specs.declared.edits.Edit.{Edit}
 use Rattle.racf_profiles.specs.declared.edits.Edit.TheVariants.{PutProfile}
 use Rattle.racf_profiles.specs.Edits.{changed, put_profile, at_class, with_profile}
 use Rattle.racf_profiles.specs.Counts.{profile_count, entry_count}
@@ -22,7 +21,7 @@ use Rattle.racf_profiles.proofs.Found.{all-found}
 use Rattle.group_tree.proofs.Rows.{itself}
 use Rattle.row_tables.specs.Tables.{Tables, classes_in}
 use Rattle.row_tables.specs.Applying.{CanApply, HasRoom, adds_into}
-use Rattle.class_profiles.specs.Classes.{room_in, CanPutIn}
+use Rattle.class_profiles.specs.Classes.{room_in}
 use Rattle.command_effects.specs.Edits.{put_changed, put_options}
 use Rattle.lawful_commands.proofs.ProfileRows.{PutsAreCounted, found-at_class, found-profile, new-kind}
 

@@ -1,7 +1,7 @@
 -- What a command on users or groups makes can be made without memory, where the rows after it are lawful and room was
 -- taken.
-use Rattle.std.proofs.Common.{◌≡◌, ℕ, ◌<◌, ◌≤◌, Bool, false, not, ◌&&◌, ◌||◌, List, [], ◌∷◌, length, Option, None, Some, IsSome, is_some, refl, sym, ap, subst, ◌∙◌, arith, inl, inr}
-use Rattle.std.specs.Prelude.{find, MatchOption, ◌⊎◌}
+use Rattle.std.proofs.Common.{◌≡◌, ℕ, false, not, ◌&&◌, ◌||◌, List, [], ◌∷◌, Option, None, Some, is_some, refl, sym, ap, subst, ◌∙◌, arith, inl, inr}
+use Rattle.std.specs.Prelude.{MatchOption, ◌⊎◌}
 use Rattle.std.specs.Option.{option_or}
 use Rattle.racf_profiles.specs.declared.users.User.{User}
 use Rattle.racf_profiles.specs.declared.groups.Group.{Group}
@@ -16,13 +16,12 @@ use Rattle.row_tables.specs.Applying.{CanAddGroup, CanMoveGroup, CanPutGroup, Ca
 use Rattle.command_parser.specs.declared.commands.Issuer.{Issuer}
 use Rattle.command_parser.specs.declared.fields.AddGroup.{AddGroup}
 use Rattle.command_parser.specs.declared.fields.AltGroup.{AltGroup}
-use Rattle.command_parser.specs.declared.fields.DelGroup.{DelGroup}
 use Rattle.command_effects.specs.Effects.{new_group, altered_group, group_or_current}
 use Rattle.command_effects.specs.Edits.{put_user, put_group}
 use Rattle.command_conflicts.specs.declared.conflict.Conflict.TheVariants.{Root}
-use Rattle.command_conflicts.specs.Conflicts.{first_met, if_met, is_root, cycle, no_named_group, add_group_conflicts, alt_group_conflicts, del_group_conflicts}
+use Rattle.command_conflicts.specs.Conflicts.{first_met, if_met, is_root, cycle, no_named_group, add_group_conflicts, alt_group_conflicts}
 use Rattle.command_conflicts.proofs.Unmet.{each_unmet, no_root, no_root_moved}
-use Rattle.lawful_commands.proofs.GroupCommands.{free, can_add, can_move, can_remove, not_root}
+use Rattle.lawful_commands.proofs.GroupCommands.{free, can_add, can_move}
 
 module _ (tables : Tables) where
   -- ---- a user is put

@@ -1,5 +1,5 @@
 -- What commands by several issuers are answered, computed on the definitions.
-use Rattle.std.proofs.Common.{◌≡◌, ℕ, ◌^◌, List, [], ◌∷◌, map, Option, Some, None, Result, Ok, Err, codes, refl}
+use Rattle.std.proofs.Common.{◌≡◌, ℕ, ◌^◌, List, [], ◌∷◌, Option, Some, None, Result, Ok, Err, codes, refl}
 use Rattle.command_grammar.specs.Canon.{canon}
 use Rattle.command_values.specs.ProfileNames.{form_in}
 use Rattle.command_grammar.specs.Reading.{parsed}

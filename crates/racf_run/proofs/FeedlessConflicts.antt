@@ -25,7 +25,7 @@ use Rattle.command_parser.specs.declared.fields.AltGroup.{AltGroup}
 use Rattle.command_parser.specs.declared.fields.CommandFields.{CommandFields}
 use Rattle.command_parser.specs.declared.fields.CommandFields.TheVariants as command
 use Rattle.command_parser.specs.declared.profile_fields.Permit.{Permit}
-use Rattle.command_parser.specs.LawfulFields.{IsId, IsClauthWord, AreLawfulFields}
+use Rattle.command_parser.specs.LawfulFields.{IsClauthWord, AreLawfulFields}
 use Rattle.command_effects.specs.UserEffects.{altered_group, new_group}
 use Rattle.command_effects.specs.Effects.{step}
 use Rattle.command_conflicts.specs.declared.conflict.Conflict.{Conflict}

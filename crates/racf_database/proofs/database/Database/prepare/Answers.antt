@@ -9,7 +9,6 @@ use Rattle.command_parser.specs.Canonical.{canonical}
 use Rattle.command_parser.specs.LawfulFields.{AreLawfulFields}
 use Rattle.command_parser.specs.declared.fields.CommandFields.{CommandFields}
 use Rattle.command_parser.specs.declared.fields.CommandFields.TheVariants as command
-use Rattle.command_effects.specs.Effects.{step}
 use Rattle.command_effects.specs.Edits.{edits_of}
 use Rattle.command_conflicts.specs.Unbuilt.{is_unbuilt}
 use Rattle.command_conflicts.specs.Conflicts.{conflict_of, conflicts, first_met}

@@ -1,5 +1,5 @@
 -- Each command that meets no conflict leaves lawful rows.
-use Rattle.std.proofs.Common.{◌≡◌, Bool, true, false, cond, List, ◌∷◌, Option, None, Some}
+use Rattle.std.proofs.Common.{◌≡◌, Bool, true, false, List, ◌∷◌, Option, None}
 use Rattle.generic_names.specs.Laws.{OneIsBefore, PassedOn, ReadsBack}
 use Rattle.racf_profiles.specs.declared.rows.Rows.{Rows}
 use Rattle.racf_profiles.specs.Lawful.{AreLawful}

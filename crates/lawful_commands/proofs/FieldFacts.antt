@@ -1,7 +1,7 @@
 -- What the spelling of a command's fields says of the rows that the command leaves.
-use Rattle.std.proofs.Common.{◌≡◌, ℕ, zero, suc, take, length, Bool, true, false, cond, not, ◌&&◌, ◌||◌, List, [], ◌∷◌, Option, None, Some, Result, Ok, Err, is_ok, bytes_eq, codes, refl, sym, ap, subst, ◌∙◌, true≢false}
+use Rattle.std.proofs.Common.{◌≡◌, ℕ, length, Bool, true, false, cond, ◌&&◌, ◌||◌, List, [], ◌∷◌, Option, None, Some, Result, Ok, Err, is_ok, bytes_eq, codes, refl, sym, ap, ◌∙◌, true≢false}
 use Rattle.std.specs.Prelude.{nat_le, IfSome}
-use Rattle.std.specs.List.{AllByRecursion, list_all, before_first}
+use Rattle.std.specs.List.{AllByRecursion, list_all}
 use Rattle.std.specs.Result.{result_ok}
 use Rattle.std.proofs.lemmas.Option.{IfSome_then}
 use Rattle.std.proofs.lemmas.Bool.{and_parts}
@@ -27,11 +27,10 @@ use Rattle.racf_profiles.specs.LawfulUsers.{is_user_name, is_printable}
 use Rattle.racf_profiles.specs.LawfulProfiles.{is_logged_level, is_audit, is_of_kind, kind_in}
 use Rattle.racf_profiles.proofs.Tables.{facts_of-each}
 use Rattle.group_tree.proofs.Rows.{same, itself}
-use Rattle.command_values.specs.declared.members.MemberForm.{MemberForm}
 use Rattle.command_values.specs.declared.members.MemberForm.TheVariants as forms
 use Rattle.command_values.specs.Audits.{is_half}
-use Rattle.command_values.specs.ProfileNames.{dataset_profile, general_profile, is_level_or_category, if_label, profile_in, general_form, form_in, form_of}
-use Rattle.command_values.specs.Members.{member_form, form_by_class, access_form, secdata_form, if_number}
+use Rattle.command_values.specs.ProfileNames.{general_profile, is_level_or_category, if_label, profile_in, general_form, form_in, form_of}
+use Rattle.command_values.specs.Members.{member_form, form_by_class, access_form, secdata_form}
 use Rattle.command_values.specs.LawfulValues.{Each, AreMembers, IsMember}
 use Rattle.command_parser.specs.LawfulFields.{IsUserName, IsClauthWord, IsDataSetProfile, IsClassProfile, IsAudit, AreMembersOf}
 use Rattle.command_effects.specs.ProfileEffects.{dataset}

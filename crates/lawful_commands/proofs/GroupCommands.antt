@@ -1,8 +1,8 @@
 -- The commands on groups leave lawful rows.
-use Rattle.std.proofs.Common.{◌≡◌, ℕ, ◌≤◌, ◌<◌, Bool, true, false, cond, not, ◌&&◌, List, [], ◌∷◌, ◌++◌, length, map, Option, None, Some, IsSome, is_some, bytes_eq, codes, refl, sym, ap, subst, ◌∙◌, true≢false, arith, length-append}
+use Rattle.std.proofs.Common.{◌≡◌, ℕ, ◌≤◌, Bool, true, false, cond, ◌&&◌, List, [], ◌∷◌, ◌++◌, length, Option, None, Some, IsSome, is_some, bytes_eq, refl, sym, ap, subst, ◌∙◌, true≢false, arith, length-append}
 use Rattle.std.specs.Prelude.{Ok, find, unwrap_or}
-use Rattle.std.specs.List.{AllByRecursion, list_any}
-use Rattle.std.specs.Option.{option_or, option_map}
+use Rattle.std.specs.List.{AllByRecursion}
+use Rattle.std.specs.Option.{option_or}
 use Rattle.std.proofs.lemmas.List.Folds.{find-append}
 use Rattle.access_levels.specs.Spelling.{group_of as group_spelled}
 use Rattle.access_levels.proofs.Options.{none_from_is_some}
@@ -11,19 +11,17 @@ use Rattle.racf_profiles.specs.declared.users.Connect.{Connect as Connection}
 use Rattle.racf_profiles.specs.declared.groups.Group.{Group}
 use Rattle.racf_profiles.specs.declared.rows.Rows.{Rows}
 use Rattle.racf_profiles.specs.NewDatabase.{sys1}
-use Rattle.racf_profiles.specs.Lookup.{is_user, is_group, find_group, IsGroup, user_of, group_of}
+use Rattle.racf_profiles.specs.Lookup.{is_user, is_group, find_group, user_of, group_of}
 use Rattle.racf_profiles.specs.Names.{is_to, is_connected_to}
 use Rattle.racf_profiles.specs.Edits.{drop_row}
-use Rattle.racf_profiles.specs.Scope.{IsWithin}
 use Rattle.racf_profiles.specs.Tree.{IsTree}
 use Rattle.racf_profiles.specs.LawfulUsers.{IsUser}
 use Rattle.racf_profiles.specs.Lawful.{AreLawful}
 use Rattle.racf_profiles.proofs.EditLaws.{all-drop_row}
 use Rattle.group_tree.specs.Groups.{at_group, with_superior, with_owner}
 use Rattle.group_tree.specs.Answers.{CanAdd, CanMove, CanRemove}
-use Rattle.group_tree.proofs.Rows.{same, itself, turned, some_of, find_group-push_other, find_group-drop_other}
+use Rattle.group_tree.proofs.Rows.{same, turned, some_of, find_group-push_other, find_group-drop_other}
 use Rattle.group_tree.proofs.Edits.{one_there, both_there, none_from_map, is_some-at_group, tree-with_group, tree-with_superior, tree-with_owner, tree-drop}
-use Rattle.row_tables.specs.ChangedRow.{at_row}
 use Rattle.row_tables.proofs.GroupLaws.{at_group-at_row}
 use Rattle.command_parser.specs.declared.commands.Issuer.{Issuer}
 use Rattle.command_parser.specs.declared.fields.AddGroup.{AddGroup}
@@ -34,7 +32,7 @@ use Rattle.command_effects.specs.Effects.{step, group_or_current, owner_or_issue
 use Rattle.command_conflicts.specs.declared.conflict.Conflict.TheVariants.{Root, InUse}
 use Rattle.command_conflicts.specs.declared.conflict.Holder.TheVariants.{Connected}
 use Rattle.command_conflicts.specs.declared.conflict.Limit.TheVariants.{Groups}
-use Rattle.command_conflicts.specs.Conflicts.{first_met, if_met, is_root, cycle, meets, no_named_group, has_connected, groups_full, add_group_conflicts, alt_group_conflicts, del_group_conflicts}
+use Rattle.command_conflicts.specs.Conflicts.{first_met, if_met, is_root, cycle, no_named_group, has_connected, groups_full, add_group_conflicts, alt_group_conflicts, del_group_conflicts}
 use Rattle.command_conflicts.proofs.Unmet.{AreUnmet, each_unmet, unmet, group_there, named_there, name_free, within, no_subgroup, no_root, no_root_moved, no_cycle}
 use Rattle.command_conflicts.proofs.Walks.{meets-within}
 use Rattle.lawful_commands.proofs.RowLists.{all-each, both-each, all-push, all-at, none-found, found-none, none-any}

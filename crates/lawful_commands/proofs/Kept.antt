@@ -1,8 +1,8 @@
 -- What a user, a profile and a class rest on in the other rows, and what is lawful after a change of the users, of
 -- the groups, or of the classes.
-use Rattle.std.proofs.Common.{◌≡◌, ℕ, ◌≤◌, ◌<◌, Bool, true, false, cond, ◌||◌, ◌&&◌, not, List, [], ◌∷◌, length, map, Option, None, Some, IsSome, is_some, IsTrue, bytes_eq, codes, refl, sym, ap, subst, ◌∙◌, true≢false, arith}
+use Rattle.std.proofs.Common.{◌≡◌, ℕ, ◌≤◌, Bool, true, false, cond, ◌||◌, ◌&&◌, not, List, [], ◌∷◌, length, map, Option, None, Some, IsSome, is_some, IsTrue, bytes_eq, codes, refl, sym, ap, ◌∙◌, true≢false, arith}
 use Rattle.std.specs.Prelude.{◌==◌, Ok, find}
-use Rattle.std.specs.List.{AllByRecursion, IsDistinct, list_any, list_all}
+use Rattle.std.specs.List.{AllByRecursion, list_any}
 use Rattle.std.specs.Option.{option_map_or}
 use Rattle.std.proofs.lemmas.Nat.Bits.{bit_at-zero}
 use Rattle.access_levels.specs.Spelling.{group_of as group_spelled}
@@ -20,14 +20,14 @@ use Rattle.racf_profiles.specs.declared.fixed_classes.NameForm.TheVariants as na
 use Rattle.racf_profiles.specs.declared.fixed_classes.ClassFacts.{ClassFacts}
 use Rattle.racf_profiles.specs.declared.options.Options.{Options}
 use Rattle.racf_profiles.specs.declared.rows.Rows.{Rows}
-use Rattle.racf_profiles.specs.ClassTable.{facts_of, class_name, fixed_classes}
+use Rattle.racf_profiles.specs.ClassTable.{facts_of}
 use Rattle.racf_profiles.specs.Limits.{most_connections_in_all, most_profiles, most_entries_in_all}
-use Rattle.racf_profiles.specs.Lookup.{is_class, is_group, group_of, class_of, find_group}
-use Rattle.racf_profiles.specs.Names.{connections, is_special_user, is_class_word}
+use Rattle.racf_profiles.specs.Lookup.{is_class, group_of, class_of, find_group}
+use Rattle.racf_profiles.specs.Names.{connections, is_special_user}
 use Rattle.racf_profiles.specs.Counts.{profile_count, entry_count}
 use Rattle.racf_profiles.specs.Tree.{IsTree}
-use Rattle.racf_profiles.specs.LawfulUsers.{AreUsers, IsUser, AreConnections, AreDefined, is_clauth_class}
-use Rattle.racf_profiles.specs.LawfulProfiles.{AreClasses, AreProfiles, IsClass, IsProfile, AreMembers, is_named_by, is_profile_name, is_member_of, kind_in}
+use Rattle.racf_profiles.specs.LawfulUsers.{AreUsers, IsUser, AreDefined, is_clauth_class}
+use Rattle.racf_profiles.specs.LawfulProfiles.{AreProfiles, IsClass, IsProfile, AreMembers, is_named_by, is_profile_name, is_member_of, kind_in}
 use Rattle.racf_profiles.specs.Lawful.{AreLawful, AreCategories}
 use Rattle.lawful_commands.proofs.RowLists.{all-each, both-each, all_pass-each}
 

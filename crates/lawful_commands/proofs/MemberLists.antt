@@ -1,6 +1,6 @@
 -- The members of a profile, and the categories that they define, after ADDMEM and DELMEM.
-use Rattle.std.proofs.Common.{◌≡◌, ℕ, ◌≤◌, Bool, true, false, cond, not, ◌&&◌, ◌||◌, List, [], ◌∷◌, ◌++◌, length, map, fold, bytes_eq, codes, refl, sym, ap, subst, ◌∙◌, true≢false, arith, length-append}
-use Rattle.std.specs.Prelude.{nat_le, filter}
+use Rattle.std.proofs.Common.{◌≡◌, ℕ, ◌≤◌, Bool, true, false, cond, not, ◌&&◌, ◌||◌, List, [], ◌∷◌, ◌++◌, length, map, fold, bytes_eq, codes, refl, sym, ap, subst, ◌∙◌, arith, length-append}
+use Rattle.std.specs.Prelude.{nat_le}
 use Rattle.std.specs.List.{AllByRecursion, IsDistinct, list_any, list_all}
 use Rattle.std.proofs.lemmas.Bool.{or_right}
 use Rattle.generic_names.specs.Spelled.{Spelled}
@@ -11,13 +11,12 @@ use Rattle.racf_profiles.specs.declared.options.Options.{Options}
 use Rattle.racf_profiles.specs.Limits.{most_members, most_categories}
 use Rattle.racf_profiles.specs.LawfulProfiles.{AreMembers, member_name as name_of, is_member_of, is_of_kind, kind_in}
 use Rattle.racf_profiles.specs.Lawful.{AreCategories}
-use Rattle.access_lists.specs.Lists.{entry_put}
 use Rattle.group_tree.proofs.Rows.{same, itself}
 use Rattle.command_effects.specs.UserEffects.{with_class}
 use Rattle.command_effects.specs.Members.{member_name, is_member_named, with_member, is_named_in, without_members, members_after, with_category_name, categories_defined, options_after}
-use Rattle.lawful_commands.proofs.RowLists.{all-each, all-filter, all-put, all-passes, passes-all, any-push, distinct-filter, distinct-put}
+use Rattle.lawful_commands.proofs.RowLists.{all-filter, all-put, all-passes, passes-all, any-push, distinct-filter, distinct-put}
 use Rattle.lawful_commands.proofs.UserParts.{distinct-with_class}
-use Rattle.lawful_commands.proofs.Kept.{Extends, extends_itself}
+use Rattle.lawful_commands.proofs.Kept.{Extends}
 
 -- ---- categories
 -- each name that is there stays, and one more may come

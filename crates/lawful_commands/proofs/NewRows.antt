@@ -1,20 +1,17 @@
 -- The rows of a new database are lawful, whichever classes are active beside DATASET.
-use Rattle.std.proofs.Common.{◌≡◌, ℕ, ◌+◌, ◌≤◌, Bool, true, false, cond, not, ◌||◌, List, [], ◌∷◌, length, map, Option, None, Some, is_some, bytes_eq, codes, refl, sym, ap, subst, ◌∙◌, true≢false, arith, zero-add}
-use Rattle.std.specs.Prelude.{◌↔◌, sum_by, Ok}
-use Rattle.std.specs.List.{AllByRecursion, IsDistinct}
+use Rattle.std.proofs.Common.{◌≡◌, Bool, true, false, cond, not, ◌||◌, List, [], ◌∷◌, length, map, Option, None, Some, is_some, bytes_eq, codes, refl, sym, ap, ◌∙◌, true≢false, arith, zero-add}
+use Rattle.std.specs.Prelude.{sum_by}
+use Rattle.std.specs.List.{AllByRecursion}
 use Rattle.std.proofs.lemmas.List.Sums.{sum_by-cons}
-use Rattle.access_levels.specs.Spelling.{group_of as group_spelled}
 use Rattle.racf_profiles.specs.declared.groups.Group.{Group}
 use Rattle.racf_profiles.specs.declared.class_rows.ClassRow.{ClassRow}
 use Rattle.racf_profiles.specs.declared.rows.Rows.{Rows}
 use Rattle.racf_profiles.specs.declared.fixed_classes.FixedClass.{FixedClass}
 use Rattle.racf_profiles.specs.declared.fixed_classes.FixedClass.TheVariants.{Dataset}
 use Rattle.racf_profiles.specs.ClassTable.{fixed_classes, class_name}
-use Rattle.racf_profiles.specs.NewDatabase.{sys1, ibmuser, empty_class, new_rows, new_classes, no_options}
+use Rattle.racf_profiles.specs.NewDatabase.{sys1, ibmuser, empty_class, new_rows, no_options}
 use Rattle.racf_profiles.specs.Counts.{profile_count, entry_count, entries_in}
-use Rattle.racf_profiles.specs.Lookup.{find_group, IsGroup}
 use Rattle.racf_profiles.specs.Tree.{IsTree}
-use Rattle.racf_profiles.specs.LawfulUsers.{IsUser}
 use Rattle.racf_profiles.specs.LawfulProfiles.{AreProfiles, IsClass, kind_in}
 use Rattle.racf_profiles.specs.Lawful.{AreLawful}
 use Rattle.group_tree.proofs.Rows.{same}

@@ -1,13 +1,12 @@
 -- SETROPTS leaves lawful rows.
 use Rattle.std.proofs.Common.{◌≡◌, ℕ, ◌≤◌, ◌+◌, Bool, true, false, cond, ◌||◌, ◌&&◌, not, List, [], ◌∷◌, length, map, Option, None, Some, option_map, bytes_eq, codes, refl, sym, ap, subst, ◌∙◌, true≢false, arith}
 use Rattle.std.specs.Prelude.{find, sum_by}
-use Rattle.std.specs.List.{AllByRecursion, list_any}
 use Rattle.std.proofs.lemmas.List.Sums.{sum_by-cons}
 use Rattle.racf_profiles.specs.declared.class_rows.ClassRow.{ClassRow}
 use Rattle.racf_profiles.specs.declared.options.Options.{Options}
 use Rattle.racf_profiles.specs.declared.rows.Rows.{Rows}
 use Rattle.racf_profiles.specs.LawfulProfiles.{AreProfiles, IsClass, kind_in}
-use Rattle.racf_profiles.specs.Counts.{profile_count, entry_count, entries_in}
+use Rattle.racf_profiles.specs.Counts.{entries_in}
 use Rattle.racf_profiles.specs.Lawful.{AreLawful}
 use Rattle.group_tree.proofs.Rows.{same, itself}
 use Rattle.command_parser.specs.declared.option_fields.SetRopts.{SetRopts}

@@ -1,6 +1,6 @@
 -- The commands on profiles leave lawful rows.
-use Rattle.std.proofs.Common.{◌≡◌, ℕ, ◌+◌, ◌≤◌, ◌<◌, Bool, true, false, cond, not, ◌&&◌, ◌||◌, List, [], ◌∷◌, ◌++◌, length, map, fold, Option, None, Some, is_some, is_ok, IsTrue, bytes_eq, codes, refl, sym, ap, subst, ◌∙◌, true≢false, arith}
-use Rattle.std.specs.Prelude.{find, unwrap_or, IfSome, sum_by}
+use Rattle.std.proofs.Common.{◌≡◌, ℕ, ◌≤◌, true, false, cond, not, ◌&&◌, ◌||◌, List, [], length, map, Option, None, Some, is_ok, bytes_eq, refl, sym, ap, subst, ◌∙◌, arith}
+use Rattle.std.specs.Prelude.{unwrap_or, IfSome}
 use Rattle.std.specs.List.{AllByRecursion, IsDistinct}
 use Rattle.std.specs.Option.{option_map_or, option_and_then}
 use Rattle.std.proofs.lemmas.Bool.{or_right, and_parts, and_from}
@@ -13,18 +13,15 @@ use Rattle.generic_names.specs.Laws.{IsPattern, OneIsBefore, PassedOn}
 use Rattle.generic_names.specs.declared.kind.NameKind.TheVariants.{DataSet, General}
 use Rattle.racf_profiles.specs.declared.profiles.Profile.{Profile}
 use Rattle.racf_profiles.specs.declared.profiles.AuditRule.{AuditRule}
-use Rattle.racf_profiles.specs.declared.profiles.Member.{Member}
 use Rattle.racf_profiles.specs.declared.class_rows.ClassRow.{ClassRow}
 use Rattle.racf_profiles.specs.declared.fixed_classes.FixedClass.{FixedClass}
-use Rattle.racf_profiles.specs.declared.options.Options.{Options}
 use Rattle.racf_profiles.specs.declared.rows.Rows.{Rows}
 use Rattle.racf_profiles.specs.ClassTable.{class_name, facts_of_class, facts_of}
-use Rattle.racf_profiles.specs.Lookup.{is_class, is_profile, class_of, profile_of}
-use Rattle.racf_profiles.specs.Counts.{profile_count, entry_count, entries_in}
-use Rattle.racf_profiles.specs.Edits.{put_profile, at_class, with_profile}
-use Rattle.racf_profiles.specs.LawfulUsers.{AreDefined}
-use Rattle.racf_profiles.specs.LawfulProfiles.{AreEntries, is_same_entry, IsProfile, IsClass, is_profile_name, is_audit, kind_in}
-use Rattle.racf_profiles.specs.Lawful.{AreLawful, AreCategories}
+use Rattle.racf_profiles.specs.Lookup.{is_profile, class_of, profile_of}
+use Rattle.racf_profiles.specs.Counts.{profile_count, entry_count}
+use Rattle.racf_profiles.specs.Edits.{put_profile, with_profile}
+use Rattle.racf_profiles.specs.LawfulProfiles.{AreEntries, is_same_entry, IsProfile, IsClass, is_audit, kind_in}
+use Rattle.racf_profiles.specs.Lawful.{AreLawful}
 use Rattle.racf_profiles.proofs.OrderedProfiles.{profile-put}
 use Rattle.racf_profiles.proofs.States.{find-passes}
 use Rattle.group_tree.proofs.Rows.{same}
@@ -36,9 +33,8 @@ use Rattle.command_parser.specs.declared.profile_fields.RAlter.{RAlter}
 use Rattle.command_parser.specs.declared.profile_fields.Permit.{Permit}
 use Rattle.command_parser.specs.declared.fields.CommandFields.{CommandFields}
 use Rattle.command_parser.specs.declared.fields.CommandFields.TheVariants as command
-use Rattle.command_effects.specs.Security.{with_category, without_category}
-use Rattle.command_effects.specs.Members.{members_after, options_after, categories_defined}
-use Rattle.command_effects.specs.ProfileEffects.{dataset, failures_from_read, new_data_set, altered_data_set, new_resource, altered_resource, profile_put, profile_changed}
+use Rattle.command_effects.specs.Members.{options_after}
+use Rattle.command_effects.specs.ProfileEffects.{dataset, failures_from_read, new_data_set, altered_data_set, new_resource, altered_resource, profile_put}
 use Rattle.command_effects.specs.PermitEffects.{permitted_profile, standard_after, conditional_after}
 use Rattle.command_effects.specs.Effects.{step}
 use Rattle.command_conflicts.specs.declared.conflict.Limit.TheVariants.{ClassProfiles, Profiles, Entries, AllEntries, Members, Categories}
@@ -51,7 +47,7 @@ use Rattle.lawful_commands.proofs.UserParts.{defined-added, defined-taken}
 use Rattle.lawful_commands.proofs.MemberLists.{extends-after, categories-after, members-after, is_fitting}
 use Rattle.lawful_commands.proofs.EntryLists.{entries-permitted}
 use Rattle.lawful_commands.proofs.ProfileNames.{is_spelled_by, resource-class, is_profile_name-new}
-use Rattle.lawful_commands.proofs.ProfileRows.{PutsAreCounted, found-at_class, found-profile, entries-put, entries-changed, profile-put-lawful, profile-dropped-lawful, profile-changed-lawful, profile-changed-alone, changed-found}
+use Rattle.lawful_commands.proofs.ProfileRows.{PutsAreCounted, found-at_class, found-profile, entries-put, entries-changed, profile-put-lawful, profile-changed-lawful, profile-changed-alone, changed-found}
 
 -- ---- rules of auditing
 audit-given : (given : Option AuditRule) (old : AuditRule) → IfSome given (λ rule. is_audit rule ≡ true) → is_audit old ≡ true → is_audit (unwrap_or given old) ≡ true

@@ -1,6 +1,5 @@
 -- A new profile of a class has a name that the class's profiles may have.
-use Rattle.std.proofs.Common.{◌≡◌, ℕ, Bool, true, false, cond, not, ◌&&◌, ◌||◌, List, [], ◌∷◌, length, map, Option, None, Some, Result, Ok, Err, is_some, is_ok, bytes_eq, codes, refl, sym, ap, subst, ◌∙◌, true≢false}
-use Rattle.std.specs.Prelude.{◌==◌, nat_lt, find}
+use Rattle.std.proofs.Common.{◌≡◌, ℕ, Bool, true, false, not, ◌&&◌, ◌||◌, List, [], ◌∷◌, map, Option, None, Result, Ok, Err, is_some, is_ok, bytes_eq, codes, refl, sym, ap, ◌∙◌, true≢false}
 use Rattle.std.specs.List.{list_any}
 use Rattle.std.specs.Option.{option_map_or}
 use Rattle.std.specs.Result.{result_ok}
@@ -10,7 +9,6 @@ use Rattle.access_levels.specs.declared.ids.IdFault.{IdFault}
 use Rattle.access_levels.proofs.SpelledIds.{id_of-itself}
 use Rattle.generic_names.specs.Spelled.{Spelled, first_qualifier}
 use Rattle.generic_names.specs.Covers.{is_generic}
-use Rattle.racf_profiles.specs.declared.class_rows.ClassRow.{ClassRow}
 use Rattle.racf_profiles.specs.declared.fixed_classes.FixedClass.{FixedClass}
 use Rattle.racf_profiles.specs.declared.fixed_classes.FixedClass.TheVariants.{Dataset, Secdata, Seclabel, Global}
 use Rattle.racf_profiles.specs.declared.fixed_classes.NameForm.{NameForm}
@@ -18,12 +16,11 @@ use Rattle.racf_profiles.specs.declared.fixed_classes.NameForm.TheVariants as na
 use Rattle.racf_profiles.specs.declared.fixed_classes.ClassFacts.{ClassFacts}
 use Rattle.racf_profiles.specs.declared.rows.Rows.{Rows}
 use Rattle.racf_profiles.specs.ClassTable.{class_name, fixed_classes, facts_of, facts_of_class}
-use Rattle.racf_profiles.specs.Lookup.{is_class, class_of}
+use Rattle.racf_profiles.specs.Lookup.{class_of}
 use Rattle.racf_profiles.specs.LawfulProfiles.{AreClasses, is_profile_name}
 use Rattle.racf_profiles.proofs.Tables.{facts_of-each}
 use Rattle.group_tree.proofs.Rows.{same, itself}
 use Rattle.command_effects.specs.ProfileEffects.{dataset}
-use Rattle.command_conflicts.specs.Conflicts.{if_met}
 use Rattle.command_conflicts.specs.ProfileConflicts.{no_resource_class, no_global_class, classless, not_generic, has_generic}
 use Rattle.command_conflicts.proofs.Unmet.{unmet}
 use Rattle.lawful_commands.proofs.Kept.{found-named}

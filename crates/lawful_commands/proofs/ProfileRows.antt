@@ -1,11 +1,9 @@
 -- The rows are lawful after a profile was put or dropped, where it is lawful and the limits are kept.
-use Rattle.std.proofs.Common.{◌≡◌, ℕ, ◌+◌, ◌≤◌, Bool, true, false, cond, not, ◌&&◌, ◌||◌, List, [], ◌∷◌, ◌++◌, length, map, Option, None, Some, is_some, bytes_eq, refl, sym, ap, subst, ◌∙◌, true≢false, arith}
+use Rattle.std.proofs.Common.{◌≡◌, ℕ, ◌+◌, ◌≤◌, Bool, true, false, cond, List, [], ◌∷◌, length, map, Option, None, Some, bytes_eq, refl, sym, ap, subst, ◌∙◌, arith}
 use Rattle.std.specs.Prelude.{find, sum_by}
-use Rattle.std.specs.List.{AllByRecursion, list_any}
+use Rattle.std.specs.List.{AllByRecursion}
 use Rattle.std.specs.Option.{option_map_or, option_and_then}
-use Rattle.std.proofs.lemmas.Bool.{and_parts}
 use Rattle.generic_names.specs.Spelled.{Spelled}
-use Rattle.generic_names.specs.Before.{before}
 use Rattle.generic_names.specs.Laws.{IsPattern, OneIsBefore, PassedOn}
 use Rattle.generic_names.specs.declared.kind.NameKind.{NameKind}
 use Rattle.racf_profiles.specs.declared.profiles.Profile.{Profile}
@@ -15,7 +13,7 @@ use Rattle.racf_profiles.specs.declared.rows.Rows.{Rows}
 use Rattle.racf_profiles.specs.Limits.{most_class_profiles, most_profiles, most_entries_in_all}
 use Rattle.racf_profiles.specs.Lookup.{is_class, is_profile, class_of, profile_of}
 use Rattle.racf_profiles.specs.Counts.{profile_count, entry_count, entries_in}
-use Rattle.racf_profiles.specs.Edits.{put_profile, drop_row, at_class, with_profile, without_profile, comes_first, is_in_order, AreNamed}
+use Rattle.racf_profiles.specs.Edits.{put_profile, drop_row, at_class, with_profile, without_profile}
 use Rattle.racf_profiles.specs.LawfulProfiles.{AreProfiles, AreClasses, IsProfile, IsClass, kind_in}
 use Rattle.racf_profiles.specs.Lawful.{AreLawful, AreCategories}
 use Rattle.racf_profiles.proofs.EditLaws.{at_class-absent, all-drop_row, length-drop_row}

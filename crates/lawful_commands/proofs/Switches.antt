@@ -1,6 +1,5 @@
 -- Options that are no names of categories.
-use Rattle.std.proofs.Common.{◌≡◌, Bool, refl, arith}
-use Rattle.racf_profiles.specs.declared.class_rows.ClassRow.{ClassRow}
+use Rattle.std.proofs.Common.{Bool, refl, arith}
 use Rattle.racf_profiles.specs.declared.options.Options.{Options}
 use Rattle.racf_profiles.specs.declared.rows.Rows.{Rows}
 use Rattle.racf_profiles.specs.LawfulProfiles.{IsClass}

@@ -1,22 +1,19 @@
 -- The commands on users and connections leave lawful rows.
-use Rattle.std.proofs.Common.{◌≡◌, ℕ, ◌+◌, ◌≤◌, ◌<◌, Bool, true, false, cond, ◌||◌, ◌&&◌, not, List, [], ◌∷◌, ◌++◌, length, map, Option, None, Some, IsSome, is_some, IsTrue, bytes_eq, codes, refl, sym, ap, subst, ◌∙◌, true≢false, arith, fold}
+use Rattle.std.proofs.Common.{◌≡◌, ℕ, ◌≤◌, true, false, ◌||◌, ◌&&◌, not, List, [], ◌∷◌, length, Option, None, Some, IsSome, bytes_eq, codes, refl, sym, ap, ◌∙◌, arith, fold}
 use Rattle.std.specs.Prelude.{◌==◌, find, unwrap_or, IfSome}
-use Rattle.std.specs.List.{AllByRecursion, IsDistinct, list_any, list_all}
-use Rattle.std.specs.Option.{option_map_or, option_map, option_and_then}
+use Rattle.std.specs.List.{AllByRecursion, list_any}
+use Rattle.std.specs.Option.{option_map_or, option_and_then}
 use Rattle.std.proofs.lemmas.Bool.{not-false}
-use Rattle.access_levels.specs.Category.{is_member}
 use Rattle.racf_profiles.specs.declared.users.User.{User}
 use Rattle.racf_profiles.specs.declared.users.Connect.{Connect as Connection}
 use Rattle.racf_profiles.specs.declared.rows.Rows.{Rows}
 use Rattle.racf_profiles.specs.Lookup.{is_user, user_of, group_of}
 use Rattle.racf_profiles.specs.Names.{is_to, is_class_word, is_connected_to, connects_of, connected_to, is_special_user, special_users, connections}
-use Rattle.racf_profiles.specs.Edits.{drop_row}
-use Rattle.racf_profiles.specs.LawfulUsers.{AreConnections, AreDefined, IsUser, is_user_name, is_clauth_class}
+use Rattle.racf_profiles.specs.LawfulUsers.{IsUser, is_user_name, is_clauth_class}
 use Rattle.racf_profiles.specs.Lawful.{AreLawful}
 use Rattle.racf_profiles.proofs.EditLaws.{all-drop_row, length-drop_row}
 use Rattle.group_tree.proofs.Rows.{itself}
 use Rattle.group_tree.proofs.Edits.{none_from_map}
-use Rattle.row_tables.specs.ChangedRow.{at_row}
 use Rattle.command_parser.specs.declared.commands.Issuer.{Issuer}
 use Rattle.command_parser.specs.declared.fields.AddUser.{AddUser}
 use Rattle.command_parser.specs.declared.fields.AltUser.{AltUser}
@@ -25,13 +22,11 @@ use Rattle.command_parser.specs.declared.fields.Connect.{Connect}
 use Rattle.command_parser.specs.declared.fields.Remove.{Remove}
 use Rattle.command_parser.specs.declared.fields.CommandFields.{CommandFields}
 use Rattle.command_parser.specs.declared.fields.CommandFields.TheVariants as command
-use Rattle.command_effects.specs.Security.{with_category}
-use Rattle.command_effects.specs.Effects.{step, group_or_current, new_user, altered_user, connected_user, removed_user, connects_after, with_class, without_classes}
-use Rattle.command_conflicts.specs.declared.conflict.Conflict.{Conflict}
+use Rattle.command_effects.specs.Effects.{step, group_or_current, new_user, altered_user, connected_user, removed_user, connects_after, with_class}
 use Rattle.command_conflicts.specs.declared.conflict.Conflict.TheVariants.{NoClass, DefaultGroup}
 use Rattle.command_conflicts.specs.declared.conflict.Limit.TheVariants.{Users, Connections, AllConnections}
-use Rattle.command_conflicts.specs.Conflicts.{conflict_of, first_met, if_met, over, no_user, no_group, no_class, not_connected, default_not_connected, default_group, last_special, users_full, user_full, connections_full, add_user_conflicts, alt_user_conflicts, del_user_conflicts, connect_conflicts, remove_conflicts}
-use Rattle.command_conflicts.proofs.Unmet.{AreUnmet, each_unmet, unmet, user_there, group_there, name_free, within}
+use Rattle.command_conflicts.specs.Conflicts.{first_met, if_met, no_class, not_connected, default_not_connected, default_group, last_special, users_full, user_full, connections_full, add_user_conflicts, alt_user_conflicts, del_user_conflicts, connect_conflicts, remove_conflicts}
+use Rattle.command_conflicts.proofs.Unmet.{AreUnmet, each_unmet, unmet, group_there, name_free, within}
 use Rattle.lawful_commands.proofs.RowLists.{all_pass-filter, any-at, none-found, sum-at-le, distinct-drop, distinct-none, distinct-one}
 use Rattle.lawful_commands.proofs.Kept.{defined-none}
 use Rattle.lawful_commands.proofs.UserRows.{special_user-counted, user-added, user-changed, user-dropped}

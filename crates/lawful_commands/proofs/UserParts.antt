@@ -1,24 +1,21 @@
 -- The parts of a user after a command: his classes, his categories and his connections.
-use Rattle.std.proofs.Common.{◌≡◌, ℕ, ◌+◌, ◌≤◌, ◌<◌, eqb, Bool, true, false, cond, ◌||◌, ◌&&◌, not, List, [], ◌∷◌, ◌++◌, length, map, Option, None, Some, IsSome, is_some, bytes_eq, codes, refl, sym, ap, subst, ◌∙◌, true≢false, arith, fold}
-use Rattle.std.specs.Prelude.{find, position, filter}
+use Rattle.std.proofs.Common.{◌≡◌, ℕ, ◌<◌, eqb, Bool, true, false, cond, ◌||◌, ◌&&◌, not, List, [], ◌∷◌, ◌++◌, length, map, Option, None, Some, bytes_eq, refl, sym, ap, subst, ◌∙◌, true≢false, fold}
 use Rattle.std.specs.List.{AllByRecursion, IsDistinct, list_any, list_all}
 use Rattle.std.specs.Option.{option_map_or}
 use Rattle.std.proofs.lemmas.Bool.{eqb-true}
 use Rattle.std.proofs.lemmas.List.Quantifiers.{position-Some}
 use Rattle.access_levels.specs.Category.{is_member, including, excluding}
 use Rattle.access_levels.proofs.Bits.{is_member-including, is_member-excluding}
-use Rattle.racf_profiles.specs.declared.users.User.{User}
 use Rattle.racf_profiles.specs.declared.users.Connect.{Connect as Connection}
-use Rattle.racf_profiles.specs.declared.options.Options.{Options}
 use Rattle.racf_profiles.specs.declared.rows.Rows.{Rows}
 use Rattle.racf_profiles.specs.Names.{is_to}
 use Rattle.racf_profiles.specs.Edits.{drop_row}
 use Rattle.racf_profiles.specs.LawfulUsers.{AreDefined}
 use Rattle.command_parser.specs.declared.fields.Connect.{Connect}
 use Rattle.command_effects.specs.Security.{category_number, with_category, without_category}
-use Rattle.command_effects.specs.UserEffects.{with_class, without_classes, connects_after, altered_connection, new_connection}
+use Rattle.command_effects.specs.UserEffects.{with_class, without_classes, connects_after, altered_connection}
 use Rattle.group_tree.proofs.Rows.{same, itself}
-use Rattle.lawful_commands.proofs.RowLists.{all-each, all-map, all-unmap, all-push, none-any, all_pass-push, all_pass-filter, map-itself, distinct-push, distinct-filter}
+use Rattle.lawful_commands.proofs.RowLists.{all-map, all-unmap, none-any, all_pass-push, map-itself, distinct-push, distinct-filter}
 
 -- ---- classes
 module _ (passes : List ℕ → Bool) where

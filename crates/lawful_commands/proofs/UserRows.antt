@@ -1,8 +1,8 @@
 -- The rows are lawful after a user was added, changed or dropped, where he is lawful and a user who isn't revoked
 -- still has SPECIAL.
-use Rattle.std.proofs.Common.{◌≡◌, ℕ, ◌+◌, ◌≤◌, Bool, true, false, cond, ◌||◌, ◌&&◌, not, List, [], ◌∷◌, ◌++◌, length, map, Option, None, Some, bytes_eq, refl, sym, ap, subst, ◌∙◌, true≢false, arith, zero-add}
-use Rattle.std.specs.Prelude.{◌==◌, find, sum_by}
-use Rattle.std.specs.List.{AllByRecursion, IsDistinct, list_any}
+use Rattle.std.proofs.Common.{◌≡◌, ℕ, ◌+◌, ◌≤◌, Bool, true, false, cond, ◌||◌, List, [], ◌∷◌, ◌++◌, length, None, Some, bytes_eq, refl, sym, ap, subst, ◌∙◌, true≢false, arith, zero-add}
+use Rattle.std.specs.Prelude.{◌==◌}
+use Rattle.std.specs.List.{IsDistinct, list_any}
 use Rattle.std.proofs.lemmas.List.Sums.{sum_by-cons}
 use Rattle.racf_profiles.specs.declared.users.User.{User}
 use Rattle.racf_profiles.specs.declared.rows.Rows.{Rows}
@@ -10,7 +10,7 @@ use Rattle.racf_profiles.specs.Limits.{most_users, most_connections_in_all}
 use Rattle.racf_profiles.specs.Lookup.{is_user, user_of}
 use Rattle.racf_profiles.specs.Names.{connections, connected_to, is_special_user, special_user_count, special_users}
 use Rattle.racf_profiles.specs.Edits.{drop_row}
-use Rattle.racf_profiles.specs.LawfulUsers.{AreUsers, IsUser}
+use Rattle.racf_profiles.specs.LawfulUsers.{IsUser}
 use Rattle.racf_profiles.specs.Lawful.{AreLawful}
 use Rattle.racf_profiles.proofs.EditLaws.{all-drop_row, length-drop_row}
 use Rattle.row_tables.specs.ChangedRow.{at_row}

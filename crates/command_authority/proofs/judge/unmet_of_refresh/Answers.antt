@@ -1,8 +1,6 @@
-use Rattle.std.proofs.Common.{◌≡◌, ℕ, Bool, List, Option, Some, None, arith, option_map, sym, ap, ◌∙◌}
+use Rattle.std.proofs.Common.{◌≡◌, ℕ, Bool, List, Option, Some, option_map, sym, ap, ◌∙◌}
 use Rattle.std.specs.List.{find}
 use Rattle.std.specs.Option.{option_or}
-use Rattle.racf_profiles.specs.declared.rows.Rows.{Rows}
-use Rattle.command_parser.specs.declared.commands.Issuer.{Issuer}
 use Rattle.command_parser.specs.declared.option_fields.SetRopts.{SetRopts}
 use Rattle.command_authority.specs.declared.requirement.Requirement.{Requirement}
 use Rattle.command_authority.specs.Requirements.{refreshing, refreshed_classes}

@@ -1,5 +1,5 @@
 -- The first of two group entries, and of three whichever two are compared first.
-use Rattle.std.proofs.Common.{◌≡◌, ℕ, ◌<◌, ◌≤◌, Bool, true, false, cond, ◌||◌, ◌&&◌, eqb, ltb, List, [], ◌∷◌, map, drop, Option, Some, None, Decides, refl, subst, sym, ◌∙◌, ap, arith, ◌⊎◌, inl, inr, ⊎_elim}
+use Rattle.std.proofs.Common.{◌≡◌, ℕ, ◌<◌, ◌≤◌, Bool, true, false, cond, ◌&&◌, eqb, ltb, List, [], ◌∷◌, map, Option, Some, None, Decides, refl, subst, sym, ◌∙◌, ap, arith, ◌⊎◌, inl, inr, ⊎_elim}
 use Rattle.std.specs.Prelude.{IfSome, MatchOption}
 use Rattle.std.specs.List.{AllByRecursion, filter}
 use Rattle.std.proofs.lemmas.Bool.{cases_Bool, cases_order, cases_lt, false≢true}
@@ -10,7 +10,7 @@ use Rattle.access_levels.specs.declared.entries.Condition.{Condition}
 use Rattle.access_levels.specs.Level.{level_rank}
 use Rattle.access_lists.specs.declared.best.GroupEntry.{GroupEntry}
 use Rattle.access_lists.specs.Lists.{is_under}
-use Rattle.access_lists.specs.Answers.{as_group_entry, goes_before, first_of_two, group_entry, unconditional, entries_under, IsAmong, IsFirst}
+use Rattle.access_lists.specs.Answers.{as_group_entry, goes_before, first_of_two, group_entry, unconditional, entries_under, IsFirst}
 
 abbrev Precedes : GroupEntry → GroupEntry → Type 0
 Precedes x y = (level_rank y.level < level_rank x.level) ⊎ ((level_rank x.level ≡ level_rank y.level) × (x.place < y.place))

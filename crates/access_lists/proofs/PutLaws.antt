@@ -1,5 +1,5 @@
 -- What putting an entry into a list does, by the place of the one that it replaces.
-use Rattle.std.proofs.Common.{◌≡◌, ℕ, zero, suc, ◌+◌, ◌<◌, ◌≤◌, Bool, true, false, cond, not, ◌&&◌, ◌||◌, ltb, IsTrue, ◌↔◌, Result, Ok, Err, MatchResult, List, [], ◌∷◌, ◌++◌, Option, Some, None, length, slice_set, get_or, refl, sym, ◌∙◌, ap, arith, ⊎_elim}
+use Rattle.std.proofs.Common.{◌≡◌, ℕ, zero, suc, ◌+◌, ◌<◌, ◌≤◌, Bool, true, false, cond, not, ◌&&◌, ◌||◌, ltb, IsTrue, ◌↔◌, Result, Ok, Err, MatchResult, List, [], ◌∷◌, ◌++◌, Some, None, length, slice_set, get_or, refl, sym, ◌∙◌, ap, arith, ⊎_elim}
 use Rattle.std.specs.Prelude.{nat_le}
 use Rattle.std.proofs.lemmas.Bool.{le-leb, leb-true}
 use Rattle.std.specs.List.{position, position_or_len, list_any}

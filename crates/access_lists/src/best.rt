@@ -1,5 +1,5 @@
 //! The best of the entries for a user's groups.
-ghost use Rattle.std.specs.Prelude.{◌≡◌, if◌then◌else◌, Some, position, bytes_eq};
+ghost use Rattle.std.specs.Prelude.{◌≡◌, if◌then◌else◌, Some};
 ghost use Rattle.access_lists.specs.Lists.{is_under};
 ghost use Rattle.access_lists.specs.Answers.{for_group, as_group_entry, goes_before, first_of_two, group_entry, unconditional, entries_under};
 

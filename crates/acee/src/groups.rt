@@ -1,5 +1,5 @@
 //! The groups of an ACEE.
-ghost use Rattle.std.specs.Prelude.{◌≡◌, map, filter, not, IfOk};
+ghost use Rattle.std.specs.Prelude.{◌≡◌, map, filter, IfOk};
 ghost use Rattle.acee.specs.Groups.{acee_group, acee_groups, group_names};
 
 use access_levels::Id;

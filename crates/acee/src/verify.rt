@@ -1,5 +1,5 @@
 //! VERIFY's checks of the user and of his connection, and the ACEE made of them.
-ghost use Rattle.std.specs.Prelude.{◌≡◌, find, bytes_eq, IfOk, IsSome};
+ghost use Rattle.std.specs.Prelude.{◌≡◌, find, IfOk};
 ghost use Rattle.std.specs.Option.{option_copied};
 ghost use Rattle.acee.specs.Verify.{group_asked, connection_to, checked_connection, label_for, acee_for, acee_of, is_active, IsToldAcee};
 

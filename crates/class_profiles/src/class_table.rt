@@ -1,9 +1,9 @@
 //! A class with its profiles.
-ghost use Rattle.std.specs.Prelude.{◌≡◌, ◌+◌, ◌<◌, ◌≤◌, length, is_some, OnOk, IfOk, if◌then◌else◌};
+ghost use Rattle.std.specs.Prelude.{◌≡◌, ◌+◌, ◌<◌, ◌≤◌, is_some, OnOk, IfOk, if◌then◌else◌};
 ghost use Rattle.std.specs.List.{find};
 ghost use Rattle.racf_profiles.specs.NewDatabase.{empty_class};
 ghost use Rattle.racf_profiles.specs.Lookup.{is_profile};
-ghost use Rattle.racf_profiles.specs.Edits.{put_profile, with_profile, without_profile, with_flags, with_listed};
+ghost use Rattle.racf_profiles.specs.Edits.{with_profile, without_profile, with_flags, with_listed};
 ghost use Rattle.racf_profiles.specs.LawfulProfiles.{AreProfiles, kind_in};
 ghost use Rattle.class_profiles.specs.Table.{CanPut};
 ghost use Rattle.class_profiles.specs.Classes.{is_under};

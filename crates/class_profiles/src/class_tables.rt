@@ -1,12 +1,12 @@
 //! All classes with their profiles.
-ghost use Rattle.std.specs.Prelude.{◌≡◌, ℕ, ◌+◌, ◌<◌, ◌≤◌, ◌||◌, Bool, true, false, List, length, position, Some, IfSome, IsSome, OnOk, IfOk};
+ghost use Rattle.std.specs.Prelude.{◌≡◌, ℕ, ◌+◌, ◌<◌, ◌≤◌, false, List, position, Some, IsSome, OnOk, IfOk};
 ghost use Rattle.std.specs.List.{find};
 ghost use Rattle.std.specs.Option.{option_copied, option_map, option_map_or};
 ghost use Rattle.std.specs.Str.{bytes_eq};
 ghost use Rattle.racf_profiles.specs.ClassTable.{is_dataset};
 ghost use Rattle.racf_profiles.specs.NewDatabase.{new_classes};
-ghost use Rattle.racf_profiles.specs.Lookup.{is_class, is_profile};
-ghost use Rattle.racf_profiles.specs.Edits.{put_profile, at_class, with_profile, without_profile, with_flags, with_listed};
+ghost use Rattle.racf_profiles.specs.Lookup.{is_class};
+ghost use Rattle.racf_profiles.specs.Edits.{at_class, with_profile, without_profile, with_flags, with_listed};
 ghost use Rattle.racf_profiles.specs.LawfulProfiles.{AreClasses};
 ghost use Rattle.racf_profiles.specs.Limits.{most_profiles, most_entries_in_all};
 ghost use Rattle.class_profiles.specs.Summed.{rows_in};
@@ -48,14 +48,16 @@ impl ClassTables {
     pub fn new(alloc: Global) -> Result<ClassTables, NoMemory>
         ensures { IfOk result (λ tables. tables.classes ≡ new_classes is_dataset) }
     {
-        empty(alloc, false)
-    }
-
-    /// No profile, and every class active.
-    pub fn all_active(alloc: Global) -> Result<ClassTables, NoMemory>
-        ensures { IfOk result (λ tables. tables.classes ≡ new_classes (λ _. true)) }
-    {
-        empty(alloc, true)
+        let mut classes = Vec::new(alloc);
+        for class in &FixedClass::ALL {
+            let active = matches!(class, FixedClass::Dataset);
+            classes.push(ClassTable::new(alloc, *class, active)?)?;
+        }
+        Ok(ClassTables {
+            classes,
+            count: 0,
+            entries: 0,
+        })
     }
 
     /// How many profiles there are in all classes, at most 100,000.
@@ -255,20 +257,4 @@ fn share_of(profile: &Profile) -> Share
         profiles: 1,
         entries: profile.standard.items.len() + profile.conditional.items.len(),
     }
-}
-
-/// No profile; every class active, or DATASET alone.
-fn empty(alloc: Global, all: bool) -> Result<ClassTables, NoMemory>
-    ensures { IfOk result (λ tables. tables.classes ≡ new_classes (λ class. all || is_dataset class)) }
-{
-    let mut classes = Vec::new(alloc);
-    for class in &FixedClass::ALL {
-        let active = all || matches!(class, FixedClass::Dataset);
-        classes.push(ClassTable::new(alloc, *class, active)?)?;
-    }
-    Ok(ClassTables {
-        classes,
-        count: 0,
-        entries: 0,
-    })
 }

@@ -7,7 +7,7 @@ ghost use Rattle.generic_names.specs.declared.kind.NameKind.{NameKind};
 ghost use Rattle.racf_profiles.specs.declared.profiles.Profile.{Profile};
 ghost use Rattle.racf_profiles.specs.declared.class_rows.ClassRow.{ClassRow};
 ghost use Rattle.racf_profiles.specs.Lookup.{is_class, is_profile};
-ghost use Rattle.racf_profiles.specs.Edits.{put_profile, drop_row, at_class, with_profile, without_profile};
+ghost use Rattle.racf_profiles.specs.Edits.{put_profile, at_class, with_profile, without_profile};
 ghost use Rattle.racf_profiles.specs.LawfulProfiles.{AreProfiles, AreClasses, kind_in};
 ghost use Rattle.racf_profiles.specs.Limits.{most_profiles, most_entries_in_all};
 ghost use Rattle.class_profiles.specs.Classes.{ClassList, profile_in, IsRoomFor, CanPutIn};

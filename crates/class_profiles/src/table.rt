@@ -1,5 +1,5 @@
 //! The profiles of one class.
-ghost use Rattle.std.specs.Prelude.{◌≡◌, ◌+◌, ◌<◌, ◌≤◌, [], length, max, Some, None, is_some, OnOk, OnErr, IfOk, if◌then◌else◌};
+ghost use Rattle.std.specs.Prelude.{◌≡◌, ◌+◌, ◌<◌, [], length, max, Some, None, is_some, OnOk, OnErr, IfOk, if◌then◌else◌};
 ghost use Rattle.std.specs.List.{find, slice_get};
 ghost use Rattle.std.specs.Option.{option_copied};
 ghost use Rattle.std.specs.Result.{result_ok};
@@ -8,7 +8,6 @@ ghost use Rattle.generic_names.specs.Laws.{IsPattern};
 ghost use Rattle.racf_profiles.specs.Lookup.{is_profile};
 ghost use Rattle.racf_profiles.specs.Edits.{put_profile, drop_row};
 ghost use Rattle.racf_profiles.specs.LawfulProfiles.{AreProfiles};
-ghost use Rattle.racf_profiles.specs.Limits.{most_class_profiles};
 ghost use Rattle.class_profiles.specs.Table.{best_profile, IsPlaceOf, CanPut};
 ghost use Rattle.class_profiles.specs.Classes.{is_under};
 

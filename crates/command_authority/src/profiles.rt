@@ -1,5 +1,5 @@
 //! What the commands on profiles require.
-ghost use Rattle.std.specs.Prelude.{◌≡◌, bytes_eq, is_ok, IsTrue};
+ghost use Rattle.std.specs.Prelude.{◌≡◌, is_ok, IsTrue};
 ghost use Rattle.access_levels.specs.Spelling.{id_of};
 ghost use Rattle.generic_names.specs.Spelled.{first_qualifier};
 ghost use Rattle.command_authority.specs.Requirements.{dataset, over_new_data_set, profile_needs, over_profile, auditing, add_sd_requirements, alt_sd_requirements, del_sd_requirements, r_define_requirements, r_alter_requirements, r_delete_requirements, permit_requirements};

@@ -1,5 +1,5 @@
 //! Authority over what a command is about.
-ghost use Rattle.std.specs.Prelude.{◌≡◌, ◌&&◌, bytes_eq};
+ghost use Rattle.std.specs.Prelude.{◌≡◌, ◌&&◌};
 ghost use Rattle.racf_profiles.specs.Tree.{IsTree};
 ghost use Rattle.group_tree.specs.ScopeTest.{is_group_in_scope, is_profile_in_scope};
 ghost use Rattle.command_authority.specs.Targets.{owner_of, is_in_scope, is_owner, has_group_special, is_own_data, has_alter_entry, has_authority_in};

@@ -1,8 +1,6 @@
 //! The edits that a command makes.
 ghost use Rattle.std.specs.Prelude.{◌≡◌, [], ◌∷◌, IfOk};
-ghost use Rattle.std.specs.Option.{option_copied};
 ghost use Rattle.racf_profiles.specs.Lookup.{user_of, group_of};
-ghost use Rattle.racf_profiles.specs.declared.users.User.{User};
 ghost use Rattle.command_effects.specs.Effects.{altered_user, connected_user, removed_user, altered_group};
 ghost use Rattle.command_parser.specs.declared.fields.CommandFields.TheVariants as fields;
 ghost use Rattle.command_parser.specs.declared.profile_fields.Permit.{Permit};

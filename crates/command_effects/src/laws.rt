@@ -1,5 +1,5 @@
 //! Laws of the edits of commands. The functions do nothing: their contracts are what is proved.
-ghost use Rattle.std.specs.Prelude.{◌≡◌, not, List, IsTrue, IsFalse};
+ghost use Rattle.std.specs.Prelude.{◌≡◌, not, IsTrue, IsFalse};
 ghost use Rattle.std.specs.List.{list_all};
 ghost use Rattle.racf_profiles.specs.declared.rows.Rows.{Rows};
 ghost use Rattle.racf_profiles.specs.declared.edits.Edit.{Edit};

@@ -1,11 +1,11 @@
 //! The reading of a whole text: the command's name, its positional words, its operands.
 
-ghost use Rattle.std.specs.Prelude.{◌≡◌, ◌+◌, ◌<◌, ◌≤◌, ◌^◌, [], length, map, find, bytes_eq, if◌then◌else◌};
+ghost use Rattle.std.specs.Prelude.{◌≡◌, ◌+◌, ◌<◌, ◌≤◌, ◌^◌, [], length, map, find, if◌then◌else◌};
 ghost use Rattle.command_words.specs.Bytes.{upper};
-ghost use Rattle.command_words.specs.Tokens.{tokens, of_command, of_naming_command};
+ghost use Rattle.command_words.specs.Tokens.{tokens, of_naming_command};
 ghost use Rattle.command_grammar.specs.Table.{verb_named as verb_called, positions_of};
 ghost use Rattle.command_values.specs.Results.{Gives, Finds};
-ghost use Rattle.command_grammar.specs.Reading.{takes_quotes as may_be_quoted, bounded as bounded_in, placed as placed_in, position_at, behind as scope_behind, positions_at, late_word as late_word_in, late_name as late_name_in, plain_at, late_at, body_at, begins_with_name as may_begin_quoted, behind_first as rest_behind, begun as scope_begun, command_at, parsed};
+ghost use Rattle.command_grammar.specs.Reading.{takes_quotes as may_be_quoted, bounded as bounded_in, placed as placed_in, position_at, behind as scope_behind, positions_at, late_word as late_word_in, late_name as late_name_in, plain_at, late_at, body_at, begins_with_name as may_begin_quoted, behind_first as rest_behind, begun as scope_begun, parsed};
 ghost use Rattle.command_grammar.specs.Parts.{generic};
 
 use crate::closing::{class_in, closed, is_late, late_closed};

@@ -1,13 +1,13 @@
 //! What AUDIT and GLOBALAUDIT hold.
 
-ghost use Rattle.std.specs.Prelude.{◌≡◌, ◌+◌, ◌<◌, ◌^◌, length, map, None, option_copied};
+ghost use Rattle.std.specs.Prelude.{◌≡◌, ◌+◌, ◌<◌, ◌^◌, length, map, None};
 ghost use Rattle.command_words.specs.Bytes.{upper};
 ghost use Rattle.command_words.specs.Tokens.{tokens};
 ghost use Rattle.command_words.specs.ValuedWords.{valued_words, IsValuedInReach};
 ghost use Rattle.command_words.specs.Pieces.{seen_valued};
 ghost use Rattle.command_values.specs.Results.{Finds};
 ghost use Rattle.command_values.specs.NamedWords.{level_named as level_in_word};
-ghost use Rattle.command_values.specs.Audits.{audit_word_name, audit_word_of, may_follow as can_follow, if_may_follow, so_far as rule_so_far, with_word as rule_with, is_audit_level, if_audit_level, audit_level as level_in, with_level as rule_with_level, audit_word as word_at, audit_more as rule_with_more, audits as rule_of_all, audit_rule as rule_in};
+ghost use Rattle.command_values.specs.Audits.{audit_word_name, audit_word_of, may_follow as can_follow, so_far as rule_so_far, with_word as rule_with, if_audit_level, audit_level as level_in, with_level as rule_with_level, audit_word as word_at, audit_more as rule_with_more, audit_rule as rule_in};
 
 use crate::faults::Syntax;
 use crate::named_words::level_named;

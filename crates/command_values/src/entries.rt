@@ -1,6 +1,6 @@
 //! Whose entries PERMIT means, and at which port of entry.
 
-ghost use Rattle.std.specs.Prelude.{◌≡◌, ◌∷◌, [], IfOk, map};
+ghost use Rattle.std.specs.Prelude.{◌≡◌, IfOk, map};
 ghost use Rattle.std.specs.Str.{bytes_eq};
 ghost use Rattle.std.specs.Prelude.{codes};
 ghost use Rattle.access_levels.specs.declared.entries.Who.TheVariants.{Named};

@@ -1,12 +1,12 @@
 //! Members of profiles, which ADDMEM and DELMEM name (z/OS Security Server RACF Command Language Reference, RALTER; their
 //! forms in detail are this product's own rules).
 
-ghost use Rattle.std.specs.Prelude.{◌≡◌, ◌++◌, ◌∷◌, ◌<◌, [], Bool, length, position, option_map, bytes_eq, codes, if◌then◌else◌, IfOk, None, Some};
+ghost use Rattle.std.specs.Prelude.{◌≡◌, ◌<◌, [], option_map, IfOk, None, Some};
 ghost use Rattle.command_words.specs.Tokens.{tokens};
 ghost use Rattle.command_words.specs.ValuedWords.{valued_words};
 ghost use Rattle.command_values.specs.Results.{Gives};
 ghost use Rattle.command_values.specs.NamedWords.{id_named as id_in};
-ghost use Rattle.command_values.specs.Members.{access_form as form_of_access, secdata_form as form_of_secdata, form_by_class as form_in_class, member_form as form_known, whole_text as text_whole, member_named as named_member, parted as parts_of, number_behind, if_number as in_range, number_of, access_of, security_level_of, category_of, member_in as member_read, id_name as name_of_id, dropped_in as dropped_read, each_of, some_of, added as added_in, dropped as dropped_by};
+ghost use Rattle.command_values.specs.Members.{access_form as form_of_access, secdata_form as form_of_secdata, form_by_class as form_in_class, member_form as form_known, whole_text as text_whole, member_named as named_member, parted as parts_of, number_behind, if_number as in_range, number_of, access_of, security_level_of, category_of, member_in as member_read, id_name as name_of_id, dropped_in as dropped_read, each_of, added as added_in, dropped as dropped_by};
 
 use crate::faults::{ParseFault, Syntax};
 use crate::named_words::{id_named, level_named};

@@ -1,6 +1,6 @@
 //! The names of profiles, by the class that they stand in (the forms of names are this product's own rules).
 
-ghost use Rattle.std.specs.Prelude.{◌≡◌, ◌==◌, ◌++◌, ◌∷◌, ◌≤◌, ◌<◌, length, map, option_map, position, IfOk, IfSome, OnOk, is_ok, None, if◌then◌else◌};
+ghost use Rattle.std.specs.Prelude.{◌≡◌, ◌==◌, ◌++◌, ◌<◌, length, map, option_map, position, IfOk, IfSome, OnOk, is_ok, None, if◌then◌else◌};
 ghost use Rattle.std.specs.List.{list_any};
 ghost use Rattle.access_levels.specs.Spelling.{id_of};
 ghost use Rattle.command_words.specs.Bytes.{upper};

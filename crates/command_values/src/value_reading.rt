@@ -1,6 +1,6 @@
 //! The reading of values: the word or words in an operand's parentheses, and of a positional word.
 
-ghost use Rattle.std.specs.Prelude.{◌≡◌, [], false, length, map, IfOk};
+ghost use Rattle.std.specs.Prelude.{◌≡◌, [], false, map, IfOk};
 ghost use Rattle.std.specs.List.{list_all};
 ghost use Rattle.std.specs.Option.{option_map};
 ghost use Rattle.command_words.specs.Bytes.{upper};

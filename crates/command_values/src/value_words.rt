@@ -1,6 +1,6 @@
 //! The words of a value: each is refused at its first faulty byte before it is judged.
 
-ghost use Rattle.std.specs.Prelude.{◌≡◌, ◌+◌, ◌<◌, ◌^◌, length, IfOk};
+ghost use Rattle.std.specs.Prelude.{◌≡◌, ◌+◌, ◌<◌, ◌^◌, length};
 ghost use Rattle.command_words.specs.Tokens.{tokens};
 ghost use Rattle.command_words.specs.ValuedWords.{valued_words, IsValuedInReach};
 ghost use Rattle.command_words.specs.Pieces.{seen_valued};

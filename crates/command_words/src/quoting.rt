@@ -24,7 +24,7 @@ pub enum Quoting {
 }
 
 impl Quoting {
-    ghost use Rattle.std.specs.Prelude.{◌+◌, ◌<◌, ◌^◌, length};
+    ghost use Rattle.std.specs.Prelude.{◌+◌, ◌<◌, ◌^◌};
     ghost use Rattle.command_words.specs.Quotes.{after, hides, next_word};
     ghost use Rattle.command_words.specs.Tokens.{depth_after, stays_tied, unclosed};
 

@@ -1,5 +1,4 @@
 //! Edits of a table with the keys that are then there, in order of definition, and a table beside a plain list.
-ghost use Rattle.std.specs.Prelude.{◌≡◌, ℕ};
 
 use defined_rows::{DefinedRows, Keyed, NoMemory};
 use std::alloc::Global;

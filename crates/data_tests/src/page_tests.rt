@@ -1,7 +1,5 @@
 //! Lists in pages beside plain lists, pages that split and become empty, and a search.
-ghost use Rattle.std.specs.Prelude.{◌≡◌, ◌<◌, ◌≤◌, ◌+◌, ◌^◌, length, vec_len, nat_le, nat_lt};
-ghost use Rattle.std.specs.List.{list_all};
-ghost use Rattle.pages.specs.Rising.{Rises};
+ghost use Rattle.std.specs.Prelude.{◌<◌, ◌≤◌, ◌+◌, nat_le};
 
 use pages::{NoMemory, Pages, Test};
 use std::alloc::Global;

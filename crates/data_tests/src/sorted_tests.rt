@@ -1,5 +1,4 @@
 //! Edits of a table with the keys that are then there, and a table beside an array.
-ghost use Rattle.std.specs.Prelude.{◌≡◌, ◌≤◌, ℕ};
 
 use sorted_rows::{Keyed, NoMemory, SortedRows};
 use std::alloc::Global;

@@ -1,5 +1,5 @@
 //! A region of texts.
-ghost use Rattle.std.specs.Prelude.{◌≡◌, ℕ, ◌+◌, ◌^◌, ◌<◌, ◌≤◌, ◌↔◌, List, [], ◌∷◌, ◌++◌, length, slice_get, IsTrue, IsOk, IfOk, Some};
+ghost use Rattle.std.specs.Prelude.{◌≡◌, ℕ, ◌+◌, ◌^◌, ◌<◌, ◌↔◌, List, [], ◌∷◌, ◌++◌, length, slice_get, IsTrue, IsOk, IfOk, Some};
 ghost use Rattle.dataspace.specs.Placed.{Placed, IsWithinRoom, used, fits, spot_behind, text_at, has, IsSpotOf};
 ghost use Rattle.dataspace.specs.declared.spot.Spot.{Spot};
 

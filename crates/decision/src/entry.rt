@@ -1,5 +1,5 @@
 //! VERIFY: whether a user may come in.
-ghost use Rattle.std.specs.Prelude.{◌≡◌, codes};
+ghost use Rattle.std.specs.Prelude.{◌≡◌};
 ghost use Rattle.generic_names.specs.declared.kind.NameKind.{NameKind};
 ghost use Rattle.racf_profiles.specs.LawfulProfiles.{kind_in};
 ghost use Rattle.access_levels.specs.Level.{port_class_name};

@@ -1,4 +1,4 @@
-ghost use Rattle.std.specs.Prelude.{◌≡◌, nat_le};
+ghost use Rattle.std.specs.Prelude.{nat_le};
 
 use pages::Test;
 use sorted_rows::Keyed;

@@ -1,6 +1,5 @@
 //! A database, and the image that follows it.
-ghost use Rattle.std.specs.Prelude.{◌≡◌, None, IfOk};
-ghost use Rattle.std.specs.Result.{result_err};
+ghost use Rattle.std.specs.Prelude.{◌≡◌, None};
 ghost use Rattle.command_conflicts.specs.Conflicts.{conflict_of};
 
 use crate::taken::TakenImage;

@@ -1,8 +1,7 @@
-ghost use Rattle.std.specs.Prelude.{◌≡◌, ℕ, ◌+◌, ◌-◌, ◌==◌, ◌<◌, ◌≤◌, ◌&&◌, ◌||◌, IsTrue, length, slice_index, if◌then◌else◌};
+ghost use Rattle.std.specs.Prelude.{◌≡◌, ◌+◌, ◌-◌, ◌==◌, ◌<◌, ◌≤◌, ◌&&◌, ◌||◌, IsTrue, length, slice_index, if◌then◌else◌};
 ghost use Rattle.std.specs.List.{slice_range};
 ghost use Rattle.generic_names.specs.Spelled.{qualifiers};
 ghost use Rattle.generic_names.specs.Covers.{is_double, is_open, matches, begins, covers_all};
-ghost use Rattle.generic_names.specs.Reading.{rest_at};
 ghost use Rattle.generic_names.specs.Walked.{Walked, covers_end_at};
 
 use crate::kind::NameKind;

@@ -1,6 +1,4 @@
 ghost use Rattle.std.specs.Prelude.{◌≡◌, ◌⊎◌, ℕ, ◌+◌, ◌<◌, ◌≤◌, false, true, length, map, slice_index, IfSome, IsSome};
-ghost use Rattle.std.specs.Ordering.{nat_cmp, is_lt};
-ghost use Rattle.std.specs.Cmp.Lexicographic.{slice_cmp};
 ghost use Rattle.generic_names.specs.Spelled.{qualifiers};
 ghost use Rattle.generic_names.specs.Before.{ranks};
 ghost use Rattle.generic_names.specs.Gap.{is_below, begin_apart, NoneCovers};

@@ -1,4 +1,4 @@
-ghost use Rattle.std.specs.Prelude.{◌≡◌, ℕ, ◌+◌, ◌==◌, ◌≤◌, ◌||◌, true, length, IfNone};
+ghost use Rattle.std.specs.Prelude.{◌≡◌, ◌+◌, ◌==◌, ◌≤◌, ◌||◌, true, length, IfNone};
 ghost use Rattle.std.specs.List.{list_any};
 ghost use Rattle.generic_names.specs.Spelled.{percent, asterisk, qualifiers};
 ghost use Rattle.generic_names.specs.Faults.{is_letter, is_digit, is_ordinary, has_generic, is_whole, is_too_long, is_generic_first, byte_fault, bytes_fault, qualifier_fault, qualifiers_fault, longest, fault_of};

@@ -1,7 +1,6 @@
 -- Groups found by their names, in a list and after a change of it.
 use Rattle.std.proofs.Common.{◌≡◌, ℕ, Bool, true, false, cond, map, List, [], ◌∷◌, ◌++◌, Option, Some, None, IsSome, bytes_eq, refl, sym, ap, subst, ◌∙◌, true≢false}
 use Rattle.std.specs.Prelude.{IsSomeAnd, find}
-use Rattle.std.specs.Map.{keys_of, values_of, lookup}
 use Rattle.std.specs.List.{IsDistinct, AllByRecursion}
 use Rattle.std.specs.Option.{option_map, option_or}
 use Rattle.std.proofs.lemmas.Bool.{false_from_ne_true}

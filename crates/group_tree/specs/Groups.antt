@@ -1,5 +1,5 @@
 -- The list of the groups, each with its superior group and its owner, and how a call changes it.
-use Rattle.std.specs.Prelude.{ℕ, List, [], ◌∷◌, ◌++◌, map, find, not, if◌then◌else◌, Option, Some, IsSome, is_some, bytes_eq}
+use Rattle.std.specs.Prelude.{ℕ, List, [], ◌∷◌, ◌++◌, map, find, not, if◌then◌else◌, Option, Some, is_some, bytes_eq}
 use Rattle.std.specs.Option.{option_eq}
 use Rattle.racf_profiles.specs.declared.groups.Group.{Group}
 use Rattle.racf_profiles.specs.Lookup.{is_group, find_group}

@@ -1,4 +1,4 @@
-ghost use Rattle.std.specs.Prelude.{◌≡◌, ℕ, ◌+◌, ◌-◌, ◌^◌, ◌<◌, ◌≤◌, Bool, true, false, length, take, Some, slice_get, slice_index_or};
+ghost use Rattle.std.specs.Prelude.{◌≡◌, ◌+◌, ◌-◌, ◌^◌, ◌<◌, ◌≤◌, Bool, true, false, length, take, Some, slice_get, slice_index_or};
 ghost use Rattle.std.specs.List.{flat_map, position_or_len, list_any};
 ghost use Rattle.pages.specs.Rising.{Rises, reaches};
 

@@ -1,8 +1,7 @@
-ghost use Rattle.std.specs.Prelude.{◌≡◌, ℕ, ◌+◌, ◌-◌, ◌^◌, ◌<◌, ◌≤◌, List, [], ◌∷◌, ◌++◌, length, map, drop, take, insert, remove, option_map, IfOk, Some, slice_set, slice_get, slice_index_or, vec_len, unwrap_or, Option};
-ghost use Rattle.std.specs.List.{flat_map, position_or_len};
+ghost use Rattle.std.specs.Prelude.{◌≡◌, ◌+◌, ◌-◌, ◌^◌, ◌<◌, ◌≤◌, List, [], ◌∷◌, ◌++◌, length, insert, IfOk, Some, slice_set, vec_len, unwrap_or, Option};
+ghost use Rattle.std.specs.List.{flat_map};
 ghost use Rattle.std.specs.Arc.{arc_value};
 ghost use Rattle.pages.specs.Parts.{change_items};
-ghost use Rattle.pages.specs.Rising.{Rises, reaches};
 
 use crate::keyed_part::KeyedPart;
 use crate::part::{Change, Made, OpenPart, Part};

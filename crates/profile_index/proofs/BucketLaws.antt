@@ -1,5 +1,5 @@
 -- Buckets: entries changed at one place, and the search among their keys.
-use Rattle.std.proofs.Common.{◌≡◌, ℕ, zero, suc, ◌+◌, ◌-◌, ◌<◌, ◌≤◌, Bool, true, false, not, cond, ◌||◌, ltb, eqb, List, [], ◌∷◌, ◌++◌, length, map, take, drop, set, Option, Some, None, Ok, refl, ap, sym, ◌∙◌, subst, arith, length-append, length-drop}
+use Rattle.std.proofs.Common.{◌≡◌, ℕ, zero, suc, ◌+◌, ◌-◌, ◌<◌, ◌≤◌, Bool, true, false, not, cond, ltb, eqb, List, [], ◌∷◌, ◌++◌, length, map, take, drop, set, Option, Some, None, Ok, refl, ap, sym, ◌∙◌, subst, arith, length-append, length-drop}
 use Rattle.std.specs.Prelude.{if◌then◌else◌}
 use Rattle.std.specs.List.{insert, remove, slice_get, list_any, position_or_len}
 use Rattle.std.proofs.lemmas.Bool.{or_parts, ltb-false}
@@ -11,7 +11,7 @@ use Rattle.generic_names.specs.declared.kind.NameKind.TheVariants.{DataSet, Gene
 use Rattle.generic_names.specs.declared.fault.NameFault.{NameFault}
 use Rattle.generic_names.specs.declared.fault.NameFault.TheVariants.{Empty, TooLong}
 use Rattle.generic_names.specs.Spelled.{Spelled}
-use Rattle.generic_names.specs.Faults.{unless, longest, fault_of}
+use Rattle.generic_names.specs.Faults.{unless, longest}
 use Rattle.generic_names.specs.Laws.{IsPattern}
 use Rattle.pages.specs.Rising.{Rises}
 use Rattle.pages.proofs.RisingLaws.{rises_front, none_up_to}

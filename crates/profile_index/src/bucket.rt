@@ -1,11 +1,10 @@
 //! The leaves of a shared index.
-ghost use Rattle.std.specs.Prelude.{◌≡◌, ℕ, ◌+◌, ◌-◌, ◌*◌, ◌^◌, ◌<◌, ◌≤◌, [], ◌∷◌, ◌++◌, length, map, take, drop, true, false, IfOk, Some, slice_set, slice_get, option_map};
-ghost use Rattle.std.specs.List.{flat_map, insert, remove, list_any, position_or_len};
+ghost use Rattle.std.specs.Prelude.{◌≡◌, ◌+◌, ◌-◌, ◌*◌, ◌^◌, ◌<◌, ◌≤◌, [], ◌∷◌, ◌++◌, length, IfOk, slice_set};
+ghost use Rattle.std.specs.List.{insert};
 ghost use Rattle.std.specs.Arc.{arc_value};
 ghost use Rattle.std.specs.Ordering.{nat_cmp, is_lt};
 ghost use Rattle.std.specs.Cmp.Lexicographic.{slice_cmp};
 ghost use Rattle.pages.specs.Parts.{change_items};
-ghost use Rattle.pages.specs.Rising.{Rises, reaches};
 ghost use Rattle.profile_index.specs.Buckets.{key_of, most_placed};
 
 use crate::bucket_rows::{BucketRows, names_length};

@@ -1,6 +1,6 @@
 //! The entries of a bucket.
-ghost use Rattle.std.specs.Prelude.{◌≡◌, ℕ, ◌+◌, ◌*◌, ◌<◌, ◌≤◌, [], ◌∷◌, ◌++◌, length, map, take, drop, get_or, slice_get, Some, IfOk, OnOk};
-ghost use Rattle.std.specs.List.{insert, remove};
+ghost use Rattle.std.specs.Prelude.{◌≡◌, ◌+◌, ◌*◌, ◌<◌, ◌≤◌, [], ◌∷◌, ◌++◌, length, map, take, drop, slice_get, Some, IfOk, OnOk};
+ghost use Rattle.std.specs.List.{remove};
 ghost use Rattle.std.specs.Arc.{arc_value};
 ghost use Rattle.profile_index.specs.declared.entry.Entry.{Entry};
 ghost use Rattle.profile_index.specs.Buckets.{key_of, names_length};

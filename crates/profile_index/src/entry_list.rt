@@ -1,4 +1,4 @@
-ghost use Rattle.std.specs.Prelude.{◌≡◌, ℕ, ◌<◌, ◌≤◌, true, false, List, length, get_or};
+ghost use Rattle.std.specs.Prelude.{◌≡◌, ◌<◌, ◌≤◌, true, false, List, length, get_or};
 ghost use Rattle.std.specs.List.{AllWithin};
 ghost use Rattle.generic_names.specs.Best.{IsInOrder, AreNamed};
 ghost use Rattle.generic_names.specs.OrderKey.{is_lower};

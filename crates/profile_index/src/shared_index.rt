@@ -1,8 +1,7 @@
-ghost use Rattle.std.specs.Prelude.{◌≡◌, ◌<◌, ◌≤◌, [], length, find, IfOk, IfErr, Some, slice_get};
+ghost use Rattle.std.specs.Prelude.{◌≡◌, ◌<◌, ◌≤◌, [], length, find, IfOk, Some, slice_get};
 ghost use Rattle.generic_names.specs.Best.{best, IsInOrder, AreNamed};
 ghost use Rattle.profile_index.specs.Buckets.{most_placed};
 ghost use Rattle.profile_index.specs.Indexed.{name_of, AreOf};
-ghost use Rattle.profile_index.specs.Places.{IsThere, IsMissing};
 
 use crate::entry::Entry;
 use crate::entry_list::SharedEntries;

@@ -1,5 +1,5 @@
 //! The desk: where it stands, and what was made last.
-ghost use Rattle.std.specs.Prelude.{◌≡◌, Some, None, Ok, IfOk, IfErr, OnOk, OnErr};
+ghost use Rattle.std.specs.Prelude.{◌≡◌, Some, None, Ok, IfOk, IfErr, OnErr};
 ghost use Rattle.std.specs.Arc.{arc_value};
 
 use crate::answers::{Ready, Reply};

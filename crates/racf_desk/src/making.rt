@@ -1,5 +1,5 @@
 //! Making what is installed of a command that is accepted: all memory is taken here.
-ghost use Rattle.std.specs.Prelude.{◌≡◌, Some, None, IfOk, OnErr};
+ghost use Rattle.std.specs.Prelude.{◌≡◌, Some, None, IfOk};
 ghost use Rattle.std.specs.Arc.{arc_value};
 ghost use Rattle.racf_profiles.specs.Edits.{changed};
 ghost use Rattle.command_parser.specs.Canonical.{canonical};

@@ -1,6 +1,6 @@
 //! The real shelf: files, standard input and standard output. It tells no content.
 
-ghost use Rattle.std.specs.Prelude.{◌≡◌, ◌≤◌, length, Bool, false, None, IfOk};
+ghost use Rattle.std.specs.Prelude.{◌≡◌, ◌≤◌, length, false, None, IfOk};
 ghost use Rattle.racf_outside.specs.Slots.{is_lent};
 
 use crate::faults::Faults;

@@ -1,6 +1,6 @@
 //! Sources and sinks in memory, whose calls may be told to fail, and those that never fail.
 
-ghost use Rattle.std.specs.Prelude.{ℕ, ◌≡◌, ◌<◌, ◌≤◌, List, [], ◌++◌, Option, None, Some, false, length, take, drop, min, is_err, IfOk, OnErr};
+ghost use Rattle.std.specs.Prelude.{ℕ, ◌≡◌, ◌<◌, ◌≤◌, List, [], ◌++◌, None, Some, false, length, take, drop, min, is_err, IfOk, OnErr};
 ghost use Rattle.std.specs.Io.KnownBytes.{prepend_known, append_known, IsAtEnd};
 ghost use Rattle.racf_outside.specs.Calls.{CountsCall, FailsAsTold, no_calls, is_to_fail};
 ghost use Rattle.racf_outside.specs.Causes.{HasCause};

@@ -1,6 +1,6 @@
 //! A shelf in memory.
 
-ghost use Rattle.std.specs.Prelude.{ℕ, ◌≡◌, ◌≢◌, true, None, Some, find, is_none, List, ◌∷◌, IfSome, IfOk, OnOk, OnErr};
+ghost use Rattle.std.specs.Prelude.{ℕ, ◌≡◌, true, None, Some, find, is_none, List, ◌∷◌, IfSome, IfOk, OnOk, OnErr};
 ghost use Rattle.std.specs.Option.{option_copied};
 ghost use Rattle.racf_outside.specs.Calls.{no_calls};
 ghost use Rattle.racf_outside.specs.MemoryShelf.{OpensInput, OpensOutput, GivesBack, TakesBack};

@@ -1,6 +1,6 @@
 //! The search for the end of a line.
 
-ghost use Rattle.std.specs.Prelude.{◌≡◌, ◌+◌, ◌^◌, ◌<◌, ◌≤◌, Bool, true, false, [], length, IfOk, IfErr, IfNone, IfSome, IsTrue, Ok, nat_lt, ◌==◌, if◌then◌else◌};
+ghost use Rattle.std.specs.Prelude.{◌≡◌, ◌+◌, ◌^◌, ◌<◌, ◌≤◌, true, false, IfOk, IfErr, IfNone, IfSome, IsTrue, Ok, nat_lt, ◌==◌, if◌then◌else◌};
 ghost use Rattle.racf_outside.specs.Lines.{NoFeed};
 ghost use Rattle.racf_outside.specs.Reader.{at_start, has_feed};
 ghost use Rattle.racf_outside.specs.Scan.{IsFirstFeed};

@@ -1,6 +1,6 @@
 //! The shelf: named inputs and outputs.
 
-ghost use Rattle.std.specs.Prelude.{ℕ, ◌≡◌, ◌≤◌, Bool, true, List, [], Option, Result, IfOk, OnOk, OnErr};
+ghost use Rattle.std.specs.Prelude.{ℕ, ◌≡◌, Bool, true, List, [], Option, Result, IfOk, OnOk, OnErr};
 ghost use Rattle.racf_outside.specs.Causes.{HasCause, TakesOver};
 ghost use Rattle.racf_outside.specs.Shelf.{told, SameBytes, SameOthers, SameOpen, Opens, Closes};
 ghost use Rattle.racf_outside.specs.declared.streams.Failed.{Failed};

@@ -10,7 +10,7 @@ use Rattle.racf_profiles.specs.declared.edits.Edit.{Edit}
 use Rattle.racf_profiles.specs.declared.edits.Edit.TheVariants.{PutUser, DropUser, PutGroup, DropGroup, PutProfile, DropProfile, PutOptions, PutClass, List as ListCopy, Unlist}
 use Rattle.racf_profiles.specs.Lookup.{is_class, class_of}
 use Rattle.racf_profiles.specs.Edits.{put_row, drop_row, at_class, with_profile, without_profile, with_flags, with_listed, edited, changed}
-use Rattle.racf_profiles.specs.State.{State, ListedCopy, HaveCopies, is_copy_of, copy_of_class, is_listed, is_none_listed, is_of_copies, restart, edited_state, changed_state}
+use Rattle.racf_profiles.specs.State.{State, ListedCopy, HaveCopies, is_copy_of, copy_of_class, is_none_listed, is_of_copies, restart, edited_state, changed_state}
 use Rattle.racf_profiles.proofs.Found.{find-hit, find-miss}
 use Rattle.racf_profiles.proofs.EditLaws.{put_row-found, put_row-others, at_class-absent}
 use Rattle.racf_profiles.proofs.States.{find-passes, copies_of, copies_of-others, copies_of-listed, at_class-hit, at_class-miss, at_class-found, listed_in, listed_in-hit, listed_in-miss, edit-listed, edit-copies}

@@ -1,6 +1,6 @@
 //! Lines, joined to statements (z/OS TSO/E Command Language: continuing a command in the next line).
 
-ghost use Rattle.std.specs.Prelude.{◌≡◌, IfOk, None, Option, List, ℕ};
+ghost use Rattle.std.specs.Prelude.{◌≡◌, IfOk, None, Option};
 ghost use Rattle.std.specs.Option.{option_map};
 ghost use Rattle.racf_outside.specs.Lines.{Text};
 ghost use Rattle.racf_run.specs.Fronts.{Front};

@@ -1,6 +1,6 @@
 //! Laws of the definitions, for a reader of an output. The functions do nothing: their contracts are what is proved.
 
-ghost use Rattle.std.specs.Prelude.{◌≡◌, ℕ, false, List, ◌∷◌, ◌++◌, map, filter, None, Some, Ok, unwrap_or, if◌then◌else◌};
+ghost use Rattle.std.specs.Prelude.{◌≡◌, ℕ, List, ◌∷◌, ◌++◌, map, filter, None, Some, Ok, unwrap_or, if◌then◌else◌};
 ghost use Rattle.std.specs.Result.{result_ok};
 ghost use Rattle.std.specs.List.{AllByRecursion, concat, list_any};
 ghost use Rattle.decision.specs.Table.{decided};

@@ -1,6 +1,6 @@
 //! The replies that are gathered before they are written.
 
-ghost use Rattle.std.specs.Prelude.{◌≡◌, [], IfOk, OnOk, OnErr};
+ghost use Rattle.std.specs.Prelude.{◌≡◌, [], OnOk, OnErr};
 ghost use Rattle.std.specs.Io.KnownBytes.{append_known};
 ghost use Rattle.racf_outside.specs.Causes.{HasCause};
 ghost use Rattle.racf_run.specs.Gathering.{IsCutShort};

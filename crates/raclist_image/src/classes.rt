@@ -3,8 +3,8 @@ ghost use Rattle.std.specs.Prelude.{◌≡◌, ◌<◌, ◌≤◌, length, posit
 ghost use Rattle.std.specs.Arc.{arc_value};
 ghost use Rattle.std.specs.Option.{option_copied};
 ghost use Rattle.racf_profiles.specs.declared.class_rows.ClassRow.{ClassRow};
-ghost use Rattle.racf_profiles.specs.Lookup.{is_class, is_profile};
-ghost use Rattle.racf_profiles.specs.Edits.{put_profile, drop_row, at_class, with_profile, without_profile, with_flags, with_listed};
+ghost use Rattle.racf_profiles.specs.Lookup.{is_class};
+ghost use Rattle.racf_profiles.specs.Edits.{put_profile, at_class, with_profile, without_profile, with_flags, with_listed};
 ghost use Rattle.racf_profiles.specs.LawfulProfiles.{AreProfiles, AreClasses, kind_in};
 ghost use Rattle.profile_index.specs.Buckets.{most_placed};
 ghost use Rattle.raclist_image.specs.Flags.{flags_of_row};

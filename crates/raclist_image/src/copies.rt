@@ -2,7 +2,6 @@
 ghost use Rattle.std.specs.Prelude.{◌≡◌, ◌++◌, ◌∷◌, [], map, option_map, position, IfOk, IfSome, OnOk, if◌then◌else◌};
 ghost use Rattle.std.specs.List.{find, filter};
 ghost use Rattle.std.specs.Arc.{arc_value};
-ghost use Rattle.std.specs.Option.{option_copied};
 ghost use Rattle.racf_profiles.specs.declared.class_rows.ClassRow.{ClassRow};
 ghost use Rattle.racf_profiles.specs.Edits.{put_row, drop_row};
 ghost use Rattle.racf_profiles.specs.State.{ListedCopy, is_copy_of, copy_of_class};

@@ -1,5 +1,5 @@
 -- What a single word of a line says. Letters are folded to upper case.
-use Rattle.std.specs.Prelude.{ℕ, ◌+◌, ◌-◌, ◌*◌, ◌^◌, ◌==◌, nat_le, Bool, false, not, ◌&&◌, if◌then◌else◌, List, [], ◌∷◌, length, take, map, find, Option, Some, None, Result, option_map, option_and_then, codes, bytes_eq}
+use Rattle.std.specs.Prelude.{ℕ, ◌+◌, ◌-◌, ◌*◌, ◌^◌, ◌==◌, nat_le, Bool, false, not, ◌&&◌, if◌then◌else◌, List, [], ◌∷◌, length, take, map, Option, Some, None, Result, option_map, option_and_then, codes, bytes_eq}
 use Rattle.std.specs.List.{list_all, before_first, after_first}
 use Rattle.std.specs.Io.BufRead.{ends_with_byte}
 use Rattle.access_levels.specs.Spelling.{port_class_of}

@@ -1,6 +1,6 @@
 //! The words that are printed for lines.
 
-ghost use Rattle.std.specs.Prelude.{◌≡◌, ◌++◌, OnOk, OnErr, codes, decimal};
+ghost use Rattle.std.specs.Prelude.{◌≡◌, ◌++◌, OnOk, OnErr, decimal};
 ghost use Rattle.request_files.specs.Answers.{name_fault_words, refusal_words, verify_fault_words, profile_words, found_words, port_words, rule_words, decision_words, answer_line, never_line, numbered, refused_words, unbuilt_word};
 
 use crate::line::LineRefusal;

@@ -1,6 +1,6 @@
 //! The operands of VERIFY: keys with values in parentheses.
 
-ghost use Rattle.std.specs.Prelude.{◌≡◌, position, bytes_eq, option_map, option_and_then};
+ghost use Rattle.std.specs.Prelude.{◌≡◌, position};
 ghost use Rattle.std.specs.List.{before_first, after_first};
 ghost use Rattle.std.specs.Option.{option_copied};
 ghost use Rattle.request_files.specs.Spellings.{folded, operand_word, keyed, opens, closed, port_at};

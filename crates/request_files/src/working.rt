@@ -4,10 +4,10 @@ ghost use Rattle.std.specs.Prelude.{◌≡◌, ◌++◌, [], true, false, not, n
 ghost use Rattle.raclist_image.specs.Imaged.{Imaged};
 ghost use Rattle.decision.specs.Verify.{verified};
 ghost use Rattle.request_files.specs.Acees.{acee_named, put_refusal, with_acee};
-ghost use Rattle.request_files.specs.Answers.{numbered, refused_words, unbuilt_words, verified_words, deleted_words, answer_line, never_line};
+ghost use Rattle.request_files.specs.Answers.{numbered, refused_words, unbuilt_words, verified_words, never_line};
 ghost use Rattle.request_files.specs.Grammar.{line_of, access_of};
 ghost use Rattle.request_files.specs.Seen.{line_read};
-ghost use Rattle.request_files.specs.Worked.{Shows, Untouched, worked, line_worked, told, verify_worked, verify_unless, verify_told, auth_for, delete_for, after_worked};
+ghost use Rattle.request_files.specs.Worked.{Shows, Untouched, worked, line_worked, told, verify_worked, verify_told, auth_for, delete_for};
 
 use crate::acees::AceeTable;
 use crate::answers::{

@@ -11,7 +11,7 @@ use Rattle.group_tree.specs.declared.faults.TreeFault.{TreeFault}
 use Rattle.group_tree.specs.declared.faults.TreeFault.TheVariants.{NoGroup, Exists, Cycle, HasSubgroup, Full, NoMemory}
 use Rattle.group_tree.specs.Groups.{GroupTree, at_group}
 use Rattle.group_tree.specs.Answers.{CanAdd, AddRefused, CanMove, MoveRefused, OwnerRefused, CanRemove, RemoveRefused}
-use Rattle.group_tree.proofs.Rows.{same, itself, turned}
+use Rattle.group_tree.proofs.Rows.{same, itself}
 use Rattle.group_tree.proofs.Edits.{one_there}
 use Rattle.group_tree.proofs.Stored.{at_group-absent}
 use Rattle.row_tables.specs.ChangedRow.{at_row}

@@ -1,5 +1,5 @@
 //! The users, and what they hold together.
-ghost use Rattle.std.specs.Prelude.{◌≡◌, ℕ, ◌+◌, ◌<◌, ◌≤◌, [], length, find, slice_get, Some, IfOk, OnOk};
+ghost use Rattle.std.specs.Prelude.{◌≡◌, ◌+◌, ◌<◌, ◌≤◌, [], length, find, slice_get, Some, IfOk, OnOk};
 ghost use Rattle.std.specs.Option.{option_copied, option_map_or};
 ghost use Rattle.racf_profiles.specs.Lookup.{is_user};
 ghost use Rattle.racf_profiles.specs.Edits.{put_row, drop_row};

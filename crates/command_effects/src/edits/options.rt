@@ -1,5 +1,5 @@
 //! The edits of SETROPTS: the options, the flags of classes, and the listed copies of classes.
-ghost use Rattle.std.specs.Prelude.{◌≡◌, ◌++◌, ◌∷◌, [], ◌&&◌, ◌||◌, not, map, if◌then◌else◌, IfOk};
+ghost use Rattle.std.specs.Prelude.{◌≡◌, ◌++◌, ◌∷◌, [], ◌&&◌, ◌||◌, map, if◌then◌else◌, IfOk};
 ghost use Rattle.std.specs.List.{filter, list_any};
 ghost use Rattle.racf_profiles.specs.declared.class_rows.ClassRow.{ClassRow};
 ghost use Rattle.racf_profiles.specs.declared.edits.Edit.TheVariants.{PutOptions, List as ListCopy, Unlist};

@@ -1,5 +1,5 @@
 //! The edits of the commands on profiles.
-ghost use Rattle.std.specs.Prelude.{◌≡◌, ◌++◌, IfOk, OnOk};
+ghost use Rattle.std.specs.Prelude.{◌≡◌, ◌++◌, IfOk};
 ghost use Rattle.racf_profiles.specs.Lookup.{profile_of};
 ghost use Rattle.command_effects.specs.Members.{options_after};
 ghost use Rattle.command_effects.specs.ProfileEffects.{dataset, altered_data_set, altered_resource};

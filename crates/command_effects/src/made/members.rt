@@ -1,5 +1,5 @@
 //! Members of profiles, and the categories that they define.
-ghost use Rattle.std.specs.Prelude.{◌≡◌, ◌+◌, ◌||◌, ◌&&◌, not, fold, count_by, length, position, IfOk, OnOk, bytes_eq, if◌then◌else◌};
+ghost use Rattle.std.specs.Prelude.{◌≡◌, ◌+◌, ◌||◌, ◌&&◌, not, count_by, length, position, IfOk, OnOk, bytes_eq, if◌then◌else◌};
 ghost use Rattle.std.specs.List.{list_any};
 ghost use Rattle.command_effects.specs.Members.{member_name, is_member_named, is_named_in, with_member, without_members, members_after, with_category_name, categories_defined, category_repeats};
 ghost use Rattle.command_effects.specs.Security.{is_category_member};

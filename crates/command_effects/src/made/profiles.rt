@@ -1,5 +1,5 @@
 //! Profiles as a command makes them.
-ghost use Rattle.std.specs.Prelude.{◌≡◌, [], unwrap_or, IfOk};
+ghost use Rattle.std.specs.Prelude.{◌≡◌, [], IfOk};
 ghost use Rattle.command_effects.specs.ProfileEffects.{dataset, new_data_set, altered_data_set, new_resource, altered_resource};
 ghost use Rattle.command_effects.specs.Operands.{first_profile};
 ghost use Rattle.command_effects.specs.Members.{members_after};

@@ -1,6 +1,6 @@
 //! Security levels, categories and labels, by the live profiles that define them.
-ghost use Rattle.std.specs.Prelude.{◌≡◌, ◌<◌, ◌||◌, [], length, IfSome, List, ℕ, fold, position, unwrap_or, option_and_then, is_some, codes, bytes_eq};
-ghost use Rattle.std.specs.Option.{option_copied, option_map_or, option_or};
+ghost use Rattle.std.specs.Prelude.{◌≡◌, ◌<◌, ◌||◌, [], length, IfSome, fold, position, unwrap_or, option_and_then, is_some, codes, bytes_eq};
+ghost use Rattle.std.specs.Option.{option_map_or};
 ghost use Rattle.racf_profiles.specs.Lookup.{profile_of};
 ghost use Rattle.command_effects.specs.Security.{general_name, secdata_members, security_level_of, first_security_level, level_number, is_category_member, is_category, category_number, is_label, with_category, without_category};
 ghost use Rattle.command_effects.specs.ProfileEffects.{level_given, label_given};

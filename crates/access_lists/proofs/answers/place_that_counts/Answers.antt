@@ -1,4 +1,4 @@
-use Rattle.std.proofs.Common.{◌≡◌, Some, sym, ◌∙◌, ap}
+use Rattle.std.proofs.Common.{Some, sym, ◌∙◌, ap}
 use Rattle.access_lists.specs.Answers.{answered_when}
 use Rattle.access_lists.proofs.PlaceLaws.{user_place, group_place, star_place}
 use Rattle.access_lists.proofs.answers.place_that_counts.Goals as goal

@@ -1,8 +1,6 @@
 -- One profile more than before, at most.
-use Rattle.std.proofs.Common.{◌∙◌, ◌<◌, ◌≤◌, ap, arith, length}
+use Rattle.std.proofs.Common.{◌∙◌, ap, arith, length}
 use Rattle.generic_names.specs.Spelled.{Spelled}
-use Rattle.racf_profiles.specs.Edits.{put_profile}
-use Rattle.racf_profiles.specs.Limits.{most_class_profiles}
 use Rattle.row_tests.proofs.class_tests.with_name.Goals as goal
 
 pub with_profile-requires-clause-few : goal.with_profile-requires-clause-few

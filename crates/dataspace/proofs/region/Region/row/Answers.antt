@@ -1,4 +1,4 @@
-use Rattle.std.proofs.Common.{◌≡◌, ◌∙◌, ◌<◌, ◌≤◌, ℕ, List, Some, length, get_or, sym, ap, subst, arith}
+use Rattle.std.proofs.Common.{◌≡◌, ◌∙◌, ◌<◌, ◌≤◌, ℕ, List, Some, length, get_or, sym, ap, arith}
 use Rattle.std.specs.Prelude.{slice_get, slice_range}
 use Rattle.dataspace.specs.Kept.{start_of}
 use Rattle.dataspace.proofs.KeptLaws.{row-seen, rows-seen}

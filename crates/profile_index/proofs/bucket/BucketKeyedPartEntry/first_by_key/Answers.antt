@@ -1,9 +1,8 @@
-use Rattle.std.proofs.Common.{◌≡◌, ◌+◌, ◌-◌, ◌/◌, ◌∙◌, Bool, true, false, not, Some, length, ap, sym, subst, arith}
+use Rattle.std.proofs.Common.{◌≡◌, ◌+◌, ◌-◌, ◌/◌, ◌∙◌, true, false, not, Some, ap, sym, subst, arith}
 use Rattle.std.specs.List.{slice_get, position_or_len}
 use Rattle.std.specs.Ordering.{nat_cmp, is_lt}
 use Rattle.std.specs.Cmp.Lexicographic.{slice_cmp}
 use Rattle.pages.specs.Rising.{Rises, reaches}
-use Rattle.profile_index.specs.declared.entry.Entry.{Entry}
 use Rattle.profile_index.specs.Buckets.{key_of}
 use Rattle.profile_index.proofs.BucketLaws.{get-mapped, mapped-some, none-through, found-at}
 use Rattle.profile_index.proofs.bucket.BucketKeyedPartEntry.first_by_key.Goals as goal

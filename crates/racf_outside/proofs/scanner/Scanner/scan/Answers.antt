@@ -1,5 +1,5 @@
 use Rattle.std.proofs.Common.{◌++◌, ◌∙◌, Ok, ap}
-use Rattle.racf_outside.proofs.ScanLaws.{IsScanned-more, Finds-feed, Finds-last, scanned_held}
+use Rattle.racf_outside.proofs.ScanLaws.{IsScanned-more, Finds-feed, Finds-last}
 use Rattle.racf_outside.proofs.scanner.Scanner.scan.Goals as goal
 
 -- the line goes on with the piece

@@ -1,5 +1,5 @@
 -- A profile that stands among lawful profiles has their kind, and they aren't too many.
-use Rattle.std.proofs.Common.{◌≡◌, ◌≤◌, ◌∙◌, length, ap, sym, subst}
+use Rattle.std.proofs.Common.{◌≤◌, ◌∙◌, length, ap, sym, subst}
 use Rattle.racf_profiles.specs.declared.profiles.Profile.{Profile}
 use Rattle.racf_profiles.specs.Edits.{put_profile}
 use Rattle.racf_profiles.specs.Limits.{most_class_profiles}

@@ -1,4 +1,3 @@
-use Rattle.std.proofs.Common.{◌∙◌, ap}
 use Rattle.raclist_image.proofs.Places.{copies-more}
 use Rattle.raclist_image.proofs.copies.CopyList.of.Goals as goal
 

@@ -17,12 +17,12 @@ use Rattle.racf_profiles.specs.declared.class_rows.ClassRow.{ClassRow}
 use Rattle.racf_profiles.specs.declared.rows.Rows.{Rows}
 use Rattle.racf_profiles.specs.NewDatabase.{ibmuser, sys1, new_database, no_options}
 use Rattle.racf_profiles.specs.Lookup.{is_class}
-use Rattle.racf_profiles.specs.State.{restart}
+use Rattle.racf_profiles.specs.State.{State, restart}
 use Rattle.acee.specs.declared.acee.Acee.{Acee}
 use Rattle.decision.specs.declared.outcome.Rule.{Rule}
 use Rattle.decision.specs.declared.outcome.Rule.TheVariants as rule
 use Rattle.decision.specs.declared.outcome.Decision.{Decision}
-use Rattle.decision.specs.Table.{decided}
+use Rattle.decision.specs.Table.{decided, fast_decided}
 
 -- JOE, in the groups G1 and G2. Group-OPERATIONS holds in G2, which owns G3.
 abbrev plain : Attributes
@@ -241,3 +241,44 @@ warning : decided (restart (with_profiles (codes "DATASET") (record (profile a (
     ≡ record { rc = 0; rule = rule.Warning; profile = Some a; found = NoAccess; warned = true; generation = 7 }
 unfolding decided
 warning = refl
+
+-- A RACLISTed class is decided by its copy, by AUTH and by FASTAUTH: the live profile gives X to nobody, the copy to all.
+abbrev listed : State
+listed = record {
+  rows = record (with_profiles (codes "FACILITY") [] protectall) {
+    classes = map (λ (row : ClassRow). if is_class (codes "FACILITY") row then record row { active = true; listed = true; profiles = profile x [] NoAccess ∷ [] } else row) new_database.classes;
+  };
+  copies = record { class = codes "FACILITY"; profiles = profile x [] Read ∷ [] } ∷ [];
+}
+
+abbrev by_the_copy : Decision
+by_the_copy = record { rc = 0; rule = rule.Uacc; profile = Some x; found = Read; warned = false; generation = 7 }
+
+copied : decided listed 7 joe (codes "FACILITY") x Read ≡ by_the_copy
+unfolding decided
+copied = refl
+
+copied-fast : fast_decided listed 7 joe (codes "FACILITY") x Read ≡ by_the_copy
+unfolding fast_decided
+copied-fast = refl
+
+-- FASTAUTH: what isn't a class, what isn't active, what isn't RACLISTed though a profile covers the name, and a name that
+-- no profile of the copy covers, whatever PROTECTALL says.
+abbrev fast : State → List ℕ → Spelled → Rule × ℕ × Level
+fast state class name = told (fast_decided state 7 joe class name Read)
+
+fast_no_class : fast listed (codes "NOSUCH") x ≡ (rule.NoClass, 4, NoAccess)
+unfolding fast_decided
+fast_no_class = refl
+
+fast_class_off : fast listed (codes "OPERCMDS") x ≡ (rule.ClassOff, 4, NoAccess)
+unfolding fast_decided
+fast_class_off = refl
+
+fast_not_listed : fast (restart (with_profiles (codes "DATASET") (profile a [] Alter ∷ []) no_options)) (codes "DATASET") a ≡ (rule.NotListed, 4, NoAccess)
+unfolding fast_decided
+fast_not_listed = refl
+
+fast_no_profile : fast listed (codes "FACILITY") (record { kind = General; text = codes "Y" }) ≡ (rule.NoProfile, 4, NoAccess)
+unfolding fast_decided
+fast_no_profile = refl

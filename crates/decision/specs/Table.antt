@@ -1,4 +1,5 @@
--- The decision on a request: the first case of the table that fits.
+-- The decision on a request: the first case of the table that fits. FASTAUTH has cases of its own before a profile is
+-- asked.
 use Rattle.std.specs.Prelude.{ℕ, Bool, true, false, ◌&&◌, not, List, [], ◌∷◌, find, Option, Some, None, is_some, option_map, option_and_then, unwrap_or, nat_lt, slice_get, codes, bytes_eq, if◌then◌else◌}
 use Rattle.std.specs.Option.{option_map_or}
 use Rattle.access_levels.specs.declared.levels.Level.{Level}
@@ -15,7 +16,7 @@ use Rattle.racf_profiles.specs.declared.options.Options.{Options}
 use Rattle.racf_profiles.specs.declared.rows.Rows.{Rows}
 use Rattle.racf_profiles.specs.Lookup.{class_of}
 use Rattle.racf_profiles.specs.ClassTable.{allows_operations}
-use Rattle.racf_profiles.specs.State.{State, effective}
+use Rattle.racf_profiles.specs.State.{State, effective, is_listed}
 use Rattle.group_tree.specs.ScopeTest.{is_profile_in_scope}
 use Rattle.acee.specs.declared.acee.Acee.{Acee}
 use Rattle.acee.specs.declared.groups.AceeGroup.{AceeGroup}
@@ -111,6 +112,16 @@ cases_of_class rows class =
     ∷ never
     ∷ []
 
+-- Before a profile is asked, in FASTAUTH:
+abbrev pub fast_cases_of_class : Rows → List ℕ → List (Option Answer)
+fast_cases_of_class rows class =
+    -- NOCLASS and CLASSOFF, as above
+    case (not (is_some (class_of class rows))) rule.NoClass 4 NoAccess
+    ∷ case (not (is_active class rows)) rule.ClassOff 4 NoAccess
+    -- NOTLISTED: the class isn't RACLISTed
+    ∷ case (not (is_listed class rows)) rule.NotListed 4 NoAccess
+    ∷ []
+
 -- Where there is no p:
 abbrev pub cases_without_profile : Options → List ℕ → List (Option Answer)
 cases_without_profile options class =
@@ -180,12 +191,16 @@ answer_without_profile options class = unwrap_or (first_answer (cases_without_pr
 abbrev pub answer_with_profile : Rows → Acee → List ℕ → Spelled → Level → Profile → Answer
 answer_with_profile rows acee class name asked p = unwrap_or (first_answer (cases_with_profile rows acee class name asked p)) (insufficient rows acee class name asked p)
 
--- The first case that fits decides.
+-- The first case that fits decides: one of the class; where there is no p the answer for that; else one of p's.
 module _ (state : State) (generation : ℕ) (acee : Acee) (class : List ℕ) (name : Spelled) (asked : Level) where
-  abbrev pub decided_after : Option Answer → Option Profile → Decision
-  decided_after (Some answer) p = decision_of generation None answer
-  decided_after None None = decision_of generation None (answer_without_profile state.rows.options class)
-  decided_after None (Some p) = decision_of generation (Some p.name) (answer_with_profile state.rows acee class name asked p)
+  abbrev pub decided_after : Option Answer → (without : Answer) → Option Profile → Decision
+  decided_after (Some answer) without p = decision_of generation None answer
+  decided_after None without None = decision_of generation None without
+  decided_after None without (Some p) = decision_of generation (Some p.name) (answer_with_profile state.rows acee class name asked p)
 
   unfoldable pub decided : Decision
-  decided = decided_after (first_answer (cases_of_class state.rows class)) (profile_for state class name)
+  decided = decided_after (first_answer (cases_of_class state.rows class)) (answer_without_profile state.rows.options class) (profile_for state class name)
+
+  -- FASTAUTH asks neither the global table nor PROTECTALL.
+  unfoldable pub fast_decided : Decision
+  fast_decided = decided_after (first_answer (fast_cases_of_class state.rows class)) no_profile (profile_for state class name)

@@ -1,5 +1,5 @@
-//! The decision on a request: the first case of the table that fits.
-ghost use Rattle.std.specs.Prelude.{◌≡◌, ◌&&◌, ◌↔◌, ℕ, List, IsTrue, bytes_eq, unwrap_or};
+//! The decision on a request: the first case of the table that fits, for AUTH and for FASTAUTH.
+ghost use Rattle.std.specs.Prelude.{◌≡◌, ◌&&◌, ◌↔◌, ℕ, List, None, IsTrue, bytes_eq, unwrap_or};
 ghost use Rattle.generic_names.specs.Spelled.{first_qualifier};
 ghost use Rattle.racf_profiles.specs.ClassTable.{allows_operations};
 ghost use Rattle.racf_profiles.specs.declared.profiles.Profile.{Profile};
@@ -7,7 +7,7 @@ ghost use Rattle.racf_profiles.specs.Scope.{InScopeProfile};
 ghost use Rattle.group_tree.specs.ScopeTest.{is_profile_in_scope};
 ghost use Rattle.raclist_image.specs.Facts.{AreFacts};
 ghost use Rattle.decision.specs.Steps.{is_open};
-ghost use Rattle.decision.specs.Table.{decided, cases_of_class, first_answer, case, else_case, is_dataset, answer_with_profile, answer_without_profile};
+ghost use Rattle.decision.specs.Table.{decided, fast_decided, decided_after, profile_for, cases_of_class, fast_cases_of_class, first_answer, case, else_case, is_dataset, answer_with_profile, answer_without_profile};
 
 use crate::answer::Answer;
 use crate::entries::{conditional_case, entry_case, is_open, listed, standing};
@@ -35,15 +35,41 @@ pub fn auth(image: &Image, acee: &Acee, request: &Request) -> Decision
 {
     groups_are_a_tree(image);
     scope_is_tested();
-    let generation = image.generation();
     if let Some(answer) = class_answer(image, request.class) {
-        return answer.decision(None, generation);
+        return answer.decision(None, image.generation());
     }
+    let without = without_profile(image.options(), request.class);
+    by_profile(image, acee, request, &without)
+}
+
+/// The same, answered from the listed copy of the class (z/OS Security Server RACROUTE Macro Reference, FASTAUTH). It
+/// decides in RACLISTed classes alone, and asks neither the global access table nor PROTECTALL (this product's own
+/// rules).
+///
+/// It looks for the profile once, asks each of its access lists once, and takes no memory.
+#[tactic(auto, unfolding(crate::specs::Table::fast_decided))]
+pub fn fastauth(image: &Image, acee: &Acee, request: &Request) -> Decision
+    ensures decided { result ≡ fast_decided image.now.state image.now.generation acee.now request.now.class request.now.name request.now.asked }
+    ensures scope { (top owner : List ℕ) → IsTrue (is_profile_in_scope image.now.state.rows top owner) ↔ InScopeProfile image.now.state.rows top owner }
+{
+    groups_are_a_tree(image);
+    scope_is_tested();
+    if let Some(answer) = listed_class_answer(image, request.class) {
+        return answer.decision(None, image.generation());
+    }
+    by_profile(image, acee, request, &undecided(Rule::NoProfile))
+}
+
+/// The decision of the profile that covers the name, or that of the answer where none does.
+fn by_profile(image: &Image, acee: &Acee, request: &Request, without: &Answer) -> Decision
+    ensures { result ≡ decided_after image.now.state image.now.generation acee.now request.now.class request.now.name request.now.asked None without.now (profile_for image.now.state request.now.class request.now.name) }
+{
+    let generation = image.generation();
     let Some(profiles) = image.effective(request.class) else {
-        return without_profile(image.options(), request.class).decision(None, generation);
+        return without.decision(None, generation);
     };
     match profiles.find(&request.name) {
-        None => without_profile(image.options(), request.class).decision(None, generation),
+        None => without.decision(None, generation),
         Some(place) => {
             let facts = profiles.facts(place);
             let answer = with_profile(image, acee, request, &facts);
@@ -59,6 +85,18 @@ fn class_answer(image: &Image, class: Id) -> Option<Answer>
     match image.class(class) {
         None => Some(undecided(Rule::NoClass)),
         Some(flags) if !flags.active => Some(undecided(Rule::ClassOff)),
+        Some(_) => None,
+    }
+}
+
+/// The answer that comes before a profile is asked, in FASTAUTH.
+fn listed_class_answer(image: &Image, class: Id) -> Option<Answer>
+    ensures { result ≡ first_answer (fast_cases_of_class image.now.state.rows class) }
+{
+    match image.class(class) {
+        None => Some(undecided(Rule::NoClass)),
+        Some(flags) if !flags.active => Some(undecided(Rule::ClassOff)),
+        Some(flags) if !flags.listed => Some(undecided(Rule::NotListed)),
         Some(_) => None,
     }
 }

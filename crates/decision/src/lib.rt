@@ -1,8 +1,9 @@
 //! Decisions: whether a user may access a resource, and whether a user is verified.
 //!
 //! [`auth`] answers a [`Request`] with a [`Decision`]: the return code, and the rule by which it came. It is a table of
-//! cases, of which the first that fits decides. [`verify`] makes all checks of VERIFY and answers the user's ACEE. Both
-//! read an image of `raclist_image`; ACEEs are those of `acee`, and `request_files` prints the answers.
+//! cases, of which the first that fits decides. [`fastauth`] answers it in RACLISTed classes alone, by the same table but
+//! for the cases that come before a profile is asked. [`verify`] makes all checks of VERIFY and answers the user's ACEE.
+//! All read an image of `raclist_image`; ACEEs are those of `acee`, and `request_files` prints the answers.
 //!
 //! ```
 //! let acee = verify(alloc, &image, &who)?;
@@ -19,7 +20,7 @@ mod operations;
 mod outcome;
 mod request;
 
-pub use decide::auth;
+pub use decide::{auth, fastauth};
 pub use entry::verify;
 pub use outcome::{Decision, Rule};
 pub use request::Request;

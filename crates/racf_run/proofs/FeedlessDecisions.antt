@@ -49,12 +49,15 @@ use Rattle.decision.specs.Table.{
   case,
   first_answer,
   cases_of_class,
+  fast_cases_of_class,
   cases_without_profile,
   cases_with_profile,
   no_profile,
   insufficient,
+  answer_without_profile,
   decided_after,
   decided,
+  fast_decided,
 }
 use Rattle.decision.specs.Verify.{admitted, verified}
 use Rattle.request_files.specs.Answers.{profile_words, found_words, port_words, rule_words, decision_words}
@@ -208,6 +211,9 @@ chosen (Some answer) other h k = h answer refl
 of_class : (rows : Rows) (class : List ℕ) → AllByRecursion IsFeedlessCase (cases_of_class rows class)
 of_class rows class = (fits _ rule.NoClass 4 NoAccess tt, (fits _ rule.ClassOff 4 NoAccess tt, (never-case, tt)))
 
+of_listed_class : (rows : Rows) (class : List ℕ) → AllByRecursion IsFeedlessCase (fast_cases_of_class rows class)
+of_listed_class rows class = (fits _ rule.NoClass 4 NoAccess tt, (fits _ rule.ClassOff 4 NoAccess tt, (fits _ rule.NotListed 4 NoAccess tt, tt)))
+
 without_profile : (options : Options) (class : List ℕ) → AllByRecursion IsFeedlessCase (cases_without_profile options class)
 without_profile options class = (fits _ rule.ProtectAll 8 NoAccess tt, tt)
 
@@ -242,13 +248,10 @@ module _ (state : State) (acee : Acee) (groups : IsFeedlessAcee acee) (class : L
     ),
   )
 
-  after-cases : (generation : ℕ) (first : Option Answer) (p : Option Profile) → IsFeedlessCase first → IfSome p IsFeedlessProfile → IsFeedlessDecision (decided_after state generation acee class name asked first p)
-  after-cases generation (Some answer) p h k = record { rule = h answer refl; profile = tt }
-  after-cases generation None None h k = record {
-    rule = chosen (first_answer (cases_without_profile state.rows.options class)) no_profile (first-case (cases_without_profile state.rows.options class) (without_profile state.rows.options class)) tt;
-    profile = tt;
-  }
-  after-cases generation None (Some p) h k = record {
+  after-cases : (generation : ℕ) (first : Option Answer) (without : Answer) (p : Option Profile) → IsFeedlessCase first → IsFeedlessRule without.rule → IfSome p IsFeedlessProfile → IsFeedlessDecision (decided_after state generation acee class name asked first without p)
+  after-cases generation (Some answer) without p h other k = record { rule = h answer refl; profile = tt }
+  after-cases generation None without None h other k = record { rule = other; profile = tt }
+  after-cases generation None without (Some p) h other k = record {
     rule = chosen (first_answer (cases_with_profile state.rows acee class name asked p)) (insufficient state.rows acee class name asked p) (first-case (cases_with_profile state.rows acee class name asked p) (with_profile p k)) tt;
     profile = k.name;
   }
@@ -256,7 +259,13 @@ module _ (state : State) (acee : Acee) (groups : IsFeedlessAcee acee) (class : L
   pub decided-words : (generation : ℕ) → IsFeedlessState state → IsFeedless (decision_words (decided state generation acee class name asked))
   unfolding decided
   decided-words generation are =
-      decision-words _ (after-cases generation (first_answer (cases_of_class state.rows class)) (profile_for state class name) (first-case (cases_of_class state.rows class) (of_class state.rows class)) (profile_for-feedless state class name are))
+      let cases = cases_without_profile state.rows.options class in
+      decision-words _ (after-cases generation (first_answer (cases_of_class state.rows class)) (answer_without_profile state.rows.options class) (profile_for state class name) (first-case (cases_of_class state.rows class) (of_class state.rows class)) (chosen (first_answer cases) no_profile (first-case cases (without_profile state.rows.options class)) tt) (profile_for-feedless state class name are))
+
+  pub fast_decided-words : (generation : ℕ) → IsFeedlessState state → IsFeedless (decision_words (fast_decided state generation acee class name asked))
+  unfolding fast_decided
+  fast_decided-words generation are =
+      decision-words _ (after-cases generation (first_answer (fast_cases_of_class state.rows class)) no_profile (profile_for state class name) (first-case (fast_cases_of_class state.rows class) (of_listed_class state.rows class)) tt (profile_for-feedless state class name are))
 
 -- ---- VERIFY
 unless-acee : (fault : Option VerifyFault) (acee : Acee) → IsFeedlessAcee acee → IfOk (acee_unless fault acee) IsFeedlessAcee

@@ -12,7 +12,7 @@ use Rattle.racf_profiles.proofs.EditLaws.{all-drop_row}
 use Rattle.acee.specs.declared.acee.Acee.{Acee}
 use Rattle.acee.specs.declared.request.VerifyRequest.{VerifyRequest}
 use Rattle.acee.specs.declared.request.VerifyFault.{VerifyFault}
-use Rattle.decision.specs.Table.{decided}
+use Rattle.decision.specs.declared.outcome.Decision.{Decision}
 use Rattle.decision.specs.Verify.{verified}
 use Rattle.command_values.specs.declared.faults.Syntax.{Syntax}
 use Rattle.command_values.specs.declared.faults.Syntax.TheVariants as syntax
@@ -54,7 +54,6 @@ use Rattle.racf_desk.specs.Words.{syntax_words, each_need}
 use Rattle.racf_desk.specs.Words.{refusal_words as command_refusal_words}
 use Rattle.racf_run.specs.Replies.{refusal_words, reply_line}
 use Rattle.racf_run.specs.IssuerLines.{issuer_refusal}
-use Rattle.racf_run.specs.Requests.{is_unbuilt_line}
 use Rattle.racf_run.specs.Stream as s
 use Rattle.racf_run.specs.Stream.{State, Answer, number_of}
 use Rattle.racf_run.specs.Printed.{Turn, turns, input_turns, printed, behind, PrintsOneLine}
@@ -64,7 +63,7 @@ use Rattle.racf_run.proofs.FeedlessCopies.{copies-feedless}
 use Rattle.racf_run.proofs.FeedlessRows.{IsFeedlessUser, AreFeedless, IsFeedlessState, first-feedless, step-feedless}
 use Rattle.racf_run.proofs.FeedlessConflicts.{IsFeedlessTest, conflict-feedless, early-feedless}
 use Rattle.racf_run.proofs.FeedlessNeeds.{need-feedless}
-use Rattle.racf_run.proofs.FeedlessDecisions.{IsFeedlessAcee, decided-words, verified-acee}
+use Rattle.racf_run.proofs.FeedlessDecisions.{IsFeedlessAcee, decided-words, fast_decided-words, verified-acee}
 use Rattle.racf_run.proofs.FeedlessLines.{IsFeedlessLine, IsFeedlessRefusal, IsFeedlessRead, IsFeedlessNamed, read-feedless, issuer-feedless, refusal-words, verify-words}
 
 -- ---- a line
@@ -125,11 +124,10 @@ module _ (position : Imaged) (acees : List NamedAcee) (are : IsFeedlessState pos
   named-acee name =
       if-map IsFeedlessAcee (λ (entry : NamedAcee). entry.acee) (find (is_named name) acees) (if-found (λ (entry : NamedAcee). IsFeedlessAcee entry.acee) (is_named name) acees groups)
 
-  works-auth : (name : List ℕ) (access : Access) (acee : Option Acee) → IsFeedless name → IfSome acee IsFeedlessAcee → Works position.generation (request.auth_for position acees name access acee)
+  works-decided : (name : List ℕ) (decision_for : Acee → Decision) (acee : Option Acee) → ((user : Acee) → IsFeedlessAcee user → IsFeedless (decision_words (decision_for user))) → IsFeedless name → IfSome acee IsFeedlessAcee → Works position.generation (request.decided_for position acees name decision_for acee)
   unfolding answer_line
-  works-auth name access None h k = works-refused (NoAcee name) h
-  works-auth name access (Some acee) h k =
-      stays _ false (line position.generation (decision_words (decided position.state position.generation acee access.class access.name access.asked)) (decided-words position.state acee k access.class access.name access.asked position.generation are))
+  works-decided name decision_for None words h k = works-refused (NoAcee name) h
+  works-decided name decision_for (Some acee) words h k = stays _ false (line position.generation (decision_words (decision_for acee)) (words acee k))
 
   works-delete : (name : List ℕ) (acee : Option Acee) → IsFeedless name → Works position.generation (request.delete_for position acees name acee)
   works-delete name None h = works-refused (NoAcee name) h
@@ -141,8 +139,10 @@ module _ (position : Imaged) (acees : List NamedAcee) (are : IsFeedlessState pos
   works-line : (read : Line) → IsFeedlessLine read → Works position.generation (request.line_worked position acees read)
   works-line (Verify name asked) h =
       either (Works position.generation) (is_some asked.label) _ _ works-unbuilt (verify-unless name asked (put_refusal name acees) (put-feedless name acees h))
-  works-line (Auth name access) h = works-auth name access (acee_named name acees) h (named-acee name)
-  works-line (Fastauth name access) h = works-unbuilt
+  works-line (Auth name access) h =
+      works-decided name (request.by_auth position acees access) (acee_named name acees) (λ acee k. decided-words position.state acee k access.class access.name access.asked position.generation are) h (named-acee name)
+  works-line (Fastauth name access) h =
+      works-decided name (request.by_fastauth position acees access) (acee_named name acees) (λ acee k. fast_decided-words position.state acee k access.class access.name access.asked position.generation are) h (named-acee name)
   works-line (Delete name) h = works-delete name (acee_named name acees) h
   works-line (After other) h = either (Works position.generation) (nat_le other position.generation) _ _ (stays [] false (inl refl)) (stays (never_line position.generation) true (inr (inr refl)))
   works-line Skip h = stays [] false (inl refl)
@@ -292,8 +292,7 @@ prints-with o before works good = record { line = works.line; good = record { st
 prints-request : (text : List ℕ) (before : State) → IsGood before → Prints (s.request text before)
 unfolding s.request
 prints-request text before good =
-    either Prints (is_unbuilt_line text (read text)) (s.refuse refusal.NotBuilt before) (s.answer_line (read text) before) (prints-refuse refusal.NotBuilt before refl good)
-    (prints-with (request.worked before.position before.acees (read text)) before (works-read before.position before.acees good.state good.acees (read text) (read-feedless text)) good)
+    prints-with (request.worked before.position before.acees (read text)) before (works-read before.position before.acees good.state good.acees (read text) (read-feedless text)) good
 
 -- ---- the lines of issuers
 issuer_refusal-words : (why : LineRefusal) → IsFeedless (refusal_words (issuer_refusal why))

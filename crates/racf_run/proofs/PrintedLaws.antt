@@ -13,7 +13,6 @@ use Rattle.acee.specs.declared.request.VerifyFault.{VerifyFault}
 use Rattle.acee.specs.declared.request.VerifyFault.TheVariants as verify
 use Rattle.raclist_image.specs.Imaged.{Imaged}
 use Rattle.decision.specs.declared.outcome.Decision.{Decision}
-use Rattle.decision.specs.Table.{decided}
 use Rattle.decision.specs.Verify.{verified}
 use Rattle.request_files.specs.declared.acees.NamedAcee.{NamedAcee}
 use Rattle.request_files.specs.declared.line.LineRefusal.{LineRefusal}
@@ -33,7 +32,6 @@ use Rattle.racf_run.specs.Replies.{refusal_words, reply_line}
 use Rattle.request_files.specs.declared.issuer_line.NamedIssuer.{NamedIssuer}
 use Rattle.request_files.specs.IssuerLines.{issuer_of_line}
 use Rattle.racf_run.specs.IssuerLines.{issuer_refusal}
-use Rattle.racf_run.specs.Requests.{is_unbuilt_line}
 use Rattle.racf_run.specs.Stream as s
 use Rattle.racf_run.specs.Stream.{State, Answer, number_of}
 use Rattle.racf_run.specs.Printed.{behind_blank, says_refused}
@@ -148,10 +146,10 @@ module _ (image : Imaged) (acees : List NamedAcee) where
   tells_verify_unless name asked (Some why) = tells_refused why
   tells_verify_unless name asked None = tells_verify_told name (verified image.state image.generation asked)
 
-  tells_auth : (name : List ℕ) (access : Access) (acee : Option Acee) → Tells (request.auth_for image acees name access acee)
+  tells_decided : (name : List ℕ) (decision_for : Acee → Decision) (acee : Option Acee) → Tells (request.decided_for image acees name decision_for acee)
   unfolding answer_line
-  tells_auth name access None = tells_refused (fault.NoAcee name)
-  tells_auth name access (Some acee) = decision_says image.generation (decided image.state image.generation acee access.class access.name access.asked)
+  tells_decided name decision_for None = tells_refused (fault.NoAcee name)
+  tells_decided name decision_for (Some acee) = decision_says image.generation (decision_for acee)
 
   tells_delete : (name : List ℕ) (acee : Option Acee) → Tells (request.delete_for image acees name acee)
   tells_delete name None = tells_refused (fault.NoAcee name)
@@ -163,8 +161,8 @@ module _ (image : Imaged) (acees : List NamedAcee) where
   tells_line : (line : Line) → Tells (request.line_worked image acees line)
   tells_line (Verify name asked) =
       tells_either (is_some asked.label) (request.unbuilt image acees) (request.verify_unless image acees name asked (put_refusal name acees)) tells_unbuilt (tells_verify_unless name asked (put_refusal name acees))
-  tells_line (Auth name access) = tells_auth name access (acee_named name acees)
-  tells_line (Fastauth name access) = tells_unbuilt
+  tells_line (Auth name access) = tells_decided name (request.by_auth image acees access) (acee_named name acees)
+  tells_line (Fastauth name access) = tells_decided name (request.by_fastauth image acees access) (acee_named name acees)
   tells_line (Delete name) = tells_delete name (acee_named name acees)
   tells_line (After number) =
       tells_either (nat_le number image.generation) (request.answered image acees []) (request.refused_with image acees (never_line image.generation)) tells_nothing refl
@@ -210,7 +208,7 @@ says_with o before t = ap (λ b. before.has_refused || b) t
 says_request : (text : List ℕ) (before : State) → Says before (s.request text before)
 unfolding s.request
 says_request text before =
-    says_either before (is_unbuilt_line text (read text)) (s.refuse refusal.NotBuilt before) (s.answer_line (read text) before) (says_refuse refusal.NotBuilt before) (says_with (request.worked before.position before.acees (read text)) before (tells_worked before.position before.acees (read text)))
+    says_with (request.worked before.position before.acees (read text)) before (tells_worked before.position before.acees (read text))
 
 says_answer : (i : Statement) (before : State) → Says before (s.answer i before)
 says_answer (item.Command text) before = says_command text before

@@ -1,7 +1,6 @@
 -- The text of each reply to a command or to the line of an issuer.
 use Rattle.std.specs.Prelude.{ℕ, List, ◌++◌, codes, decimal}
 use Rattle.racf_desk.specs.Words as words
-use Rattle.request_files.specs.Answers.{unbuilt_word}
 use Rattle.racf_run.specs.declared.reply.Refusal.{Refusal}
 use Rattle.racf_run.specs.declared.reply.Refusal.TheVariants as refusal
 use Rattle.racf_run.specs.declared.reply.Reply.{Reply}
@@ -10,7 +9,6 @@ use Rattle.racf_run.specs.declared.reply.Reply.TheVariants.{Accepted, Refused}
 -- why a line was refused
 abbrev pub refusal_words : Refusal → List ℕ
 refusal_words (refusal.Command why) = words.refusal_words why
-refusal_words refusal.NotBuilt = unbuilt_word
 refusal_words refusal.LineTooLong = codes "LINETOOLONG"
 
 abbrev pub reply_words : Reply → List ℕ

@@ -25,9 +25,6 @@ is_request text = let word = first_word text in
 abbrev pub is_issuer : List ℕ → Bool
 is_issuer text = bytes_eq (first_word text) (codes "*ISSUER")
 
-abbrev pub is_fastauth : List ℕ → Bool
-is_fastauth text = bytes_eq (first_word text) (codes "FASTAUTH")
-
 -- A line of the issuer names him. Each other one of them asks for an answer.
 unfoldable pub request_of : List ℕ → Statement
 request_of text = if is_issuer text then Issuer text else Request text

@@ -18,7 +18,6 @@ use Rattle.request_files.specs.IssuerLines.{issuer_of_line}
 use Rattle.request_files.specs.Worked.{Outcome, worked}
 use Rattle.racf_run.specs.Replies.{reply_line}
 use Rattle.racf_run.specs.IssuerLines.{first_issuer, issuer_refusal}
-use Rattle.racf_run.specs.Requests.{is_unbuilt_line}
 
 -- The position is that of the desk: the number of accepted commands, and the rows that they led to. Beside it stand who
 -- gives the commands, and the ACEEs in use, each under its name.
@@ -56,9 +55,9 @@ answer_with outcome s = record { state = record s { has_refused = s.has_refused 
 abbrev pub answer_line : Result Line LineRefusal → State → Answer
 answer_line line s = answer_with (worked s.position s.acees line) s
 
--- What isn't built comes behind a line that doesn't fit, and before every other refusal.
+-- A request is answered by what its line says.
 unfoldable pub request : List ℕ → State → Answer
-request text s = if is_unbuilt_line text (read text) then refuse refusal.NotBuilt s else answer_line (read text) s
+request text s = answer_line (read text) s
 
 -- A command that isn't refused is accepted: then the position is the one behind it, and its number is printed.
 abbrev pub accept : IssuedCommand → State → Answer

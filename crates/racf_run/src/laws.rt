@@ -3,13 +3,13 @@
 ghost use Rattle.std.specs.Prelude.{◌≡◌, ℕ, List, ◌∷◌, ◌++◌, map, filter, None, Some, Ok, unwrap_or, if◌then◌else◌};
 ghost use Rattle.std.specs.Result.{result_ok};
 ghost use Rattle.std.specs.List.{AllByRecursion, concat, list_any};
-ghost use Rattle.decision.specs.Table.{decided};
+ghost use Rattle.decision.specs.Table.{decided, fast_decided};
 ghost use Rattle.decision.specs.Verify.{verified};
 ghost use Rattle.acee.specs.declared.acee.Acee.{Acee};
 ghost use Rattle.acee.specs.declared.request.VerifyRequest.{VerifyRequest};
 ghost use Rattle.request_files.specs.Acees.{acee_named, put_refusal};
 ghost use Rattle.request_files.specs.Answers.{answer_line};
-ghost use Rattle.request_files.specs.Grammar.{Access, Auth, Verify, read};
+ghost use Rattle.request_files.specs.Grammar.{Access, Auth, Fastauth, Verify, read};
 ghost use Rattle.request_files.specs.Worked.{verify_told};
 ghost use Rattle.racf_run.specs.declared.statement.Statement.{Statement};
 ghost use Rattle.racf_run.specs.declared.statement.Statement.TheVariants.{Command, Issuer, Request};
@@ -40,14 +40,18 @@ pub fn an_item_prints_one_line()
     fields_of_a_text_are_lawful();
 }
 
-/// The line of an AUTH whose ACEE is in use is the decision that the table gives for that ACEE at the position of its
-/// turn, with the number of the commands before it; that of a VERIFY that can put an ACEE is what `verified` gives
-/// there.
+/// The line of an AUTH or a FASTAUTH whose ACEE is in use is the decision that the table gives for that ACEE at the
+/// position of its turn, with the number of the commands before it; that of a VERIFY that can put an ACEE is what
+/// `verified` gives there.
 pub fn requests_are_decided()
     ensures auth { (turn : Turn) (line acee : List ℕ) (access : Access) (user : Acee) → turn.item ≡ Request line →
         read line ≡ Ok (Auth acee access) → acee_named acee turn.before.acees ≡ Some user →
         printed turn ≡ answer_line (number_of turn.before)
         (decided turn.before.position.state (number_of turn.before) user access.class access.name access.asked) }
+    ensures fastauth { (turn : Turn) (line acee : List ℕ) (access : Access) (user : Acee) → turn.item ≡ Request line →
+        read line ≡ Ok (Fastauth acee access) → acee_named acee turn.before.acees ≡ Some user →
+        printed turn ≡ answer_line (number_of turn.before)
+        (fast_decided turn.before.position.state (number_of turn.before) user access.class access.name access.asked) }
     ensures verify { (turn : Turn) (line acee : List ℕ) (asked : VerifyRequest) → turn.item ≡ Request line →
         read line ≡ Ok (Verify acee asked) → asked.label ≡ None → put_refusal acee turn.before.acees ≡ None →
         printed turn ≡ (verify_told turn.before.position turn.before.acees acee

@@ -18,7 +18,6 @@ pub mod laws;
 mod mark;
 mod replies;
 mod reply;
-mod requests;
 mod scripts;
 mod statement;
 mod status;

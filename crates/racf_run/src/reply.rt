@@ -1,11 +1,10 @@
-//! The replies to commands and to issuers, and to lines that are too long or aren't built, as they are printed.
+//! The replies to commands and to issuers, and to lines that are too long, as they are printed.
 
 ghost use Rattle.std.specs.Prelude.{◌≡◌, ◌++◌, OnOk};
 ghost use Rattle.racf_run.specs.Replies.{refusal_words, reply_words, reply_line};
 
 use itoa::Buffer;
 use racf_desk::Refusal as OfCommand;
-use request_files::unbuilt_word;
 use std::alloc::AllocError;
 
 /// Why a line was refused.
@@ -13,8 +12,6 @@ use std::alloc::AllocError;
 pub enum Refusal {
     /// Why the command is refused at its position, or the place of the word by which a line names no issuer.
     Command(OfCommand),
-    /// This program doesn't have what the line asks for.
-    NotBuilt,
     /// A line of more than 4,096 bytes.
     LineTooLong,
 }
@@ -35,7 +32,6 @@ impl Refusal {
     {
         match self {
             Refusal::Command(why) => why.write(out),
-            Refusal::NotBuilt => out.extend_from_slice(unbuilt_word()),
             Refusal::LineTooLong => out.extend_from_slice(b"LINETOOLONG"),
         }
     }

@@ -3,7 +3,7 @@
 ghost use Rattle.std.specs.Prelude.{◌≡◌, IfOk};
 ghost use Rattle.std.specs.List.{list_all};
 ghost use Rattle.command_words.specs.Bytes.{is_blank_byte};
-ghost use Rattle.racf_run.specs.Statements.{is_skipped, is_request, is_issuer, is_fastauth};
+ghost use Rattle.racf_run.specs.Statements.{is_skipped, is_request, is_issuer};
 
 use command_words::{Parting, is_blank, is_spelled};
 use std::alloc::{AllocError, Global};
@@ -104,11 +104,4 @@ fn is_issuer(text: &[u8]) -> bool
     ensures { result ≡ is_issuer text.now }
 {
     is_spelled(Parting::Line.first_word(text), b"*ISSUER")
-}
-
-/// The line of a FASTAUTH.
-pub(crate) fn is_fastauth(text: &[u8]) -> bool
-    ensures { result ≡ is_fastauth text.now }
-{
-    is_spelled(Parting::Line.first_word(text), b"FASTAUTH")
 }

@@ -8,7 +8,6 @@ ghost use Rattle.racf_run.specs.declared.reply.Reply.TheVariants.{Accepted};
 
 use crate::issuer::{first_issuer, issuer_refusal};
 use crate::reply::{Refusal, Reply};
-use crate::requests::is_unbuilt_line;
 use crate::statement::{LineText, Statement};
 use racf_desk::{Desk, Ready, Reply as Judgement};
 use request_files::{
@@ -113,7 +112,7 @@ impl Stream {
         }
     }
 
-    /// A request: not built, or answered.
+    /// A request, answered by what its line says.
     #[tactic(auto, unfolding(crate::specs::Stream::request))]
     fn request(
         &mut self,
@@ -124,11 +123,7 @@ impl Stream {
         ensures ok { OnOk result (DoesAs (request text.now self.old) self.new out.old.items out.new.items) }
         ensures err { OnErr result (self.new ≡ self.old) }
     {
-        let line = read_line(text.as_slice());
-        if is_unbuilt_line(text.as_slice(), &line) {
-            return self.refuse(Refusal::NotBuilt, out);
-        }
-        self.answer(alloc, &line, out)
+        self.answer(alloc, &read_line(text.as_slice()), out)
     }
 
     /// Answers a line of a request at the position as it stands.

@@ -4,7 +4,7 @@ use Rattle.racf_profiles.specs.NewDatabase.{new_database}
 use Rattle.racf_profiles.specs.State.{restart}
 use Rattle.raclist_image.specs.Imaged.{Imaged}
 use Rattle.acee.specs.Verify.{acee_of}
-use Rattle.decision.specs.Table.{decided}
+use Rattle.decision.specs.Table.{decided, fast_decided}
 use Rattle.decision.specs.Verify.{verified}
 use Rattle.request_files.specs.declared.acees.NamedAcee.{NamedAcee}
 use Rattle.command_words.specs.LineWords.{words_at}
@@ -28,6 +28,8 @@ life_of_an_acee : texts on_new [] (
     ∷ codes "AUTH A DATASET A..B READ"
     ∷ codes "AUTH A DATASET SYS1.A EXECUTE"
     ∷ codes "AUTH A DATASET SYS1.A READ"
+    ∷ codes "FASTAUTH A DATASET SYS1.A READ"
+    ∷ codes "FASTAUTH B DATASET SYS1.A READ"
     ∷ codes "DELETE A"
     ∷ codes "AUTH A DATASET A..B READ"
     ∷ codes "*AFTER 0"
@@ -39,10 +41,12 @@ life_of_an_acee : texts on_new [] (
     ∷ numbered 0 (codes "REFUSED BADNAME EMPTYQUALIFIER " ++ decimal 2)
     ∷ numbered 0 (codes "REFUSED BADLINE " ++ decimal 23)
     ∷ numbered 0 (decimal 4 ++ codes " " ++ codes "NOPROFILE")
+    ∷ numbered 0 (decimal 4 ++ codes " " ++ codes "NOTLISTED")
+    ∷ numbered 0 (codes "REFUSED NOACEE B")
     ∷ numbered 0 (codes "0 DELETED")
     ∷ numbered 0 (codes "REFUSED NOACEE A")
     ∷ []
     ∷ never_line 0
     ∷ []
-unfolding on_new decided verified acee_of words_at next deleted number_after asked_by verified_by requested read answer_line
+unfolding on_new decided fast_decided verified acee_of words_at next deleted number_after asked_by verified_by requested read answer_line
 life_of_an_acee = refl

@@ -4,7 +4,8 @@ use Rattle.acee.specs.declared.acee.Acee.{Acee}
 use Rattle.acee.specs.declared.request.VerifyRequest.{VerifyRequest}
 use Rattle.acee.specs.declared.request.VerifyFault.{VerifyFault}
 use Rattle.raclist_image.specs.Imaged.{Imaged}
-use Rattle.decision.specs.Table.{decided}
+use Rattle.decision.specs.declared.outcome.Decision.{Decision}
+use Rattle.decision.specs.Table.{decided, fast_decided}
 use Rattle.decision.specs.Verify.{verified}
 use Rattle.request_files.specs.declared.acees.NamedAcee.{NamedAcee}
 use Rattle.request_files.specs.declared.line.LineRefusal.{LineRefusal}
@@ -55,10 +56,16 @@ module _ (image : Imaged) (acees : List NamedAcee) where
   abbrev pub verify_worked : List ℕ → VerifyRequest → Outcome
   verify_worked name request = if is_some request.label then unbuilt else verify_unless name request (put_refusal name acees)
 
-  -- AUTH decides for the user of its ACEE.
-  abbrev pub auth_for : List ℕ → Access → Option Acee → Outcome
-  auth_for name access None = refused (refusal.NoAcee name)
-  auth_for name access (Some acee) = answered (answer_line image.generation (decided image.state image.generation acee access.class access.name access.asked))
+  -- AUTH and FASTAUTH decide for the user of their ACEE.
+  abbrev pub by_auth : Access → Acee → Decision
+  by_auth access acee = decided image.state image.generation acee access.class access.name access.asked
+
+  abbrev pub by_fastauth : Access → Acee → Decision
+  by_fastauth access acee = fast_decided image.state image.generation acee access.class access.name access.asked
+
+  abbrev pub decided_for : List ℕ → (Acee → Decision) → Option Acee → Outcome
+  decided_for name decision_for None = refused (refusal.NoAcee name)
+  decided_for name decision_for (Some acee) = answered (answer_line image.generation (decision_for acee))
 
   -- DELETE takes its ACEE out.
   abbrev pub delete_for : List ℕ → Option Acee → Outcome
@@ -69,11 +76,10 @@ module _ (image : Imaged) (acees : List NamedAcee) where
   abbrev pub after_worked : ℕ → Outcome
   after_worked number = if nat_le number image.generation then answered [] else refused_with (never_line image.generation)
 
-  -- FASTAUTH isn't built.
   abbrev pub line_worked : Line → Outcome
   line_worked (Verify name request) = verify_worked name request
-  line_worked (Auth name access) = auth_for name access (acee_named name acees)
-  line_worked (Fastauth name access) = unbuilt
+  line_worked (Auth name access) = decided_for name (by_auth access) (acee_named name acees)
+  line_worked (Fastauth name access) = decided_for name (by_fastauth access) (acee_named name acees)
   line_worked (Delete name) = delete_for name (acee_named name acees)
   line_worked (After number) = after_worked number
   line_worked Skip = answered []

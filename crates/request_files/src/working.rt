@@ -4,10 +4,10 @@ ghost use Rattle.std.specs.Prelude.{◌≡◌, ◌++◌, [], true, false, not, n
 ghost use Rattle.raclist_image.specs.Imaged.{Imaged};
 ghost use Rattle.decision.specs.Verify.{verified};
 ghost use Rattle.request_files.specs.Acees.{acee_named, put_refusal, with_acee};
-ghost use Rattle.request_files.specs.Answers.{numbered, refused_words, unbuilt_words, verified_words, never_line};
+ghost use Rattle.request_files.specs.Answers.{numbered, refused_words, unbuilt_words, verified_words, never_line, answer_line};
 ghost use Rattle.request_files.specs.Grammar.{line_of, access_of};
 ghost use Rattle.request_files.specs.Seen.{line_read};
-ghost use Rattle.request_files.specs.Worked.{Shows, Untouched, worked, line_worked, told, verify_worked, verify_told, auth_for, delete_for};
+ghost use Rattle.request_files.specs.Worked.{Shows, Untouched, worked, line_worked, told, verify_worked, verify_told, by_auth, by_fastauth, decided_for, delete_for};
 
 use crate::acees::AceeTable;
 use crate::answers::{
@@ -16,13 +16,13 @@ use crate::answers::{
 use crate::line::{LineRefusal, RequestLine};
 use access_levels::Id;
 use acee::{Acee, VerifyFault, VerifyRequest};
-use decision::{Request, auth, verify};
+use decision::{Decision, Request, auth, fastauth, verify};
 use raclist_image::Image;
 use std::alloc::{AllocError, Global};
 
 /// Answers a line that was read: writes its text at the end of `out`, and tells whether it was refused. VERIFY verifies a
-/// user and puts his ACEE, AUTH decides on the image, DELETE takes an ACEE out, and `*AFTER` prints only where its number
-/// isn't reached. FASTAUTH, and a label on VERIFY, aren't built: such lines are refused as NOTBUILT.
+/// user and puts his ACEE, AUTH and FASTAUTH decide on the image, DELETE takes an ACEE out, and `*AFTER` prints only where
+/// its number isn't reached. A label on VERIFY isn't built: such lines are refused as NOTBUILT.
 ///
 /// # Errors
 ///
@@ -78,7 +78,9 @@ fn respond_to_line(
             alloc, *name, request, image, acees, out,
         ),
         RequestLine::Auth(name, request) => respond_to_auth(*name, request, image, acees, out),
-        RequestLine::Fastauth(_, _) => not_built(image.generation(), out),
+        RequestLine::Fastauth(name, request) => respond_to_fastauth(
+            *name, request, image, acees, out,
+        ),
         RequestLine::Delete(name) => respond_to_delete(*name, image.generation(), acees, out),
         RequestLine::After(number) => respond_to_after(*number, image.generation(), out),
         RequestLine::Skip => Ok(false),
@@ -155,17 +157,46 @@ fn respond_to_auth(
     acees: &AceeTable,
     out: &mut Vec<u8>,
 ) -> Result<bool, AllocError>
-    ensures worked { IfOk result (Shows (auth_for image.now acees.now name (access_of request.now) (acee_named name acees.now)) out.old.items out.new.items acees.now) }
+    ensures worked { IfOk result (Shows (decided_for image.now acees.now name (by_auth image.now acees.now (access_of request.now)) (acee_named name acees.now)) out.old.items out.new.items acees.now) }
     ensures kept { OnErr result (out.new.items ≡ out.old.items) }
 {
     match acees.get(name) {
-        Some(acee) => {
-            let decision = auth(image, acee, request);
-            answer_text(image.generation(), &decision, image, acee, request, out)?;
-            Ok(false)
-        }
+        Some(acee) => answer_decision(&auth(image, acee, request), image, acee, request, out),
         None => refuse(&LineRefusal::NoAcee(name), image.generation(), out),
     }
+}
+
+/// FASTAUTH.
+fn respond_to_fastauth(
+    name: Id,
+    request: &Request,
+    image: &Image,
+    acees: &AceeTable,
+    out: &mut Vec<u8>,
+) -> Result<bool, AllocError>
+    ensures worked { IfOk result (Shows (decided_for image.now acees.now name (by_fastauth image.now acees.now (access_of request.now)) (acee_named name acees.now)) out.old.items out.new.items acees.now) }
+    ensures kept { OnErr result (out.new.items ≡ out.old.items) }
+{
+    match acees.get(name) {
+        Some(acee) => answer_decision(&fastauth(image, acee, request), image, acee, request, out),
+        None => refuse(&LineRefusal::NoAcee(name), image.generation(), out),
+    }
+}
+
+/// Answers a line with a decision on the image, for this ACEE and this request.
+fn answer_decision(
+    decision: &Decision,
+    image: &Image,
+    acee: &Acee,
+    request: &Request,
+    out: &mut Vec<u8>,
+) -> Result<bool, AllocError>
+    ensures refused { IfOk result (λ refused. refused ≡ false) }
+    ensures text { OnOk result (out.new.items ≡ out.old.items ++ answer_line image.now.generation decision.now) }
+    ensures kept { OnErr result (out.new.items ≡ out.old.items) }
+{
+    answer_text(image.generation(), decision, image, acee, request, out)?;
+    Ok(false)
 }
 
 /// DELETE.

@@ -1,0 +1,2 @@
+pub mod MadeText
+pub mod Tally

@@ -7,6 +7,7 @@ use Rattle.racf_run.specs.declared.status.Status.{Status}
 use Rattle.racf_run.specs.declared.status.Status.TheVariants.{ReadFault, WriteFault}
 use Rattle.racf_run.specs.Runs.{Ran}
 use Rattle.racf_run.specs.Script.{stream, script_output, script_status}
+use Rattle.racf_run.specs.Making.{MakeWords, make_text, WroteText}
 
 -- the names of an input and of an output
 pub record Files : Type 0 where
@@ -69,6 +70,33 @@ module _ {S I O : Type 0} (source : S → List ℕ → Result I Failed → S →
   abbrev pub RunsOnShelf : Status → Option (List ℕ) → Files → S → S → Type 0
   RunsOnShelf status bytes files old new =
       OpensNothing status files old new ⊎ (OpensNoOutput status files old new ⊎ OpensBoth status bytes files old new)
+
+-- The generated text was written to the output of the name `name`, which was new and empty, and is given back: the outputs
+-- told `old` before, and tell `new` now.
+pub record MadeIn (tells : Bool) (status : Status) (users : ℕ) (name : List ℕ) (old new : List ℕ → Option (List ℕ)) : Type 0 where
+  pub wrote : WroteText status (make_text users) (told tells []) (new name)
+  pub others : SameOthers name old new
+
+-- The calls for `make N OUT`, of a shelf of the kind S, whose outputs are of the kind O: no input is opened.
+module _ {S O : Type 0} (sink : S → List ℕ → Result O Failed → S → Type 0) (give_back : S → List ℕ → O → S → Type 0) (tells : Bool) (output : S → List ℕ → Option (List ℕ)) where
+  -- The output couldn't be opened.
+  pub record MakesNoOutput (status : Status) (words : MakeWords) (old new : S) : Type 0 where
+    pub is_status : status ≡ WriteFault
+    pub failed : Failed
+    pub output_asked : sink old words.output (Err failed) new
+    pub others : SameOthers words.output (output old) (output new)
+
+  -- The output was opened, the text was written to it, and it was handed back.
+  pub record MakesOutput (status : Status) (words : MakeWords) (old new : S) : Type 0 where
+    pub opened : O
+    pub first : S
+    pub output_asked : sink old words.output (Ok opened) first
+    pub worked : O
+    pub output_back : give_back first words.output worked new
+    pub made : MadeIn tells status words.users words.output (output old) (output new)
+
+  abbrev pub MakesOnShelf : Status → MakeWords → S → S → Type 0
+  MakesOnShelf status words old new = MakesNoOutput status words old new ⊎ MakesOutput status words old new
 
 -- The output is the whole output of the input's bytes, where the shelf tells both, and the status is theirs.
 pub record IsWholeOutput (tells : Bool) (status : Status) (input output : Option (List ℕ)) : Type 0 where

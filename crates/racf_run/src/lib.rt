@@ -1,9 +1,9 @@
 //! The stream: lines of commands and requests in, replies and answers out, from a source to a sink; and the top call of
 //! the program, over a shelf of named inputs and outputs.
 //!
-//! The principal functions are `racf`, the top call over a shelf of `racf_outside`, and `script` between one source and
-//! one sink; both answer with a `Status`. Commands are given at the desk of `racf_desk`, requests are answered by
-//! `request_files` on the desk's image. `laws` is for a reader of an output.
+//! The principal functions are `racf`, the top call over a shelf of `racf_outside`, `script` between one source and one
+//! sink, and `make`, which writes the text of `racf_generator`; all answer with a `Status`. Commands are given at the desk
+//! of `racf_desk`, requests are answered by `request_files` on the desk's image. `laws` is for a reader of an output.
 //!
 //! ```text
 //! let (status, source) = script(alloc, source, &mut sink);
@@ -14,7 +14,8 @@
 mod input;
 mod issuer;
 mod joining;
-pub mod laws;
+pub pub mod laws;
+mod making;
 mod mark;
 mod replies;
 mod reply;
@@ -24,6 +25,7 @@ mod status;
 mod stream;
 mod top;
 
+pub use making::make;
 pub use scripts::script;
 pub use status::Status;
 pub use top::racf;

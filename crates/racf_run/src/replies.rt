@@ -72,7 +72,7 @@ impl Replies {
 }
 
 /// Writes all of the bytes, in as many calls as the sink needs.
-fn write_all<O: Sink>(sink: &mut O, bytes: &[u8]) -> Result<(), Failed>
+pub(crate) fn write_all<O: Sink>(sink: &mut O, bytes: &[u8]) -> Result<(), Failed>
     ensures all { OnOk result (O.taken sink.new ≡ append_known (O.taken sink.old) bytes.now) }
     ensures front { OnErr result (IsCutShort bytes.now (O.taken sink.old) (O.taken sink.new)) }
     ensures cause { HasCause (O.faults sink.old) (O.faults sink.new) result }

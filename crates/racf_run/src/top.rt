@@ -4,14 +4,20 @@ ghost use Rattle.std.specs.Prelude.{◌≡◌, ◌↔◌, ◌≤◌, ◌<◌, ma
 ghost use Rattle.std.specs.Option.{option_map};
 ghost use Rattle.racf_outside.specs.Causes.{Rose};
 ghost use Rattle.racf_outside.specs.Shelf.{SameBytes};
-ghost use Rattle.racf_run.specs.Racf.{script_files, RunsOnShelf, IsWholeOutput, OpensNone};
+ghost use Rattle.racf_run.specs.Racf.{script_files, RunsOnShelf, MakesOnShelf, IsWholeOutput, OpensNone};
+ghost use Rattle.racf_run.specs.Making.{make_words, most_users};
 ghost use Rattle.racf_run.specs.Runs.{longest_input};
 ghost use Rattle.racf_run.specs.Script.{is_whole};
 
+use crate::making::make;
 use crate::scripts::script;
 use crate::status::Status;
 use racf_outside::{Failed, Shelf};
+use request_files::number_word;
 use std::alloc::Global;
+
+/// The most users that `make` is asked for.
+const MOST_USERS: u64 = 10_000;
 
 /// What the words `script IN OUT` name.
 #[derive(Clone, Copy)]
@@ -22,9 +28,19 @@ struct Files<'a> {
     output: &'a str,
 }
 
+/// What the words `make N OUT` ask for.
+#[derive(Clone, Copy)]
+struct MakeWords<'a> {
+    /// N.
+    users: u32,
+    /// OUT.
+    output: &'a str,
+}
+
 /// The program: works what the words ask for, over the inputs and outputs of a shelf. The words `script IN OUT` work
-/// the stream of the input IN, and write to the output OUT; IN and OUT differ or are both `-`. Other words are `Usage`.
-/// (The words are this product's own.)
+/// the stream of the input IN, and write to the output OUT; IN and OUT differ or are both `-`. The words `make N OUT`
+/// write the generated text of N users, from 1 to 10,000, to the output OUT. Other words are `Usage`. (The words are this
+/// product's own.)
 ///
 /// The input is opened first, then the output; each that was opened is handed back, under its name.
 pub fn racf<F: Shelf>(alloc: Global, words: &[String], shelf: &mut F) -> Status
@@ -34,12 +50,15 @@ pub fn racf<F: Shelf>(alloc: Global, words: &[String], shelf: &mut F) -> Status
         RunsOnShelf F.source_gives F.sink_gives F.take_back_gives F.give_back_gives F.tells F.output
         result (F.input shelf.old files.input) files shelf.old shelf.new) }
 
+    ensures makes { IfSome (make_words (map string_bytes words.now)) (λ asked.
+        MakesOnShelf F.sink_gives F.give_back_gives F.tells F.output result asked shelf.old shelf.new) }
+
     // Where the input was read to its end, all of its output was written, and nothing else.
     ensures whole { IsTrue (is_whole result) → IfSome (script_files (map string_bytes words.now)) (λ files.
         IsWholeOutput F.tells result (F.input shelf.old files.input) (F.output shelf.new files.output)) }
 
     // Why it stopped.
-    ensures usage { (result ≡ Status.Usage) ↔ IsNone (script_files (map string_bytes words.now)) }
+    ensures usage { (result ≡ Status.Usage) ↔ (IsNone (script_files (map string_bytes words.now)) × IsNone (make_words (map string_bytes words.now))) }
     ensures nothing_opened { result ≡ Status.Usage → shelf.new ≡ shelf.old }
     ensures read_fault { result ≡ Status.ReadFault → Rose (F.source_faults shelf.old) (F.source_faults shelf.new) }
     ensures write_fault { result ≡ Status.WriteFault → Rose (F.sink_faults shelf.old) (F.sink_faults shelf.new) }
@@ -54,10 +73,32 @@ pub fn racf<F: Shelf>(alloc: Global, words: &[String], shelf: &mut F) -> Status
     ensures source_faults { F.source_faults shelf.old ≤ F.source_faults shelf.new }
     ensures sink_faults { F.sink_faults shelf.old ≤ F.sink_faults shelf.new }
 {
-    match script_files(words) {
-        None => Status::Usage,
-        Some(files) => script_between(alloc, files.input, files.output, shelf),
+    if let Some(files) = script_files(words) {
+        return script_between(alloc, files.input, files.output, shelf);
     }
+    match make_words(words) {
+        Some(asked) => make_into(alloc, asked.users, asked.output, shelf),
+        None => Status::Usage,
+    }
+}
+
+/// Writes the generated text to an output of a shelf.
+fn make_into<F: Shelf>(alloc: Global, users: u32, output: &str, shelf: &mut F) -> Status
+    requires few { users ≤ most_users }
+    ensures makes { MakesOnShelf F.sink_gives F.give_back_gives F.tells F.output result (record { users = users; output = output.now }) shelf.old shelf.new }
+    ensures write_fault { result ≡ Status.WriteFault → Rose (F.sink_faults shelf.old) (F.sink_faults shelf.new) }
+    ensures inputs { SameBytes (F.input shelf.old) (F.input shelf.new) }
+    ensures handed_back { OpensNone (F.is_open shelf.old) (F.is_open shelf.new) }
+    ensures source_faults { F.source_faults shelf.old ≤ F.source_faults shelf.new }
+    ensures sink_faults { F.sink_faults shelf.old ≤ F.sink_faults shelf.new }
+{
+    let mut sink = match shelf.sink(output) {
+        Ok(sink) => sink,
+        Err(Failed) => return Status::WriteFault,
+    };
+    let status = make(alloc, users, &mut sink);
+    shelf.give_back(output, sink);
+    status
 }
 
 /// Works a stream from an input of a shelf to an output.
@@ -104,4 +145,25 @@ fn script_files(words: &[String]) -> Option<Files<'_>>
     } else {
         None
     }
+}
+
+/// The number of users and the output that the words name, where they are `make N OUT`.
+fn make_words(words: &[String]) -> Option<MakeWords<'_>>
+    ensures words { option_map (λ asked. record { users = asked.users; output = asked.output.now }) result ≡ make_words (map string_bytes words.now) }
+    ensures few { IfSome result (λ asked. asked.users ≤ most_users) }
+{
+    let [verb, number, output] = words else {
+        return None;
+    };
+    if verb.as_str() != "make" {
+        return None;
+    }
+    let users = number_word(number.as_bytes())?;
+    if users < 1 || users > MOST_USERS {
+        return None;
+    }
+    Some(MakeWords {
+        users: users as u32,
+        output: output.as_str(),
+    })
 }

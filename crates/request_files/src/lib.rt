@@ -26,4 +26,5 @@ pub use acees::{AceeTable, NamedAcee};
 pub use answers::{answer_text, unbuilt_word};
 pub use issuer_line::{NamedIssuer, read_issuer};
 pub use line::{LineRefusal, RequestLine, read_line};
+pub use numbers::number_word;
 pub use working::respond;

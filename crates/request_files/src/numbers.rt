@@ -8,8 +8,8 @@ ghost use Rattle.request_files.specs.Spellings.{number_word, is_decimal, number_
 /// The most that `*AFTER` can ask for, since no more commands are accepted.
 const MOST: u64 = 1 << 62;
 
-/// The number that a word writes, at most 2^62.
-pub(crate) fn number_word(word: &[u8]) -> Option<u64>
+/// The number that a word writes in decimal, without a sign and with no 0 in front; at most 2^62.
+pub fn number_word(word: &[u8]) -> Option<u64>
     ensures { result ≡ number_word word.now }
 {
     if is_decimal(word) {

@@ -19,3 +19,4 @@ mod verify;
 pub use acee::Acee;
 pub use groups::{AceeGroup, AceeGroups};
 pub use request::{VerifyFault, VerifyRequest};
+pub use verify::is_active;

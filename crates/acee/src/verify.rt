@@ -109,7 +109,7 @@ fn label_for(image: &Image, request: &VerifyRequest, user: &User) -> Option<Id>
 }
 
 /// Whether a class is active.
-fn is_active(image: &Image, class: Id) -> bool
+pub fn is_active(image: &Image, class: Id) -> bool
     ensures { result ≡ is_active class image.now.state.rows }
 {
     match image.class(class) {

@@ -21,11 +21,11 @@ use Rattle.decision.specs.declared.answer.Answer.{Answer}
 use Rattle.decision.specs.declared.outcome.Rule.TheVariants as rule
 use Rattle.generic_names.specs.Spelled.{first_qualifier}
 use Rattle.racf_profiles.specs.ClassTable.{allows_operations}
-use Rattle.decision.specs.Table.{case, with, never, first_answer, else_case, higher, considered, is_dataset, operating_over, standing_of, answer_with_profile, user_entry, group_entry, star_entry}
+use Rattle.decision.specs.Table.{case, with, first_answer, else_case, higher, considered, is_dataset, operating_over, standing_of, answer_with_profile, user_entry, group_entry, star_entry}
 use Rattle.decision.specs.Steps.{listed, is_open, uacc_case, entry_case, standing_with, operations_cases, conditional_case}
 
 -- ---- a list of cases in parts
-in_parts : (c7 c8 c9 c10 c11 c12 c13 c14 c15 : Option Answer) (last : Answer) → unwrap_or (first_answer (never ∷ c7 ∷ c8 ∷ c9 ∷ c10 ∷ c11 ∷ c12 ∷ c13 ∷ c14 ∷ c15 ∷ [])) last
+in_parts : (c7 c8 c9 c10 c11 c12 c13 c14 c15 : Option Answer) (last : Answer) → unwrap_or (first_answer (None ∷ c7 ∷ c8 ∷ c9 ∷ c10 ∷ c11 ∷ c12 ∷ c13 ∷ c14 ∷ c15 ∷ [])) last
     ≡ unwrap_or c7 (unwrap_or (first_answer (c8 ∷ c9 ∷ c10 ∷ c11 ∷ [])) (unwrap_or c12 (unwrap_or (first_answer (c13 ∷ c14 ∷ [])) (unwrap_or c15 last))))
 in_parts (Some a) c8 c9 c10 c11 c12 c13 c14 c15 last = refl
 in_parts None (Some a) c9 c10 c11 c12 c13 c14 c15 last = refl
@@ -137,7 +137,7 @@ module _ (rows : Rows) (acee : Acee) (class : List ℕ) (name : Spelled) (asked 
   told options found uacc conditional owner warning =
       stepped own_case (entry_case found acee.attributes.restricted uacc asked) (conditional_case options acee conditional asked) (operations_answer found uacc owner) warning (standing_with found acee.attributes.restricted uacc)
 
-  by_parts : (p : Profile) → answer_with_profile rows acee class name asked p ≡ told rows.options (listed rows.options acee p) p.uacc p.conditional p.owner p.warning
+  by_parts : (p : Profile) → answer_with_profile None rows acee class name asked p ≡ told rows.options (listed rows.options acee p) p.uacc p.conditional p.owner p.warning
   by_parts p =
       let r : Bool = acee.attributes.restricted in
       let own : Option Entry = user_entry acee p in
@@ -164,7 +164,7 @@ module _ (rows : Rows) (acee : Acee) (class : List ℕ) (name : Spelled) (asked 
       (neither-found r p.uacc asked own group star)
 
   pub by_facts : (p : Profile) (facts : Facts) → AreFacts p facts → (options : Options) → options ≡ rows.options → (found : Found) → found ≡ lists.answered acee.user (considered options acee) acee.attributes.restricted facts.standard.now
-      → told options found facts.uacc facts.conditional.now facts.owner facts.warning ≡ answer_with_profile rows acee class name asked p
+      → told options found facts.uacc facts.conditional.now facts.owner facts.warning ≡ answer_with_profile None rows acee class name asked p
   by_facts p facts h options o found is =
       let same : found ≡ listed rows.options acee p = is ∙ ap (λ list. lists.answered acee.user (considered options acee) acee.attributes.restricted list) h.standard ∙ ap (λ os. listed os acee p) o in
       ap (λ found. told options found facts.uacc facts.conditional.now facts.owner facts.warning) same
@@ -175,7 +175,7 @@ module _ (rows : Rows) (acee : Acee) (class : List ℕ) (name : Spelled) (asked 
       ∙ ap (λ w. told rows.options (listed rows.options acee p) p.uacc p.conditional p.owner w) h.warning
       ∙ sym (by_parts p)
 
-  pub own_first : (p : Profile) → own_case ≡ true → else_case rule.OwnData 0 NoAccess ≡ answer_with_profile rows acee class name asked p
+  pub own_first : (p : Profile) → own_case ≡ true → else_case rule.OwnData 0 NoAccess ≡ answer_with_profile None rows acee class name asked p
   own_first p own =
       let found : Found = listed rows.options acee p in
       sym (by_parts p ∙ exit_own own_case (entry_case found acee.attributes.restricted p.uacc asked) (conditional_case rows.options acee p.conditional asked) (operations_answer found p.uacc p.owner) p.warning (standing_with found acee.attributes.restricted p.uacc) own)

@@ -1,4 +1,5 @@
 pub mod Asked
+pub mod Classification
 pub mod Table
 pub mod Steps
 pub mod Made

@@ -10,28 +10,25 @@ use Rattle.access_levels.specs.Level.{level_rank, suffices}
 use Rattle.access_lists.specs.declared.best.GroupEntry.{GroupEntry}
 use Rattle.access_lists.specs.Answers as lists
 use Rattle.generic_names.specs.Spelled.{Spelled, first_qualifier}
-use Rattle.generic_names.specs.Best.{best}
 use Rattle.racf_profiles.specs.declared.profiles.Profile.{Profile}
 use Rattle.racf_profiles.specs.declared.options.Options.{Options}
 use Rattle.racf_profiles.specs.declared.rows.Rows.{Rows}
 use Rattle.racf_profiles.specs.Lookup.{class_of}
 use Rattle.racf_profiles.specs.ClassTable.{allows_operations}
-use Rattle.racf_profiles.specs.State.{State, effective, is_listed}
+use Rattle.racf_profiles.specs.State.{State, is_listed}
 use Rattle.group_tree.specs.ScopeTest.{is_profile_in_scope}
 use Rattle.acee.specs.declared.acee.Acee.{Acee}
 use Rattle.acee.specs.declared.groups.AceeGroup.{AceeGroup}
 use Rattle.acee.specs.Groups.{group_names}
 use Rattle.acee.specs.Verify.{is_active}
+use Rattle.seclabels.specs.declared.classified.Classified.{Classified}
 use Rattle.decision.specs.declared.outcome.Rule.{Rule}
 use Rattle.decision.specs.declared.outcome.Rule.TheVariants as rule
 use Rattle.decision.specs.declared.outcome.Decision.{Decision}
 use Rattle.decision.specs.declared.answer.Answer.{Answer}
+use Rattle.decision.specs.Classification.{profile_for, classified}
 
 -- ---- what the cases ask about
-
--- p: the most specific of the effective profiles of the class that cover the name.
-abbrev pub profile_for : State → List ℕ → Spelled → Option Profile
-profile_for state class name = option_and_then (λ profiles. best (λ (profile : Profile). profile.name) profiles name) (effective class state)
 
 abbrev pub is_dataset : List ℕ → Bool
 is_dataset class = bytes_eq class (codes "DATASET")
@@ -133,16 +130,16 @@ cases_without_profile options class =
 abbrev pub no_profile : Answer
 no_profile = else_case rule.NoProfile 4 NoAccess
 
--- Where there is a p:
-module _ (rows : Rows) (acee : Acee) (class : List ℕ) (name : Spelled) (asked : Level) (p : Profile) where
+-- Where there is a p, and the classification check fails for this reason or passes:
+module _ (bar : Option Classified) (rows : Rows) (acee : Acee) (class : List ℕ) (name : Spelled) (asked : Level) (p : Profile) where
   -- neither the user nor a considered group has an entry
   abbrev pub has_neither : Bool
   has_neither = not (is_some (user_entry acee p)) && not (is_some (group_entry rows.options acee p))
 
   abbrev pub cases_with_profile : List (Option Answer)
   cases_with_profile =
-      -- 6 CLASSIFIED: the classification check fails. No level, category or label can be defined yet
-      never
+      -- 6 CLASSIFIED: the classification check fails
+      with bar (λ why. case true (rule.Classified why) 8 NoAccess)
       -- 7 OWNDATA: the class is DATASET and the name's first qualifier is the user ID
       ∷ case (is_dataset class && bytes_eq (first_qualifier name.text) acee.user) rule.OwnData 0 NoAccess
       -- 8 USER: there is a user entry and it suffices
@@ -188,15 +185,15 @@ decision_of generation profile answer = record {
 abbrev pub answer_without_profile : Options → List ℕ → Answer
 answer_without_profile options class = unwrap_or (first_answer (cases_without_profile options class)) no_profile
 
-abbrev pub answer_with_profile : Rows → Acee → List ℕ → Spelled → Level → Profile → Answer
-answer_with_profile rows acee class name asked p = unwrap_or (first_answer (cases_with_profile rows acee class name asked p)) (insufficient rows acee class name asked p)
+abbrev pub answer_with_profile : Option Classified → Rows → Acee → List ℕ → Spelled → Level → Profile → Answer
+answer_with_profile bar rows acee class name asked p = unwrap_or (first_answer (cases_with_profile bar rows acee class name asked p)) (insufficient bar rows acee class name asked p)
 
 -- The first case that fits decides: one of the class; where there is no p the answer for that; else one of p's.
 module _ (state : State) (generation : ℕ) (acee : Acee) (class : List ℕ) (name : Spelled) (asked : Level) where
   abbrev pub decided_after : Option Answer → (without : Answer) → Option Profile → Decision
   decided_after (Some answer) without p = decision_of generation None answer
   decided_after None without None = decision_of generation None without
-  decided_after None without (Some p) = decision_of generation (Some p.name) (answer_with_profile state.rows acee class name asked p)
+  decided_after None without (Some p) = decision_of generation (Some p.name) (answer_with_profile (classified state acee p asked) state.rows acee class name asked p)
 
   unfoldable pub decided : Decision
   decided = decided_after (first_answer (cases_of_class state.rows class)) (answer_without_profile state.rows.options class) (profile_for state class name)

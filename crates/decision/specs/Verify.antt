@@ -1,5 +1,5 @@
--- VERIFY: the checks of the user and of his connection, then of his port of entry and of his application.
-use Rattle.std.specs.Prelude.{◌≡◌, ℕ, ◌==◌, Bool, false, List, Option, Some, None, Result, Ok, Err, codes, if◌then◌else◌}
+-- VERIFY: the checks of the user and of his connection, then of his port of entry, of his application and of his label.
+use Rattle.std.specs.Prelude.{◌≡◌, ℕ, ◌==◌, Bool, false, not, ◌&&◌, ◌||◌, is_some, List, Option, Some, None, Result, Ok, Err, codes, if◌then◌else◌}
 use Rattle.std.specs.Option.{option_map_or}
 use Rattle.access_levels.specs.declared.entries.Condition.{Condition}
 use Rattle.access_levels.specs.declared.levels.Level.TheVariants.{Read}
@@ -9,8 +9,9 @@ use Rattle.racf_profiles.specs.State.{State}
 use Rattle.acee.specs.declared.acee.Acee.{Acee}
 use Rattle.acee.specs.declared.request.VerifyRequest.{VerifyRequest}
 use Rattle.acee.specs.declared.request.VerifyFault.{VerifyFault}
-use Rattle.acee.specs.declared.request.VerifyFault.TheVariants.{Port, Application, NoMemory}
-use Rattle.acee.specs.Verify.{acee_of, acee_unless}
+use Rattle.acee.specs.declared.request.VerifyFault.TheVariants.{Port, Application, Label, NoMemory}
+use Rattle.acee.specs.Verify.{acee_of, acee_unless, is_active}
+use Rattle.decision.specs.Classification.{label_profile}
 use Rattle.decision.specs.Table.{decided}
 
 module _ (state : State) (generation : ℕ) where
@@ -24,16 +25,28 @@ module _ (state : State) (generation : ℕ) where
   abbrev pub is_application_refused : Acee → Option (List ℕ) → Bool
   is_application_refused acee application = option_map_or (λ name. is_refused acee (codes "APPL") name) application false
 
-  -- The port of entry is asked in its class and then the application in class APPL, both with the whole ACEE.
-  abbrev pub entry_fault : Acee → Option VerifyFault
-  entry_fault acee = if is_port_refused acee acee.port then Some Port else (if is_application_refused acee acee.application then Some Application else None)
+  abbrev pub is_label_refused : Acee → Option (List ℕ) → Bool
+  is_label_refused acee label = option_map_or (λ name. is_refused acee (codes "SECLABEL") name) label false
 
-  abbrev pub admitted : Result Acee VerifyFault → Result Acee VerifyFault
-  admitted (Err fault) = Err fault
-  admitted (Ok acee) = acee_unless (entry_fault acee) acee
+  -- A label that is named needs a profile, while class SECLABEL is active.
+  abbrev pub is_unknown_label : Option (List ℕ) → Bool
+  is_unknown_label named = option_map_or (λ name. is_active (codes "SECLABEL") state.rows && not (is_some (label_profile state name))) named false
+
+  -- The port of entry is asked in its class, then the application in class APPL and the ACEE's label in class SECLABEL, each
+  -- with the whole ACEE.
+  abbrev pub entry_fault : Acee → (named : Option (List ℕ)) → Option VerifyFault
+  entry_fault acee named =
+      if is_port_refused acee acee.port then Some Port
+      else if is_application_refused acee acee.application then Some Application
+      else if is_label_refused acee acee.label || is_unknown_label named then Some Label
+      else None
+
+  abbrev pub admitted : (named : Option (List ℕ)) → Result Acee VerifyFault → Result Acee VerifyFault
+  admitted named (Err fault) = Err fault
+  admitted named (Ok acee) = acee_unless (entry_fault acee named) acee
 
   unfoldable pub verified : VerifyRequest → Result Acee VerifyFault
-  verified request = admitted (acee_of state generation request)
+  verified request = admitted request.label (acee_of state generation request)
 
   -- What is answered is what is told, but that memory may be wanting for the ACEE of a user whose first checks pass.
   abbrev pub IsVerified : VerifyRequest → Result Acee VerifyFault → Type 0

@@ -7,9 +7,11 @@ ghost use Rattle.racf_profiles.specs.Scope.{InScopeProfile};
 ghost use Rattle.group_tree.specs.ScopeTest.{is_profile_in_scope};
 ghost use Rattle.raclist_image.specs.Facts.{AreFacts};
 ghost use Rattle.decision.specs.Steps.{is_open};
-ghost use Rattle.decision.specs.Table.{decided, fast_decided, decided_after, profile_for, cases_of_class, fast_cases_of_class, first_answer, case, else_case, is_dataset, answer_with_profile, answer_without_profile};
+ghost use Rattle.decision.specs.Classification.{profile_for, classified};
+ghost use Rattle.decision.specs.Table.{decided, fast_decided, decided_after, cases_of_class, fast_cases_of_class, first_answer, case, else_case, is_dataset, answer_with_profile, answer_without_profile};
 
 use crate::answer::Answer;
+use crate::classification::classified;
 use crate::entries::{conditional_case, entry_case, is_open, listed, standing};
 use crate::operations::{groups_are_a_tree, operations_case};
 use crate::outcome::{Decision, Rule};
@@ -129,7 +131,21 @@ fn without_profile(options: &Options, class: Id) -> Answer
 
 /// The answer of the profile that covers the name.
 fn with_profile(image: &Image, acee: &Acee, request: &Request, facts: &Facts<'_>) -> Answer
-    ensures { (p : Profile) → AreFacts p facts.now → result ≡ answer_with_profile image.now.state.rows acee.now request.now.class request.now.name request.now.asked p }
+    ensures { (p : Profile) → AreFacts p facts.now → result ≡ answer_with_profile (classified image.now.state acee.now p request.now.asked) image.now.state.rows acee.now request.now.class request.now.name request.now.asked p }
+{
+    match classified(image, acee, facts, request.asked) {
+        Some(why) => Answer {
+            rule: Rule::Classified(why),
+            rc: 8,
+            found: Level::NoAccess,
+        },
+        None => unclassified(image, acee, request, facts),
+    }
+}
+
+/// The answer of the profile, where the classification check passes.
+fn unclassified(image: &Image, acee: &Acee, request: &Request, facts: &Facts<'_>) -> Answer
+    ensures { (p : Profile) → AreFacts p facts.now → result ≡ answer_with_profile None image.now.state.rows acee.now request.now.class request.now.name request.now.asked p }
 {
     if is_own(acee, request.class, &request.name) {
         return Answer::allowed(Rule::OwnData, Level::NoAccess);

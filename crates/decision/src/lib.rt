@@ -13,9 +13,11 @@
 #![tactic(auto)]
 
 mod answer;
+mod classification;
 mod decide;
 mod entries;
 mod entry;
+mod names;
 mod operations;
 mod outcome;
 mod request;

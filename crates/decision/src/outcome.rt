@@ -1,6 +1,7 @@
 //! What is decided, and by which rule.
 use access_levels::{Condition, Id, Level};
 use generic_names::Pattern;
+use seclabels::Classified;
 
 /// The rule that decided on a request.
 #[derive(Clone, Copy, Debug, PartialEq, Eq)]
@@ -17,6 +18,8 @@ pub enum Rule {
     NoProfile,
     /// No profile covers the data set, and such data sets are protected.
     ProtectAll,
+    /// Levels, categories or labels forbid it.
+    Classified(Classified),
     /// The data set has the user's ID as its first qualifier.
     OwnData,
     /// The user's entry in the access list.

@@ -4,7 +4,7 @@ use Rattle.decision.specs.declared.outcome.Rule.TheVariants as rule
 use Rattle.decision.specs.Table.{first_answer, operating_over, case, else_case}
 use Rattle.decision.specs.Steps.{entry_case, conditional_case, operations_cases, standing_with}
 use Rattle.decision.proofs.Steps.{exit_entry, exit_conditional, exit_operations, exit_last, own_case, operations_answer, by_facts, own_first}
-use Rattle.decision.proofs.decide.with_profile.Goals as goal
+use Rattle.decision.proofs.decide.unclassified.Goals as goal
 
 pub returns-then-is_own : goal.returns-then-is_own
 returns-then-is_own c = λ p h.

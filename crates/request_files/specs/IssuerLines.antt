@@ -9,7 +9,7 @@ use Rattle.request_files.specs.declared.issuer_line.NamedIssuer.{NamedIssuer}
 use Rattle.request_files.specs.declared.line.LineRefusal.{LineRefusal}
 use Rattle.request_files.specs.declared.line.LineRefusal.TheVariants.{BadLine, LineTooLong}
 use Rattle.request_files.specs.Spellings.{operand_word}
-use Rattle.request_files.specs.Grammar.{fits, next, ended, longest_line}
+use Rattle.request_files.specs.Grammar.{◌>>=◌, fits, next, ended, longest_line}
 
 -- GROUP(g) is one word.
 abbrev pub group_in : Operand → Option (List ℕ)

@@ -46,14 +46,14 @@ pub fn an_item_prints_one_line()
 pub fn requests_are_decided()
     ensures auth { (turn : Turn) (line acee : List ℕ) (access : Access) (user : Acee) → turn.item ≡ Request line →
         read line ≡ Ok (Auth acee access) → acee_named acee turn.before.acees ≡ Some user →
-        printed turn ≡ answer_line (number_of turn.before)
+        printed turn ≡ answer_line (number_of turn.before) turn.before.position.state.rows.options.categories
         (decided turn.before.position.state (number_of turn.before) user access.class access.name access.asked) }
     ensures fastauth { (turn : Turn) (line acee : List ℕ) (access : Access) (user : Acee) → turn.item ≡ Request line →
         read line ≡ Ok (Fastauth acee access) → acee_named acee turn.before.acees ≡ Some user →
-        printed turn ≡ answer_line (number_of turn.before)
+        printed turn ≡ answer_line (number_of turn.before) turn.before.position.state.rows.options.categories
         (fast_decided turn.before.position.state (number_of turn.before) user access.class access.name access.asked) }
     ensures verify { (turn : Turn) (line acee : List ℕ) (asked : VerifyRequest) → turn.item ≡ Request line →
-        read line ≡ Ok (Verify acee asked) → asked.label ≡ None → put_refusal acee turn.before.acees ≡ None →
+        read line ≡ Ok (Verify acee asked) → put_refusal acee turn.before.acees ≡ None →
         printed turn ≡ (verify_told turn.before.position turn.before.acees acee
         (verified turn.before.position.state (number_of turn.before) asked)).text }
 {}

@@ -1,5 +1,5 @@
 -- The words that are printed for a line of requests. Behind them stands a line feed, and a number in front.
-use Rattle.std.specs.Prelude.{ℕ, List, [], ◌++◌, Option, Some, None, codes, decimal}
+use Rattle.std.specs.Prelude.{ℕ, List, [], ◌++◌, Option, Some, None, unwrap_or, slice_get, codes, decimal}
 use Rattle.access_levels.specs.Level.{level_name, port_class_name}
 use Rattle.access_levels.specs.declared.entries.Condition.{Condition}
 use Rattle.generic_names.specs.Spelled.{Spelled}
@@ -10,6 +10,8 @@ use Rattle.acee.specs.declared.request.VerifyFault.TheVariants as verify
 use Rattle.decision.specs.declared.outcome.Decision.{Decision}
 use Rattle.decision.specs.declared.outcome.Rule.{Rule}
 use Rattle.decision.specs.declared.outcome.Rule.TheVariants as rule
+use Rattle.seclabels.specs.declared.classified.Classified.{Classified}
+use Rattle.seclabels.specs.declared.classified.Classified.TheVariants.{LevelTooLow, CategoryMissing, LabelNotDominant, WriteDown}
 use Rattle.request_files.specs.declared.line.LineRefusal.{LineRefusal}
 use Rattle.request_files.specs.declared.line.LineRefusal.TheVariants as refusal
 
@@ -37,12 +39,9 @@ refusal_words refusal.LineTooLong = codes "LINETOOLONG"
 abbrev pub refused_words : LineRefusal → List ℕ
 refused_words refusal = codes "REFUSED " ++ refusal_words refusal
 
--- the word for what isn't built, and a line that asks for it
+-- the word for what isn't built
 abbrev pub unbuilt_word : List ℕ
 unbuilt_word = codes "NOTBUILT"
-
-abbrev pub unbuilt_words : List ℕ
-unbuilt_words = codes "REFUSED " ++ unbuilt_word
 
 -- ---- VERIFY and DELETE: the return code, and its word. Want of memory has neither, since it is answered to the caller
 
@@ -77,35 +76,47 @@ found_words decision = profile_words decision.profile ++ codes " " ++ level_name
 abbrev pub port_words : Condition → List ℕ
 port_words port = codes "WHEN(" ++ port_class_name port.class ++ codes "(" ++ port.name ++ codes "))"
 
--- no decision names a member of a global table yet
-abbrev pub rule_words : Rule → Decision → List ℕ
-rule_words rule.NoClass decision = codes "NOCLASS"
-rule_words rule.ClassOff decision = codes "CLASSOFF"
-rule_words rule.NotListed decision = codes "NOTLISTED"
-rule_words (rule.Global place) decision = codes "GLOBAL"
-rule_words rule.NoProfile decision = codes "NOPROFILE"
-rule_words rule.ProtectAll decision = codes "PROTECTALL"
-rule_words rule.OwnData decision = codes "OWNDATA" ++ profile_words decision.profile
-rule_words rule.UserEntry decision = codes "USER" ++ found_words decision
-rule_words (rule.GroupEntry group) decision = codes "GROUP " ++ group ++ found_words decision
-rule_words rule.Star decision = codes "STAR" ++ found_words decision
-rule_words rule.Uacc decision = codes "UACC" ++ found_words decision
-rule_words (rule.Conditional port) decision = codes "CONDITIONAL " ++ port_words port ++ found_words decision
-rule_words rule.Operations decision = codes "OPERATIONS" ++ found_words decision
-rule_words (rule.GroupOperations group) decision = codes "GROUPOPS " ++ group ++ found_words decision
-rule_words rule.Warning decision = codes "WARNING" ++ found_words decision
-rule_words rule.Insufficient decision = codes "INSUFFICIENT" ++ found_words decision
+-- the name of the category of a number, of those that were ever defined, in their order
+abbrev pub category_name : (categories : List (List ℕ)) → ℕ → List ℕ
+category_name categories number = unwrap_or (slice_get categories number) []
 
-abbrev pub decision_words : Decision → List ℕ
-decision_words decision = decimal decision.rc ++ codes " " ++ rule_words decision.rule decision
+-- why the classification check fails
+abbrev pub classified_words : (categories : List (List ℕ)) → Classified → List ℕ
+classified_words categories LevelTooLow = codes "LEVEL"
+classified_words categories (CategoryMissing number) = codes "CATEGORY " ++ category_name categories number
+classified_words categories LabelNotDominant = codes "LABEL"
+classified_words categories WriteDown = codes "WRITEDOWN"
+
+-- The categories are those that were ever defined. No decision names a member of a global table yet.
+abbrev pub rule_words : (categories : List (List ℕ)) → Rule → Decision → List ℕ
+rule_words categories rule.NoClass decision = codes "NOCLASS"
+rule_words categories rule.ClassOff decision = codes "CLASSOFF"
+rule_words categories rule.NotListed decision = codes "NOTLISTED"
+rule_words categories (rule.Global place) decision = codes "GLOBAL"
+rule_words categories rule.NoProfile decision = codes "NOPROFILE"
+rule_words categories rule.ProtectAll decision = codes "PROTECTALL"
+rule_words categories (rule.Classified why) decision = codes "CLASSIFIED " ++ classified_words categories why ++ profile_words decision.profile
+rule_words categories rule.OwnData decision = codes "OWNDATA" ++ profile_words decision.profile
+rule_words categories rule.UserEntry decision = codes "USER" ++ found_words decision
+rule_words categories (rule.GroupEntry group) decision = codes "GROUP " ++ group ++ found_words decision
+rule_words categories rule.Star decision = codes "STAR" ++ found_words decision
+rule_words categories rule.Uacc decision = codes "UACC" ++ found_words decision
+rule_words categories (rule.Conditional port) decision = codes "CONDITIONAL " ++ port_words port ++ found_words decision
+rule_words categories rule.Operations decision = codes "OPERATIONS" ++ found_words decision
+rule_words categories (rule.GroupOperations group) decision = codes "GROUPOPS " ++ group ++ found_words decision
+rule_words categories rule.Warning decision = codes "WARNING" ++ found_words decision
+rule_words categories rule.Insufficient decision = codes "INSUFFICIENT" ++ found_words decision
+
+abbrev pub decision_words : (categories : List (List ℕ)) → Decision → List ℕ
+decision_words categories decision = decimal decision.rc ++ codes " " ++ rule_words categories decision.rule decision
 
 -- ---- whole lines
 
 abbrev pub numbered : ℕ → List ℕ → List ℕ
 numbered number words = decimal number ++ codes " " ++ words ++ codes "\n"
 
-unfoldable pub answer_line : ℕ → Decision → List ℕ
-answer_line number decision = numbered number (decision_words decision)
+unfoldable pub answer_line : ℕ → (categories : List (List ℕ)) → Decision → List ℕ
+answer_line number categories decision = numbered number (decision_words categories decision)
 
 -- the number that `*AFTER` waits for never comes
 abbrev pub never_line : ℕ → List ℕ

@@ -11,7 +11,7 @@ use Rattle.request_files.specs.declared.acees.NamedAcee.{NamedAcee}
 use Rattle.request_files.specs.declared.line.LineRefusal.{LineRefusal}
 use Rattle.request_files.specs.declared.line.LineRefusal.TheVariants as refusal
 use Rattle.request_files.specs.Acees.{acee_named, put_refusal, with_acee, without_acee}
-use Rattle.request_files.specs.Answers.{numbered, refused_words, unbuilt_words, verified_words, verify_fault_words, deleted_words, answer_line, never_line}
+use Rattle.request_files.specs.Answers.{numbered, refused_words, verified_words, verify_fault_words, deleted_words, answer_line, never_line}
 use Rattle.request_files.specs.Grammar.{Access, Line, Verify, Auth, Fastauth, Delete, After, Skip}
 
 pub record Outcome : Type 0 where
@@ -40,11 +40,7 @@ module _ (image : Imaged) (acees : List NamedAcee) where
   abbrev pub refused : LineRefusal → Outcome
   refused why = refused_with (numbered image.generation (refused_words why))
 
-  abbrev pub unbuilt : Outcome
-  unbuilt = refused_with (numbered image.generation unbuilt_words)
-
-  -- VERIFY puts the ACEE of a user who is verified. It asks whether one can be put before it verifies. A label isn't
-  -- built.
+  -- VERIFY puts the ACEE of a user who is verified. It asks whether one can be put before it verifies.
   abbrev pub verify_told : List ℕ → Result Acee VerifyFault → Outcome
   verify_told name (Ok acee) = record { text = numbered image.generation verified_words; refused = false; acees = with_acee name acee acees }
   verify_told name (Err fault) = answered (numbered image.generation (verify_fault_words fault))
@@ -54,7 +50,7 @@ module _ (image : Imaged) (acees : List NamedAcee) where
   verify_unless name request None = verify_told name (verified image.state image.generation request)
 
   abbrev pub verify_worked : List ℕ → VerifyRequest → Outcome
-  verify_worked name request = if is_some request.label then unbuilt else verify_unless name request (put_refusal name acees)
+  verify_worked name request = verify_unless name request (put_refusal name acees)
 
   -- AUTH and FASTAUTH decide for the user of their ACEE.
   abbrev pub by_auth : Access → Acee → Decision
@@ -65,7 +61,7 @@ module _ (image : Imaged) (acees : List NamedAcee) where
 
   abbrev pub decided_for : List ℕ → (Acee → Decision) → Option Acee → Outcome
   decided_for name decision_for None = refused (refusal.NoAcee name)
-  decided_for name decision_for (Some acee) = answered (answer_line image.generation (decision_for acee))
+  decided_for name decision_for (Some acee) = answered (answer_line image.generation image.state.rows.options.categories (decision_for acee))
 
   -- DELETE takes its ACEE out.
   abbrev pub delete_for : List ℕ → Option Acee → Outcome

@@ -1,7 +1,7 @@
 //! The words that are printed for lines.
 
-ghost use Rattle.std.specs.Prelude.{◌≡◌, ◌++◌, OnOk, OnErr, decimal};
-ghost use Rattle.request_files.specs.Answers.{name_fault_words, refusal_words, verify_fault_words, profile_words, found_words, port_words, rule_words, decision_words, answer_line, never_line, numbered, refused_words, unbuilt_word};
+ghost use Rattle.std.specs.Prelude.{◌≡◌, ◌++◌, OnOk, OnErr, codes, decimal};
+ghost use Rattle.request_files.specs.Answers.{name_fault_words, refusal_words, verify_fault_words, profile_words, found_words, port_words, category_name, classified_words, rule_words, decision_words, answer_line, never_line, numbered, refused_words, unbuilt_word};
 
 use crate::line::LineRefusal;
 use access_levels::{Condition, Id};
@@ -9,26 +9,28 @@ use acee::{Acee, VerifyFault};
 use decision::{Decision, Request, Rule};
 use generic_names::{NameFault, Pattern};
 use itoa::Buffer;
+use racf_profiles::Options;
 use raclist_image::Image;
+use seclabels::Classified;
 use std::alloc::AllocError;
 
 /// Writes the answer to AUTH or FASTAUTH at the end of `out`: the number, the return code, the rule that decided, and for
 /// most rules the profile and the level that was found. The image, the ACEE and the request are those of the decision;
-/// no rule that is built names anything more of them. Where memory is short, `out` stays as it was.
+/// a category is named as the image has it. Where memory is short, `out` stays as it was.
 #[tactic(auto, unfolding(crate::specs::Answers::answer_line))]
 pub fn answer_text(
     number: u64,
     decision: &Decision,
-    _image: &Image,
+    image: &Image,
     _acee: &Acee,
     _request: &Request,
     out: &mut Vec<u8>,
 ) -> Result<(), AllocError>
-    ensures text { OnOk result (out.new.items ≡ out.old.items ++ answer_line number decision.now) }
+    ensures text { OnOk result (out.new.items ≡ out.old.items ++ answer_line number image.now.state.rows.options.categories decision.now) }
     ensures kept { OnErr result (out.new.items ≡ out.old.items) }
 {
     let mut words = Vec::new(*out.allocator());
-    write_decision(decision, &mut words)?;
+    write_decision(decision, image.options(), &mut words)?;
     write_line(number, words.as_slice(), out)
 }
 
@@ -145,17 +147,25 @@ pub(crate) fn verify_fault_words(fault: VerifyFault) -> &'static [u8]
 }
 
 /// Writes the return code of a decision, and the rule.
-fn write_decision(decision: &Decision, out: &mut Vec<u8>) -> Result<(), AllocError>
-    ensures { OnOk result (out.new.items ≡ out.old.items ++ decision_words decision.now) }
+fn write_decision(
+    decision: &Decision,
+    options: &Options,
+    out: &mut Vec<u8>,
+) -> Result<(), AllocError>
+    ensures { OnOk result (out.new.items ≡ out.old.items ++ decision_words options.now.categories decision.now) }
 {
     write_number(u64::from(decision.rc), out)?;
     out.extend_from_slice(b" ")?;
-    write_rule(decision, out)
+    write_rule(decision, options, out)
 }
 
 /// Writes the rule, and what belongs to it.
-fn write_rule(decision: &Decision, out: &mut Vec<u8>) -> Result<(), AllocError>
-    ensures { OnOk result (out.new.items ≡ out.old.items ++ rule_words decision.now.rule decision.now) }
+fn write_rule(
+    decision: &Decision,
+    options: &Options,
+    out: &mut Vec<u8>,
+) -> Result<(), AllocError>
+    ensures { OnOk result (out.new.items ≡ out.old.items ++ rule_words options.now.categories decision.now.rule decision.now) }
 {
     match &decision.rule {
         Rule::NoClass => out.extend_from_slice(b"NOCLASS"),
@@ -164,6 +174,10 @@ fn write_rule(decision: &Decision, out: &mut Vec<u8>) -> Result<(), AllocError>
         Rule::Global(_) => out.extend_from_slice(b"GLOBAL"),
         Rule::NoProfile => out.extend_from_slice(b"NOPROFILE"),
         Rule::ProtectAll => out.extend_from_slice(b"PROTECTALL"),
+        Rule::Classified(why) => {
+            write_classified(*why, options, out)?;
+            write_profile(&decision.profile, out)
+        }
         Rule::OwnData => {
             out.extend_from_slice(b"OWNDATA")?;
             write_profile(&decision.profile, out)
@@ -177,6 +191,36 @@ fn write_rule(decision: &Decision, out: &mut Vec<u8>) -> Result<(), AllocError>
         Rule::GroupOperations(group) => write_group(b"GROUPOPS ", group, decision, out),
         Rule::Warning => write_reason(b"WARNING", decision, out),
         Rule::Insufficient => write_reason(b"INSUFFICIENT", decision, out),
+    }
+}
+
+/// Writes why the classification check fails.
+fn write_classified(
+    why: Classified,
+    options: &Options,
+    out: &mut Vec<u8>,
+) -> Result<(), AllocError>
+    ensures { OnOk result (out.new.items ≡ out.old.items ++ (codes "CLASSIFIED " ++ classified_words options.now.categories why)) }
+{
+    out.extend_from_slice(b"CLASSIFIED ")?;
+    match why {
+        Classified::LevelTooLow => out.extend_from_slice(b"LEVEL"),
+        Classified::CategoryMissing(number) => {
+            out.extend_from_slice(b"CATEGORY ")?;
+            write_category(number, options, out)
+        }
+        Classified::LabelNotDominant => out.extend_from_slice(b"LABEL"),
+        Classified::WriteDown => out.extend_from_slice(b"WRITEDOWN"),
+    }
+}
+
+/// Writes the name of the category of that number.
+fn write_category(number: u8, options: &Options, out: &mut Vec<u8>) -> Result<(), AllocError>
+    ensures { OnOk result (out.new.items ≡ out.old.items ++ category_name options.now.categories number) }
+{
+    match options.categories.items.get(usize::from(number)) {
+        Some(name) => out.extend_from_slice(name.text()),
+        None => Ok(()),
     }
 }
 

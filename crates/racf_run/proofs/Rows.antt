@@ -27,7 +27,7 @@ use Rattle.request_files.specs.Grammar.{next, deleted, number_after, asked_by, v
 use Rattle.request_files.specs.IssuerLines.{issuer_by, issuer_of_line}
 use Rattle.request_files.specs.Answers.{answer_line}
 use Rattle.acee.specs.Verify.{acee_of}
-use Rattle.decision.specs.Table.{decided}
+use Rattle.decision.specs.Table.{decided, fast_decided}
 use Rattle.decision.specs.Verify.{verified}
 
 -- The stream prints this, and ends so.
@@ -92,12 +92,23 @@ entries : Prints
 unfolding digits canon form_in parsed front behind command_of tokens is_root has_subgroup has_connected has_profile meets cycle owner_not_superior default_group last_special users_full groups_full connections_full user_full add_user_conflicts alt_user_conflicts del_user_conflicts add_group_conflicts alt_group_conflicts del_group_conflicts connect_conflicts remove_conflicts no_first_qualifier no_permitted no_such_class no_resource_class no_global_class no_profile profile_taken not_generic class_profiles_full profiles_full standard_full conditional_full entries_full members_full no_resource_profile add_sd_requirements add_sd_limits r_define_requirements r_define_limits categories_full alt_sd_conflicts del_sd_conflicts r_alter_conflicts r_delete_conflicts permit_conflicts no_user no_group no_owner no_named_group no_class name_taken not_connected default_not_connected unknown_level unknown_category never_category unknown_label add_user_requirements alt_user_requirements del_user_requirements add_group_requirements alt_group_requirements del_group_requirements connect_requirements remove_requirements add_sd_needs r_define_needs alt_sd_requirements del_sd_requirements r_alter_requirements r_delete_requirements permit_requirements is_met need outcome_in issuer_by issuer_of_line request_of is_request reply_line stream new_stream request command step text as_number next deleted number_after asked_by verified_by requested read words_at answer_line acee_of decided verified
 entries = record { prints = refl; ends = refl }
 
+-- FASTAUTH and AUTH in a RACLISTed class go by its copy, which doesn't follow PERMIT.
+listed : Prints
+    (codes "AU JOE\nSETR CLASSACT(FACILITY) RACLIST(FACILITY)\nRDEF FACILITY F.G\nSETR RACLIST(FACILITY) REFRESH\nVERIFY A JOE\n"
+    ++ codes "FASTAUTH A FACILITY F.G READ\nPE F.G CLASS(FACILITY) ID(JOE)\nFASTAUTH A FACILITY F.G READ\nAUTH A FACILITY F.G READ\n"
+    ++ codes "SETR RACLIST(FACILITY) REFRESH\nFASTAUTH A FACILITY F.G READ\nFASTAUTH A OPERCMDS X READ\nFASTAUTH A DATASET JOE.X READ\n")
+    (codes "1 ACCEPTED\n2 ACCEPTED\n3 ACCEPTED\n4 ACCEPTED\n4 0 VERIFIED\n4 8 INSUFFICIENT F.G NONE\n5 ACCEPTED\n"
+    ++ codes "5 8 INSUFFICIENT F.G NONE\n5 8 INSUFFICIENT F.G NONE\n6 ACCEPTED\n6 0 USER F.G READ\n6 4 CLASSOFF\n6 4 NOTLISTED\n")
+    Done
+unfolding digits canon form_in parsed front behind command_of tokens is_root has_subgroup has_connected has_profile meets cycle owner_not_superior default_group last_special users_full groups_full connections_full user_full add_user_conflicts alt_user_conflicts del_user_conflicts add_group_conflicts alt_group_conflicts del_group_conflicts connect_conflicts remove_conflicts no_first_qualifier no_permitted no_such_class no_resource_class no_global_class no_profile profile_taken not_generic class_profiles_full profiles_full standard_full conditional_full entries_full members_full no_resource_profile add_sd_requirements add_sd_limits r_define_requirements r_define_limits categories_full alt_sd_conflicts del_sd_conflicts r_alter_conflicts r_delete_conflicts permit_conflicts absent_class class_without_generic unlisted_class never_listed_class always_active_class set_ropts_conflicts no_user no_group no_owner no_named_group no_class name_taken not_connected default_not_connected unknown_level unknown_category never_category unknown_label add_user_requirements alt_user_requirements del_user_requirements add_group_requirements alt_group_requirements del_group_requirements connect_requirements remove_requirements add_sd_needs r_define_needs alt_sd_requirements del_sd_requirements r_alter_requirements r_delete_requirements permit_requirements set_ropts_requirements is_met need outcome_in issuer_by issuer_of_line request_of is_request reply_line stream new_stream request command step text as_number next deleted number_after asked_by verified_by requested read words_at answer_line acee_of decided verified fast_decided
+listed = record { prints = refl; ends = refl }
+
 -- Refusals of a request's line, and the number that is waited for.
 requests : Prints
     (codes "AUTH A FACILITY X READ\nVERIFY A NOBODY\nVERIFY A IBMUSER\nVERIFY A IBMUSER\nAUTH A DATASET A..B READ\n"
     ++ codes "AUTH A DATASET SYS1.A EXECUTE\nFASTAUTH A DATASET A..B READ\nDELETE A\n*AFTER 1\n*AFTER 0\n")
     (codes "0 REFUSED NOACEE A\n0 4 NOTDEFINED\n0 0 VERIFIED\n0 REFUSED ACEEEXISTS A\n"
-    ++ codes "0 REFUSED BADNAME EMPTYQUALIFIER 2\n0 REFUSED BADLINE 23\n0 REFUSED NOTBUILT\n0 0 DELETED\nNEVER 0\n")
+    ++ codes "0 REFUSED BADNAME EMPTYQUALIFIER 2\n0 REFUSED BADLINE 23\n0 REFUSED BADNAME EMPTYQUALIFIER 2\n0 0 DELETED\nNEVER 0\n")
     Refusals
 unfolding digits canon form_in parsed front behind command_of tokens is_root has_subgroup has_connected has_profile meets cycle owner_not_superior default_group last_special users_full groups_full connections_full user_full add_user_conflicts alt_user_conflicts del_user_conflicts add_group_conflicts alt_group_conflicts del_group_conflicts connect_conflicts remove_conflicts no_first_qualifier no_permitted no_such_class no_resource_class no_global_class no_profile profile_taken not_generic class_profiles_full profiles_full standard_full conditional_full entries_full members_full no_resource_profile add_sd_requirements add_sd_limits r_define_requirements r_define_limits categories_full alt_sd_conflicts del_sd_conflicts r_alter_conflicts r_delete_conflicts permit_conflicts no_user no_group no_owner no_named_group no_class name_taken not_connected default_not_connected unknown_level unknown_category never_category unknown_label add_user_requirements alt_user_requirements del_user_requirements add_group_requirements alt_group_requirements del_group_requirements connect_requirements remove_requirements add_sd_needs r_define_needs alt_sd_requirements del_sd_requirements r_alter_requirements r_delete_requirements permit_requirements is_met need outcome_in issuer_by issuer_of_line request_of is_request reply_line stream new_stream request command step text as_number next deleted number_after asked_by verified_by requested read words_at answer_line acee_of decided verified
 requests = record { prints = refl; ends = refl }

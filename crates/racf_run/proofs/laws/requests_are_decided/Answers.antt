@@ -1,11 +1,15 @@
 use Rattle.std.proofs.Common.{◌∙◌, ap}
 use Rattle.racf_run.specs.Stream.{text}
-use Rattle.racf_run.proofs.DecidedLaws.{auth_text, verify_text}
+use Rattle.racf_run.proofs.DecidedLaws.{auth_text, fastauth_text, verify_text}
 use Rattle.racf_run.proofs.laws.requests_are_decided.Goals as goal
 
 pub returns-clause-auth : goal.returns-clause-auth
 returns-clause-auth c =
     λ turn line acee access user is reads found. ap (λ item. text item turn.before) is ∙ auth_text line acee access user turn.before reads found
+
+pub returns-clause-fastauth : goal.returns-clause-fastauth
+returns-clause-fastauth c =
+    λ turn line acee access user is reads found. ap (λ item. text item turn.before) is ∙ fastauth_text line acee access user turn.before reads found
 
 pub returns-clause-verify : goal.returns-clause-verify
 returns-clause-verify c =

@@ -20,7 +20,7 @@ use Rattle.command_effects.specs.Edits.{sets_options, sets_flags, lists, unlists
 use Rattle.lawful_commands.proofs.RowLists.{all-both}
 use Rattle.lawful_commands.proofs.ProfileRows.{all-at_class}
 use Rattle.racf_desk.specs.Position.{copies_behind}
-use Rattle.racf_run.proofs.Feedless.{if-found}
+use Rattle.racf_run.proofs.Feedless.{IsFeedless, if-found}
 use Rattle.racf_run.proofs.FeedlessRows.{IsFeedlessProfile, AreFeedlessProfiles, AreFeedless, IsFeedlessState}
 
 abbrev IsFeedlessCopy : ListedCopy → Type 0
@@ -39,10 +39,10 @@ all-put_row P replaces row (other ∷ rows) h are = by (replaces other) (all-put
 
 -- ---- the edits of SETROPTS
 with-classes : (state : State) (classes : List ClassRow) → IsFeedlessState state → AllByRecursion AreFeedlessProfiles classes → AreFeedless (record state.rows { classes = classes })
-with-classes state classes are all = record { users = are.rows.users; groups = are.rows.groups; classes = all }
+with-classes state classes are all = record { users = are.rows.users; groups = are.rows.groups; classes = all; categories = are.rows.categories }
 
-options-keep : (options : Options) → KeepsState (PutOptions options)
-options-keep options state are = record { rows = record { users = are.rows.users; groups = are.rows.groups; classes = are.rows.classes }; copies = are.copies }
+options-keep : (options : Options) → AllByRecursion IsFeedless options.categories → KeepsState (PutOptions options)
+options-keep options named state are = record { rows = record { users = are.rows.users; groups = are.rows.groups; classes = are.rows.classes; categories = named }; copies = are.copies }
 
 flags-keep : (name : List ℕ) (active global : Bool) (log : LogOption) → KeepsState (PutClass name active global log)
 flags-keep name active global log state are = record { rows = with-classes state _ are (all-at_class AreFeedlessProfiles name (with_flags active global log) state.rows.classes (λ row found h. h) are.rows.classes); copies = are.copies }
@@ -68,24 +68,24 @@ each-keeps : (edit : ClassRow → Edit) → ((class : ClassRow) → KeepsState (
 each-keeps edit keeps [] = tt
 each-keeps edit keeps (class ∷ classes) = (keeps class, each-keeps edit keeps classes)
 
-set_ropts-keep : (c : SetRopts) (state : State) → AllByRecursion KeepsState (edits_of_set_ropts c state.rows)
-set_ropts-keep c state =
+set_ropts-keep : (c : SetRopts) (state : State) → IsFeedlessState state → AllByRecursion KeepsState (edits_of_set_ropts c state.rows)
+set_ropts-keep c state are =
     let classes = state.rows.classes in
     let flags : List Edit = map (λ class. put_flags (set_class c class)) (filter (sets_flags c) classes) in
     let listed : List Edit = map (λ (class : ClassRow). ListCopy class.name) (filter (lists c) classes) in
     let unlisted : List Edit = map (λ (class : ClassRow). Unlist class.name) (filter (unlists c) classes) in
-    all-both KeepsState _ (flags ++ (listed ++ unlisted)) (options-put (sets_options c) (set_options c state.rows.options))
+    all-both KeepsState _ (flags ++ (listed ++ unlisted)) (options-put (sets_options c) (set_options c state.rows.options) are.rows.categories)
     (all-both KeepsState flags (listed ++ unlisted) (each-keeps (λ class. put_flags (set_class c class)) (λ class. flags-keep _ _ _ _) (filter (sets_flags c) classes))
     (all-both KeepsState listed unlisted (each-keeps (λ (class : ClassRow). ListCopy class.name) (λ class. list-keeps class.name) (filter (lists c) classes)) (each-keeps (λ (class : ClassRow). Unlist class.name) (λ class. unlist-keeps class.name) (filter (unlists c) classes))))
   where
-    options-put : (b : Bool) (options : Options) → AllByRecursion KeepsState (cond b (PutOptions options ∷ []) [])
-    options-put true options = (options-keep options, tt)
-    options-put false options = tt
+    options-put : (b : Bool) (options : Options) → AllByRecursion IsFeedless options.categories → AllByRecursion KeepsState (cond b (PutOptions options ∷ []) [])
+    options-put true options named = (options-keep options named, tt)
+    options-put false options named = tt
 
 changed-keeps : (edits : List Edit) (state : State) → AllByRecursion KeepsState edits → IsFeedlessState state → IsFeedlessState (changed_state edits state)
 changed-keeps [] state keep are = are
 changed-keeps (edit ∷ edits) state keep are = changed-keeps edits (edited_state edit state) keep.1 (keep.0 state are)
 
 pub copies-feedless : (command : CommandFields) (state : State) → IsFeedlessState state → AllByRecursion IsFeedlessCopy (copies_behind command state)
-copies-feedless (fields.SetRopts c) state are = (changed-keeps (edits_of_set_ropts c state.rows) state (set_ropts-keep c state) are).copies
+copies-feedless (fields.SetRopts c) state are = (changed-keeps (edits_of_set_ropts c state.rows) state (set_ropts-keep c state are) are).copies
 copies-feedless command state are = are.copies

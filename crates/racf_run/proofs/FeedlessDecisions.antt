@@ -38,8 +38,10 @@ use Rattle.decision.specs.declared.answer.Answer.{Answer}
 use Rattle.decision.specs.declared.outcome.Decision.{Decision}
 use Rattle.decision.specs.declared.outcome.Rule.{Rule}
 use Rattle.decision.specs.declared.outcome.Rule.TheVariants as rule
+use Rattle.seclabels.specs.declared.classified.Classified.{Classified}
+use Rattle.seclabels.specs.declared.classified.Classified.TheVariants.{LevelTooLow, CategoryMissing, LabelNotDominant, WriteDown}
+use Rattle.decision.specs.Classification.{profile_for, classified}
 use Rattle.decision.specs.Table.{
-  profile_for,
   considered,
   operating_over,
   user_entry,
@@ -60,7 +62,7 @@ use Rattle.decision.specs.Table.{
   fast_decided,
 }
 use Rattle.decision.specs.Verify.{admitted, verified}
-use Rattle.request_files.specs.Answers.{profile_words, found_words, port_words, rule_words, decision_words}
+use Rattle.request_files.specs.Answers.{profile_words, found_words, port_words, category_name, classified_words, rule_words, decision_words}
 use Rattle.lawful_commands.proofs.RowLists.{all-filter, all-map}
 use Rattle.racf_run.proofs.Feedless.{IsFeedless, joined, decimal-feedless, either, always, if-either, if-map, if-then, if-found}
 use Rattle.racf_run.proofs.FeedlessRows.{IsFeedlessUser, IsFeedlessProfile, IsFeedlessWho, AreFeedlessProfiles, AreFeedless, IsFeedlessState, copy-feedless}
@@ -96,26 +98,41 @@ port-words port h =
     let class = port_class_name port.class in
     joined ((class ++ codes "(") ++ port.name) (codes "))") (joined (class ++ codes "(") port.name (joined class (codes "(") (port_class-words port.class) refl) h) refl
 
-rule-words : (r : Rule) (decision : Decision) → IsFeedlessRule r → IfSome decision.profile IsFeedlessName → IsFeedless (rule_words r decision)
-rule-words rule.NoClass decision h p = refl
-rule-words rule.ClassOff decision h p = refl
-rule-words rule.NotListed decision h p = refl
-rule-words (rule.Global place) decision h p = refl
-rule-words rule.NoProfile decision h p = refl
-rule-words rule.ProtectAll decision h p = refl
-rule-words rule.OwnData decision h p = profile-words decision.profile p
-rule-words (rule.GroupEntry group) decision h p = joined group (found_words decision) h (found-words decision p)
-rule-words (rule.Conditional port) decision h p = joined (port_words port) (found_words decision) (port-words port h) (found-words decision p)
-rule-words (rule.GroupOperations group) decision h p = joined group (found_words decision) h (found-words decision p)
-rule-words other decision h p = found-words decision p
+abbrev AreNames : List (List ℕ) → Type 0
+AreNames names = AllByRecursion IsFeedless names
+
+category-words : (categories : List (List ℕ)) (number : ℕ) → AreNames categories → IsFeedless (category_name categories number)
+category-words [] number are = refl
+category-words (name ∷ names) zero are = are.0
+category-words (name ∷ names) (suc number) are = category-words names number are.1
+
+classified-words : (categories : List (List ℕ)) → AreNames categories → (why : Classified) → IsFeedless (classified_words categories why)
+classified-words categories are LevelTooLow = refl
+classified-words categories are (CategoryMissing number) = category-words categories number are
+classified-words categories are LabelNotDominant = refl
+classified-words categories are WriteDown = refl
+
+rule-words : (categories : List (List ℕ)) → AreNames categories → (r : Rule) (decision : Decision) → IsFeedlessRule r → IfSome decision.profile IsFeedlessName → IsFeedless (rule_words categories r decision)
+rule-words categories are rule.NoClass decision h p = refl
+rule-words categories are rule.ClassOff decision h p = refl
+rule-words categories are rule.NotListed decision h p = refl
+rule-words categories are (rule.Global place) decision h p = refl
+rule-words categories are rule.NoProfile decision h p = refl
+rule-words categories are rule.ProtectAll decision h p = refl
+rule-words categories are (rule.Classified why) decision h p = joined (classified_words categories why) (profile_words decision.profile) (classified-words categories are why) (profile-words decision.profile p)
+rule-words categories are rule.OwnData decision h p = profile-words decision.profile p
+rule-words categories are (rule.GroupEntry group) decision h p = joined group (found_words decision) h (found-words decision p)
+rule-words categories are (rule.Conditional port) decision h p = joined (port_words port) (found_words decision) (port-words port h) (found-words decision p)
+rule-words categories are (rule.GroupOperations group) decision h p = joined group (found_words decision) h (found-words decision p)
+rule-words categories are other decision h p = found-words decision p
 
 record IsFeedlessDecision (decision : Decision) : Type 0 where
   rule : IsFeedlessRule decision.rule
   profile : IfSome decision.profile IsFeedlessName
 
-decision-words : (decision : Decision) → IsFeedlessDecision decision → IsFeedless (decision_words decision)
-decision-words decision h =
-    joined (decimal decision.rc ++ codes " ") (rule_words decision.rule decision) (joined (decimal decision.rc) (codes " ") (decimal-feedless decision.rc) refl) (rule-words decision.rule decision h.rule h.profile)
+decision-words : (categories : List (List ℕ)) → AreNames categories → (decision : Decision) → IsFeedlessDecision decision → IsFeedless (decision_words categories decision)
+decision-words categories are decision h =
+    joined (decimal decision.rc ++ codes " ") (rule_words categories decision.rule decision) (joined (decimal decision.rc) (codes " ") (decimal-feedless decision.rc) refl) (rule-words categories are decision.rule decision h.rule h.profile)
 
 -- ---- the profile that decides
 module _ {A : Type 0} (P : A → Type 0) where
@@ -218,9 +235,9 @@ without_profile : (options : Options) (class : List ℕ) → AllByRecursion IsFe
 without_profile options class = (fits _ rule.ProtectAll 8 NoAccess tt, tt)
 
 module _ (state : State) (acee : Acee) (groups : IsFeedlessAcee acee) (class : List ℕ) (name : Spelled) (asked : Level) where
-  with_profile : (p : Profile) → IsFeedlessProfile p → AllByRecursion IsFeedlessCase (cases_with_profile state.rows acee class name asked p)
-  with_profile p h = (
-    never-case,
+  with_profile : (bar : Option Classified) (p : Profile) → IsFeedlessProfile p → AllByRecursion IsFeedlessCase (cases_with_profile bar state.rows acee class name asked p)
+  with_profile bar p h = (
+    with-thing (λ (why : Classified). Unit {0}) _ (λ (why : Classified) e. fits _ (rule.Classified why) 8 NoAccess tt) bar (always bar tt),
     (
       fits _ rule.OwnData 0 NoAccess tt,
       (
@@ -252,20 +269,23 @@ module _ (state : State) (acee : Acee) (groups : IsFeedlessAcee acee) (class : L
   after-cases generation (Some answer) without p h other k = record { rule = h answer refl; profile = tt }
   after-cases generation None without None h other k = record { rule = other; profile = tt }
   after-cases generation None without (Some p) h other k = record {
-    rule = chosen (first_answer (cases_with_profile state.rows acee class name asked p)) (insufficient state.rows acee class name asked p) (first-case (cases_with_profile state.rows acee class name asked p) (with_profile p k)) tt;
+    rule =
+        let bar = classified state acee p asked in
+        let cases = cases_with_profile bar state.rows acee class name asked p in
+        chosen (first_answer cases) (insufficient bar state.rows acee class name asked p) (first-case cases (with_profile bar p k)) tt;
     profile = k.name;
   }
 
-  pub decided-words : (generation : ℕ) → IsFeedlessState state → IsFeedless (decision_words (decided state generation acee class name asked))
+  pub decided-words : (generation : ℕ) → IsFeedlessState state → IsFeedless (decision_words state.rows.options.categories (decided state generation acee class name asked))
   unfolding decided
   decided-words generation are =
       let cases = cases_without_profile state.rows.options class in
-      decision-words _ (after-cases generation (first_answer (cases_of_class state.rows class)) (answer_without_profile state.rows.options class) (profile_for state class name) (first-case (cases_of_class state.rows class) (of_class state.rows class)) (chosen (first_answer cases) no_profile (first-case cases (without_profile state.rows.options class)) tt) (profile_for-feedless state class name are))
+      decision-words state.rows.options.categories are.rows.categories _ (after-cases generation (first_answer (cases_of_class state.rows class)) (answer_without_profile state.rows.options class) (profile_for state class name) (first-case (cases_of_class state.rows class) (of_class state.rows class)) (chosen (first_answer cases) no_profile (first-case cases (without_profile state.rows.options class)) tt) (profile_for-feedless state class name are))
 
-  pub fast_decided-words : (generation : ℕ) → IsFeedlessState state → IsFeedless (decision_words (fast_decided state generation acee class name asked))
+  pub fast_decided-words : (generation : ℕ) → IsFeedlessState state → IsFeedless (decision_words state.rows.options.categories (fast_decided state generation acee class name asked))
   unfolding fast_decided
   fast_decided-words generation are =
-      decision-words _ (after-cases generation (first_answer (fast_cases_of_class state.rows class)) no_profile (profile_for state class name) (first-case (fast_cases_of_class state.rows class) (of_listed_class state.rows class)) tt (profile_for-feedless state class name are))
+      decision-words state.rows.options.categories are.rows.categories _ (after-cases generation (first_answer (fast_cases_of_class state.rows class)) no_profile (profile_for state class name) (first-case (fast_cases_of_class state.rows class) (of_listed_class state.rows class)) tt (profile_for-feedless state class name are))
 
 -- ---- VERIFY
 unless-acee : (fault : Option VerifyFault) (acee : Acee) → IsFeedlessAcee acee → IfOk (acee_unless fault acee) IsFeedlessAcee
@@ -279,7 +299,7 @@ module _ (state : State) (generation : ℕ) (request : VerifyRequest) where
       unless-acee _ (acee_for state.rows generation request user)
       (all-map acee_group (λ (group : AceeGroup). IsFeedless group.group) (filter (λ (connection : Connection). not connection.revoked) user.connects) (all-filter (λ (connection : Connection). IsFeedless connection.group) (λ (connection : Connection). not connection.revoked) user.connects h.groups))
 
-  admitted-acee : (r : Result Acee VerifyFault) → IfOk r IsFeedlessAcee → IfOk (admitted state generation r) IsFeedlessAcee
+  admitted-acee : (r : Result Acee VerifyFault) → IfOk r IsFeedlessAcee → IfOk (admitted state generation request.label r) IsFeedlessAcee
   admitted-acee (Err fault) h = tt
   admitted-acee (Ok acee) h = unless-acee _ acee h
 

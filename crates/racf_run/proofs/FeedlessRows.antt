@@ -1,7 +1,7 @@
 -- Rows whose IDs and names hold no line feed, and that each command that a text spells leaves such rows.
-use Rattle.std.proofs.Common.{ℕ, Bool, true, false, cond, not, List, [], ◌∷◌, Option, None, Some, refl}
+use Rattle.std.proofs.Common.{ℕ, Bool, true, false, cond, not, List, [], ◌∷◌, ◌++◌, Option, None, Some, refl, bytes_eq}
 use Rattle.std.specs.Prelude.{IfSome, find, filter, fold}
-use Rattle.std.specs.List.{AllByRecursion, flat_map}
+use Rattle.std.specs.List.{AllByRecursion, flat_map, list_any}
 use Rattle.std.specs.Option.{option_map_or}
 use Rattle.std.proofs.lemmas.Option.{IfSome_then}
 use Rattle.access_levels.specs.declared.entries.Who.{Who}
@@ -15,6 +15,8 @@ use Rattle.racf_profiles.specs.declared.users.User.{User}
 use Rattle.racf_profiles.specs.declared.users.Connect.{Connect as Connection}
 use Rattle.racf_profiles.specs.declared.groups.Group.{Group}
 use Rattle.racf_profiles.specs.declared.profiles.Profile.{Profile}
+use Rattle.racf_profiles.specs.declared.profiles.Member.{Member}
+use Rattle.racf_profiles.specs.declared.profiles.Member.TheVariants as member
 use Rattle.racf_profiles.specs.declared.class_rows.ClassRow.{ClassRow}
 use Rattle.racf_profiles.specs.declared.rows.Rows.{Rows}
 use Rattle.racf_profiles.specs.Lookup.{is_user, is_group, is_class, is_profile, class_of, profile_of}
@@ -31,9 +33,11 @@ use Rattle.command_parser.specs.declared.fields.Connect.{Connect}
 use Rattle.command_parser.specs.declared.fields.CommandFields.{CommandFields}
 use Rattle.command_parser.specs.declared.fields.CommandFields.TheVariants as command
 use Rattle.command_parser.specs.declared.profile_fields.Permit.{Permit}
-use Rattle.command_values.specs.LawfulValues.{Each}
+use Rattle.command_values.specs.LawfulValues.{Each, IsMember, AreMembers}
+use Rattle.command_values.specs.Members.{member_form}
+use Rattle.command_effects.specs.Members.{with_category_name, categories_defined}
 use Rattle.command_values.specs.declared.log_options.LogClause.{LogClause}
-use Rattle.command_parser.specs.LawfulFields.{IsId, IsGroupName, IsNamedOne, AreWhosOfPermit, IsPort, IsLogClause, AreLawfulFields}
+use Rattle.command_parser.specs.LawfulFields.{IsId, IsGroupName, IsNamedOne, AreWhosOfPermit, IsPort, IsLogClause, AreMembersOf, AreLawfulFields}
 use Rattle.command_parser.specs.Issuers.{group_or_current}
 use Rattle.command_effects.specs.UserEffects.{new_user, altered_user, new_group, altered_group, altered_connection, connects_after, connected_user, removed_user, owner_or_issuer}
 use Rattle.command_effects.specs.ProfileEffects.{dataset, new_data_set, altered_data_set, new_resource, altered_resource, profile_put, profile_dropped, profile_changed}
@@ -72,12 +76,14 @@ pub record AreFeedless (rows : Rows) : Type 0 where
   pub users : AllByRecursion IsFeedlessUser rows.users
   pub groups : AllByRecursion IsFeedlessGroup rows.groups
   pub classes : AllByRecursion AreFeedlessProfiles rows.classes
+  pub categories : AllByRecursion IsFeedless rows.options.categories
 
 pub first-feedless : AreFeedless new_database
 first-feedless = record {
   users = (record { id = refl; default_group = refl; groups = (refl, tt) }, tt);
   groups = (record { id = refl; superior = tt; owner = refl }, tt);
   classes = (tt, (tt, (tt, (tt, (tt, (tt, (tt, (tt, (tt, (tt, (tt, (tt, (tt, (tt, tt))))))))))))));
+  categories = tt;
 }
 
 -- of a state: its listed copies too
@@ -128,6 +134,7 @@ module _ (class : List ℕ) (rows : Rows) (are : AreFeedless rows) where
     users = are.users;
     groups = are.groups;
     classes = all-at_class AreFeedlessProfiles class (with_profile profile) rows.classes (λ row found h. all-put_profile IsFeedlessProfile profile row.profiles p h) are.classes;
+    categories = are.categories;
   }
 
   dropped-rows : (name : Spelled) → AreFeedless (profile_dropped class name rows)
@@ -135,6 +142,7 @@ module _ (class : List ℕ) (rows : Rows) (are : AreFeedless rows) where
     users = are.users;
     groups = are.groups;
     classes = all-at_class AreFeedlessProfiles class (without_profile name) rows.classes (λ row found h. all-drop_row IsFeedlessProfile (is_profile name) row.profiles h) are.classes;
+    categories = are.categories;
   }
 
   changed-rows : (name : Spelled) (change : Profile → Profile) → ((old : Profile) → IsFeedlessProfile old → IsFeedlessProfile (change old)) → AreFeedless (profile_changed class name change rows)
@@ -198,6 +206,40 @@ module _ (c : Permit) (whos : AllByRecursion IsFeedlessWho c.id) where
     conditional = conditional-entries c.when port (conditional_reset c.reset old.conditional) (conditional-reset c.reset old.conditional h.conditional);
   }
 
+-- ---- the categories that members define
+abbrev IsFeedlessMember : Member → Type 0
+IsFeedlessMember (member.Access resources level) = Unit {0}
+IsFeedlessMember (member.SecurityLevel name number) = Unit {0}
+IsFeedlessMember (member.Category name) = IsFeedless name
+
+member-feedless : (form : MemberForm) (added : Member) → IsMember form added → IsFeedlessMember added
+member-feedless form (member.Access resources level) h = tt
+member-feedless form (member.SecurityLevel name number) h = tt
+member-feedless forms.Category (member.Category name) h = id-feedless name h
+member-feedless (forms.Access kind) (member.Category name) h = absurd h
+member-feedless forms.SecurityLevel (member.Category name) h = absurd h
+
+members-feedless : (form : Option MemberForm) (added : List Member) → AreMembers form added → AllByRecursion IsFeedlessMember added
+members-feedless None added h = absurd h
+members-feedless (Some form) added h = each-all (IsMember form) IsFeedlessMember (member-feedless form) added h
+
+added-feedless : (class : List ℕ) (name : Spelled) (added : List Member) → AreMembersOf class name added → AllByRecursion IsFeedlessMember added
+added-feedless class name [] h = tt
+added-feedless class name (first ∷ more) h = members-feedless (member_form (Some class) (Some name)) (first ∷ more) h
+
+category-feedless : (names : List (List ℕ)) (added : Member) → AllByRecursion IsFeedless names → IsFeedlessMember added → AllByRecursion IsFeedless (with_category_name names added)
+category-feedless names (member.Access resources level) are h = are
+category-feedless names (member.SecurityLevel name number) are h = are
+category-feedless names (member.Category name) are h = by (list_any (λ other. bytes_eq other name) names)
+  where
+    by : (b : Bool) → AllByRecursion IsFeedless (cond b names (names ++ name ∷ []))
+    by true = are
+    by false = all-push IsFeedless names name are h
+
+defined-feedless : (class : List ℕ) (name : Spelled) (added : List Member) (names : List (List ℕ)) → AreMembersOf class name added → AllByRecursion IsFeedless names → AllByRecursion IsFeedless (categories_defined added names)
+defined-feedless class name added names h are =
+    fold-keeps (λ (names : List (List ℕ)). AllByRecursion IsFeedless names) IsFeedlessMember with_category_name category-feedless added names are (added-feedless class name added h)
+
 -- ---- connections after CONNECT
 connects-feedless : (c : Connect) (group : List ℕ) (connects : List Connection) → IsFeedless group
     → AllByRecursion (λ (connection : Connection). IsFeedless connection.group) connects → AllByRecursion (λ (connection : Connection). IsFeedless connection.group) (connects_after c group connects)
@@ -222,46 +264,52 @@ module _ (issuer : Issuer) (issuer_id : IsFeedless issuer.id) (issuer_group : Is
     users = all-push IsFeedlessUser rows.users (new_user issuer c rows) are.users (record { id = id-feedless c.user f.user; default_group = current-feedless c.dfltgrp f.dfltgrp; groups = (current-feedless c.dfltgrp f.dfltgrp, tt) });
     groups = are.groups;
     classes = are.classes;
+    categories = are.categories;
   }
   step-feedless (command.AltUser c) rows f are = record {
     users = all-at IsFeedlessUser (is_user c.user) (altered_user c rows) rows.users (λ user found h. record { id = h.id; default_group = if-given c.dfltgrp user.default_group (groups-feedless c.dfltgrp f.dfltgrp) h.default_group; groups = h.groups }) are.users;
     groups = are.groups;
     classes = are.classes;
+    categories = are.categories;
   }
-  step-feedless (command.DelUser c) rows f are = record { users = all-drop_row IsFeedlessUser (is_user c.user) rows.users are.users; groups = are.groups; classes = are.classes }
+  step-feedless (command.DelUser c) rows f are = record { users = all-drop_row IsFeedlessUser (is_user c.user) rows.users are.users; groups = are.groups; classes = are.classes; categories = are.categories }
   step-feedless (command.AddGroup c) rows f are = record {
     users = are.users;
     groups = all-push IsFeedlessGroup rows.groups (new_group issuer c) are.groups (record { id = group-feedless c.group f.group; superior = current-feedless c.supgroup f.supgroup; owner = owner-feedless c.owner f.owner });
     classes = are.classes;
+    categories = are.categories;
   }
   step-feedless (command.AltGroup c) rows f are = record {
     users = are.users;
     groups = all-at IsFeedlessGroup (is_group c.group) (altered_group c) rows.groups (λ group found h. record { id = h.id; superior = if-either IsFeedless c.supgroup group.superior (groups-feedless c.supgroup f.supgroup) h.superior; owner = if-given c.owner group.owner (ids-feedless c.owner f.owner) h.owner }) are.groups;
     classes = are.classes;
+    categories = are.categories;
   }
-  step-feedless (command.DelGroup c) rows f are = record { users = are.users; groups = all-drop_row IsFeedlessGroup (is_group c.group) rows.groups are.groups; classes = are.classes }
+  step-feedless (command.DelGroup c) rows f are = record { users = are.users; groups = all-drop_row IsFeedlessGroup (is_group c.group) rows.groups are.groups; classes = are.classes; categories = are.categories }
   step-feedless (command.Connect c) rows f are = record {
     users = all-at IsFeedlessUser (is_user c.user) (connected_user issuer c) rows.users
         (λ user found h. record { id = h.id; default_group = h.default_group; groups = connects-feedless c (group_or_current issuer c.group) user.connects (current-feedless c.group f.group) h.groups }) are.users;
     groups = are.groups;
     classes = are.classes;
+    categories = are.categories;
   }
   step-feedless (command.Remove c) rows f are = record {
     users = all-at IsFeedlessUser (is_user c.user) (removed_user issuer c) rows.users
         (λ user found h. record { id = h.id; default_group = h.default_group; groups = all-drop_row (λ (connection : Connection). IsFeedless connection.group) (is_to (group_or_current issuer c.group)) user.connects h.groups }) are.users;
     groups = are.groups;
     classes = are.classes;
+    categories = are.categories;
   }
   step-feedless (command.AddSd c) rows f are = put-rows dataset rows are (new_data_set issuer c rows) (record { name = data_set-feedless c.profile f.profile; standard = tt; conditional = tt })
   step-feedless (command.AltSd c) rows f are = changed-rows dataset rows are c.profile (altered_data_set c rows) (λ old h. record { name = h.name; standard = h.standard; conditional = h.conditional })
   step-feedless (command.DelSd c) rows f are = dropped-rows dataset rows are c.profile
   step-feedless (command.RDefine c) rows f are =
       let put = put-rows c.class rows are (new_resource issuer c rows) (record { name = class_profile-feedless c.class c.profile f.profile; standard = tt; conditional = tt }) in
-      record { users = put.users; groups = put.groups; classes = put.classes }
+      record { users = put.users; groups = put.groups; classes = put.classes; categories = defined-feedless c.class c.profile c.addmem rows.options.categories f.addmem are.categories }
   step-feedless (command.RAlter c) rows f are =
       let changed = changed-rows c.class rows are c.profile (altered_resource c rows) (λ old h. record { name = h.name; standard = h.standard; conditional = h.conditional }) in
-      record { users = changed.users; groups = changed.groups; classes = changed.classes }
+      record { users = changed.users; groups = changed.groups; classes = changed.classes; categories = defined-feedless c.class c.profile c.addmem rows.options.categories f.addmem are.categories }
   step-feedless (command.RDelete c) rows f are = dropped-rows c.class rows are c.profile
   step-feedless (command.Permit c) rows f are =
       changed-rows c.class rows are c.profile (permitted_profile c) (permitted-feedless c (whos-feedless c.id f.id) f.when)
-  step-feedless (command.SetRopts c) rows f are = record { users = are.users; groups = are.groups; classes = all-map (set_class c) AreFeedlessProfiles rows.classes are.classes }
+  step-feedless (command.SetRopts c) rows f are = record { users = are.users; groups = are.groups; classes = all-map (set_class c) AreFeedlessProfiles rows.classes are.classes; categories = are.categories }

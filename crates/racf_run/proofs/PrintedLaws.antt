@@ -18,7 +18,7 @@ use Rattle.request_files.specs.declared.acees.NamedAcee.{NamedAcee}
 use Rattle.request_files.specs.declared.line.LineRefusal.{LineRefusal}
 use Rattle.request_files.specs.declared.line.LineRefusal.TheVariants as fault
 use Rattle.request_files.specs.Answers as words
-use Rattle.request_files.specs.Answers.{numbered, unbuilt_words, verified_words, verify_fault_words, deleted_words, rule_words, decision_words, answer_line, never_line}
+use Rattle.request_files.specs.Answers.{numbered, verified_words, verify_fault_words, deleted_words, rule_words, decision_words, answer_line, never_line}
 use Rattle.request_files.specs.Acees.{acee_named, put_refusal}
 use Rattle.request_files.specs.Grammar.{Access, Line, Verify, Auth, Fastauth, Delete, After, Skip, read}
 use Rattle.request_files.specs.Worked as request
@@ -107,9 +107,9 @@ decision_starts rc words =
     ap (λ line. starts_with nat_eq line (codes "REFUSED ")) (numbered_parts rc words)
     ∙ digits_not_refused (decimal rc) (words ++ codes "\n") (decimal-AllDigits rc)
 
-decision_says : (n : ℕ) (d : Decision) → false ≡ says_refused (answer_line n d)
+decision_says : (n : ℕ) (categories : List (List ℕ)) (d : Decision) → false ≡ says_refused (answer_line n categories d)
 unfolding answer_line
-decision_says n d = sym (numbered_says n (decision_words d) ∙ decision_starts d.rc (rule_words d.rule d))
+decision_says n categories d = sym (numbered_says n (decision_words categories d) ∙ decision_starts d.rc (rule_words categories d.rule d))
 
 -- ---- requests
 
@@ -124,9 +124,6 @@ tells_either false x y p q = q
 module _ (image : Imaged) (acees : List NamedAcee) where
   tells_refused : (why : LineRefusal) → Tells (request.refused image acees why)
   tells_refused why = sym (refused_says image.generation (words.refusal_words why))
-
-  tells_unbuilt : Tells (request.unbuilt image acees)
-  tells_unbuilt = sym (numbered_says image.generation unbuilt_words)
 
   fault_says : (cause : VerifyFault) → false ≡ starts_with nat_eq (verify_fault_words cause ++ codes "\n") (codes "REFUSED ")
   fault_says verify.NotDefined = refl
@@ -149,7 +146,7 @@ module _ (image : Imaged) (acees : List NamedAcee) where
   tells_decided : (name : List ℕ) (decision_for : Acee → Decision) (acee : Option Acee) → Tells (request.decided_for image acees name decision_for acee)
   unfolding answer_line
   tells_decided name decision_for None = tells_refused (fault.NoAcee name)
-  tells_decided name decision_for (Some acee) = decision_says image.generation (decision_for acee)
+  tells_decided name decision_for (Some acee) = decision_says image.generation image.state.rows.options.categories (decision_for acee)
 
   tells_delete : (name : List ℕ) (acee : Option Acee) → Tells (request.delete_for image acees name acee)
   tells_delete name None = tells_refused (fault.NoAcee name)
@@ -159,8 +156,7 @@ module _ (image : Imaged) (acees : List NamedAcee) where
   tells_nothing = refl
 
   tells_line : (line : Line) → Tells (request.line_worked image acees line)
-  tells_line (Verify name asked) =
-      tells_either (is_some asked.label) (request.unbuilt image acees) (request.verify_unless image acees name asked (put_refusal name acees)) tells_unbuilt (tells_verify_unless name asked (put_refusal name acees))
+  tells_line (Verify name asked) = tells_verify_unless name asked (put_refusal name acees)
   tells_line (Auth name access) = tells_decided name (request.by_auth image acees access) (acee_named name acees)
   tells_line (Fastauth name access) = tells_decided name (request.by_fastauth image acees access) (acee_named name acees)
   tells_line (Delete name) = tells_delete name (acee_named name acees)

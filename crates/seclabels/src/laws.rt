@@ -2,8 +2,8 @@
 
 ghost use Rattle.seclabels.specs.Laws.{DominatesItself, DominancePassedOn, EachOtherAreOne, HighDominatesAll, AllDominateLow};
 
-/// Dominance is an order: every label dominates itself, dominance is passed on, and two labels that dominate each other are
-/// one label. SYSHIGH dominates every label, and every label dominates SYSLOW.
+/// Dominance is an order: every label dominates itself, dominance is passed on, and two labels that dominate each
+/// other are one label. SYSHIGH dominates every label, and every label dominates SYSLOW.
 pub fn dominance_is_an_order()
     ensures itself { DominatesItself }
     ensures passed_on { DominancePassedOn }

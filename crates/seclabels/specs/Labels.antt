@@ -31,8 +31,8 @@ system_low = record { level = 0; categories = 0 }
 abbrev pub label_of : Clearance → Label
 label_of user = unwrap_or user.label system_low
 
--- Where labels are checked, and the resource has one: the user's must dominate it; under MLS, where he asks to write, it
--- must dominate the user's too, so that nothing is written down.
+-- Where labels are checked, and the resource has one: the user's must dominate it; under MLS, where he asks to write,
+-- it must dominate the user's too, so that nothing is written down.
 abbrev pub barred_by_labels : (user resource : Label) → (mls : Bool) → Level → Option Classified
 barred_by_labels user resource mls asked =
     if not (dominates user resource) then Some LabelNotDominant

@@ -1,0 +1,3 @@
+pub mod Containing
+pub mod OrderLaws
+mod Rows

@@ -1,7 +1,7 @@
 -- Worked rows of the text that is made, and of the counts of an output.
-use Rattle.std.specs.Prelude.{◌≡◌, length, codes, refl}
+use Rattle.std.specs.Prelude.{◌≡◌, [], ◌∷◌, length, codes, refl}
 use Rattle.std.specs.Fmt.{digits}
-use Rattle.racf_generator.specs.MadeText.{made_lines, made_text}
+use Rattle.racf_generator.specs.MadeText.{definitions, requests, made_lines, made_text}
 use Rattle.racf_generator.specs.Tally.{ended_lines, tally, summary}
 
 -- one user, who asks for a data set of his own twice
@@ -17,6 +17,17 @@ no_user = refl
 -- twenty users have two groups
 twenty_users : length (made_lines 20) ≡ 122
 twenty_users = refl
+
+-- the tenth user belongs to the first group, and the eleventh to the second
+tenth : definitions 10 ≡ codes "ADDUSER U000010 DFLTGRP(G000001) OWNER(G000001)" ∷ codes "ADDSD 'U000010.**' OWNER(U000010) UACC(READ)" ∷ []
+tenth = refl
+
+eleventh : definitions 11 ≡ codes "ADDGROUP G000002 SUPGROUP(SYS1) OWNER(SYS1)" ∷ codes "ADDUSER U000011 DFLTGRP(G000002) OWNER(G000002)" ∷ codes "ADDSD 'U000011.**' OWNER(U000011) UACC(READ)" ∷ []
+eleventh = refl
+
+-- the last user asks for a data set of the first
+last : requests 11 11 ≡ codes "VERIFY A U000011" ∷ codes "AUTH A DATASET U000001.DATA UPDATE" ∷ codes "AUTH A DATASET U000011.DATA ALTER" ∷ codes "DELETE A" ∷ []
+last = refl
 
 -- commands that are accepted, and requests that are answered, one of them denied
 answered : summary 7 (tally (ended_lines (codes "1 ACCEPTED\n2 ACCEPTED\n3 ACCEPTED\n3 0 VERIFIED\n3 0 OWNDATA U000001.**\n3 8 INSUFFICIENT X NONE\n3 0 DELETED\n"))) ≡ codes "/* LINES 7 ACCEPTED 3 REFUSED 0 ANSWERED 4 DENIED 1 NUMBER 3\n"

@@ -23,7 +23,7 @@
 //! All other rows are lines of requests, as `request_files` reads them, but that a label may be named:
 //! - `VERIFY a user` with operands: prints the user's ACEE with all that it holds, in which a `*` marks a group with
 //!   group-OPERATIONS, and keeps it under the name `a`; or prints why he isn't verified;
-//! - `AUTH a class name level`: prints the decision with all that it holds;
+//! - `AUTH a class name level` and `FASTAUTH` with the same words: prints the decision with all that it holds;
 //! - `/* text` prints nothing.
 //!
 //! The first row that can't be worked ends the program, which names the cause.
@@ -44,11 +44,11 @@ mod looks;
 mod row_words;
 
 use access_levels::Id;
-use acee::{VerifyFault, VerifyRequest};
+use acee::{Acee, VerifyFault, VerifyRequest};
 use anyhow::{Result, anyhow};
 use commands::give;
 use compared::{Asked, Difference, first_difference};
-use decision::{Request, auth, verify};
+use decision::{auth, fastauth, verify};
 use followed_images::{Followed, TakenImage};
 use raclist_image::Image;
 use request_files::{AceeTable, RequestLine, read_line};
@@ -178,7 +178,13 @@ impl Session {
             }
             Ok(RequestLine::Auth(name, request)) => {
                 let name: Id = *name;
-                self.decide(rt, name, request)
+                let decision = auth(self.image()?, self.acee(name)?, request);
+                answers::print_decision(rt, &decision)
+            }
+            Ok(RequestLine::Fastauth(name, request)) => {
+                let name: Id = *name;
+                let decision = fastauth(self.image()?, self.acee(name)?, request);
+                answers::print_decision(rt, &decision)
             }
             Ok(RequestLine::Skip) => Ok(()),
             _ => Err(anyhow!("no such row: {line}")),
@@ -208,10 +214,10 @@ impl Session {
         }
     }
 
-    /// Decides for the ACEE of that name.
-    fn decide(&self, rt: &(impl Print + AllocGlobal), name: Id, request: &Request) -> Result<()> {
+    /// The ACEE of that name.
+    fn acee(&self, name: Id) -> Result<&Acee> {
         match self.acees.get(name) {
-            Some(acee) => answers::print_decision(rt, &auth(self.image()?, acee, request)),
+            Some(acee) => Ok(acee),
             None => Err(anyhow!("no ACEE of that name")),
         }
     }

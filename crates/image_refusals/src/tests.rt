@@ -3,7 +3,7 @@
 
 use access_levels::{Condition, Id, Level, PortClass};
 use acee::{Acee, VerifyFault, VerifyRequest};
-use decision::{Decision, Request, Rule, auth, verify};
+use decision::{Decision, Request, Rule, auth, fastauth, verify};
 use followed_images::{Followed, Outcome, TakenImage};
 use generic_names::Resource;
 use racf_profiles::{FixedClass, User, ibmuser, kind_in, sys1};
@@ -224,6 +224,11 @@ fn decides(image: &Image, acee: &Acee, asked: &Resources) -> bool {
             Rule::GroupEntry(acee.current),
         )
         && is_decided(&auth(image, acee, &asked.none), 4, Rule::NoProfile)
+        && is_decided(
+            &fastauth(image, acee, &asked.run),
+            4,
+            Rule::NotListed,
+        )
 }
 
 /// No call that reads an image, and no decision, takes memory.

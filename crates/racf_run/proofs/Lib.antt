@@ -1,4 +1,5 @@
 mod Rows
+mod Sent
 mod JoinRows
 pub mod Folds
 pub mod CutLaws

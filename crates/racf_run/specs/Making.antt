@@ -1,8 +1,7 @@
 -- What the words `make N OUT` write: the generated text, and a line with the counts of what its stream answers.
-use Rattle.std.specs.Prelude.{◌≡◌, ℕ, nat_le, ◌&&◌, Option, Some, None, option_and_then, List, [], ◌∷◌, ◌++◌, length, take, codes, if◌then◌else◌}
+use Rattle.std.specs.Prelude.{◌≡◌, ℕ, nat_le, ◌&&◌, Option, Some, None, option_and_then, List, [], ◌∷◌, ◌++◌, length, codes, if◌then◌else◌}
 use Rattle.std.specs.Str.{bytes_eq}
 use Rattle.std.specs.Io.KnownBytes.{append_known}
-use Rattle.racf_outside.specs.Shelf.{told, SameOthers}
 use Rattle.request_files.specs.Spellings.{number_word}
 use Rattle.racf_generator.specs.MadeText.{made_lines, made_text}
 use Rattle.racf_generator.specs.Tally.{tally, ended_lines, summary}
@@ -10,14 +9,19 @@ use Rattle.racf_run.specs.declared.status.Status.{Status}
 use Rattle.racf_run.specs.declared.status.Status.TheVariants.{Done, WriteFault, NoMemory}
 use Rattle.racf_run.specs.Script.{script_output}
 
--- The stream of the generated text, on a new database, is answered as its definition says.
+-- The last line: the counts of what the stream of the text is answered on a new database.
+abbrev pub summary_text : ℕ → List ℕ
+summary_text users = summary (length (made_lines users)) (tally (ended_lines (script_output (made_text users))))
+
 unfoldable pub make_text : ℕ → List ℕ
-make_text users = made_text users ++ summary (length (made_lines users)) (tally (ended_lines (script_output (made_text users))))
+make_text users = made_text users ++ summary_text users
 
 -- A front of the text was written behind what was there.
 pub record WroteFront (text : List ℕ) (before now : Option (List ℕ)) : Type 0 where
-  pub count : ℕ
-  pub front : now ≡ append_known before (take count text)
+  pub front : List ℕ
+  pub rest : List ℕ
+  pub parts : text ≡ front ++ rest
+  pub wrote : now ≡ append_known before front
 
 -- Where all went well the text was written whole; else a front of it, and the status is one of two.
 abbrev pub WroteText : Status → List ℕ → Option (List ℕ) → Option (List ℕ) → Type 0

@@ -14,7 +14,7 @@
 mod input;
 mod issuer;
 mod joining;
-pub pub mod laws;
+pub mod laws;
 mod making;
 mod mark;
 mod replies;

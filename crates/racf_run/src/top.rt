@@ -1,6 +1,6 @@
 //! The top call: the words of the command line, over a shelf of named inputs and outputs.
 
-ghost use Rattle.std.specs.Prelude.{◌≡◌, ◌↔◌, ◌≤◌, ◌<◌, map, IsNone, IsTrue, IfSome, length, string_bytes};
+ghost use Rattle.std.specs.Prelude.{◌≡◌, ◌⊎◌, ◌↔◌, ◌≤◌, ◌<◌, map, IsNone, IsTrue, IfSome, length, string_bytes};
 ghost use Rattle.std.specs.Option.{option_map};
 ghost use Rattle.racf_outside.specs.Causes.{Rose};
 ghost use Rattle.racf_outside.specs.Shelf.{SameBytes};
@@ -86,6 +86,7 @@ pub fn racf<F: Shelf>(alloc: Global, words: &[String], shelf: &mut F) -> Status
 fn make_into<F: Shelf>(alloc: Global, users: u32, output: &str, shelf: &mut F) -> Status
     requires few { users ≤ most_users }
     ensures makes { MakesOnShelf F.sink_gives F.give_back_gives F.tells F.output result (record { users = users; output = output.now }) shelf.old shelf.new }
+    ensures ends { (result ≡ Status.Done) ⊎ ((result ≡ Status.WriteFault) ⊎ (result ≡ Status.NoMemory)) }
     ensures write_fault { result ≡ Status.WriteFault → Rose (F.sink_faults shelf.old) (F.sink_faults shelf.new) }
     ensures inputs { SameBytes (F.input shelf.old) (F.input shelf.new) }
     ensures handed_back { OpensNone (F.is_open shelf.old) (F.is_open shelf.new) }

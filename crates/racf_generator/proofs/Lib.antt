@@ -1,0 +1,5 @@
+mod Appends
+mod MadeLaws
+mod Rows
+mod TallyLaws
+mod WordLaws

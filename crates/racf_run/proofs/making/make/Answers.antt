@@ -10,9 +10,9 @@ pub returns-in-Done-clause-wrote : goal.returns-in-Done-clause-wrote
 unfolding make_text
 returns-in-Done-clause-wrote g c = both c.write_summary.result (made_text c.args.users) (summary_text c.args.users) _ _ _ c.in-Done.ensures.wrote c.write_summary.ensures.wrote
 
-pub returns : goal.returns
+pub returns-in_default : goal.returns-in_default
 unfolding make_text
-returns g c = record {
+returns-in_default g c = record {
   ends = ends c.write_made.result (made_text c.args.users) _ _ c.write_made.ensures.wrote;
   wrote = stopped c.write_made.result (made_text c.args.users) (summary_text c.args.users) _ _ c.in_default.not-Done c.write_made.ensures.wrote;
   write_fault = c.write_made.ensures.write_fault;

@@ -5,8 +5,8 @@ ghost use Rattle.racf_profiles.specs.LawfulProfiles.{kind_in};
 ghost use Rattle.access_levels.specs.Level.{port_class_name};
 ghost use Rattle.decision.specs.Verify.{is_refused, is_port_refused, is_application_refused, is_label_refused, is_unknown_label, entry_fault, IsVerified};
 
-use crate::decide::auth;
 use crate::classification::has_label_profile;
+use crate::decide::auth;
 use crate::names::general_name;
 use crate::request::Request;
 use access_levels::{Condition, Id, Level, PortClass};
@@ -88,7 +88,8 @@ fn is_unknown_label(image: &Image, named: &Option<Id>) -> bool
     ensures { result ≡ is_unknown_label image.now.state named.now }
 {
     match named {
-        Some(label) => is_active(image, FixedClass::Seclabel.id()) && !has_label_profile(image, *label),
+        Some(label) => is_active(image, FixedClass::Seclabel.id())
+            && !has_label_profile(image, *label),
         None => false,
     }
 }

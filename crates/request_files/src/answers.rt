@@ -160,11 +160,7 @@ fn write_decision(
 }
 
 /// Writes the rule, and what belongs to it.
-fn write_rule(
-    decision: &Decision,
-    options: &Options,
-    out: &mut Vec<u8>,
-) -> Result<(), AllocError>
+fn write_rule(decision: &Decision, options: &Options, out: &mut Vec<u8>) -> Result<(), AllocError>
     ensures { OnOk result (out.new.items ≡ out.old.items ++ rule_words options.now.categories decision.now.rule decision.now) }
 {
     match &decision.rule {
@@ -195,11 +191,7 @@ fn write_rule(
 }
 
 /// Writes why the classification check fails.
-fn write_classified(
-    why: Classified,
-    options: &Options,
-    out: &mut Vec<u8>,
-) -> Result<(), AllocError>
+fn write_classified(why: Classified, options: &Options, out: &mut Vec<u8>) -> Result<(), AllocError>
     ensures { OnOk result (out.new.items ≡ out.old.items ++ (codes "CLASSIFIED " ++ classified_words options.now.categories why)) }
 {
     out.extend_from_slice(b"CLASSIFIED ")?;

@@ -224,11 +224,7 @@ fn decides(image: &Image, acee: &Acee, asked: &Resources) -> bool {
             Rule::GroupEntry(acee.current),
         )
         && is_decided(&auth(image, acee, &asked.none), 4, Rule::NoProfile)
-        && is_decided(
-            &fastauth(image, acee, &asked.run),
-            4,
-            Rule::NotListed,
-        )
+        && is_decided(&fastauth(image, acee, &asked.run), 4, Rule::NotListed)
 }
 
 /// No call that reads an image, and no decision, takes memory.

@@ -1,2 +1,3 @@
 mod WorkedRows
 mod Steps
+mod Unclassified

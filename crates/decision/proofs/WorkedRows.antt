@@ -22,6 +22,7 @@ use Rattle.acee.specs.declared.acee.Acee.{Acee}
 use Rattle.decision.specs.declared.outcome.Rule.{Rule}
 use Rattle.decision.specs.declared.outcome.Rule.TheVariants as rule
 use Rattle.decision.specs.declared.outcome.Decision.{Decision}
+use Rattle.decision.specs.Classification.{classified}
 use Rattle.decision.specs.Table.{decided, fast_decided}
 
 -- JOE, in the groups G1 and G2. Group-OPERATIONS holds in G2, which owns G3.
@@ -116,80 +117,80 @@ resource class rows = told (decided (restart rows) 7 joe class x Read)
 
 -- 1 and 2: NOSUCH is no class, and FACILITY isn't active, though a profile covers the name.
 no_class : resource (codes "NOSUCH") new_database ≡ (rule.NoClass, 4, NoAccess)
-unfolding decided
+unfolding decided classified
 no_class = refl
 
 class_off : told (decided (restart (record (with_profiles (codes "FACILITY") (profile x [] Alter ∷ []) no_options) { classes = map (λ (row : ClassRow). record row { active = false; profiles = profile x [] Alter ∷ [] }) new_database.classes })) 7 joe (codes "FACILITY") x Read) ≡ (rule.ClassOff, 4, NoAccess)
-unfolding decided
+unfolding decided classified
 class_off = refl
 
 -- 4 and 5: PROTECTALL speaks of DATASET alone.
 protect_all : told (decided (restart (with_profiles (codes "DATASET") [] protectall)) 7 joe (codes "DATASET") own Read) ≡ (rule.ProtectAll, 8, NoAccess)
-unfolding decided
+unfolding decided classified
 protect_all = refl
 
 no_profile : told (decided (restart (with_profiles (codes "DATASET") [] no_options)) 7 joe (codes "DATASET") own Read) ≡ (rule.NoProfile, 4, NoAccess)
-unfolding decided
+unfolding decided classified
 no_profile = refl
 
 no_profile-other : resource (codes "FACILITY") (with_profiles (codes "FACILITY") [] protectall) ≡ (rule.NoProfile, 4, NoAccess)
-unfolding decided
+unfolding decided classified
 no_profile-other = refl
 
 -- 7 before 8: his own data, though his entry says NONE. JOE's qualifier alone counts, and in DATASET alone.
 own_data : dataset (profile own (is_for (codes "JOE") NoAccess ∷ []) NoAccess) no_options joe Alter ≡ (rule.OwnData, 0, NoAccess)
-unfolding decided
+unfolding decided classified
 own_data = refl
 
 own_data-longer : dataset (profile (record { kind = DataSet; text = codes "JOEL.A" }) [] NoAccess) no_options joe Read ≡ (rule.Insufficient, 8, NoAccess)
-unfolding decided
+unfolding decided classified
 own_data-longer = refl
 
 -- 8: the user's entry, and where it is too low neither his group's nor the UACC.
 user : dataset (profile a (is_for (codes "G1") Alter ∷ is_for (codes "JOE") Update ∷ []) Alter) no_options joe Read ≡ (rule.UserEntry, 0, Update)
-unfolding decided
+unfolding decided classified
 user = refl
 
 user_too_low : dataset (profile a (is_for (codes "G1") Alter ∷ is_for (codes "JOE") NoAccess ∷ for_all Alter ∷ []) Alter) grplist operator Read ≡ (rule.Insufficient, 8, NoAccess)
-unfolding decided
+unfolding decided classified
 user_too_low = refl
 
 -- 9: the best group, on a tie the first of JOE's; only the current one while GRPLIST is off.
 group : dataset (profile a (is_for (codes "G2") Update ∷ is_for (codes "G1") Read ∷ for_all Alter ∷ []) NoAccess) grplist joe Read ≡ (rule.GroupEntry (codes "G2"), 0, Update)
-unfolding decided
+unfolding decided classified
 group = refl
 
 group_tie : dataset (profile a (is_for (codes "G2") Read ∷ is_for (codes "G1") Read ∷ []) NoAccess) grplist joe Read ≡ (rule.GroupEntry (codes "G1"), 0, Read)
-unfolding decided
+unfolding decided classified
 group_tie = refl
 
 group_current : dataset (profile a (is_for (codes "G2") Update ∷ []) NoAccess) no_options joe Read ≡ (rule.Insufficient, 8, NoAccess)
-unfolding decided
+unfolding decided classified
 group_current = refl
 
 group_too_low : dataset (profile a (is_for (codes "G1") Read ∷ for_all Alter ∷ []) Alter) no_options operator Update ≡ (rule.Insufficient, 8, Read)
-unfolding decided
+unfolding decided classified
 group_too_low = refl
 
 -- 10 and 11: `*` before the UACC; neither for a RESTRICTED user, whom a group's entry helps.
 star : dataset (profile a (for_all Update ∷ []) Alter) no_options joe Read ≡ (rule.Star, 0, Update)
-unfolding decided
+unfolding decided classified
 star = refl
 
 star_too_low : dataset (profile a (for_all Read ∷ []) Alter) no_options joe Update ≡ (rule.Uacc, 0, Alter)
-unfolding decided
+unfolding decided classified
 star_too_low = refl
 
 uacc : dataset (profile a [] Read) no_options operator Read ≡ (rule.Uacc, 0, Read)
-unfolding decided
+unfolding decided classified
 uacc = refl
 
 restricted_none : dataset (profile a (for_all Read ∷ []) Read) no_options restricted Read ≡ (rule.Insufficient, 8, NoAccess)
-unfolding decided
+unfolding decided classified
 restricted_none = refl
 
 restricted_group : dataset (profile a (for_all Read ∷ is_for (codes "G1") Read ∷ []) Read) no_options restricted Read ≡ (rule.GroupEntry (codes "G1"), 0, Read)
-unfolding decided
+unfolding decided classified
 restricted_group = refl
 
 -- 12: an entry under JOE's port, though his standard entry is too low.
@@ -200,24 +201,24 @@ abbrev by_port : Profile
 by_port = record (profile a (is_for (codes "JOE") NoAccess ∷ []) NoAccess) { conditional = record { condition = t1; who = Named (codes "JOE"); level = Update } ∷ [] }
 
 conditional : dataset by_port no_options at_t1 Read ≡ (rule.Conditional t1, 0, Update)
-unfolding decided
+unfolding decided classified
 conditional = refl
 
 conditional-other_port : dataset by_port no_options at_t2 Read ≡ (rule.Insufficient, 8, NoAccess)
-unfolding decided
+unfolding decided classified
 conditional-other_port = refl
 
 conditional-no_port : dataset by_port no_options joe Read ≡ (rule.Insufficient, 8, NoAccess)
-unfolding decided
+unfolding decided classified
 conditional-no_port = refl
 
 -- 13: OPERATIONS, where a class heeds it and there is no entry for the user or his groups.
 operations : dataset (profile a [] NoAccess) no_options operator Alter ≡ (rule.Operations, 0, NoAccess)
-unfolding decided
+unfolding decided classified
 operations = refl
 
 operations-class : told (decided (restart (with_profiles (codes "FACILITY") (profile x [] NoAccess ∷ []) no_options)) 7 operator (codes "FACILITY") x Read) ≡ (rule.Insufficient, 8, NoAccess)
-unfolding decided
+unfolding decided classified
 operations-class = refl
 
 -- 14: group-OPERATIONS in a considered group in whose scope the owner is.
@@ -225,21 +226,21 @@ abbrev owned_by : List ℕ → Bool → Profile
 owned_by owner warns = record (profile a [] Execute) { owner = owner; warning = warns }
 
 group_operations : dataset (owned_by (codes "G3") true) grplist joe Alter ≡ (rule.GroupOperations (codes "G2"), 0, Execute)
-unfolding decided
+unfolding decided classified
 group_operations = refl
 
 group_operations-scope : dataset (owned_by (codes "G1") false) grplist joe Alter ≡ (rule.Insufficient, 8, Execute)
-unfolding decided
+unfolding decided classified
 group_operations-scope = refl
 
 group_operations-current : dataset (owned_by (codes "G3") false) no_options joe Alter ≡ (rule.Insufficient, 8, Execute)
-unfolding decided
+unfolding decided classified
 group_operations-current = refl
 
 -- 15: a profile that warns gives the access, even against the user's entry.
 warning : decided (restart (with_profiles (codes "DATASET") (record (profile a (is_for (codes "JOE") NoAccess ∷ []) NoAccess) { warning = true } ∷ []) no_options)) 7 joe (codes "DATASET") a Read
     ≡ record { rc = 0; rule = rule.Warning; profile = Some a; found = NoAccess; warned = true; generation = 7 }
-unfolding decided
+unfolding decided classified
 warning = refl
 
 -- A RACLISTed class is decided by its copy, by AUTH and by FASTAUTH: the live profile gives X to nobody, the copy to all.
@@ -255,11 +256,11 @@ abbrev by_the_copy : Decision
 by_the_copy = record { rc = 0; rule = rule.Uacc; profile = Some x; found = Read; warned = false; generation = 7 }
 
 copied : decided listed 7 joe (codes "FACILITY") x Read ≡ by_the_copy
-unfolding decided
+unfolding decided classified
 copied = refl
 
 copied-fast : fast_decided listed 7 joe (codes "FACILITY") x Read ≡ by_the_copy
-unfolding fast_decided
+unfolding fast_decided classified
 copied-fast = refl
 
 -- FASTAUTH: what isn't a class, what isn't active, what isn't RACLISTed though a profile covers the name, and a name that
@@ -268,17 +269,17 @@ abbrev fast : State → List ℕ → Spelled → Rule × ℕ × Level
 fast state class name = told (fast_decided state 7 joe class name Read)
 
 fast_no_class : fast listed (codes "NOSUCH") x ≡ (rule.NoClass, 4, NoAccess)
-unfolding fast_decided
+unfolding fast_decided classified
 fast_no_class = refl
 
 fast_class_off : fast listed (codes "OPERCMDS") x ≡ (rule.ClassOff, 4, NoAccess)
-unfolding fast_decided
+unfolding fast_decided classified
 fast_class_off = refl
 
 fast_not_listed : fast (restart (with_profiles (codes "DATASET") (profile a [] Alter ∷ []) no_options)) (codes "DATASET") a ≡ (rule.NotListed, 4, NoAccess)
-unfolding fast_decided
+unfolding fast_decided classified
 fast_not_listed = refl
 
 fast_no_profile : fast listed (codes "FACILITY") (record { kind = General; text = codes "Y" }) ≡ (rule.NoProfile, 4, NoAccess)
-unfolding fast_decided
+unfolding fast_decided classified
 fast_no_profile = refl

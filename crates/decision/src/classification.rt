@@ -1,5 +1,5 @@
 //! The classification check: levels, categories and labels.
-ghost use Rattle.std.specs.Prelude.{◌≡◌, Some, None, is_some, option_map, bytes_eq, codes};
+ghost use Rattle.std.specs.Prelude.{◌≡◌, true, Some, None, is_some, option_map, bytes_eq, codes};
 ghost use Rattle.std.specs.Option.{option_copied};
 ghost use Rattle.racf_profiles.specs.declared.profiles.Profile.{Profile};
 ghost use Rattle.raclist_image.specs.Facts.{AreFacts};
@@ -13,8 +13,8 @@ use racf_profiles::FixedClass;
 use raclist_image::{Facts, Image};
 use seclabels::{Checks, Classified, Clearance, Label, check};
 
-/// Why the classification check of a profile fails, if it does. What has no level, no category and no label bars nobody,
-/// and then nothing is looked up.
+/// Why the classification check of a profile fails, if it does. What isn't classified bars nobody, and then nothing is
+/// looked up.
 pub(crate) fn classified(
     image: &Image,
     acee: &Acee,
@@ -23,9 +23,24 @@ pub(crate) fn classified(
 ) -> Option<Classified>
     ensures { (p : Profile) → AreFacts p facts.now → result ≡ classified image.now.state acee.now p asked }
 {
-    if facts.label.is_none() && facts.level == 0 && facts.categories == Categories::none() {
+    if is_unclassified(facts) {
         return None;
     }
+    checked(image, acee, facts, asked)
+}
+
+/// Whether the profile has no level, no category and no label.
+fn is_unclassified(facts: &Facts<'_>) -> bool
+    ensures { (p : Profile) → AreFacts p facts.now → result ≡ true → (p.level ≡ 0) × ((p.categories ≡ 0) × (p.label ≡ None)) }
+{
+    facts.label.is_none() && facts.level == 0 && facts.categories == Categories::none()
+}
+
+/// The classification check of a profile.
+#[tactic(auto, unfolding(crate::specs::Classification::classified))]
+fn checked(image: &Image, acee: &Acee, facts: &Facts<'_>, asked: Level) -> Option<Classified>
+    ensures { (p : Profile) → AreFacts p facts.now → result ≡ classified image.now.state acee.now p asked }
+{
     let user = user_clearance(image, acee);
     let resource = resource_clearance(image, facts);
     check(&user, &resource, checks(image), asked).err()

@@ -85,7 +85,7 @@ fn is_label_refused(image: &Image, acee: &Acee) -> bool
 
 /// Whether the label that is named has no profile, while labels are checked.
 fn is_unknown_label(image: &Image, named: &Option<Id>) -> bool
-    ensures { result ≡ is_unknown_label image.now.state named.now }
+    ensures { result ≡ is_unknown_label image.now.state image.now.generation named.now }
 {
     match named {
         Some(label) => is_active(image, FixedClass::Seclabel.id())

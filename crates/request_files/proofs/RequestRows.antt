@@ -4,6 +4,7 @@ use Rattle.racf_profiles.specs.NewDatabase.{new_database}
 use Rattle.racf_profiles.specs.State.{restart}
 use Rattle.raclist_image.specs.Imaged.{Imaged}
 use Rattle.acee.specs.Verify.{acee_of}
+use Rattle.decision.specs.Classification.{classified}
 use Rattle.decision.specs.Table.{decided, fast_decided}
 use Rattle.decision.specs.Verify.{verified}
 use Rattle.request_files.specs.declared.acees.NamedAcee.{NamedAcee}
@@ -48,5 +49,5 @@ life_of_an_acee : texts on_new [] (
     ∷ []
     ∷ never_line 0
     ∷ []
-unfolding on_new decided fast_decided verified acee_of words_at next deleted number_after asked_by verified_by requested read answer_line
+unfolding on_new decided fast_decided verified acee_of words_at next deleted number_after asked_by verified_by requested read answer_line classified
 life_of_an_acee = refl

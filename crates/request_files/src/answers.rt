@@ -190,11 +190,18 @@ fn write_rule(decision: &Decision, options: &Options, out: &mut Vec<u8>) -> Resu
     }
 }
 
-/// Writes why the classification check fails.
+/// Writes that the classification check fails, and why.
 fn write_classified(why: Classified, options: &Options, out: &mut Vec<u8>) -> Result<(), AllocError>
     ensures { OnOk result (out.new.items ≡ out.old.items ++ (codes "CLASSIFIED " ++ classified_words options.now.categories why)) }
 {
     out.extend_from_slice(b"CLASSIFIED ")?;
+    write_cause(why, options, out)
+}
+
+/// Writes why the classification check fails.
+fn write_cause(why: Classified, options: &Options, out: &mut Vec<u8>) -> Result<(), AllocError>
+    ensures { OnOk result (out.new.items ≡ out.old.items ++ classified_words options.now.categories why) }
+{
     match why {
         Classified::LevelTooLow => out.extend_from_slice(b"LEVEL"),
         Classified::CategoryMissing(number) => {

@@ -3,7 +3,6 @@ use Rattle.std.proofs.Common.{◌≡◌, ℕ, true, false, List, [], ◌∷◌, 
 use Rattle.racf_profiles.specs.declared.rows.Rows.{Rows}
 use Rattle.racf_profiles.specs.NewDatabase.{new_rows}
 use Rattle.command_conflicts.specs.declared.conflict.Conflict.{Conflict}
-use Rattle.command_effects.specs.Security.{general_name}
 use Rattle.command_conflicts.specs.declared.conflict.Conflict.TheVariants.{NotBuilt, Root, InUse, Cycle, DefaultGroup}
 use Rattle.command_conflicts.specs.declared.conflict.Holder.TheVariants.{Subgroup, Connected}
 use Rattle.command_parser.specs.declared.commands.Issuer.{Issuer}
@@ -71,6 +70,6 @@ groups_come_and_go : outcomes (ag (codes "A") None (Some (codes "SYS1")) ∷ ag 
 unfolding no_user no_owner no_group no_named_group no_class name_taken not_connected default_not_connected has_subgroup has_connected has_profile cycle owner_not_superior default_group last_special unknown_level unknown_category never_category unknown_label is_root meets users_full groups_full connections_full user_full add_user_conflicts alt_user_conflicts del_user_conflicts add_group_conflicts alt_group_conflicts del_group_conflicts connect_conflicts remove_conflicts
 groups_come_and_go = refl
 
--- RDELETE GLOBAL DATASET: what isn't built comes before all else
-not_built : conflict_of ibm (fields.RDelete (record { class = codes "GLOBAL"; profile = general_name (codes "DATASET") })) start ≡ Some NotBuilt
+-- AU SYS1 SECLEVEL(TOP): what isn't built comes before all else
+not_built : conflict_of ibm (fields.AddUser (record (add_user (codes "SYS1")) { seclevel = Some (codes "TOP") })) start ≡ Some NotBuilt
 not_built = refl

@@ -1,6 +1,6 @@
 -- The lines of AUTH, FASTAUTH and VERIFY, by what is decided.
 use Rattle.std.proofs.Common.{◌≡◌, ℕ, List, None, Some, Ok, ◌∙◌, ap}
-use Rattle.std.specs.Prelude.{Option, Result}
+use Rattle.std.specs.Prelude.{Option, Result, is_some, if◌then◌else◌}
 use Rattle.acee.specs.declared.acee.Acee.{Acee}
 use Rattle.acee.specs.declared.request.VerifyRequest.{VerifyRequest}
 use Rattle.decision.specs.Table.{decided, fast_decided}
@@ -9,7 +9,7 @@ use Rattle.request_files.specs.declared.line.LineRefusal.{LineRefusal}
 use Rattle.request_files.specs.Acees.{acee_named, put_refusal}
 use Rattle.request_files.specs.Answers.{answer_line}
 use Rattle.request_files.specs.Grammar.{Access, Line, Auth, Fastauth, Verify, read}
-use Rattle.request_files.specs.Worked.{by_auth, by_fastauth, decided_for, verify_told, verify_unless}
+use Rattle.request_files.specs.Worked.{by_auth, by_fastauth, decided_for, unbuilt, verify_told, verify_unless}
 use Rattle.racf_run.specs.declared.statement.Statement.TheVariants as item
 use Rattle.racf_run.specs.Stream as s
 use Rattle.racf_run.specs.Stream.{State, number_of}
@@ -29,7 +29,8 @@ fastauth_text line acee access user before h found =
     request_as (Ok (Fastauth acee access)) line before h
     ∙ ap (λ (x : Option Acee). (decided_for before.position before.acees acee (by_fastauth before.position before.acees access) x).text) found
 
-pub verify_text : (line acee : List ℕ) (asked : VerifyRequest) (before : State) → read line ≡ Ok (Verify acee asked) → put_refusal acee before.acees ≡ None → s.text (item.Request line) before ≡ (verify_told before.position before.acees acee (verified before.position.state (number_of before) asked)).text
-verify_text line acee asked before h free =
+pub verify_text : (line acee : List ℕ) (asked : VerifyRequest) (before : State) → read line ≡ Ok (Verify acee asked) → asked.label ≡ None → put_refusal acee before.acees ≡ None → s.text (item.Request line) before ≡ (verify_told before.position before.acees acee (verified before.position.state (number_of before) asked)).text
+verify_text line acee asked before h none free =
     request_as (Ok (Verify acee asked)) line before h
+    ∙ ap (λ (x : Option (List ℕ)). (if is_some x then unbuilt before.position before.acees else verify_unless before.position before.acees acee asked (put_refusal acee before.acees)).text) none
     ∙ ap (λ (x : Option LineRefusal). (verify_unless before.position before.acees acee asked x).text) free

@@ -37,7 +37,7 @@ use Rattle.request_files.specs.IssuerLines.{issuer_of_line}
 use Rattle.request_files.specs.declared.line.LineRefusal.{LineRefusal}
 use Rattle.request_files.specs.declared.line.LineRefusal.TheVariants.{BadLine, NoAcee, AceeExists, AceesFull, BadName, LineTooLong}
 use Rattle.request_files.specs.Acees.{is_named, acee_named, put_refusal, most_acees}
-use Rattle.request_files.specs.Answers.{numbered, refused_words, verified_words, verify_fault_words, deleted_words, decision_words, answer_line, never_line}
+use Rattle.request_files.specs.Answers.{numbered, refused_words, unbuilt_words, verified_words, verify_fault_words, deleted_words, decision_words, answer_line, never_line}
 use Rattle.request_files.specs.Grammar.{Access, Line, Verify, Auth, Fastauth, Delete, After, Skip, read}
 use Rattle.request_files.specs.Worked as request
 use Rattle.lawful_commands.proofs.RowLists.{all-push}
@@ -106,6 +106,9 @@ module _ (position : Imaged) (acees : List NamedAcee) (are : IsFeedlessState pos
   works-refused : (why : LineRefusal) → IsFeedlessRefusal why → Works position.generation (request.refused position acees why)
   works-refused why h = stays _ true (line position.generation (refused_words why) (refusal-words why h))
 
+  works-unbuilt : Works position.generation (request.unbuilt position acees)
+  works-unbuilt = stays _ true (line position.generation unbuilt_words refl)
+
   verify-told : (name : List ℕ) (result : Result Acee VerifyFault) → IfOk result IsFeedlessAcee → Works position.generation (request.verify_told position acees name result)
   verify-told name (Ok acee) h = record {
     line = line position.generation verified_words refl;
@@ -134,7 +137,8 @@ module _ (position : Imaged) (acees : List NamedAcee) (are : IsFeedlessState pos
   }
 
   works-line : (read : Line) → IsFeedlessLine read → Works position.generation (request.line_worked position acees read)
-  works-line (Verify name asked) h = verify-unless name asked (put_refusal name acees) (put-feedless name acees h)
+  works-line (Verify name asked) h =
+      either (Works position.generation) (is_some asked.label) _ _ works-unbuilt (verify-unless name asked (put_refusal name acees) (put-feedless name acees h))
   works-line (Auth name access) h =
       works-decided name (request.by_auth position acees access) (acee_named name acees) (λ acee k. decided-words position.state acee k access.class access.name access.asked position.generation are) h (named-acee name)
   works-line (Fastauth name access) h =

@@ -18,7 +18,7 @@ use Rattle.request_files.specs.declared.acees.NamedAcee.{NamedAcee}
 use Rattle.request_files.specs.declared.line.LineRefusal.{LineRefusal}
 use Rattle.request_files.specs.declared.line.LineRefusal.TheVariants as fault
 use Rattle.request_files.specs.Answers as words
-use Rattle.request_files.specs.Answers.{numbered, verified_words, verify_fault_words, deleted_words, rule_words, decision_words, answer_line, never_line}
+use Rattle.request_files.specs.Answers.{numbered, unbuilt_words, verified_words, verify_fault_words, deleted_words, rule_words, decision_words, answer_line, never_line}
 use Rattle.request_files.specs.Acees.{acee_named, put_refusal}
 use Rattle.request_files.specs.Grammar.{Access, Line, Verify, Auth, Fastauth, Delete, After, Skip, read}
 use Rattle.request_files.specs.Worked as request
@@ -125,6 +125,9 @@ module _ (image : Imaged) (acees : List NamedAcee) where
   tells_refused : (why : LineRefusal) → Tells (request.refused image acees why)
   tells_refused why = sym (refused_says image.generation (words.refusal_words why))
 
+  tells_unbuilt : Tells (request.unbuilt image acees)
+  tells_unbuilt = sym (numbered_says image.generation unbuilt_words)
+
   fault_says : (cause : VerifyFault) → false ≡ starts_with nat_eq (verify_fault_words cause ++ codes "\n") (codes "REFUSED ")
   fault_says verify.NotDefined = refl
   fault_says verify.NotConnected = refl
@@ -156,7 +159,8 @@ module _ (image : Imaged) (acees : List NamedAcee) where
   tells_nothing = refl
 
   tells_line : (line : Line) → Tells (request.line_worked image acees line)
-  tells_line (Verify name asked) = tells_verify_unless name asked (put_refusal name acees)
+  tells_line (Verify name asked) =
+      tells_either (is_some asked.label) (request.unbuilt image acees) (request.verify_unless image acees name asked (put_refusal name acees)) tells_unbuilt (tells_verify_unless name asked (put_refusal name acees))
   tells_line (Auth name access) = tells_decided name (request.by_auth image acees access) (acee_named name acees)
   tells_line (Fastauth name access) = tells_decided name (request.by_fastauth image acees access) (acee_named name acees)
   tells_line (Delete name) = tells_delete name (acee_named name acees)

@@ -53,7 +53,7 @@ pub fn requests_are_decided()
         printed turn ≡ answer_line (number_of turn.before) turn.before.position.state.rows.options.categories
         (fast_decided turn.before.position.state (number_of turn.before) user access.class access.name access.asked) }
     ensures verify { (turn : Turn) (line acee : List ℕ) (asked : VerifyRequest) → turn.item ≡ Request line →
-        read line ≡ Ok (Verify acee asked) → put_refusal acee turn.before.acees ≡ None →
+        read line ≡ Ok (Verify acee asked) → asked.label ≡ None → put_refusal acee turn.before.acees ≡ None →
         printed turn ≡ (verify_told turn.before.position turn.before.acees acee
         (verified turn.before.position.state (number_of turn.before) asked)).text }
 {}

@@ -39,9 +39,12 @@ refusal_words refusal.LineTooLong = codes "LINETOOLONG"
 abbrev pub refused_words : LineRefusal → List ℕ
 refused_words refusal = codes "REFUSED " ++ refusal_words refusal
 
--- the word for what isn't built
+-- the word for what isn't built, and a line that asks for it
 abbrev pub unbuilt_word : List ℕ
 unbuilt_word = codes "NOTBUILT"
+
+abbrev pub unbuilt_words : List ℕ
+unbuilt_words = codes "REFUSED " ++ unbuilt_word
 
 -- ---- VERIFY and DELETE: the return code, and its word. Want of memory has neither, since it is answered to the caller
 

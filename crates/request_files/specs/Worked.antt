@@ -11,7 +11,7 @@ use Rattle.request_files.specs.declared.acees.NamedAcee.{NamedAcee}
 use Rattle.request_files.specs.declared.line.LineRefusal.{LineRefusal}
 use Rattle.request_files.specs.declared.line.LineRefusal.TheVariants as refusal
 use Rattle.request_files.specs.Acees.{acee_named, put_refusal, with_acee, without_acee}
-use Rattle.request_files.specs.Answers.{numbered, refused_words, verified_words, verify_fault_words, deleted_words, answer_line, never_line}
+use Rattle.request_files.specs.Answers.{numbered, refused_words, unbuilt_words, verified_words, verify_fault_words, deleted_words, answer_line, never_line}
 use Rattle.request_files.specs.Grammar.{Access, Line, Verify, Auth, Fastauth, Delete, After, Skip}
 
 pub record Outcome : Type 0 where
@@ -40,7 +40,11 @@ module _ (image : Imaged) (acees : List NamedAcee) where
   abbrev pub refused : LineRefusal → Outcome
   refused why = refused_with (numbered image.generation (refused_words why))
 
-  -- VERIFY puts the ACEE of a user who is verified. It asks whether one can be put before it verifies.
+  abbrev pub unbuilt : Outcome
+  unbuilt = refused_with (numbered image.generation unbuilt_words)
+
+  -- VERIFY puts the ACEE of a user who is verified. It asks whether one can be put before it verifies. That a label is
+  -- named isn't built.
   abbrev pub verify_told : List ℕ → Result Acee VerifyFault → Outcome
   verify_told name (Ok acee) = record { text = numbered image.generation verified_words; refused = false; acees = with_acee name acee acees }
   verify_told name (Err fault) = answered (numbered image.generation (verify_fault_words fault))
@@ -50,7 +54,7 @@ module _ (image : Imaged) (acees : List NamedAcee) where
   verify_unless name request None = verify_told name (verified image.state image.generation request)
 
   abbrev pub verify_worked : List ℕ → VerifyRequest → Outcome
-  verify_worked name request = verify_unless name request (put_refusal name acees)
+  verify_worked name request = if is_some request.label then unbuilt else verify_unless name request (put_refusal name acees)
 
   -- AUTH and FASTAUTH decide for the user of their ACEE.
   abbrev pub by_auth : Access → Acee → Decision

@@ -4,13 +4,15 @@ ghost use Rattle.std.specs.Prelude.{◌≡◌, ◌++◌, [], true, false, not, n
 ghost use Rattle.raclist_image.specs.Imaged.{Imaged};
 ghost use Rattle.decision.specs.Verify.{verified};
 ghost use Rattle.request_files.specs.Acees.{acee_named, put_refusal, with_acee};
-ghost use Rattle.request_files.specs.Answers.{numbered, refused_words, verified_words, never_line, answer_line};
+ghost use Rattle.request_files.specs.Answers.{numbered, refused_words, unbuilt_words, verified_words, never_line, answer_line};
 ghost use Rattle.request_files.specs.Grammar.{line_of, access_of};
 ghost use Rattle.request_files.specs.Seen.{line_read};
 ghost use Rattle.request_files.specs.Worked.{Shows, Untouched, worked, line_worked, told, verify_worked, verify_told, by_auth, by_fastauth, decided_for, delete_for};
 
 use crate::acees::AceeTable;
-use crate::answers::{answer_text, verify_fault_words, write_line, write_never, write_refused};
+use crate::answers::{
+    answer_text, unbuilt_word, verify_fault_words, write_line, write_never, write_refused,
+};
 use crate::line::{LineRefusal, RequestLine};
 use access_levels::Id;
 use acee::{Acee, VerifyFault, VerifyRequest};
@@ -20,7 +22,7 @@ use std::alloc::{AllocError, Global};
 
 /// Answers a line that was read: writes its text at the end of `out`, and tells whether it was refused. VERIFY verifies a
 /// user and puts his ACEE, AUTH and FASTAUTH decide on the image, DELETE takes an ACEE out, and `*AFTER` prints only where
-/// its number isn't reached.
+/// its number isn't reached. A label on VERIFY isn't built: such lines are refused as NOTBUILT.
 ///
 /// # Errors
 ///
@@ -97,6 +99,9 @@ fn respond_to_verify(
     ensures worked { IfOk result (Shows (verify_worked image.now acees.old name request.now) out.old.items out.new.items acees.new) }
     ensures kept { OnErr result (Untouched out.old.items out.new.items acees.old acees.new) }
 {
+    if request.label.is_some() {
+        return not_built(image.generation(), out);
+    }
     match acees.refusal(name) {
         Some(refusal) => refuse(&refusal, image.generation(), out),
         None => respond_for_user(alloc, name, request, image, acees, out),
@@ -233,6 +238,19 @@ fn answer(words: &[u8], number: u64, out: &mut Vec<u8>) -> Result<bool, AllocErr
 {
     write_line(number, words, out)?;
     Ok(false)
+}
+
+/// Refuses a line that asks for what isn't built.
+fn not_built(number: u64, out: &mut Vec<u8>) -> Result<bool, AllocError>
+    ensures refused { IfOk result (λ refused. refused ≡ true) }
+    ensures text { OnOk result (out.new.items ≡ out.old.items ++ numbered number unbuilt_words) }
+    ensures kept { OnErr result (out.new.items ≡ out.old.items) }
+{
+    let mut words = Vec::new(*out.allocator());
+    words.extend_from_slice(b"REFUSED ")?;
+    words.extend_from_slice(unbuilt_word())?;
+    write_line(number, words.as_slice(), out)?;
+    Ok(true)
 }
 
 /// Refuses a line.

@@ -38,7 +38,7 @@ use Rattle.request_files.specs.declared.line.LineRefusal.{LineRefusal}
 use Rattle.request_files.specs.declared.line.LineRefusal.TheVariants.{BadLine, NoAcee, AceeExists, AceesFull, BadName, LineTooLong}
 use Rattle.request_files.specs.Acees.{is_named, acee_named, put_refusal, most_acees}
 use Rattle.request_files.specs.Answers.{numbered, refused_words, unbuilt_words, verified_words, verify_fault_words, deleted_words, decision_words, answer_line, never_line}
-use Rattle.request_files.specs.Grammar.{Access, Line, Verify, Auth, Fastauth, Delete, After, Skip, read}
+use Rattle.request_files.specs.Grammar.{Line, Verify, Auth, Fastauth, Delete, After, Skip, read}
 use Rattle.request_files.specs.Worked as request
 use Rattle.lawful_commands.proofs.RowLists.{all-push}
 use Rattle.racf_run.specs.declared.statement.Statement.{Statement}

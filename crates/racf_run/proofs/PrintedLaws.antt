@@ -20,7 +20,7 @@ use Rattle.request_files.specs.declared.line.LineRefusal.TheVariants as fault
 use Rattle.request_files.specs.Answers as words
 use Rattle.request_files.specs.Answers.{numbered, unbuilt_words, verified_words, verify_fault_words, deleted_words, rule_words, decision_words, answer_line, never_line}
 use Rattle.request_files.specs.Acees.{acee_named, put_refusal}
-use Rattle.request_files.specs.Grammar.{Access, Line, Verify, Auth, Fastauth, Delete, After, Skip, read}
+use Rattle.request_files.specs.Grammar.{Line, Verify, Auth, Fastauth, Delete, After, Skip, read}
 use Rattle.request_files.specs.Worked as request
 use Rattle.racf_desk.specs.declared.outcome.IssuedCommand.{IssuedCommand}
 use Rattle.racf_desk.specs.declared.refusal.Refusal.{Refusal as OfCommand}

@@ -1,5 +1,5 @@
 -- The stream: what stands between two lines, and the answer to each statement.
-use Rattle.std.specs.Prelude.{◌≡◌, ℕ, ◌+◌, Bool, true, false, ◌||◌, Result, Ok, Err, List, [], ◌++◌, if◌then◌else◌}
+use Rattle.std.specs.Prelude.{◌≡◌, ℕ, ◌+◌, Bool, true, false, ◌||◌, Result, Ok, Err, List, [], ◌++◌}
 use Rattle.racf_run.specs.declared.statement.Statement.{Statement}
 use Rattle.racf_run.specs.declared.statement.Statement.TheVariants as item
 use Rattle.racf_run.specs.declared.reply.Refusal.{Refusal}

@@ -237,7 +237,7 @@ without_profile options class = (fits _ rule.ProtectAll 8 NoAccess tt, tt)
 module _ (state : State) (acee : Acee) (groups : IsFeedlessAcee acee) (class : List ℕ) (name : Spelled) (asked : Level) where
   with_profile : (bar : Option Classified) (p : Profile) → IsFeedlessProfile p → AllByRecursion IsFeedlessCase (cases_with_profile bar state.rows acee class name asked p)
   with_profile bar p h = (
-    with-thing (λ (why : Classified). Unit {0}) _ (λ (why : Classified) e. fits _ (rule.Classified why) 8 NoAccess tt) bar (always bar tt),
+    with-thing (λ (why : Classified). Unit {0}) _ (λ (why : Classified) e. fits true (rule.Classified why) 8 NoAccess tt) bar (always bar tt),
     (
       fits _ rule.OwnData 0 NoAccess tt,
       (

@@ -34,6 +34,8 @@ use Rattle.command_parser.specs.declared.fields.CommandFields.{CommandFields}
 use Rattle.command_parser.specs.declared.fields.CommandFields.TheVariants as command
 use Rattle.command_parser.specs.declared.profile_fields.Permit.{Permit}
 use Rattle.command_values.specs.LawfulValues.{Each, IsMember, AreMembers}
+use Rattle.command_values.specs.declared.members.MemberForm.{MemberForm}
+use Rattle.command_values.specs.declared.members.MemberForm.TheVariants as forms
 use Rattle.command_values.specs.Members.{member_form}
 use Rattle.command_effects.specs.Members.{with_category_name, categories_defined}
 use Rattle.command_values.specs.declared.log_options.LogClause.{LogClause}

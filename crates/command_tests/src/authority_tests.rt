@@ -257,9 +257,10 @@ fn told(need: &Need) -> [&[u8]; 3] {
 
 /// Writes a need as it is printed.
 fn write_need(rt: &impl Abort, need: &Need, out: &mut Vec<u8>) {
-    for part in told(need) {
-        assert!(rt; out.extend_from_slice(part).is_ok());
-    }
+    let [word, name, end] = told(need);
+    assert!(rt; out.extend_from_slice(word).is_ok());
+    assert!(rt; out.extend_from_slice(name).is_ok());
+    assert!(rt; out.extend_from_slice(end).is_ok());
 }
 
 /// Whether the needs are printed as this text.

@@ -621,6 +621,14 @@ fn alone(number: u32) -> [u8; 10] {
     [b'U', b'0', a, b, c, d, e, b'.', b'*', b'*']
 }
 
+/// Whether a name that is there is placed alone once it is put again.
+fn places_one_again(rt: &(impl AllocGlobal + Abort), index: &SharedIndex<u32>) -> bool
+    requires { AreOf General index.now }
+{
+    let made = put_one(rt, index, b"U000500.**");
+    made.placed == 10 && made.what.len() == 1_000
+}
+
 /// Each of 1,000 names stands alone in the bucket of its first qualifier, and a change of one places that name again.
 #[test]
 fn places_one_name_of_a_thousand(rt: HostRuntime) {
@@ -628,6 +636,5 @@ fn places_one_name_of_a_thousand(rt: HostRuntime) {
     for number in 1..1_001u32 {
         index = place(&rt, &index, &alone(number), 10);
     }
-    let made = put_one(&rt, &index, b"U000500.**");
-    assert!(rt; made.placed == 10 && made.what.len() == 1_000);
+    assert!(rt; places_one_again(&rt, &index));
 }

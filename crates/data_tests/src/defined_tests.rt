@@ -2,7 +2,7 @@
 
 use defined_rows::{DefinedRows, Keyed, NoMemory};
 use std::alloc::Global;
-use std::test::Fail;
+use std::process::Abort;
 
 /// A row of two bytes, the key, and a number.
 #[derive(Drop)]
@@ -27,13 +27,13 @@ fn number_of(table: &DefinedRows<Item>, name: &[u8]) -> u32 {
     }
 }
 
-/// The keys in order, one behind another.
-fn keys_of(alloc: Global, table: &DefinedRows<Item>) -> Result<Vec<u8>, NoMemory> {
-    let mut keys = Vec::new(alloc);
+/// Whether a table has just these keys in order, one behind another.
+fn has_keys(rt: &(impl AllocGlobal + Abort), table: &DefinedRows<Item>, keys: &str) -> bool {
+    let mut found = Vec::new(rt.alloc());
     for place in 0..table.len() {
-        keys.extend_from_slice(&table.at(place).name)?;
+        assert!(rt; found.extend_from_slice(&table.at(place).name).is_ok());
     }
-    Ok(keys)
+    found.as_slice() == keys.as_bytes()
 }
 
 /// The table with a row of this number put, or without the row of the name where the number is 0.
@@ -49,58 +49,63 @@ fn changed_by(
     table.with_row(alloc, Item { name, number })
 }
 
-/// Whether a table has just these keys in order, and this number under the name.
-fn shows(
-    alloc: Global,
+/// The name of a row, its number, 0 where the row goes, and the keys that are then there.
+type Change = ([u8; 2], u32, &'static str);
+
+/// Rows that come, are replaced and go.
+const CHANGES: [Change; 8] = [
+    (*b"PA", 1, "PA"),
+    (*b"BO", 2, "PABO"),
+    (*b"ZZ", 3, "PABOZZ"),
+    (*b"BO", 4, "PABOZZ"),
+    (*b"PA", 0, "BOZZ"),
+    (*b"AN", 5, "BOZZAN"),
+    (*b"XX", 0, "BOZZAN"),
+    (*b"PA", 6, "BOZZANPA"),
+];
+
+/// The changed table, shared. The table before it stays as it was.
+fn later(
+    rt: &(impl AllocGlobal + Abort),
     table: &DefinedRows<Item>,
-    keys: &[u8],
-    name: [u8; 2],
-    number: u32,
-) -> Result<bool, NoMemory> {
-    Ok(keys_of(alloc, table)?.as_slice() == keys && number_of(table, &name) == number)
+    before: &str,
+    (name, number, keys): Change,
+) -> DefinedRows<Item> {
+    let later = changed_by(rt.alloc(), table, name, number).expect(rt, "memory");
+    assert!(rt; has_keys(rt, table, before));
+    assert!(rt; has_keys(rt, &later, keys) && number_of(&later, &name) == number);
+    later.share(rt.alloc()).expect(rt, "memory")
 }
 
 /// Rows that come, are replaced and go, each with the keys that are then there, and the number of one of them. The
 /// table before each change stays as it was.
 #[test]
-fn worked_rows(rt: HostRuntime) -> Result<(), Fail> {
-    let alloc = rt.alloc();
-    let mut table = DefinedRows::new(alloc);
+fn worked_rows(rt: HostRuntime) {
+    let mut table = DefinedRows::new(rt.alloc());
     let mut before = "";
-    for (name, number, keys) in [
-        (*b"PA", 1, "PA"),
-        (*b"BO", 2, "PABO"),
-        (*b"ZZ", 3, "PABOZZ"),
-        (*b"BO", 4, "PABOZZ"),
-        (*b"PA", 0, "BOZZ"),
-        (*b"AN", 5, "BOZZAN"),
-        (*b"XX", 0, "BOZZAN"),
-        (*b"PA", 6, "BOZZANPA"),
-    ] {
-        let later = changed_by(alloc, &table, name, number)?;
-        assert_eq!(rt; keys_of(alloc, &table)?.as_slice(), before.as_bytes());
-        table = later.share(alloc)?;
-        assert!(rt; shows(alloc, &table, keys.as_bytes(), name, number)?);
-        before = keys;
+    for row in &CHANGES {
+        table = later(&rt, &table, before, *row);
+        before = row.2;
     }
-    assert!(rt; !table.is_empty());
-    Ok(())
+    assert!(rt; has_keys(&rt, &table, before) && !table.is_empty());
 }
 
-/// Puts a row into a plain list, in place of the one of its key or last.
-fn put(plain: &mut Vec<([u8; 2], u32)>, name: [u8; 2], number: u32) -> Result<(), NoMemory> {
+/// A row of a plain list.
+type Plain = ([u8; 2], u32);
+
+/// Puts a row into a plain list, in place of the one of its key or last, and answers whether it could.
+fn put(plain: &mut Vec<Plain>, name: [u8; 2], number: u32) -> bool {
     for item in plain.iter_mut() {
         if item.0 == name {
             item.1 = number;
-            return Ok(());
+            return true;
         }
     }
-    plain.push((name, number))?;
-    Ok(())
+    plain.push((name, number)).is_ok()
 }
 
 /// Whether a table has just these rows, in their order and by their keys.
-fn is_same(table: &DefinedRows<Item>, plain: &[([u8; 2], u32)]) -> bool {
+fn is_same(table: &DefinedRows<Item>, plain: &[Plain]) -> bool {
     for (place, row) in plain.iter().enumerate() {
         if place >= table.len() || table.at(place).name != row.0 {
             return false;
@@ -112,28 +117,34 @@ fn is_same(table: &DefinedRows<Item>, plain: &[([u8; 2], u32)]) -> bool {
     table.len() == plain.len()
 }
 
+/// The table with a row put, or without it at each third number, and the same change made of a plain list.
+fn changed_beside(
+    rt: &(impl AllocGlobal + Abort),
+    table: &DefinedRows<Item>,
+    plain: &mut Vec<Plain>,
+    name: [u8; 2],
+    number: u32,
+) -> DefinedRows<Item> {
+    if number % 3 == 0 {
+        plain.retain(|item| item.0 != name);
+        return table.without_row(rt.alloc(), &name).expect(rt, "memory");
+    }
+    assert!(rt; put(plain, name, number));
+    let row = Item { name, number };
+    table.with_row(rt.alloc(), row).expect(rt, "memory")
+}
+
 /// A table of some of 200 keys, changed 400 times, has just the rows of a plain list.
-fn changed(alloc: Global) -> Result<bool, NoMemory> {
-    let mut table = DefinedRows::new(alloc);
-    let mut plain: Vec<([u8; 2], u32)> = Vec::new(alloc);
+#[test]
+fn changes_like_a_plain_list(rt: HostRuntime) {
+    let mut table = DefinedRows::new(rt.alloc());
+    let mut plain = Vec::new(rt.alloc());
     let mut random = 7u32;
     for number in 1..401u32 {
         random = random.wrapping_mul(1_664_525).wrapping_add(1_013_904_223);
-        let place = (random >> 8) as usize % 200;
+        let place = (random >> 8) % 200;
         let name = [(place / 100) as u8, (place % 100) as u8];
-        if number % 3 == 0 {
-            table = table.without_row(alloc, &name)?;
-            plain.retain(|item| item.0 != name);
-        } else {
-            table = table.with_row(alloc, Item { name, number })?;
-            put(&mut plain, name, number)?;
-        }
+        table = changed_beside(&rt, &table, &mut plain, name, number);
     }
-    Ok(is_same(&table, &plain))
-}
-
-#[test]
-fn changes_like_a_plain_list(rt: HostRuntime) -> Result<(), Fail> {
-    assert!(rt; changed(rt.alloc())?);
-    Ok(())
+    assert!(rt; is_same(&table, &plain));
 }

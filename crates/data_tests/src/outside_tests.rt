@@ -4,113 +4,117 @@ use racf_outside::{
     Failed, Failing, FileShelf, Line, LineFault, Lines, MemoryShelf, MemorySource, NeverSink,
     NeverSource, Shelf, Sink, Source,
 };
-use std::alloc::{AllocError, Global};
+use std::alloc::Global;
 use std::fs;
-use std::test::Fail;
+use std::process::Abort;
 
-/// The lines that a source gives, each with a bar behind it: its text, or a question mark where it is too long. Stops
-/// at the first fault, which is a star.
-fn told<S: Source>(alloc: Global, lines: &mut Lines<S>) -> Result<Vec<u8>, AllocError> {
-    let mut told = Vec::new(alloc);
-    for _ in 0..u64::MAX {
-        match lines.next() {
-            Ok(Line::Text(text)) => told.extend_from_slice(text)?,
-            Ok(Line::TooLong) => told.push(b'?')?,
-            Ok(Line::End) => return Ok(told),
-            Err(_) => {
-                told.push(b'*')?;
-                return Ok(told);
-            }
-        }
-        told.push(b'|')?;
-    }
-    Ok(told)
+/// These items in a list.
+fn list<T: Copy>(rt: &(impl AllocGlobal + Abort), items: &[T]) -> Vec<T> {
+    Vec::from_slice(rt.alloc(), items).expect(rt, "memory")
 }
 
-/// The lines of bytes in memory.
-fn lines_of(alloc: Global, bytes: &[u8]) -> Result<Vec<u8>, AllocError> {
-    let source = NeverSource::new(Vec::from_slice(alloc, bytes)?);
-    let Ok(mut lines) = Lines::new(alloc, source) else {
-        return Err(AllocError);
+/// Writes the next line behind a text, with a bar behind it: its text, or a question mark where it is too long. At a
+/// fault it is a star. Whether there may be more.
+fn tell_next<S: Source>(rt: &impl Abort, lines: &mut Lines<S>, told: &mut Vec<u8>) -> bool {
+    let put = match lines.next() {
+        Ok(Line::Text(text)) => told.extend_from_slice(text),
+        Ok(Line::TooLong) => told.extend_from_slice(b"?"),
+        Ok(Line::End) => return false,
+        Err(_) => {
+            assert!(rt; told.push(b'*').is_ok());
+            return false;
+        }
     };
-    let told = told(alloc, &mut lines);
+    assert!(rt; put.is_ok() && told.push(b'|').is_ok());
+    true
+}
+
+/// The lines of bytes in memory, each with a bar behind it.
+fn lines_of(rt: &(impl AllocGlobal + Abort), bytes: &[u8]) -> Vec<u8> {
+    let mut told = Vec::new(rt.alloc());
+    let source = NeverSource::new(list(rt, bytes));
+    let Ok(mut lines) = Lines::new(rt.alloc(), source) else {
+        panic!(rt; "no memory")
+    };
+    for _ in 0..u64::MAX {
+        if !tell_next(rt, &mut lines, &mut told) {
+            break;
+        }
+    }
     drop(lines.into_source());
     told
 }
 
-/// `count` letters, and then `end`.
-fn letters(alloc: Global, count: usize, end: &[u8]) -> Result<Vec<u8>, AllocError> {
-    let mut bytes = vec![in alloc; b'A'; count]?;
-    bytes.extend_from_slice(end)?;
-    Ok(bytes)
-}
+/// Inputs with their lines.
+const LINES: [(&[u8], &[u8]); 11] = [
+    (b"", b""),
+    (b"A", b"A|"),
+    (b"A\n", b"A|"),
+    (b"A\r\nB", b"A|B|"),
+    (b"A\nB\r", b"A|B|"),
+    (b"A\n\nB", b"A||B|"),
+    (b"\n\n", b"||"),
+    (b"\r", b"|"),
+    (b"\r\r\n", b"\r|"),
+    (b"A\rB\n", b"A\rB|"),
+    (b" A \n", b" A |"),
+];
 
 #[test]
-fn lines_are_those_of_the_input(rt: HostRuntime) -> Result<(), Fail> {
-    let alloc = rt.alloc();
-    let rows: [(&[u8], &[u8]); 11] = [
-        (b"", b""),
-        (b"A", b"A|"),
-        (b"A\n", b"A|"),
-        (b"A\r\nB", b"A|B|"),
-        (b"A\nB\r", b"A|B|"),
-        (b"A\n\nB", b"A||B|"),
-        (b"\n\n", b"||"),
-        (b"\r", b"|"),
-        (b"\r\r\n", b"\r|"),
-        (b"A\rB\n", b"A\rB|"),
-        (b" A \n", b" A |"),
-    ];
-    for (input, wanted) in rows {
-        let told = lines_of(alloc, input)?;
-        assert_eq!(rt; told.as_slice(), wanted);
+fn lines_are_those_of_the_input(rt: HostRuntime) {
+    for (input, wanted) in &LINES {
+        assert!(rt; lines_of(&rt, input).as_slice() == *wanted);
     }
+}
 
-    // 4,096 bytes are a line, a carriage return counted, and one more is too many; a line that crosses a block is
-    // whole.
-    let long = letters(alloc, 4_096, b"\nB")?;
-    assert_eq!(rt; lines_of(alloc, &long)?.len(), 4_099);
-    let longer = letters(alloc, 4_097, b"\nB")?;
-    assert_eq!(rt; lines_of(alloc, &longer)?.as_slice(), b"?|B|".as_slice());
-    let returned = letters(alloc, 4_096, b"\r\nB")?;
-    assert_eq!(rt; lines_of(alloc, &returned)?.as_slice(), b"?|B|".as_slice());
-    let blocks = letters(alloc, 200_000, b"")?;
-    assert_eq!(rt; lines_of(alloc, &blocks)?.as_slice(), b"?|".as_slice());
-    Ok(())
+/// The lines of an input of as many letters as this, and then `end`.
+fn lines_of_letters(rt: &(impl AllocGlobal + Abort), count: usize, end: &[u8]) -> Vec<u8> {
+    let Ok(mut bytes) = vec![in rt.alloc(); b'A'; count] else {
+        panic!(rt; "no memory")
+    };
+    assert!(rt; bytes.extend_from_slice(end).is_ok());
+    lines_of(rt, &bytes)
+}
+
+/// 4,096 bytes are a line, a carriage return counted, and one more is too many; a line that crosses a block is whole.
+#[test]
+fn long_lines_are_told(rt: HostRuntime) {
+    assert!(rt; lines_of_letters(&rt, 4_096, b"\nB").len() == 4_099);
+    assert!(rt; lines_of_letters(&rt, 4_097, b"\nB").as_slice() == b"?|B|".as_slice());
+    assert!(rt; lines_of_letters(&rt, 4_096, b"\r\nB").as_slice() == b"?|B|".as_slice());
+    assert!(rt; lines_of_letters(&rt, 200_000, b"").as_slice() == b"?|".as_slice());
+}
+
+/// Whether the lines that are asked for hold a line as told, and are then read.
+fn holds<S: Source>(lines: &mut Lines<S>, held: bool) -> bool {
+    lines.holds_line() == held && lines.next().is_ok()
 }
 
 #[test]
-fn lines_are_held(rt: HostRuntime) -> Result<(), Fail> {
-    let alloc = rt.alloc();
-    let source = NeverSource::new(Vec::from_slice(alloc, b"A\nB\nC")?);
-    let Ok(mut lines) = Lines::new(alloc, source) else {
-        return Err(Fail::from(AllocError));
+fn lines_are_held(rt: HostRuntime) {
+    let source = NeverSource::new(list(&rt, b"A\nB\nC"));
+    let Ok(mut lines) = Lines::new(rt.alloc(), source) else {
+        panic!(rt; "no memory")
     };
     for held in [false, true, false, false] {
-        assert_eq!(rt; lines.holds_line(), held);
-        assert!(rt; lines.next().is_ok());
+        assert!(rt; holds(&mut lines, held));
     }
     drop(lines.into_source());
-    Ok(())
 }
 
+/// The second read fails: the line that has begun isn't given, and the third read goes on behind it.
 #[test]
-fn faults_are_counted(rt: HostRuntime) -> Result<(), Fail> {
-    let alloc = rt.alloc();
-
-    // The second read fails: the line that has begun isn't given, and the third read goes on behind it.
-    let bytes = Vec::from_slice(alloc, b"A\nB")?;
-    let failing = Vec::from_slice(alloc, &[2])?;
-    let Ok(mut lines) = Lines::new(alloc, MemorySource::new(bytes, failing)) else {
-        return Err(Fail::from(AllocError));
+fn faults_are_counted(rt: HostRuntime) {
+    let source = MemorySource::new(list(&rt, b"A\nB"), list(&rt, &[2]));
+    let Ok(mut lines) = Lines::new(rt.alloc(), source) else {
+        panic!(rt; "no memory")
     };
-    assert_eq!(rt; lines.next(), Ok(Line::Text(b"A")));
-    assert_eq!(rt; lines.next(), Err(LineFault::ReadFault));
-    assert_eq!(rt; lines.next(), Ok(Line::End));
-    assert_eq!(rt; lines.next(), Ok(Line::End));
-    assert_eq!(rt; lines.into_source().faults(), 1);
-    assert_eq!(rt; NeverSink.write(b"four"), Ok(4));
-    Ok(())
+    assert!(rt; lines.next() == Ok(Line::Text(b"A")));
+    assert!(rt; lines.next() == Err(LineFault::ReadFault));
+    assert!(rt; lines.next() == Ok(Line::End));
+    assert!(rt; lines.next() == Ok(Line::End));
+    assert!(rt; lines.into_source().faults() == 1);
+    assert!(rt; NeverSink.write(b"four") == Ok(4));
 }
 
 /// Copies an input of a shelf to an output of it, in one read and one write, and answers whether all calls succeeded.
@@ -134,17 +138,18 @@ fn copies<F: Shelf>(shelf: &mut F, from: &str, to: &str) -> bool {
 
 /// A shelf in memory whose second source, third sink and second writes are to fail, with an input and one that can't be
 /// read.
-fn failing_shelf(alloc: Global) -> Result<MemoryShelf, AllocError> {
+fn failing_shelf(rt: &(impl AllocGlobal + Abort)) -> MemoryShelf {
     let failing = Failing {
-        sources: Vec::from_slice(alloc, &[2])?,
-        sinks: Vec::from_slice(alloc, &[3])?,
-        writes: Vec::from_slice(alloc, &[2])?,
+        sources: list(rt, &[2]),
+        sinks: list(rt, &[3]),
+        writes: list(rt, &[2]),
     };
-    let mut shelf = MemoryShelf::new(alloc, failing);
-    shelf.put("in", Vec::from_slice(alloc, b"text")?, Vec::new(alloc))?;
-    let reads = Vec::from_slice(alloc, &[1])?;
-    shelf.put("bad", Vec::from_slice(alloc, b"text")?, reads)?;
-    Ok(shelf)
+    let mut shelf = MemoryShelf::new(rt.alloc(), failing);
+    let put = shelf.put("in", list(rt, b"text"), Vec::new(rt.alloc()));
+    assert!(rt; put.is_ok());
+    let put = shelf.put("bad", list(rt, b"text"), list(rt, &[1]));
+    assert!(rt; put.is_ok());
+    shelf
 }
 
 /// Whether the output of a shelf is this text.
@@ -152,63 +157,76 @@ fn tells(shelf: &MemoryShelf, text: &str) -> bool {
     shelf.output("out") == Some(text.as_bytes())
 }
 
+/// Inputs that are copied to the output, whether they could be, and the output that is then told.
+const OPENINGS: [(&str, bool, &str); 6] = [
+    ("in", true, "text"),
+    ("in", false, "text"),
+    ("bad", false, ""),
+    ("in", false, ""),
+    ("none", false, ""),
+    ("in", true, "text"),
+];
+
 #[test]
-fn openings_fail_as_told(rt: HostRuntime) -> Result<(), Fail> {
-    let mut shelf = failing_shelf(rt.alloc())?;
-    for (input, copied, told) in [
-        ("in", true, "text"),
-        ("in", false, "text"),
-        ("bad", false, ""),
-        ("in", false, ""),
-        ("none", false, ""),
-        ("in", true, "text"),
-    ] {
-        assert_eq!(rt; copies(&mut shelf, input, "out"), copied);
+fn openings_fail_as_told(rt: HostRuntime) {
+    let mut shelf = failing_shelf(&rt);
+    for (input, copied, told) in &OPENINGS {
+        assert!(rt; copies(&mut shelf, input, "out") == *copied);
         assert!(rt; tells(&shelf, told));
     }
-    Ok(())
+}
+
+/// Whether of two writes the second fails, and the sink has what the first wrote.
+fn fails_second<S: Sink>(sink: &mut S) -> bool {
+    sink.write(b"one ") == Ok(4) && sink.write(b"two ") == Err(Failed)
 }
 
 #[test]
-fn writes_fail_as_told(rt: HostRuntime) -> Result<(), Fail> {
-    let mut shelf = failing_shelf(rt.alloc())?;
+fn writes_fail_as_told(rt: HostRuntime) {
+    let mut shelf = failing_shelf(&rt);
     let Ok(mut sink) = shelf.sink("out") else {
-        return Err(Fail::from(AllocError));
+        panic!(rt; "no sink")
     };
-    assert_eq!(rt; sink.write(b"one "), Ok(4));
-    assert_eq!(rt; sink.write(b"two "), Err(Failed));
-    assert_eq!(rt; sink.bytes(), b"one ".as_slice());
-    assert_eq!(rt; sink.faults(), 1);
-    assert_eq!(rt; shelf.output("out"), None);
+    assert!(rt; fails_second(&mut sink));
+    assert!(rt; sink.bytes() == b"one ".as_slice() && sink.faults() == 1);
+    assert!(rt; shelf.output("out").is_none());
     shelf.give_back("out", sink);
-    assert_eq!(rt; shelf.output("out"), Some(b"one ".as_slice()));
-    Ok(())
+    assert!(rt; tells(&shelf, "one "));
+}
+
+/// Inputs and outputs, and whether the one could be copied to the other.
+const COPIES: [(&str, &str, bool); 6] = [
+    ("-", "-", true),
+    ("shelf.in", "shelf.out", true),
+    ("shelf.out", "./shelf.out", false),
+    ("shelf.in", "shelf.link", false),
+    ("shelf.none", "shelf.out", false),
+    ("shelf.in", ".", false),
+];
+
+/// Whether the file has this text.
+fn has_text(rt: &HostRuntime, name: &str, text: &str) -> bool {
+    match fs::read_to_string(rt, name) {
+        Ok(found) => found.as_str() == text,
+        Err(_) => false,
+    }
 }
 
 #[test]
-fn files_are_not_lost(rt: HostRuntime) -> Result<(), Fail> {
-    let mut files = FileShelf::new(rt.alloc(), rt.clone()?);
-    fs::write(&rt, "shelf.in", "text")?;
-    fs::hard_link(&rt, "shelf.in", "shelf.link")?;
-    for (input, output, copied) in [
-        ("-", "-", true),
-        ("shelf.in", "shelf.out", true),
-        ("shelf.out", "./shelf.out", false),
-        ("shelf.in", "shelf.link", false),
-        ("shelf.none", "shelf.out", false),
-        ("shelf.in", ".", false),
-    ] {
-        assert_eq!(rt; copies(&mut files, input, output), copied);
+fn files_are_not_lost(rt: HostRuntime) {
+    let mut files = FileShelf::new(rt.alloc(), rt.clone().expect(&rt, "a runtime"));
+    assert!(rt; fs::write(&rt, "shelf.in", "text").is_ok());
+    assert!(rt; fs::hard_link(&rt, "shelf.in", "shelf.link").is_ok());
+    for (input, output, copied) in &COPIES {
+        assert!(rt; copies(&mut files, input, output) == *copied);
     }
-    assert_eq!(rt; fs::read_to_string(&rt, "shelf.in")?.as_str(), "text");
-    assert_eq!(rt; fs::read_to_string(&rt, "shelf.out")?.as_str(), "text");
+    assert!(rt; has_text(&rt, "shelf.in", "text") && has_text(&rt, "shelf.out", "text"));
 
     // Once it is closed, an input is a file like any other.
-    fs::write(&rt, "shelf.in", "longer text")?;
+    assert!(rt; fs::write(&rt, "shelf.in", "longer text").is_ok());
     assert!(rt; copies(&mut files, "shelf.out", "shelf.link"));
-    assert_eq!(rt; fs::read_to_string(&rt, "shelf.in")?.as_str(), "text");
-    fs::remove_file(&rt, "shelf.in")?;
-    fs::remove_file(&rt, "shelf.link")?;
-    fs::remove_file(&rt, "shelf.out")?;
-    Ok(())
+    assert!(rt; has_text(&rt, "shelf.in", "text"));
+    for name in ["shelf.in", "shelf.link", "shelf.out"] {
+        assert!(rt; fs::remove_file(&rt, name).is_ok());
+    }
 }

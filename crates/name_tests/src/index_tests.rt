@@ -7,8 +7,8 @@ use generic_names::{NameKind, Pattern, Resource};
 use profile_index::{Entry, Index, Made, NoMemory, SharedIndex, Steps};
 use std::alloc::Global;
 use std::marker::Brand;
+use std::process::Abort;
 use std::sync::ledger::{Blank, Ledger};
-use std::test::Fail;
 
 /// Random numbers, the same in each run.
 #[derive(Drop)]
@@ -40,6 +40,17 @@ fn add(index: &mut Index<u32>, text: &[u8], item: u32) -> Result<bool, NoMemory>
     Ok(true)
 }
 
+/// An index with 1 under each of these names.
+fn index_of(rt: &(impl AllocGlobal + Abort), names: &[&[u8]]) -> Index<u32>
+    ensures { AreOf General result.entries }
+{
+    let mut index = Index::new(rt.alloc()).expect(rt, "memory");
+    for name in names {
+        assert!(rt; add(&mut index, name, 1).is_ok());
+    }
+    index
+}
+
 /// A qualifier of a random pattern, or of a random name.
 fn part(number: u32, generic: bool) -> &'static [u8] {
     match number {
@@ -56,15 +67,43 @@ fn part(number: u32, generic: bool) -> &'static [u8] {
 }
 
 /// A random name of one to four qualifiers.
-fn random_text(alloc: Global, numbers: &mut Numbers, generic: bool) -> Result<Vec<u8>, NoMemory> {
-    let mut text = Vec::new(alloc);
+fn random_text(rt: &(impl AllocGlobal + Abort), numbers: &mut Numbers, generic: bool) -> Vec<u8> {
+    let mut text = Vec::new(rt.alloc());
     for k in 0..numbers.below(4) + 1 {
-        if k > 0 {
-            text.push(b'.')?;
-        }
-        text.extend_from_slice(part(numbers.below(9), generic))?;
+        let dot = if k > 0 { b".".as_slice() } else { b"" };
+        let part = part(numbers.below(9), generic);
+        assert!(rt; text.extend_from_slice(dot).is_ok());
+        assert!(rt; text.extend_from_slice(part).is_ok());
     }
-    Ok(text)
+    text
+}
+
+/// A random pattern.
+fn random_pattern(rt: &(impl AllocGlobal + Abort), numbers: &mut Numbers) -> Pattern
+    ensures { result.kind ≡ General }
+{
+    let text = random_text(rt, numbers, true);
+    Pattern::read(NameKind::General, &text).expect(rt, "a lawful pattern")
+}
+
+/// A random name of a resource.
+fn random_resource(rt: &(impl AllocGlobal + Abort), numbers: &mut Numbers) -> Resource
+    ensures { result.kind ≡ General }
+{
+    let text = random_text(rt, numbers, false);
+    Resource::read(NameKind::General, &text).expect(rt, "a lawful name")
+}
+
+/// An index of some random patterns.
+fn random_index(rt: &(impl AllocGlobal + Abort), numbers: &mut Numbers) -> Index<u32>
+    ensures { AreOf General result.entries }
+{
+    let mut index = Index::new(rt.alloc()).expect(rt, "memory");
+    for item in 0..30u32 {
+        let text = random_text(rt, numbers, true);
+        assert!(rt; add(&mut index, &text, item).is_ok());
+    }
+    index
 }
 
 /// The plain scan: the covering entry that is before all other covering ones.
@@ -105,37 +144,30 @@ fn is_before(index: &Index<u32>, place: usize, other: usize) -> bool {
 
 /// How many of some random names are found as a scan finds them.
 fn count_alike(
-    alloc: Global,
+    rt: &(impl AllocGlobal + Abort),
     numbers: &mut Numbers,
     index: &Index<u32>,
     names: u32,
-) -> Result<u32, NoMemory>
+) -> u32
     requires { AreOf General index.now.entries }
 {
     let mut alike = 0u32;
     for _name in 0..names {
-        let text = random_text(alloc, numbers, false)?;
-        if let Ok(name) = Resource::read(NameKind::General, &text) {
-            if index.find(&name) == scanned(index, &name) {
-                alike = alike.wrapping_add(1);
-            }
+        let name = random_resource(rt, numbers);
+        if index.find(&name) == scanned(index, &name) {
+            alike = alike.wrapping_add(1);
         }
     }
-    Ok(alike)
+    alike
 }
 
 #[test]
-fn finds_what_a_scan_finds(rt: HostRuntime) -> Result<(), Fail> {
+fn finds_what_a_scan_finds(rt: HostRuntime) {
     let mut numbers = Numbers(1);
     for _table in 0..100u32 {
-        let mut index = Index::new(rt.alloc())?;
-        for item in 0..30u32 {
-            let text = random_text(rt.alloc(), &mut numbers, true)?;
-            let _ = add(&mut index, &text, item)?;
-        }
-        assert_eq!(rt; count_alike(rt.alloc(), &mut numbers, &index, 40)?, 40);
+        let index = random_index(&rt, &mut numbers);
+        assert!(rt; count_alike(&rt, &mut numbers, &index, 40) == 40);
     }
-    Ok(())
 }
 
 /// How many of these names are found as very names, by a counter of comparisons over a ledger of its own.
@@ -173,18 +205,16 @@ fn count_with_a_ledger(index: &Index<u32>, names: &[&[u8]]) -> u32
     count_named::<Brand>(index, Blank::new(1), names)
 }
 
+/// Patterns, four of them without a generic character.
+const PATTERNS: [&[u8]; 7] = [b"A.B", b"A.*", b"B", b"A.%", b"C.D", b"**", b"A"];
+
 #[test]
-fn finds_very_names(rt: HostRuntime) -> Result<(), Fail> {
-    let mut index = Index::new(rt.alloc())?;
-    let patterns = [b"A.B".as_slice(), b"A.*", b"B", b"A.%", b"C.D", b"**", b"A"];
-    for text in patterns {
-        let _ = add(&mut index, text, 0)?;
-    }
+fn finds_very_names(rt: HostRuntime) {
+    let index = index_of(&rt, &PATTERNS);
     let there = [b"A".as_slice(), b"A.B", b"B", b"C.D"];
     let absent = [b"A.C".as_slice(), b"C", b"D", b"AA"];
-    assert_eq!(rt; count_with_a_ledger(&index, &there), 4);
-    assert_eq!(rt; count_with_a_ledger(&index, &absent), 0);
-    Ok(())
+    assert!(rt; count_with_a_ledger(&index, &there) == 4);
+    assert!(rt; count_with_a_ledger(&index, &absent) == 0);
 }
 
 /// Whether the first entry under that qualifier has that name; there is none where it is empty.
@@ -197,89 +227,103 @@ fn is_first_under(index: &Index<u32>, qualifier: &[u8], name: &[u8]) -> bool
     }
 }
 
+/// Names under qualifiers of which some begin like others.
+const UNDER_QUALIFIERS: [&[u8]; 6] = [b"AB.**", b"AB", b"AB.C", b"A%.X", b"ABC.D", b"**.Z"];
+
 /// The names under one first qualifier are found behind those that are lower, and a qualifier that is only the front of
 /// another isn't taken for it.
 #[test]
-fn finds_the_first_under_a_qualifier(rt: HostRuntime) -> Result<(), Fail> {
-    let mut index = Index::new(rt.alloc())?;
-    for name in [
-        b"AB.**".as_slice(),
-        b"AB",
-        b"AB.C",
-        b"A%.X",
-        b"ABC.D",
-        b"**.Z",
-    ] {
-        let _added = add(&mut index, name, 1)?;
-    }
+fn finds_the_first_under_a_qualifier(rt: HostRuntime) {
+    let index = index_of(&rt, &UNDER_QUALIFIERS);
     assert!(rt; is_first_under(&index, b"AB", b"AB.C"));
     assert!(rt; is_first_under(&index, b"ABC", b"ABC.D"));
     assert!(rt; is_first_under(&index, b"A%", b"A%.X"));
     assert!(rt; is_first_under(&index, b"**", b"**.Z"));
     assert!(rt; is_first_under(&index, b"A", b""));
     assert!(rt; is_first_under(&index, b"Z", b""));
-    Ok(())
+}
+
+/// The digit of a number at a power of ten.
+fn digit(number: u32, power: u32) -> u8
+    requires { 0 < power }
+{
+    b'0' + (number / power % 10) as u8
 }
 
 /// A qualifier of a letter and five digits.
-fn push_numbered(text: &mut Vec<u8>, letter: u8, number: u32) -> Result<(), NoMemory> {
-    text.push(letter)?;
-    for power in [10_000, 1_000, 100, 10, 1u32] {
-        text.push(b'0' + (number / power % 10) as u8)?;
-    }
-    Ok(())
+fn qualifier(letter: u8, number: u32) -> [u8; 6] {
+    [
+        letter,
+        digit(number, 10_000),
+        digit(number, 1_000),
+        digit(number, 100),
+        digit(number, 10),
+        digit(number, 1),
+    ]
+}
+
+/// Writes a name of a numbered first qualifier, which as many items as this have, a numbered second one, and this end.
+fn write_name(rt: &impl Abort, text: &mut Vec<u8>, item: u32, each: u32, end: &[u8])
+    requires { 0 < each }
+{
+    text.clear();
+    assert!(rt;
+        text.extend_from_slice(&qualifier(b'Q', item / each))
+            .is_ok()
+    );
+    assert!(rt; text.extend_from_slice(b".").is_ok());
+    assert!(rt; text.extend_from_slice(&qualifier(b'P', item)).is_ok());
+    assert!(rt; text.extend_from_slice(end).is_ok());
 }
 
 /// An index of 50,000 patterns, of which as many as this have each first qualifier.
-fn large(alloc: Global, each: u32) -> Result<Index<u32>, NoMemory>
+fn large(rt: &(impl AllocGlobal + Abort), each: u32) -> Index<u32>
     requires { 0 < each }
-    ensures { IfOk result (λ index. AreOf General index.entries) }
+    ensures { AreOf General result.entries }
 {
-    let mut index = Index::new(alloc)?;
-    let mut text = Vec::new(alloc);
+    let mut text = Vec::new(rt.alloc());
+    let mut index = Index::new(rt.alloc()).expect(rt, "memory");
     for number in 0..50_000u32 {
         let item = number * 7_919 % 50_000;
-        text.clear();
-        push_numbered(&mut text, b'Q', item / each)?;
-        text.push(b'.')?;
-        push_numbered(&mut text, b'P', item)?;
-        text.extend_from_slice(b".**")?;
-        let _ = add(&mut index, &text, item)?;
+        write_name(rt, &mut text, item, each, b".**");
+        assert!(rt; add(&mut index, &text, item).is_ok());
     }
-    Ok(index)
+    index
+}
+
+/// Whether a name is found.
+fn is_found(index: &Index<u32>, name: &[u8]) -> bool
+    requires { AreOf General index.now.entries }
+{
+    match Resource::read(NameKind::General, name) {
+        Ok(name) => index.find(&name).is_some(),
+        Err(_) => false,
+    }
 }
 
 /// How many of a million names are found, each by the one pattern that covers it.
-fn count_found(alloc: Global, index: &Index<u32>, each: u32) -> Result<u32, NoMemory>
+fn count_found(rt: &(impl AllocGlobal + Abort), index: &Index<u32>, each: u32) -> u32
     requires kinds { AreOf General index.now.entries }
     requires each { 0 < each }
 {
-    let mut text = Vec::new(alloc);
+    let mut text = Vec::new(rt.alloc());
     let mut found = 0u32;
     for round in 0..1_000_000u32 {
-        let item = round % 60_000;
-        text.clear();
-        push_numbered(&mut text, b'Q', item / each)?;
-        text.push(b'.')?;
-        push_numbered(&mut text, b'P', item)?;
-        text.extend_from_slice(b".X")?;
-        if let Ok(name) = Resource::read(NameKind::General, &text) {
-            if index.find(&name).is_some() {
-                found = found.wrapping_add(1);
-            }
+        write_name(rt, &mut text, round % 60_000, each, b".X");
+        if is_found(index, &text) {
+            found = found.wrapping_add(1);
         }
     }
-    Ok(found)
+    found
 }
 
 #[test]
-fn answers_a_million_times(rt: HostRuntime) -> Result<(), Fail> {
+fn answers_a_million_times(rt: HostRuntime) {
     for each in [10, 50_000] {
-        let index = large(rt.alloc(), each)?;
-        assert_eq!(rt; index.len(), 50_000);
-        assert_eq!(rt; count_found(rt.alloc(), &index, each)?, 840_000);
+        let index = large(&rt, each);
+        assert!(rt; index.len() == 50_000);
+        assert!(rt; count_found(&rt, &index, each) == 840_000);
     }
-    Ok(())
 }
 
 /// An index of one entry.
@@ -293,16 +337,15 @@ fn single(alloc: Global, name: Pattern, item: u32) -> Result<SharedIndex<u32>, N
 }
 
 /// The names in their order, with spaces between them.
-fn names_of(alloc: Global, index: &SharedIndex<u32>) -> Result<Vec<u8>, NoMemory> {
-    let mut names = Vec::new(alloc);
+fn names_of(rt: &(impl AllocGlobal + Abort), index: &SharedIndex<u32>) -> Vec<u8> {
+    let mut names = Vec::new(rt.alloc());
     for place in 0..index.len() {
         let (name, _) = index.at(place);
-        if place > 0 {
-            names.push(b' ')?;
-        }
-        names.extend_from_slice(name.text())?;
+        let space = if place > 0 { b" ".as_slice() } else { b"" };
+        assert!(rt; names.extend_from_slice(space).is_ok());
+        assert!(rt; names.extend_from_slice(name.text()).is_ok());
     }
-    Ok(names)
+    names
 }
 
 /// An index with an item under a name, or without the name where the item is 0.
@@ -334,29 +377,63 @@ fn item_for(index: &SharedIndex<u32>, name: &[u8]) -> u32
     }
 }
 
+/// The pattern of that text, which is lawful.
+fn pattern(rt: &impl Abort, text: &[u8]) -> Pattern
+    ensures { result.kind ≡ General }
+{
+    Pattern::read(NameKind::General, text).expect(rt, "a lawful pattern")
+}
+
+/// A name with its item, 0 where the name goes, the names that are then there, and the item for `A.B`.
+type Change = (&'static [u8], u32, &'static [u8], u32);
+
+/// Names that come, are replaced and go.
+const CHANGES: [Change; 8] = [
+    (b"A.*", 1, b"A.*", 1),
+    (b"**", 2, b"A.* **", 1),
+    (b"A.B", 3, b"A.B A.* **", 3),
+    (b"A.*", 4, b"A.B A.* **", 3),
+    (b"A.B", 0, b"A.* **", 4),
+    (b"C", 5, b"A.* C **", 4),
+    (b"A.*", 0, b"C **", 2),
+    (b"X", 0, b"C **", 2),
+];
+
+/// Whether an index has these names, and this item for `A.B`.
+fn shows(
+    rt: &(impl AllocGlobal + Abort),
+    index: &SharedIndex<u32>,
+    names: &[u8],
+    found: u32,
+) -> bool
+    requires { AreOf General index.now }
+{
+    names_of(rt, index).as_slice() == names && item_for(index, b"A.B") == found
+}
+
+/// The index with that item under the name, or without the name. It has these names, and this item for `A.B`.
+fn later(
+    rt: &(impl AllocGlobal + Abort),
+    index: &SharedIndex<u32>,
+    change: Change,
+) -> SharedIndex<u32>
+    requires { AreOf General index.now }
+    ensures { AreOf General result }
+{
+    let (name, item, names, found) = change;
+    let name = pattern(rt, name);
+    let later = changed(rt.alloc(), index, name, item).expect(rt, "memory");
+    assert!(rt; shows(rt, &later, names, found));
+    later
+}
+
 /// Names that come, are replaced and go, each with the names that are then there, and the item for `A.B`.
 #[test]
-fn worked_rows(rt: HostRuntime) -> Result<(), Fail> {
-    let alloc = rt.alloc();
-    let mut index = SharedIndex::new(alloc);
-    for (name, item, names, found) in [
-        (b"A.*".as_slice(), 1, b"A.*".as_slice(), 1),
-        (b"**", 2, b"A.* **", 1),
-        (b"A.B", 3, b"A.B A.* **", 3),
-        (b"A.*", 4, b"A.B A.* **", 3),
-        (b"A.B", 0, b"A.* **", 4),
-        (b"C", 5, b"A.* C **", 4),
-        (b"A.*", 0, b"C **", 2),
-        (b"X", 0, b"C **", 2),
-    ] {
-        let pattern = Pattern::read(NameKind::General, name);
-        let pattern = pattern.ok().ok_or("a lawful name")?;
-        index = changed(alloc, &index, pattern, item)?;
-        let there = names_of(alloc, &index)?;
-        assert_eq!(rt; there.as_slice(), names);
-        assert_eq!(rt; item_for(&index, b"A.B"), found);
+fn worked_rows(rt: HostRuntime) {
+    let mut index = SharedIndex::new(rt.alloc());
+    for row in &CHANGES {
+        index = later(&rt, &index, *row);
     }
-    Ok(())
 }
 
 /// Whether both have the same entries, and find the same for a name.
@@ -392,110 +469,172 @@ fn change(index: &mut Index<u32>, name: Pattern, item: u32) -> Result<(), NoMemo
     Ok(())
 }
 
+/// Makes the same change of both indices.
+fn change_both(
+    rt: &(impl AllocGlobal + Abort),
+    index: &mut Index<u32>,
+    shared: &SharedIndex<u32>,
+    name: Pattern,
+    item: u32,
+) -> SharedIndex<u32>
+    requires kinds { AreOf name.kind index.old.entries }
+    requires same { AreOf name.kind shared.now }
+    ensures kinds { AreOf name.kind index.new.entries }
+    ensures same { AreOf name.kind result }
+{
+    assert!(rt; change(index, name, item).is_ok());
+    changed(rt.alloc(), shared, name, item).expect(rt, "memory")
+}
+
+/// That number, and 0 in one of three cases.
+fn random_item(numbers: &mut Numbers, number: u32) -> u32 {
+    if numbers.below(3) == 0 { 0 } else { number }
+}
+
 /// How many of some random changes make the same of both indices.
-fn count_changes(alloc: Global, numbers: &mut Numbers, changes: u32) -> Result<u32, NoMemory> {
-    let mut index = Index::new(alloc)?;
-    let mut shared = SharedIndex::new(alloc);
+fn count_changes(rt: &(impl AllocGlobal + Abort), numbers: &mut Numbers, changes: u32) -> u32 {
+    let mut index = Index::new(rt.alloc()).expect(rt, "memory");
+    let mut shared = SharedIndex::new(rt.alloc());
     let mut alike = 0u32;
     for change_number in 0..changes {
-        let text = random_text(alloc, numbers, true)?;
-        let asked = random_text(alloc, numbers, false)?;
-        let (Ok(pattern), Ok(name)) = (
-            Pattern::read(NameKind::General, &text),
-            Resource::read(NameKind::General, &asked),
-        ) else {
-            continue;
-        };
-        let item = if numbers.below(3) == 0 {
-            0
-        } else {
-            change_number
-        };
-        change(&mut index, pattern, item)?;
-        shared = changed(alloc, &shared, pattern, item)?;
+        let pattern = random_pattern(rt, numbers);
+        let name = random_resource(rt, numbers);
+        let item = random_item(numbers, change_number);
+        shared = change_both(rt, &mut index, &shared, pattern, item);
         if is_same(&shared, &index, &name) {
             alike = alike.wrapping_add(1);
         }
     }
-    Ok(alike)
+    alike
 }
 
 #[test]
-fn changes_like_an_index(rt: HostRuntime) -> Result<(), Fail> {
+fn changes_like_an_index(rt: HostRuntime) {
     let mut numbers = Numbers(5);
-    assert_eq!(rt; count_changes(rt.alloc(), &mut numbers, 400)?, 400);
-    let name = Pattern::read(NameKind::General, b"A.*");
-    let name = name.ok().ok_or("a lawful name")?;
-    let index = single(rt.alloc(), name, 1)?;
-    let later = index.with_entry(rt.alloc(), name, 2)?;
-    assert_eq!(rt;
-        (item_for(&index, b"A.B"), item_for(&later, b"A.B")),
-        (1, 2)
-    );
-    assert!(rt; index.share(rt.alloc())?.find_named(&name).is_some());
-    Ok(())
+    assert!(rt; count_changes(&rt, &mut numbers, 400) == 400);
+}
+
+/// Whether an index has that name, once it is shared.
+fn has_shared(alloc: Global, index: &SharedIndex<u32>, name: &Pattern) -> bool
+    requires { AreOf name.now.kind index.now }
+{
+    match index.share(alloc) {
+        Ok(index) => index.find_named(name).is_some(),
+        Err(_) => false,
+    }
+}
+
+/// Whether an index has 1 for `A.B`, and one with 2 in its place has 2.
+fn is_kept(alloc: Global, index: &SharedIndex<u32>, name: Pattern) -> bool
+    requires kind { name.kind ≡ General }
+    requires kinds { AreOf General index.now }
+{
+    match index.with_entry(alloc, name, 2) {
+        Ok(later) => item_for(index, b"A.B") == 1 && item_for(&later, b"A.B") == 2,
+        Err(_) => false,
+    }
+}
+
+/// A change leaves the index before it as it was.
+#[test]
+fn keeps_what_was_before(rt: HostRuntime) {
+    let name = pattern(&rt, b"A.*");
+    let index = single(rt.alloc(), name, 1).expect(&rt, "memory");
+    assert!(rt; is_kept(rt.alloc(), &index, name));
+    assert!(rt; has_shared(rt.alloc(), &index, &name));
 }
 
 /// An index with 1 under a name of general resources.
 fn put_one(
-    alloc: Global,
+    rt: &(impl AllocGlobal + Abort),
     index: &SharedIndex<u32>,
     text: &[u8],
-) -> Result<Made<SharedIndex<u32>>, Fail>
+) -> Made<SharedIndex<u32>>
     requires { AreOf General index.now }
-    ensures { IfOk result (λ made. AreOf General made.what) }
+    ensures { AreOf General result.what }
 {
-    let name = Pattern::read(NameKind::General, text)?;
-    Ok(index.put(alloc, name, 1)?)
+    let name = pattern(rt, text);
+    index.put(rt.alloc(), name, 1).expect(rt, "memory")
+}
+
+/// The same, where this is how much the change places.
+fn place(
+    rt: &(impl AllocGlobal + Abort),
+    index: &SharedIndex<u32>,
+    text: &[u8],
+    placed: usize,
+) -> SharedIndex<u32>
+    requires { AreOf General index.now }
+    ensures { AreOf General result }
+{
+    let made = put_one(rt, index, text);
+    assert!(rt; made.placed == placed);
+    made.what
+}
+
+/// Names that are put one behind the other, and how much each change places.
+const PLACED: [(&[u8], usize); 7] = [
+    (b"A.B", 3),
+    (b"B.C", 3),
+    (b"A.**", 7),
+    (b"*.C", 3),
+    (b"**", 5),
+    (b"A.B", 7),
+    (b"C", 1),
+];
+
+/// The index of these names.
+fn few_names(rt: &(impl AllocGlobal + Abort)) -> SharedIndex<u32>
+    ensures { AreOf General result }
+{
+    let mut index = SharedIndex::new(rt.alloc());
+    for (text, placed) in &PLACED {
+        index = place(rt, &index, text, *placed);
+    }
+    index
+}
+
+/// A name of nine bytes, whose first qualifier is D.
+fn under_d(number: u32) -> [u8; 9] {
+    let [_, a, b, c, d, e] = qualifier(b'E', number);
+    [b'D', b'.', b'E', b'0', a, b, c, d, e]
 }
 
 /// A change makes anew the bucket of the name's first qualifier, or the one of generic first qualifiers; a bucket of 64
 /// that takes one more becomes two.
 #[test]
-fn makes_one_bucket_anew(rt: HostRuntime) -> Result<(), Fail> {
-    let alloc = rt.alloc();
-    let mut index = SharedIndex::new(alloc);
-    for (text, placed) in [
-        (b"A.B".as_slice(), 3),
-        (b"B.C", 3),
-        (b"A.**", 7),
-        (b"*.C", 3),
-        (b"**", 5),
-        (b"A.B", 7),
-        (b"C", 1),
-    ] {
-        let made = put_one(alloc, &index, text)?;
-        assert_eq!(rt; made.placed, placed);
-        index = made.what;
-    }
-    for number in 0..66 {
-        let text = format!(in alloc; "D.E{number:06}")?;
-        let made = put_one(alloc, &index, text.as_bytes())?;
+fn makes_one_bucket_anew(rt: HostRuntime) {
+    let mut index = few_names(&rt);
+    for number in 0..66u32 {
         let placed = match number {
             64 => 65 * 9,
             65 => 34 * 9,
-            _ => (number + 1) * 9,
+            _ => (number as usize + 1) * 9,
         };
-        assert_eq!(rt; made.placed, placed);
-        index = made.what;
+        index = place(&rt, &index, &under_d(number), placed);
     }
-    Ok(())
+}
+
+/// A name of ten bytes, which stands alone under its first qualifier.
+fn alone(number: u32) -> [u8; 10] {
+    let [_, a, b, c, d, e] = qualifier(b'U', number);
+    [b'U', b'0', a, b, c, d, e, b'.', b'*', b'*']
+}
+
+/// Whether a name that is there is placed alone once it is put again.
+fn places_one_again(rt: &(impl AllocGlobal + Abort), index: &SharedIndex<u32>) -> bool
+    requires { AreOf General index.now }
+{
+    let made = put_one(rt, index, b"U000500.**");
+    made.placed == 10 && made.what.len() == 1_000
 }
 
 /// Each of 1,000 names stands alone in the bucket of its first qualifier, and a change of one places that name again.
 #[test]
-fn places_one_name_of_a_thousand(rt: HostRuntime) -> Result<(), Fail> {
-    let alloc = rt.alloc();
-    let mut index = SharedIndex::new(alloc);
-    let mut placed: usize = 0;
-    for number in 1..1_001 {
-        let text = format!(in alloc; "U{number:06}.**")?;
-        let made = put_one(alloc, &index, text.as_bytes())?;
-        placed = placed.saturating_add(made.placed);
-        index = made.what;
+fn places_one_name_of_a_thousand(rt: HostRuntime) {
+    let mut index = SharedIndex::new(rt.alloc());
+    for number in 1..1_001u32 {
+        index = place(&rt, &index, &alone(number), 10);
     }
-    assert_eq!(rt; placed, 10_000);
-    let made = put_one(alloc, &index, b"U000500.**")?;
-    assert_eq!(rt; (made.placed, made.what.len()), (10, 1_000));
-    Ok(())
+    assert!(rt; places_one_again(&rt, &index));
 }

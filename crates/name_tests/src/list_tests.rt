@@ -4,15 +4,15 @@ use access_levels::{CondEntry, Condition, Entry, Id, Level, PortClass, Who};
 use access_lists::{
     Found, ListFault, answer, answer_when, permit, permit_when, withdraw, withdraw_when,
 };
-use std::alloc::Global;
-use std::test::Fail;
+use std::process::Abort;
 
-fn id(text: &[u8]) -> Result<Id, Fail> {
-    Ok(Id::read(text).ok().ok_or("a lawful ID")?)
+/// The ID of that text, which is lawful.
+fn id(rt: &impl Abort, text: &[u8]) -> Id {
+    Id::read(text).expect(rt, "a lawful ID")
 }
 
 /// The ID U and a number of four digits.
-fn numbered(number: u16) -> Result<Id, Fail> {
+fn numbered(rt: &impl Abort, number: u16) -> Id {
     let digits = [
         b'U',
         b'0' + (number / 1000 % 10) as u8,
@@ -20,14 +20,7 @@ fn numbered(number: u16) -> Result<Id, Fail> {
         b'0' + (number / 10 % 10) as u8,
         b'0' + (number % 10) as u8,
     ];
-    id(&digits)
-}
-
-fn entry(text: &[u8], level: Level) -> Result<Entry, Fail> {
-    Ok(Entry {
-        who: Who::Named(id(text)?),
-        level,
-    })
+    id(rt, &digits)
 }
 
 /// The rank of the level that the list has for an ID, and 9 where it has none.
@@ -35,6 +28,7 @@ fn rank_for(list: &[Entry], user: Id) -> u8 {
     rank_of(&answer(list, user, &[], true))
 }
 
+/// The rank of a level that is found, and 10 more for a group, 20 more for all users, and 9 for none.
 fn rank_of(found: &Found) -> u8 {
     match found {
         Found::User(level) => level.rank(),
@@ -52,6 +46,7 @@ fn is_group(found: &Found, group: Id) -> bool {
     }
 }
 
+/// Whether there was no room.
 fn is_full(put: Result<(), ListFault>) -> bool {
     match put {
         Err(ListFault::Full) => true,
@@ -59,83 +54,94 @@ fn is_full(put: Result<(), ListFault>) -> bool {
     }
 }
 
-#[test]
-fn puts_in_place_or_last(rt: HostRuntime) -> Result<(), Fail> {
-    let mut list = Vec::new(rt.alloc());
-    let (joe, ann) = (id(b"JOE")?, id(b"ANN")?);
-    for (user, level) in [
-        (b"JOE".as_slice(), Level::Read),
-        (b"ANN", Level::Update),
-        (b"JOE", Level::Alter),
-    ] {
-        permit(&mut list, entry(user, level)?).ok().ok_or("room")?;
-    }
-    assert_eq!(rt; list.len(), 2);
-    assert_eq!(rt; rank_for(list.as_slice(), joe), 5);
-    assert_eq!(rt; rank_for(list.as_slice(), ann), 3);
-    withdraw(&mut list, Who::Named(joe));
-    withdraw(&mut list, Who::Star);
-    assert_eq!(rt; list.len(), 1);
-    assert_eq!(rt; rank_for(list.as_slice(), joe), 9);
-    Ok(())
+/// Puts an entry for a user into the list, where there is room.
+fn put(list: &mut Vec<Entry>, user: Id, level: Level) -> Result<(), ListFault> {
+    let who = Who::Named(user);
+    permit(list, Entry { who, level })
 }
 
 #[test]
-fn is_full_at_a_thousand(rt: HostRuntime) -> Result<(), Fail> {
+fn puts_in_place_or_last(rt: HostRuntime) {
+    let (joe, ann) = (id(&rt, b"JOE"), id(&rt, b"ANN"));
     let mut list = Vec::new(rt.alloc());
+    assert!(rt; put(&mut list, joe, Level::Read).is_ok());
+    assert!(rt; put(&mut list, ann, Level::Update).is_ok());
+    assert!(rt; put(&mut list, joe, Level::Alter).is_ok());
+    assert!(rt; list.len() == 2);
+    assert!(rt; rank_for(list.as_slice(), joe) == 5);
+    assert!(rt; rank_for(list.as_slice(), ann) == 3);
+    withdraw(&mut list, Who::Named(joe));
+    withdraw(&mut list, Who::Star);
+    assert!(rt; list.len() == 1);
+    assert!(rt; rank_for(list.as_slice(), joe) == 9);
+}
+
+/// Puts U0000 to U0999 into the list.
+fn put_a_thousand(rt: &impl Abort, list: &mut Vec<Entry>) {
     for number in 0..1000 {
-        let who = Who::Named(numbered(number)?);
-        let level = Level::Read;
-        permit(&mut list, Entry { who, level }).ok().ok_or("room")?;
+        let put = put(list, numbered(rt, number), Level::Read);
+        assert!(rt; put.is_ok());
     }
-    assert!(rt; is_full(permit(&mut list, entry(b"JOE", Level::Read)?)));
-    assert_eq!(rt; list.len(), 1000);
-    permit(&mut list, entry(b"U0500", Level::Alter)?)
-        .ok()
-        .ok_or("in its place")?;
-    assert_eq!(rt; rank_for(list.as_slice(), numbered(500)?), 5);
-    withdraw(&mut list, Who::Named(numbered(7)?));
-    permit(&mut list, entry(b"JOE", Level::Control)?)
-        .ok()
-        .ok_or("room again")?;
-    assert_eq!(rt; rank_for(list.as_slice(), id(b"JOE")?), 4);
-    Ok(())
+}
+
+/// Whether the list has room for this user, and then his level.
+fn has_room_for(list: &mut Vec<Entry>, user: Id, level: Level) -> bool {
+    put(list, user, level).is_ok() && rank_for(list.as_slice(), user) == level.rank()
+}
+
+#[test]
+fn is_full_at_a_thousand(rt: HostRuntime) {
+    let (joe, middle) = (id(&rt, b"JOE"), id(&rt, b"U0500"));
+    let seventh = Who::Named(numbered(&rt, 7));
+    let mut list = Vec::new(rt.alloc());
+    put_a_thousand(&rt, &mut list);
+    assert!(rt; is_full(put(&mut list, joe, Level::Read)));
+    assert!(rt; list.len() == 1000);
+    assert!(rt; Level::Alter.rank() == 5 && has_room_for(&mut list, middle, Level::Alter));
+    withdraw(&mut list, seventh);
+    assert!(rt; Level::Control.rank() == 4 && has_room_for(&mut list, joe, Level::Control));
 }
 
 /// U0000 to U0999 with the levels NONE to ALTER in turn.
-fn large_list(alloc: Global) -> Result<Vec<Entry>, Fail> {
-    let mut list = Vec::new(alloc);
+fn large_list(rt: &(impl AllocGlobal + Abort)) -> Vec<Entry> {
+    let mut list = Vec::new(rt.alloc());
     for number in 0..1000 {
-        let who = Who::Named(numbered(number)?);
+        let who = Who::Named(numbered(rt, number));
         let level = Level::ALL[usize::from(number % 6)];
-        list.push(Entry { who, level })?;
+        assert!(rt; list.push(Entry { who, level }).is_ok());
     }
-    Ok(list)
+    list
+}
+
+/// The rank that answers for a user, whose groups are these.
+fn rank_in(list: &[Entry], user: Id, groups: &[Id], restricted: bool) -> u8 {
+    rank_of(&answer(list, user, groups, restricted))
+}
+
+/// Whether the entry of one of these groups answers for a user, and which.
+fn is_answered_by(list: &[Entry], user: Id, groups: &[Id], group: Id) -> bool {
+    is_group(&answer(list, user, groups, false), group)
 }
 
 #[test]
-fn answers_by_rank_and_order(rt: HostRuntime) -> Result<(), Fail> {
-    let mut list = large_list(rt.alloc())?;
-    let joe = id(b"JOE")?;
+fn answers_by_rank_and_order(rt: HostRuntime) {
+    let (joe, sixth) = (id(&rt, b"JOE"), numbered(&rt, 6));
+    let (alter, late) = (numbered(&rt, 5), numbered(&rt, 995));
     /// levels READ, UPDATE, ALTER, ALTER
-    let groups = [numbered(2)?, numbered(3)?, numbered(995)?, numbered(5)?];
-    let found = answer(list.as_slice(), joe, &groups, false);
-    assert_eq!(rt; rank_of(&found), 15);
-    assert!(rt; is_group(&found, numbered(995)?));
-    let turned = [numbered(5)?, numbered(995)?];
-    assert!(rt; is_group(&answer(list.as_slice(), joe, &turned, false), numbered(5)?));
-    assert_eq!(rt; rank_of(&answer(list.as_slice(), joe, &[], false)), 9);
-    list.push(Entry {
+    let groups = [numbered(&rt, 2), numbered(&rt, 3), late, alter];
+    let mut list = large_list(&rt);
+    assert!(rt; rank_in(list.as_slice(), joe, &groups, false) == 15);
+    assert!(rt; is_answered_by(list.as_slice(), joe, &groups, late));
+    assert!(rt; is_answered_by(list.as_slice(), joe, &[alter, late], alter));
+    assert!(rt; rank_in(list.as_slice(), joe, &[], false) == 9);
+    let star = Entry {
         who: Who::Star,
         level: Level::Control,
-    })?;
-    assert_eq!(rt; rank_of(&answer(list.as_slice(), joe, &[], false)), 24);
-    assert_eq!(rt; rank_of(&answer(list.as_slice(), joe, &[], true)), 9);
-    assert_eq!(rt;
-        rank_of(&answer(list.as_slice(), numbered(6)?, &groups, false)),
-        0
-    );
-    Ok(())
+    };
+    assert!(rt; list.push(star).is_ok());
+    assert!(rt; rank_in(list.as_slice(), joe, &[], false) == 24);
+    assert!(rt; rank_in(list.as_slice(), joe, &[], true) == 9);
+    assert!(rt; rank_in(list.as_slice(), sixth, &groups, false) == 0);
 }
 
 /// The number of the first group, the step to each next one, how many there are, and the rank that
@@ -150,14 +156,15 @@ const GROUPS: [(u16, u16, u16, u8); 6] = [
     (968, 9_758, 300, 14),
 ];
 
-fn numbered_groups(alloc: Global, first: u16, step: u16, count: u16) -> Result<Vec<Id>, Fail> {
-    let mut groups = Vec::new(alloc);
+/// As many groups, each by a step behind the one before.
+fn numbered_groups(rt: &(impl AllocGlobal + Abort), first: u16, step: u16, count: u16) -> Vec<Id> {
+    let mut groups = Vec::new(rt.alloc());
     let mut number = first;
     for _ in 0..count {
-        groups.push(numbered(number)?)?;
+        assert!(rt; groups.push(numbered(rt, number)).is_ok());
         number = number.wrapping_add(step) % 10_000;
     }
-    Ok(groups)
+    groups
 }
 
 /// The first of the groups whose entry has the highest rank, by a walk through the list for each.
@@ -182,79 +189,119 @@ fn is_walked(found: &Found, list: &[Entry], groups: &[Id]) -> bool {
     }
 }
 
+/// Whether the answer has this rank and is what the walk gives.
+fn is_found(list: &[Entry], user: Id, groups: &[Id], rank: u8) -> bool {
+    let found = answer(list, user, groups, true);
+    rank_of(&found) == rank && is_walked(&found, list, groups)
+}
+
 #[test]
-fn looks_up_many_groups(rt: HostRuntime) -> Result<(), Fail> {
-    let list = large_list(rt.alloc())?;
-    let joe = id(b"JOE")?;
-    for (first, step, count, rank) in GROUPS {
-        let groups = numbered_groups(rt.alloc(), first, step, count)?;
-        let found = answer(list.as_slice(), joe, groups.as_slice(), true);
-        assert_eq!(rt; rank_of(&found), rank);
-        assert!(rt; is_walked(&found, list.as_slice(), groups.as_slice()));
+fn looks_up_many_groups(rt: HostRuntime) {
+    let joe = id(&rt, b"JOE");
+    let list = large_list(&rt);
+    for (first, step, count, rank) in &GROUPS {
+        let groups = numbered_groups(&rt, *first, *step, *count);
+        assert!(rt; is_found(list.as_slice(), joe, groups.as_slice(), *rank));
     }
-    Ok(())
 }
 
-fn port(class: PortClass) -> Result<Condition, Fail> {
-    let name = id(b"P1")?;
-    Ok(Condition { class, name })
+/// JOE, who is in the groups G1 and G2, and the name of a port.
+#[derive(Drop)]
+struct Joe {
+    joe: Id,
+    groups: [Id; 2],
+    port: Id,
 }
 
-fn conditional(class: PortClass, who: Who, level: Level) -> Result<CondEntry, Fail> {
-    let condition = port(class)?;
-    Ok(CondEntry {
+/// JOE, whose groups are these, and the port P1.
+fn joe_in_groups(rt: &impl Abort, joe: Id, groups: [Id; 2]) -> Joe {
+    Joe {
+        joe,
+        groups,
+        port: id(rt, b"P1"),
+    }
+}
+
+/// The port of this class.
+fn port(joe: &Joe, class: PortClass) -> Condition {
+    Condition {
+        class,
+        name: joe.port,
+    }
+}
+
+/// The place that answers for JOE, who came by this port, and 99 for none.
+fn place_for(joe: &Joe, list: &[CondEntry], class: PortClass, restricted: bool) -> usize {
+    let port = Some(port(joe, class));
+    match answer_when(list, port, joe.joe, &joe.groups, restricted) {
+        Some(place) => place,
+        None => 99,
+    }
+}
+
+/// Puts an entry into the list, where those that come by this port find it, and answers whether there is room.
+fn admit(joe: &Joe, list: &mut Vec<CondEntry>, class: PortClass, who: &Who, level: Level) -> bool {
+    let condition = port(joe, class);
+    let entry = CondEntry {
         condition,
-        who,
+        who: *who,
         level,
-    })
+    };
+    permit_when(list, entry).is_ok()
 }
 
-/// The place that answers for JOE, who is in the groups G1 and G2 and came by this port, and 99 for none.
-fn place_for_joe(list: &[CondEntry], class: PortClass, restricted: bool) -> Result<usize, Fail> {
-    let groups = [id(b"G1")?, id(b"G2")?];
-    let condition = Some(port(class)?);
-    match answer_when(list, condition, id(b"JOE")?, &groups, restricted) {
-        Some(place) => Ok(place),
-        None => Ok(99),
+/// Ports, whether JOE is restricted, and the place that then answers for him.
+const PLACES: [(PortClass, bool, usize); 4] = [
+    (PortClass::Console, true, 0),
+    (PortClass::Terminal, false, 1),
+    (PortClass::Terminal, true, 99),
+    (PortClass::Jesinput, false, 99),
+];
+
+/// Whether these places answer for JOE.
+fn has_places(joe: &Joe, list: &[CondEntry]) -> bool {
+    for (class, restricted, place) in &PLACES {
+        if place_for(joe, list, *class, *restricted) != *place {
+            return false;
+        }
     }
+    true
 }
 
-/// Puts an entry into the list, where those that come by this port find it.
-fn admit(list: &mut Vec<CondEntry>, class: PortClass, who: Who, level: Level) -> Result<(), Fail> {
-    permit_when(list, conditional(class, who, level)?)
-        .ok()
-        .ok_or("room")?;
-    Ok(())
+/// Whether this place answers for JOE at a terminal, where he is restricted.
+fn is_at(joe: &Joe, list: &[CondEntry], place: usize) -> bool {
+    place_for(joe, list, PortClass::Terminal, true) == place
+}
+
+/// Takes the entry for JOE or one of his groups out, where those that come by this port find it.
+fn dismiss(joe: &Joe, list: &mut Vec<CondEntry>, class: PortClass, who: &Who) {
+    withdraw_when(list, port(joe, class), *who);
 }
 
 #[test]
-fn answers_by_port(rt: HostRuntime) -> Result<(), Fail> {
+fn answers_by_port(rt: HostRuntime) {
+    let (user, first, second) = (id(&rt, b"JOE"), id(&rt, b"G1"), id(&rt, b"G2"));
+    let joe = &joe_in_groups(&rt, user, [first, second]);
+    let user = Who::Named(user);
+    let (g1, g2) = (Who::Named(first), Who::Named(second));
     let mut list = Vec::new(rt.alloc());
-    let joe = Who::Named(id(b"JOE")?);
-    let (g1, g2) = (Who::Named(id(b"G1")?), Who::Named(id(b"G2")?));
-    admit(&mut list, PortClass::Console, joe, Level::Read)?;
-    admit(&mut list, PortClass::Terminal, Who::Star, Level::Alter)?;
-    for (class, restricted, place) in [
-        (PortClass::Console, true, 0),
-        (PortClass::Terminal, false, 1),
-        (PortClass::Terminal, true, 99),
-        (PortClass::Jesinput, false, 99),
-    ] {
-        assert_eq!(rt; place_for_joe(list.as_slice(), class, restricted)?, place);
-    }
-    admit(&mut list, PortClass::Terminal, g2, Level::Read)?;
-    admit(&mut list, PortClass::Terminal, g1, Level::Read)?;
-    assert_eq!(rt;
-        place_for_joe(list.as_slice(), PortClass::Terminal, true)?,
-        3
+    assert!(rt; admit(joe, &mut list, PortClass::Console, &user, Level::Read));
+    assert!(rt;
+        admit(
+            joe,
+            &mut list,
+            PortClass::Terminal,
+            &Who::Star,
+            Level::Alter
+        )
     );
-    admit(&mut list, PortClass::Terminal, joe, Level::NoAccess)?;
-    assert_eq!(rt;
-        place_for_joe(list.as_slice(), PortClass::Terminal, true)?,
-        4
-    );
-    withdraw_when(&mut list, port(PortClass::Terminal)?, joe);
-    withdraw_when(&mut list, port(PortClass::Console)?, g1);
-    assert_eq!(rt; list.len(), 4);
-    Ok(())
+    assert!(rt; has_places(joe, list.as_slice()));
+    assert!(rt; admit(joe, &mut list, PortClass::Terminal, &g2, Level::Read));
+    assert!(rt; admit(joe, &mut list, PortClass::Terminal, &g1, Level::Read));
+    assert!(rt; is_at(joe, list.as_slice(), 3));
+    assert!(rt; admit(joe, &mut list, PortClass::Terminal, &user, Level::NoAccess));
+    assert!(rt; is_at(joe, list.as_slice(), 4));
+    dismiss(joe, &mut list, PortClass::Terminal, &user);
+    dismiss(joe, &mut list, PortClass::Console, &g1);
+    assert!(rt; list.len() == 4);
 }

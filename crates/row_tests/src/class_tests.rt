@@ -1,5 +1,5 @@
 //! Tables of a few profiles: what is found, replaced and taken away, and what the counts say.
-ghost use Rattle.std.specs.Prelude.{◌≡◌, IfOk};
+ghost use Rattle.std.specs.Prelude.{◌≡◌, length, IfOk};
 ghost use Rattle.racf_profiles.specs.Counts.{entries_in};
 
 use access_levels::{Categories, Entry, Id, Level, Who};
@@ -10,31 +10,38 @@ use class_profiles::{
 };
 use generic_names::{NameKind, Pattern, Resource};
 use racf_profiles::{AuditRule, CondEntries, Entries, FixedClass, Members, Profile, sys1};
-use std::alloc::Global;
-use std::test::Fail;
+use std::alloc::{AllocError, Global};
+
+/// An access list of one entry.
+fn one_entry(alloc: Global) -> Result<Entries, NoMemory>
+    ensures { IfOk result (λ entries. length entries ≡ 1) }
+{
+    let mut items = Vec::new(alloc);
+    let entry = Entry {
+        who: Who::Star,
+        level: Level::Read,
+    };
+    let _who: Who = entry.who;
+    items.push(entry)?;
+    Ok(Entries { items })
+}
 
 /// A profile of that name with one entry in its access list.
 fn profile(alloc: Global, name: Pattern, uacc: Level) -> Result<Profile, NoMemory>
     ensures name { IfOk result (λ profile. profile.name ≡ name) }
     ensures one { IfOk result (λ profile. entries_in profile ≡ 1) }
 {
+    let standard = one_entry(alloc)?;
     let audit = AuditRule {
         success: None,
         failures: Some(Level::Read),
     };
-    let mut standard = Vec::new(alloc);
-    let entry = Entry {
-        who: Who::Star,
-        level: Level::Read,
-    };
-    let _who: Who = entry.who;
-    standard.push(entry)?;
     Ok(Profile {
         name,
         owner: sys1(),
         uacc,
         warning: false,
-        standard: Entries { items: standard },
+        standard,
         conditional: CondEntries {
             items: Vec::new(alloc),
         },
@@ -55,16 +62,34 @@ fn put(alloc: Global, table: &mut ProfileTable, name: &[u8], uacc: Level) -> boo
     let Ok(name) = Pattern::read(table.kind(), name) else {
         return false;
     };
-    let Ok(profile) = profile(alloc, name, uacc) else {
-        return false;
-    };
     if table.len() >= MOST_CLASS_PROFILES {
         return false;
     }
     let Ok(()) = table.reserve(1) else {
         return false;
     };
+    let Ok(profile) = profile(alloc, name, uacc) else {
+        return false;
+    };
     table.put(profile);
+    true
+}
+
+/// Names of data set profiles with their levels, put one behind the other.
+const PUT: [(&[u8], Level); 4] = [
+    (b"SYS1.**", Level::NoAccess),
+    (b"SYS1.PARM*", Level::NoAccess),
+    (b"SYS1.PARMLIB", Level::NoAccess),
+    (b"SYS1.PARM*", Level::Read),
+];
+
+/// Whether each of these could be put.
+fn puts(alloc: Global, table: &mut ProfileTable) -> bool {
+    for (name, uacc) in &PUT {
+        if !put(alloc, table, name, *uacc) {
+            return false;
+        }
+    }
     true
 }
 
@@ -79,6 +104,24 @@ fn decides(table: &ProfileTable, resource: &[u8], name: &[u8]) -> bool {
     }
 }
 
+/// Resources, each with the profile that decides on it.
+const DECIDED: [(&[u8], &[u8]); 4] = [
+    (b"SYS1.PARMLIB", b"SYS1.PARMLIB"),
+    (b"SYS1.PARMS", b"SYS1.PARM*"),
+    (b"SYS1.A.B", b"SYS1.**"),
+    (b"SYS2.PARMLIB", b""),
+];
+
+/// Whether each of these resources is decided on by its profile.
+fn decides_on_each(table: &ProfileTable) -> bool {
+    for (resource, name) in &DECIDED {
+        if !decides(table, resource, name) {
+            return false;
+        }
+    }
+    true
+}
+
 /// How many profiles are left once the profile of that name is taken away.
 fn left_without(table: &mut ProfileTable, name: &[u8]) -> usize {
     let Ok(name) = Pattern::read(NameKind::General, name) else {
@@ -88,24 +131,26 @@ fn left_without(table: &mut ProfileTable, name: &[u8]) -> usize {
     table.len()
 }
 
+/// How many rows a table gives.
+fn row_count(alloc: Global, table: &ProfileTable) -> usize {
+    match table.rows(alloc) {
+        Ok(rows) => rows.items.len(),
+        Err(_) => 0,
+    }
+}
+
 #[test]
-fn one_class(rt: HostRuntime) -> Result<(), Fail> {
+fn one_class(rt: HostRuntime) {
     let alloc = rt.alloc();
-    let mut table = ProfileTable::new(alloc, NameKind::DataSet)?;
-    assert!(rt; put(alloc, &mut table, b"SYS1.**", Level::NoAccess));
-    assert!(rt; put(alloc, &mut table, b"SYS1.PARM*", Level::NoAccess));
-    assert!(rt; put(alloc, &mut table, b"SYS1.PARMLIB", Level::NoAccess));
-    assert!(rt; put(alloc, &mut table, b"SYS1.PARM*", Level::Read));
-    assert_eq!(rt; table.len(), 3);
-    assert!(rt; decides(&table, b"SYS1.PARMLIB", b"SYS1.PARMLIB"));
-    assert!(rt; decides(&table, b"SYS1.PARMS", b"SYS1.PARM*"));
-    assert!(rt; decides(&table, b"SYS1.A.B", b"SYS1.**"));
-    assert!(rt; decides(&table, b"SYS2.PARMLIB", b""));
-    assert_eq!(rt; left_without(&mut table, b"SYS1.PARMLIB"), 2);
-    assert_eq!(rt; left_without(&mut table, b"SYS1.PARMLIB"), 2);
+    let Ok(mut table) = ProfileTable::new(alloc, NameKind::DataSet) else {
+        panic!(rt; "no memory")
+    };
+    assert!(rt; puts(alloc, &mut table) && table.len() == 3);
+    assert!(rt; decides_on_each(&table));
+    assert!(rt; left_without(&mut table, b"SYS1.PARMLIB") == 2);
+    assert!(rt; left_without(&mut table, b"SYS1.PARMLIB") == 2);
     assert!(rt; decides(&table, b"SYS1.PARMLIB", b"SYS1.PARM*"));
-    assert_eq!(rt; table.rows(alloc)?.items.len(), 2);
-    Ok(())
+    assert!(rt; row_count(alloc, &table) == 2);
 }
 
 /// Puts a profile of that name into a class, if it is a name of its kind and there is room.
@@ -123,14 +168,37 @@ fn put_in(alloc: Global, tables: &mut ClassTables, class: Id, name: &[u8]) -> bo
     if tables.count() >= MOST_PROFILES || tables.entries() >= MOST_ENTRIES_IN_ALL {
         return false;
     }
-    let Ok(profile) = profile(alloc, name, Level::NoAccess) else {
+    let Ok(()) = tables.reserve(class, 1) else {
         return false;
     };
-    let Ok(()) = tables.reserve(class, 1) else {
+    let Ok(profile) = profile(alloc, name, Level::NoAccess) else {
         return false;
     };
     tables.put(class, profile);
     true
+}
+
+/// Classes with names of profiles, put one behind the other.
+const PUT_IN: [(FixedClass, &[u8]); 4] = [
+    (FixedClass::Dataset, b"SYS1.**"),
+    (FixedClass::Dataset, b"SYS1.PARMLIB"),
+    (FixedClass::Dataset, b"SYS1.**"),
+    (FixedClass::Terminal, b"T1"),
+];
+
+/// Whether each of these could be put into its class.
+fn puts_in(alloc: Global, tables: &mut ClassTables) -> bool {
+    for (class, name) in &PUT_IN {
+        if !put_in(alloc, tables, class.id(), name) {
+            return false;
+        }
+    }
+    true
+}
+
+/// Whether there are this many profiles, with an entry each.
+fn has(tables: &ClassTables, count: usize) -> bool {
+    tables.count() == count && tables.entries() == count
 }
 
 /// Whether the first profile under that qualifier has that name; there is none where it is empty.
@@ -141,30 +209,40 @@ fn is_first_under(tables: &ClassTables, qualifier: Id, name: &[u8]) -> bool {
     }
 }
 
+/// Whether a data set profile is there, and no longer once it is taken away.
+fn goes(tables: &mut ClassTables, name: &[u8]) -> bool {
+    let Ok(name) = Pattern::read(NameKind::DataSet, name) else {
+        return false;
+    };
+    let class = FixedClass::Dataset.id();
+    let is_there = tables.profile(class, &name).is_some();
+    tables.remove(class, &name);
+    is_there && tables.profile(class, &name).is_none()
+}
+
+/// How many classes the rows have, once a class is listed.
+fn class_count(alloc: Global, tables: &mut ClassTables, class: Id) -> usize {
+    tables.set_listed(class, true);
+    match tables.rows(alloc) {
+        Ok(rows) => rows.items.len(),
+        Err(_) => 0,
+    }
+}
+
 #[test]
-fn two_classes(rt: HostRuntime) -> Result<(), Fail> {
+fn two_classes(rt: HostRuntime) {
     let alloc = rt.alloc();
-    let data_sets = FixedClass::Dataset.id();
     let terminals = FixedClass::Terminal.id();
-    let mut tables = ClassTables::new(alloc)?;
-    assert!(rt; put_in(alloc, &mut tables, data_sets, b"SYS1.**"));
-    assert!(rt; put_in(alloc, &mut tables, data_sets, b"SYS1.PARMLIB"));
-    assert!(rt; put_in(alloc, &mut tables, data_sets, b"SYS1.**"));
-    assert!(rt; put_in(alloc, &mut tables, terminals, b"T1"));
+    let Ok(mut tables) = ClassTables::new(alloc) else {
+        panic!(rt; "no memory")
+    };
+    assert!(rt; puts_in(alloc, &mut tables));
     assert!(rt; !put_in(alloc, &mut tables, sys1(), b"T1"));
-    assert!(rt; tables.count() == 3 && tables.entries() == 3);
+    assert!(rt; has(&tables, 3));
     assert!(rt; is_first_under(&tables, sys1(), b"SYS1.PARMLIB"));
     assert!(rt; is_first_under(&tables, terminals, b""));
-    let name = Pattern::read(NameKind::DataSet, b"SYS1.PARMLIB");
-    let name = name.ok().ok_or("a lawful name")?;
-    assert!(rt; tables.profile(data_sets, &name).is_some());
-    tables.remove(data_sets, &name);
-    assert!(rt; tables.profile(data_sets, &name).is_none());
-    assert!(rt; tables.count() == 2 && tables.entries() == 2);
-    tables.set_listed(terminals, true);
-    let rows = tables.rows(alloc)?;
-    assert_eq!(rt; rows.items.len(), 14);
-    Ok(())
+    assert!(rt; goes(&mut tables, b"SYS1.PARMLIB") && has(&tables, 2));
+    assert!(rt; class_count(alloc, &mut tables, terminals) == 14);
 }
 
 /// The profiles of a table, in a table that doesn't change.
@@ -176,7 +254,7 @@ fn shared(alloc: Global, table: &ProfileTable) -> Result<SharedProfiles, NoMemor
     SharedProfiles::of(alloc, table.kind(), &rows.items)
 }
 
-/// The table with a profile of that name, or the same where it is no name or there is no room.
+/// The table with a profile of that name, if it is a name and there is room.
 fn with_name(
     alloc: Global,
     table: &SharedProfiles,
@@ -185,10 +263,10 @@ fn with_name(
 ) -> Result<SharedProfiles, NoMemory> {
     puts_are_counted();
     let Ok(name) = Pattern::read(table.kind(), name) else {
-        return table.share(alloc);
+        return Err(AllocError);
     };
     if table.len() >= MOST_CLASS_PROFILES {
-        return table.share(alloc);
+        return Err(AllocError);
     }
     let profile = profile(alloc, name, uacc)?;
     Ok(table.with_profile(alloc, profile)?.what)
@@ -224,6 +302,34 @@ fn is_same(shared: &SharedProfiles, table: &ProfileTable) -> bool {
     shared.len() == table.len() && shared_place_for(shared, b"A.B") == place_for(table, b"A.B")
 }
 
+/// Takes the profile of that name away from both.
+fn without_name(
+    alloc: Global,
+    shared: &SharedProfiles,
+    table: &mut ProfileTable,
+    name: &[u8],
+) -> Result<SharedProfiles, NoMemory> {
+    let Ok(name) = Pattern::read(NameKind::General, name) else {
+        return Err(AllocError);
+    };
+    table.remove(&name);
+    Ok(shared.without_profile(alloc, &name)?.what)
+}
+
+/// Puts a profile of that name into both.
+fn with_both(
+    alloc: Global,
+    shared: &SharedProfiles,
+    table: &mut ProfileTable,
+    name: &[u8],
+    uacc: Level,
+) -> Result<SharedProfiles, NoMemory> {
+    if !put(alloc, table, name, uacc) {
+        return Err(AllocError);
+    }
+    with_name(alloc, shared, name, uacc)
+}
+
 /// Makes one change of both: puts a profile of that name, or takes it away.
 fn change(
     alloc: Global,
@@ -232,63 +338,93 @@ fn change(
     name: &[u8],
     random: u32,
 ) -> Result<SharedProfiles, NoMemory> {
-    let Ok(pattern) = Pattern::read(NameKind::General, name) else {
-        return shared.share(alloc);
-    };
-    let uacc = match random % 3 {
-        0 => Level::NoAccess,
-        1 => Level::Read,
-        _ => {
-            table.remove(&pattern);
-            return Ok(shared.without_profile(alloc, &pattern)?.what);
-        }
-    };
-    if !put(alloc, table, name, uacc) {
-        return shared.share(alloc);
+    match random % 3 {
+        0 => with_both(alloc, shared, table, name, Level::NoAccess),
+        1 => with_both(alloc, shared, table, name, Level::Read),
+        _ => without_name(alloc, shared, table, name),
     }
-    with_name(alloc, shared, name, uacc)
 }
 
-/// How many of some random changes make the same of both tables.
-fn count_changes(alloc: Global, changes: u32) -> Result<u32, NoMemory> {
-    let names = [
-        b"A.B".as_slice(),
-        b"A.*",
-        b"A.**",
-        b"**",
-        b"B",
-        b"%",
-        b"A.%",
-        b"C.B.**",
-    ];
-    let mut table = ProfileTable::new(alloc, NameKind::General)?;
-    let mut versions = shared(alloc, &table)?;
+/// Names of profiles of general resources.
+const NAMES: [&[u8]; 8] = [
+    b"A.B", b"A.*", b"A.**", b"**", b"B", b"%", b"A.%", b"C.B.**",
+];
+
+/// Makes one change of both, and answers whether they are then the same.
+fn is_same_after(
+    alloc: Global,
+    shared: &mut SharedProfiles,
+    table: &mut ProfileTable,
+    random: u32,
+) -> bool {
+    let name = NAMES[(random >> 8) as usize % 8];
+    match change(alloc, shared, table, name, random >> 16) {
+        Ok(version) => {
+            *shared = version;
+            is_same(shared, table)
+        }
+        Err(_) => false,
+    }
+}
+
+/// How many of some random changes of a table make the same of its versions.
+fn count_alike(alloc: Global, table: &mut ProfileTable, changes: u32) -> u32 {
+    let Ok(mut versions) = shared(alloc, table) else {
+        return 0;
+    };
     let mut random = 7u32;
     let mut alike = 0u32;
     for _change in 0..changes {
         random = random.wrapping_mul(1_664_525).wrapping_add(1_013_904_223);
-        let name = names[(random >> 8) as usize % 8];
-        versions = change(alloc, &versions, &mut table, name, random >> 16)?;
-        if is_same(&versions, &table) {
+        if is_same_after(alloc, &mut versions, table, random) {
             alike = alike.wrapping_add(1);
         }
     }
-    Ok(alike)
+    alike
 }
 
-/// A change leaves the version before it as it was, and each version has what a table has that changes.
+/// Each version has what a table has that changes.
 #[test]
-fn versions_of_profiles(rt: HostRuntime) -> Result<(), Fail> {
+fn versions_like_a_table(rt: HostRuntime) {
     let alloc = rt.alloc();
-    let mut table = ProfileTable::new(alloc, NameKind::DataSet)?;
+    let Ok(mut table) = ProfileTable::new(alloc, NameKind::General) else {
+        panic!(rt; "no memory")
+    };
+    assert!(rt; count_alike(alloc, &mut table, 300) == 300);
+}
+
+/// Whether a version has the profile of that name, and the version without it hasn't.
+fn has_until_taken_away(alloc: Global, version: &SharedProfiles, name: &Pattern) -> bool {
+    match version.without_profile(alloc, name) {
+        Ok(made) => version.get(name).is_some() && made.what.get(name).is_none(),
+        Err(_) => false,
+    }
+}
+
+/// Whether a version of one profile, `SYS1.**`, stays as it was when another profile is put, and so does that one when
+/// the first profile is taken away.
+fn stays(alloc: Global, first: &SharedProfiles) -> bool {
+    let Ok(name) = Pattern::read(NameKind::DataSet, b"SYS1.**") else {
+        return false;
+    };
+    match with_name(alloc, first, b"SYS1.PARMLIB", Level::Read) {
+        Ok(second) => {
+            first.len() == 1 && second.len() == 2 && has_until_taken_away(alloc, &second, &name)
+        }
+        Err(_) => false,
+    }
+}
+
+/// A change leaves the version before it as it was.
+#[test]
+fn versions_of_profiles(rt: HostRuntime) {
+    let alloc = rt.alloc();
+    let Ok(mut table) = ProfileTable::new(alloc, NameKind::DataSet) else {
+        panic!(rt; "no memory")
+    };
     assert!(rt; put(alloc, &mut table, b"SYS1.**", Level::NoAccess));
-    let first = shared(alloc, &table)?;
-    let second = with_name(alloc, &first, b"SYS1.PARMLIB", Level::Read)?;
-    assert_eq!(rt; (first.len(), second.len()), (1, 2));
-    let name = Pattern::read(NameKind::DataSet, b"SYS1.**");
-    let name = name.ok().ok_or("a lawful name")?;
-    let third = second.without_profile(alloc, &name)?.what;
-    assert!(rt; second.get(&name).is_some() && third.get(&name).is_none());
-    assert_eq!(rt; count_changes(alloc, 300)?, 300);
-    Ok(())
+    match shared(alloc, &table) {
+        Ok(first) => assert!(rt; stays(alloc, &first)),
+        Err(_) => panic!(rt; "no memory"),
+    }
 }

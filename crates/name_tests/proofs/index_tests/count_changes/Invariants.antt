@@ -3,4 +3,4 @@ use Rattle.profile_index.specs.Indexed.{AreOf}
 use Rattle.name_tests.proofs.index_tests.count_changes.Given as goal
 
 abbrev pub invariant-loop-change_number : goal.invariant-loop-change_number
-invariant-loop-change_number l = record { kinds : AreOf General l.index.entries; same : AreOf General l.shared }
+invariant-loop-change_number g l = record { kinds : AreOf General l.index.entries; same : AreOf General l.shared }

@@ -2,8 +2,5 @@ use Rattle.generic_names.specs.declared.kind.NameKind.TheVariants.{General}
 use Rattle.profile_index.specs.Indexed.{AreOf}
 use Rattle.name_tests.proofs.index_tests.makes_one_bucket_anew.Given as goal
 
-abbrev pub invariant-loop-text : goal.invariant-loop-text
-invariant-loop-text g l = AreOf General l.index
-
 abbrev pub invariant-loop-number : goal.invariant-loop-number
 invariant-loop-number g l = AreOf General l.index

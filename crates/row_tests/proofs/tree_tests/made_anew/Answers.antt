@@ -10,7 +10,7 @@ loop-place-preserved c =
     let next : take (c.loop-place.place + 1) gs ≡ take c.loop-place.place gs ++ x ∷ [] =
     rw add-one (take-suc gs c.loop-place.place x (slice_get_within gs c.loop-place.place x c.at.ensures) ∙ ap (λ y. take c.loop-place.place gs ++ y ∷ []) (get_or_from_slice_get gs c.loop-place.place x x c.at.ensures)) in
     record {
-      listed = c.in_ok-push.ensures.items ∙ ap (λ xs. xs ++ x ∷ []) c.loop-place.invariant.listed ∙ sym next;
+      listed = c.in-Ok.ensures.items ∙ ap (λ xs. xs ++ x ∷ []) c.loop-place.invariant.listed ∙ sym next;
       count = c.loop-place.invariant.count;
       lawful = c.loop-place.invariant.lawful;
     }

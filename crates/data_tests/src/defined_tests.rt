@@ -64,17 +64,28 @@ const CHANGES: [Change; 8] = [
     (*b"PA", 6, "BOZZANPA"),
 ];
 
-/// The changed table, shared. The table before it stays as it was.
+/// The changed table, shared.
+fn changed_and_shared(
+    rt: &(impl AllocGlobal + Abort),
+    table: &DefinedRows<Item>,
+    name: [u8; 2],
+    number: u32,
+) -> DefinedRows<Item> {
+    let changed = changed_by(rt.alloc(), table, name, number).expect(rt, "memory");
+    changed.share(rt.alloc()).expect(rt, "memory")
+}
+
+/// The changed table, which has what the row says. The table before it stays as it was.
 fn later(
     rt: &(impl AllocGlobal + Abort),
     table: &DefinedRows<Item>,
     before: &str,
     (name, number, keys): Change,
 ) -> DefinedRows<Item> {
-    let later = changed_by(rt.alloc(), table, name, number).expect(rt, "memory");
+    let later = changed_and_shared(rt, table, name, number);
     assert!(rt; has_keys(rt, table, before));
     assert!(rt; has_keys(rt, &later, keys) && number_of(&later, &name) == number);
-    later.share(rt.alloc()).expect(rt, "memory")
+    later
 }
 
 /// Rows that come, are replaced and go, each with the keys that are then there, and the number of one of them. The
@@ -87,7 +98,7 @@ fn worked_rows(rt: HostRuntime) {
         table = later(&rt, &table, before, *row);
         before = row.2;
     }
-    assert!(rt; has_keys(&rt, &table, before) && !table.is_empty());
+    assert!(rt; !table.is_empty());
 }
 
 /// A row of a plain list.

@@ -5,6 +5,7 @@ use pages::{NoMemory, Pages, Test};
 use std::alloc::Global;
 use std::process::Abort;
 use std::sync::Arc;
+use std::test::Fail;
 
 /// Random numbers, the same in each run.
 #[derive(Drop)]
@@ -158,22 +159,17 @@ impl Test<usize> for AtLeast {
     }
 }
 
-/// An item that can be shared.
-fn shared(rt: &(impl AllocGlobal + Abort), item: usize) -> Arc<usize> {
-    Arc::new(rt.alloc(), item).expect(rt, "memory")
-}
-
 /// Items that their holder shares with a list, and the first of them that isn't below a bound.
 #[test]
-fn finds_the_first(rt: HostRuntime) {
-    let held = shared(&rt, 40);
-    let items = [shared(&rt, 20), Arc::try_clone(&held).expect(&rt, "memory")];
-    let list = Pages::of_shared(rt.alloc(), &items).expect(&rt, "memory");
-    drop(items);
-    assert!(rt; list.len() == 2);
+fn finds_the_first(rt: HostRuntime) -> Result<(), Fail> {
+    let alloc = rt.alloc();
+    let held = Arc::new(alloc, 40)?;
+    let list = Pages::of_shared(alloc, &[Arc::new(alloc, 20)?, Arc::try_clone(&held)?])?;
+    assert_eq!(rt; list.len(), 2);
     // Its holder, the list, and each of the two pages of which it is the last item.
-    assert!(rt; Arc::strong_count(list.shared_at(1)) == 4);
-    for (bound, place) in &[(0, 0), (20, 0), (21, 1), (40, 1), (41, 2)] {
-        assert!(rt; list.first(&AtLeast(*bound)) == *place);
+    assert_eq!(rt; Arc::strong_count(list.shared_at(1)), 4);
+    for (bound, place) in [(0, 0), (20, 0), (21, 1), (40, 1), (41, 2)] {
+        assert_eq!(rt; list.first(&AtLeast(bound)), place, "{bound}");
     }
+    Ok(())
 }

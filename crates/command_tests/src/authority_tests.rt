@@ -9,8 +9,7 @@ use racf_profiles::{
     Entries, FixedClass, Group, Groups, LogOption, Members, Options, Profile, Profiles, Rows, User,
     Users, View,
 };
-use std::alloc::Global;
-use std::test::Fail;
+use std::process::Abort;
 
 /// Users and profiles beside a tree, as one view.
 #[derive(Drop)]
@@ -35,20 +34,27 @@ impl View for Seen<'_> {
     }
 }
 
+/// The ID of that text, which is lawful.
+fn id(rt: &impl Abort, text: &[u8]) -> Id {
+    Id::read(text).expect(rt, "a lawful ID")
+}
+
+/// Adds a group to the tree.
+fn add(rt: &impl Abort, tree: &mut Tree, group: &[u8], superior: &[u8], owner: &[u8]) {
+    let (group, superior, owner) = (id(rt, group), id(rt, superior), id(rt, owner));
+    assert!(rt; tree.reserve(1).is_ok());
+    assert!(rt; tree.add(group, superior, owner).is_ok());
+}
+
 /// SYS1, and below it DIV, DEPT and TEAM, each below the one before, and G1. Each is owned by its superior group, DEPT
 /// by the owner given.
-fn tree(alloc: Global, owner: &[u8]) -> Result<Tree, Fail> {
-    let mut tree = Tree::new(alloc)?;
-    for (group, superior, owner) in [
-        (b"DIV".as_slice(), b"SYS1".as_slice(), b"SYS1".as_slice()),
-        (b"DEPT".as_slice(), b"DIV".as_slice(), owner),
-        (b"TEAM".as_slice(), b"DEPT".as_slice(), b"DEPT".as_slice()),
-        (b"G1".as_slice(), b"SYS1".as_slice(), b"SYS1".as_slice()),
-    ] {
-        tree.reserve(1)?;
-        tree.add(Id::read(group)?, Id::read(superior)?, Id::read(owner)?)?;
-    }
-    Ok(tree)
+fn tree(rt: &(impl AllocGlobal + Abort), owner: &[u8]) -> Tree {
+    let mut tree = Tree::new(rt.alloc()).expect(rt, "memory");
+    add(rt, &mut tree, b"DIV", b"SYS1", b"SYS1");
+    add(rt, &mut tree, b"DEPT", b"DIV", owner);
+    add(rt, &mut tree, b"TEAM", b"DEPT", b"DEPT");
+    add(rt, &mut tree, b"G1", b"SYS1", b"SYS1");
+    tree
 }
 
 /// A user with one connection.
@@ -99,26 +105,30 @@ const USERS: [Known; 4] = [
     },
 ];
 
-fn connects(alloc: Global, known: &Known) -> Result<Connects, Fail> {
-    let mut items = Vec::new(alloc);
-    items.push(Connect {
-        group: Id::read(known.group)?,
+/// The one connection of a user.
+fn connects(rt: &(impl AllocGlobal + Abort), known: &Known) -> Connects {
+    let group = id(rt, known.group);
+    let mut items = Vec::new(rt.alloc());
+    let put = items.push(Connect {
+        group,
         authority: known.authority,
         special: known.special,
         operations: false,
         auditor: false,
         revoked: false,
-    })?;
-    Ok(Connects { items })
+    });
+    assert!(rt; put.is_ok());
+    Connects { items }
 }
 
-fn user(alloc: Global, known: &Known) -> Result<User, Fail> {
-    let connects = connects(alloc, known)?;
-    let name = Text::of(alloc, b"")?;
-    Ok(User {
-        id: Id::read(known.id)?,
-        default_group: Id::read(known.group)?,
-        owner: Id::read(known.owner)?,
+/// The user.
+fn user(rt: &(impl AllocGlobal + Abort), known: &Known) -> User {
+    let (id, group, owner) = (id(rt, known.id), id(rt, known.group), id(rt, known.owner));
+    let name = Text::of(rt.alloc(), b"").expect(rt, "memory");
+    User {
+        id,
+        default_group: group,
+        owner,
         name,
         attributes: Attributes {
             special: known.administrator,
@@ -129,42 +139,48 @@ fn user(alloc: Global, known: &Known) -> Result<User, Fail> {
             uaudit: false,
         },
         classes: Classes {
-            items: Vec::new(alloc),
+            items: Vec::new(rt.alloc()),
         },
         level: 0,
         categories: Categories::none(),
         label: None,
-        connects,
-    })
+        connects: connects(rt, known),
+    }
 }
 
-fn users(alloc: Global) -> Result<Users, Fail> {
-    let mut items = Vec::new(alloc);
+/// All users.
+fn users(rt: &(impl AllocGlobal + Abort)) -> Users {
+    let mut items = Vec::new(rt.alloc());
     for known in &USERS {
-        items.push(user(alloc, known)?)?;
+        assert!(rt; items.push(user(rt, known)).is_ok());
     }
-    Ok(Users { items })
+    Users { items }
+}
+
+/// A standard list in which ANN has ALTER.
+fn entries(rt: &(impl AllocGlobal + Abort)) -> Entries {
+    let who = Who::Named(id(rt, b"ANN"));
+    let level = Level::Alter;
+    let mut items = Vec::new(rt.alloc());
+    assert!(rt; items.push(Entry { who, level }).is_ok());
+    Entries { items }
 }
 
 /// A data set profile in whose standard list ANN has ALTER.
-fn profile(alloc: Global, name: &[u8]) -> Result<Profile, Fail> {
-    let mut entries = Vec::new(alloc);
-    entries.push(Entry {
-        who: Who::Named(Id::read(b"ANN")?),
-        level: Level::Alter,
-    })?;
+fn profile(rt: &(impl AllocGlobal + Abort), name: &[u8]) -> Profile {
+    let name = Pattern::read(NameKind::DataSet, name).expect(rt, "a lawful name");
     let audit = AuditRule {
         success: None,
         failures: None,
     };
-    Ok(Profile {
-        name: Pattern::read(NameKind::DataSet, name)?,
-        owner: Id::read(b"SYS1")?,
+    Profile {
+        name,
+        owner: id(rt, b"SYS1"),
         uacc: Level::NoAccess,
         warning: false,
-        standard: Entries { items: entries },
+        standard: entries(rt),
         conditional: CondEntries {
-            items: Vec::new(alloc),
+            items: Vec::new(rt.alloc()),
         },
         level: 0,
         categories: Categories::none(),
@@ -172,76 +188,87 @@ fn profile(alloc: Global, name: &[u8]) -> Result<Profile, Fail> {
         audit,
         global_audit: audit,
         members: Members {
-            items: Vec::new(alloc),
+            items: Vec::new(rt.alloc()),
         },
-    })
-}
-
-fn profiles(alloc: Global) -> Result<Profiles, Fail> {
-    let mut items = Vec::new(alloc);
-    for name in [b"SYS1.A".as_slice(), b"SYS1.*".as_slice()] {
-        items.push(profile(alloc, name)?)?;
     }
-    Ok(Profiles { items })
 }
 
-fn classes(alloc: Global) -> Result<ClassRows, Fail> {
-    let mut items = Vec::new(alloc);
-    items.push(ClassRow {
+/// The profiles SYS1.A and SYS1.*.
+fn profiles(rt: &(impl AllocGlobal + Abort)) -> Profiles {
+    let mut items = Vec::new(rt.alloc());
+    assert!(rt; items.push(profile(rt, b"SYS1.A")).is_ok());
+    assert!(rt; items.push(profile(rt, b"SYS1.*")).is_ok());
+    Profiles { items }
+}
+
+/// The class of data sets with these profiles.
+fn classes(rt: &(impl AllocGlobal + Abort)) -> ClassRows {
+    let mut items = Vec::new(rt.alloc());
+    let put = items.push(ClassRow {
         name: FixedClass::Dataset.id(),
         active: true,
         listed: false,
         global: false,
         log: LogOption::ByProfile,
-        profiles: profiles(alloc)?,
-    })?;
-    Ok(ClassRows { items })
+        profiles: profiles(rt),
+    });
+    assert!(rt; put.is_ok());
+    ClassRows { items }
 }
 
 /// The users, and the data set profiles SYS1.A and SYS1.*. The groups are those of a tree.
-fn rows(alloc: Global) -> Result<Rows, Fail> {
-    Ok(Rows {
-        users: users(alloc)?,
+fn rows(rt: &(impl AllocGlobal + Abort)) -> Rows {
+    Rows {
+        users: users(rt),
         groups: Groups {
-            items: Vec::new(alloc),
+            items: Vec::new(rt.alloc()),
         },
-        classes: classes(alloc)?,
+        classes: classes(rt),
         options: Options {
             grplist: false,
             protectall: false,
             mls: false,
             categories: CategoryNames {
-                items: Vec::new(alloc),
+                items: Vec::new(rt.alloc()),
             },
         },
-    })
-}
-
-/// A need as it is printed.
-fn write_need(need: &Need, out: &mut Vec<u8>) -> Result<(), Fail> {
-    match need {
-        Need::Special => write(b"SPECIAL ", b"", b"", out),
-        Need::Auditor => write(b"AUDITOR ", b"", b"", out),
-        Need::ClassAuthority(class) => write(b"CLAUTH(", class.text(), b") ", out),
-        Need::Join(group) => write(b"JOIN(", group.text(), b") ", out),
-        Need::Connect(group) => write(b"CONNECT(", group.text(), b") ", out),
-        Need::Create(group) => write(b"CREATE(", group.text(), b") ", out),
-        Need::Authority(authority) => write(b"AUTHORITY(", authority.name(), b") ", out),
-        Need::Owner => write(b"OWNER ", b"", b"", out),
-        Need::GroupSpecial => write(b"GROUPSPECIAL ", b"", b"", out),
-        Need::OwnData => write(b"OWNDATA ", b"", b"", out),
-        Need::AlterEntry => write(b"ALTER ", b"", b"", out),
-        Need::UserJoin(group) => write(b"CLAUTH(USER)+JOIN(", group.text(), b") ", out),
-        Need::UserOwner => write(b"CLAUTH(USER)+OWNER ", b"", b"", out),
-        Need::UserGroupSpecial => write(b"CLAUTH(USER)+GROUPSPECIAL ", b"", b"", out),
     }
 }
 
-fn write(word: &[u8], name: &[u8], end: &[u8], out: &mut Vec<u8>) -> Result<(), Fail> {
-    out.extend_from_slice(word)?;
-    out.extend_from_slice(name)?;
-    out.extend_from_slice(end)?;
-    Ok(())
+/// Writes a need as it is printed.
+fn write_need(rt: &impl Abort, need: &Need, out: &mut Vec<u8>) {
+    match need {
+        Need::Special => write(rt, b"SPECIAL ", b"", b"", out),
+        Need::Auditor => write(rt, b"AUDITOR ", b"", b"", out),
+        Need::ClassAuthority(class) => write(rt, b"CLAUTH(", class.text(), b") ", out),
+        Need::Join(group) => write(rt, b"JOIN(", group.text(), b") ", out),
+        Need::Connect(group) => write(rt, b"CONNECT(", group.text(), b") ", out),
+        Need::Create(group) => write(rt, b"CREATE(", group.text(), b") ", out),
+        Need::Authority(authority) => write(rt, b"AUTHORITY(", authority.name(), b") ", out),
+        Need::Owner => write(rt, b"OWNER ", b"", b"", out),
+        Need::GroupSpecial => write(rt, b"GROUPSPECIAL ", b"", b"", out),
+        Need::OwnData => write(rt, b"OWNDATA ", b"", b"", out),
+        Need::AlterEntry => write(rt, b"ALTER ", b"", b"", out),
+        Need::UserJoin(group) => write(rt, b"CLAUTH(USER)+JOIN(", group.text(), b") ", out),
+        Need::UserOwner => write(rt, b"CLAUTH(USER)+OWNER ", b"", b"", out),
+        Need::UserGroupSpecial => write(rt, b"CLAUTH(USER)+GROUPSPECIAL ", b"", b"", out),
+    }
+}
+
+/// Writes a word, the name in it, and what stands behind the name.
+fn write(rt: &impl Abort, word: &[u8], name: &[u8], end: &[u8], out: &mut Vec<u8>) {
+    assert!(rt; out.extend_from_slice(word).is_ok());
+    assert!(rt; out.extend_from_slice(name).is_ok());
+    assert!(rt; out.extend_from_slice(end).is_ok());
+}
+
+/// Whether the needs are printed as this text.
+fn are_told(rt: &(impl AllocGlobal + Abort), needs: &[Need], text: &[u8]) -> bool {
+    let mut words = Vec::new(rt.alloc());
+    for need in needs {
+        write_need(rt, need, &mut words);
+    }
+    words.as_slice() == text
 }
 
 /// A command, and what its issuer lacks.
@@ -250,23 +277,35 @@ struct Row {
     lacks: &'static [u8],
 }
 
-/// Whether the issuer, in this group, lacks what the row says.
-fn lacks_so(
-    alloc: Global,
-    seen: &Seen<'_>,
-    issuer: &[u8],
-    group: &[u8],
-    row: &Row,
-) -> Result<bool, Fail> {
-    let issuer = Issuer::new(Id::read(issuer)?, Id::read(group)?).ok_or("issuer")?;
-    let command = parse(alloc, issuer.id, row.text)?;
-    let mut words = Vec::new(alloc);
-    if let Err(needs) = authorised(seen, seen.tree, &issuer, &command) {
-        for need in needs.as_slice() {
-            write_need(need, &mut words)?;
-        }
+/// Whether the issuer lacks what the row says.
+fn lacks_so(rt: &(impl AllocGlobal + Abort), seen: &Seen<'_>, issuer: &Issuer, row: &Row) -> bool {
+    let command = parse(rt.alloc(), issuer.id, row.text).expect(rt, "a command");
+    match authorised(seen, seen.tree, issuer, &command) {
+        Ok(()) => row.lacks.is_empty(),
+        Err(needs) => are_told(rt, needs.as_slice(), row.lacks),
     }
-    Ok(words.as_slice() == row.lacks)
+}
+
+/// The issuer in this group.
+fn issuer(rt: &impl Abort, user: &[u8], group: &[u8]) -> Issuer {
+    Issuer::new(id(rt, user), id(rt, group)).expect(rt, "an issuer")
+}
+
+/// Asserts that the issuer, in this group, lacks what each row says, where DEPT has that owner.
+fn assert_lacks(
+    rt: &(impl AllocGlobal + Abort),
+    issuer: &Issuer,
+    owner: &[u8],
+    rows_of_issuer: &[Row],
+) {
+    let tree = tree(rt, owner);
+    let seen = Seen {
+        tree: &tree,
+        rows: rows(rt),
+    };
+    for row in rows_of_issuer {
+        assert!(rt; lacks_so(rt, &seen, issuer, row));
+    }
 }
 
 /// IBMUSER, who has SPECIAL and AUDITOR, may give every command.
@@ -306,14 +345,9 @@ const ADMINISTRATOR: [Row; 8] = [
 ];
 
 #[test]
-fn commands_of_an_administrator(rt: HostRuntime) -> Result<(), Fail> {
-    let tree = tree(rt.alloc(), b"DIV")?;
-    let rows = rows(rt.alloc())?;
-    let seen = Seen { tree: &tree, rows };
-    for row in &ADMINISTRATOR {
-        assert!(rt; lacks_so(rt.alloc(), &seen, b"IBMUSER", b"SYS1", row)?);
-    }
-    Ok(())
+fn commands_of_an_administrator(rt: HostRuntime) {
+    let issuer = issuer(&rt, b"IBMUSER", b"SYS1");
+    assert_lacks(&rt, &issuer, b"DIV", &ADMINISTRATOR);
 }
 
 /// ADM, who has group-SPECIAL in DIV.
@@ -357,14 +391,9 @@ const GROUP_ADMINISTRATOR: [Row; 9] = [
 ];
 
 #[test]
-fn commands_of_a_group_administrator(rt: HostRuntime) -> Result<(), Fail> {
-    let tree = tree(rt.alloc(), b"DIV")?;
-    let rows = rows(rt.alloc())?;
-    let seen = Seen { tree: &tree, rows };
-    for row in &GROUP_ADMINISTRATOR {
-        assert!(rt; lacks_so(rt.alloc(), &seen, b"ADM", b"DIV", row)?);
-    }
-    Ok(())
+fn commands_of_a_group_administrator(rt: HostRuntime) {
+    let issuer = issuer(&rt, b"ADM", b"DIV");
+    assert_lacks(&rt, &issuer, b"DIV", &GROUP_ADMINISTRATOR);
 }
 
 /// ANN, who has CONNECT in G1.
@@ -452,27 +481,19 @@ const MEMBER: [Row; 20] = [
 ];
 
 #[test]
-fn commands_of_a_member(rt: HostRuntime) -> Result<(), Fail> {
-    let tree = tree(rt.alloc(), b"DIV")?;
-    let rows = rows(rt.alloc())?;
-    let seen = Seen { tree: &tree, rows };
-    for row in &MEMBER {
-        assert!(rt; lacks_so(rt.alloc(), &seen, b"ANN", b"G1", row)?);
-    }
-    Ok(())
+fn commands_of_a_member(rt: HostRuntime) {
+    let issuer = issuer(&rt, b"ANN", b"G1");
+    assert_lacks(&rt, &issuer, b"DIV", &MEMBER);
 }
 
 /// A user owns DEPT.
-const PAST_A_USER: Row = Row {
+const PAST_A_USER: [Row; 1] = [Row {
     text: b"ALU SUE REVOKE",
     lacks: b"SPECIAL OWNER GROUPSPECIAL ",
-};
+}];
 
 #[test]
-fn scope_ends_at_a_group_that_a_user_owns(rt: HostRuntime) -> Result<(), Fail> {
-    let tree = tree(rt.alloc(), b"IBMUSER")?;
-    let rows = rows(rt.alloc())?;
-    let seen = Seen { tree: &tree, rows };
-    assert!(rt; lacks_so(rt.alloc(), &seen, b"ADM", b"DIV", &PAST_A_USER)?);
-    Ok(())
+fn scope_ends_at_a_group_that_a_user_owns(rt: HostRuntime) {
+    let issuer = issuer(&rt, b"ADM", b"DIV");
+    assert_lacks(&rt, &issuer, b"IBMUSER", &PAST_A_USER);
 }

@@ -1,5 +1,5 @@
 //! Lists in pages beside plain lists, pages that split and become empty, and a search.
-ghost use Rattle.std.specs.Prelude.{◌≡◌, ◌<◌, ◌≤◌, ◌+◌, length, nat_le, IfOk};
+ghost use Rattle.std.specs.Prelude.{◌<◌, ◌≤◌, ◌+◌, length, nat_le};
 
 use pages::{NoMemory, Pages, Test};
 use std::alloc::Global;

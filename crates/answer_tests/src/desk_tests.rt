@@ -1,195 +1,239 @@
 //! Commands by several issuers, one after another: the words of each answer, and where the desk stands behind them.
 
 use access_levels::Id;
-use racf_desk::{Desk, Reply};
+use racf_desk::{Desk, Refusal, Reply};
 use racf_profiles::ibmuser;
 use std::alloc::Global;
 use std::process::Abort;
-use std::test::Fail;
 
-/// A command, who gives it, the group that is named for him if one is, and the words of its answer.
-#[derive(Clone, Copy)]
-struct Given {
-    issuer: &'static [u8],
-    group: &'static [u8],
-    text: &'static [u8],
-    words: &'static [u8],
-}
+/// A command: who gives it, the group that is named for him if one is, its text, and the words of its answer.
+type Given = (&'static [u8], &'static [u8], &'static [u8], &'static [u8]);
 
-/// A command of IBMUSER that is accepted.
-const fn prepared(text: &'static [u8]) -> Given {
-    by(b"IBMUSER", text, b"ACCEPTED")
-}
-
-const fn by(issuer: &'static [u8], text: &'static [u8], words: &'static [u8]) -> Given {
-    Given {
-        issuer,
-        group: b"",
-        text,
-        words,
-    }
-}
-
-const fn in_group(
-    issuer: &'static [u8],
-    group: &'static [u8],
-    text: &'static [u8],
-    words: &'static [u8],
-) -> Given {
-    Given {
-        issuer,
-        group,
-        text,
-        words,
-    }
-}
-
-/// The words of an answer.
-fn words(alloc: Global, reply: &Reply) -> Result<Vec<u8>, Fail> {
-    let mut words = Vec::new(alloc);
-    match reply {
-        Reply::Accepted(_) => words.extend_from_slice(b"ACCEPTED")?,
-        Reply::Refused(_, why) => why.write(&mut words)?,
-        Reply::NoMemory => words.extend_from_slice(b"NOMEMORY")?,
-    }
-    Ok(words)
+/// The ID of that text, which is lawful.
+fn id(rt: &impl Abort, text: &[u8]) -> Id {
+    Id::read(text).expect(rt, "a lawful ID")
 }
 
 /// The group of that name, if one is named.
-fn group_named(name: &[u8]) -> Result<Option<Id>, Fail> {
+fn group_named(rt: &impl Abort, name: &[u8]) -> Option<Id> {
     if name.is_empty() {
-        return Ok(None);
+        None
+    } else {
+        Some(Id::read_group(name).expect(rt, "a lawful group"))
     }
-    Ok(Some(Id::read_group(name)?))
 }
 
-/// Gives the commands at a new desk, and looks at the words of each answer and at the number behind them.
-fn assert_answers(rt: &impl Abort, alloc: Global, rows: &[Given], number: u64) -> Result<(), Fail> {
-    let mut desk = Desk::new(alloc)?;
-    for row in rows {
-        let group = group_named(row.group)?;
-        let reply = desk.execute(alloc, Id::read(row.issuer)?, group, row.text);
-        let told = words(alloc, &reply)?;
-        assert_eq!(rt; told.as_slice(), row.words);
+/// Whether the refusal has these words.
+fn is_told(alloc: Global, why: &Refusal, words: &[u8]) -> bool {
+    let mut told = Vec::new(alloc);
+    why.write(&mut told).is_ok() && told.as_slice() == words
+}
+
+/// Whether the answer has these words.
+fn has_words(alloc: Global, reply: &Reply, words: &[u8]) -> bool {
+    match reply {
+        Reply::Accepted(_) => words == b"ACCEPTED".as_slice(),
+        Reply::Refused(_, why) => is_told(alloc, why, words),
+        Reply::NoMemory => false,
     }
-    assert_eq!(rt; desk.number(), number);
-    assert_eq!(rt; desk.image().generation(), number);
-    Ok(())
+}
+
+/// Whether the desk answers the command with its words.
+fn answers(rt: &(impl AllocGlobal + Abort), desk: &mut Desk, given: Given) -> bool {
+    let (issuer, group, text, words) = given;
+    let (issuer, group) = (id(rt, issuer), group_named(rt, group));
+    let reply = desk.execute(rt.alloc(), issuer, group, text);
+    has_words(rt.alloc(), &reply, words)
+}
+
+/// Gives the commands at a new desk, and asserts the words of each answer and the number behind them.
+fn assert_answers(rt: &(impl AllocGlobal + Abort), rows: &[Given], number: u64) {
+    let mut desk = Desk::new(rt.alloc()).expect(rt, "memory");
+    for row in rows {
+        assert!(rt; answers(rt, &mut desk, *row));
+    }
+    assert!(rt; desk.number() == number);
+    assert!(rt; desk.image().generation() == number);
 }
 
 /// Group-SPECIAL ends above a group that a user owns.
+const SCOPE: [Given; 9] = [
+    (b"IBMUSER", b"", b"AG D1 OWNER(SYS1)", b"ACCEPTED"),
+    (
+        b"IBMUSER",
+        b"",
+        b"AG D2 SUPGROUP(D1) OWNER(D1)",
+        b"ACCEPTED",
+    ),
+    (
+        b"IBMUSER",
+        b"",
+        b"AG D3 SUPGROUP(D2) OWNER(D2)",
+        b"ACCEPTED",
+    ),
+    (b"IBMUSER", b"", b"AU ADM DFLTGRP(D1)", b"ACCEPTED"),
+    (b"IBMUSER", b"", b"CO ADM GROUP(D1) SPECIAL", b"ACCEPTED"),
+    (
+        b"IBMUSER",
+        b"",
+        b"AU SUE DFLTGRP(D3) OWNER(D3)",
+        b"ACCEPTED",
+    ),
+    (b"ADM", b"", b"ALU SUE NAME('Sue')", b"ACCEPTED"),
+    (b"IBMUSER", b"", b"ALG D2 OWNER(IBMUSER)", b"ACCEPTED"),
+    (
+        b"ADM",
+        b"",
+        b"ALU SUE REVOKE",
+        b"NEED SPECIAL OWNER GROUPSPECIAL",
+    ),
+];
+
 #[test]
-fn scope_of_group_special(rt: HostRuntime) -> Result<(), Fail> {
-    let rows = [
-        prepared(b"AG D1 OWNER(SYS1)"),
-        prepared(b"AG D2 SUPGROUP(D1) OWNER(D1)"),
-        prepared(b"AG D3 SUPGROUP(D2) OWNER(D2)"),
-        prepared(b"AU ADM DFLTGRP(D1)"),
-        prepared(b"CO ADM GROUP(D1) SPECIAL"),
-        prepared(b"AU SUE DFLTGRP(D3) OWNER(D3)"),
-        by(b"ADM", b"ALU SUE NAME('Sue')", b"ACCEPTED"),
-        prepared(b"ALG D2 OWNER(IBMUSER)"),
-        by(
-            b"ADM",
-            b"ALU SUE REVOKE",
-            b"NEED SPECIAL OWNER GROUPSPECIAL",
-        ),
-    ];
-    assert_answers(&rt, rt.alloc(), &rows, 8)
+fn scope_of_group_special(rt: HostRuntime) {
+    assert_answers(&rt, &SCOPE, 8);
 }
 
 /// An authority in a group is enough for some of its members' connections, and not for its users.
+const AUTHORITY: [Given; 9] = [
+    (b"IBMUSER", b"", b"AG G1", b"ACCEPTED"),
+    (
+        b"IBMUSER",
+        b"",
+        b"AU ANN DFLTGRP(G1) AUTHORITY(CONNECT)",
+        b"ACCEPTED",
+    ),
+    (b"IBMUSER", b"", b"AU BOB", b"ACCEPTED"),
+    (b"ANN", b"", b"CO BOB GROUP(G1)", b"ACCEPTED"),
+    (
+        b"ANN",
+        b"",
+        b"CO BOB GROUP(G1) AUTHORITY(JOIN)",
+        b"NEED SPECIAL OWNER GROUPSPECIAL AUTHORITY(JOIN)",
+    ),
+    (
+        b"ANN",
+        b"",
+        b"AU CAT",
+        b"NEED SPECIAL CLAUTH(USER)+JOIN(G1) CLAUTH(USER)+OWNER CLAUTH(USER)+GROUPSPECIAL",
+    ),
+    (
+        b"ANN",
+        b"",
+        b"AU CAT SPECIAL",
+        b"NEED SPECIAL CLAUTH(USER)+JOIN(G1) CLAUTH(USER)+OWNER CLAUTH(USER)+GROUPSPECIAL",
+    ),
+    (
+        b"ANN",
+        b"",
+        b"RDEF FACILITY X",
+        b"NEED SPECIAL CLAUTH(FACILITY)",
+    ),
+    (
+        b"ANN",
+        b"",
+        b"AD 'BOB.X'",
+        b"NEED SPECIAL OWNDATA CREATE(BOB) GROUPSPECIAL",
+    ),
+];
+
 #[test]
-fn authority_in_a_group(rt: HostRuntime) -> Result<(), Fail> {
-    let rows = [
-        prepared(b"AG G1"),
-        prepared(b"AU ANN DFLTGRP(G1) AUTHORITY(CONNECT)"),
-        prepared(b"AU BOB"),
-        by(b"ANN", b"CO BOB GROUP(G1)", b"ACCEPTED"),
-        by(
-            b"ANN",
-            b"CO BOB GROUP(G1) AUTHORITY(JOIN)",
-            b"NEED SPECIAL OWNER GROUPSPECIAL AUTHORITY(JOIN)",
-        ),
-        by(
-            b"ANN",
-            b"AU CAT",
-            b"NEED SPECIAL CLAUTH(USER)+JOIN(G1) CLAUTH(USER)+OWNER CLAUTH(USER)+GROUPSPECIAL",
-        ),
-        by(
-            b"ANN",
-            b"AU CAT SPECIAL",
-            b"NEED SPECIAL CLAUTH(USER)+JOIN(G1) CLAUTH(USER)+OWNER CLAUTH(USER)+GROUPSPECIAL",
-        ),
-        by(b"ANN", b"RDEF FACILITY X", b"NEED SPECIAL CLAUTH(FACILITY)"),
-        by(
-            b"ANN",
-            b"AD 'BOB.X'",
-            b"NEED SPECIAL OWNDATA CREATE(BOB) GROUPSPECIAL",
-        ),
-    ];
-    assert_answers(&rt, rt.alloc(), &rows, 4)
+fn authority_in_a_group(rt: HostRuntime) {
+    assert_answers(&rt, &AUTHORITY, 4);
 }
 
 /// An issuer is judged as he stands at the command: whether he is there, revoked, and connected to the group that is
 /// current then.
+const ISSUERS: [Given; 16] = [
+    (b"ANN", b"", b"AG X", b"ISSUERUNKNOWN ANN"),
+    (b"ANN", b"", b"AX", b"SYNTAX UNKNOWNCOMMAND"),
+    (b"IBMUSER", b"", b"AG G1", b"ACCEPTED"),
+    (b"IBMUSER", b"", b"AG G2", b"ACCEPTED"),
+    (
+        b"IBMUSER",
+        b"",
+        b"AU ANN DFLTGRP(G1) AUTHORITY(JOIN)",
+        b"ACCEPTED",
+    ),
+    (b"ANN", b"", b"AG X", b"ACCEPTED"),
+    (b"ANN", b"G2", b"AG Y", b"ISSUERNOTCONNECTED G2"),
+    (b"IBMUSER", b"", b"CO ANN GROUP(G2)", b"ACCEPTED"),
+    (b"IBMUSER", b"", b"ALU ANN DFLTGRP(G2)", b"ACCEPTED"),
+    (
+        b"ANN",
+        b"",
+        b"AG Y",
+        b"NEED SPECIAL JOIN(G2) OWNER GROUPSPECIAL",
+    ),
+    (b"ANN", b"G1", b"AG Y", b"ACCEPTED"),
+    (b"IBMUSER", b"", b"CO ANN GROUP(G2) REVOKE", b"ACCEPTED"),
+    (b"ANN", b"", b"AG Z", b"ISSUERNOTCONNECTED G2"),
+    (b"ANN", b"G1", b"AG Z", b"ACCEPTED"),
+    (b"IBMUSER", b"", b"ALU ANN REVOKE", b"ACCEPTED"),
+    (b"ANN", b"G1", b"AG A", b"ISSUERREVOKED ANN"),
+];
+
 #[test]
-fn issuers(rt: HostRuntime) -> Result<(), Fail> {
-    let rows = [
-        by(b"ANN", b"AG X", b"ISSUERUNKNOWN ANN"),
-        by(b"ANN", b"AX", b"SYNTAX UNKNOWNCOMMAND"),
-        prepared(b"AG G1"),
-        prepared(b"AG G2"),
-        prepared(b"AU ANN DFLTGRP(G1) AUTHORITY(JOIN)"),
-        by(b"ANN", b"AG X", b"ACCEPTED"),
-        in_group(b"ANN", b"G2", b"AG Y", b"ISSUERNOTCONNECTED G2"),
-        prepared(b"CO ANN GROUP(G2)"),
-        prepared(b"ALU ANN DFLTGRP(G2)"),
-        by(b"ANN", b"AG Y", b"NEED SPECIAL JOIN(G2) OWNER GROUPSPECIAL"),
-        in_group(b"ANN", b"G1", b"AG Y", b"ACCEPTED"),
-        prepared(b"CO ANN GROUP(G2) REVOKE"),
-        by(b"ANN", b"AG Z", b"ISSUERNOTCONNECTED G2"),
-        in_group(b"ANN", b"G1", b"AG Z", b"ACCEPTED"),
-        prepared(b"ALU ANN REVOKE"),
-        in_group(b"ANN", b"G1", b"AG A", b"ISSUERREVOKED ANN"),
-    ];
-    assert_answers(&rt, rt.alloc(), &rows, 10)
+fn issuers(rt: HostRuntime) {
+    assert_answers(&rt, &ISSUERS, 10);
 }
 
 /// What the issuer lacks is told behind some conflicts, and before the others.
+const CONFLICTS: [Given; 9] = [
+    (b"IBMUSER", b"", b"AU ANN", b"ACCEPTED"),
+    (b"ANN", b"", b"AU IBMUSER", b"EXISTS IBMUSER"),
+    (b"ANN", b"", b"DU NOBODY", b"NOUSER NOBODY"),
+    (b"ANN", b"", b"DG SYS1", b"NEED SPECIAL OWNER GROUPSPECIAL"),
+    (
+        b"ANN",
+        b"",
+        b"RE IBMUSER GROUP(SYS1)",
+        b"NEED SPECIAL CONNECT(SYS1) OWNER GROUPSPECIAL",
+    ),
+    (b"IBMUSER", b"", b"DG SYS1", b"ROOT"),
+    (
+        b"IBMUSER",
+        b"",
+        b"RE IBMUSER GROUP(SYS1)",
+        b"DEFAULTGROUP SYS1",
+    ),
+    (b"IBMUSER", b"", b"ALU ANN UAUDIT", b"ACCEPTED"),
+    (b"ANN", b"", b"ALU IBMUSER UAUDIT", b"NEED AUDITOR"),
+];
+
 #[test]
-fn conflicts_and_needs(rt: HostRuntime) -> Result<(), Fail> {
-    let rows = [
-        prepared(b"AU ANN"),
-        by(b"ANN", b"AU IBMUSER", b"EXISTS IBMUSER"),
-        by(b"ANN", b"DU NOBODY", b"NOUSER NOBODY"),
-        by(b"ANN", b"DG SYS1", b"NEED SPECIAL OWNER GROUPSPECIAL"),
-        by(
-            b"ANN",
-            b"RE IBMUSER GROUP(SYS1)",
-            b"NEED SPECIAL CONNECT(SYS1) OWNER GROUPSPECIAL",
-        ),
-        by(b"IBMUSER", b"DG SYS1", b"ROOT"),
-        by(b"IBMUSER", b"RE IBMUSER GROUP(SYS1)", b"DEFAULTGROUP SYS1"),
-        by(b"IBMUSER", b"ALU ANN UAUDIT", b"ACCEPTED"),
-        by(b"ANN", b"ALU IBMUSER UAUDIT", b"NEED AUDITOR"),
-    ];
-    assert_answers(&rt, rt.alloc(), &rows, 2)
+fn conflicts_and_needs(rt: HostRuntime) {
+    assert_answers(&rt, &CONFLICTS, 2);
+}
+
+/// Whether the desk makes IBMUSER's command for JIM, as the first, and installs it.
+fn installs_jim(alloc: Global, desk: &mut Desk) -> bool {
+    match desk.judge(alloc, ibmuser(), None, b"AU JIM NAME('Jim')") {
+        Ok(ready) => {
+            let is_canonical = ready.text.bytes() == b"ADDUSER JIM NAME('Jim')".as_slice();
+            let before = desk.number();
+            let number = desk.install(ready);
+            is_canonical && before == 0 && number == 1
+        }
+        Err(_) => false,
+    }
+}
+
+/// Whether JIM is installed while what was made of a command for JOE before it is still there.
+fn installs_the_last(alloc: Global, desk: &mut Desk) -> bool {
+    match desk.judge(alloc, ibmuser(), None, b"ADDUSER JOE") {
+        Ok(_first) => installs_jim(alloc, desk),
+        Err(_) => false,
+    }
 }
 
 /// What was made last is installed, and what was made before it leaves nothing behind.
 #[test]
-fn the_last_is_installed(rt: HostRuntime) -> Result<(), Fail> {
-    let mut desk = Desk::new(rt.alloc())?;
-    let first = desk.judge(rt.alloc(), ibmuser(), None, b"ADDUSER JOE").ok();
-    assert!(rt; first.is_some());
-    if let Ok(ready) = desk.judge(rt.alloc(), ibmuser(), None, b"AU JIM NAME('Jim')") {
-        assert_eq!(rt; ready.text.bytes(), b"ADDUSER JIM NAME('Jim')".as_slice());
-        assert_eq!(rt; desk.number(), 0);
-        assert_eq!(rt; desk.install(ready), 1);
-    }
-    assert_eq!(rt; desk.number(), 1);
-    assert!(rt; desk.image().user(Id::read(b"JOE")?).is_none());
-    assert!(rt; desk.image().user(Id::read(b"JIM")?).is_some());
-    Ok(())
+fn the_last_is_installed(rt: HostRuntime) {
+    let (joe, jim) = (id(&rt, b"JOE"), id(&rt, b"JIM"));
+    let mut desk = Desk::new(rt.alloc()).expect(&rt, "memory");
+    assert!(rt; installs_the_last(rt.alloc(), &mut desk));
+    assert!(rt; desk.number() == 1);
+    assert!(rt; desk.image().user(joe).is_none());
+    assert!(rt; desk.image().user(jim).is_some());
 }

@@ -1,6 +1,6 @@
 //! The image of a class's profiles. Images of whole databases are tested in `decision_rows`, over databases that
 //! commands made.
-ghost use Rattle.std.specs.Prelude.{◌≡◌, IfOk, Ok};
+ghost use Rattle.std.specs.Prelude.{◌≡◌, Ok};
 ghost use Rattle.generic_names.specs.Faults.{pattern_of};
 ghost use Rattle.generic_names.specs.declared.kind.NameKind.{NameKind};
 ghost use Rattle.racf_profiles.specs.LawfulProfiles.{AreProfiles};
@@ -10,29 +10,37 @@ use generic_names::{NameKind, Pattern, Resource};
 use racf_profiles::{AuditRule, CondEntries, Entries, Members, Profile, Profiles};
 use raclist_image::ClassImage;
 use std::alloc::Global;
-use std::test::Fail;
+use std::process::Abort;
 
-/// A profile of that name, with an entry for each user.
-fn profile(alloc: Global, kind: NameKind, name: &[u8], uacc: Level) -> Result<Profile, Fail>
-    ensures { IfOk result (λ profile. pattern_of kind name.now ≡ Ok profile.name) }
-{
-    let mut standard = Vec::new(alloc);
-    standard.push(Entry {
+/// A standard list with an entry for each user.
+fn entries(rt: &(impl AllocGlobal + Abort)) -> Entries {
+    let mut items = Vec::new(rt.alloc());
+    let put = items.push(Entry {
         who: Who::Star,
         level: Level::Execute,
-    })?;
+    });
+    assert!(rt; put.is_ok());
+    Entries { items }
+}
+
+/// A profile of that name.
+fn profile(rt: &(impl AllocGlobal + Abort), name: &[u8], uacc: Level) -> Profile
+    ensures { pattern_of NameKind.General name.now ≡ Ok result.name }
+{
+    let name = Pattern::read(NameKind::General, name).expect(rt, "a lawful name");
+    let owner = Id::read(b"DIV").expect(rt, "a lawful ID");
     let rule = AuditRule {
         success: None,
         failures: Some(Level::Read),
     };
-    Ok(Profile {
-        name: Pattern::read(kind, name)?,
-        owner: Id::read(b"DIV")?,
+    Profile {
+        name,
+        owner,
         uacc,
         warning: true,
-        standard: Entries { items: standard },
+        standard: entries(rt),
         conditional: CondEntries {
-            items: Vec::new(alloc),
+            items: Vec::new(rt.alloc()),
         },
         level: 5,
         categories: Categories::none(),
@@ -40,20 +48,26 @@ fn profile(alloc: Global, kind: NameKind, name: &[u8], uacc: Level) -> Result<Pr
         audit: rule,
         global_audit: rule,
         members: Members {
-            items: Vec::new(alloc),
+            items: Vec::new(rt.alloc()),
         },
-    })
+    }
 }
 
 /// Three profiles of FACILITY.
-fn facilities(alloc: Global) -> Result<Profiles, Fail>
-    ensures { IfOk result (λ profiles. AreProfiles NameKind.General profiles) }
+fn facilities(rt: &(impl AllocGlobal + Abort)) -> Profiles
+    ensures { AreProfiles NameKind.General result }
 {
-    let mut items = Vec::new(alloc);
-    items.push(profile(alloc, NameKind::General, b"A.B", Level::NoAccess)?)?;
-    items.push(profile(alloc, NameKind::General, b"A.*", Level::Read)?)?;
-    items.push(profile(alloc, NameKind::General, b"**", Level::Update)?)?;
-    Ok(Profiles { items })
+    let mut items = Vec::new(rt.alloc());
+    let Ok(()) = items.push(profile(rt, b"A.B", Level::NoAccess)) else {
+        panic!(rt; "no memory")
+    };
+    let Ok(()) = items.push(profile(rt, b"A.*", Level::Read)) else {
+        panic!(rt; "no memory")
+    };
+    let Ok(()) = items.push(profile(rt, b"**", Level::Update)) else {
+        panic!(rt; "no memory")
+    };
+    Profiles { items }
 }
 
 /// The universal access that the most specific profile has.
@@ -64,34 +78,50 @@ fn access(image: &ClassImage, name: &Resource) -> Option<Level>
     Some(image.facts(place).uacc)
 }
 
-#[test]
-fn class_image(rt: HostRuntime) -> Result<(), Fail> {
-    let profiles = facilities(rt.alloc())?;
-    let image = ClassImage::of(rt.alloc(), &profiles.items, NameKind::General)?;
-    assert_eq!(rt; image.len(), 3);
-    for (name, uacc) in [
-        (b"A.B".as_slice(), Level::NoAccess),
-        (b"A.B.C".as_slice(), Level::Read),
-        (b"A".as_slice(), Level::Update),
-    ] {
-        let name = Resource::read(NameKind::General, name)?;
-        assert_eq!(rt; access(&image, &name), Some(uacc));
+/// Whether the most specific profile that covers the name has that universal access.
+fn has_access(image: &ClassImage, name: &[u8], uacc: Level) -> bool
+    requires { image.now.kind ≡ NameKind.General }
+{
+    match Resource::read(NameKind::General, name) {
+        Ok(name) => access(image, &name) == Some(uacc),
+        Err(_) => false,
     }
-    Ok(())
+}
+
+#[test]
+fn class_image(rt: HostRuntime) {
+    let profiles = facilities(&rt);
+    let Ok(image) = ClassImage::of(rt.alloc(), &profiles.items, NameKind::General) else {
+        panic!(rt; "no memory")
+    };
+    assert!(rt; image.len() == 3);
+    assert!(rt; has_access(&image, b"A.B", Level::NoAccess));
+    assert!(rt; has_access(&image, b"A.B.C", Level::Read));
+    assert!(rt; has_access(&image, b"A", Level::Update));
+}
+
+/// How many profiles an image of them has, or none where memory is wanting.
+fn imaged(alloc: Global, profiles: &[Profile]) -> Option<usize>
+    requires { AreProfiles NameKind.General profiles.now }
+{
+    match ClassImage::of(alloc, profiles, NameKind::General) {
+        Ok(image) => Some(image.len()),
+        Err(_) => None,
+    }
 }
 
 /// An image of profiles is whole, or memory is wanting: the script `tests/refusals` runs this with allocations refused
 /// behind the line that it prints first.
 #[test]
-fn image_of_profiles(rt: HostRuntime) -> Result<(), Fail> {
-    let profiles = facilities(rt.alloc())?;
-    println!(rt; "FROM HERE")?;
-    match ClassImage::of(rt.alloc(), &profiles.items, NameKind::General) {
-        Ok(image) => {
-            assert!(rt; image.len() == 3);
-            println!(rt; "MADE")?;
+fn image_of_profiles(rt: HostRuntime) {
+    let profiles = facilities(&rt);
+    assert!(rt; println!(rt; "FROM HERE").is_ok());
+    let printed = match imaged(rt.alloc(), &profiles.items) {
+        Some(length) => {
+            assert!(rt; length == 3);
+            println!(rt; "MADE")
         }
-        Err(_) => println!(rt; "NO MEMORY")?,
-    }
-    Ok(())
+        None => println!(rt; "NO MEMORY"),
+    };
+    assert!(rt; printed.is_ok());
 }

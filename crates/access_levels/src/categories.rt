@@ -1,5 +1,5 @@
 //! Sets of category numbers.
-ghost use Rattle.std.specs.Prelude.{◌≡◌, ℕ, ◌==◌, ◌||◌, ◌&&◌, not, nat_eq};
+ghost use Rattle.std.specs.Prelude.{◌≡◌, ℕ, ◌-◌, ◌^◌, ◌==◌, ◌||◌, ◌&&◌, not, nat_eq};
 ghost use Rattle.std.specs.Cmp.{partial_equiv_from_equiv, nat_eq_equiv};
 ghost use Rattle.access_levels.specs.Category.{is_member, including, excluding, first_missing, IsFirstMissing};
 
@@ -37,6 +37,15 @@ impl Categories {
         ensures { result ≡ 0 }
     {
         Categories { words: [0; 4] }
+    }
+
+    /// The set of all categories.
+    pub fn all() -> Categories
+        ensures { result ≡ 2 ^ 256 - 1 }
+    {
+        Categories {
+            words: [u64::MAX; 4],
+        }
     }
 
     /// Whether a number is in the set.

@@ -6,10 +6,9 @@ ghost use Rattle.raclist_image.specs.Facts.{AreFacts};
 ghost use Rattle.seclabels.specs.declared.labels.Label.{Label};
 ghost use Rattle.decision.specs.Classification.{classified, label_profile, profile_label, label_value, valued, user_clearance, resource_clearance, checks};
 
-use crate::names::general_name;
 use access_levels::{Categories, Id, Level};
 use acee::{Acee, is_active};
-use racf_profiles::FixedClass;
+use racf_profiles::{FixedClass, general_name};
 use raclist_image::{Facts, Image};
 use seclabels::{Checks, Classified, Clearance, Label, check};
 

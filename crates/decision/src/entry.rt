@@ -7,11 +7,10 @@ ghost use Rattle.decision.specs.Verify.{is_refused, is_port_refused, is_applicat
 
 use crate::classification::has_label_profile;
 use crate::decide::auth;
-use crate::names::general_name;
 use crate::request::Request;
 use access_levels::{Condition, Id, Level, PortClass};
 use acee::{Acee, VerifyFault, VerifyRequest, is_active};
-use racf_profiles::FixedClass;
+use racf_profiles::{FixedClass, general_name};
 use raclist_image::Image;
 use std::alloc::Global;
 

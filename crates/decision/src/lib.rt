@@ -17,7 +17,6 @@ mod classification;
 mod decide;
 mod entries;
 mod entry;
-mod names;
 mod operations;
 mod outcome;
 mod request;

@@ -18,6 +18,7 @@ mod fixed_classes;
 mod groups;
 mod known;
 pub mod laws;
+mod names;
 mod options;
 mod profiles;
 mod rows;
@@ -32,6 +33,7 @@ pub use fixed_classes::{
 };
 pub use groups::{Group, Groups};
 pub use known::{ibmuser, sys1};
+pub use names::general_name;
 pub use options::{CategoryNames, Options};
 pub use profiles::{AuditRule, CondEntries, Entries, Member, Members, Profile, Profiles};
 pub use rows::Rows;

@@ -1,6 +1,7 @@
 //! The profiles of one class in an image.
-ghost use Rattle.std.specs.Prelude.{◌≡◌, ◌<◌, ◌≤◌, length, Some, IfOk, IsSomeAnd, option_map};
-ghost use Rattle.std.specs.List.{slice_get};
+ghost use Rattle.std.specs.Prelude.{◌≡◌, ◌<◌, ◌≤◌, [], length, Some, IfOk, IsSomeAnd, option_map};
+ghost use Rattle.std.specs.List.{find, slice_get};
+ghost use Rattle.std.specs.Option.{option_map_or};
 ghost use Rattle.racf_profiles.specs.declared.profiles.Profile.{Profile};
 ghost use Rattle.racf_profiles.specs.Lookup.{is_profile};
 ghost use Rattle.racf_profiles.specs.Edits.{put_profile, drop_row};
@@ -12,7 +13,7 @@ ghost use Rattle.raclist_image.specs.Facts.{AreFacts};
 use crate::facts::Facts;
 use class_profiles::{Made, SharedProfiles};
 use generic_names::{NameKind, Pattern, Resource};
-use racf_profiles::{NoMemory, Profile};
+use racf_profiles::{Member, NoMemory, Profile};
 use std::alloc::Global;
 use std::marker::Model;
 
@@ -73,6 +74,16 @@ impl ClassImage {
         ensures { IsSomeAnd (slice_get self.now.profiles place) (λ profile. AreFacts profile result) }
     {
         facts_of(self.profiles.at(place))
+    }
+
+    /// The members of the profile of that very name; none where there is no such profile.
+    pub(crate) fn members(&self, name: &Pattern) -> &[Member]
+        ensures { result.now ≡ option_map_or (λ (profile : Profile). profile.members) (find (is_profile name.now) self.now.profiles) [] }
+    {
+        match self.profiles.get(name) {
+            Some(profile) => profile.members.items.as_slice(),
+            None => &[],
+        }
     }
 
     /// The image with the profile, copied, in the place of the one of its name, or else at its place in the order; and

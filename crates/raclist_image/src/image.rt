@@ -9,6 +9,7 @@ ghost use Rattle.racf_profiles.specs.Scope.{InScopeProfile};
 ghost use Rattle.racf_profiles.specs.LawfulProfiles.{kind_in};
 ghost use Rattle.racf_profiles.specs.Lawful.{AreLawful, LeaveLawfulClasses};
 ghost use Rattle.raclist_image.specs.Flags.{flags_of};
+ghost use Rattle.raclist_image.specs.GlobalMembers.{global_members};
 ghost use Rattle.raclist_image.specs.PlacedNames.{names_placed, most_placed_by};
 
 use crate::class_image::ClassImage;
@@ -17,8 +18,9 @@ use crate::names::names_length;
 use crate::state::ImageState;
 use access_levels::Id;
 use class_profiles::Made;
+use generic_names::Pattern;
 use group_tree::{in_scope_group, in_scope_user};
-use racf_profiles::{Change, Group, NoMemory, Options, Rows, User};
+use racf_profiles::{Change, FixedClass, Group, Member, NoMemory, Options, Rows, User, general_name};
 use std::alloc::Global;
 use std::marker::Model;
 use std::sync::Arc;
@@ -195,6 +197,19 @@ impl Image {
         match self.state.classes.get(class) {
             Some(entry) => Some(entry.flags()),
             None => None,
+        }
+    }
+
+    /// The global access table of a class, in the order in which its members were added: those of the live profile of
+    /// class GLOBAL that has the name of the class. It is empty where there is no such profile.
+    pub fn members(&self, class: Id) -> &[Member]
+        ensures { result.now ≡ global_members class self.now.state.rows }
+    {
+        match self.state.classes.get(FixedClass::Global.id()) {
+            Some(entry) => entry
+                .profiles()
+                .members(&Pattern::discrete(&general_name(class))),
+            None => &[],
         }
     }
 

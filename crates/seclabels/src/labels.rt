@@ -1,12 +1,9 @@
 //! Security labels, and which label dominates which.
-ghost use Rattle.std.specs.Prelude.{◌≡◌, ◌↔◌, ◌≤◌, ◌<◌, ◌-◌, ◌^◌, ℕ, IsTrue};
+ghost use Rattle.std.specs.Prelude.{◌≡◌, ◌↔◌, ◌≤◌, ◌<◌, ℕ, IsTrue};
 ghost use Rattle.access_levels.specs.Category.{is_member};
 ghost use Rattle.seclabels.specs.Labels.{contains, dominates, system_high, system_low};
 
 use access_levels::Categories;
-
-/// How many numbers a category may have.
-const CATEGORIES: u16 = 256;
 
 /// What a security label stands for: a level and a set of categories (z/OS Security Server RACF Security
 /// Administrator's Guide, security labels).
@@ -19,13 +16,13 @@ pub struct Label {
 }
 
 impl Label {
-    /// SYSHIGH: the highest level, and all categories. It goes through the numbers of categories.
+    /// SYSHIGH: the highest level, and all categories.
     pub fn system_high() -> Label
         ensures { result ≡ system_high }
     {
         Label {
             level: u8::MAX,
-            categories: all_categories(),
+            categories: Categories::all(),
         }
     }
 
@@ -65,15 +62,4 @@ fn contains(set: &Categories, other: &Categories) -> bool
     ensures { result ≡ contains set.now other.now }
 {
     set.first_missing(other).is_none()
-}
-
-/// The set of all categories.
-fn all_categories() -> Categories
-    ensures { result ≡ 2 ^ 256 - 1 }
-{
-    let mut all = Categories::none();
-    for n in 0..CATEGORIES {
-        all = all.with(n as u8);
-    }
-    all
 }

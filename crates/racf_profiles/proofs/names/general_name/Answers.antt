@@ -2,7 +2,7 @@ use Rattle.std.proofs.Common.{◌≡◌, Ok, sym, ◌∙◌, ap}
 use Rattle.generic_names.specs.declared.kind.NameKind.TheVariants.{General}
 use Rattle.generic_names.specs.Faults.{resource_of}
 use Rattle.racf_profiles.proofs.IdNames.{resource-id}
-use Rattle.decision.proofs.names.general_name.Goals as goal
+use Rattle.racf_profiles.proofs.names.general_name.Goals as goal
 
 pub unreachable-requires : goal.unreachable-requires
 unreachable-requires c =

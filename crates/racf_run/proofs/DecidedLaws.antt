@@ -1,15 +1,14 @@
 -- The lines of AUTH, FASTAUTH and VERIFY, by what is decided.
 use Rattle.std.proofs.Common.{◌≡◌, ℕ, List, None, Some, Ok, ◌∙◌, ap}
-use Rattle.std.specs.Prelude.{Option, Result, is_some, if◌then◌else◌}
+use Rattle.std.specs.Prelude.{Option, Result, true, false}
 use Rattle.acee.specs.declared.acee.Acee.{Acee}
 use Rattle.acee.specs.declared.request.VerifyRequest.{VerifyRequest}
 use Rattle.decision.specs.Table.{decided, fast_decided}
 use Rattle.decision.specs.Verify.{verified}
 use Rattle.request_files.specs.declared.line.LineRefusal.{LineRefusal}
 use Rattle.request_files.specs.Acees.{acee_named, put_refusal}
-use Rattle.request_files.specs.Answers.{answer_line}
 use Rattle.request_files.specs.Grammar.{Access, Line, Auth, Fastauth, Verify, read}
-use Rattle.request_files.specs.Worked.{by_auth, by_fastauth, decided_for, unbuilt, verify_told, verify_unless}
+use Rattle.request_files.specs.Worked.{decision_text, answer_for, auth_for, fastauth_for, verify_told, verify_unless}
 use Rattle.racf_run.specs.declared.statement.Statement.TheVariants as item
 use Rattle.racf_run.specs.Stream as s
 use Rattle.racf_run.specs.Stream.{State, number_of}
@@ -19,18 +18,17 @@ unfolding s.text s.request
 request_as r line before h =
     ap (λ (x : Result Line LineRefusal). (s.answer_line x before).text) h
 
-pub auth_text : (line acee : List ℕ) (access : Access) (user : Acee) (before : State) → read line ≡ Ok (Auth acee access) → acee_named acee before.acees ≡ Some user → s.text (item.Request line) before ≡ answer_line (number_of before) before.position.state.rows.options.categories (decided before.position.state (number_of before) user access.class access.name access.asked)
+pub auth_text : (line acee : List ℕ) (access : Access) (user : Acee) (before : State) → read line ≡ Ok (Auth acee access) → acee_named acee before.acees ≡ Some user → s.text (item.Request line) before ≡ decision_text before.position false access user (decided before.position.state (number_of before) user access.class access.name access.asked)
 auth_text line acee access user before h found =
     request_as (Ok (Auth acee access)) line before h
-    ∙ ap (λ (x : Option Acee). (decided_for before.position before.acees acee (by_auth before.position before.acees access) x).text) found
+    ∙ ap (λ (x : Option Acee). (answer_for before.position before.acees acee (auth_for before.position before.acees access) x).text) found
 
-pub fastauth_text : (line acee : List ℕ) (access : Access) (user : Acee) (before : State) → read line ≡ Ok (Fastauth acee access) → acee_named acee before.acees ≡ Some user → s.text (item.Request line) before ≡ answer_line (number_of before) before.position.state.rows.options.categories (fast_decided before.position.state (number_of before) user access.class access.name access.asked)
+pub fastauth_text : (line acee : List ℕ) (access : Access) (user : Acee) (before : State) → read line ≡ Ok (Fastauth acee access) → acee_named acee before.acees ≡ Some user → s.text (item.Request line) before ≡ decision_text before.position true access user (fast_decided before.position.state (number_of before) user access.class access.name access.asked)
 fastauth_text line acee access user before h found =
     request_as (Ok (Fastauth acee access)) line before h
-    ∙ ap (λ (x : Option Acee). (decided_for before.position before.acees acee (by_fastauth before.position before.acees access) x).text) found
+    ∙ ap (λ (x : Option Acee). (answer_for before.position before.acees acee (fastauth_for before.position before.acees access) x).text) found
 
-pub verify_text : (line acee : List ℕ) (asked : VerifyRequest) (before : State) → read line ≡ Ok (Verify acee asked) → asked.label ≡ None → put_refusal acee before.acees ≡ None → s.text (item.Request line) before ≡ (verify_told before.position before.acees acee (verified before.position.state (number_of before) asked)).text
-verify_text line acee asked before h none free =
+pub verify_text : (line acee : List ℕ) (asked : VerifyRequest) (before : State) → read line ≡ Ok (Verify acee asked) → put_refusal acee before.acees ≡ None → s.text (item.Request line) before ≡ (verify_told before.position before.acees acee (verified before.position.state (number_of before) asked)).text
+verify_text line acee asked before h free =
     request_as (Ok (Verify acee asked)) line before h
-    ∙ ap (λ (x : Option (List ℕ)). (if is_some x then unbuilt before.position before.acees else verify_unless before.position before.acees acee asked (put_refusal acee before.acees)).text) none
     ∙ ap (λ (x : Option LineRefusal). (verify_unless before.position before.acees acee asked x).text) free

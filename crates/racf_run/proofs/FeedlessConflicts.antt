@@ -29,14 +29,13 @@ use Rattle.command_parser.specs.LawfulFields.{IsClauthWord, AreLawfulFields}
 use Rattle.command_effects.specs.UserEffects.{altered_group, new_group}
 use Rattle.command_effects.specs.Effects.{step}
 use Rattle.command_conflicts.specs.declared.conflict.Conflict.{Conflict}
-use Rattle.command_conflicts.specs.declared.conflict.Conflict.TheVariants.{NotBuilt, NoUser, NoGroup, NoProfile, NoClass, Exists, NotConnected, Root, InUse, Cycle, OwnerNotSuperior, NotGeneric, NotListed, ClassFixed, DefaultGroup, LastSpecial, UnknownName, Full}
+use Rattle.command_conflicts.specs.declared.conflict.Conflict.TheVariants.{NoUser, NoGroup, NoProfile, NoClass, Exists, NotConnected, Root, InUse, Cycle, OwnerNotSuperior, NotGeneric, NotListed, ClassFixed, DefaultGroup, LastSpecial, UnknownName, Full}
 use Rattle.command_conflicts.specs.declared.conflict.Named.TheVariants as named
 use Rattle.command_conflicts.specs.declared.conflict.Holder.TheVariants.{Subgroup, Connected, Profile as ProfileOf}
 use Rattle.command_conflicts.specs.declared.conflict.Limit.{Limit}
 use Rattle.command_conflicts.specs.declared.conflict.Limit.TheVariants as kind
 use Rattle.command_conflicts.specs.Numbers as numbers
 use Rattle.command_conflicts.specs.Numbers.{is_early}
-use Rattle.command_conflicts.specs.Unbuilt.{is_unbuilt}
 use Rattle.command_conflicts.specs.Required.{if_met, first_met, over, no_user, no_group, no_owner, no_named_group, no_class, name_taken, not_connected, default_not_connected, unknown_level, unknown_category, never_category, unknown_label}
 use Rattle.command_conflicts.specs.OptionConflicts.{absent_class, class_without_generic, unlisted_class, always_active_class, never_listed_class, set_ropts_conflicts}
 use Rattle.command_conflicts.specs.ProfileConflicts.{
@@ -91,7 +90,6 @@ use Rattle.command_conflicts.specs.Conflicts.{
   connect_conflicts,
   remove_conflicts,
   conflicts,
-  tests,
   conflict_of,
   first_conflict_of,
 }
@@ -410,11 +408,8 @@ module _ (issuer : Issuer) (issuer_id : IsFeedless issuer.id) (issuer_group : Is
       let generic = names-feedless c.generic f.generic in
       (absent-test _ rows (names-feedless c.classact f.classact), (absent-test _ rows noclassact, (absent-test _ rows raclist, (absent-test _ rows noraclist, (absent-test _ rows (names-feedless c.global f.global), (absent-test _ rows (names-feedless c.noglobal f.noglobal), (absent-test _ rows generic, (absent-test _ rows (logged-feedless c.logoptions f.logoptions), (without_generic-test _ generic, (unlisted-test _ rows (if-feedless c.refresh c.raclist [] raclist tt), (unlisted-test _ rows noraclist, (always_active-test _ noclassact, (never_listed-test _ (if-feedless c.refresh [] c.raclist tt raclist), tt)))))))))))))
 
-  all-tests : (c : CommandFields) (rows : Rows) → AreLawfulFields c → AreFeedless rows → AllByRecursion IsFeedlessTest (tests issuer c rows)
-  all-tests c rows f are = (met (is_unbuilt c) NotBuilt refl, each-test c rows f are)
-
   pub conflict-feedless : (c : CommandFields) (rows : Rows) → AreLawfulFields c → AreFeedless rows → IsFeedlessTest (conflict_of issuer c rows)
-  conflict-feedless c rows f are = first-test (tests issuer c rows) (all-tests c rows f are)
+  conflict-feedless c rows f are = first-test (conflicts issuer c rows) (each-test c rows f are)
 
   pub early-feedless : (c : CommandFields) (rows : Rows) → AreLawfulFields c → AreFeedless rows → IsFeedlessTest (first_conflict_of issuer c rows)
-  early-feedless c rows f are = early-test (tests issuer c rows) (all-tests c rows f are)
+  early-feedless c rows f are = early-test (conflicts issuer c rows) (each-test c rows f are)

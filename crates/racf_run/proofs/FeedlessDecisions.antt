@@ -1,7 +1,9 @@
--- The words of a decision hold no line feed, nor do the groups of the ACEE of a user who is verified.
+-- The words of a decision and of its AUDIT line hold no line feed, nor do the user and the groups of the ACEE of a user
+-- who is verified.
 use Rattle.std.proofs.Common.{◌≡◌, ℕ, zero, suc, Bool, true, false, cond, not, List, [], ◌∷◌, ◌++◌, Option, None, Some, Result, Ok, Err, refl, subst, bytes_eq, codes}
 use Rattle.std.specs.Prelude.{IfSome, IfOk, find, filter, position, slice_get, option_and_then, unwrap_or, decimal}
 use Rattle.std.specs.List.{AllByRecursion}
+use Rattle.std.specs.Option.{option_map_or}
 use Rattle.std.proofs.lemmas.Option.{IfSome_then}
 use Rattle.access_levels.specs.declared.levels.Level.{Level}
 use Rattle.access_levels.specs.declared.levels.Level.TheVariants.{NoAccess}
@@ -17,17 +19,22 @@ use Rattle.access_lists.specs.declared.best.GroupEntry.{GroupEntry}
 use Rattle.access_lists.specs.Answers as lists
 use Rattle.access_lists.specs.Answers.{for_group, as_group_entry, first_of_two, goes_before}
 use Rattle.generic_names.specs.Spelled.{Spelled}
+use Rattle.generic_names.specs.declared.kind.NameKind.TheVariants.{General}
 use Rattle.generic_names.specs.Covers.{covers}
 use Rattle.generic_names.specs.Before.{before}
 use Rattle.generic_names.specs.Best.{more_specific, most_specific, best}
 use Rattle.racf_profiles.specs.declared.users.User.{User}
 use Rattle.racf_profiles.specs.declared.users.Connect.{Connect as Connection}
 use Rattle.racf_profiles.specs.declared.profiles.Profile.{Profile}
+use Rattle.racf_profiles.specs.declared.profiles.Member.{Member}
+use Rattle.racf_profiles.specs.declared.profiles.Member.TheVariants as member
 use Rattle.racf_profiles.specs.declared.class_rows.ClassRow.{ClassRow}
 use Rattle.racf_profiles.specs.declared.options.Options.{Options}
 use Rattle.racf_profiles.specs.declared.rows.Rows.{Rows}
-use Rattle.racf_profiles.specs.Lookup.{is_class, is_user, class_of, user_of}
+use Rattle.racf_profiles.specs.Lookup.{is_class, is_user, class_of, user_of, profile_of}
+use Rattle.racf_profiles.specs.LawfulProfiles.{member_name}
 use Rattle.racf_profiles.specs.State.{State, copy_of, effective}
+use Rattle.raclist_image.specs.GlobalMembers.{global_members}
 use Rattle.acee.specs.declared.acee.Acee.{Acee}
 use Rattle.acee.specs.declared.groups.AceeGroup.{AceeGroup}
 use Rattle.acee.specs.declared.request.VerifyRequest.{VerifyRequest}
@@ -62,10 +69,13 @@ use Rattle.decision.specs.Table.{
   fast_decided,
 }
 use Rattle.decision.specs.Verify.{admitted, verified}
-use Rattle.request_files.specs.Answers.{profile_words, found_words, port_words, category_name, classified_words, rule_words, decision_words}
+use Rattle.audit_records.specs.declared.line.Outcome.{Outcome}
+use Rattle.audit_records.specs.declared.line.Outcome.TheVariants.{Success}
+use Rattle.audit_records.specs.Line.{outcome_of, outcome_word, spaced}
+use Rattle.request_files.specs.Answers.{profile_words, found_words, port_words, category_name, classified_words, member_words, rule_words, decision_words}
 use Rattle.lawful_commands.proofs.RowLists.{all-filter, all-map}
 use Rattle.racf_run.proofs.Feedless.{IsFeedless, joined, decimal-feedless, either, always, if-either, if-map, if-then, if-found}
-use Rattle.racf_run.proofs.FeedlessRows.{IsFeedlessUser, IsFeedlessProfile, IsFeedlessWho, AreFeedlessProfiles, AreFeedless, IsFeedlessState, copy-feedless}
+use Rattle.racf_run.proofs.FeedlessRows.{IsFeedlessUser, IsFeedlessMember, IsFeedlessProfile, IsFeedlessWho, AreFeedlessProfiles, AreFeedless, IsFeedlessState, copy-feedless, profile_of-feedless}
 
 -- ---- the words
 level-words : (level : Level) → IsFeedless (level_name level)
@@ -112,27 +122,70 @@ classified-words categories are (CategoryMissing number) = category-words catego
 classified-words categories are LabelNotDominant = refl
 classified-words categories are WriteDown = refl
 
-rule-words : (categories : List (List ℕ)) → AreNames categories → (r : Rule) (decision : Decision) → IsFeedlessRule r → IfSome decision.profile IsFeedlessName → IsFeedless (rule_words categories r decision)
-rule-words categories are rule.NoClass decision h p = refl
-rule-words categories are rule.ClassOff decision h p = refl
-rule-words categories are rule.NotListed decision h p = refl
-rule-words categories are (rule.Global place) decision h p = refl
-rule-words categories are rule.NoProfile decision h p = refl
-rule-words categories are rule.ProtectAll decision h p = refl
-rule-words categories are (rule.Classified why) decision h p = joined (classified_words categories why) (profile_words decision.profile) (classified-words categories are why) (profile-words decision.profile p)
-rule-words categories are rule.OwnData decision h p = profile-words decision.profile p
-rule-words categories are (rule.GroupEntry group) decision h p = joined group (found_words decision) h (found-words decision p)
-rule-words categories are (rule.Conditional port) decision h p = joined (port_words port) (found_words decision) (port-words port h) (found-words decision p)
-rule-words categories are (rule.GroupOperations group) decision h p = joined group (found_words decision) h (found-words decision p)
-rule-words categories are other decision h p = found-words decision p
+-- a member of a global access table
+member_name-words : (member : Member) → IsFeedlessMember member → IsFeedless (member_name member)
+member_name-words (member.Access resources level) h = h
+member_name-words (member.SecurityLevel name number) h = h
+member_name-words (member.Category name) h = h
+
+member-words : (members : List Member) (place : ℕ) → AllByRecursion IsFeedlessMember members → IsFeedless (member_words members place)
+member-words [] place are = refl
+member-words (one ∷ members) zero are = member_name-words one are.0
+member-words (one ∷ members) (suc place) are = member-words members place are.1
+
+global_members-feedless : (class : List ℕ) (rows : Rows) → AreFeedless rows → AllByRecursion IsFeedlessMember (global_members class rows)
+global_members-feedless class rows are =
+    by (profile_of (codes "GLOBAL") (record { kind = General; text = class }) rows) (profile_of-feedless (codes "GLOBAL") (record { kind = General; text = class }) rows are)
+  where
+    by : (o : Option Profile) → IfSome o IsFeedlessProfile → AllByRecursion IsFeedlessMember (option_map_or (λ (profile : Profile). profile.members) o [])
+    by None h = tt
+    by (Some profile) h = h.members
+
+module _ (rows : Rows) (are : AreFeedless rows) (class : List ℕ) where
+  global-words : (place : ℕ) (found : Level) → IsFeedless (codes "GLOBAL " ++ member_words (global_members class rows) place ++ codes " " ++ level_name found)
+  global-words place found =
+      let member = member_words (global_members class rows) place in
+      joined (member ++ codes " ") (level_name found) (joined member (codes " ") (member-words (global_members class rows) place (global_members-feedless class rows are)) refl) (level-words found)
+
+  rule-words : (r : Rule) (decision : Decision) → IsFeedlessRule r → IfSome decision.profile IsFeedlessName → IsFeedless (rule_words rows class r decision)
+  rule-words rule.NoClass decision h p = refl
+  rule-words rule.ClassOff decision h p = refl
+  rule-words rule.NotListed decision h p = refl
+  rule-words (rule.Global place) decision h p = global-words place decision.found
+  rule-words rule.NoProfile decision h p = refl
+  rule-words rule.ProtectAll decision h p = refl
+  rule-words (rule.Classified why) decision h p =
+      let words = classified_words rows.options.categories why in
+      joined words (profile_words decision.profile) (classified-words rows.options.categories are.categories why) (profile-words decision.profile p)
+  rule-words rule.OwnData decision h p = profile-words decision.profile p
+  rule-words (rule.GroupEntry group) decision h p = joined group (found_words decision) h (found-words decision p)
+  rule-words (rule.Conditional port) decision h p = joined (port_words port) (found_words decision) (port-words port h) (found-words decision p)
+  rule-words (rule.GroupOperations group) decision h p = joined group (found_words decision) h (found-words decision p)
+  rule-words other decision h p = found-words decision p
 
 record IsFeedlessDecision (decision : Decision) : Type 0 where
   rule : IsFeedlessRule decision.rule
   profile : IfSome decision.profile IsFeedlessName
 
-decision-words : (categories : List (List ℕ)) → AreNames categories → (decision : Decision) → IsFeedlessDecision decision → IsFeedless (decision_words categories decision)
-decision-words categories are decision h =
-    joined (decimal decision.rc ++ codes " ") (rule_words categories decision.rule decision) (joined (decimal decision.rc) (codes " ") (decimal-feedless decision.rc) refl) (rule-words categories are decision.rule decision h.rule h.profile)
+decision-words : (rows : Rows) → AreFeedless rows → (class : List ℕ) (decision : Decision) → IsFeedlessDecision decision → IsFeedless (decision_words rows class decision)
+decision-words rows are class decision h =
+    joined (decimal decision.rc ++ codes " ") (rule_words rows class decision.rule decision) (joined (decimal decision.rc) (codes " ") (decimal-feedless decision.rc) refl) (rule-words rows are class decision.rule decision h.rule h.profile)
+
+-- ---- the words of an AUDIT line
+outcome-words : (outcome : Outcome) → IsFeedless (outcome_word outcome)
+outcome-words Success = refl
+outcome-words other = refl
+
+spaced-words : (front word : List ℕ) → IsFeedless front → IsFeedless word → IsFeedless (front ++ spaced word)
+spaced-words front word h k = joined front (spaced word) h k
+
+pub audit-words : (decision : Decision) (user class : List ℕ) (name : Spelled) (asked : Level) → IsFeedless user → IsFeedless class → IsFeedless name.text
+    → IsFeedless (outcome_word (outcome_of decision) ++ spaced user ++ spaced class ++ spaced name.text ++ spaced (level_name asked))
+audit-words decision user class name asked u c n =
+    let outcome = outcome_word (outcome_of decision) in
+    spaced-words (outcome ++ spaced user ++ spaced class ++ spaced name.text) (level_name asked)
+    (spaced-words (outcome ++ spaced user ++ spaced class) name.text
+    (spaced-words (outcome ++ spaced user) class (spaced-words outcome user (outcome-words (outcome_of decision)) u) c) n) (level-words asked)
 
 -- ---- the profile that decides
 module _ {A : Type 0} (P : A → Type 0) where
@@ -194,12 +247,13 @@ conditional-entry options acee profile h =
     if-then (λ place. Unit {0}) IsFeedlessConditional (λ place. slice_get profile.conditional place)
     (λ place there. got-all IsFeedlessConditional profile.conditional place h.conditional) place (always place tt)
 
-abbrev pub IsFeedlessAcee : Acee → Type 0
-IsFeedlessAcee acee = AllByRecursion (λ (group : AceeGroup). IsFeedless group.group) acee.groups
+pub record IsFeedlessAcee (acee : Acee) : Type 0 where
+  pub user : IsFeedless acee.user
+  pub groups : AllByRecursion (λ (group : AceeGroup). IsFeedless group.group) acee.groups
 
 operating-over : (rows : Rows) (acee : Acee) (owner : List ℕ) → IsFeedlessAcee acee → IfSome (operating_over rows acee owner) IsFeedless
 operating-over rows acee owner h =
-    if-map IsFeedless (λ (group : AceeGroup). group.group) _ (if-found (λ (group : AceeGroup). IsFeedless group.group) _ acee.groups h)
+    if-map IsFeedless (λ (group : AceeGroup). group.group) _ (if-found (λ (group : AceeGroup). IsFeedless group.group) _ acee.groups h.groups)
 
 -- ---- the cases
 abbrev IsFeedlessCase : Option Answer → Type 0
@@ -276,16 +330,16 @@ module _ (state : State) (acee : Acee) (groups : IsFeedlessAcee acee) (class : L
     profile = k.name;
   }
 
-  pub decided-words : (generation : ℕ) → IsFeedlessState state → IsFeedless (decision_words state.rows.options.categories (decided state generation acee class name asked))
+  pub decided-words : (generation : ℕ) → IsFeedlessState state → IsFeedless (decision_words state.rows class (decided state generation acee class name asked))
   unfolding decided
   decided-words generation are =
       let cases = cases_without_profile state.rows.options class in
-      decision-words state.rows.options.categories are.rows.categories _ (after-cases generation (first_answer (cases_of_class state.rows class)) (answer_without_profile state.rows.options class) (profile_for state class name) (first-case (cases_of_class state.rows class) (of_class state.rows class)) (chosen (first_answer cases) no_profile (first-case cases (without_profile state.rows.options class)) tt) (profile_for-feedless state class name are))
+      decision-words state.rows are.rows class _ (after-cases generation (first_answer (cases_of_class state.rows class)) (answer_without_profile state.rows.options class) (profile_for state class name) (first-case (cases_of_class state.rows class) (of_class state.rows class)) (chosen (first_answer cases) no_profile (first-case cases (without_profile state.rows.options class)) tt) (profile_for-feedless state class name are))
 
-  pub fast_decided-words : (generation : ℕ) → IsFeedlessState state → IsFeedless (decision_words state.rows.options.categories (fast_decided state generation acee class name asked))
+  pub fast_decided-words : (generation : ℕ) → IsFeedlessState state → IsFeedless (decision_words state.rows class (fast_decided state generation acee class name asked))
   unfolding fast_decided
   fast_decided-words generation are =
-      decision-words state.rows.options.categories are.rows.categories _ (after-cases generation (first_answer (fast_cases_of_class state.rows class)) no_profile (profile_for state class name) (first-case (fast_cases_of_class state.rows class) (of_listed_class state.rows class)) tt (profile_for-feedless state class name are))
+      decision-words state.rows are.rows class _ (after-cases generation (first_answer (fast_cases_of_class state.rows class)) no_profile (profile_for state class name) (first-case (fast_cases_of_class state.rows class) (of_listed_class state.rows class)) tt (profile_for-feedless state class name are))
 
 -- ---- VERIFY
 unless-acee : (fault : Option VerifyFault) (acee : Acee) → IsFeedlessAcee acee → IfOk (acee_unless fault acee) IsFeedlessAcee
@@ -297,7 +351,10 @@ module _ (state : State) (generation : ℕ) (request : VerifyRequest) where
   of-user None h = tt
   of-user (Some user) h =
       unless-acee _ (acee_for state.rows generation request user)
-      (all-map acee_group (λ (group : AceeGroup). IsFeedless group.group) (filter (λ (connection : Connection). not connection.revoked) user.connects) (all-filter (λ (connection : Connection). IsFeedless connection.group) (λ (connection : Connection). not connection.revoked) user.connects h.groups))
+      (record {
+        user = h.id;
+        groups = all-map acee_group (λ (group : AceeGroup). IsFeedless group.group) (filter (λ (connection : Connection). not connection.revoked) user.connects) (all-filter (λ (connection : Connection). IsFeedless connection.group) (λ (connection : Connection). not connection.revoked) user.connects h.groups);
+      })
 
   admitted-acee : (r : Result Acee VerifyFault) → IfOk r IsFeedlessAcee → IfOk (admitted state generation request.label r) IsFeedlessAcee
   admitted-acee (Err fault) h = tt

@@ -1,9 +1,14 @@
 -- The ACEE that a line names has a name without a line feed, and what a line of requests prints is one line.
-use Rattle.std.proofs.Common.{ℕ, List, [], ◌∷◌, Option, None, Some, Result, Ok, Err, refl, bytes_eq, codes}
+use Rattle.std.proofs.Common.{◌≡◌, ℕ, List, [], ◌∷◌, Option, None, Some, Result, Ok, Err, refl, bytes_eq, codes}
 use Rattle.std.specs.Prelude.{nat_eq, nat_lt, IfSome, IfOk, length}
 use Rattle.std.specs.List.{starts_with}
 use Rattle.std.specs.Result.{result_map_both}
 use Rattle.access_levels.specs.Spelling.{id_of, group_of, port_class_of}
+use Rattle.access_levels.specs.declared.levels.Level.{Level}
+use Rattle.generic_names.specs.declared.kind.NameKind.{NameKind}
+use Rattle.generic_names.specs.declared.form.Form.TheVariants.{Discrete}
+use Rattle.generic_names.specs.Spelled.{Spelled}
+use Rattle.generic_names.specs.Faults.{resource_of}
 use Rattle.generic_names.specs.declared.fault.NameFault.{NameFault}
 use Rattle.generic_names.specs.declared.fault.NameFault.TheVariants as name
 use Rattle.racf_profiles.specs.LawfulProfiles.{kind_in}
@@ -33,6 +38,7 @@ use Rattle.request_files.specs.Grammar.{
   ended,
   deleted,
   number_after,
+  access_to,
   asked_by,
   verified_by,
   user_alone,
@@ -48,13 +54,18 @@ use Rattle.request_files.specs.Grammar.{
   read,
 }
 use Rattle.request_files.specs.Answers.{name_fault_words, refusal_words, verify_fault_words}
+use Rattle.racf_run.proofs.FeedlessNames.{name-feedless}
 use Rattle.racf_run.proofs.Feedless.{IsFeedless, decimal-feedless, read_id-feedless, read_group-feedless, either, always, if-map, if-then, if-ok}
 
 -- ---- what a line names
+pub record IsFeedlessAccess (access : Access) : Type 0 where
+  pub class : IsFeedless access.class
+  pub name : IsFeedless access.name.text
+
 abbrev pub IsFeedlessLine : Line → Type 0
 IsFeedlessLine (Verify acee request) = IsFeedless acee
-IsFeedlessLine (Auth acee access) = IsFeedless acee
-IsFeedlessLine (Fastauth acee access) = IsFeedless acee
+IsFeedlessLine (Auth acee access) = IsFeedless acee × IsFeedlessAccess access
+IsFeedlessLine (Fastauth acee access) = IsFeedless acee × IsFeedlessAccess access
 IsFeedlessLine (Delete acee) = IsFeedless acee
 IsFeedlessLine (After number) = Unit {0}
 IsFeedlessLine Skip = Unit {0}
@@ -150,17 +161,37 @@ unfolding deleted
 deleted-feedless unread =
     bound IsFeedlessSaid IsFeedless (next id_named unread) (λ acee. ended acee.1.words acee.0) (next-id unread) (λ acee h. all-said IsFeedless acee.1.words acee.0 h)
 
-abbrev IsFeedlessAsked : Asked → Type 0
-IsFeedlessAsked asked = IsFeedless asked.acee
+record IsFeedlessAsked (asked : Asked) : Type 0 where
+  acee : IsFeedless asked.acee
+  access : IfOk asked.access IsFeedlessAccess
+
+abbrev IsFeedlessNameSaid : Result Spelled NameFault × UnreadLine → Type 0
+IsFeedlessNameSaid said = IfOk said.0 (λ (name : Spelled). IsFeedless name.text)
+
+resource-feedless : (kind : NameKind) (text : List ℕ) (read : Result Spelled NameFault) → resource_of kind text ≡ read → IfOk read (λ (name : Spelled). IsFeedless name.text)
+resource-feedless kind text (Ok name) is = name-feedless Discrete kind text name is
+resource-feedless kind text (Err fault) is = tt
+
+next-name : (kind : NameKind) (unread : UnreadLine) → IfOk (next (name_word kind) unread) IsFeedlessNameSaid
+unfolding next
+next-name kind unread = by unread.words
+  where
+    by : (words : List LineWord) → IfOk (next_of (name_word kind) words unread.end) IsFeedlessNameSaid
+    by [] = tt
+    by (word ∷ words) = resource-feedless kind (folded word.text) (resource_of kind (folded word.text)) refl
+
+access-feedless : (class : List ℕ) (level : Level) (name : Result Spelled NameFault) → IsFeedless class → IfOk name (λ (name : Spelled). IsFeedless name.text) → IfOk (access_to class level name) IsFeedlessAccess
+access-feedless class level (Ok name) h k = record { class = h; name = k }
+access-feedless class level (Err fault) h k = tt
 
 asked-feedless : (unread : UnreadLine) → IfOk (asked_by unread) IsFeedlessAsked
 unfolding asked_by
 asked-feedless unread =
     bound IsFeedlessSaid IsFeedlessAsked (next id_named unread) _ (next-id unread)
-    (λ acee h. bound (λ class. Unit {0}) IsFeedlessAsked (next id_named acee.1) _ (any (next id_named acee.1))
-    (λ class _. bound (λ name. Unit {0}) IsFeedlessAsked (next (name_word (kind_in class.0)) class.1) _ (any (next (name_word (kind_in class.0)) class.1))
-    (λ name _. bound (λ level. Unit {0}) IsFeedlessAsked (next level_word name.1) _ (any (next level_word name.1))
-    (λ level _. all-said IsFeedlessAsked level.1.words _ h))))
+    (λ acee h. bound IsFeedlessSaid IsFeedlessAsked (next id_named acee.1) _ (next-id acee.1)
+    (λ class i. bound IsFeedlessNameSaid IsFeedlessAsked (next (name_word (kind_in class.0)) class.1) _ (next-name (kind_in class.0) class.1)
+    (λ name k. bound (λ level. Unit {0}) IsFeedlessAsked (next level_word name.1) _ (any (next level_word name.1))
+    (λ level _. all-said IsFeedlessAsked level.1.words _ (record { acee = h; access = access-feedless class.0 level.0 name.0 i k })))))
 
 verified-feedless : (unread : UnreadLine) → IfOk (verified_by unread) (λ verified. IsFeedlessLine (verify_line verified))
 unfolding verified_by
@@ -174,19 +205,19 @@ made-feedless : {X : Type 0} (P : X → Type 0) (line_for : X → Line) → ((x 
 made-feedless P line_for is (Ok said) h = is said h
 made-feedless P line_for is (Err place) h = tt
 
-named-feedless : (line_for : Access → Line) (acee : List ℕ) → ((access : Access) → IsFeedlessLine (line_for access)) → IsFeedless acee → (access : Result Access NameFault) → IsFeedlessRead (named line_for acee access)
-named-feedless line_for acee is h (Ok access) = is access
-named-feedless line_for acee is h (Err fault) = h
+named-feedless : (line_for : Access → Line) (acee : List ℕ) → ((access : Access) → IsFeedlessAccess access → IsFeedlessLine (line_for access)) → IsFeedless acee → (access : Result Access NameFault) → IfOk access IsFeedlessAccess → IsFeedlessRead (named line_for acee access)
+named-feedless line_for acee is h (Ok access) k = is access k
+named-feedless line_for acee is h (Err fault) k = h
 
-accessed-feedless : (line_for : List ℕ → Access → Line) → ((acee : List ℕ) (access : Access) → IsFeedless acee → IsFeedlessLine (line_for acee access)) → (r : Result Asked ℕ) → IfOk r IsFeedlessAsked → IsFeedlessRead (accessed line_for r)
-accessed-feedless line_for is (Ok asked) h = named-feedless (line_for asked.acee) asked.acee (λ access. is asked.acee access h) h asked.access
+accessed-feedless : (line_for : List ℕ → Access → Line) → ((acee : List ℕ) (access : Access) → IsFeedless acee → IsFeedlessAccess access → IsFeedlessLine (line_for acee access)) → (r : Result Asked ℕ) → IfOk r IsFeedlessAsked → IsFeedlessRead (accessed line_for r)
+accessed-feedless line_for is (Ok asked) h = named-feedless (line_for asked.acee) asked.acee (λ access k. is asked.acee access h.acee k) h.acee asked.access h.access
 accessed-feedless line_for is (Err place) h = tt
 
 request-feedless : (verb : List ℕ) (place : ℕ) (unread : UnreadLine) → IsFeedlessRead (request_by verb place unread)
 request-feedless verb place unread =
     either IsFeedlessRead (bytes_eq verb (codes "VERIFY")) _ _ (made-feedless (λ verified. IsFeedlessLine (verify_line verified)) verify_line (λ verified h. h) (verified_by unread) (verified-feedless unread))
-    (either IsFeedlessRead (bytes_eq verb (codes "AUTH")) _ _ (accessed-feedless Auth (λ acee access h. h) (asked_by unread) (asked-feedless unread))
-    (either IsFeedlessRead (bytes_eq verb (codes "FASTAUTH")) _ _ (accessed-feedless Fastauth (λ acee access h. h) (asked_by unread) (asked-feedless unread))
+    (either IsFeedlessRead (bytes_eq verb (codes "AUTH")) _ _ (accessed-feedless Auth (λ acee access h k. (h, k)) (asked_by unread) (asked-feedless unread))
+    (either IsFeedlessRead (bytes_eq verb (codes "FASTAUTH")) _ _ (accessed-feedless Fastauth (λ acee access h k. (h, k)) (asked_by unread) (asked-feedless unread))
     (either IsFeedlessRead (bytes_eq verb (codes "DELETE")) _ _ (made-feedless IsFeedless Delete (λ acee h. h) (deleted unread) (deleted-feedless unread))
     (either IsFeedlessRead (bytes_eq verb (codes "*AFTER")) _ _ (made-feedless (λ number. Unit {0}) After (λ number h. tt) (number_after unread) (any (number_after unread))) tt))))
 

@@ -37,7 +37,8 @@ use Rattle.command_values.specs.LawfulValues.{Each, IsMember, AreMembers}
 use Rattle.command_values.specs.declared.members.MemberForm.{MemberForm}
 use Rattle.command_values.specs.declared.members.MemberForm.TheVariants as forms
 use Rattle.command_values.specs.Members.{member_form}
-use Rattle.command_effects.specs.Members.{with_category_name, categories_defined}
+use Rattle.racf_profiles.specs.LawfulProfiles.{member_name}
+use Rattle.command_effects.specs.Members.{is_member_named, with_member, without_members, members_after, with_category_name, categories_defined}
 use Rattle.command_values.specs.declared.log_options.LogClause.{LogClause}
 use Rattle.command_parser.specs.LawfulFields.{IsId, IsGroupName, IsNamedOne, AreWhosOfPermit, IsPort, IsLogClause, AreMembersOf, AreLawfulFields}
 use Rattle.command_parser.specs.Issuers.{group_or_current}
@@ -49,6 +50,7 @@ use Rattle.command_effects.specs.Effects.{step}
 use Rattle.lawful_commands.proofs.RowLists.{all-push, all-filter, all-at, all-put, all-map, all-both}
 use Rattle.lawful_commands.proofs.FieldFacts.{each-all}
 use Rattle.lawful_commands.proofs.ProfileRows.{all-at_class}
+use Rattle.racf_run.proofs.FeedlessNames.{member_name-feedless}
 use Rattle.racf_run.proofs.Feedless.{IsFeedless, id-feedless, group-feedless, data_set-feedless, class_profile-feedless, if-either, if-given, if-found, if-then}
 
 -- ---- what may be printed of each row
@@ -66,10 +68,16 @@ abbrev pub IsFeedlessWho : Who → Type 0
 IsFeedlessWho Star = Unit {0}
 IsFeedlessWho (Named id) = IsFeedless id
 
+abbrev pub IsFeedlessMember : Member → Type 0
+IsFeedlessMember (member.Access resources level) = IsFeedless resources.text
+IsFeedlessMember (member.SecurityLevel name number) = IsFeedless name
+IsFeedlessMember (member.Category name) = IsFeedless name
+
 pub record IsFeedlessProfile (profile : Profile) : Type 0 where
   pub name : IsFeedless profile.name.text
   pub standard : AllByRecursion (λ (entry : Entry). IsFeedlessWho entry.who) profile.standard
   pub conditional : AllByRecursion (λ (entry : CondEntry). IsFeedless entry.condition.name) profile.conditional
+  pub members : AllByRecursion IsFeedlessMember profile.members
 
 abbrev pub AreFeedlessProfiles : ClassRow → Type 0
 AreFeedlessProfiles class = AllByRecursion IsFeedlessProfile class.profiles
@@ -206,17 +214,17 @@ module _ (c : Permit) (whos : AllByRecursion IsFeedlessWho c.id) where
     name = h.name;
     standard = standard-entries c.when (standard_reset c.reset old.standard) (standard-reset c.reset old.standard h.standard);
     conditional = conditional-entries c.when port (conditional_reset c.reset old.conditional) (conditional-reset c.reset old.conditional h.conditional);
+    members = h.members;
   }
 
--- ---- the categories that members define
-abbrev IsFeedlessMember : Member → Type 0
-IsFeedlessMember (member.Access resources level) = Unit {0}
-IsFeedlessMember (member.SecurityLevel name number) = Unit {0}
-IsFeedlessMember (member.Category name) = IsFeedless name
-
+-- ---- the members, and the categories that they define
 member-feedless : (form : MemberForm) (added : Member) → IsMember form added → IsFeedlessMember added
-member-feedless form (member.Access resources level) h = tt
-member-feedless form (member.SecurityLevel name number) h = tt
+member-feedless (forms.Access kind) (member.Access resources level) h = member_name-feedless kind resources h
+member-feedless forms.SecurityLevel (member.Access resources level) h = absurd h
+member-feedless forms.Category (member.Access resources level) h = absurd h
+member-feedless forms.SecurityLevel (member.SecurityLevel name number) h = id-feedless name h.0
+member-feedless (forms.Access kind) (member.SecurityLevel name number) h = absurd h
+member-feedless forms.Category (member.SecurityLevel name number) h = absurd h
 member-feedless forms.Category (member.Category name) h = id-feedless name h
 member-feedless (forms.Access kind) (member.Category name) h = absurd h
 member-feedless forms.SecurityLevel (member.Category name) h = absurd h
@@ -241,6 +249,10 @@ category-feedless names (member.Category name) are h = by (list_any (λ other. b
 defined-feedless : (class : List ℕ) (name : Spelled) (added : List Member) (names : List (List ℕ)) → AreMembersOf class name added → AllByRecursion IsFeedless names → AllByRecursion IsFeedless (categories_defined added names)
 defined-feedless class name added names h are =
     fold-keeps (λ (names : List (List ℕ)). AllByRecursion IsFeedless names) IsFeedlessMember with_category_name category-feedless added names are (added-feedless class name added h)
+
+members_after-feedless : (class : List ℕ) (name : Spelled) (added : List Member) (gone : List Spelled) (members : List Member) → AreMembersOf class name added → AllByRecursion IsFeedlessMember members → AllByRecursion IsFeedlessMember (members_after added gone members)
+members_after-feedless class name added gone members h are =
+    fold-keeps (AllByRecursion IsFeedlessMember) IsFeedlessMember with_member (λ list one all is. all-put IsFeedlessMember (is_member_named (member_name one)) one list is all) added (without_members gone members) (all-filter IsFeedlessMember _ members are) (added-feedless class name added h)
 
 -- ---- connections after CONNECT
 connects-feedless : (c : Connect) (group : List ℕ) (connects : List Connection) → IsFeedless group
@@ -302,14 +314,14 @@ module _ (issuer : Issuer) (issuer_id : IsFeedless issuer.id) (issuer_group : Is
     classes = are.classes;
     categories = are.categories;
   }
-  step-feedless (command.AddSd c) rows f are = put-rows dataset rows are (new_data_set issuer c rows) (record { name = data_set-feedless c.profile f.profile; standard = tt; conditional = tt })
-  step-feedless (command.AltSd c) rows f are = changed-rows dataset rows are c.profile (altered_data_set c rows) (λ old h. record { name = h.name; standard = h.standard; conditional = h.conditional })
+  step-feedless (command.AddSd c) rows f are = put-rows dataset rows are (new_data_set issuer c rows) (record { name = data_set-feedless c.profile f.profile; standard = tt; conditional = tt; members = tt })
+  step-feedless (command.AltSd c) rows f are = changed-rows dataset rows are c.profile (altered_data_set c rows) (λ old h. record { name = h.name; standard = h.standard; conditional = h.conditional; members = h.members })
   step-feedless (command.DelSd c) rows f are = dropped-rows dataset rows are c.profile
   step-feedless (command.RDefine c) rows f are =
-      let put = put-rows c.class rows are (new_resource issuer c rows) (record { name = class_profile-feedless c.class c.profile f.profile; standard = tt; conditional = tt }) in
+      let put = put-rows c.class rows are (new_resource issuer c rows) (record { name = class_profile-feedless c.class c.profile f.profile; standard = tt; conditional = tt; members = members_after-feedless c.class c.profile c.addmem [] [] f.addmem tt }) in
       record { users = put.users; groups = put.groups; classes = put.classes; categories = defined-feedless c.class c.profile c.addmem rows.options.categories f.addmem are.categories }
   step-feedless (command.RAlter c) rows f are =
-      let changed = changed-rows c.class rows are c.profile (altered_resource c rows) (λ old h. record { name = h.name; standard = h.standard; conditional = h.conditional }) in
+      let changed = changed-rows c.class rows are c.profile (altered_resource c rows) (λ old h. record { name = h.name; standard = h.standard; conditional = h.conditional; members = members_after-feedless c.class c.profile c.addmem c.delmem old.members f.addmem h.members }) in
       record { users = changed.users; groups = changed.groups; classes = changed.classes; categories = defined-feedless c.class c.profile c.addmem rows.options.categories f.addmem are.categories }
   step-feedless (command.RDelete c) rows f are = dropped-rows c.class rows are c.profile
   step-feedless (command.Permit c) rows f are =

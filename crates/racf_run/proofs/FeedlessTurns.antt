@@ -1,5 +1,5 @@
--- Each statement of an input prints nothing or one line, and no line feed stands in its words.
-use Rattle.std.proofs.Common.{◌≡◌, ℕ, ◌+◌, Bool, true, false, not, List, [], ◌∷◌, ◌++◌, Option, None, Some, Result, Ok, Err, refl, sym, subst, true≢false, inl, inr, is_some, length, codes}
+-- Each statement of an input prints nothing, one line, or one and an AUDIT line, and no line feed stands in their words.
+use Rattle.std.proofs.Common.{◌≡◌, ℕ, ◌+◌, Bool, true, false, not, List, [], ◌∷◌, ◌++◌, Option, None, Some, Result, Ok, Err, refl, sym, subst, true≢false, inl, inr, is_some, length, codes, cond, append-nil}
 use Rattle.std.specs.Prelude.{◌⊎◌, ◌==◌, nat_le, IfSome, IfOk, find, option_map, unwrap_or, is_ok}
 use Rattle.std.specs.List.{AllByRecursion}
 use Rattle.std.proofs.lemmas.List.Sums.{AllPass-from_list_all}
@@ -14,6 +14,8 @@ use Rattle.acee.specs.declared.request.VerifyRequest.{VerifyRequest}
 use Rattle.acee.specs.declared.request.VerifyFault.{VerifyFault}
 use Rattle.decision.specs.declared.outcome.Decision.{Decision}
 use Rattle.decision.specs.Verify.{verified}
+use Rattle.audit_records.specs.Logged.{logged}
+use Rattle.audit_records.specs.Line.{audit_line}
 use Rattle.command_values.specs.declared.faults.Syntax.{Syntax}
 use Rattle.command_values.specs.declared.faults.Syntax.TheVariants as syntax
 use Rattle.command_values.specs.declared.operand_words.Word.{Word}
@@ -25,8 +27,6 @@ use Rattle.command_parser.specs.CommandOf.{command_in}
 use Rattle.command_parser.specs.Canonical.{fault}
 use Rattle.command_parser.specs.LawfulFields.{AreLawfulFields}
 use Rattle.command_conflicts.specs.declared.conflict.Conflict.{Conflict}
-use Rattle.command_conflicts.specs.declared.conflict.Conflict.TheVariants.{NotBuilt}
-use Rattle.command_conflicts.specs.Unbuilt.{is_unbuilt}
 use Rattle.command_conflicts.specs.Conflicts.{conflict_of, first_conflict_of}
 use Rattle.command_authority.specs.declared.needs.Need.{Need}
 use Rattle.command_authority.specs.Authority.{need}
@@ -37,8 +37,8 @@ use Rattle.request_files.specs.IssuerLines.{issuer_of_line}
 use Rattle.request_files.specs.declared.line.LineRefusal.{LineRefusal}
 use Rattle.request_files.specs.declared.line.LineRefusal.TheVariants.{BadLine, NoAcee, AceeExists, AceesFull, BadName, LineTooLong}
 use Rattle.request_files.specs.Acees.{is_named, acee_named, put_refusal, most_acees}
-use Rattle.request_files.specs.Answers.{numbered, refused_words, unbuilt_words, verified_words, verify_fault_words, deleted_words, decision_words, answer_line, never_line}
-use Rattle.request_files.specs.Grammar.{Line, Verify, Auth, Fastauth, Delete, After, Skip, read}
+use Rattle.request_files.specs.Answers.{numbered, refused_words, verified_words, verify_fault_words, deleted_words, decision_words, answer_line, never_line}
+use Rattle.request_files.specs.Grammar.{Access, Line, Verify, Auth, Fastauth, Delete, After, Skip, read}
 use Rattle.request_files.specs.Worked as request
 use Rattle.lawful_commands.proofs.RowLists.{all-push}
 use Rattle.racf_run.specs.declared.statement.Statement.{Statement}
@@ -49,41 +49,51 @@ use Rattle.racf_desk.specs.declared.refusal.Refusal.{Refusal as OfCommand}
 use Rattle.racf_desk.specs.declared.refusal.Refusal.TheVariants as of_command
 use Rattle.racf_desk.specs.declared.outcome.IssuedCommand.{IssuedCommand}
 use Rattle.racf_desk.specs.Issuers.{current_group, is_connected, issuer_in, unless_not_connected, issuer_among, issuer_of}
-use Rattle.racf_desk.specs.Outcome.{most_number, unless_refused, found_command, command_of_text, unless_unbuilt, built_command, first_of, number_spent, tests_of, unless_met, outcome_in}
+use Rattle.racf_desk.specs.Outcome.{most_number, unless_refused, found_command, command_of_text, first_of, number_spent, tests_of, unless_met, outcome_in}
 use Rattle.racf_desk.specs.Words.{syntax_words, each_need}
 use Rattle.racf_desk.specs.Words.{refusal_words as command_refusal_words}
 use Rattle.racf_run.specs.Replies.{refusal_words, reply_line}
 use Rattle.racf_run.specs.IssuerLines.{issuer_refusal}
 use Rattle.racf_run.specs.Stream as s
 use Rattle.racf_run.specs.Stream.{State, Answer, number_of}
-use Rattle.racf_run.specs.Printed.{Turn, turns, input_turns, printed, behind, PrintsOneLine}
+use Rattle.racf_run.specs.Printed.{Turn, turns, input_turns, printed, behind, audit_text, PrintsItsLines}
 use Rattle.racf_run.specs.Script.{stream}
 use Rattle.racf_run.proofs.Feedless.{IsFeedless, joined, decimal-feedless, either, if-given, if-map, if-found}
 use Rattle.racf_run.proofs.FeedlessCopies.{copies-feedless}
 use Rattle.racf_run.proofs.FeedlessRows.{IsFeedlessUser, AreFeedless, IsFeedlessState, first-feedless, step-feedless}
 use Rattle.racf_run.proofs.FeedlessConflicts.{IsFeedlessTest, conflict-feedless, early-feedless}
 use Rattle.racf_run.proofs.FeedlessNeeds.{need-feedless}
-use Rattle.racf_run.proofs.FeedlessDecisions.{IsFeedlessAcee, decided-words, fast_decided-words, verified-acee}
-use Rattle.racf_run.proofs.FeedlessLines.{IsFeedlessLine, IsFeedlessRefusal, IsFeedlessRead, IsFeedlessNamed, read-feedless, issuer-feedless, refusal-words, verify-words}
+use Rattle.racf_run.proofs.FeedlessDecisions.{IsFeedlessAcee, decided-words, fast_decided-words, audit-words, verified-acee}
+use Rattle.racf_run.proofs.FeedlessLines.{IsFeedlessAccess, IsFeedlessLine, IsFeedlessRefusal, IsFeedlessRead, IsFeedlessNamed, read-feedless, issuer-feedless, refusal-words, verify-words}
 
--- ---- a line
+-- ---- a line, and an AUDIT line behind it
 record IsNumbered (number : ℕ) (text : List ℕ) : Type 0 where
   words : List ℕ
   feedless : IsFeedless words
   is_line : text ≡ numbered number words
 
-abbrev IsLine : ℕ → List ℕ → Type 0
-IsLine number text = (text ≡ []) ⊎ (IsNumbered number text ⊎ (text ≡ never_line number))
+record IsAudited (number : ℕ) (text : List ℕ) : Type 0 where
+  words : List ℕ
+  feedless : IsFeedless words
+  audit : List ℕ
+  audit_feedless : IsFeedless audit
+  are_lines : text ≡ numbered number words ++ audit_text audit
 
-line : (number : ℕ) (words : List ℕ) → IsFeedless words → IsLine number (numbered number words)
+abbrev AreLines : ℕ → List ℕ → Type 0
+AreLines number text = (text ≡ []) ⊎ (IsNumbered number text ⊎ (IsAudited number text ⊎ (text ≡ never_line number)))
+
+line : (number : ℕ) (words : List ℕ) → IsFeedless words → AreLines number (numbered number words)
 line number words h = inr (inl (record { words = words; feedless = h; is_line = refl }))
+
+audited-line : (number : ℕ) (words audit : List ℕ) → IsFeedless words → IsFeedless audit → AreLines number (numbered number words ++ audit_text audit)
+audited-line number words audit h k = inr (inr (inl (record { words = words; feedless = h; audit = audit; audit_feedless = k; are_lines = refl })))
 
 -- ---- requests, on rows and with ACEEs whose names hold no line feed
 abbrev AreFeedlessAcees : List NamedAcee → Type 0
 AreFeedlessAcees acees = AllByRecursion (λ (entry : NamedAcee). IsFeedlessAcee entry.acee) acees
 
 record Works (number : ℕ) (o : request.Outcome) : Type 0 where
-  line : IsLine number o.text
+  lines : AreLines number o.text
   acees : AreFeedlessAcees o.acees
 
 told-feedless : (acees : List NamedAcee) (why : LineRefusal) → IsFeedlessRefusal why → IsFeedlessRefusal (request.told acees why)
@@ -100,18 +110,15 @@ put-feedless name acees h =
     (either (λ o. IfSome o IsFeedlessRefusal) (length acees == most_acees) (Some AceesFull) None tt tt)
 
 module _ (position : Imaged) (acees : List NamedAcee) (are : IsFeedlessState position.state) (groups : AreFeedlessAcees acees) where
-  stays : (text : List ℕ) (refused : Bool) → IsLine position.generation text → Works position.generation (record { text = text; refused = refused; acees = acees })
-  stays text refused h = record { line = h; acees = groups }
+  stays : (text : List ℕ) (refused : Bool) → AreLines position.generation text → Works position.generation (record { text = text; refused = refused; acees = acees })
+  stays text refused h = record { lines = h; acees = groups }
 
   works-refused : (why : LineRefusal) → IsFeedlessRefusal why → Works position.generation (request.refused position acees why)
   works-refused why h = stays _ true (line position.generation (refused_words why) (refusal-words why h))
 
-  works-unbuilt : Works position.generation (request.unbuilt position acees)
-  works-unbuilt = stays _ true (line position.generation unbuilt_words refl)
-
   verify-told : (name : List ℕ) (result : Result Acee VerifyFault) → IfOk result IsFeedlessAcee → Works position.generation (request.verify_told position acees name result)
   verify-told name (Ok acee) h = record {
-    line = line position.generation verified_words refl;
+    lines = line position.generation verified_words refl;
     acees = all-push (λ (entry : NamedAcee). IsFeedlessAcee entry.acee) acees (record { name = name; acee = acee }) groups h;
   }
   verify-told name (Err fault) h = stays _ false (line position.generation (verify_fault_words fault) (verify-words fault))
@@ -124,27 +131,40 @@ module _ (position : Imaged) (acees : List NamedAcee) (are : IsFeedlessState pos
   named-acee name =
       if-map IsFeedlessAcee (λ (entry : NamedAcee). entry.acee) (find (is_named name) acees) (if-found (λ (entry : NamedAcee). IsFeedlessAcee entry.acee) (is_named name) acees groups)
 
-  works-decided : (name : List ℕ) (decision_for : Acee → Decision) (acee : Option Acee) → ((user : Acee) → IsFeedlessAcee user → IsFeedless (decision_words position.state.rows.options.categories (decision_for user))) → IsFeedless name → IfSome acee IsFeedlessAcee → Works position.generation (request.decided_for position acees name decision_for acee)
-  unfolding answer_line
-  works-decided name decision_for None words h k = works-refused (NoAcee name) h
-  works-decided name decision_for (Some acee) words h k = stays _ false (line position.generation (decision_words position.state.rows.options.categories (decision_for acee)) (words acee k))
+  works-answer : (name : List ℕ) (answer : Acee → request.Outcome) (acee : Option Acee) → ((user : Acee) → IsFeedlessAcee user → Works position.generation (answer user)) → IsFeedless name → IfSome acee IsFeedlessAcee → Works position.generation (request.answer_for position acees name answer acee)
+  works-answer name answer None works h k = works-refused (NoAcee name) h
+  works-answer name answer (Some acee) works h k = works acee k
+
+  works-decision : (fast : Bool) (access : Access) (acee : Acee) (decision : Decision) → IsFeedlessAccess access → IsFeedlessAcee acee → IsFeedless (decision_words position.state.rows access.class decision) → Works position.generation (request.answered position acees (request.decision_text position fast access acee decision))
+  unfolding answer_line request.audited
+  works-decision fast access acee decision named user told = by (logged position.state acee access.class access.asked fast decision)
+    where
+      by : (b : Bool) → Works position.generation (request.answered position acees (numbered position.generation (decision_words position.state.rows access.class decision) ++ cond b (audit_line decision acee.user access.class access.name access.asked) []))
+      unfolding audit_line
+      by true =
+          stays _ false (audited-line position.generation (decision_words position.state.rows access.class decision) _ told (audit-words decision acee.user access.class access.name access.asked user.user named.class named.name))
+      by false =
+          let words = decision_words position.state.rows access.class decision in
+          stays _ false (subst (AreLines position.generation) (sym (append-nil (numbered position.generation words))) (line position.generation words told))
 
   works-delete : (name : List ℕ) (acee : Option Acee) → IsFeedless name → Works position.generation (request.delete_for position acees name acee)
   works-delete name None h = works-refused (NoAcee name) h
   works-delete name (Some acee) h = record {
-    line = line position.generation deleted_words refl;
+    lines = line position.generation deleted_words refl;
     acees = all-drop_row (λ (entry : NamedAcee). IsFeedlessAcee entry.acee) (is_named name) acees groups;
   }
 
   works-line : (read : Line) → IsFeedlessLine read → Works position.generation (request.line_worked position acees read)
   works-line (Verify name asked) h =
-      either (Works position.generation) (is_some asked.label) _ _ works-unbuilt (verify-unless name asked (put_refusal name acees) (put-feedless name acees h))
+      verify-unless name asked (put_refusal name acees) (put-feedless name acees h)
   works-line (Auth name access) h =
-      works-decided name (request.by_auth position acees access) (acee_named name acees) (λ acee k. decided-words position.state acee k access.class access.name access.asked position.generation are) h (named-acee name)
+      works-answer name (request.auth_for position acees access) (acee_named name acees)
+      (λ acee k. works-decision false access acee (request.by_auth position access acee) h.1 k (decided-words position.state acee k access.class access.name access.asked position.generation are)) h.0 (named-acee name)
   works-line (Fastauth name access) h =
-      works-decided name (request.by_fastauth position acees access) (acee_named name acees) (λ acee k. fast_decided-words position.state acee k access.class access.name access.asked position.generation are) h (named-acee name)
+      works-answer name (request.fastauth_for position acees access) (acee_named name acees)
+      (λ acee k. works-decision true access acee (request.by_fastauth position access acee) h.1 k (fast_decided-words position.state acee k access.class access.name access.asked position.generation are)) h.0 (named-acee name)
   works-line (Delete name) h = works-delete name (acee_named name acees) h
-  works-line (After other) h = either (Works position.generation) (nat_le other position.generation) _ _ (stays [] false (inl refl)) (stays (never_line position.generation) true (inr (inr refl)))
+  works-line (After other) h = either (Works position.generation) (nat_le other position.generation) _ _ (stays [] false (inl refl)) (stays (never_line position.generation) true (inr (inr (inr refl))))
   works-line Skip h = stays [] false (inl refl)
 
   works-read : (read : Result Line LineRefusal) → IsFeedlessRead read → Works position.generation (request.worked position acees read)
@@ -236,10 +256,6 @@ abbrev IsFeedlessCommand : Result CommandFields OfCommand → Type 0
 IsFeedlessCommand (Ok c) = AreLawfulFields c
 IsFeedlessCommand (Err why) = IsFeedlessReply why
 
-built : (read : Result CommandFields OfCommand) → IsFeedlessCommand read → IsFeedlessCommand (unless_refused read unless_unbuilt)
-built (Err why) h = h
-built (Ok c) h = either IsFeedlessCommand (is_unbuilt c) (Err (of_command.Conflict NotBuilt)) (Ok c) refl h
-
 unless-met : (why : Option OfCommand) (issuer : Issuer) (c : CommandFields) → IsFeedlessAnswer why → IsFeedlessIssuer issuer → AreLawfulFields c → IsFeedlessOutcome (unless_met why issuer c)
 unless-met None issuer c h i f = record { issuer = i; fields = f }
 unless-met (Some why) issuer c h i f = h
@@ -263,13 +279,13 @@ record IsGood (before : State) : Type 0 where
   acees : AreFeedlessAcees before.acees
 
 record Prints (a : Answer) : Type 0 where
-  line : IsLine (number_of a.state) a.text
+  lines : AreLines (number_of a.state) a.text
   good : IsGood a.state
 
 prints-refuse : (why : Refusal) (before : State) → IsFeedless (refusal_words why) → IsGood before → Prints (s.refuse why before)
 unfolding reply_line
 prints-refuse why before h good = record {
-  line = line (number_of before) (codes "REFUSED " ++ refusal_words why) h;
+  lines = line (number_of before) (codes "REFUSED " ++ refusal_words why) h;
   good = record { state = good.state; issuer = good.issuer; group = good.group; acees = good.acees };
 }
 
@@ -277,7 +293,7 @@ prints-outcome : (o : Result IssuedCommand OfCommand) (before : State) → IsFee
 unfolding reply_line
 prints-outcome (Err why) before h good = prints-refuse (refusal.Command why) before h good
 prints-outcome (Ok issued) before h good = record {
-  line = line (number_of before + 1) (codes "ACCEPTED") refl;
+  lines = line (number_of before + 1) (codes "ACCEPTED") refl;
   good = record {
     state = record { rows = step-feedless issued.issuer h.issuer.id h.issuer.group issued.command before.position.state.rows h.fields good.state.rows; copies = copies-feedless issued.command before.position.state good.state };
     issuer = good.issuer;
@@ -287,7 +303,7 @@ prints-outcome (Ok issued) before h good = record {
 }
 
 prints-with : (o : request.Outcome) (before : State) → Works (number_of before) o → IsGood before → Prints (s.answer_with o before)
-prints-with o before works good = record { line = works.line; good = record { state = good.state; issuer = good.issuer; group = good.group; acees = works.acees } }
+prints-with o before works good = record { lines = works.lines; good = record { state = good.state; issuer = good.issuer; group = good.group; acees = works.acees } }
 
 prints-request : (text : List ℕ) (before : State) → IsGood before → Prints (s.request text before)
 unfolding s.request
@@ -300,7 +316,7 @@ issuer_refusal-words (BadLine place) = decimal-feedless place
 issuer_refusal-words other = refl
 
 prints-issue : (read : Result NamedIssuer LineRefusal) (before : State) → IfOk read IsFeedlessNamed → IsGood before → Prints (s.issue_by read before)
-prints-issue (Ok issuer) before h good = record { line = inl refl; good = record { state = good.state; issuer = h.id; group = h.group; acees = good.acees } }
+prints-issue (Ok issuer) before h good = record { lines = inl refl; good = record { state = good.state; issuer = h.id; group = h.group; acees = good.acees } }
 prints-issue (Err why) before h good = prints-refuse (issuer_refusal why) before (issuer_refusal-words why) good
 
 -- ---- the turns of an input
@@ -310,15 +326,23 @@ no_feed words h k d below = other _ (AllPass-from_list_all (λ byte. not (byte =
     other : (byte : ℕ) → not (byte == 10) ≡ true → byte ≡ 10 → ⊥
     other byte h e = true≢false (sym (subst (λ (n : ℕ). not (n == 10) ≡ true) e h))
 
-one_line : (turn : Turn) → IsLine (number_of (behind turn)) (printed turn) → PrintsOneLine turn
-one_line turn (inl none) = inl none
-one_line turn (inr (inl is)) = inr (inl (record { words = is.words; no_feed = no_feed is.words is.feedless; is_line = is.is_line }))
-one_line turn (inr (inr never)) = inr (inr never)
+its_lines : (turn : Turn) → AreLines (number_of (behind turn)) (printed turn) → PrintsItsLines turn
+its_lines turn (inl none) = inl none
+its_lines turn (inr (inl is)) = inr (inl (record { words = is.words; no_feed = no_feed is.words is.feedless; is_line = is.is_line }))
+its_lines turn (inr (inr (inl is))) =
+    inr (inr (inl (record {
+      words = is.words;
+      no_feed = no_feed is.words is.feedless;
+      audit = is.audit;
+      no_audit_feed = no_feed is.audit is.audit_feedless;
+      are_lines = is.are_lines;
+    })))
+its_lines turn (inr (inr (inr never))) = inr (inr (inr never))
 
 -- where the fields of a command that a text spells are lawful
 module _ (lawful : (issuer text : List ℕ) (c : CommandFields) → command_in issuer text ≡ Some c → AreLawfulFields c) where
-  command-read : (id text : List ℕ) → IsFeedlessCommand (built_command id text)
-  command-read id text = built (command_of_text id text) (found (command_in id text) refl)
+  command-read : (id text : List ℕ) → IsFeedlessCommand (command_of_text id text)
+  command-read id text = found (command_in id text) refl
     where
       found : (o : Option CommandFields) → command_in id text ≡ o → IsFeedlessCommand (found_command o (fault id text))
       found (Some c) e = lawful id text c e
@@ -328,7 +352,7 @@ module _ (lawful : (issuer text : List ℕ) (c : CommandFields) → command_in i
   unfolding s.command outcome_in
   prints-command text before good =
       prints-outcome (s.outcome_of text before) before
-      (command-outcome (number_of before) before.position.state.rows before.issuer.id before.issuer.group (built_command before.issuer.id text) good.state.rows good.issuer good.group (command-read before.issuer.id text)) good
+      (command-outcome (number_of before) before.position.state.rows before.issuer.id before.issuer.group (command_of_text before.issuer.id text) good.state.rows good.issuer good.group (command-read before.issuer.id text)) good
 
   prints-answer : (i : Statement) (before : State) → IsGood before → Prints (s.answer i before)
   prints-answer (item.Command text) before good = prints-command text before good
@@ -336,14 +360,14 @@ module _ (lawful : (issuer text : List ℕ) (c : CommandFields) → command_in i
   prints-answer (item.Request text) before good = prints-request text before good
   prints-answer item.LineTooLong before good = prints-refuse refusal.LineTooLong before refl good
 
-  turns-from : (items : List Statement) (before : State) → IsGood before → AllByRecursion PrintsOneLine (turns items before)
+  turns-from : (items : List Statement) (before : State) → IsGood before → AllByRecursion PrintsItsLines (turns items before)
   unfolding s.step s.text
   turns-from [] before good = tt
   turns-from (i ∷ items) before good =
       let prints = prints-answer i before good in
-      (one_line (record { item = i; before = before }) prints.line, turns-from items (s.step i before) prints.good)
+      (its_lines (record { item = i; before = before }) prints.lines, turns-from items (s.step i before) prints.good)
 
-  pub each_line : (bytes : List ℕ) → AllByRecursion PrintsOneLine (input_turns bytes)
+  pub each_line : (bytes : List ℕ) → AllByRecursion PrintsItsLines (input_turns bytes)
   unfolding s.new_stream stream
   each_line bytes =
       turns-from (stream.items bytes) s.new_stream (record { state = record { rows = first-feedless; copies = tt }; issuer = refl; group = tt; acees = tt })

@@ -14,6 +14,7 @@ pub mod Settling
 pub mod StreamWalk
 pub mod PrintedLaws
 pub mod Feedless
+pub mod FeedlessNames
 pub mod FeedlessRows
 pub mod FeedlessCopies
 pub mod FeedlessConflicts

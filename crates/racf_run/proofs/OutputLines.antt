@@ -1,13 +1,13 @@
--- The lines of an output are what the turns print that print anything.
-use Rattle.std.proofs.Common.{◌≡◌, ℕ, Bool, true, false, cond, not, ◌&&◌, List, [], ◌∷◌, ◌++◌, refl, sym, ap, ◌∙◌, true≢false, inl, inr, codes}
-use Rattle.std.specs.Prelude.{◌⊎◌, ◌==◌, map, filter, decimal}
-use Rattle.std.specs.List.{AllByRecursion, concat, onto_first}
+-- The lines of an output are those that the turns print.
+use Rattle.std.proofs.Common.{◌≡◌, ℕ, Bool, true, false, cond, not, ◌&&◌, List, [], ◌∷◌, ◌++◌, refl, sym, ap, subst, ◌∙◌, true≢false, inl, inr, codes, append_assoc, append-nil}
+use Rattle.std.specs.Prelude.{◌⊎◌, ◌==◌, map, decimal}
+use Rattle.std.specs.List.{AllByRecursion, concat, flat_map, onto_first}
 use Rattle.std.proofs.lemmas.Bool.{ne_eqb}
 use Rattle.std.proofs.lemmas.List.Sums.{list_all-from_AllPass}
 use Rattle.racf_outside.specs.Lines.{NoFeed}
-use Rattle.generic_names.specs.Spelled.{is_empty}
+use Rattle.request_files.specs.Answers.{numbered}
 use Rattle.racf_run.specs.Stream.{number_of}
-use Rattle.racf_run.specs.Printed.{Turn, printed, behind, PrintsOneLine, prints, split_lines}
+use Rattle.racf_run.specs.Printed.{Turn, printed, behind, audit_text, PrintsItsLines, printed_lines, split_lines}
 use Rattle.racf_run.proofs.Feedless.{IsFeedless, is_feedless, joined, decimal-feedless}
 
 -- a row, computed: a line may hold its line feed alone
@@ -27,41 +27,43 @@ first_line (byte ∷ words) rest h = by (byte == 10) h (first_line words rest)
     by true k more = absurd (true≢false (sym k))
     by false k more = ap (onto_first byte) (more k)
 
--- what is printed at a turn: nothing, or words that a line feed ends
-record IsEnded (text : List ℕ) : Type 0 where
-  words : List ℕ
-  no_feed : IsFeedless words
-  is_text : text ≡ words ++ codes "\n"
+-- a text whose last line has ended: whatever comes behind it begins a line of its own
+abbrev Splits : List ℕ → Type 0
+Splits text = (rest : List ℕ) → split_lines (text ++ rest) ≡ split_lines text ++ split_lines rest
 
-ended : (turn : Turn) → PrintsOneLine turn → (printed turn ≡ []) ⊎ IsEnded (printed turn)
-ended turn (inl none) = inl none
-ended turn (inr (inl line)) =
-    let number = decimal (number_of (behind turn)) in
-    inr (record {
-      words = (number ++ codes " ") ++ line.words;
-      no_feed = joined (number ++ codes " ") line.words (joined number (codes " ") (decimal-feedless (number_of (behind turn))) refl) (feedless line.words line.no_feed);
-      is_text = line.is_line;
-    })
-ended turn (inr (inr never)) = inr (record { words = codes "NEVER " ++ decimal (number_of (behind turn)); no_feed = decimal-feedless (number_of (behind turn)); is_text = never })
+nothing-splits : Splits []
+nothing-splits rest = refl
 
-some_bytes : (words : List ℕ) → not (is_empty (words ++ codes "\n")) ≡ true
-some_bytes [] = refl
-some_bytes (byte ∷ words) = refl
+line-splits : (words : List ℕ) → IsFeedless words → Splits (words ++ codes "\n")
+line-splits words h rest =
+    let alone : split_lines (words ++ codes "\n") ≡ (words ++ codes "\n") ∷ [] =
+    ap split_lines (sym (append-nil (words ++ codes "\n"))) ∙ first_line words [] h in
+    first_line words rest h ∙ ap (λ (lines : List (List ℕ)). lines ++ split_lines rest) (sym alone)
 
-module _ (turn : Turn) (list : List Turn) where
-  chosen : (b : Bool) → prints turn ≡ b → map printed (filter prints (turn ∷ list)) ≡ map printed (cond b (turn ∷ filter prints list) (filter prints list))
-  chosen b is = ap (λ (c : Bool). map printed (cond c (turn ∷ filter prints list) (filter prints list))) is
+both-split : (text more : List ℕ) → Splits text → Splits more → Splits (text ++ more)
+both-split text more h k rest =
+    ap split_lines (append_assoc text more rest)
+    ∙ h (more ++ rest)
+    ∙ ap (λ (lines : List (List ℕ)). split_lines text ++ lines) (k rest)
+    ∙ sym (append_assoc (split_lines text) (split_lines more) (split_lines rest))
+    ∙ ap (λ (lines : List (List ℕ)). lines ++ split_lines rest) (sym (h more))
 
-  one_more : (printed turn ≡ []) ⊎ IsEnded (printed turn) → split_lines (concat (map printed list)) ≡ map printed (filter prints list) → split_lines (concat (map printed (turn ∷ list))) ≡ map printed (filter prints (turn ∷ list))
-  one_more (inl none) rest =
-      ap (λ text. split_lines (text ++ concat (map printed list))) none ∙ rest ∙ sym (chosen false (ap (λ text. not (is_empty text)) none))
-  one_more (inr line) rest =
-      ap (λ text. split_lines (text ++ concat (map printed list))) line.is_text
-      ∙ first_line line.words (concat (map printed list)) line.no_feed
-      ∙ ap (λ lines. (line.words ++ codes "\n") ∷ lines) rest
-      ∙ ap (λ text. text ∷ map printed (filter prints list)) (sym line.is_text)
-      ∙ sym (chosen true (ap (λ text. not (is_empty text)) line.is_text ∙ some_bytes line.words))
+numbered-splits : (number : ℕ) (words : List ℕ) → NoFeed words → Splits (numbered number words)
+numbered-splits number words h =
+    line-splits ((decimal number ++ codes " ") ++ words)
+    (joined (decimal number ++ codes " ") words (joined (decimal number) (codes " ") (decimal-feedless number) refl) (feedless words h))
 
-pub lines_of_turns : (list : List Turn) → AllByRecursion PrintsOneLine list → split_lines (concat (map printed list)) ≡ map printed (filter prints list)
+printed-splits : (turn : Turn) → PrintsItsLines turn → Splits (printed turn)
+printed-splits turn (inl none) = subst Splits (sym none) nothing-splits
+printed-splits turn (inr (inl line)) = subst Splits (sym line.is_line) (numbered-splits (number_of (behind turn)) line.words line.no_feed)
+printed-splits turn (inr (inr (inl lines))) =
+    subst Splits (sym lines.are_lines)
+    (both-split (numbered (number_of (behind turn)) lines.words) (audit_text lines.audit) (numbered-splits (number_of (behind turn)) lines.words lines.no_feed)
+    (line-splits (codes "AUDIT " ++ lines.audit) (feedless lines.audit lines.no_audit_feed)))
+printed-splits turn (inr (inr (inr never))) =
+    subst Splits (sym never) (line-splits (codes "NEVER " ++ decimal (number_of (behind turn))) (decimal-feedless (number_of (behind turn))))
+
+pub lines_of_turns : (list : List Turn) → AllByRecursion PrintsItsLines list → split_lines (concat (map printed list)) ≡ flat_map printed_lines list
 lines_of_turns [] h = refl
-lines_of_turns (turn ∷ list) h = one_more turn list (ended turn h.0) (lines_of_turns list h.1)
+lines_of_turns (turn ∷ list) h =
+    printed-splits turn h.0 (concat (map printed list)) ∙ ap (λ (lines : List (List ℕ)). split_lines (printed turn) ++ lines) (lines_of_turns list h.1)

@@ -7,6 +7,7 @@ use Rattle.std.proofs.Math.Nat.{mod-lt}
 use Rattle.std.proofs.lemmas.Bool.{ne_eqb, or_right}
 use Rattle.std.proofs.lemmas.Bool.Decides.{nat_tests}
 use Rattle.std.proofs.Math.Bool.{or-false}
+use Rattle.racf_profiles.specs.declared.rows.Rows.{Rows}
 use Rattle.acee.specs.declared.acee.Acee.{Acee}
 use Rattle.acee.specs.declared.request.VerifyRequest.{VerifyRequest}
 use Rattle.acee.specs.declared.request.VerifyFault.{VerifyFault}
@@ -18,9 +19,9 @@ use Rattle.request_files.specs.declared.acees.NamedAcee.{NamedAcee}
 use Rattle.request_files.specs.declared.line.LineRefusal.{LineRefusal}
 use Rattle.request_files.specs.declared.line.LineRefusal.TheVariants as fault
 use Rattle.request_files.specs.Answers as words
-use Rattle.request_files.specs.Answers.{numbered, unbuilt_words, verified_words, verify_fault_words, deleted_words, rule_words, decision_words, answer_line, never_line}
+use Rattle.request_files.specs.Answers.{numbered, verified_words, verify_fault_words, deleted_words, rule_words, decision_words, answer_line, never_line}
 use Rattle.request_files.specs.Acees.{acee_named, put_refusal}
-use Rattle.request_files.specs.Grammar.{Line, Verify, Auth, Fastauth, Delete, After, Skip, read}
+use Rattle.request_files.specs.Grammar.{Access, Line, Verify, Auth, Fastauth, Delete, After, Skip, read}
 use Rattle.request_files.specs.Worked as request
 use Rattle.racf_desk.specs.declared.outcome.IssuedCommand.{IssuedCommand}
 use Rattle.racf_desk.specs.declared.refusal.Refusal.{Refusal as OfCommand}
@@ -102,14 +103,21 @@ numbered_says n words = ap says_refused (numbered_parts n words) ∙ by_words (d
 refused_says : (n : ℕ) (words : List ℕ) → says_refused (numbered n (codes "REFUSED " ++ words)) ≡ true
 refused_says n words = numbered_says n (codes "REFUSED " ++ words)
 
-decision_starts : (rc : ℕ) (words : List ℕ) → starts_with nat_eq (((decimal rc ++ codes " ") ++ words) ++ codes "\n") (codes "REFUSED ") ≡ false
-decision_starts rc words =
-    ap (λ line. starts_with nat_eq line (codes "REFUSED ")) (numbered_parts rc words)
-    ∙ digits_not_refused (decimal rc) (words ++ codes "\n") (decimal-AllDigits rc)
+-- whatever stands behind the line
+numbered_front : (n : ℕ) (words rest : List ℕ) → numbered n words ++ rest ≡ decimal n ++ 32 ∷ ((words ++ codes "\n") ++ rest)
+numbered_front n words rest =
+    ap (λ (line : List ℕ). line ++ rest) (numbered_parts n words) ∙ append_assoc (decimal n) (32 ∷ (words ++ codes "\n")) rest
 
-decision_says : (n : ℕ) (categories : List (List ℕ)) (d : Decision) → false ≡ says_refused (answer_line n categories d)
+decision_starts : (rc : ℕ) (words rest : List ℕ) → starts_with nat_eq ((((decimal rc ++ codes " ") ++ words) ++ codes "\n") ++ rest) (codes "REFUSED ") ≡ false
+decision_starts rc words rest =
+    ap (λ line. starts_with nat_eq line (codes "REFUSED ")) (numbered_front rc words rest)
+    ∙ digits_not_refused (decimal rc) ((words ++ codes "\n") ++ rest) (decimal-AllDigits rc)
+
+decision_says : (n : ℕ) (rows : Rows) (class : List ℕ) (d : Decision) (rest : List ℕ) → false ≡ says_refused (answer_line n rows class d ++ rest)
 unfolding answer_line
-decision_says n categories d = sym (numbered_says n (decision_words categories d) ∙ decision_starts d.rc (rule_words categories d.rule d))
+decision_says n rows class d rest =
+    let words = decision_words rows class d in
+    sym (ap says_refused (numbered_front n words rest) ∙ by_words (decimal n) ((words ++ codes "\n") ++ rest) (decimal-AllDigits n) ∙ decision_starts d.rc (rule_words rows class d.rule d) rest)
 
 -- ---- requests
 
@@ -124,9 +132,6 @@ tells_either false x y p q = q
 module _ (image : Imaged) (acees : List NamedAcee) where
   tells_refused : (why : LineRefusal) → Tells (request.refused image acees why)
   tells_refused why = sym (refused_says image.generation (words.refusal_words why))
-
-  tells_unbuilt : Tells (request.unbuilt image acees)
-  tells_unbuilt = sym (numbered_says image.generation unbuilt_words)
 
   fault_says : (cause : VerifyFault) → false ≡ starts_with nat_eq (verify_fault_words cause ++ codes "\n") (codes "REFUSED ")
   fault_says verify.NotDefined = refl
@@ -146,10 +151,12 @@ module _ (image : Imaged) (acees : List NamedAcee) where
   tells_verify_unless name asked (Some why) = tells_refused why
   tells_verify_unless name asked None = tells_verify_told name (verified image.state image.generation asked)
 
-  tells_decided : (name : List ℕ) (decision_for : Acee → Decision) (acee : Option Acee) → Tells (request.decided_for image acees name decision_for acee)
-  unfolding answer_line
-  tells_decided name decision_for None = tells_refused (fault.NoAcee name)
-  tells_decided name decision_for (Some acee) = decision_says image.generation image.state.rows.options.categories (decision_for acee)
+  tells_answer : (name : List ℕ) (answer : Acee → request.Outcome) (acee : Option Acee) → ((user : Acee) → Tells (answer user)) → Tells (request.answer_for image acees name answer acee)
+  tells_answer name answer None tells = tells_refused (fault.NoAcee name)
+  tells_answer name answer (Some acee) tells = tells acee
+
+  tells_decision : (fast : Bool) (access : Access) (acee : Acee) (decision : Decision) → Tells (request.answered image acees (request.decision_text image fast access acee decision))
+  tells_decision fast access acee decision = decision_says image.generation image.state.rows access.class decision (request.audited image fast access acee decision)
 
   tells_delete : (name : List ℕ) (acee : Option Acee) → Tells (request.delete_for image acees name acee)
   tells_delete name None = tells_refused (fault.NoAcee name)
@@ -159,10 +166,11 @@ module _ (image : Imaged) (acees : List NamedAcee) where
   tells_nothing = refl
 
   tells_line : (line : Line) → Tells (request.line_worked image acees line)
-  tells_line (Verify name asked) =
-      tells_either (is_some asked.label) (request.unbuilt image acees) (request.verify_unless image acees name asked (put_refusal name acees)) tells_unbuilt (tells_verify_unless name asked (put_refusal name acees))
-  tells_line (Auth name access) = tells_decided name (request.by_auth image acees access) (acee_named name acees)
-  tells_line (Fastauth name access) = tells_decided name (request.by_fastauth image acees access) (acee_named name acees)
+  tells_line (Verify name asked) = tells_verify_unless name asked (put_refusal name acees)
+  tells_line (Auth name access) =
+      tells_answer name (request.auth_for image acees access) (acee_named name acees) (λ acee. tells_decision false access acee (request.by_auth image access acee))
+  tells_line (Fastauth name access) =
+      tells_answer name (request.fastauth_for image acees access) (acee_named name acees) (λ acee. tells_decision true access acee (request.by_fastauth image access acee))
   tells_line (Delete name) = tells_delete name (acee_named name acees)
   tells_line (After number) =
       tells_either (nat_le number image.generation) (request.answered image acees []) (request.refused_with image acees (never_line image.generation)) tells_nothing refl

@@ -1,8 +1,7 @@
--- What a reader of an output finds there: a line for each statement that prints, in the order of the statements.
-use Rattle.std.specs.Prelude.{◌≡◌, ◌⊎◌, ℕ, ◌==◌, nat_eq, Bool, not, ◌||◌, List, [], ◌∷◌, codes, if◌then◌else◌}
+-- What a reader of an output finds there: the lines that each statement prints, in the order of the statements.
+use Rattle.std.specs.Prelude.{◌≡◌, ◌⊎◌, ℕ, ◌==◌, nat_eq, Bool, ◌||◌, List, [], ◌∷◌, ◌++◌, codes, if◌then◌else◌}
 use Rattle.std.specs.List.{starts_with, onto_first}
 use Rattle.racf_outside.specs.Lines.{NoFeed}
-use Rattle.generic_names.specs.Spelled.{is_empty}
 use Rattle.request_files.specs.Answers.{numbered, never_line}
 use Rattle.racf_run.specs.declared.statement.Statement.{Statement}
 use Rattle.racf_run.specs.Stream.{State, number_of, step, text}
@@ -30,24 +29,35 @@ abbrev pub behind : Turn → State
 behind turn = step turn.item turn.before
 
 -- What is printed at a turn: nothing; or one line, whose words hold no line feed and stand behind the number of the
--- commands that have been accepted, this one counted; or that this number is never reached.
+-- commands that have been accepted, this one counted; or such a line and an AUDIT line; or that this number is never
+-- reached.
 pub record PrintsWords (turn : Turn) : Type 0 where
   pub words : List ℕ
   pub no_feed : NoFeed words
   pub is_line : printed turn ≡ numbered (number_of (behind turn)) words
 
-abbrev pub PrintsOneLine : Turn → Type 0
-PrintsOneLine turn = (printed turn ≡ []) ⊎ (PrintsWords turn ⊎ (printed turn ≡ never_line (number_of (behind turn))))
+abbrev pub audit_text : List ℕ → List ℕ
+audit_text words = codes "AUDIT " ++ words ++ codes "\n"
 
--- whether anything is printed at a turn
-abbrev pub prints : Turn → Bool
-prints turn = not (is_empty (printed turn))
+pub record PrintsAudited (turn : Turn) : Type 0 where
+  pub words : List ℕ
+  pub no_feed : NoFeed words
+  pub audit : List ℕ
+  pub no_audit_feed : NoFeed audit
+  pub are_lines : printed turn ≡ numbered (number_of (behind turn)) words ++ audit_text audit
+
+abbrev pub PrintsItsLines : Turn → Type 0
+PrintsItsLines turn = (printed turn ≡ []) ⊎ (PrintsWords turn ⊎ (PrintsAudited turn ⊎ (printed turn ≡ never_line (number_of (behind turn)))))
 
 -- the lines of an output, each with the line feed (10) that ends it
 abbrev pub split_lines : List ℕ → List (List ℕ)
 split_lines [] = []
 split_lines (byte ∷ bytes) =
     if byte == 10 then (byte ∷ []) ∷ split_lines bytes else onto_first byte (split_lines bytes)
+
+-- the lines that are printed at a turn
+abbrev pub printed_lines : Turn → List (List ℕ)
+printed_lines turn = split_lines (printed turn)
 
 -- what stands behind the first blank
 abbrev pub behind_blank : List ℕ → List ℕ

@@ -1,16 +1,15 @@
 //! Laws of the definitions, for a reader of an output. The functions do nothing: their contracts are what is proved.
 
-ghost use Rattle.std.specs.Prelude.{◌≡◌, ℕ, List, ◌∷◌, ◌++◌, map, filter, None, Some, Ok, unwrap_or, if◌then◌else◌};
+ghost use Rattle.std.specs.Prelude.{◌≡◌, ℕ, List, ◌∷◌, ◌++◌, true, false, map, None, Some, Ok, unwrap_or, if◌then◌else◌};
 ghost use Rattle.std.specs.Result.{result_ok};
-ghost use Rattle.std.specs.List.{AllByRecursion, concat, list_any};
+ghost use Rattle.std.specs.List.{AllByRecursion, concat, flat_map, list_any};
 ghost use Rattle.decision.specs.Table.{decided, fast_decided};
 ghost use Rattle.decision.specs.Verify.{verified};
 ghost use Rattle.acee.specs.declared.acee.Acee.{Acee};
 ghost use Rattle.acee.specs.declared.request.VerifyRequest.{VerifyRequest};
 ghost use Rattle.request_files.specs.Acees.{acee_named, put_refusal};
-ghost use Rattle.request_files.specs.Answers.{answer_line};
 ghost use Rattle.request_files.specs.Grammar.{Access, Auth, Fastauth, Verify, read};
-ghost use Rattle.request_files.specs.Worked.{verify_told};
+ghost use Rattle.request_files.specs.Worked.{decision_text, verify_told};
 ghost use Rattle.racf_run.specs.declared.statement.Statement.{Statement};
 ghost use Rattle.racf_run.specs.declared.statement.Statement.TheVariants.{Command, Issuer, Request};
 ghost use Rattle.racf_run.specs.declared.status.Status.TheVariants.{Done, Refusals};
@@ -19,19 +18,19 @@ ghost use Rattle.racf_run.specs.Script.{stream, script_output, script_status};
 ghost use Rattle.request_files.specs.IssuerLines.{issuer_of_line};
 ghost use Rattle.racf_run.specs.Stream.{number_of, step, answer_outcome, outcome_of};
 ghost use Rattle.racf_desk.specs.Position.{position_after};
-ghost use Rattle.racf_run.specs.Printed.{Turn, input_turns, turns, printed, behind, PrintsOneLine, prints, split_lines};
+ghost use Rattle.racf_run.specs.Printed.{Turn, input_turns, turns, printed, behind, PrintsItsLines, printed_lines, split_lines};
 ghost use Rattle.racf_run.specs.Printed.{says_refused};
 
 use command_parser::laws::{fields_of_a_text_are_lawful, one_command_is_spelled};
 
 /// The output of a whole input is what its statements print at their turns, in order. Whatever the input's bytes, each
-/// prints nothing or one line, so that the lines of the output are what is printed at the turns that print anything.
-/// The state at a statement's turn is that behind the statements before it.
-pub fn an_item_prints_one_line()
+/// prints nothing, or one line, or the line of a decision and an AUDIT line behind it, so that the lines of the output are
+/// those that are printed at the turns. The state at a statement's turn is that behind the statements before it.
+pub fn an_item_prints_its_lines()
     ensures whole { (bytes : List ℕ) → script_output bytes ≡ concat (map printed (input_turns bytes)) }
-    ensures line { (bytes : List ℕ) → AllByRecursion PrintsOneLine (input_turns bytes) }
+    ensures line { (bytes : List ℕ) → AllByRecursion PrintsItsLines (input_turns bytes) }
     ensures lines { (bytes : List ℕ) →
-        split_lines (script_output bytes) ≡ map printed (filter prints (input_turns bytes)) }
+        split_lines (script_output bytes) ≡ flat_map printed_lines (input_turns bytes) }
     ensures state { (bytes : List ℕ) (done more : List Statement) (item : Statement) → stream.items bytes ≡ done ++ item ∷ more →
         let before = after stream done stream.start in
         input_turns bytes ≡ turns done stream.start ++ record { item = item; before = before } ∷ turns more (step item before) }
@@ -40,20 +39,20 @@ pub fn an_item_prints_one_line()
     fields_of_a_text_are_lawful();
 }
 
-/// The line of an AUTH or a FASTAUTH whose ACEE is in use is the decision that the table gives for that ACEE at the
-/// position of its turn, with the number of the commands before it; that of a VERIFY that can put an ACEE is what
-/// `verified` gives there.
+/// What is printed for an AUTH or a FASTAUTH whose ACEE is in use is the decision that the table gives for that ACEE at the
+/// position of its turn, with the number of the commands before it, and its AUDIT line exactly where it is logged there;
+/// what is printed for a VERIFY that can put an ACEE is what `verified` gives there.
 pub fn requests_are_decided()
     ensures auth { (turn : Turn) (line acee : List ℕ) (access : Access) (user : Acee) → turn.item ≡ Request line →
         read line ≡ Ok (Auth acee access) → acee_named acee turn.before.acees ≡ Some user →
-        printed turn ≡ answer_line (number_of turn.before) turn.before.position.state.rows.options.categories
+        printed turn ≡ decision_text turn.before.position false access user
         (decided turn.before.position.state (number_of turn.before) user access.class access.name access.asked) }
     ensures fastauth { (turn : Turn) (line acee : List ℕ) (access : Access) (user : Acee) → turn.item ≡ Request line →
         read line ≡ Ok (Fastauth acee access) → acee_named acee turn.before.acees ≡ Some user →
-        printed turn ≡ answer_line (number_of turn.before) turn.before.position.state.rows.options.categories
+        printed turn ≡ decision_text turn.before.position true access user
         (fast_decided turn.before.position.state (number_of turn.before) user access.class access.name access.asked) }
     ensures verify { (turn : Turn) (line acee : List ℕ) (asked : VerifyRequest) → turn.item ≡ Request line →
-        read line ≡ Ok (Verify acee asked) → asked.label ≡ None → put_refusal acee turn.before.acees ≡ None →
+        read line ≡ Ok (Verify acee asked) → put_refusal acee turn.before.acees ≡ None →
         printed turn ≡ (verify_told turn.before.position turn.before.acees acee
         (verified turn.before.position.state (number_of turn.before) asked)).text }
 {}

@@ -1,10 +1,15 @@
 -- The words that are printed for a line of requests. Behind them stands a line feed, and a number in front.
 use Rattle.std.specs.Prelude.{ℕ, List, [], ◌++◌, Option, Some, None, unwrap_or, slice_get, codes, decimal}
+use Rattle.std.specs.Option.{option_map_or}
 use Rattle.access_levels.specs.Level.{level_name, port_class_name}
 use Rattle.access_levels.specs.declared.entries.Condition.{Condition}
 use Rattle.generic_names.specs.Spelled.{Spelled}
 use Rattle.generic_names.specs.declared.fault.NameFault.{NameFault}
 use Rattle.generic_names.specs.declared.fault.NameFault.TheVariants as name
+use Rattle.racf_profiles.specs.declared.profiles.Member.{Member}
+use Rattle.racf_profiles.specs.declared.rows.Rows.{Rows}
+use Rattle.racf_profiles.specs.LawfulProfiles.{member_name}
+use Rattle.raclist_image.specs.GlobalMembers.{global_members}
 use Rattle.acee.specs.declared.request.VerifyFault.{VerifyFault}
 use Rattle.acee.specs.declared.request.VerifyFault.TheVariants as verify
 use Rattle.decision.specs.declared.outcome.Decision.{Decision}
@@ -39,13 +44,6 @@ refusal_words refusal.LineTooLong = codes "LINETOOLONG"
 abbrev pub refused_words : LineRefusal → List ℕ
 refused_words refusal = codes "REFUSED " ++ refusal_words refusal
 
--- the word for what isn't built, and a line that asks for it
-abbrev pub unbuilt_word : List ℕ
-unbuilt_word = codes "NOTBUILT"
-
-abbrev pub unbuilt_words : List ℕ
-unbuilt_words = codes "REFUSED " ++ unbuilt_word
-
 -- ---- VERIFY and DELETE: the return code, and its word. Want of memory has neither, since it is answered to the caller
 
 abbrev pub verified_words : List ℕ
@@ -64,7 +62,7 @@ verify_fault_words verify.NoMemory = []
 abbrev pub deleted_words : List ℕ
 deleted_words = codes "0 DELETED"
 
--- ---- AUTH: the return code, and the rule that decided
+-- ---- AUTH and FASTAUTH: the return code, and the rule that decided
 
 -- the profile that decided
 abbrev pub profile_words : Option Spelled → List ℕ
@@ -90,36 +88,42 @@ classified_words categories (CategoryMissing number) = codes "CATEGORY " ++ cate
 classified_words categories LabelNotDominant = codes "LABEL"
 classified_words categories WriteDown = codes "WRITEDOWN"
 
--- The categories are those that were ever defined. No decision names a member of a global table yet.
-abbrev pub rule_words : (categories : List (List ℕ)) → Rule → Decision → List ℕ
-rule_words categories rule.NoClass decision = codes "NOCLASS"
-rule_words categories rule.ClassOff decision = codes "CLASSOFF"
-rule_words categories rule.NotListed decision = codes "NOTLISTED"
-rule_words categories (rule.Global place) decision = codes "GLOBAL"
-rule_words categories rule.NoProfile decision = codes "NOPROFILE"
-rule_words categories rule.ProtectAll decision = codes "PROTECTALL"
-rule_words categories (rule.Classified why) decision = codes "CLASSIFIED " ++ classified_words categories why ++ profile_words decision.profile
-rule_words categories rule.OwnData decision = codes "OWNDATA" ++ profile_words decision.profile
-rule_words categories rule.UserEntry decision = codes "USER" ++ found_words decision
-rule_words categories (rule.GroupEntry group) decision = codes "GROUP " ++ group ++ found_words decision
-rule_words categories rule.Star decision = codes "STAR" ++ found_words decision
-rule_words categories rule.Uacc decision = codes "UACC" ++ found_words decision
-rule_words categories (rule.Conditional port) decision = codes "CONDITIONAL " ++ port_words port ++ found_words decision
-rule_words categories rule.Operations decision = codes "OPERATIONS" ++ found_words decision
-rule_words categories (rule.GroupOperations group) decision = codes "GROUPOPS " ++ group ++ found_words decision
-rule_words categories rule.Warning decision = codes "WARNING" ++ found_words decision
-rule_words categories rule.Insufficient decision = codes "INSUFFICIENT" ++ found_words decision
+-- the member at that place of a global access table, as it was written, without quotes
+abbrev pub member_words : List Member → ℕ → List ℕ
+member_words members place = option_map_or member_name (slice_get members place) []
 
-abbrev pub decision_words : (categories : List (List ℕ)) → Decision → List ℕ
-decision_words categories decision = decimal decision.rc ++ codes " " ++ rule_words categories decision.rule decision
+-- The rows are those that decided: they have the categories that were ever defined, and the global access table of the
+-- class.
+module _ (rows : Rows) (class : List ℕ) where
+  abbrev pub rule_words : Rule → Decision → List ℕ
+  rule_words rule.NoClass decision = codes "NOCLASS"
+  rule_words rule.ClassOff decision = codes "CLASSOFF"
+  rule_words rule.NotListed decision = codes "NOTLISTED"
+  rule_words (rule.Global place) decision = codes "GLOBAL " ++ member_words (global_members class rows) place ++ codes " " ++ level_name decision.found
+  rule_words rule.NoProfile decision = codes "NOPROFILE"
+  rule_words rule.ProtectAll decision = codes "PROTECTALL"
+  rule_words (rule.Classified why) decision = codes "CLASSIFIED " ++ classified_words rows.options.categories why ++ profile_words decision.profile
+  rule_words rule.OwnData decision = codes "OWNDATA" ++ profile_words decision.profile
+  rule_words rule.UserEntry decision = codes "USER" ++ found_words decision
+  rule_words (rule.GroupEntry group) decision = codes "GROUP " ++ group ++ found_words decision
+  rule_words rule.Star decision = codes "STAR" ++ found_words decision
+  rule_words rule.Uacc decision = codes "UACC" ++ found_words decision
+  rule_words (rule.Conditional port) decision = codes "CONDITIONAL " ++ port_words port ++ found_words decision
+  rule_words rule.Operations decision = codes "OPERATIONS" ++ found_words decision
+  rule_words (rule.GroupOperations group) decision = codes "GROUPOPS " ++ group ++ found_words decision
+  rule_words rule.Warning decision = codes "WARNING" ++ found_words decision
+  rule_words rule.Insufficient decision = codes "INSUFFICIENT" ++ found_words decision
+
+  abbrev pub decision_words : Decision → List ℕ
+  decision_words decision = decimal decision.rc ++ codes " " ++ rule_words decision.rule decision
 
 -- ---- whole lines
 
 abbrev pub numbered : ℕ → List ℕ → List ℕ
 numbered number words = decimal number ++ codes " " ++ words ++ codes "\n"
 
-unfoldable pub answer_line : ℕ → (categories : List (List ℕ)) → Decision → List ℕ
-answer_line number categories decision = numbered number (decision_words categories decision)
+unfoldable pub answer_line : ℕ → Rows → (class : List ℕ) → Decision → List ℕ
+answer_line number rows class decision = numbered number (decision_words rows class decision)
 
 -- the number that `*AFTER` waits for never comes
 abbrev pub never_line : ℕ → List ℕ

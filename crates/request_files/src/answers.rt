@@ -1,44 +1,38 @@
 //! The words that are printed for lines.
 
 ghost use Rattle.std.specs.Prelude.{◌≡◌, ◌++◌, OnOk, OnErr, codes, decimal};
-ghost use Rattle.request_files.specs.Answers.{name_fault_words, refusal_words, verify_fault_words, profile_words, found_words, port_words, category_name, classified_words, rule_words, decision_words, answer_line, never_line, numbered, refused_words, unbuilt_word};
+ghost use Rattle.access_levels.specs.Level.{level_name};
+ghost use Rattle.request_files.specs.Answers.{name_fault_words, refusal_words, verify_fault_words, profile_words, found_words, port_words, category_name, classified_words, member_words, rule_words, decision_words, answer_line, never_line, numbered, refused_words};
 
 use crate::line::LineRefusal;
-use access_levels::{Condition, Id};
-use acee::{Acee, VerifyFault};
-use decision::{Decision, Request, Rule};
+use access_levels::{Condition, Id, Level};
+use acee::VerifyFault;
+use decision::{Decision, Rule};
 use generic_names::{NameFault, Pattern};
 use itoa::Buffer;
-use racf_profiles::Options;
+use racf_profiles::{Member, Options};
 use raclist_image::Image;
 use seclabels::Classified;
 use std::alloc::AllocError;
 
 /// Writes the answer to AUTH or FASTAUTH at the end of `out`: the number, the return code, the rule that decided, and for
-/// most rules the profile and the level that was found. The image, the ACEE and the request are those of the decision;
-/// a category is named as the image has it. Where memory is short, `out` stays as it was.
+/// most rules the profile and the level that was found. The image and the class are those of the decision: a category and
+/// a member of the class's global access table are named as the image has them. Where memory is short, `out` stays as it
+/// was.
 #[tactic(auto, unfolding(crate::specs::Answers::answer_line))]
 pub fn answer_text(
     number: u64,
     decision: &Decision,
     image: &Image,
-    _acee: &Acee,
-    _request: &Request,
+    class: Id,
     out: &mut Vec<u8>,
 ) -> Result<(), AllocError>
-    ensures text { OnOk result (out.new.items ≡ out.old.items ++ answer_line number image.now.state.rows.options.categories decision.now) }
+    ensures text { OnOk result (out.new.items ≡ out.old.items ++ answer_line number image.now.state.rows class decision.now) }
     ensures kept { OnErr result (out.new.items ≡ out.old.items) }
 {
     let mut words = Vec::new(*out.allocator());
-    write_decision(decision, image.options(), &mut words)?;
+    write_decision(decision, image, class, &mut words)?;
     write_line(number, words.as_slice(), out)
-}
-
-/// The word that is printed for what isn't built.
-pub fn unbuilt_word() -> &'static [u8]
-    ensures { result.now ≡ unbuilt_word }
-{
-    b"NOTBUILT".as_slice()
 }
 
 /// Writes a line: the number, a blank, and the words. Where memory is short, `out` stays as it was.
@@ -149,29 +143,39 @@ pub(crate) fn verify_fault_words(fault: VerifyFault) -> &'static [u8]
 /// Writes the return code of a decision, and the rule.
 fn write_decision(
     decision: &Decision,
-    options: &Options,
+    image: &Image,
+    class: Id,
     out: &mut Vec<u8>,
 ) -> Result<(), AllocError>
-    ensures { OnOk result (out.new.items ≡ out.old.items ++ decision_words options.now.categories decision.now) }
+    ensures { OnOk result (out.new.items ≡ out.old.items ++ decision_words image.now.state.rows class decision.now) }
 {
     write_number(u64::from(decision.rc), out)?;
     out.extend_from_slice(b" ")?;
-    write_rule(decision, options, out)
+    write_rule(decision, image, class, out)
 }
 
 /// Writes the rule, and what belongs to it.
-fn write_rule(decision: &Decision, options: &Options, out: &mut Vec<u8>) -> Result<(), AllocError>
-    ensures { OnOk result (out.new.items ≡ out.old.items ++ rule_words options.now.categories decision.now.rule decision.now) }
+fn write_rule(
+    decision: &Decision,
+    image: &Image,
+    class: Id,
+    out: &mut Vec<u8>,
+) -> Result<(), AllocError>
+    ensures { OnOk result (out.new.items ≡ out.old.items ++ rule_words image.now.state.rows class decision.now.rule decision.now) }
 {
     match &decision.rule {
         Rule::NoClass => out.extend_from_slice(b"NOCLASS"),
         Rule::ClassOff => out.extend_from_slice(b"CLASSOFF"),
         Rule::NotListed => out.extend_from_slice(b"NOTLISTED"),
-        Rule::Global(_) => out.extend_from_slice(b"GLOBAL"),
+        Rule::Global(place) => {
+            out.extend_from_slice(b"GLOBAL ")?;
+            write_member(image.members(class), *place, out)?;
+            write_level(decision.found, out)
+        }
         Rule::NoProfile => out.extend_from_slice(b"NOPROFILE"),
         Rule::ProtectAll => out.extend_from_slice(b"PROTECTALL"),
         Rule::Classified(why) => {
-            write_classified(*why, options, out)?;
+            write_classified(*why, image.options(), out)?;
             write_profile(&decision.profile, out)
         }
         Rule::OwnData => {
@@ -187,6 +191,19 @@ fn write_rule(decision: &Decision, options: &Options, out: &mut Vec<u8>) -> Resu
         Rule::GroupOperations(group) => write_group(b"GROUPOPS ", group, decision, out),
         Rule::Warning => write_reason(b"WARNING", decision, out),
         Rule::Insufficient => write_reason(b"INSUFFICIENT", decision, out),
+    }
+}
+
+/// Writes the member at that place of a global access table, as it was written.
+fn write_member(members: &[Member], place: usize, out: &mut Vec<u8>) -> Result<(), AllocError>
+    ensures { OnOk result (out.new.items ≡ out.old.items ++ member_words members.now place) }
+{
+    match members.get(place) {
+        None => Ok(()),
+        Some(Member::Access(resources, _)) => out.extend_from_slice(resources.text()),
+        Some(Member::SecurityLevel(name, _) | Member::Category(name)) => {
+            out.extend_from_slice(name.text())
+        }
     }
 }
 
@@ -241,8 +258,15 @@ fn write_found(decision: &Decision, out: &mut Vec<u8>) -> Result<(), AllocError>
     ensures { OnOk result (out.new.items ≡ out.old.items ++ found_words decision.now) }
 {
     write_profile(&decision.profile, out)?;
+    write_level(decision.found, out)
+}
+
+/// Writes a level.
+fn write_level(level: Level, out: &mut Vec<u8>) -> Result<(), AllocError>
+    ensures { OnOk result (out.new.items ≡ out.old.items ++ (codes " " ++ level_name level)) }
+{
     out.extend_from_slice(b" ")?;
-    out.extend_from_slice(decision.found.name())
+    out.extend_from_slice(level.name())
 }
 
 /// Writes words, and what was found.

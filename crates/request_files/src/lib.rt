@@ -23,7 +23,7 @@ mod spellings;
 mod working;
 
 pub use acees::{AceeTable, NamedAcee};
-pub use answers::{answer_text, unbuilt_word};
+pub use answers::answer_text;
 pub use issuer_line::{NamedIssuer, read_issuer};
 pub use line::{LineRefusal, RequestLine, read_line};
 pub use numbers::number_word;

@@ -4,25 +4,24 @@ ghost use Rattle.std.specs.Prelude.{◌≡◌, ◌++◌, [], true, false, not, n
 ghost use Rattle.raclist_image.specs.Imaged.{Imaged};
 ghost use Rattle.decision.specs.Verify.{verified};
 ghost use Rattle.request_files.specs.Acees.{acee_named, put_refusal, with_acee};
-ghost use Rattle.request_files.specs.Answers.{numbered, refused_words, unbuilt_words, verified_words, never_line, answer_line};
+ghost use Rattle.request_files.specs.Answers.{numbered, refused_words, verified_words, never_line, answer_line};
 ghost use Rattle.request_files.specs.Grammar.{line_of, access_of};
 ghost use Rattle.request_files.specs.Seen.{line_read};
-ghost use Rattle.request_files.specs.Worked.{Shows, Untouched, worked, line_worked, told, verify_worked, verify_told, by_auth, by_fastauth, decided_for, delete_for};
+ghost use Rattle.request_files.specs.Worked.{Shows, Untouched, worked, line_worked, told, verify_worked, verify_told, audited, decision_text, answer_for, auth_for, fastauth_for, delete_for};
 
 use crate::acees::AceeTable;
-use crate::answers::{
-    answer_text, unbuilt_word, verify_fault_words, write_line, write_never, write_refused,
-};
+use crate::answers::{answer_text, verify_fault_words, write_line, write_never, write_refused};
 use crate::line::{LineRefusal, RequestLine};
 use access_levels::Id;
 use acee::{Acee, VerifyFault, VerifyRequest};
+use audit_records::{logged, write_line as write_audit_line};
 use decision::{Decision, Request, auth, fastauth, verify};
 use raclist_image::Image;
 use std::alloc::{AllocError, Global};
 
 /// Answers a line that was read: writes its text at the end of `out`, and tells whether it was refused. VERIFY verifies a
-/// user and puts his ACEE, AUTH and FASTAUTH decide on the image, DELETE takes an ACEE out, and `*AFTER` prints only where
-/// its number isn't reached. A label on VERIFY isn't built: such lines are refused as NOTBUILT.
+/// user and puts his ACEE, AUTH and FASTAUTH decide on the image, with an AUDIT line behind the answer where the decision
+/// is logged, DELETE takes an ACEE out, and `*AFTER` prints only where its number isn't reached.
 ///
 /// # Errors
 ///
@@ -99,9 +98,6 @@ fn respond_to_verify(
     ensures worked { IfOk result (Shows (verify_worked image.now acees.old name request.now) out.old.items out.new.items acees.new) }
     ensures kept { OnErr result (Untouched out.old.items out.new.items acees.old acees.new) }
 {
-    if request.label.is_some() {
-        return not_built(image.generation(), out);
-    }
     match acees.refusal(name) {
         Some(refusal) => refuse(&refusal, image.generation(), out),
         None => respond_for_user(alloc, name, request, image, acees, out),
@@ -157,13 +153,14 @@ fn respond_to_auth(
     acees: &AceeTable,
     out: &mut Vec<u8>,
 ) -> Result<bool, AllocError>
-    ensures worked { IfOk result (Shows (decided_for image.now acees.now name (by_auth image.now acees.now (access_of request.now)) (acee_named name acees.now)) out.old.items out.new.items acees.now) }
+    ensures worked { IfOk result (Shows (answer_for image.now acees.now name (auth_for image.now acees.now (access_of request.now)) (acee_named name acees.now)) out.old.items out.new.items acees.now) }
     ensures kept { OnErr result (out.new.items ≡ out.old.items) }
 {
-    match acees.get(name) {
-        Some(acee) => answer_decision(&auth(image, acee, request), image, acee, request, out),
-        None => refuse(&LineRefusal::NoAcee(name), image.generation(), out),
-    }
+    let Some(acee) = acees.get(name) else {
+        return refuse(&LineRefusal::NoAcee(name), image.generation(), out);
+    };
+    let decision = auth(image, acee, request);
+    answer_decision(image, acee, request, false, &decision, out)
 }
 
 /// FASTAUTH.
@@ -174,29 +171,57 @@ fn respond_to_fastauth(
     acees: &AceeTable,
     out: &mut Vec<u8>,
 ) -> Result<bool, AllocError>
-    ensures worked { IfOk result (Shows (decided_for image.now acees.now name (by_fastauth image.now acees.now (access_of request.now)) (acee_named name acees.now)) out.old.items out.new.items acees.now) }
+    ensures worked { IfOk result (Shows (answer_for image.now acees.now name (fastauth_for image.now acees.now (access_of request.now)) (acee_named name acees.now)) out.old.items out.new.items acees.now) }
     ensures kept { OnErr result (out.new.items ≡ out.old.items) }
 {
-    match acees.get(name) {
-        Some(acee) => answer_decision(&fastauth(image, acee, request), image, acee, request, out),
-        None => refuse(&LineRefusal::NoAcee(name), image.generation(), out),
-    }
+    let Some(acee) = acees.get(name) else {
+        return refuse(&LineRefusal::NoAcee(name), image.generation(), out);
+    };
+    let decision = fastauth(image, acee, request);
+    answer_decision(image, acee, request, true, &decision, out)
 }
 
-/// Answers a line with a decision on the image, for this ACEE and this request.
+/// Answers a line with a decision on the image, for this ACEE and this request, and with its AUDIT line.
 fn answer_decision(
-    decision: &Decision,
     image: &Image,
     acee: &Acee,
     request: &Request,
+    fast: bool,
+    decision: &Decision,
     out: &mut Vec<u8>,
 ) -> Result<bool, AllocError>
     ensures refused { IfOk result (λ refused. refused ≡ false) }
-    ensures text { OnOk result (out.new.items ≡ out.old.items ++ answer_line image.now.generation image.now.state.rows.options.categories decision.now) }
+    ensures text { OnOk result (out.new.items ≡ out.old.items ++ decision_text image.now fast (access_of request.now) acee.now decision.now) }
     ensures kept { OnErr result (out.new.items ≡ out.old.items) }
 {
-    answer_text(image.generation(), decision, image, acee, request, out)?;
-    Ok(false)
+    let length = out.len();
+    answer_text(image.generation(), decision, image, request.class, out)?;
+    match audit(image, acee, request, fast, decision, out) {
+        Ok(()) => Ok(false),
+        Err(fault) => {
+            out.truncate(length);
+            Err(fault)
+        }
+    }
+}
+
+/// Writes the AUDIT line of a decision, where it is logged.
+#[tactic(auto, unfolding(crate::specs::Worked::audited))]
+fn audit(
+    image: &Image,
+    acee: &Acee,
+    request: &Request,
+    fast: bool,
+    decision: &Decision,
+    out: &mut Vec<u8>,
+) -> Result<(), AllocError>
+    ensures text { OnOk result (out.new.items ≡ out.old.items ++ audited image.now fast (access_of request.now) acee.now decision.now) }
+    ensures kept { OnErr result (out.new.items ≡ out.old.items) }
+{
+    if !logged(image, acee, request, fast, decision) {
+        return Ok(());
+    }
+    write_audit_line(acee, request, decision, out)
 }
 
 /// DELETE.
@@ -238,19 +263,6 @@ fn answer(words: &[u8], number: u64, out: &mut Vec<u8>) -> Result<bool, AllocErr
 {
     write_line(number, words, out)?;
     Ok(false)
-}
-
-/// Refuses a line that asks for what isn't built.
-fn not_built(number: u64, out: &mut Vec<u8>) -> Result<bool, AllocError>
-    ensures refused { IfOk result (λ refused. refused ≡ true) }
-    ensures text { OnOk result (out.new.items ≡ out.old.items ++ numbered number unbuilt_words) }
-    ensures kept { OnErr result (out.new.items ≡ out.old.items) }
-{
-    let mut words = Vec::new(*out.allocator());
-    words.extend_from_slice(b"REFUSED ")?;
-    words.extend_from_slice(unbuilt_word())?;
-    write_line(number, words.as_slice(), out)?;
-    Ok(true)
 }
 
 /// Refuses a line.

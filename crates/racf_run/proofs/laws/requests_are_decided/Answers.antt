@@ -13,4 +13,4 @@ returns-clause-fastauth c =
 
 pub returns-clause-verify : goal.returns-clause-verify
 returns-clause-verify c =
-    λ turn line acee asked is reads none free. ap (λ item. text item turn.before) is ∙ verify_text line acee asked turn.before reads none free
+    λ turn line acee asked is reads free. ap (λ item. text item turn.before) is ∙ verify_text line acee asked turn.before reads free

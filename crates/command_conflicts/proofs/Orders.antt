@@ -16,11 +16,10 @@ use Rattle.command_parser.specs.declared.fields.CommandFields.{CommandFields}
 use Rattle.command_parser.specs.declared.fields.CommandFields.TheVariants as fields
 use Rattle.command_parser.specs.declared.profile_fields.Permit.{Permit}
 use Rattle.command_effects.specs.Effects.{step}
-use Rattle.command_conflicts.specs.declared.conflict.Conflict.TheVariants.{NotBuilt, NoUser, NoGroup, NoProfile, NoClass, Exists, NotConnected, Root, Cycle, OwnerNotSuperior, NotGeneric, NotListed, ClassFixed, DefaultGroup, LastSpecial, UnknownName, Full}
+use Rattle.command_conflicts.specs.declared.conflict.Conflict.TheVariants.{NoUser, NoGroup, NoProfile, NoClass, Exists, NotConnected, Root, Cycle, OwnerNotSuperior, NotGeneric, NotListed, ClassFixed, DefaultGroup, LastSpecial, UnknownName, Full}
 use Rattle.racf_profiles.specs.Limits.{most_list_entries, most_members}
 use Rattle.command_conflicts.specs.declared.conflict.Limit.{Limit}
 use Rattle.command_conflicts.specs.declared.conflict.Limit.TheVariants.{Entries, Members}
-use Rattle.command_conflicts.specs.Unbuilt.{is_unbuilt}
 use Rattle.command_conflicts.specs.Numbers.{met, is_ascending}
 use Rattle.command_conflicts.specs.Required.{over, no_user, no_group, no_owner, no_named_group, no_class, name_taken, not_connected, default_not_connected, unknown_level, unknown_category, never_category, unknown_label}
 use Rattle.command_conflicts.specs.ProfileConflicts.{
@@ -75,7 +74,6 @@ use Rattle.command_conflicts.specs.Conflicts.{
   connect_conflicts,
   remove_conflicts,
   conflicts,
-  tests,
 }
 use Rattle.command_conflicts.proofs.Numbered.{HasNumber, AreNumbered, are_sorted, number-none, number-if_met, number-map, number-then, number-unless, met-ascending}
 
@@ -316,7 +314,7 @@ are_numbered issuer (fields.RDelete c) rows = (resource_profile-number _ _ rows,
 are_numbered issuer (fields.Permit c) rows = (permitted-number _ _ rows, (profile-number _ _ rows, (such_class-number _ rows, (standard-number issuer _ rows, (conditional-number issuer _ rows, (entries-number issuer _ rows, tt))))))
 are_numbered issuer (fields.SetRopts c) rows = (absent-number _ rows, (absent-number _ rows, (absent-number _ rows, (absent-number _ rows, (absent-number _ rows, (absent-number _ rows, (absent-number _ rows, (absent-number _ rows, (without_generic-number _, (unlisted-number _ rows, (unlisted-number _ rows, (always_active-number _, (never_listed-number _, tt)))))))))))))
 
-sorted : (command : CommandFields) → are_sorted (0 ∷ numbers_of command) ≡ true
+sorted : (command : CommandFields) → are_sorted (numbers_of command) ≡ true
 sorted (fields.AddUser c) = refl
 sorted (fields.AltUser c) = refl
 sorted (fields.DelUser c) = refl
@@ -334,5 +332,5 @@ sorted (fields.RDelete c) = refl
 sorted (fields.Permit c) = refl
 sorted (fields.SetRopts c) = refl
 
-pub tests-ascending : (issuer : Issuer) (command : CommandFields) (rows : Rows) → is_ascending (met (tests issuer command rows)) ≡ true
-tests-ascending issuer command rows = met-ascending (tests issuer command rows) (0 ∷ numbers_of command) (number-if_met (is_unbuilt command) NotBuilt, are_numbered issuer command rows) (sorted command)
+pub conflicts-ascending : (issuer : Issuer) (command : CommandFields) (rows : Rows) → is_ascending (met (conflicts issuer command rows)) ≡ true
+conflicts-ascending issuer command rows = met-ascending (conflicts issuer command rows) (numbers_of command) (are_numbered issuer command rows) (sorted command)

@@ -10,7 +10,7 @@ use Rattle.racf_profiles.specs.declared.users.Connect.{Connect as Connection}
 use Rattle.racf_profiles.specs.Lookup.{user_of, group_of, find_group}
 use Rattle.group_tree.specs.Groups.{first_subgroup}
 use Rattle.command_conflicts.specs.declared.conflict.Conflict.{Conflict}
-use Rattle.command_conflicts.specs.declared.conflict.Conflict.TheVariants.{NotBuilt, Root, InUse, Cycle, OwnerNotSuperior, DefaultGroup, LastSpecial}
+use Rattle.command_conflicts.specs.declared.conflict.Conflict.TheVariants.{Root, InUse, Cycle, OwnerNotSuperior, DefaultGroup, LastSpecial}
 use Rattle.command_conflicts.specs.declared.conflict.Holder.TheVariants.{Subgroup, Connected, Profile as ProfileOf}
 use Rattle.command_conflicts.specs.declared.conflict.Limit.TheVariants.{Users, Groups, Connections, AllConnections}
 use Rattle.command_parser.specs.declared.commands.Issuer.{Issuer}
@@ -28,7 +28,6 @@ use Rattle.class_profiles.specs.Classes.{first_under}
 use Rattle.racf_profiles.specs.Limits.{most_users, most_groups, most_connections, most_connections_in_all}
 use Rattle.racf_profiles.specs.Names.{is_connected_to, connects_of, special_users, connections}
 use Rattle.command_effects.specs.Effects.{group_or_current, new_user, new_group, altered_group, connects_after, step}
-use Rattle.command_conflicts.specs.Unbuilt.{is_unbuilt}
 use Rattle.command_conflicts.specs.Numbers.{met, is_early}
 use Rattle.command_conflicts.specs.OptionConflicts.{set_ropts_conflicts}
 use Rattle.command_conflicts.specs.ProfileConflicts.{add_sd_conflicts, alt_sd_conflicts, del_sd_conflicts, r_define_conflicts, r_alter_conflicts, r_delete_conflicts, permit_conflicts}
@@ -204,13 +203,9 @@ conflicts issuer (fields.RDelete c) rows = r_delete_conflicts c rows
 conflicts issuer (fields.Permit c) rows = permit_conflicts issuer c rows
 conflicts issuer (fields.SetRopts c) rows = set_ropts_conflicts c rows
 
--- What isn't built comes before all else.
-abbrev pub tests : Issuer → CommandFields → Rows → List (Option Conflict)
-tests issuer command rows = if_met (is_unbuilt command) NotBuilt ∷ conflicts issuer command rows
-
 abbrev pub conflict_of : Issuer → CommandFields → Rows → Option Conflict
-conflict_of issuer command rows = first_met (tests issuer command rows)
+conflict_of issuer command rows = first_met (conflicts issuer command rows)
 
 -- What is told before the issuer's authority is judged: the first conflict that is met of those that come before Root.
 abbrev pub first_conflict_of : Issuer → CommandFields → Rows → Option Conflict
-first_conflict_of issuer command rows = find is_early (met (tests issuer command rows))
+first_conflict_of issuer command rows = find is_early (met (conflicts issuer command rows))

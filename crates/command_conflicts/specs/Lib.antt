@@ -1,5 +1,4 @@
 pub mod Numbers
-pub mod Unbuilt
 pub mod Required
 pub mod ProfileConflicts
 pub mod OptionConflicts

@@ -2,10 +2,9 @@
 use Rattle.std.specs.Prelude.{ℕ, nat_le, Bool, true, ◌&&◌, List, [], ◌∷◌, Option, None, Some}
 use Rattle.std.specs.List.{list_all}
 use Rattle.command_conflicts.specs.declared.conflict.Conflict.{Conflict}
-use Rattle.command_conflicts.specs.declared.conflict.Conflict.TheVariants.{NotBuilt, NoUser, NoGroup, NoProfile, NoClass, Exists, NotConnected, Root, InUse, Cycle, OwnerNotSuperior, NotGeneric, NotListed, ClassFixed, DefaultGroup, LastSpecial, UnknownName, Full}
+use Rattle.command_conflicts.specs.declared.conflict.Conflict.TheVariants.{NoUser, NoGroup, NoProfile, NoClass, Exists, NotConnected, Root, InUse, Cycle, OwnerNotSuperior, NotGeneric, NotListed, ClassFixed, DefaultGroup, LastSpecial, UnknownName, Full}
 
 abbrev pub number_of : Conflict → ℕ
-number_of NotBuilt = 0
 number_of (NoUser id) = 1
 number_of (NoGroup id) = 2
 number_of (NoProfile class profile) = 3

@@ -17,7 +17,6 @@ mod security;
 mod users;
 
 use crate::conflict::Conflict;
-use crate::unbuilt::is_unbuilt;
 use command_effects::dataset;
 use command_parser::{
     AddGroup, AddSd, AddUser, AltGroup, AltSd, AltUser, Command, CommandFields, Connect, DelGroup,
@@ -74,11 +73,24 @@ macro_rules! first_conflict {
 pub fn check_command(tables: &RowTables, issuer: &Issuer, command: &Command) -> Result<(), Conflict>
     ensures { result_err result ≡ conflict_of issuer.now command.now tables.now.rows }
 {
-    let fields = command.fields();
-    if is_unbuilt(fields) {
-        return Err(Conflict::NotBuilt);
+    match command.fields() {
+        CommandFields::AddUser(command) => check_add_user(tables, issuer, command),
+        CommandFields::AltUser(command) => check_alt_user(tables, issuer, command),
+        CommandFields::DelUser(command) => check_del_user(tables, issuer, command),
+        CommandFields::AddGroup(command) => check_add_group(tables, issuer, command),
+        CommandFields::AltGroup(command) => check_alt_group(tables, command),
+        CommandFields::DelGroup(command) => check_del_group(tables, command),
+        CommandFields::Connect(command) => check_connect(tables, issuer, command),
+        CommandFields::Remove(command) => check_remove(tables, issuer, command),
+        CommandFields::AddSd(command) => check_add_sd(tables, issuer, command),
+        CommandFields::AltSd(command) => check_alt_sd(tables, command),
+        CommandFields::DelSd(command) => check_del_sd(tables, command),
+        CommandFields::RDefine(command) => check_r_define(tables, issuer, command),
+        CommandFields::RAlter(command) => check_r_alter(tables, issuer, command),
+        CommandFields::RDelete(command) => check_r_delete(tables, command),
+        CommandFields::Permit(command) => check_permit(tables, issuer, command),
+        CommandFields::SetRopts(command) => check_set_ropts(tables, command),
     }
-    check_fields(tables, issuer, fields)
 }
 
 /// What is told of the command before the issuer's authority is judged. It makes all tests of `check_command`.
@@ -108,30 +120,6 @@ fn unless_late(conflict: Conflict) -> Result<(), Conflict>
         return Err(conflict);
     }
     Ok(())
-}
-
-/// The conflicts of what is built.
-fn check_fields(tables: &RowTables, issuer: &Issuer, fields: &CommandFields) -> Result<(), Conflict>
-    ensures { result_err result ≡ first_met (conflicts issuer.now fields.now tables.now.rows) }
-{
-    match fields {
-        CommandFields::AddUser(command) => check_add_user(tables, issuer, command),
-        CommandFields::AltUser(command) => check_alt_user(tables, issuer, command),
-        CommandFields::DelUser(command) => check_del_user(tables, issuer, command),
-        CommandFields::AddGroup(command) => check_add_group(tables, issuer, command),
-        CommandFields::AltGroup(command) => check_alt_group(tables, command),
-        CommandFields::DelGroup(command) => check_del_group(tables, command),
-        CommandFields::Connect(command) => check_connect(tables, issuer, command),
-        CommandFields::Remove(command) => check_remove(tables, issuer, command),
-        CommandFields::AddSd(command) => check_add_sd(tables, issuer, command),
-        CommandFields::AltSd(command) => check_alt_sd(tables, command),
-        CommandFields::DelSd(command) => check_del_sd(tables, command),
-        CommandFields::RDefine(command) => check_r_define(tables, issuer, command),
-        CommandFields::RAlter(command) => check_r_alter(tables, issuer, command),
-        CommandFields::RDelete(command) => check_r_delete(tables, command),
-        CommandFields::Permit(command) => check_permit(tables, issuer, command),
-        CommandFields::SetRopts(command) => check_set_ropts(tables, command),
-    }
 }
 
 /// The tests of ADDUSER, in their order.

@@ -7,8 +7,6 @@ use generic_names::Pattern;
 /// issuer's authority was judged.
 #[derive(Clone, Copy)]
 pub enum Conflict {
-    /// The command sets a security level, a category, a label or a member, and decisions don't look at these yet.
-    NotBuilt,
     /// No user has this ID; or, of an owner, no user and no group.
     NoUser(Id),
     /// No group has this name.
@@ -54,7 +52,6 @@ impl Conflict {
         ensures { result ≡ number_of self.now }
     {
         match self {
-            Conflict::NotBuilt => 0,
             Conflict::NoUser(_) => 1,
             Conflict::NoGroup(_) => 2,
             Conflict::NoProfile(_, _) => 3,

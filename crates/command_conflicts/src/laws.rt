@@ -7,11 +7,11 @@ ghost use Rattle.racf_profiles.specs.Tree.{IsTree};
 ghost use Rattle.command_parser.specs.declared.commands.Issuer.{Issuer};
 ghost use Rattle.command_parser.specs.declared.fields.CommandFields.{CommandFields};
 ghost use Rattle.command_conflicts.specs.Numbers.{met, is_ascending, is_early};
-ghost use Rattle.command_conflicts.specs.Conflicts.{tests, conflict_of, first_conflict_of, meets};
+ghost use Rattle.command_conflicts.specs.Conflicts.{conflicts, conflict_of, first_conflict_of, meets};
 
 /// Each command's conflicts are asked in the order of their numbers.
 pub fn conflicts_are_asked_in_order()
-    ensures { (issuer : Issuer) (command : CommandFields) (rows : Rows) → is_ascending (met (tests issuer command rows)) ≡ true }
+    ensures { (issuer : Issuer) (command : CommandFields) (rows : Rows) → is_ascending (met (conflicts issuer command rows)) ≡ true }
 {}
 
 /// What is told before the issuer's authority is judged is the first conflict, where that comes before Root, and else

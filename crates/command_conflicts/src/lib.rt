@@ -17,8 +17,6 @@ mod check;
 mod conflict;
 pub mod laws;
 mod limits;
-mod unbuilt;
 
 pub use check::{check_command, check_first_command};
 pub use conflict::{Conflict, Holder, Limit, Named};
-pub use unbuilt::is_unbuilt;

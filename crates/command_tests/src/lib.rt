@@ -1,4 +1,4 @@
-//! No code, but tests: commands from their text to what their issuer lacks, and a new database.
+//! No code, but tests: commands from their text to what their issuer lacks, and databases that commands change.
 #![tactic(auto)]
 
 #[cfg(test)]
@@ -9,5 +9,7 @@ mod database_tests;
 mod grammar_tests;
 #[cfg(test)]
 mod parser_tests;
+#[cfg(test)]
+mod security_tests;
 #[cfg(test)]
 mod value_tests;

@@ -1,3 +1,4 @@
 mod WorkedRows
 mod Steps
+mod OnProfile
 mod Unclassified

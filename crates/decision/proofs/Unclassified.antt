@@ -8,7 +8,6 @@ use Rattle.racf_profiles.specs.declared.profiles.Profile.{Profile}
 use Rattle.racf_profiles.specs.State.{State}
 use Rattle.acee.specs.declared.acee.Acee.{Acee}
 use Rattle.seclabels.specs.declared.labels.Clearance.{Clearance}
-use Rattle.seclabels.specs.declared.classified.Classified.{Classified}
 use Rattle.seclabels.specs.declared.classified.Classified.TheVariants.{LevelTooLow, CategoryMissing}
 use Rattle.seclabels.specs.declared.classified.Checks.{Checks}
 use Rattle.seclabels.specs.Labels.{system_high, barred, barred_by_level}

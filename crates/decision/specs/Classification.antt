@@ -1,5 +1,5 @@
 -- Whether levels, categories or labels bar a user from what a profile protects.
-use Rattle.std.specs.Prelude.{ℕ, Option, Some, None, List, option_map, option_and_then, unwrap_or, codes, bytes_eq, if◌then◌else◌}
+use Rattle.std.specs.Prelude.{ℕ, Option, Some, List, option_map, option_and_then, unwrap_or, codes, bytes_eq, if◌then◌else◌}
 use Rattle.access_levels.specs.declared.levels.Level.{Level}
 use Rattle.generic_names.specs.Spelled.{Spelled}
 use Rattle.generic_names.specs.declared.kind.NameKind.TheVariants.{General}

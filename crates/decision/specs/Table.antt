@@ -11,12 +11,16 @@ use Rattle.access_lists.specs.declared.best.GroupEntry.{GroupEntry}
 use Rattle.access_lists.specs.Answers as lists
 use Rattle.generic_names.specs.Spelled.{Spelled, first_qualifier}
 use Rattle.racf_profiles.specs.declared.profiles.Profile.{Profile}
+use Rattle.racf_profiles.specs.declared.class_rows.ClassRow.{ClassRow}
 use Rattle.racf_profiles.specs.declared.options.Options.{Options}
 use Rattle.racf_profiles.specs.declared.rows.Rows.{Rows}
 use Rattle.racf_profiles.specs.Lookup.{class_of}
 use Rattle.racf_profiles.specs.ClassTable.{allows_operations}
 use Rattle.racf_profiles.specs.State.{State, is_listed}
+use Rattle.global_table.specs.declared.table.Grant.{Grant}
+use Rattle.global_table.specs.Grants.{granted}
 use Rattle.group_tree.specs.ScopeTest.{is_profile_in_scope}
+use Rattle.raclist_image.specs.GlobalMembers.{global_members}
 use Rattle.acee.specs.declared.acee.Acee.{Acee}
 use Rattle.acee.specs.declared.groups.AceeGroup.{AceeGroup}
 use Rattle.acee.specs.Groups.{group_names}
@@ -24,6 +28,7 @@ use Rattle.acee.specs.Verify.{is_active}
 use Rattle.seclabels.specs.declared.classified.Classified.{Classified}
 use Rattle.decision.specs.declared.outcome.Rule.{Rule}
 use Rattle.decision.specs.declared.outcome.Rule.TheVariants as rule
+use Rattle.decision.specs.declared.outcome.Audits.{Audits}
 use Rattle.decision.specs.declared.outcome.Decision.{Decision}
 use Rattle.decision.specs.declared.answer.Answer.{Answer}
 use Rattle.decision.specs.Classification.{profile_for, classified}
@@ -74,6 +79,14 @@ standing_of None None everyones = everyones
 abbrev pub standing : Options → Acee → Profile → Level
 standing options acee profile = standing_of (user_entry acee profile) (group_entry options acee profile) (everyones_level acee profile)
 
+-- The class uses its global access table.
+abbrev pub uses_global : List ℕ → Rows → Bool
+uses_global class rows = option_map_or (λ (row : ClassRow). row.global) (class_of class rows) false
+
+-- What the global access table of the class gives to the user and its current group, where that is the level asked.
+abbrev pub granted_to : Rows → Acee → (class : List ℕ) → (name : Spelled) → (asked : Level) → Option Grant
+granted_to rows acee class name asked = granted (global_members class rows) acee.user acee.current name asked
+
 -- ---- the table
 
 -- A case with its answer (its rule, its return code, and the level that it found), which it gives where it fits.
@@ -83,10 +96,6 @@ case fits rule rc found = if fits then Some record { rule = rule; rc = rc; found
 -- A case that speaks of an entry or a group fits only where there is one.
 abbrev pub with : {X : Type 0} → Option X → (X → Option Answer) → Option Answer
 with thing of_it = option_and_then of_it thing
-
--- A case that nothing can meet yet.
-abbrev pub never : Option Answer
-never = None
 
 -- The answer of the first case that fits.
 abbrev pub first_answer : List (Option Answer) → Option Answer
@@ -99,14 +108,15 @@ abbrev pub else_case : Rule → ℕ → Level → Answer
 else_case rule rc found = record { rule = rule; rc = rc; found = found }
 
 -- Before a profile is asked:
-abbrev pub cases_of_class : Rows → List ℕ → List (Option Answer)
-cases_of_class rows class =
+abbrev pub cases_of_class : Rows → Acee → (class : List ℕ) → (name : Spelled) → (asked : Level) → List (Option Answer)
+cases_of_class rows acee class name asked =
     -- 1 NOCLASS: the class isn't in the class table
     case (not (is_some (class_of class rows))) rule.NoClass 4 NoAccess
     -- 2 CLASSOFF: the class isn't active
     ∷ case (not (is_active class rows)) rule.ClassOff 4 NoAccess
-    -- 3 GLOBAL: the global access table gives the level asked. No member of it can be defined yet
-    ∷ never
+    -- 3 GLOBAL: the class has GLOBAL on, class SECLABEL isn't active, the user isn't RESTRICTED, and the most specific
+    -- covering member of the class's global table has at least the level asked
+    ∷ with (granted_to rows acee class name asked) (λ grant. case (uses_global class rows && not (is_active (codes "SECLABEL") rows) && not acee.attributes.restricted) (rule.Global grant.place) 0 grant.level)
     ∷ []
 
 -- Before a profile is asked, in FASTAUTH:
@@ -171,16 +181,24 @@ abbrev pub is_warning : Rule → Bool
 is_warning rule.Warning = true
 is_warning _ = false
 
--- The decision of an answer, on the profile of a name or without one, at a generation.
-abbrev pub decision_of : ℕ → Option Spelled → Answer → Decision
-decision_of generation profile answer = record {
+abbrev pub audits_of : Profile → Audits
+audits_of p = record { audit = p.audit; global_audit = p.global_audit }
+
+-- The decision of an answer, with the name of a profile and what that asks to be logged or with neither, at a generation.
+abbrev pub decision_with : ℕ → Option Spelled → Option Audits → Answer → Decision
+decision_with generation profile audits answer = record {
   rc = answer.rc;
   rule = answer.rule;
   profile = profile;
+  audits = audits;
   found = answer.found;
   warned = is_warning answer.rule;
   generation = generation;
 }
+
+-- It carries what its profile asks to be logged, where there is one.
+abbrev pub decision_of : ℕ → Option Profile → Answer → Decision
+decision_of generation profile answer = decision_with generation (option_map (λ (p : Profile). p.name) profile) (option_map audits_of profile) answer
 
 abbrev pub answer_without_profile : Options → List ℕ → Answer
 answer_without_profile options class = unwrap_or (first_answer (cases_without_profile options class)) no_profile
@@ -193,10 +211,10 @@ module _ (state : State) (generation : ℕ) (acee : Acee) (class : List ℕ) (na
   abbrev pub decided_after : Option Answer → (without : Answer) → Option Profile → Decision
   decided_after (Some answer) without p = decision_of generation None answer
   decided_after None without None = decision_of generation None without
-  decided_after None without (Some p) = decision_of generation (Some p.name) (answer_with_profile (classified state acee p asked) state.rows acee class name asked p)
+  decided_after None without (Some p) = decision_of generation (Some p) (answer_with_profile (classified state acee p asked) state.rows acee class name asked p)
 
   unfoldable pub decided : Decision
-  decided = decided_after (first_answer (cases_of_class state.rows class)) (answer_without_profile state.rows.options class) (profile_for state class name)
+  decided = decided_after (first_answer (cases_of_class state.rows acee class name asked)) (answer_without_profile state.rows.options class) (profile_for state class name)
 
   -- FASTAUTH asks neither the global table nor PROTECTALL.
   unfoldable pub fast_decided : Decision

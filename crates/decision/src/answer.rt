@@ -1,8 +1,8 @@
 //! What a case of the table answers.
 ghost use Rattle.std.specs.Prelude.{◌≡◌};
-ghost use Rattle.decision.specs.Table.{is_warning, decision_of, else_case};
+ghost use Rattle.decision.specs.Table.{is_warning, decision_with, else_case};
 
-use crate::outcome::{Decision, Rule};
+use crate::outcome::{Audits, Decision, Rule};
 use access_levels::Level;
 use generic_names::Pattern;
 
@@ -22,14 +22,20 @@ impl Answer {
         Answer { rule, rc: 0, found }
     }
 
-    /// The decision on the profile of a name, or without one.
-    pub(crate) fn decision(&self, profile: Option<Pattern>, generation: u64) -> Decision
-        ensures { result ≡ decision_of generation profile self.now }
+    /// The decision on the profile of a name, which asks that to be logged, or without a profile.
+    pub(crate) fn decision(
+        &self,
+        profile: Option<Pattern>,
+        audits: Option<Audits>,
+        generation: u64,
+    ) -> Decision
+        ensures { result ≡ decision_with generation profile audits self.now }
     {
         Decision {
             rc: self.rc,
             rule: self.rule,
             profile,
+            audits,
             found: self.found,
             warned: is_warning(&self.rule),
             generation,

@@ -1,9 +1,7 @@
 //! The classification check: levels, categories and labels.
-ghost use Rattle.std.specs.Prelude.{◌≡◌, true, Some, None, is_some, option_map, bytes_eq, codes};
-ghost use Rattle.std.specs.Option.{option_copied};
+ghost use Rattle.std.specs.Prelude.{◌≡◌, true, None, is_some, option_map};
 ghost use Rattle.racf_profiles.specs.declared.profiles.Profile.{Profile};
 ghost use Rattle.raclist_image.specs.Facts.{AreFacts};
-ghost use Rattle.seclabels.specs.declared.labels.Label.{Label};
 ghost use Rattle.decision.specs.Classification.{classified, label_profile, profile_label, label_value, valued, user_clearance, resource_clearance, checks};
 
 use access_levels::{Categories, Id, Level};

@@ -1,5 +1,6 @@
 //! The decision on a request: the first case of the table that fits, for AUTH and for FASTAUTH.
-ghost use Rattle.std.specs.Prelude.{◌≡◌, ◌&&◌, ◌↔◌, ℕ, List, None, IsTrue, bytes_eq, unwrap_or};
+ghost use Rattle.std.specs.Prelude.{◌≡◌, ◌&&◌, ◌↔◌, ℕ, not, List, None, IsTrue, bytes_eq, unwrap_or, codes};
+ghost use Rattle.acee.specs.Verify.{is_active};
 ghost use Rattle.generic_names.specs.Spelled.{first_qualifier};
 ghost use Rattle.racf_profiles.specs.ClassTable.{allows_operations};
 ghost use Rattle.racf_profiles.specs.declared.profiles.Profile.{Profile};
@@ -8,18 +9,19 @@ ghost use Rattle.group_tree.specs.ScopeTest.{is_profile_in_scope};
 ghost use Rattle.raclist_image.specs.Facts.{AreFacts};
 ghost use Rattle.decision.specs.Steps.{is_open};
 ghost use Rattle.decision.specs.Classification.{profile_for, classified};
-ghost use Rattle.decision.specs.Table.{decided, fast_decided, decided_after, cases_of_class, fast_cases_of_class, first_answer, case, else_case, is_dataset, answer_with_profile, answer_without_profile};
+ghost use Rattle.decision.specs.Table.{decided, fast_decided, decided_after, cases_of_class, fast_cases_of_class, first_answer, case, with, else_case, granted_to, is_dataset, answer_with_profile, answer_without_profile, audits_of};
 
 use crate::answer::Answer;
 use crate::classification::classified;
 use crate::entries::{conditional_case, entry_case, is_open, listed, standing};
 use crate::operations::{groups_are_a_tree, operations_case};
-use crate::outcome::{Decision, Rule};
+use crate::outcome::{Audits, Decision, Rule};
 use crate::request::Request;
 use access_levels::{Id, Level};
 use access_lists::Found;
-use acee::Acee;
+use acee::{Acee, is_active};
 use generic_names::{Resource, first_qualifier};
+use global_table::grants;
 use group_tree::laws::scope_is_tested;
 use racf_profiles::{FixedClass, Options, allows_operations};
 use raclist_image::{Facts, Image};
@@ -27,7 +29,8 @@ use raclist_image::{Facts, Image};
 /// Whether the user of the ACEE may have the access that is asked for (z/OS Security Server RACF Security
 /// Administrator's Guide, authorization checking), as the image has classes, profiles, groups and options.
 ///
-/// It looks for the profile once, asks each of its access lists once, and takes no memory.
+/// It goes through the global access table where the class uses it, looks for the profile once, asks each of its access
+/// lists once, and takes no memory.
 #[tactic(auto, unfolding(crate::specs::Table::decided))]
 pub fn auth(image: &Image, acee: &Acee, request: &Request) -> Decision
     ensures decided { result ≡ decided image.now.state image.now.generation acee.now request.now.class request.now.name request.now.asked }
@@ -37,8 +40,8 @@ pub fn auth(image: &Image, acee: &Acee, request: &Request) -> Decision
 {
     groups_are_a_tree(image);
     scope_is_tested();
-    if let Some(answer) = class_answer(image, request.class) {
-        return answer.decision(None, image.generation());
+    if let Some(answer) = class_answer(image, acee, request) {
+        return answer.decision(None, None, image.generation());
     }
     let without = without_profile(image.options(), request.class);
     by_profile(image, acee, request, &without)
@@ -57,7 +60,7 @@ pub fn fastauth(image: &Image, acee: &Acee, request: &Request) -> Decision
     groups_are_a_tree(image);
     scope_is_tested();
     if let Some(answer) = listed_class_answer(image, request.class) {
-        return answer.decision(None, image.generation());
+        return answer.decision(None, None, image.generation());
     }
     by_profile(image, acee, request, &undecided(Rule::NoProfile))
 }
@@ -68,26 +71,62 @@ fn by_profile(image: &Image, acee: &Acee, request: &Request, without: &Answer) -
 {
     let generation = image.generation();
     let Some(profiles) = image.effective(request.class) else {
-        return without.decision(None, generation);
+        return without.decision(None, None, generation);
     };
     match profiles.find(&request.name) {
-        None => without.decision(None, generation),
+        None => without.decision(None, None, generation),
         Some(place) => {
             let facts = profiles.facts(place);
             let answer = with_profile(image, acee, request, &facts);
-            answer.decision(Some(profiles.name(place)), generation)
+            answer.decision(
+                Some(profiles.name(place)),
+                Some(audits_of(&facts)),
+                generation,
+            )
         }
     }
 }
 
-/// The answer that comes before a profile is asked.
-fn class_answer(image: &Image, class: Id) -> Option<Answer>
-    ensures { result ≡ first_answer (cases_of_class image.now.state.rows class) }
+/// What the profile asks to be logged.
+fn audits_of(facts: &Facts<'_>) -> Audits
+    ensures { (p : Profile) → AreFacts p facts.now → result ≡ audits_of p }
 {
-    match image.class(class) {
+    Audits {
+        audit: facts.audit,
+        global_audit: facts.global_audit,
+    }
+}
+
+/// The answer that comes before a profile is asked.
+fn class_answer(image: &Image, acee: &Acee, request: &Request) -> Option<Answer>
+    ensures { result ≡ first_answer (cases_of_class image.now.state.rows acee.now request.now.class request.now.name request.now.asked) }
+{
+    match image.class(request.class) {
         None => Some(undecided(Rule::NoClass)),
         Some(flags) if !flags.active => Some(undecided(Rule::ClassOff)),
+        Some(flags) if flags.global => global_answer(image, acee, request),
         Some(_) => None,
+    }
+}
+
+/// The answer of the global access table of a class that uses it. It gives nothing to a RESTRICTED user, and nothing while
+/// labels are checked; then it is not looked up.
+fn global_answer(image: &Image, acee: &Acee, request: &Request) -> Option<Answer>
+    ensures { result ≡ with (granted_to image.now.state.rows acee.now request.now.class request.now.name request.now.asked) (λ grant. case (not (is_active (codes "SECLABEL") image.now.state.rows) && not acee.now.attributes.restricted) (Rule.Global grant.place) 0 grant.level) }
+{
+    if acee.attributes.restricted || is_active(image, FixedClass::Seclabel.id()) {
+        return None;
+    }
+    let members = image.members(request.class);
+    match grants(
+        members,
+        acee.user,
+        acee.current,
+        &request.name,
+        request.asked,
+    ) {
+        Some(grant) => Some(Answer::allowed(Rule::Global(grant.place), grant.level)),
+        None => None,
     }
 }
 

@@ -23,5 +23,5 @@ mod request;
 
 pub use decide::{auth, fastauth};
 pub use entry::verify;
-pub use outcome::{Decision, Rule};
+pub use outcome::{Audits, Decision, Rule};
 pub use request::Request;

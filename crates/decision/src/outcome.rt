@@ -1,6 +1,7 @@
 //! What is decided, and by which rule.
 use access_levels::{Condition, Id, Level};
 use generic_names::Pattern;
+use racf_profiles::AuditRule;
 use seclabels::Classified;
 
 /// The rule that decided on a request.
@@ -13,7 +14,7 @@ pub enum Rule {
     /// The class isn't RACLISTed.
     NotListed,
     /// The member at that place of the class's global table.
-    Global(u32),
+    Global(usize),
     /// No profile covers the name.
     NoProfile,
     /// No profile covers the data set, and such data sets are protected.
@@ -42,6 +43,15 @@ pub enum Rule {
     Insufficient,
 }
 
+/// What a profile asks to be logged.
+#[derive(Clone, Copy, Debug, PartialEq, Eq)]
+pub struct Audits {
+    /// Its AUDIT, which who may change the profile sets.
+    pub audit: AuditRule,
+    /// Its GLOBALAUDIT, which auditors set.
+    pub global_audit: AuditRule,
+}
+
 /// The answer to a request.
 #[derive(Clone, Copy)]
 pub struct Decision {
@@ -50,6 +60,8 @@ pub struct Decision {
     pub rule: Rule,
     /// The profile that protects the resource, where the decision got so far.
     pub profile: Option<Pattern>,
+    /// What that profile asks to be logged, where there is one.
+    pub audits: Option<Audits>,
     /// The level that the rule found: the entry's, the universal access, or the standing level.
     pub found: Level,
     /// Access is given although it would be refused.

@@ -21,7 +21,6 @@ pub(crate) fn give(
 /// The word of a conflict.
 fn conflict_word(conflict: &Conflict) -> &'static str {
     match conflict {
-        Conflict::NotBuilt => "NOTBUILT",
         Conflict::NoUser(_) => "NOUSER",
         Conflict::NoGroup(_) => "NOGROUP",
         Conflict::NoProfile(_, _) => "NOPROFILE",

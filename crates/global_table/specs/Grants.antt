@@ -10,16 +10,12 @@ use Rattle.generic_names.specs.Covers.{covers}
 use Rattle.generic_names.specs.Best.{most_specific}
 use Rattle.racf_profiles.specs.declared.profiles.Member.{Member}
 use Rattle.racf_profiles.specs.declared.profiles.Member.TheVariants.{Access, SecurityLevel, Category}
-use Rattle.global_table.specs.declared.grants.Grant.{Grant}
-
--- A member as it counts for a user: the pattern that it stands for, its level, and its place in the list.
-pub record Resolved : Type 0 where
-  pub name : Spelled
-  pub level : Level
-  pub place : ℕ
+use Rattle.global_table.specs.declared.table.Grant.{Grant}
+use Rattle.global_table.specs.declared.table.Resolved.{Resolved}
 
 -- For a user and its current group: a member counts as the pattern that it stands for, with `&RACUID` and `&RACGPID`
--- replaced; one that then has no lawful spelling drops. Levels and categories, the members of SECDATA, give no access.
+-- replaced, its level, and its place in the table; one that then has no lawful spelling drops. Levels and categories,
+-- the members of SECDATA, give no access.
 module _ (user group : List ℕ) where
   abbrev pub resolved : (place : ℕ) → Member → Option Resolved
   resolved place (Access name level) = option_map (λ pattern. record { name = pattern; level = level; place = place }) (resolve name user group)
@@ -48,8 +44,8 @@ is_same_kind General General = true
 abbrev pub covers_name : Spelled → Resolved → Bool
 covers_name name member = is_same_kind member.name.kind name.kind && covers member.name name
 
--- The most specific of the members that cover the name decides alone, though a less specific one would suffice; of equal
--- ones the first.
+-- The most specific of the members that cover the name decides alone, though a less specific one would suffice; of
+-- equal ones the first.
 abbrev pub deciding : List Resolved → Spelled → Option Resolved
 deciding members name = most_specific (λ member. member.name) (filter (covers_name name) members)
 

@@ -1,9 +1,9 @@
 //! The global access table: what everyone may do, before any profile is asked.
 //!
-//! A class has a table of members, each the name of resources, in which a qualifier may stand for the user or his group,
-//! and the level that everyone has to them. [`grants`] tells which member gives a user the access that he asks for, a
-//! [`Grant`]. Names and what they cover are those of `generic_names`, and members are rows of `racf_profiles`; `decision`
-//! asks it for a class whose table is on. Nothing here takes memory.
+//! A class has a table of members, each the name of resources, in which a qualifier may stand for the user or his
+//! group, and the level that everyone has to them. [`grants`] tells which member gives a user the access that he asks
+//! for, a [`Grant`]. Names and what they cover are those of `generic_names`, and members are rows of `racf_profiles`;
+//! `decision` asks it for a class whose table is on. Nothing here takes memory.
 //!
 //! ```
 //! // the table of DATASET: SYS1.HELP/READ and &RACUID.**/ALTER
@@ -12,6 +12,6 @@
 //! ```
 #![tactic(auto)]
 
-mod grants;
+mod table;
 
-pub use grants::{Grant, grants};
+pub use table::{Grant, grants};

@@ -1,5 +1,5 @@
 -- Each command that meets no conflict leaves lawful rows.
-use Rattle.std.proofs.Common.{◌≡◌, Bool, true, false, List, ◌∷◌, Option, None}
+use Rattle.std.proofs.Common.{◌≡◌, None}
 use Rattle.generic_names.specs.Laws.{OneIsBefore, PassedOn, ReadsBack}
 use Rattle.racf_profiles.specs.declared.rows.Rows.{Rows}
 use Rattle.racf_profiles.specs.Lawful.{AreLawful}
@@ -9,10 +9,7 @@ use Rattle.command_parser.specs.declared.fields.CommandFields.TheVariants as com
 use Rattle.command_parser.specs.LawfulFields.{AreLawfulFields}
 use Rattle.command_effects.specs.ProfileEffects.{dataset}
 use Rattle.command_effects.specs.Effects.{step}
-use Rattle.command_conflicts.specs.declared.conflict.Conflict.{Conflict}
-use Rattle.command_conflicts.specs.declared.conflict.Conflict.TheVariants.{NotBuilt}
-use Rattle.command_conflicts.specs.Unbuilt.{is_unbuilt}
-use Rattle.command_conflicts.specs.Conflicts.{if_met, first_met, conflicts, conflict_of}
+use Rattle.command_conflicts.specs.Conflicts.{conflict_of}
 use Rattle.lawful_commands.proofs.FieldFacts.{name-lawful, clauth-lawful, audit-lawful, data_set-lawful, class_profile-lawful, class_profile-spelled, members-lawful}
 use Rattle.lawful_commands.proofs.UserCommands.{add_user-lawful, alt_user-lawful, del_user-lawful, connect-lawful, remove-lawful}
 use Rattle.lawful_commands.proofs.GroupCommands.{add_group-lawful, alt_group-lawful, del_group-lawful}
@@ -20,34 +17,26 @@ use Rattle.lawful_commands.proofs.ProfileRows.{PutsAreCounted, profile-dropped-l
 use Rattle.lawful_commands.proofs.OptionCommands.{set_ropts-lawful}
 use Rattle.lawful_commands.proofs.ProfileCommands.{add_sd-lawful, alt_sd-lawful, r_define-lawful, r_alter-lawful, permit-lawful}
 
--- the tests behind the first one
-pub behind : (met : Bool) (tests : List (Option Conflict)) → first_met (if_met met NotBuilt ∷ tests) ≡ None → first_met tests ≡ None
-behind true tests h = cc
-behind false tests h = h
-
 module _ (one : OneIsBefore) (puts : PutsAreCounted) (passed_on : PassedOn) (reads_back : ReadsBack) where
-  unconflicted : (issuer : Issuer) (c : CommandFields) (rows : Rows) → AreLawful rows → AreLawfulFields c → first_met (conflicts issuer c rows) ≡ None → AreLawful (step issuer c rows)
-  unconflicted issuer (command.AddUser c) rows lawful f h = add_user-lawful issuer c rows lawful (name-lawful c.name f.name) (clauth-lawful c.clauth f.clauth) h
-  unconflicted issuer (command.AltUser c) rows lawful f h = alt_user-lawful issuer c rows lawful (name-lawful c.name f.name) (clauth-lawful c.clauth f.clauth) h
-  unconflicted issuer (command.DelUser c) rows lawful f h = del_user-lawful issuer c rows lawful h
-  unconflicted issuer (command.AddGroup c) rows lawful f h = add_group-lawful issuer c rows lawful h f.group
-  unconflicted issuer (command.AltGroup c) rows lawful f h = alt_group-lawful issuer c rows lawful h
-  unconflicted issuer (command.DelGroup c) rows lawful f h = del_group-lawful issuer c rows lawful h
-  unconflicted issuer (command.Connect c) rows lawful f h = connect-lawful issuer c rows lawful h
-  unconflicted issuer (command.Remove c) rows lawful f h = remove-lawful issuer c rows lawful h
-  unconflicted issuer (command.AddSd c) rows lawful f h =
+  pub step-lawful : (issuer : Issuer) (c : CommandFields) (rows : Rows) → AreLawful rows → AreLawfulFields c → conflict_of issuer c rows ≡ None → AreLawful (step issuer c rows)
+  step-lawful issuer (command.AddUser c) rows lawful f h = add_user-lawful issuer c rows lawful (name-lawful c.name f.name) (clauth-lawful c.clauth f.clauth) h
+  step-lawful issuer (command.AltUser c) rows lawful f h = alt_user-lawful issuer c rows lawful (name-lawful c.name f.name) (clauth-lawful c.clauth f.clauth) h
+  step-lawful issuer (command.DelUser c) rows lawful f h = del_user-lawful issuer c rows lawful h
+  step-lawful issuer (command.AddGroup c) rows lawful f h = add_group-lawful issuer c rows lawful h f.group
+  step-lawful issuer (command.AltGroup c) rows lawful f h = alt_group-lawful issuer c rows lawful h
+  step-lawful issuer (command.DelGroup c) rows lawful f h = del_group-lawful issuer c rows lawful h
+  step-lawful issuer (command.Connect c) rows lawful f h = connect-lawful issuer c rows lawful h
+  step-lawful issuer (command.Remove c) rows lawful f h = remove-lawful issuer c rows lawful h
+  step-lawful issuer (command.AddSd c) rows lawful f h =
       let name = data_set-lawful reads_back c.profile f.profile in
       add_sd-lawful one puts passed_on issuer c rows lawful name.0 name.1 name.2 (audit-lawful c.audit f.audit) h
-  unconflicted issuer (command.AltSd c) rows lawful f h = alt_sd-lawful one puts passed_on issuer c rows lawful (audit-lawful c.audit f.audit) (audit-lawful c.globalaudit f.globalaudit)
-  unconflicted issuer (command.DelSd c) rows lawful f h = profile-dropped-lawful one puts passed_on rows dataset c.profile lawful
-  unconflicted issuer (command.RDefine c) rows lawful f h =
+  step-lawful issuer (command.AltSd c) rows lawful f h = alt_sd-lawful one puts passed_on issuer c rows lawful (audit-lawful c.audit f.audit) (audit-lawful c.globalaudit f.globalaudit)
+  step-lawful issuer (command.DelSd c) rows lawful f h = profile-dropped-lawful one puts passed_on rows dataset c.profile lawful
+  step-lawful issuer (command.RDefine c) rows lawful f h =
       let name = class_profile-lawful c.class c.profile f.profile reads_back in
       r_define-lawful one puts passed_on issuer c rows lawful name.0 name.1 (class_profile-spelled c.class c.profile f.profile) (audit-lawful c.audit f.audit) (members-lawful c.class c.profile f.profile c.addmem f.addmem) h
-  unconflicted issuer (command.RAlter c) rows lawful f h =
+  step-lawful issuer (command.RAlter c) rows lawful f h =
       r_alter-lawful one puts passed_on issuer c rows lawful (audit-lawful c.audit f.audit) (audit-lawful c.globalaudit f.globalaudit) (members-lawful c.class c.profile f.profile c.addmem f.addmem) h
-  unconflicted issuer (command.RDelete c) rows lawful f h = profile-dropped-lawful one puts passed_on rows c.class c.profile lawful
-  unconflicted issuer (command.Permit c) rows lawful f h = permit-lawful one puts passed_on issuer c rows lawful h
-  unconflicted issuer (command.SetRopts c) rows lawful f h = set_ropts-lawful c rows h lawful
-
-  pub step-lawful : (issuer : Issuer) (c : CommandFields) (rows : Rows) → AreLawful rows → AreLawfulFields c → conflict_of issuer c rows ≡ None → AreLawful (step issuer c rows)
-  step-lawful issuer c rows lawful f h = unconflicted issuer c rows lawful f (behind (is_unbuilt c) (conflicts issuer c rows) h)
+  step-lawful issuer (command.RDelete c) rows lawful f h = profile-dropped-lawful one puts passed_on rows c.class c.profile lawful
+  step-lawful issuer (command.Permit c) rows lawful f h = permit-lawful one puts passed_on issuer c rows lawful h
+  step-lawful issuer (command.SetRopts c) rows lawful f h = set_ropts-lawful c rows h lawful

@@ -3,7 +3,8 @@ use Rattle.std.proofs.Common.{◌≡◌, ℕ, true, false, List, [], ◌∷◌, 
 use Rattle.racf_profiles.specs.declared.rows.Rows.{Rows}
 use Rattle.racf_profiles.specs.NewDatabase.{new_rows}
 use Rattle.command_conflicts.specs.declared.conflict.Conflict.{Conflict}
-use Rattle.command_conflicts.specs.declared.conflict.Conflict.TheVariants.{NotBuilt, Root, InUse, Cycle, DefaultGroup}
+use Rattle.command_conflicts.specs.declared.conflict.Conflict.TheVariants.{Exists, Root, InUse, Cycle, DefaultGroup, UnknownName}
+use Rattle.command_conflicts.specs.declared.conflict.Named.TheVariants as named
 use Rattle.command_conflicts.specs.declared.conflict.Holder.TheVariants.{Subgroup, Connected}
 use Rattle.command_parser.specs.declared.commands.Issuer.{Issuer}
 use Rattle.command_parser.specs.declared.fields.AddUser.{AddUser}
@@ -70,6 +71,9 @@ groups_come_and_go : outcomes (ag (codes "A") None (Some (codes "SYS1")) ∷ ag 
 unfolding no_user no_owner no_group no_named_group no_class name_taken not_connected default_not_connected has_subgroup has_connected has_profile cycle owner_not_superior default_group last_special unknown_level unknown_category never_category unknown_label is_root meets users_full groups_full connections_full user_full add_user_conflicts alt_user_conflicts del_user_conflicts add_group_conflicts alt_group_conflicts del_group_conflicts connect_conflicts remove_conflicts
 groups_come_and_go = refl
 
--- AU SYS1 SECLEVEL(TOP): what isn't built comes before all else
-not_built : conflict_of ibm (fields.AddUser (record (add_user (codes "SYS1")) { seclevel = Some (codes "TOP") })) start ≡ Some NotBuilt
-not_built = refl
+-- AU SYS1 SECLEVEL(TOP) | AU JOE SECLEVEL(TOP) ADDCATEGORY(RED) SECLABEL(A) | AU JOE ADDCATEGORY(BLUE RED)
+-- AU JOE SECLABEL(A) | AU JOE SECLABEL(SYSLOW) | ALU JOE DELCATEGORY(RED)
+unknown_names : outcomes (fields.AddUser (record (add_user (codes "SYS1")) { seclevel = Some (codes "TOP") }) ∷ fields.AddUser (record (add_user (codes "JOE")) { seclevel = Some (codes "TOP"); addcategory = codes "RED" ∷ []; seclabel = Some (codes "A") }) ∷ fields.AddUser (record (add_user (codes "JOE")) { addcategory = codes "BLUE" ∷ codes "RED" ∷ [] }) ∷ fields.AddUser (record (add_user (codes "JOE")) { seclabel = Some (codes "A") }) ∷ fields.AddUser (record (add_user (codes "JOE")) { seclabel = Some (codes "SYSLOW") }) ∷ fields.AltUser (record (alt_user (codes "JOE")) { delcategory = codes "RED" ∷ [] }) ∷ []) start
+    ≡ Some (Exists (named.Id (codes "SYS1"))) ∷ Some (UnknownName (codes "TOP")) ∷ Some (UnknownName (codes "BLUE")) ∷ Some (UnknownName (codes "A")) ∷ None ∷ Some (UnknownName (codes "RED")) ∷ []
+unfolding no_user no_owner no_group no_named_group no_class name_taken not_connected default_not_connected last_special unknown_level unknown_category never_category unknown_label users_full connections_full user_full add_user_conflicts alt_user_conflicts
+unknown_names = refl

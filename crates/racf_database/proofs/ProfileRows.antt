@@ -9,6 +9,7 @@ use Rattle.access_levels.specs.declared.entries.PortClass.TheVariants.{Terminal}
 use Rattle.generic_names.specs.declared.kind.NameKind.TheVariants.{DataSet, General}
 use Rattle.generic_names.specs.Spelled.{Spelled}
 use Rattle.racf_profiles.specs.declared.profiles.Profile.{Profile}
+use Rattle.racf_profiles.specs.declared.profiles.Member.{Member}
 use Rattle.racf_profiles.specs.declared.profiles.Member.TheVariants as member
 use Rattle.racf_profiles.specs.declared.rows.Rows.{Rows}
 use Rattle.racf_profiles.specs.NewDatabase.{new_rows}
@@ -25,6 +26,7 @@ use Rattle.command_conflicts.specs.declared.conflict.Named.TheVariants as named
 use Rattle.command_conflicts.specs.declared.conflict.Holder.TheVariants as holder
 use Rattle.command_effects.specs.ProfileEffects.{dataset, new_data_set, altered_data_set, after_add_sd, after_r_define, after_r_alter}
 use Rattle.command_effects.specs.PermitEffects.{permitted_profile}
+use Rattle.command_effects.specs.Members.{members_after}
 use Rattle.command_conflicts.specs.Required.{first_met, no_owner, unknown_level, unknown_category, never_category, unknown_label}
 use Rattle.command_conflicts.specs.Conflicts.{has_profile}
 use Rattle.command_conflicts.specs.ProfileConflicts.{profiles_in, no_first_qualifier, no_permitted, no_such_class, no_resource_class, no_resource_profile, no_global_class, no_profile, profile_taken, not_generic, class_profiles_full, profiles_full, standard_full, conditional_full, entries_full, members_full, categories_full, add_sd_conflicts, add_sd_requirements, add_sd_limits, alt_sd_conflicts, r_define_conflicts, r_define_requirements, r_define_limits, r_alter_conflicts, r_delete_conflicts, permit_conflicts}
@@ -148,3 +150,49 @@ conditional = refl
 members_rows : (after_r_alter (record (r_alter (codes "SECDATA") (codes "CATEGORY")) { addmem = member.Category (codes "RED") ∷ member.Category (codes "BLUE") ∷ member.Category (codes "RED") ∷ []; delmem = general (codes "GREEN") ∷ [] })
     (after_r_define ibm (record (r_define (codes "SECDATA") (codes "CATEGORY")) { addmem = member.Category (codes "GREEN") ∷ [] }) start)).options.categories ≡ codes "GREEN" ∷ codes "RED" ∷ codes "BLUE" ∷ []
 members_rows = refl
+
+-- ---- levels, categories and labels that commands define
+-- RDEF FACILITY F | RDEF SECDATA SECLEVEL ADDMEM(LOW/10 TOP/200) | RDEF SECDATA CATEGORY ADDMEM(RED BLUE) |
+-- RDEF SECLABEL A | RALT SECDATA CATEGORY DELMEM(RED)
+abbrev named_levels : Rows
+named_levels =
+    after_r_alter (record (r_alter (codes "SECDATA") (codes "CATEGORY")) { delmem = general (codes "RED") ∷ [] })
+    (after_r_define ibm (r_define (codes "SECLABEL") (codes "A"))
+    (after_r_define ibm (record (r_define (codes "SECDATA") (codes "CATEGORY")) { addmem = member.Category (codes "RED") ∷ member.Category (codes "BLUE") ∷ [] })
+    (after_r_define ibm (record (r_define (codes "SECDATA") (codes "SECLEVEL")) { addmem = member.SecurityLevel (codes "LOW") 10 ∷ member.SecurityLevel (codes "TOP") 200 ∷ [] })
+    (after_r_define ibm (r_define (codes "FACILITY") (codes "F")) start))))
+
+-- RALT FACILITY F, with SECLEVEL(TOP) ADDCATEGORY(BLUE) DELCATEGORY(RED) SECLABEL(A) | ADDCATEGORY(RED) |
+-- DELCATEGORY(BLUE PINK) | SECLEVEL(MID) | SECLABEL(B)
+named_rows : map (λ (c : RAlter). first_met (r_alter_conflicts ibm c named_levels))
+    (record (r_alter (codes "FACILITY") (codes "F")) { seclevel = Some (codes "TOP"); addcategory = codes "BLUE" ∷ []; delcategory = codes "RED" ∷ []; seclabel = Some (codes "A") } ∷ record (r_alter (codes "FACILITY") (codes "F")) { addcategory = codes "RED" ∷ [] } ∷ record (r_alter (codes "FACILITY") (codes "F")) { delcategory = codes "BLUE" ∷ codes "PINK" ∷ [] } ∷ record (r_alter (codes "FACILITY") (codes "F")) { seclevel = Some (codes "MID") } ∷ record (r_alter (codes "FACILITY") (codes "F")) { seclabel = Some (codes "B") } ∷ [])
+    ≡ None ∷ Some (UnknownName (codes "RED")) ∷ Some (UnknownName (codes "PINK")) ∷ Some (UnknownName (codes "MID")) ∷ Some (UnknownName (codes "B")) ∷ []
+unfolding no_owner unknown_level unknown_category never_category unknown_label no_resource_class no_resource_profile no_profile members_full categories_full r_alter_conflicts
+named_rows = refl
+
+-- RALT SECDATA CATEGORY ADDMEM(GREEN) ADDCATEGORY(GREEN): a category that the command itself defines
+named_at_once : first_met (r_alter_conflicts ibm (record (r_alter (codes "SECDATA") (codes "CATEGORY")) { addmem = member.Category (codes "GREEN") ∷ []; addcategory = codes "GREEN" ∷ [] }) named_levels) ≡ Some (UnknownName (codes "GREEN"))
+unfolding no_owner unknown_level unknown_category never_category unknown_label no_resource_class no_resource_profile no_profile members_full categories_full r_alter_conflicts
+named_at_once = refl
+
+-- AD 'SYS1.A' SECLEVEL(LOW) ADDCATEGORY(BLUE) SECLABEL(A): BLUE is the second that was ever defined
+classified : new_data_set ibm (record (add_sd (codes "SYS1.A")) { seclevel = Some (codes "LOW"); addcategory = codes "BLUE" ∷ []; seclabel = Some (codes "A") }) named_levels ≡ record first { level = 10; categories = 2; label = Some (codes "A") }
+classified = refl
+
+-- ALD 'SYS1.A' DELCATEGORY(BLUE) ADDCATEGORY(BLUE) NOSECLEVEL, of that profile
+classified_again : altered_data_set (record (alt_sd (codes "SYS1.A")) { addcategory = codes "BLUE" ∷ []; delcategory = codes "BLUE" ∷ []; noseclevel = true; noseclabel = true }) named_levels (record first { level = 10; label = Some (codes "A") }) ≡ record first { categories = 2 }
+classified_again = refl
+
+-- Of a GLOBAL table with A.* at READ, A.** at UPDATE and B at NONE: DELMEM(A.*) ADDMEM(B/READ C/ALTER), and DELMEM(B)
+-- ADDMEM(B/READ)
+abbrev access : List ℕ → Level → Member
+access name level = member.Access (general name) level
+
+abbrev table : List Member
+table = access (codes "A.*") Read ∷ access (codes "A.**") Update ∷ access (codes "B") NoAccess ∷ []
+
+one_spelling_goes : members_after (access (codes "B") Read ∷ access (codes "C") Alter ∷ []) (general (codes "A.*") ∷ []) table ≡ access (codes "A.**") Update ∷ access (codes "B") Read ∷ access (codes "C") Alter ∷ []
+one_spelling_goes = refl
+
+goes_before_it_comes : members_after (access (codes "B") Read ∷ []) (general (codes "B") ∷ []) table ≡ access (codes "A.*") Read ∷ access (codes "A.**") Update ∷ access (codes "B") Read ∷ []
+goes_before_it_comes = refl

@@ -82,9 +82,10 @@ issuer_rows = refl
 order_rows : told (record first_position { generation = 2 ^ 62 }) (
     by (codes "IBMUSER") (codes "AU IBMUSER")
     ∷ by (codes "IBMUSER") (codes "DG SYS1")
+    ∷ by (codes "IBMUSER") (codes "AU JOE SECLEVEL(TOP)")
     ∷ by (codes "IBMUSER") (codes "AU JOE")
     ∷ [])
-    ≡ codes "EXISTS IBMUSER" ∷ codes "ROOT" ∷ codes "NUMBERSPENT" ∷ []
+    ≡ codes "EXISTS IBMUSER" ∷ codes "ROOT" ∷ codes "UNKNOWNNAME TOP" ∷ codes "NUMBERSPENT" ∷ []
 unfolding canon form_in parsed front behind command_of tokens is_root has_subgroup has_connected has_profile meets cycle owner_not_superior default_group last_special users_full groups_full connections_full user_full add_user_conflicts alt_user_conflicts del_user_conflicts add_group_conflicts alt_group_conflicts del_group_conflicts connect_conflicts remove_conflicts no_user no_group no_owner no_named_group no_class name_taken not_connected default_not_connected unknown_level unknown_category never_category unknown_label add_user_requirements alt_user_requirements add_group_requirements alt_group_requirements del_group_requirements connect_requirements remove_requirements is_met need outcome_in
 order_rows = refl
 

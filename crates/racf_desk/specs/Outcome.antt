@@ -1,6 +1,6 @@
 -- The outcome of a command at a position: the command that is accepted, or why it is refused. The tests stand in their
 -- order, and the first that refuses the command decides:
---   1. the text spells no command, or one of which something isn't built yet;
+--   1. the text spells no command;
 --   2. the issuer is unknown, revoked, or not connected to his current group;
 --   3. the command conflicts with the rows, of the conflicts that come before Root;
 --   4. the issuer lacks authority;
@@ -15,8 +15,6 @@ use Rattle.command_parser.specs.declared.commands.Issuer.{Issuer}
 use Rattle.command_parser.specs.declared.fields.CommandFields.{CommandFields}
 use Rattle.command_parser.specs.Canonical.{fault}
 use Rattle.command_parser.specs.CommandOf.{command_in}
-use Rattle.command_conflicts.specs.declared.conflict.Conflict.TheVariants.{NotBuilt}
-use Rattle.command_conflicts.specs.Unbuilt.{is_unbuilt}
 use Rattle.command_conflicts.specs.Conflicts.{conflict_of, first_conflict_of}
 use Rattle.command_authority.specs.Authority.{need}
 use Rattle.racf_desk.specs.declared.refusal.Refusal.{Refusal}
@@ -42,13 +40,6 @@ found_command None fault = Err (refusal.Syntax (unwrap_or fault UnknownCommand))
 abbrev pub command_of_text : List ℕ → List ℕ → Result CommandFields Refusal
 command_of_text id text = found_command (command_in id text) (fault id text)
 
--- What isn't built yet is told before all else that may be wrong with a command.
-abbrev pub unless_unbuilt : CommandFields → Result CommandFields Refusal
-unless_unbuilt command = if is_unbuilt command then Err (refusal.Conflict NotBuilt) else Ok command
-
-abbrev pub built_command : List ℕ → List ℕ → Result CommandFields Refusal
-built_command id text = unless_refused (command_of_text id text) unless_unbuilt
-
 -- 3 to 6. The refusal of a command that this issuer gives.
 abbrev pub first_of : {X : Type 0} → List (Option X) → Option X
 first_of [] = None
@@ -73,7 +64,7 @@ unless_met (Some why) issuer command = Err why
 -- The issuer is named by his ID, and by a group where one was named with it.
 unfoldable pub outcome_in : ℕ → Rows → List ℕ → Option (List ℕ) → List ℕ → Result IssuedCommand Refusal
 outcome_in number rows id group text =
-    unless_refused (built_command id text) (λ command.
+    unless_refused (command_of_text id text) (λ command.
     unless_refused (issuer_of rows id group) (λ issuer.
     unless_met (first_of (tests_of number rows issuer command)) issuer command))
 

@@ -14,7 +14,6 @@ use Rattle.command_conflicts.specs.declared.conflict.Limit.{Limit}
 use Rattle.command_conflicts.specs.declared.conflict.Limit.TheVariants as kind
 use Rattle.command_authority.specs.declared.needs.Need.{Need}
 use Rattle.command_authority.specs.declared.needs.Need.TheVariants as need
-use Rattle.request_files.specs.Answers.{unbuilt_word}
 use Rattle.racf_desk.specs.declared.refusal.Refusal.{Refusal}
 use Rattle.racf_desk.specs.declared.refusal.Refusal.TheVariants as refusal
 
@@ -56,7 +55,6 @@ kind_words kind.Categories = codes "CATEGORIES"
 
 -- what a command conflicts with
 abbrev pub conflict_words : Conflict → List ℕ
-conflict_words conflict.NotBuilt = unbuilt_word
 conflict_words (conflict.NoUser id) = codes "NOUSER " ++ id
 conflict_words (conflict.NoGroup id) = codes "NOGROUP " ++ id
 conflict_words (conflict.NoProfile class profile) = codes "NOPROFILE " ++ class ++ codes " " ++ profile.text

@@ -6,10 +6,9 @@ use crate::issuers::issuer_of;
 use crate::refusal::Refusal;
 use access_levels::Id;
 use command_authority::authorised;
-use command_conflicts::is_unbuilt;
 use command_parser::laws::one_command_is_spelled;
 use command_parser::{Command, Issuer, ParseFault, parse};
-use racf_database::{Conflict, Database};
+use racf_database::Database;
 use racf_profiles::NoMemory;
 use std::alloc::{AllocError, Global};
 
@@ -38,9 +37,6 @@ pub(crate) fn outcome_in(
     ensures accepted { IfOk result (λ outcome. IfOk outcome (λ issued. first_of (tests_of number database.now.rows issued.issuer issued.command) ≡ None)) }
 {
     let command = match command_of_text(alloc, id, text)? {
-        Ok(command) if is_unbuilt(command.fields()) => {
-            return Ok(Err(Refusal::Conflict(Conflict::NotBuilt)));
-        }
         Ok(command) => command,
         Err(why) => return Ok(Err(why)),
     };

@@ -7,7 +7,6 @@ use command_authority::{Need, Needs};
 use command_parser::Syntax;
 use itoa::Buffer;
 use racf_database::{Conflict, Holder, Limit, Named};
-use request_files::unbuilt_word;
 use std::alloc::AllocError;
 
 /// Writes the words of the first fault of a command's text at the end of `out`.
@@ -35,7 +34,6 @@ pub(crate) fn write_conflict(conflict: &Conflict, out: &mut Vec<u8>) -> Result<(
     ensures { OnOk result (out.new.items ≡ out.old.items ++ conflict_words conflict.now) }
 {
     match conflict {
-        Conflict::NotBuilt => out.extend_from_slice(unbuilt_word()),
         Conflict::NoUser(id) => write_name(b"NOUSER ", id.text(), out),
         Conflict::NoGroup(id) => write_name(b"NOGROUP ", id.text(), out),
         Conflict::NoProfile(class, profile) => {

@@ -10,10 +10,8 @@ use Rattle.command_parser.specs.LawfulFields.{AreLawfulFields}
 use Rattle.command_parser.specs.declared.fields.CommandFields.{CommandFields}
 use Rattle.command_parser.specs.declared.fields.CommandFields.TheVariants as command
 use Rattle.command_effects.specs.Edits.{edits_of}
-use Rattle.command_conflicts.specs.Unbuilt.{is_unbuilt}
-use Rattle.command_conflicts.specs.Conflicts.{conflict_of, conflicts, first_met}
+use Rattle.command_conflicts.specs.Conflicts.{conflict_of}
 use Rattle.lawful_commands.proofs.ProfileRows.{PutsAreCounted}
-use Rattle.lawful_commands.proofs.EachCommand.{behind}
 use Rattle.racf_database.proofs.StepLaws.{changed-edits_of}
 use Rattle.racf_database.proofs.EachReady.{can_apply-edits_of, permit-fits}
 use Rattle.racf_database.proofs.database.Database.prepare.Goals as goal
@@ -26,8 +24,8 @@ edits_of-requires c permit is =
     let order = c.order_is_total.ensures in
     let puts : PutsAreCounted = record { length = c.puts_are_counted.ensures.length; profiles = c.puts_are_counted.ensures.profiles; entries = c.puts_are_counted.ensures.entries } in
     let free : conflict_of issuer c.args.command.now rows ≡ None = ap (λ v. conflict_of issuer c.args.command.now v.rows) c.self.view_is ∙ c.requires in
-    let met : first_met (conflicts issuer (command.Permit permit) rows) ≡ None =
-    subst (λ (fields : CommandFields). first_met (conflicts issuer fields rows) ≡ None) is (behind (is_unbuilt c.args.command.now) (conflicts issuer c.args.command.now rows) free) in
+    let met : conflict_of issuer (command.Permit permit) rows ≡ None =
+    subst (λ (fields : CommandFields). conflict_of issuer fields rows ≡ None) is free in
     permit-fits order.either puts order.passed_on c.text_reads_back.ensures.pattern issuer permit rows c.self.invariant.lawful met
 
 -- the rows are as they were, so what was made of them can be applied, and leaves lawful rows
@@ -41,17 +39,16 @@ invariant_of-self-2 c =
     let same : tables.rows ≡ c.self.inside.tables.rows = c.in_ok-reserve.ensures.rows in
     let lawful : AreLawful tables.rows = subst AreLawful (sym same) c.self.invariant.lawful in
     let free : conflict_of issuer fields tables.rows ≡ None = ap (conflict_of issuer fields) (same ∙ ap (λ v. v.rows) c.self.view_is) ∙ c.requires in
-    let met : first_met (conflicts issuer fields tables.rows) ≡ None = behind (is_unbuilt fields) (conflicts issuer fields tables.rows) free in
     let of_rows : c.in_ok-edits.edits.items ≡ edits_of issuer fields tables.rows = c.in_ok-edits.ensures ∙ sym (ap (edits_of issuer fields) same) in
     let made : c.of.result.value.edits ≡ edits_of issuer fields tables.rows = ap (λ change. change.edits) c.of.ensures ∙ of_rows in
     let own : AreLawfulFields fields = c.fields_of_a_text_are_lawful.ensures issuer.id (canonical fields) fields (c.printed_is_read.ensures issuer.id) in
     let room : HasRoom tables (edits_of issuer fields tables.rows) = subst (HasRoom tables) (c.as_slice.ensures.value ∙ of_rows) c.in_ok-reserve.ensures.room in
     let after : AreLawful (changed (edits_of issuer fields tables.rows) tables.rows) =
-    subst AreLawful (sym (changed-edits_of issuer fields tables.rows lawful met)) (c.commands_leave_lawful_rows.ensures issuer fields tables.rows lawful own free) in
+    subst AreLawful (sym (changed-edits_of issuer fields tables.rows lawful free)) (c.commands_leave_lawful_rows.ensures issuer fields tables.rows lawful own free) in
     record {
       lawful = lawful;
       ready = record {
-        can = subst (CanApply tables) (sym made) (can_apply-edits_of order.either puts order.passed_on c.text_reads_back.ensures.pattern tables lawful issuer fields own met room after);
+        can = subst (CanApply tables) (sym made) (can_apply-edits_of order.either puts order.passed_on c.text_reads_back.ensures.pattern tables lawful issuer fields own free room after);
         lawful = subst (λ (edits : List Edit). AreLawful (changed edits tables.rows)) (sym made) after;
       };
     }
@@ -63,7 +60,7 @@ returns-clause-step c =
     let rows = c.args.self.now.rows in
     let lawful : AreLawful rows = subst AreLawful (ap (λ v. v.rows) c.self.view_is) c.self.invariant.lawful in
     ap (λ (es : List Edit). changed es rows) (c.in_ok-edits.ensures ∙ ap (λ v. edits_of issuer fields v.rows) c.self.view_is)
-    ∙ changed-edits_of issuer fields rows lawful (behind (is_unbuilt fields) (conflicts issuer fields rows) c.requires)
+    ∙ changed-edits_of issuer fields rows lawful c.requires
 
 pub returns-clause-lawful : goal.returns-clause-lawful
 returns-clause-lawful c =
@@ -73,7 +70,7 @@ returns-clause-lawful c =
     let lawful : AreLawful rows = subst AreLawful (ap (λ v. v.rows) c.self.view_is) c.self.invariant.lawful in
     let own : AreLawfulFields fields = c.fields_of_a_text_are_lawful.ensures issuer.id (canonical fields) fields (c.printed_is_read.ensures issuer.id) in
     let after : AreLawful (changed (edits_of issuer fields rows) rows) =
-    subst AreLawful (sym (changed-edits_of issuer fields rows lawful (behind (is_unbuilt fields) (conflicts issuer fields rows) c.requires))) (c.commands_leave_lawful_rows.ensures issuer fields rows lawful own c.requires) in
+    subst AreLawful (sym (changed-edits_of issuer fields rows lawful c.requires)) (c.commands_leave_lawful_rows.ensures issuer fields rows lawful own c.requires) in
     subst (λ (es : List Edit). AreLawful (changed es rows)) (sym (c.in_ok-edits.ensures ∙ ap (λ v. edits_of issuer fields v.rows) c.self.view_is)) after
 
 pub returns-clause-listed : goal.returns-clause-listed
@@ -89,6 +86,6 @@ returns-clause-classes c =
     let lawful : AreLawful rows = subst AreLawful (ap (λ v. v.rows) c.self.view_is) c.self.invariant.lawful in
     let own : AreLawfulFields fields = c.fields_of_a_text_are_lawful.ensures issuer.id (canonical fields) fields (c.printed_is_read.ensures issuer.id) in
     let after : AreLawful (changed (edits_of issuer fields rows) rows) =
-    subst AreLawful (sym (changed-edits_of issuer fields rows lawful (behind (is_unbuilt fields) (conflicts issuer fields rows) c.requires))) (c.commands_leave_lawful_rows.ensures issuer fields rows lawful own c.requires) in
+    subst AreLawful (sym (changed-edits_of issuer fields rows lawful c.requires)) (c.commands_leave_lawful_rows.ensures issuer fields rows lawful own c.requires) in
     subst (λ (es : List Edit). LeaveLawfulClasses es rows) (sym (c.in_ok-edits.ensures ∙ ap (λ v. edits_of issuer fields v.rows) c.self.view_is))
     (c.commands_edit_rows_alone.ensures.classes issuer fields rows lawful.classes after.classes)

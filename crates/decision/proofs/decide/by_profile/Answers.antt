@@ -1,0 +1,22 @@
+use Rattle.std.proofs.Common.{List, None, Some, ◌∙◌, ap}
+use Rattle.std.specs.Prelude.{ℕ, Option, option_and_then, slice_get}
+use Rattle.generic_names.specs.Best.{best}
+use Rattle.racf_profiles.specs.declared.profiles.Profile.{Profile}
+use Rattle.decision.specs.Table.{decision_with, decided_after}
+use Rattle.decision.proofs.OnProfile.{on_profile}
+use Rattle.decision.proofs.decide.by_profile.Goals as goal
+
+pub returns-in-Some-find : goal.returns-in-Some-find
+returns-in-Some-find c =
+    let state = c.args.image.now.state in
+    let generation = c.args.image.now.generation in
+    let acee = c.args.acee.now in
+    let class = c.args.request.now.class in
+    let name = c.args.request.now.name in
+    let asked = c.args.request.now.asked in
+    let without = c.args.without.now in
+    let profiles = c.in-Some.profiles.now.profiles in
+    c.decision-in-Some-find.ensures
+    ∙ ap (λ (n : ℕ). decision_with n (Some c.name.result) (Some c.audits_of.result) c.with_profile-answer.result) c.generation-generation.ensures
+    ∙ on_profile state generation acee class name asked without (slice_get profiles c.in-Some-find.place) c.facts-facts.result c.name.result c.audits_of.result c.with_profile-answer.result c.facts-facts.ensures c.name.ensures c.audits_of.ensures c.with_profile-answer.ensures
+    ∙ ap (λ (p : Option Profile). decided_after state generation acee class name asked None without p) (c.in-Some-find.ensures.there ∙ ap (λ (ps : Option (List Profile)). option_and_then (λ (ps : List Profile). best (λ (profile : Profile). profile.name) ps name) ps) c.in-Some.ensures.profiles)

@@ -1,1 +1,2 @@
+mod NoneBefore
 mod WorkedRows

@@ -1,5 +1,5 @@
 -- Which decisions are logged, worked out: cases where two of them would fit, and the lines.
-use Rattle.std.proofs.Common.{◌≡◌, ℕ, Bool, true, false, List, [], ◌∷◌, Option, Some, None, map, refl}
+use Rattle.std.proofs.Common.{◌≡◌, ℕ, Bool, true, false, List, [], Some, None, map, refl}
 use Rattle.std.specs.Prelude.{codes}
 use Rattle.access_levels.specs.declared.levels.Level.{Level}
 use Rattle.access_levels.specs.declared.levels.Level.TheVariants.{NoAccess, Read, Update, Alter}

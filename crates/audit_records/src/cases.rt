@@ -1,6 +1,6 @@
 //! Whether a decision is logged.
 ghost use Rattle.std.specs.Prelude.{◌≡◌, ◌==◌, ◌&&◌, ◌||◌, Some};
-ghost use Rattle.audit_records.specs.Logged.{logged, logged_under, is_of_option, is_reached, success_reached, failures_reached};
+ghost use Rattle.audit_records.specs.Logged.{logged, logged_under, is_protect_all, is_of_option, is_reached, success_reached, failures_reached};
 
 use access_levels::Level;
 use acee::Acee;
@@ -11,8 +11,8 @@ use raclist_image::Image;
 /// Whether a decision is logged (z/OS Security Server RACF Auditor's Guide, LOGOPTIONS, UAUDIT, AUDIT and GLOBALAUDIT).
 /// The image, the ACEE and the request are those of the decision; `fast` says that FASTAUTH made it.
 ///
-/// FASTAUTH and the global access table are never logged, a warning is but for that always, and what isn't a class
-/// never (this product's own order). It takes no memory.
+/// The first case that fits says so (this product's own order): no decision of FASTAUTH is logged, each other warning
+/// is, and none of the global access table. What isn't a class has no option, and is never logged. It takes no memory.
 #[tactic(auto, unfolding(crate::specs::Logged::logged))]
 pub fn logged(
     image: &Image,
@@ -30,13 +30,7 @@ pub fn logged(
 }
 
 /// Whether a decision is logged under that option of its class.
-fn is_logged(
-    option: LogOption,
-    acee: &Acee,
-    asked: Level,
-    fast: bool,
-    decision: &Decision,
-) -> bool
+fn is_logged(option: LogOption, acee: &Acee, asked: Level, fast: bool, decision: &Decision) -> bool
     ensures { result ≡ logged_under option acee.now asked fast decision.now }
 {
     match decision.rule {
@@ -47,14 +41,19 @@ fn is_logged(
             LogOption::Always => true,
             LogOption::Never => false,
             _ if decision.rc == 4 => false,
-            _ => {
-                acee.attributes.uaudit
-                    || matches!(decision.rule, Rule::ProtectAll)
-                    || is_of_option(option, decision.rc)
-                    || is_audited(decision, asked)
-            }
+            _ if acee.attributes.uaudit => true,
+            _ => is_asked_for(option, asked, decision),
         },
     }
+}
+
+/// Whether the decision is that of PROTECTALL, or the option or the deciding profile asks for it.
+fn is_asked_for(option: LogOption, asked: Level, decision: &Decision) -> bool
+    ensures { result ≡ (is_protect_all decision.now.rule || is_of_option option decision.now.rc || (decision.now.rc == 0 && success_reached asked decision.now.audits) || (decision.now.rc == 8 && failures_reached asked decision.now.audits)) }
+{
+    matches!(decision.rule, Rule::ProtectAll)
+        || is_of_option(option, decision.rc)
+        || is_audited(decision, asked)
 }
 
 /// Whether the option asks for decisions with that return code.

@@ -54,9 +54,9 @@ impl Outcome {
     }
 }
 
-/// Writes the line of a decision at the end of `out`: AUDIT, how it came out, the user, the class, the name, and the level
-/// that was asked, which is not the one that was found. The ACEE and the request are those of the decision. Where memory
-/// is short, `out` stays as it was.
+/// Writes the line of a decision at the end of `out`: AUDIT, how it came out, the user, the class, the name, and the
+/// level that was asked, which is not the one that was found. The ACEE and the request are those of the decision. Where
+/// memory is short, `out` stays as it was.
 #[tactic(auto, unfolding(crate::specs::Line::audit_line))]
 pub fn write_line(
     acee: &Acee,

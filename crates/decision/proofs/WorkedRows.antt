@@ -313,7 +313,8 @@ audits-none : (decided (restart (with_profiles (codes "DATASET") (audited ∷ []
 unfolding decided classified granted
 audits-none = refl
 
--- A RACLISTed class is decided by its copy, by AUTH and by FASTAUTH: the live profile gives X to nobody, the copy to all.
+-- A RACLISTed class is decided by its copy, by AUTH and by FASTAUTH: the live profile gives X to nobody, the copy to
+-- all.
 abbrev listed : State
 listed = record {
   rows = record (with_profiles (codes "FACILITY") [] protectall) {
@@ -333,8 +334,8 @@ copied-fast : fast_decided listed 7 joe (codes "FACILITY") x Read ≡ by_the_cop
 unfolding fast_decided classified
 copied-fast = refl
 
--- FASTAUTH: what isn't a class, what isn't active, what isn't RACLISTed though a profile covers the name, and a name that
--- no profile of the copy covers, whatever PROTECTALL says.
+-- FASTAUTH: what isn't a class, what isn't active, what isn't RACLISTed though a profile covers the name, and a name
+-- that no profile of the copy covers, whatever PROTECTALL says.
 abbrev fast : State → List ℕ → Spelled → Rule × ℕ × Level
 fast state class name = told (fast_decided state 7 joe class name Read)
 

@@ -24,8 +24,8 @@ profile_for state class name = option_and_then (λ profiles. best (λ (profile :
 abbrev pub label_profile : State → List ℕ → Option Profile
 label_profile state label = profile_for state (codes "SECLABEL") (record { kind = General; text = label })
 
--- SYSHIGH and SYSLOW have theirs, also where a profile has such a name; another label has the level and the categories of
--- its profile, and without one it has none.
+-- SYSHIGH and SYSLOW have theirs, also where a profile has such a name; another label has the level and the categories
+-- of its profile, and without one it has none.
 abbrev pub profile_label : Profile → Label
 profile_label p = record { level = p.level; categories = p.categories }
 

@@ -181,10 +181,12 @@ abbrev pub is_warning : Rule → Bool
 is_warning rule.Warning = true
 is_warning _ = false
 
+-- What a profile asks to be logged.
 abbrev pub audits_of : Profile → Audits
 audits_of p = record { audit = p.audit; global_audit = p.global_audit }
 
--- The decision of an answer, with the name of a profile and what that asks to be logged or with neither, at a generation.
+-- The decision of an answer, with the name of a profile and what that asks to be logged or with neither, at a
+-- generation.
 abbrev pub decision_with : ℕ → Option Spelled → Option Audits → Answer → Decision
 decision_with generation profile audits answer = record {
   rc = answer.rc;

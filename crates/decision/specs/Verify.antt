@@ -32,8 +32,8 @@ module _ (state : State) (generation : ℕ) where
   abbrev pub is_unknown_label : Option (List ℕ) → Bool
   is_unknown_label named = option_map_or (λ name. is_active (codes "SECLABEL") state.rows && not (is_some (label_profile state name))) named false
 
-  -- The port of entry is asked in its class, then the application in class APPL and the ACEE's label in class SECLABEL, each
-  -- with the whole ACEE.
+  -- The port of entry is asked in its class, then the application in class APPL and the ACEE's label in class SECLABEL,
+  -- each with the whole ACEE.
   abbrev pub entry_fault : Acee → (named : Option (List ℕ)) → Option VerifyFault
   entry_fault acee named =
       if is_port_refused acee acee.port then Some Port

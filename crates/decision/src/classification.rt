@@ -43,7 +43,8 @@ fn checked(image: &Image, acee: &Acee, facts: &Facts<'_>, asked: Level) -> Optio
     check(&user, &resource, checks(image), asked).err()
 }
 
-/// Which checks are made: that of labels while class SECLABEL is active, those of levels and categories while SECDATA is.
+/// Which checks are made: that of labels while class SECLABEL is active, those of levels and categories while SECDATA
+/// is.
 fn checks(image: &Image) -> Checks
     ensures { result ≡ checks image.now.state.rows }
 {

@@ -109,8 +109,8 @@ fn class_answer(image: &Image, acee: &Acee, request: &Request) -> Option<Answer>
     }
 }
 
-/// The answer of the global access table of a class that uses it. It gives nothing to a RESTRICTED user, and nothing while
-/// labels are checked; then it is not looked up.
+/// The answer of the global access table of a class that uses it. It gives nothing to a RESTRICTED user, and nothing
+/// while labels are checked; then it is not looked up.
 fn global_answer(image: &Image, acee: &Acee, request: &Request) -> Option<Answer>
     ensures { result ≡ with (granted_to image.now.state.rows acee.now request.now.class request.now.name request.now.asked) (λ grant. case (not (is_active (codes "SECLABEL") image.now.state.rows) && not acee.now.attributes.restricted) (Rule.Global grant.place) 0 grant.level) }
 {

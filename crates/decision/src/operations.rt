@@ -66,8 +66,8 @@ fn is_considered(options: &Options, acee: &Acee, group: &AceeGroup) -> bool
     options.grplist || group.group == acee.current
 }
 
-/// The groups of an image are a tree, where the test tells what is in scope. It does nothing: its contract is what it is
-/// for.
+/// The groups of an image are a tree, where the test tells what is in scope. It does nothing: its contract is what it
+/// is for.
 pub(crate) fn groups_are_a_tree(image: &Image)
     ensures { IsTree image.now.state.rows.groups }
 {

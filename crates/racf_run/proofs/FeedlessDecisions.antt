@@ -34,6 +34,7 @@ use Rattle.racf_profiles.specs.declared.rows.Rows.{Rows}
 use Rattle.racf_profiles.specs.Lookup.{is_class, is_user, class_of, user_of, profile_of}
 use Rattle.racf_profiles.specs.LawfulProfiles.{member_name}
 use Rattle.racf_profiles.specs.State.{State, copy_of, effective}
+use Rattle.global_table.specs.declared.table.Grant.{Grant}
 use Rattle.raclist_image.specs.GlobalMembers.{global_members}
 use Rattle.acee.specs.declared.acee.Acee.{Acee}
 use Rattle.acee.specs.declared.groups.AceeGroup.{AceeGroup}
@@ -57,6 +58,7 @@ use Rattle.decision.specs.Table.{
   conditional_entry,
   case,
   first_answer,
+  granted_to,
   cases_of_class,
   fast_cases_of_class,
   cases_without_profile,
@@ -279,8 +281,17 @@ chosen : (o : Option Answer) (other : Answer) → IsFeedlessCase o → IsFeedles
 chosen None other h k = k
 chosen (Some answer) other h k = h answer refl
 
-of_class : (rows : Rows) (class : List ℕ) → AllByRecursion IsFeedlessCase (cases_of_class rows class)
-of_class rows class = (fits _ rule.NoClass 4 NoAccess tt, (fits _ rule.ClassOff 4 NoAccess tt, (never-case, tt)))
+of_class : (rows : Rows) (acee : Acee) (class : List ℕ) (name : Spelled) (asked : Level) → AllByRecursion IsFeedlessCase (cases_of_class rows acee class name asked)
+of_class rows acee class name asked = (
+  fits _ rule.NoClass 4 NoAccess tt,
+  (
+    fits _ rule.ClassOff 4 NoAccess tt,
+    (
+      with-thing (λ (grant : Grant). Unit {0}) _ (λ (grant : Grant) e. fits _ (rule.Global grant.place) 0 grant.level tt) (granted_to rows acee class name asked) (always (granted_to rows acee class name asked) tt),
+      tt,
+    ),
+  ),
+)
 
 of_listed_class : (rows : Rows) (class : List ℕ) → AllByRecursion IsFeedlessCase (fast_cases_of_class rows class)
 of_listed_class rows class = (fits _ rule.NoClass 4 NoAccess tt, (fits _ rule.ClassOff 4 NoAccess tt, (fits _ rule.NotListed 4 NoAccess tt, tt)))
@@ -334,7 +345,7 @@ module _ (state : State) (acee : Acee) (groups : IsFeedlessAcee acee) (class : L
   unfolding decided
   decided-words generation are =
       let cases = cases_without_profile state.rows.options class in
-      decision-words state.rows are.rows class _ (after-cases generation (first_answer (cases_of_class state.rows class)) (answer_without_profile state.rows.options class) (profile_for state class name) (first-case (cases_of_class state.rows class) (of_class state.rows class)) (chosen (first_answer cases) no_profile (first-case cases (without_profile state.rows.options class)) tt) (profile_for-feedless state class name are))
+      decision-words state.rows are.rows class _ (after-cases generation (first_answer (cases_of_class state.rows acee class name asked)) (answer_without_profile state.rows.options class) (profile_for state class name) (first-case (cases_of_class state.rows acee class name asked) (of_class state.rows acee class name asked)) (chosen (first_answer cases) no_profile (first-case cases (without_profile state.rows.options class)) tt) (profile_for-feedless state class name are))
 
   pub fast_decided-words : (generation : ℕ) → IsFeedlessState state → IsFeedless (decision_words state.rows class (fast_decided state generation acee class name asked))
   unfolding fast_decided

@@ -167,26 +167,16 @@ fn write_rule(
         Rule::NoClass => out.extend_from_slice(b"NOCLASS"),
         Rule::ClassOff => out.extend_from_slice(b"CLASSOFF"),
         Rule::NotListed => out.extend_from_slice(b"NOTLISTED"),
-        Rule::Global(place) => {
-            out.extend_from_slice(b"GLOBAL ")?;
-            write_member(image.members(class), *place, out)?;
-            write_level(decision.found, out)
-        }
+        Rule::Global(place) => write_grant(*place, decision, image.members(class), out),
         Rule::NoProfile => out.extend_from_slice(b"NOPROFILE"),
         Rule::ProtectAll => out.extend_from_slice(b"PROTECTALL"),
-        Rule::Classified(why) => {
-            write_classified(*why, image.options(), out)?;
-            write_profile(&decision.profile, out)
-        }
-        Rule::OwnData => {
-            out.extend_from_slice(b"OWNDATA")?;
-            write_profile(&decision.profile, out)
-        }
+        Rule::Classified(why) => write_classified(*why, decision, image.options(), out),
+        Rule::OwnData => write_own_data(decision, out),
         Rule::UserEntry => write_reason(b"USER", decision, out),
         Rule::GroupEntry(group) => write_group(b"GROUP ", group, decision, out),
         Rule::Star => write_reason(b"STAR", decision, out),
         Rule::Uacc => write_reason(b"UACC", decision, out),
-        Rule::Conditional(port) => write_port(b"CONDITIONAL ", port, decision, out),
+        Rule::Conditional(port) => write_conditional(port, decision, out),
         Rule::Operations => write_reason(b"OPERATIONS", decision, out),
         Rule::GroupOperations(group) => write_group(b"GROUPOPS ", group, decision, out),
         Rule::Warning => write_reason(b"WARNING", decision, out),
@@ -207,12 +197,40 @@ fn write_member(members: &[Member], place: usize, out: &mut Vec<u8>) -> Result<(
     }
 }
 
-/// Writes that the classification check fails, and why.
-fn write_classified(why: Classified, options: &Options, out: &mut Vec<u8>) -> Result<(), AllocError>
-    ensures { OnOk result (out.new.items ≡ out.old.items ++ (codes "CLASSIFIED " ++ classified_words options.now.categories why)) }
+/// Writes that the global access table gives access, by which member, and its level.
+fn write_grant(
+    place: usize,
+    decision: &Decision,
+    members: &[Member],
+    out: &mut Vec<u8>,
+) -> Result<(), AllocError>
+    ensures { OnOk result (out.new.items ≡ out.old.items ++ (codes "GLOBAL " ++ member_words members.now place ++ codes " " ++ level_name decision.now.found)) }
+{
+    out.extend_from_slice(b"GLOBAL ")?;
+    write_member(members, place, out)?;
+    write_level(decision.found, out)
+}
+
+/// Writes that the data are the user's own.
+fn write_own_data(decision: &Decision, out: &mut Vec<u8>) -> Result<(), AllocError>
+    ensures { OnOk result (out.new.items ≡ out.old.items ++ (codes "OWNDATA" ++ profile_words decision.now.profile)) }
+{
+    out.extend_from_slice(b"OWNDATA")?;
+    write_profile(&decision.profile, out)
+}
+
+/// Writes that the classification check fails, why, and of which profile.
+fn write_classified(
+    why: Classified,
+    decision: &Decision,
+    options: &Options,
+    out: &mut Vec<u8>,
+) -> Result<(), AllocError>
+    ensures { OnOk result (out.new.items ≡ out.old.items ++ (codes "CLASSIFIED " ++ classified_words options.now.categories why ++ profile_words decision.now.profile)) }
 {
     out.extend_from_slice(b"CLASSIFIED ")?;
-    write_cause(why, options, out)
+    write_cause(why, options, out)?;
+    write_profile(&decision.profile, out)
 }
 
 /// Writes why the classification check fails.
@@ -291,16 +309,15 @@ fn write_group(
     write_found(decision, out)
 }
 
-/// Writes words and a port of entry, and what was found.
-fn write_port(
-    words: &[u8],
+/// Writes that an entry under a port of entry counts, and what was found.
+fn write_conditional(
     port: &Condition,
     decision: &Decision,
     out: &mut Vec<u8>,
 ) -> Result<(), AllocError>
-    ensures { OnOk result (out.new.items ≡ out.old.items ++ (words.now ++ port_words port.now ++ found_words decision.now)) }
+    ensures { OnOk result (out.new.items ≡ out.old.items ++ (codes "CONDITIONAL " ++ port_words port.now ++ found_words decision.now)) }
 {
-    out.extend_from_slice(words)?;
+    out.extend_from_slice(b"CONDITIONAL ")?;
     write_when(port, out)?;
     write_found(decision, out)
 }

@@ -6,7 +6,6 @@ use Rattle.std.specs.Result.{result_map_both}
 use Rattle.access_levels.specs.Spelling.{id_of, group_of, port_class_of}
 use Rattle.access_levels.specs.declared.levels.Level.{Level}
 use Rattle.generic_names.specs.declared.kind.NameKind.{NameKind}
-use Rattle.generic_names.specs.declared.form.Form.TheVariants.{Discrete}
 use Rattle.generic_names.specs.Spelled.{Spelled}
 use Rattle.generic_names.specs.Faults.{resource_of}
 use Rattle.generic_names.specs.declared.fault.NameFault.{NameFault}
@@ -54,7 +53,7 @@ use Rattle.request_files.specs.Grammar.{
   read,
 }
 use Rattle.request_files.specs.Answers.{name_fault_words, refusal_words, verify_fault_words}
-use Rattle.racf_run.proofs.FeedlessNames.{name-feedless}
+use Rattle.racf_run.proofs.FeedlessNames.{resource_name-feedless}
 use Rattle.racf_run.proofs.Feedless.{IsFeedless, decimal-feedless, read_id-feedless, read_group-feedless, either, always, if-map, if-then, if-ok}
 
 -- ---- what a line names
@@ -169,7 +168,7 @@ abbrev IsFeedlessNameSaid : Result Spelled NameFault × UnreadLine → Type 0
 IsFeedlessNameSaid said = IfOk said.0 (λ (name : Spelled). IsFeedless name.text)
 
 resource-feedless : (kind : NameKind) (text : List ℕ) (read : Result Spelled NameFault) → resource_of kind text ≡ read → IfOk read (λ (name : Spelled). IsFeedless name.text)
-resource-feedless kind text (Ok name) is = name-feedless Discrete kind text name is
+resource-feedless kind text (Ok name) is = resource_name-feedless kind text name is
 resource-feedless kind text (Err fault) is = tt
 
 next-name : (kind : NameKind) (unread : UnreadLine) → IfOk (next (name_word kind) unread) IsFeedlessNameSaid

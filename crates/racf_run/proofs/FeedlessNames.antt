@@ -9,66 +9,53 @@ use Rattle.std.proofs.lemmas.Slice.Eq.{bytes_eq-Decides}
 use Rattle.std.proofs.lemmas.List.Splits.{join_with_byte-slice_split}
 use Rattle.generic_names.specs.declared.kind.NameKind.{NameKind}
 use Rattle.generic_names.specs.declared.kind.NameKind.TheVariants.{DataSet, General}
-use Rattle.generic_names.specs.declared.form.Form.{Form}
-use Rattle.generic_names.specs.declared.form.Form.TheVariants.{Discrete, Generic, Symbolic}
 use Rattle.generic_names.specs.declared.fault.NameFault.{NameFault}
-use Rattle.generic_names.specs.declared.fault.NameFault.TheVariants.{Empty, TooLong, EmptyQualifier, QualifierTooLong, BadByte, GenericFirst}
+use Rattle.generic_names.specs.declared.fault.NameFault.TheVariants.{StarInside, BadByte}
 use Rattle.generic_names.specs.Spelled.{Spelled, qualifiers}
-use Rattle.generic_names.specs.Faults.{byte_fault, bytes_fault, qualifier_fault, qualifiers_fault, is_too_long, is_whole, is_generic_first, longest, fault_of, unless, name_of, resource_of, member_of}
+use Rattle.generic_names.specs.Faults.{has_generic, is_ordinary, byte_fault, bytes_fault, qualifier_fault, qualifiers_fault, is_too_long, is_whole, longest, fault_of, unless, name_of, resource_of, member_of}
 use Rattle.generic_names.proofs.Bools as bools
 use Rattle.generic_names.proofs.Lawful.{first_none, passed_test}
 use Rattle.racf_run.proofs.Feedless.{IsFeedless, is_feedless, joined}
 
--- a line feed is a bad byte, wherever it stands
-never_fits : (form : Form) (kind : NameKind) (first last : Bool) (place : ℕ) → byte_fault form kind first last place 10 ≡ None → ⊥
-never_fits Discrete DataSet true last place h = cc
-never_fits Discrete DataSet false last place h = cc
-never_fits Discrete General first last place h = cc
-never_fits Generic DataSet true last place h = cc
-never_fits Generic DataSet false last place h = cc
-never_fits Generic General first last place h = cc
-never_fits Symbolic DataSet true last place h = cc
-never_fits Symbolic DataSet false last place h = cc
-never_fits Symbolic General first last place h = cc
+-- a line feed is a bad byte, wherever it stands, in names with generic characters and in those without
+never : (generic : Bool) (kind : NameKind) (first last : Bool) (place : ℕ) → cond (generic && (10 == 37)) None (cond (generic && (10 == 42)) (cond last None (Some (StarInside place))) (cond (is_ordinary kind first 10) None (Some (BadByte place)))) ≡ None → ⊥
+never true DataSet true last place h = cc
+never true DataSet false last place h = cc
+never true General first last place h = cc
+never false DataSet true last place h = cc
+never false DataSet false last place h = cc
+never false General first last place h = cc
 
-module _ (form : Form) (kind : NameKind) where
-  byte-feedless : (first last : Bool) (place b : ℕ) → byte_fault form kind first last place b ≡ None → not (b == 10) ≡ true
-  byte-feedless first last place b h = by (b == 10) refl
-    where
-      by : (c : Bool) → (b == 10) ≡ c → not c ≡ true
-      by true e = absurd (never_fits form kind first last place (subst (λ (n : ℕ). byte_fault form kind first last place n ≡ None) (eqb-true b 10 e) h))
-      by false e = refl
+byte-feedless : (form : _) (kind : NameKind) (first last : Bool) (place b : ℕ) → byte_fault form kind first last place b ≡ None → not (b == 10) ≡ true
+byte-feedless form kind first last place b h = by (b == 10) refl
+  where
+    by : (c : Bool) → (b == 10) ≡ c → not c ≡ true
+    by true e = absurd (never (has_generic form) kind first last place (subst (λ (n : ℕ). byte_fault form kind first last place n ≡ None) (eqb-true b 10 e) h))
+    by false e = refl
 
-  bytes-feedless : (first : Bool) (place : ℕ) (q : List ℕ) → bytes_fault form kind first place q ≡ None → IsFeedless q
-  bytes-feedless first place [] h = refl
-  bytes-feedless first place (b ∷ bs) h =
-      let parts = first_none (byte_fault form kind first (length bs == 0) place b) (bytes_fault form kind false (place + 1) bs) h in
-      and_from (not (b == 10)) (is_feedless bs) (byte-feedless first (length bs == 0) place b parts.0) (bytes-feedless false (place + 1) bs parts.1)
+bytes-feedless : (form : _) (kind : NameKind) (first : Bool) (place : ℕ) (q : List ℕ) → bytes_fault form kind first place q ≡ None → IsFeedless q
+bytes-feedless form kind first place [] h = refl
+bytes-feedless form kind first place (b ∷ bs) h =
+    let parts = first_none (byte_fault form kind first (length bs == 0) place b) (bytes_fault form kind false (place + 1) bs) h in
+    and_from (not (b == 10)) (is_feedless bs) (byte-feedless form kind first (length bs == 0) place b parts.0) (bytes-feedless form kind false (place + 1) bs parts.1)
 
-same-feedless : (q text : List ℕ) → IsFeedless text → bytes_eq q text ≡ true → IsFeedless q
-same-feedless q text h same = subst IsFeedless (sym ((bytes_eq-Decides q text).0 same)) h
+-- the qualifiers that are lawful as a whole, as `**`, hold no line feed
+abbrev WholeFeedless : (List ℕ → Bool) → Type 0
+WholeFeedless whole = (q : List ℕ) → whole q ≡ true → IsFeedless q
 
-whole-feedless : (form : Form) (q : List ℕ) → is_whole form q ≡ true → IsFeedless q
-whole-feedless Discrete q h = absurd (true≢false (sym h))
-whole-feedless Generic q h = same-feedless q (codes "**") refl h
-whole-feedless Symbolic q h =
-    bools.either (bytes_eq q (codes "**") || bytes_eq q (codes "&RACUID")) (bytes_eq q (codes "&RACGPID")) h
-    (λ k. bools.either (bytes_eq q (codes "**")) (bytes_eq q (codes "&RACUID")) k (same-feedless q (codes "**") refl) (same-feedless q (codes "&RACUID") refl))
-    (same-feedless q (codes "&RACGPID") refl)
-
-qualifier-feedless : (form : Form) (kind : NameKind) (number place : ℕ) (q : List ℕ) → qualifier_fault form kind number place q ≡ None → IsFeedless q
-qualifier-feedless form kind number place q h =
+qualifier-feedless : (form : _) → WholeFeedless (is_whole form) → (kind : NameKind) (number place : ℕ) (q : List ℕ) → qualifier_fault form kind number place q ≡ None → IsFeedless q
+qualifier-feedless form whole kind number place q h =
     by (is_whole form q) refl (first_none _ _ (passed_test (is_too_long kind q) _ _ (passed_test (length q == 0) _ _ h))).0
   where
     by : (c : Bool) → is_whole form q ≡ c → cond c None (bytes_fault form kind true place q) ≡ None → IsFeedless q
-    by true e k = whole-feedless form q e
+    by true e k = whole q e
     by false e k = bytes-feedless form kind true place q k
 
-qualifiers-feedless : (form : Form) (kind : NameKind) (number place : ℕ) (qs : List (List ℕ)) → qualifiers_fault form kind number place qs ≡ None → AllByRecursion IsFeedless qs
-qualifiers-feedless form kind number place [] h = tt
-qualifiers-feedless form kind number place (q ∷ qs) h =
+qualifiers-feedless : (form : _) → WholeFeedless (is_whole form) → (kind : NameKind) (number place : ℕ) (qs : List (List ℕ)) → qualifiers_fault form kind number place qs ≡ None → AllByRecursion IsFeedless qs
+qualifiers-feedless form whole kind number place [] h = tt
+qualifiers-feedless form whole kind number place (q ∷ qs) h =
     let parts = first_none (qualifier_fault form kind number place q) (qualifiers_fault form kind (number + 1) (place + length q + 1) qs) h in
-    (qualifier-feedless form kind number place q parts.0, qualifiers-feedless form kind (number + 1) (place + length q + 1) qs parts.1)
+    (qualifier-feedless form whole kind number place q parts.0, qualifiers-feedless form whole kind (number + 1) (place + length q + 1) qs parts.1)
 
 -- a text is its qualifiers with periods between them
 join-feedless : (qs : List (List ℕ)) → AllByRecursion IsFeedless qs → IsFeedless (join_with_byte 46 qs)
@@ -76,26 +63,39 @@ join-feedless [] h = refl
 join-feedless (q ∷ []) h = h.0
 join-feedless (q ∷ r ∷ rs) h = joined q (46 ∷ join_with_byte 46 (r ∷ rs)) h.0 (join-feedless (r ∷ rs) h.1)
 
-fault-feedless : (form : Form) (kind : NameKind) (text : List ℕ) → fault_of form kind text ≡ None → IsFeedless text
-fault-feedless form kind text h =
+fault-feedless : (form : _) → WholeFeedless (is_whole form) → (kind : NameKind) (text : List ℕ) → fault_of form kind text ≡ None → IsFeedless text
+fault-feedless form whole kind text h =
     let none = passed_test (ltb (longest kind) (length text)) _ _ (passed_test (length text == 0) _ _ h) in
-    subst IsFeedless (join_with_byte-slice_split 46 text) (join-feedless (qualifiers text) (qualifiers-feedless form kind 1 1 (qualifiers text) none))
+    subst IsFeedless (join_with_byte-slice_split 46 text) (join-feedless (qualifiers text) (qualifiers-feedless form whole kind 1 1 (qualifiers text) none))
 
-pub name-feedless : (form : Form) (kind : NameKind) (text : List ℕ) (name : Spelled) → name_of form kind text ≡ Ok name → IsFeedless name.text
-name-feedless form kind text name h = by (fault_of form kind text) refl h
+name-feedless : (form : _) (kind : NameKind) (text : List ℕ) (name : Spelled) → name_of form kind text ≡ Ok name → WholeFeedless (is_whole form) → IsFeedless name.text
+name-feedless form kind text name h whole = by (fault_of form kind text) refl h
   where
     by : (o : Option NameFault) → fault_of form kind text ≡ o → unless o (record { kind = kind; text = text }) ≡ Ok name → IsFeedless name.text
     by None e k =
         let same : record { kind = kind; text = text } ≡ name = cc in
-        subst (λ (n : Spelled). IsFeedless n.text) same (fault-feedless form kind text e)
+        subst (λ (n : Spelled). IsFeedless n.text) same (fault-feedless form whole kind text e)
     by (Some fault) e k = absurd (cc)
 
--- the name of a member of a global access table
+-- the name of a resource has no whole qualifiers
+pub resource_name-feedless : (kind : NameKind) (text : List ℕ) (name : Spelled) → resource_of kind text ≡ Ok name → IsFeedless name.text
+resource_name-feedless kind text name h = name-feedless _ kind text name h (λ q is. absurd (true≢false (sym is)))
+
+-- the name of a member of a global access table has `**` and the two variables
+same-feedless : (q text : List ℕ) → IsFeedless text → bytes_eq q text ≡ true → IsFeedless q
+same-feedless q text h same = subst IsFeedless (sym ((bytes_eq-Decides q text).0 same)) h
+
+whole-member : (q : List ℕ) → (bytes_eq q (codes "**") || bytes_eq q (codes "&RACUID") || bytes_eq q (codes "&RACGPID")) ≡ true → IsFeedless q
+whole-member q h =
+    bools.either (bytes_eq q (codes "**") || bytes_eq q (codes "&RACUID")) (bytes_eq q (codes "&RACGPID")) h
+    (λ k. bools.either (bytes_eq q (codes "**")) (bytes_eq q (codes "&RACUID")) k (same-feedless q (codes "**") refl) (same-feedless q (codes "&RACUID") refl))
+    (same-feedless q (codes "&RACGPID") refl)
+
 pub member_name-feedless : (kind : NameKind) (name : Spelled) → result_ok (member_of kind name.text) ≡ Some name → IsFeedless name.text
 member_name-feedless kind name h = by (member_of kind name.text) refl h
   where
     by : (r : _) → member_of kind name.text ≡ r → result_ok r ≡ Some name → IsFeedless name.text
     by (Ok read) e k =
         let same : read ≡ name = cc in
-        subst (λ (n : Spelled). IsFeedless n.text) same (name-feedless Symbolic kind name.text read e)
+        subst (λ (n : Spelled). IsFeedless n.text) same (name-feedless _ kind name.text read e whole-member)
     by (Err fault) e k = absurd (cc)

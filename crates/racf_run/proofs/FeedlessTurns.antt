@@ -136,11 +136,10 @@ module _ (position : Imaged) (acees : List NamedAcee) (are : IsFeedlessState pos
   works-answer name answer (Some acee) works h k = works acee k
 
   works-decision : (fast : Bool) (access : Access) (acee : Acee) (decision : Decision) → IsFeedlessAccess access → IsFeedlessAcee acee → IsFeedless (decision_words position.state.rows access.class decision) → Works position.generation (request.answered position acees (request.decision_text position fast access acee decision))
-  unfolding answer_line request.audited
+  unfolding answer_line request.audited audit_line
   works-decision fast access acee decision named user told = by (logged position.state acee access.class access.asked fast decision)
     where
       by : (b : Bool) → Works position.generation (request.answered position acees (numbered position.generation (decision_words position.state.rows access.class decision) ++ cond b (audit_line decision acee.user access.class access.name access.asked) []))
-      unfolding audit_line
       by true =
           stays _ false (audited-line position.generation (decision_words position.state.rows access.class decision) _ told (audit-words decision acee.user access.class access.name access.asked user.user named.class named.name))
       by false =

@@ -20,7 +20,9 @@ use access_levels::Id;
 use class_profiles::Made;
 use generic_names::Pattern;
 use group_tree::{in_scope_group, in_scope_user};
-use racf_profiles::{Change, FixedClass, Group, Member, NoMemory, Options, Rows, User, general_name};
+use racf_profiles::{
+    Change, FixedClass, Group, Member, NoMemory, Options, Rows, User, general_name,
+};
 use std::alloc::Global;
 use std::marker::Model;
 use std::sync::Arc;

@@ -1,6 +1,6 @@
 -- No line feed is in a name: of a resource, of a profile, or of a member of a global access table.
 use Rattle.std.proofs.Common.{◌≡◌, ℕ, ◌+◌, Bool, true, false, cond, not, ◌&&◌, ◌||◌, eqb, ltb, List, [], ◌∷◌, ◌++◌, length, Option, Some, None, Ok, Err, refl, sym, ap, ◌∙◌, subst, true≢false}
-use Rattle.std.specs.Prelude.{◌==◌, codes, bytes_eq}
+use Rattle.std.specs.Prelude.{◌==◌, codes, bytes_eq, Result}
 use Rattle.std.specs.List.{AllByRecursion, join_with_byte}
 use Rattle.std.specs.Option.{option_or}
 use Rattle.std.specs.Result.{result_ok}
@@ -68,8 +68,12 @@ fault-feedless form whole kind text h =
     let none = passed_test (ltb (longest kind) (length text)) _ _ (passed_test (length text == 0) _ _ h) in
     subst IsFeedless (join_with_byte-slice_split 46 text) (join-feedless (qualifiers text) (qualifiers-feedless form whole kind 1 1 (qualifiers text) none))
 
-name-feedless : (form : _) (kind : NameKind) (text : List ℕ) (name : Spelled) → name_of form kind text ≡ Ok name → WholeFeedless (is_whole form) → IsFeedless name.text
-name-feedless form kind text name h whole = by (fault_of form kind text) refl h
+-- what is read as a name holds no line feed
+abbrev HoldsNoFeed : Result Spelled NameFault → Type 0
+HoldsNoFeed read = (name : Spelled) → read ≡ Ok name → IsFeedless name.text
+
+of_form : (form : _) (kind : NameKind) (text : List ℕ) → WholeFeedless (is_whole form) → HoldsNoFeed (name_of form kind text)
+of_form form kind text whole name h = by (fault_of form kind text) refl h
   where
     by : (o : Option NameFault) → fault_of form kind text ≡ o → unless o (record { kind = kind; text = text }) ≡ Ok name → IsFeedless name.text
     by None e k =
@@ -78,8 +82,11 @@ name-feedless form kind text name h whole = by (fault_of form kind text) refl h
     by (Some fault) e k = absurd (cc)
 
 -- the name of a resource has no whole qualifiers
-pub resource_name-feedless : (kind : NameKind) (text : List ℕ) (name : Spelled) → resource_of kind text ≡ Ok name → IsFeedless name.text
-resource_name-feedless kind text name h = name-feedless _ kind text name h (λ q is. absurd (true≢false (sym is)))
+none_whole : (q : List ℕ) → false ≡ true → IsFeedless q
+none_whole q is = absurd (true≢false (sym is))
+
+pub resource_name-feedless : (kind : NameKind) (text : List ℕ) → HoldsNoFeed (resource_of kind text)
+resource_name-feedless kind text = search (of_form, none_whole)
 
 -- the name of a member of a global access table has `**` and the two variables
 same-feedless : (q text : List ℕ) → IsFeedless text → bytes_eq q text ≡ true → IsFeedless q
@@ -91,11 +98,12 @@ whole-member q h =
     (λ k. bools.either (bytes_eq q (codes "**")) (bytes_eq q (codes "&RACUID")) k (same-feedless q (codes "**") refl) (same-feedless q (codes "&RACUID") refl))
     (same-feedless q (codes "&RACGPID") refl)
 
+member-read : (kind : NameKind) (text : List ℕ) → HoldsNoFeed (member_of kind text)
+member-read kind text = search (of_form, whole-member)
+
 pub member_name-feedless : (kind : NameKind) (name : Spelled) → result_ok (member_of kind name.text) ≡ Some name → IsFeedless name.text
-member_name-feedless kind name h = by (member_of kind name.text) refl h
+member_name-feedless kind name h = member-read kind name.text name (was (member_of kind name.text) h)
   where
-    by : (r : _) → member_of kind name.text ≡ r → result_ok r ≡ Some name → IsFeedless name.text
-    by (Ok read) e k =
-        let same : read ≡ name = cc in
-        subst (λ (n : Spelled). IsFeedless n.text) same (name-feedless _ kind name.text read e whole-member)
-    by (Err fault) e k = absurd (cc)
+    was : (r : Result Spelled NameFault) → result_ok r ≡ Some name → r ≡ Ok name
+    was (Ok read) k = cc
+    was (Err fault) k = absurd (cc)

@@ -1,17 +1,21 @@
 -- A worked row: lines worked one after another on a new database.
 use Rattle.std.proofs.Common.{◌≡◌, ℕ, List, [], ◌∷◌, ◌++◌, refl, codes, decimal}
+use Rattle.std.specs.Fmt.{digits}
 use Rattle.racf_profiles.specs.NewDatabase.{new_database}
 use Rattle.racf_profiles.specs.State.{restart}
 use Rattle.raclist_image.specs.Imaged.{Imaged}
+use Rattle.global_table.specs.Grants.{granted}
 use Rattle.acee.specs.Verify.{acee_of}
 use Rattle.decision.specs.Classification.{classified}
 use Rattle.decision.specs.Table.{decided, fast_decided}
 use Rattle.decision.specs.Verify.{verified}
+use Rattle.audit_records.specs.Logged.{logged}
+use Rattle.audit_records.specs.Line.{audit_line}
 use Rattle.request_files.specs.declared.acees.NamedAcee.{NamedAcee}
 use Rattle.command_words.specs.LineWords.{words_at}
 use Rattle.request_files.specs.Grammar.{next, deleted, number_after, asked_by, verified_by, requested, read}
 use Rattle.request_files.specs.Answers.{answer_line, numbered, never_line}
-use Rattle.request_files.specs.Worked.{worked}
+use Rattle.request_files.specs.Worked.{audited, worked}
 
 on_new : Imaged
 on_new = record { state = restart new_database; generation = 0 }
@@ -49,5 +53,5 @@ life_of_an_acee : texts on_new [] (
     ∷ []
     ∷ never_line 0
     ∷ []
-unfolding on_new decided fast_decided verified acee_of words_at next deleted number_after asked_by verified_by requested read answer_line classified
+unfolding digits on_new decided fast_decided verified acee_of words_at next deleted number_after asked_by verified_by requested read answer_line classified granted audited logged audit_line
 life_of_an_acee = refl

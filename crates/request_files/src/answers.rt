@@ -228,9 +228,16 @@ fn write_classified(
 ) -> Result<(), AllocError>
     ensures { OnOk result (out.new.items ≡ out.old.items ++ (codes "CLASSIFIED " ++ classified_words options.now.categories why ++ profile_words decision.now.profile)) }
 {
-    out.extend_from_slice(b"CLASSIFIED ")?;
-    write_cause(why, options, out)?;
+    write_bar(why, options, out)?;
     write_profile(&decision.profile, out)
+}
+
+/// Writes that the classification check fails, and why.
+fn write_bar(why: Classified, options: &Options, out: &mut Vec<u8>) -> Result<(), AllocError>
+    ensures { OnOk result (out.new.items ≡ out.old.items ++ (codes "CLASSIFIED " ++ classified_words options.now.categories why)) }
+{
+    out.extend_from_slice(b"CLASSIFIED ")?;
+    write_cause(why, options, out)
 }
 
 /// Writes why the classification check fails.

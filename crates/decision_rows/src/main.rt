@@ -20,7 +20,7 @@
 //! - `P class name`: the facts of the profile that decides on a name;
 //! - `S group owner`: whether a profile of that owner is in scope of the group.
 //!
-//! All other rows are lines of requests, as `request_files` reads them, but that a label may be named:
+//! All other rows are lines of requests, as `request_files` reads them:
 //! - `VERIFY a user` with operands: prints the user's ACEE with all that it holds, in which a `*` marks a group with
 //!   group-OPERATIONS, and keeps it under the name `a`; or prints why he isn't verified;
 //! - `AUTH a class name level` and `FASTAUTH` with the same words: prints the decision with all that it holds;

@@ -19,7 +19,8 @@ use Rattle.generic_names.proofs.FirstLaws.{front, last, front-take, last-get, eq
 use Rattle.generic_names.proofs.Lawful.{reads_back}
 use Rattle.global_table.specs.declared.table.Resolved.{Resolved}
 use Rattle.racf_profiles.specs.declared.profiles.Member.TheVariants.{Access}
-use Rattle.global_table.specs.Grants.{resolved, is_same_kind, covers_name}
+use Rattle.racf_profiles.specs.LawfulProfiles.{is_of_kind}
+use Rattle.global_table.specs.Grants.{resolved, covers_name}
 use Rattle.global_table.specs.Steps.{stands_for_others, may_begin}
 
 -- ---- the qualifiers of a text, from its first byte on
@@ -322,7 +323,7 @@ module _ (user group : List ℕ) where
 
       settled : (o : Option Spelled) → resolve member user group ≡ o → IfSome (option_map counted o) (λ m. covers_name name m ≡ false)
       settled None is = tt
-      settled (Some pattern) is = rw (resolved-uncovered member name pattern apart is) (neither (is_same_kind pattern.kind name.kind))
+      settled (Some pattern) is = rw (resolved-uncovered member name pattern apart is) (neither (is_of_kind pattern.kind name.kind))
         where
           neither : (t : Bool) → (t && false) ≡ false
           neither true = refl

@@ -1,15 +1,14 @@
 -- The global access table of a class: what its members stand for, and which of them decides on a name.
-use Rattle.std.specs.Prelude.{ℕ, ◌+◌, Bool, true, false, ◌&&◌, List, [], ◌∷◌, filter, Option, Some, None, option_map, option_and_then, if◌then◌else◌}
+use Rattle.std.specs.Prelude.{ℕ, ◌+◌, Bool, ◌&&◌, List, [], ◌∷◌, filter, Option, Some, None, option_map, option_and_then, if◌then◌else◌}
 use Rattle.access_levels.specs.declared.levels.Level.{Level}
 use Rattle.access_levels.specs.Level.{suffices}
-use Rattle.generic_names.specs.declared.kind.NameKind.{NameKind}
-use Rattle.generic_names.specs.declared.kind.NameKind.TheVariants.{DataSet, General}
 use Rattle.generic_names.specs.Spelled.{Spelled}
 use Rattle.generic_names.specs.Resolve.{resolve}
 use Rattle.generic_names.specs.Covers.{covers}
 use Rattle.generic_names.specs.Best.{most_specific}
 use Rattle.racf_profiles.specs.declared.profiles.Member.{Member}
 use Rattle.racf_profiles.specs.declared.profiles.Member.TheVariants.{Access, SecurityLevel, Category}
+use Rattle.racf_profiles.specs.LawfulProfiles.{is_of_kind}
 use Rattle.global_table.specs.declared.table.Grant.{Grant}
 use Rattle.global_table.specs.declared.table.Resolved.{Resolved}
 
@@ -34,15 +33,9 @@ module _ (user group : List ℕ) where
   abbrev pub globals : List Member → List Resolved
   globals members = resolved_from 0 members
 
-abbrev pub is_same_kind : NameKind → NameKind → Bool
-is_same_kind DataSet DataSet = true
-is_same_kind DataSet General = false
-is_same_kind General DataSet = false
-is_same_kind General General = true
-
 -- A member covers a name of its own kind as a profile of that name would.
 abbrev pub covers_name : Spelled → Resolved → Bool
-covers_name name member = is_same_kind member.name.kind name.kind && covers member.name name
+covers_name name member = is_of_kind member.name.kind name.kind && covers member.name name
 
 -- The most specific of the members that cover the name decides alone, though a less specific one would suffice; of
 -- equal ones the first.

@@ -1,4 +1,4 @@
--- The ACEE that a line names has a name without a line feed, and what a line of requests prints is one line.
+-- No line feed stands in what a line of requests names, its ACEE, class and resource, nor in the words of its refusal.
 use Rattle.std.proofs.Common.{◌≡◌, ℕ, List, [], ◌∷◌, Option, None, Some, Result, Ok, Err, refl, bytes_eq, codes}
 use Rattle.std.specs.Prelude.{nat_eq, nat_lt, IfSome, IfOk, length}
 use Rattle.std.specs.List.{starts_with}

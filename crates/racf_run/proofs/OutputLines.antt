@@ -1,6 +1,6 @@
 -- The lines of an output are those that the turns print.
 use Rattle.std.proofs.Common.{◌≡◌, ℕ, Bool, true, false, cond, not, ◌&&◌, List, [], ◌∷◌, ◌++◌, refl, sym, ap, subst, ◌∙◌, true≢false, inl, inr, codes, append_assoc, append-nil}
-use Rattle.std.specs.Prelude.{◌⊎◌, ◌==◌, map, decimal}
+use Rattle.std.specs.Prelude.{◌==◌, map, decimal}
 use Rattle.std.specs.List.{AllByRecursion, concat, flat_map, onto_first}
 use Rattle.std.proofs.lemmas.Bool.{ne_eqb}
 use Rattle.std.proofs.lemmas.List.Sums.{list_all-from_AllPass}

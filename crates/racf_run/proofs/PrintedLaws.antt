@@ -1,6 +1,6 @@
 -- What the printed line of each statement says of it.
 use Rattle.std.proofs.Common.{◌≡◌, ℕ, zero, suc, ◌+◌, ◌<◌, ◌≤◌, ◌/◌, ◌%◌, Bool, true, false, ◌||◌, List, [], ◌∷◌, ◌++◌, None, Some, Ok, Err, refl, sym, ◌∙◌, ap, arith, append_assoc}
-use Rattle.std.specs.Prelude.{◌==◌, nat_eq, nat_le, Option, Result, codes, decimal, is_some, if◌then◌else◌}
+use Rattle.std.specs.Prelude.{◌==◌, nat_eq, nat_le, Option, Result, codes, decimal, if◌then◌else◌}
 use Rattle.std.specs.Fmt.{digits, digits_onto, digit_glyph}
 use Rattle.std.specs.List.{starts_with}
 use Rattle.std.proofs.Math.Nat.{mod-lt}

@@ -9,10 +9,14 @@ use Rattle.std.proofs.lemmas.Cmp.{nat_list_cmp_total}
 use Rattle.std.proofs.lemmas.Map.Text.{is_eq-slice_cmp}
 use Rattle.sorted_rows.specs.Sorted.{is_before}
 
-less_is : (r : Ordering) → is_lt r ≡ true → r ≡ Less
-less_is Less h = refl
-less_is Equal h = absurd (cc)
-less_is Greater h = absurd (cc)
+-- a key before another compares as less
+as_less : (a b : List ℕ) → is_before a b ≡ true → slice_cmp nat_cmp a b ≡ Less
+as_less a b p =
+    elim (slice_cmp nat_cmp a b) as (λ r. is_lt r ≡ true → r ≡ Less) [
+      | Less ↦ λ _. refl
+      | Equal ↦ λ e. absurd (cc)
+      | Greater ↦ λ e. absurd (cc)
+    ] p
 
 equal_is : (r : Ordering) → is_eq r ≡ true → r ≡ Equal
 equal_is Less h = absurd (cc)
@@ -23,10 +27,10 @@ turned : (a b : List ℕ) (r : Ordering) → slice_cmp nat_cmp a b ≡ r → sli
 turned a b r e = nat_list_cmp_total.antisymm b a ∙ ap ordering_reverse e
 
 pub before_trans : (a b d : List ℕ) → is_before a b ≡ true → is_before b d ≡ true → is_before a d ≡ true
-before_trans a b d p q = ap is_lt (nat_list_cmp_total.trans a b d (less_is (slice_cmp nat_cmp a b) p) (less_is (slice_cmp nat_cmp b d) q))
+before_trans a b d p q = ap is_lt (nat_list_cmp_total.trans a b d (as_less a b p) (as_less b d q))
 
 pub before_not_behind : (a b : List ℕ) → is_before a b ≡ true → is_before b a ≡ false
-before_not_behind a b p = ap is_lt (turned a b Less (less_is (slice_cmp nat_cmp a b) p))
+before_not_behind a b p = ap is_lt (turned a b Less (as_less a b p))
 
 -- what stands behind a key that isn't before k stands behind k
 pub from_before : (k a b : List ℕ) → is_before a k ≡ false → is_before a b ≡ true → is_before k b ≡ true
@@ -38,10 +42,10 @@ from_before k a b p q =
     ] refl
 
 pub before_not_same : (a k : List ℕ) → is_before a k ≡ true → bytes_eq a k ≡ false
-before_not_same a k p = sym (is_eq-slice_cmp a k) ∙ ap is_eq (less_is (slice_cmp nat_cmp a k) p)
+before_not_same a k p = sym (is_eq-slice_cmp a k) ∙ ap is_eq (as_less a k p)
 
 pub behind_not_same : (a k : List ℕ) → is_before k a ≡ true → bytes_eq a k ≡ false
-behind_not_same a k p = sym (is_eq-slice_cmp a k) ∙ ap is_eq (turned k a Less (less_is (slice_cmp nat_cmp k a) p))
+behind_not_same a k p = sym (is_eq-slice_cmp a k) ∙ ap is_eq (turned k a Less (as_less k a p))
 
 same_is : (a k : List ℕ) → bytes_eq a k ≡ true → slice_cmp nat_cmp a k ≡ Equal
 same_is a k h = equal_is (slice_cmp nat_cmp a k) (is_eq-slice_cmp a k ∙ h)

@@ -84,6 +84,20 @@ get-paired [] k = refl
 get-paired (p ∷ ps) zero = refl
 get-paired (p ∷ ps) (suc k) = get-paired ps k
 
+-- the entry at a place has its profile's name
+pub named-paired : (es : List (Entry Profile)) (k : ℕ) (e : Entry Profile) → es ≡ map entry_of (items_of es) → slice_get es k ≡ Some e → e.name ≡ e.item.name
+named-paired es k e paired there =
+    by (slice_get (items_of es) k) (sym (get-mapped (items_of es) k) ∙ ap (λ (all : List (Entry Profile)). slice_get all k) (sym paired) ∙ there)
+  where
+    get-mapped : (ps : List Profile) (k : ℕ) → slice_get (map entry_of ps) k ≡ option_map entry_of (slice_get ps k)
+    get-mapped [] k = refl
+    get-mapped (p ∷ ps) zero = refl
+    get-mapped (p ∷ ps) (suc k) = get-mapped ps k
+
+    by : (o : Option Profile) → option_map entry_of o ≡ Some e → e.name ≡ e.item.name
+    by None is = absurd (cc)
+    by (Some p) is = let same : entry_of p ≡ e = (cc) in ap (λ (e : Entry Profile). e.name) (sym same) ∙ ap (λ (e : Entry Profile). e.item.name) same
+
 length-paired : (ps : List Profile) → length (map entry_of ps) ≡ length ps
 length-paired [] = refl
 length-paired (p ∷ ps) = ap suc (length-paired ps)

@@ -90,6 +90,16 @@ impl SharedProfiles {
         self.profiles.at(place).1
     }
 
+    /// The profile at that place, with its name as it stands beside the profile in the index: a search that found the
+    /// place has read it there.
+    pub fn named_at(&self, place: usize) -> (&Pattern, &Profile)
+        requires { place < length self.now.profiles }
+        ensures profile { slice_get self.now.profiles place ≡ Some result.1.now }
+        ensures name { result.0.now ≡ result.1.now.name }
+    {
+        self.profiles.at(place)
+    }
+
     /// The profile of that very name, generic or not. It is found by a search in the order.
     pub fn get(&self, name: &Pattern) -> Option<&Profile>
         ensures { option_copied result ≡ find (is_profile name.now) self.now.profiles }

@@ -1,10 +1,12 @@
 //! What a case of the table answers.
-ghost use Rattle.std.specs.Prelude.{◌≡◌};
-ghost use Rattle.decision.specs.Table.{is_warning, decision_with, else_case};
+ghost use Rattle.std.specs.Prelude.{◌≡◌, None, Some};
+ghost use Rattle.racf_profiles.specs.declared.profiles.Profile.{Profile};
+ghost use Rattle.raclist_image.specs.Facts.{AreFacts};
+ghost use Rattle.decision.specs.Table.{is_warning, audits_of, decision_of, else_case};
 
 use crate::outcome::{Audits, Decision, Rule};
 use access_levels::Level;
-use generic_names::Pattern;
+use raclist_image::Facts;
 
 /// The answer of a case: its rule, its return code, and the level that it found.
 #[derive(Clone, Copy)]
@@ -22,24 +24,40 @@ impl Answer {
         Answer { rule, rc: 0, found }
     }
 
-    /// The decision on the profile of a name, which asks that to be logged, or without a profile.
-    pub(crate) fn decision(
-        &self,
-        profile: Option<Pattern>,
-        audits: Option<Audits>,
-        generation: u64,
-    ) -> Decision
-        ensures { result ≡ decision_with generation profile audits self.now }
+    /// The decision without a profile.
+    pub(crate) fn decision(&self, generation: u64) -> Decision
+        ensures { result ≡ decision_of generation None self.now }
     {
         Decision {
             rc: self.rc,
             rule: self.rule,
-            profile,
-            audits,
+            profile: None,
+            audits: None,
             found: self.found,
             warned: is_warning(&self.rule),
             generation,
         }
+    }
+
+    /// The decision on a profile, with its name and what it asks to be logged.
+    pub(crate) fn decision_on(&self, facts: &Facts<'_>, generation: u64) -> Decision
+        ensures { (p : Profile) → AreFacts p facts.now → result ≡ decision_of generation (Some p) self.now }
+    {
+        Decision {
+            profile: Some(*facts.name),
+            audits: Some(audits_of(facts)),
+            ..self.decision(generation)
+        }
+    }
+}
+
+/// What the profile asks to be logged.
+fn audits_of(facts: &Facts<'_>) -> Audits
+    ensures { (p : Profile) → AreFacts p facts.now → result ≡ audits_of p }
+{
+    Audits {
+        audit: facts.audit,
+        global_audit: facts.global_audit,
     }
 }
 

@@ -9,13 +9,13 @@ ghost use Rattle.group_tree.specs.ScopeTest.{is_profile_in_scope};
 ghost use Rattle.raclist_image.specs.Facts.{AreFacts};
 ghost use Rattle.decision.specs.Steps.{is_open};
 ghost use Rattle.decision.specs.Classification.{profile_for, classified};
-ghost use Rattle.decision.specs.Table.{decided, fast_decided, decided_after, cases_of_class, fast_cases_of_class, first_answer, case, with, else_case, granted_to, is_dataset, answer_with_profile, answer_without_profile, audits_of};
+ghost use Rattle.decision.specs.Table.{decided, fast_decided, decided_after, cases_of_class, fast_cases_of_class, first_answer, case, with, else_case, granted_to, is_dataset, answer_with_profile, answer_without_profile};
 
 use crate::answer::Answer;
 use crate::classification::classified;
 use crate::entries::{conditional_case, entry_case, is_open, listed, standing};
 use crate::operations::{groups_are_a_tree, operations_case};
-use crate::outcome::{Audits, Decision, Rule};
+use crate::outcome::{Decision, Rule};
 use crate::request::Request;
 use access_levels::{Id, Level};
 use access_lists::Found;
@@ -41,7 +41,7 @@ pub fn auth(image: &Image, acee: &Acee, request: &Request) -> Decision
     groups_are_a_tree(image);
     scope_is_tested();
     if let Some(answer) = class_answer(image, acee, request) {
-        return answer.decision(None, None, image.generation());
+        return answer.decision(image.generation());
     }
     let without = without_profile(image.options(), request.class);
     by_profile(image, acee, request, &without)
@@ -60,7 +60,7 @@ pub fn fastauth(image: &Image, acee: &Acee, request: &Request) -> Decision
     groups_are_a_tree(image);
     scope_is_tested();
     if let Some(answer) = listed_class_answer(image, request.class) {
-        return answer.decision(None, None, image.generation());
+        return answer.decision(image.generation());
     }
     by_profile(image, acee, request, &undecided(Rule::NoProfile))
 }
@@ -71,29 +71,14 @@ fn by_profile(image: &Image, acee: &Acee, request: &Request, without: &Answer) -
 {
     let generation = image.generation();
     let Some(profiles) = image.effective(request.class) else {
-        return without.decision(None, None, generation);
+        return without.decision(generation);
     };
     match profiles.find(&request.name) {
-        None => without.decision(None, None, generation),
+        None => without.decision(generation),
         Some(place) => {
             let facts = profiles.facts(place);
-            let answer = with_profile(image, acee, request, &facts);
-            answer.decision(
-                Some(profiles.name(place)),
-                Some(audits_of(&facts)),
-                generation,
-            )
+            with_profile(image, acee, request, &facts).decision_on(&facts, generation)
         }
-    }
-}
-
-/// What the profile asks to be logged.
-fn audits_of(facts: &Facts<'_>) -> Audits
-    ensures { (p : Profile) → AreFacts p facts.now → result ≡ audits_of p }
-{
-    Audits {
-        audit: facts.audit,
-        global_audit: facts.global_audit,
     }
 }
 

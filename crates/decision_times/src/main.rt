@@ -3,7 +3,8 @@
 //!
 //! Rows that make what is asked:
 //! - `C command`: gives a command to the database, as IBMUSER in the group SYS1;
-//! - `I`: makes the image of the database as it stands, which the rows below read until the next `I`;
+//! - `I`: makes an image of all rows of the database as they stand, which the rows below read until the next `I` or `J`;
+//! - `J`: takes the image in its place that the commands made, each of the one before;
 //! - `V user`, `V user group`: adds the ACEE of a user, which is known by its place from 0;
 //! - `Q place level class name`: adds a question: whether the user of the ACEE at that place may have that access;
 //! - `E user-or-group level`: puts an entry into an access list of its own, which no profile has;
@@ -59,6 +60,7 @@ impl Bench {
         match verb {
             "C" => self.system.command(rt.alloc(), rest),
             "I" => self.system.make_image(rt.alloc()),
+            "J" => self.system.take_image(),
             "V" => self.verify(rt.alloc(), rest),
             "Q" => self.question(rest),
             "E" => self.entry(rest),

@@ -1,58 +1,53 @@
-//! A database and the image that was made of it last.
+//! A database that commands change, and the image that questions are asked of.
 
 use anyhow::{Result, anyhow};
-use command_parser::{Issuer, parse};
-use racf_database::Database;
-use racf_profiles::{ibmuser, sys1};
+use followed_images::{Followed, Outcome, TakenImage};
 use raclist_image::Image;
 use std::alloc::Global;
-use std::sync::Arc;
 
-/// A database and the image that was made of it last.
+/// A database that commands change, and the image that questions are asked of.
 #[derive(Drop)]
 pub(crate) struct System {
-    /// The database, as the commands have left it.
-    database: Database,
-    /// The image that was made last; none before the first.
-    image: Option<Arc<Image>>,
+    /// The database, as the commands have left it, with the image that follows it.
+    followed: Followed,
+    /// The image that a row asked for last; none before the first.
+    image: Option<TakenImage>,
 }
 
 impl System {
-    /// A new database, without an image.
+    /// A new database, without an image to be asked.
     pub(crate) fn new(alloc: Global) -> Result<System> {
-        let database = Database::new(alloc)?;
         Ok(System {
-            database,
+            followed: Followed::new(alloc)?,
             image: None,
         })
     }
 
-    /// Parses, checks, prepares and applies a command.
+    /// Gives a command, which makes the next image of the one before.
     pub(crate) fn command(&mut self, alloc: Global, text: &str) -> Result<()> {
-        let issuer = Issuer::new(ibmuser(), sys1()).ok_or_else(|| anyhow!("no issuer"))?;
-        let Ok(command) = parse(alloc, issuer.id, text.as_bytes()) else {
-            return Err(anyhow!("no command"));
-        };
-        match self.database.check(&issuer, &command) {
-            Err(_) => return Err(anyhow!("a command in conflict")),
-            Ok(()) => {}
+        match self.followed.give(alloc, text.as_bytes())? {
+            Outcome::Accepted => Ok(()),
+            Outcome::Faulty(_) => Err(anyhow!("no command")),
+            Outcome::Refused(_) => Err(anyhow!("a command in conflict")),
         }
-        let change = self.database.prepare(alloc, &issuer, &command)?;
-        self.database.apply(change);
-        Ok(())
     }
 
-    /// Makes the image of the database as it stands.
+    /// Asks an image of all rows from now on, made from nothing.
     pub(crate) fn make_image(&mut self, alloc: Global) -> Result<()> {
-        let rows = self.database.to_rows(alloc)?;
-        self.image = Some(Image::of(alloc, &rows, 0)?);
+        self.image = Some(self.followed.image_of_rows(alloc, 0)?);
         Ok(())
     }
 
-    /// The image that was made last.
+    /// Asks the image from now on that the commands have made, each of the one before.
+    pub(crate) fn take_image(&mut self) -> Result<()> {
+        self.image = Some(self.followed.take()?);
+        Ok(())
+    }
+
+    /// The image that is asked.
     pub(crate) fn image(&self) -> Result<&Image> {
         match &self.image {
-            Some(image) => Ok(image),
+            Some(image) => Ok(image.image()),
             None => Err(anyhow!("no image")),
         }
     }

@@ -21,7 +21,7 @@ mod issuers;
 mod making;
 mod outcome;
 mod refusal;
-mod words;
+mod refusal_words;
 
 pub use answers::{Ready, Reply};
 pub use desk::Desk;

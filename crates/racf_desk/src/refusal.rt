@@ -1,6 +1,6 @@
 //! Why a command is refused, and the words for it.
 
-use crate::words::{write_conflict, write_name, write_needs, write_syntax};
+use crate::refusal_words::{write_conflict, write_name, write_needs, write_syntax};
 use access_levels::Id;
 use command_authority::Needs;
 use command_parser::Syntax;

@@ -8,7 +8,7 @@ ghost use Rattle.racf_generator.specs.Tally.{ended_lines, summary, tally};
 
 use crate::counts::{Counts, write_count};
 use crate::faults::count_fault;
-use crate::words::first_word;
+use crate::line_words::first_word;
 use memchr::memchr;
 use racf_outside::{Failed, Sink};
 use std::alloc::{AllocError, Global};

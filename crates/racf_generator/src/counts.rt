@@ -3,7 +3,7 @@
 ghost use Rattle.std.specs.Prelude.{◌≡◌, ◌+◌, ◌-◌, ◌^◌, ◌<◌, [], ◌++◌, decimal, OnOk};
 ghost use Rattle.racf_generator.specs.Counting.{counted, counted_next, counts_text};
 
-use crate::words::{says_accepted, says_answered, says_denied, says_refused};
+use crate::line_words::{says_accepted, says_answered, says_denied, says_refused};
 use itoa::Buffer;
 use std::alloc::AllocError;
 use std::marker::Model;

@@ -15,11 +15,14 @@
 mod answer_tally;
 mod counts;
 mod faults;
+mod line_words;
+mod made_lines;
+mod made_text;
+mod parts;
 pub mod laws;
 mod made_lines;
 mod made_text;
 mod parts;
-mod words;
 
 pub use answer_tally::AnswerTally;
 pub use made_lines::line_count;

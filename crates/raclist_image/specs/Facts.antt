@@ -5,6 +5,7 @@ use Rattle.raclist_image.specs.declared.facts.Facts.{Facts}
 
 -- These are the facts of that profile: each is the profile's field of that name.
 pub record AreFacts (profile : Profile) (facts : Facts) : Type 0 where
+  pub name : facts.name.now ≡ profile.name
   pub owner : facts.owner ≡ profile.owner
   pub uacc : facts.uacc ≡ profile.uacc
   pub warning : facts.warning ≡ profile.warning

@@ -73,7 +73,8 @@ impl ClassImage {
         requires { place < length self.now.profiles }
         ensures { IsSomeAnd (slice_get self.now.profiles place) (λ profile. AreFacts profile result) }
     {
-        facts_of(self.profiles.at(place))
+        let (name, profile) = self.profiles.named_at(place);
+        facts_of(name, profile)
     }
 
     /// The members of the profile of that very name; none where there is no such profile.
@@ -129,11 +130,13 @@ impl ClassImage {
     }
 }
 
-/// What a decision reads of this profile.
-fn facts_of(profile: &Profile) -> Facts<'_>
+/// What a decision reads of this profile, whose name this is.
+fn facts_of<'a>(name: &'a Pattern, profile: &'a Profile) -> Facts<'a>
+    requires { name.now ≡ profile.now.name }
     ensures { AreFacts profile.now result }
 {
     Facts {
+        name,
         owner: profile.owner,
         uacc: profile.uacc,
         warning: profile.warning,

@@ -1,10 +1,12 @@
 //! What a decision reads of a profile.
 use access_levels::{Categories, CondEntry, Entry, Id, Level};
+use generic_names::Pattern;
 use racf_profiles::AuditRule;
 
 /// What a decision reads of a profile.
 #[derive(Clone, Copy)]
 pub struct Facts<'a> {
+    pub name: &'a Pattern,
     /// A user or a group.
     pub owner: Id,
     /// The universal access.

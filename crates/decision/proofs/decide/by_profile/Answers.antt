@@ -2,7 +2,8 @@ use Rattle.std.proofs.Common.{List, None, Some, ◌∙◌, ap}
 use Rattle.std.specs.Prelude.{ℕ, Option, option_and_then, slice_get}
 use Rattle.generic_names.specs.Best.{best}
 use Rattle.racf_profiles.specs.declared.profiles.Profile.{Profile}
-use Rattle.decision.specs.Table.{decision_with, decided_after}
+use Rattle.raclist_image.specs.Facts.{AreFacts}
+use Rattle.decision.specs.Table.{decision_of, decided_after}
 use Rattle.decision.proofs.OnProfile.{on_profile}
 use Rattle.decision.proofs.decide.by_profile.Goals as goal
 
@@ -16,7 +17,6 @@ returns-in-Some-find c =
     let asked = c.args.request.now.asked in
     let without = c.args.without.now in
     let profiles = c.in-Some.profiles.now.profiles in
-    c.decision-in-Some-find.ensures
-    ∙ ap (λ (n : ℕ). decision_with n (Some c.name.result) (Some c.audits_of.result) c.with_profile-answer.result) c.generation-generation.ensures
-    ∙ on_profile state generation acee class name asked without (slice_get profiles c.in-Some-find.place) c.facts-facts.result c.name.result c.audits_of.result c.with_profile-answer.result c.facts-facts.ensures c.name.ensures c.audits_of.ensures c.with_profile-answer.ensures
+    let made = λ (p : Profile) (h : AreFacts p c.facts-facts.result). c.decision_on.ensures p h ∙ ap (λ (n : ℕ). decision_of n (Some p) c.with_profile.result) c.generation-generation.ensures in
+    on_profile state generation acee class name asked without (slice_get profiles c.in-Some-find.place) c.facts-facts.result c.with_profile.result c.decision_on.result c.facts-facts.ensures c.with_profile.ensures made
     ∙ ap (λ (p : Option Profile). decided_after state generation acee class name asked None without p) (c.in-Some-find.ensures.there ∙ ap (λ (ps : Option (List Profile)). option_and_then (λ (ps : List Profile). best (λ (profile : Profile). profile.name) ps name) ps) c.in-Some.ensures.profiles)

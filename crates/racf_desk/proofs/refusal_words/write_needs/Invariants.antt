@@ -1,6 +1,6 @@
 use Rattle.std.proofs.Common.{◌≡◌, ◌++◌, drop}
 use Rattle.racf_desk.specs.Words.{each_need}
-use Rattle.racf_desk.proofs.words.write_needs.Given as goal
+use Rattle.racf_desk.proofs.refusal_words.write_needs.Given as goal
 
 -- what is written so far, and what is to be written of the others
 abbrev pub invariant-loop-need : goal.invariant-loop-need

@@ -15,11 +15,8 @@
 mod answer_tally;
 mod counts;
 mod faults;
-mod line_words;
-mod made_lines;
-mod made_text;
-mod parts;
 pub mod laws;
+mod line_words;
 mod made_lines;
 mod made_text;
 mod parts;

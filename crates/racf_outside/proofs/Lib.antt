@@ -1,9 +1,12 @@
 pub mod Bytes
 mod HeldLaws
+mod ImageRows
+pub mod ImageTests
 pub mod Images
 pub mod LineLaws
 mod LineRows
 pub mod Rises
 pub mod Runs
 mod ScanLaws
+mod SinceLaws
 mod SlotLaws

@@ -19,6 +19,7 @@ mod disk;
 mod faults;
 mod file_identity;
 mod files;
+pub mod laws;
 mod line_buffer;
 mod lines;
 mod memory;

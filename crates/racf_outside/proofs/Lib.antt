@@ -5,6 +5,7 @@ pub mod ImageTests
 pub mod Images
 pub mod LineLaws
 mod LineRows
+mod Replays
 pub mod Rises
 pub mod Runs
 mod ScanLaws

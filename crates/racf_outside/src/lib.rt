@@ -17,6 +17,7 @@ mod blocks;
 mod calls;
 mod disk;
 mod faults;
+mod file_disk;
 mod file_identity;
 mod files;
 pub mod laws;
@@ -32,6 +33,7 @@ mod shelf;
 mod streams;
 
 pub use disk::{Disk, Two};
+pub use file_disk::FileDisk;
 pub use files::{FileShelf, FileSink, FileSource};
 pub use lines::{Line, LineFault, Lines};
 pub use memory::{MemorySink, MemorySource, NeverSink, NeverSource};

@@ -1,6 +1,6 @@
 -- A reader at whose hand the end of a line is: its source isn't read before that line is given.
 use Rattle.std.proofs.Common.{ℕ, ◌≡◌, ◌≢◌, ◌∙◌, ◌||◌, eqb, Bool, true, false, List, [], ◌∷◌, ◌++◌, length, take, drop, None, Some, inl, inr, refl, sym, ap, arith}
-use Rattle.std.specs.Prelude.{◌⊎◌, ◌==◌, All, Option, IfNone, IfSome, is_some}
+use Rattle.std.specs.Prelude.{◌⊎◌, ◌==◌, Option, IfNone, IfSome, is_some}
 use Rattle.std.proofs.Math.Seq.{take-length}
 use Rattle.std.proofs.lemmas.Bool.{eqb-true, ne_eqb}
 use Rattle.std.proofs.lemmas.List.{take-append-drop}

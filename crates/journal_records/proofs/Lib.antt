@@ -1,0 +1,4 @@
+mod FieldLaws
+mod NumberLaws
+mod CommandLaws
+mod RecordLaws

@@ -58,11 +58,15 @@ issuer_in id group = do
   issuer_with id group (is_ok (group_of group)) refl
 
 -- 5 BadText: the text is the canonical text of no command.
-abbrev pub item_in : (content : List ℕ) → Result CommandRecord RecordFault
-item_in content = do
-  issuer ← issuer_in (take 8 content) (take 8 (drop 8 content))
-  command ← or_fault (canonical_command issuer.id (drop 8 (drop 8 content))) faults.BadText
+abbrev pub item_from : (id group text : List ℕ) → Result CommandRecord RecordFault
+item_from id group text = do
+  issuer ← issuer_in id group
+  command ← or_fault (canonical_command issuer.id text) faults.BadText
   Ok (record { issuer = issuer; command = command })
+
+-- The two fields of eight bytes, and the text behind them.
+abbrev pub item_in : (content : List ℕ) → Result CommandRecord RecordFault
+item_in content = item_from (take 8 content) (take 8 (drop 8 content)) (drop 8 (drop 8 content))
 
 -- 1 Short: fewer than four bytes. 2 BadLength: these aren't the length of the rest, or it is below 17.
 unfoldable pub record_of : (bytes : List ℕ) → Result CommandRecord RecordFault

@@ -10,9 +10,12 @@ ghost use Rattle.journal_records.specs.Reading.{canonical_command, record_of};
 use crate::record::CommandRecord;
 use command_parser::printed_is_read;
 
-/// A text is the canonical one of the command that it is read as and of no other, whoever gives it.
+/// A text is the canonical one of the command that it is read as, and of no other, whoever gives it. It has 1 to 30,000
+/// bytes.
 pub fn canonical_texts_are_of_commands()
-    ensures { (issuer text : List ℕ) (command : CommandFields) → ((canonical_command issuer text ≡ Some command) ↔ IsWritten command text) }
+    ensures one { (issuer text : List ℕ) (command : CommandFields) → ((canonical_command issuer text ≡ Some command) ↔ IsWritten command text) }
+    ensures least { (text : List ℕ) (command : CommandFields) → IsWritten command text → 1 ≤ length text }
+    ensures most { (text : List ℕ) (command : CommandFields) → IsWritten command text → length text ≤ 30000 }
 {
     command_parser::laws::one_command_is_spelled();
     command_parser::laws::operands_are_the_tables();
@@ -32,7 +35,9 @@ pub fn lengths_are_those_of_the_texts()
     ensures whole { (item : CommandRecord) → IsLawful item → length (spelled item) ≡ 20 + length (canonical item.command) }
     ensures most { (item : CommandRecord) → IsLawful item → length (spelled item) ≤ 30020 }
     ensures first { (item : CommandRecord) → IsLawful item → big_number 4 (spelled item) ≡ length (drop 4 (spelled item)) }
-{}
+{
+    canonical_texts_are_of_commands();
+}
 
 /// Every record is lawful, and is read from its bytes.
 pub fn written_is_read(item: &CommandRecord)

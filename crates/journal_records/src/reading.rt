@@ -4,7 +4,7 @@ ghost use Rattle.command_parser.specs.declared.fields.CommandFields.{CommandFiel
 ghost use Rattle.journal_records.specs.declared.record.CommandRecord.{CommandRecord};
 ghost use Rattle.journal_records.specs.declared.record.RecordFault.TheVariants.{BadText};
 ghost use Rattle.journal_records.specs.Spelling.{spelled, IsLawful};
-ghost use Rattle.journal_records.specs.Reading.{or_fault, issuer_in, canonical_command, item_in, record_of, Reads, IsFault, IsUnlessMemory};
+ghost use Rattle.journal_records.specs.Reading.{or_fault, issuer_in, canonical_command, item_from, record_of, Reads, IsFault, IsUnlessMemory};
 
 use crate::fields::{FIELD, id_in};
 use crate::laws;
@@ -53,16 +53,15 @@ fn read_exact(alloc: Global, bytes: &[u8]) -> Result<CommandRecord, RecordFault>
     if length != content.len() || content.len() < SHORTEST {
         return Err(RecordFault::BadLength);
     }
-    item(alloc, content)
-}
-
-/// The item of what follows the length.
-fn item(alloc: Global, content: &[u8]) -> Result<CommandRecord, RecordFault>
-    requires { 17 ≤ length content.now }
-    ensures { Reads result (item_in content.now) }
-{
     let (id, rest) = content.split_at(FIELD);
     let (group, text) = rest.split_at(FIELD);
+    item(alloc, id, group, text)
+}
+
+/// The item of the two fields and the text behind the length.
+fn item(alloc: Global, id: &[u8], group: &[u8], text: &[u8]) -> Result<CommandRecord, RecordFault>
+    ensures { Reads result (item_from id.now group.now text.now) }
+{
     let issuer = issuer(id, group)?;
     let command = command(alloc, issuer.id, text)?;
     Ok(CommandRecord { issuer, command })

@@ -4,6 +4,7 @@ ghost use Rattle.command_parser.specs.Canonical.{canonical};
 ghost use Rattle.journal_records.specs.Spelling.{content, spelled};
 
 use crate::fields::filled;
+use crate::laws;
 use crate::record::CommandRecord;
 use byteorder::{BigEndian, ByteOrder};
 use command_parser::{Command, NoMemory, printed_is_read};
@@ -40,6 +41,7 @@ fn short_text(command: &Command) -> &[u8]
     ensures text { result.now ≡ canonical command.now }
     ensures short { length result.now ≤ 30000 }
 {
+    laws::canonical_texts_are_of_commands();
     printed_is_read(command);
     command.text()
 }

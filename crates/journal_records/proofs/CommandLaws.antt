@@ -1,18 +1,22 @@
 -- The canonical texts of commands.
-use Rattle.std.proofs.Common.{◌≡◌, ℕ, ◌≤◌, Bool, true, false, cond, List, length, Option, Some, None, Result, Ok, Err, bytes_eq, refl, sym, ap, subst, ◌∙◌, arith}
+use Rattle.std.proofs.Common.{◌≡◌, ℕ, ◌≤◌, Bool, true, false, cond, List, [], ◌∷◌, ◌++◌, length, Option, Some, None, Result, Ok, Err, bytes_eq, refl, sym, ap, subst, ◌∙◌, arith}
 use Rattle.std.specs.Prelude.{◌↔◌, nat_lt}
 use Rattle.std.specs.Option.{option_and_then}
 use Rattle.std.proofs.lemmas.Bool.Decides.{nat_tests}
+use Rattle.std.proofs.lemmas.List.{length-append}
 use Rattle.std.proofs.lemmas.Slice.Eq.{bytes_eq-Decides}
 use Rattle.command_values.specs.declared.faults.Syntax.{Syntax}
 use Rattle.command_values.specs.declared.faults.Syntax.TheVariants as syntax_faults
 use Rattle.command_values.specs.declared.values.Context.{Context}
 use Rattle.command_values.specs.Results.{◌>>=◌}
 use Rattle.command_grammar.specs.Reading.{Generic, parsed}
-use Rattle.command_grammar.specs.Canon.{canon, spelled}
+use Rattle.command_grammar.specs.Table.{full_name}
+use Rattle.command_grammar.specs.Canon.{canon, spelled, positions_text}
 use Rattle.command_grammar.specs.Lawful.{IsLawful}
+use Rattle.command_grammar.proofs.TableFacts.{IsMore, full_name-plain}
 use Rattle.command_parser.specs.declared.fields.CommandFields.{CommandFields}
-use Rattle.command_parser.specs.Canonical.{generic_view, canonical, given_by, Spells, IsWritten}
+use Rattle.command_parser.specs.Canonical.{generic_view, operands_text, canonical, given_by, Spells, IsWritten}
+use Rattle.command_parser.specs.Operands.{verb_of, names_of, operands_of_command}
 use Rattle.command_parser.specs.CommandOf.{command_in}
 use Rattle.journal_records.specs.Reading.{unless_other, canonical_command}
 
@@ -21,9 +25,9 @@ same_command true d c h = (refl, cc)
 same_command false d c h = absurd cc
 
 -- The command that a text spells, where that text is its canonical one.
-pub record IsOwn (o : Option CommandFields) (text : List ℕ) (c : CommandFields) : Type 0 where
-  pub found : o ≡ Some c
-  pub whole : canonical c ≡ text
+record IsOwn (o : Option CommandFields) (text : List ℕ) (c : CommandFields) : Type 0 where
+  found : o ≡ Some c
+  whole : canonical c ≡ text
 
 own : (o : Option CommandFields) (text : List ℕ) (c : CommandFields) → option_and_then (unless_other text) o ≡ Some c → IsOwn o text c
 own None text c h = absurd cc
@@ -32,13 +36,15 @@ own (Some d) text c h =
     let made : IsOwn (Some d) text d = record { found = refl; whole = (bytes_eq-Decides (canonical d) text).0 same.0 } in
     subst (λ (e : CommandFields). IsOwn (Some d) text e) same.1 made
 
-pub its_own : (issuer text : List ℕ) (c : CommandFields) → canonical_command issuer text ≡ Some c → IsOwn (command_in issuer text) text c
+its_own : (issuer text : List ℕ) (c : CommandFields) → canonical_command issuer text ≡ Some c → IsOwn (command_in issuer text) text c
 its_own issuer text c h = own (command_in issuer text) text c h
 
-pub own-again : (o : Option CommandFields) (text : List ℕ) (c : CommandFields) → IsOwn o text c → option_and_then (unless_other text) o ≡ Some c
-own-again o text c is =
-    let same : bytes_eq (canonical c) text ≡ true = (bytes_eq-Decides (canonical c) text).1 is.whole in
-    rw (is.found, same) refl
+pub own-again : (o : Option CommandFields) (text : List ℕ) (c : CommandFields) → o ≡ Some c → bytes_eq (canonical c) text ≡ true → option_and_then (unless_other text) o ≡ Some c
+own-again o text c found same = rw (found, same) refl
+
+-- Where the text isn't the canonical one of the command that it spells, there is none.
+pub not_own : (o : Option CommandFields) (text : List ℕ) (c : CommandFields) → o ≡ Some c → bytes_eq (canonical c) text ≡ false → option_and_then (unless_other text) o ≡ None
+not_own o text c found other = rw (found, other) refl
 
 -- A view that was read from a text, whose canonical text isn't too long.
 record IsRead (r : Result Generic Syntax) (g : Generic) : Type 0 where
@@ -79,7 +85,7 @@ module _
 
     read : (issuer text : List ℕ) (c : CommandFields) → IsWritten c text → canonical_command issuer text ≡ Some c
     read issuer text c is =
-        own-again (command_in issuer text) text c (record { found = (one issuer text c).0 (is.spells issuer); whole = sym is.canonic })
+        own-again (command_in issuer text) text c ((one issuer text c).0 (is.spells issuer)) ((bytes_eq-Decides (canonical c) text).1 (sym is.canonic))
 
     pub one_text : (issuer text : List ℕ) (c : CommandFields) → ((canonical_command issuer text ≡ Some c) ↔ IsWritten c text)
     one_text issuer text c = (written issuer text c, read issuer text c)
@@ -89,3 +95,18 @@ module _
         let short = (spelled_read text text c (is.spells text)).short in
         let least : length (canon (generic_view c)) ≤ 30000 = grind (arith, nat_tests) in
         subst (λ (t : List ℕ). length t ≤ 30000) (sym (tables c) ∙ sym is.canonic) least
+
+some-bytes : (word : List ℕ) → IsMore word → 1 ≤ length word
+some-bytes [] more = absurd more
+some-bytes (byte ∷ bytes) more = omega arith
+
+some-canonical : (c : CommandFields) → 1 ≤ length (canonical c)
+unfolding canonical
+some-canonical c =
+    let name = full_name (verb_of c) in
+    let behind = positions_text (names_of c) ++ operands_text (operands_of_command c) in
+    let some = some-bytes name (full_name-plain (verb_of c)).some in
+    omega (arith, some, length-append name behind)
+
+pub text-some : (text : List ℕ) (c : CommandFields) → IsWritten c text → 1 ≤ length text
+text-some text c is = subst (λ (t : List ℕ). 1 ≤ length t) (sym is.canonic) (some-canonical c)

@@ -2,3 +2,4 @@ mod FieldLaws
 mod NumberLaws
 mod CommandLaws
 mod RecordLaws
+mod WorkedRows

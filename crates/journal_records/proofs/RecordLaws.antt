@@ -2,7 +2,7 @@
 use Rattle.std.proofs.Common.{◌≡◌, ℕ, ◌+◌, ◌-◌, ◌<◌, ◌≤◌, ◌^◌, Bool, true, false, cond, eqb, ltb, not, ◌||◌, List, ◌++◌, length, take, drop, Option, Some, None, Result, Ok, Err, is_ok, refl, sym, ap, subst, ◌∙◌, append_assoc, arith}
 use Rattle.std.specs.Prelude.{◌↔◌}
 use Rattle.std.proofs.Math.Bool.{Bool-set}
-use Rattle.std.proofs.lemmas.Bool.{ltb-false, le-ltb, eqb-true}
+use Rattle.std.proofs.lemmas.Bool.{ltb-false, le-ltb, eqb-true, eq-eqb}
 use Rattle.std.proofs.lemmas.List.{length-append, take_at, drop_at, take-append-drop}
 use Rattle.byteorder.specs.Endian.{big_bytes, big_number}
 use Rattle.byteorder.specs.Numbers.{length-bytes_high_first}
@@ -78,75 +78,86 @@ length-content item lawful =
     let second = length-filled item.issuer.group (group-id item.issuer.group item.issuer.group_spelled) in
     omega (arith, first, second, length-append (filled item.issuer.id ++ filled item.issuer.group) (canonical item.command), length-append (filled item.issuer.id) (filled item.issuer.group))
 
+pub length-spelled : (item : CommandRecord) → IsLawful item → length (spelled item) ≡ 20 + length (canonical item.command)
+unfolding spelled
+length-spelled item lawful =
+    let size = length-content item lawful in
+    let four = length-bytes_high_first 4 (length (content item)) in
+    omega (arith, size, four, length-append (big_bytes 4 (length (content item))) (content item))
+
 module _
-  (one : (issuer text : List ℕ) (c : CommandFields) → ((canonical_command issuer text ≡ Some c) ↔ IsWritten c text))
-  (least : (text : List ℕ) (c : CommandFields) → IsWritten c text → 1 ≤ length text)
-  (most : (text : List ℕ) (c : CommandFields) → IsWritten c text → length text ≤ 30000)
+    (one : (issuer text : List ℕ) (c : CommandFields) → ((canonical_command issuer text ≡ Some c) ↔ IsWritten c text))
+    (least : (text : List ℕ) (c : CommandFields) → IsWritten c text → 1 ≤ length text)
+    (most : (text : List ℕ) (c : CommandFields) → IsWritten c text → length text ≤ 30000)
   where
+    -- What follows the length is the content of the item.
+    item-content : (bytes : List ℕ) (item : CommandRecord) → item_in bytes ≡ Ok item → IsLawful item × (bytes ≡ content item)
+    item-content bytes item h =
+        let id = take 8 bytes in
+        let group = take 8 (drop 8 bytes) in
+        let text = drop 8 (drop 8 bytes) in
+        let a = step (issuer_in id group) (λ issuer. or_fault (canonical_command issuer.id text) faults.BadText >>= λ command. Ok (record { issuer = issuer; command = command })) item h in
+        let b = step (or_fault (canonical_command a.0.id text) faults.BadText) (λ command. Ok (record { issuer = a.0; command = command })) item a.2 in
+        let fields = issuer-fields id group a.0 a.1 in
+        let written : IsWritten b.0 text = (one a.0.id text b.0).0 (there (canonical_command a.0.id text) faults.BadText b.0 b.1) in
+        let made : CommandRecord = record { issuer = a.0; command = b.0 } in
+        let parts : bytes ≡ id ++ (group ++ text) = sym (ap (λ (rest : List ℕ). id ++ rest) (take-append-drop 8 (drop 8 bytes)) ∙ take-append-drop 8 bytes) in
+        let whole : bytes ≡ content made = parts ∙ sym (append_assoc id group text) ∙ ap (λ (t : List ℕ). (t ++ group) ++ text) fields.first.whole ∙ ap (λ (t : List ℕ). (filled a.0.id ++ t) ++ text) fields.second.whole ∙ ap (λ (t : List ℕ). (filled a.0.id ++ filled a.0.group) ++ t) written.canonic in
+        let lawful : IsLawful made = record { issuer = fields.first.spelled; command = subst (IsWritten b.0) written.canonic written } in
+        let done : let r : Result CommandRecord RecordFault = Ok made in r ≡ Ok item = b.2 in
+        let is : made ≡ item = cc in
+        subst (λ (i : CommandRecord). IsLawful i × (bytes ≡ content i)) is (lawful, whole)
 
-  -- What follows the length is the content of the item.
-  item-content : (bytes : List ℕ) (item : CommandRecord) → item_in bytes ≡ Ok item → IsLawful item × (bytes ≡ content item)
-  item-content bytes item h =
-      let id = take 8 bytes in
-      let group = take 8 (drop 8 bytes) in
-      let text = drop 8 (drop 8 bytes) in
-      let a = step (issuer_in id group) (λ issuer. or_fault (canonical_command issuer.id text) faults.BadText >>= λ command. Ok (record { issuer = issuer; command = command })) item h in
-      let b = step (or_fault (canonical_command a.0.id text) faults.BadText) (λ command. Ok (record { issuer = a.0; command = command })) item a.2 in
-      let fields = issuer-fields id group a.0 a.1 in
-      let written : IsWritten b.0 text = (one a.0.id text b.0).0 (there (canonical_command a.0.id text) faults.BadText b.0 b.1) in
-      let made : CommandRecord = record { issuer = a.0; command = b.0 } in
-      let parts : bytes ≡ id ++ (group ++ text) = sym (ap (λ (rest : List ℕ). id ++ rest) (take-append-drop 8 (drop 8 bytes)) ∙ take-append-drop 8 bytes) in
-      let whole : bytes ≡ content made = parts ∙ sym (append_assoc id group text) ∙ ap (λ (t : List ℕ). (t ++ group) ++ text) fields.first.whole ∙ ap (λ (t : List ℕ). (filled a.0.id ++ t) ++ text) fields.second.whole ∙ ap (λ (t : List ℕ). (filled a.0.id ++ filled a.0.group) ++ t) written.canonic in
-      let lawful : IsLawful made = record { issuer = fields.first.spelled; command = subst (IsWritten b.0) written.canonic written } in
-      let done : let r : Result CommandRecord RecordFault = Ok made in r ≡ Ok item = b.2 in
-      let is : made ≡ item = cc in
-      subst (λ (i : CommandRecord). IsLawful i × (bytes ≡ content i)) is (lawful, whole)
+    content-again : (item : CommandRecord) → IsLawful item → item_in (content item) ≡ Ok item
+    content-again item lawful =
+        let id = filled item.issuer.id in
+        let group = filled item.issuer.group in
+        let text = canonical item.command in
+        let first = length-filled item.issuer.id lawful.issuer in
+        let second = length-filled item.issuer.group (group-id item.issuer.group item.issuer.group_spelled) in
+        let parts : content item ≡ id ++ (group ++ text) = append_assoc id group text in
+        let front : take 8 (content item) ≡ id = ap (take 8) parts ∙ take_at id (group ++ text) 8 first in
+        let behind : drop 8 (content item) ≡ group ++ text = ap (drop 8) parts ∙ drop_at id (group ++ text) 8 first in
+        let middle : take 8 (drop 8 (content item)) ≡ group = ap (take 8) behind ∙ take_at group text 8 second in
+        let rest : drop 8 (drop 8 (content item)) ≡ text = ap (drop 8) behind ∙ drop_at group text 8 second in
+        let issuer = issuer-again item.issuer lawful.issuer in
+        let command : canonical_command item.issuer.id text ≡ Some item.command = (one item.issuer.id text item.command).1 lawful.command in
+        ap (λ (t : List ℕ). item_from t (take 8 (drop 8 (content item))) (drop 8 (drop 8 (content item)))) front
+        ∙ ap (λ (t : List ℕ). item_from id t (drop 8 (drop 8 (content item)))) middle
+        ∙ ap (λ (t : List ℕ). item_from id group t) rest
+        ∙ rw (issuer, command) refl
 
-  content-again : (item : CommandRecord) → IsLawful item → item_in (content item) ≡ Ok item
-  content-again item lawful =
-      let id = filled item.issuer.id in
-      let group = filled item.issuer.group in
-      let text = canonical item.command in
-      let first = length-filled item.issuer.id lawful.issuer in
-      let second = length-filled item.issuer.group (group-id item.issuer.group item.issuer.group_spelled) in
-      let parts : content item ≡ id ++ (group ++ text) = append_assoc id group text in
-      let front : take 8 (content item) ≡ id = ap (take 8) parts ∙ take_at id (group ++ text) 8 first in
-      let behind : drop 8 (content item) ≡ group ++ text = ap (drop 8) parts ∙ drop_at id (group ++ text) 8 first in
-      let middle : take 8 (drop 8 (content item)) ≡ group = ap (take 8) behind ∙ take_at group text 8 second in
-      let rest : drop 8 (drop 8 (content item)) ≡ text = ap (drop 8) behind ∙ drop_at group text 8 second in
-      let issuer = issuer-again item.issuer lawful.issuer in
-      let command : canonical_command item.issuer.id text ≡ Some item.command = (one item.issuer.id text item.command).1 lawful.command in
-      ap (λ (t : List ℕ). item_from t (take 8 (drop 8 (content item))) (drop 8 (drop 8 (content item)))) front
-      ∙ ap (λ (t : List ℕ). item_from id t (drop 8 (drop 8 (content item)))) middle
-      ∙ ap (λ (t : List ℕ). item_from id group t) rest
-      ∙ rw (issuer, command) refl
+    first-of : (item : CommandRecord) → IsLawful item → big_number 4 (big_bytes 4 (length (content item)) ++ content item) ≡ length (content item)
+    first-of item lawful =
+        let size = length-content item lawful in
+        let short = most (canonical item.command) item.command lawful.command in
+        length-again (length (content item)) (content item) (omega (arith, size, short))
 
-  read-spelled : (bytes : List ℕ) (item : CommandRecord) → AreBytes bytes → record_of bytes ≡ Ok item → IsLawful item × (bytes ≡ spelled item)
-  unfolding record_of, spelled
-  read-spelled bytes item fits h =
-      let tests = passed (ltb (length bytes) 4) (eqb (big_number 4 bytes) (length (drop 4 bytes))) (ltb (length (drop 4 bytes)) 17) (item_in (drop 4 bytes)) item h in
-      let long : 4 ≤ length bytes = ltb-false _ _ tests.0 in
-      let number : big_number 4 bytes ≡ length (drop 4 bytes) = eqb-true _ _ tests.1 in
-      let found = item-content (drop 4 bytes) item tests.2 in
-      let whole : bytes ≡ big_bytes 4 (length (drop 4 bytes)) ++ drop 4 bytes = length-back bytes (length (drop 4 bytes)) long fits number in
-      (found.0, whole ∙ ap (λ (t : List ℕ). big_bytes 4 (length t) ++ t) found.1)
+    behind-first : (item : CommandRecord) → drop 4 (big_bytes 4 (length (content item)) ++ content item) ≡ content item
+    behind-first item = drop_at (big_bytes 4 (length (content item))) (content item) 4 (length-bytes_high_first 4 (length (content item)))
 
-  pub spelled-again : (item : CommandRecord) → IsLawful item → record_of (spelled item) ≡ Ok item
-  unfolding record_of, spelled
-  spelled-again item lawful =
-      let size = length-content item lawful in
-      let some = least (canonical item.command) item.command lawful.command in
-      let short = most (canonical item.command) item.command lawful.command in
-      let number = big_bytes 4 (length (content item)) in
-      let four : length number ≡ 4 = length-bytes_high_first 4 (length (content item)) in
-      let a : ltb (length (number ++ content item)) 4 ≡ false = le-ltb _ _ (omega (arith, length-append number (content item), four)) in
-      let b : big_number 4 (number ++ content item) ≡ length (content item) = length-again (length (content item)) (content item) (omega (arith, size, short)) in
-      let d : drop 4 (number ++ content item) ≡ content item = drop_at number (content item) 4 four in
-      let e : ltb (length (content item)) 17 ≡ false = le-ltb _ _ (omega (arith, size, some)) in
-      rw (a, d, b, eqb-refl (length (content item)), e) (content-again item lawful)
+    pub first-spelled : (item : CommandRecord) → IsLawful item → big_number 4 (spelled item) ≡ length (drop 4 (spelled item))
+    unfolding spelled
+    first-spelled item lawful = first-of item lawful ∙ ap length (sym (behind-first item))
 
-  pub one_spelling : (bytes : List ℕ) (item : CommandRecord) → AreBytes bytes → ((record_of bytes ≡ Ok item) ↔ (IsLawful item × (bytes ≡ spelled item)))
-  one_spelling bytes item fits = (
-    read-spelled bytes item fits,
-    λ h. ap record_of h.1 ∙ spelled-again item h.0,
-  )
+    pub read-spelled : (bytes : List ℕ) (item : CommandRecord) → AreBytes bytes → record_of bytes ≡ Ok item → IsLawful item × (bytes ≡ spelled item)
+    unfolding record_of spelled
+    read-spelled bytes item fits h =
+        let tests = passed (ltb (length bytes) 4) (eqb (big_number 4 bytes) (length (drop 4 bytes))) (ltb (length (drop 4 bytes)) 17) (item_in (drop 4 bytes)) item h in
+        let long : 4 ≤ length bytes = ltb-false _ _ tests.0 in
+        let number : big_number 4 bytes ≡ length (drop 4 bytes) = eqb-true _ _ tests.1 in
+        let found = item-content (drop 4 bytes) item tests.2 in
+        let whole : bytes ≡ big_bytes 4 (length (drop 4 bytes)) ++ drop 4 bytes = length-back bytes (length (drop 4 bytes)) long fits number in
+        (found.0, whole ∙ ap (λ (t : List ℕ). big_bytes 4 (length t) ++ t) found.1)
+
+    pub spelled-again : (item : CommandRecord) → IsLawful item → record_of (spelled item) ≡ Ok item
+    unfolding record_of spelled
+    spelled-again item lawful =
+        let size = length-content item lawful in
+        let some = least (canonical item.command) item.command lawful.command in
+        let number = big_bytes 4 (length (content item)) in
+        let four : length number ≡ 4 = length-bytes_high_first 4 (length (content item)) in
+        let a : ltb (length (number ++ content item)) 4 ≡ false = le-ltb _ _ (omega (arith, length-append number (content item), four)) in
+        let e : ltb (length (content item)) 17 ≡ false = le-ltb _ _ (omega (arith, size, some)) in
+        let same : eqb (length (content item)) (length (content item)) ≡ true = eq-eqb _ _ refl in
+        rw (a, behind-first item, first-of item lawful, same, e) (content-again item lawful)

@@ -23,9 +23,10 @@ pub fn canonical_texts_are_of_commands()
     command_grammar::laws::canonical_text_is_read_again();
 }
 
-/// Bytes are read as the lawful record that they spell, and as no other one.
+/// What bytes are read as is a lawful record, which they spell; and each lawful record is read from its spelling.
 pub fn records_are_their_spelling()
-    ensures { (bytes : List ℕ) (item : CommandRecord) → AreBytes bytes → ((record_of bytes ≡ Ok item) ↔ (IsLawful item × (bytes ≡ spelled item))) }
+    ensures found { (bytes : List ℕ) (item : CommandRecord) → AreBytes bytes → record_of bytes ≡ Ok item → IsLawful item × (bytes ≡ spelled item) }
+    ensures only { (item : CommandRecord) → IsLawful item → record_of (spelled item) ≡ Ok item }
 {
     canonical_texts_are_of_commands();
 }

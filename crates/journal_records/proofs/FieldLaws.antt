@@ -1,6 +1,6 @@
 -- The fields of identifiers, written and read.
 use Rattle.std.proofs.Common.{◌≡◌, ℕ, zero, suc, ◌+◌, ◌-◌, ◌<◌, ◌≤◌, Bool, true, false, cond, ltb, List, [], ◌∷◌, ◌++◌, length, take, replicate, Option, Some, None, Result, Ok, Err, is_ok, bytes_eq, refl, sym, ap, subst, ◌∙◌, arith}
-use Rattle.std.specs.Prelude.{◌==◌, not, ◌&&◌, nat_lt}
+use Rattle.std.specs.Prelude.{◌↔◌, ◌==◌, not, ◌&&◌, nat_lt}
 use Rattle.std.specs.List.{prefix_len, position_from, before_first}
 use Rattle.std.proofs.lemmas.Bool.Decides.{nat_tests}
 use Rattle.std.proofs.lemmas.List.{length-append, length-replicate}
@@ -112,3 +112,9 @@ field-filled field id h =
     let found = filled_in (is_ok (id_of front)) (bytes_eq (filled front) field) front id h in
     let made : IsField field front = record { spelled = id-itself front found.0; whole = sym ((bytes_eq-Decides (filled front) field).0 found.1) } in
     subst (λ (t : List ℕ). IsField field t) found.2 made
+
+pub one_field : (field id : List ℕ) → ((id_in field ≡ Some id) ↔ ((id_of id ≡ Ok id) × (field ≡ filled id)))
+one_field field id = (
+  (λ h. let is = field-filled field id h in (is.spelled, is.whole)),
+  λ h. ap id_in h.1 ∙ filled-again id h.0,
+)

@@ -64,6 +64,12 @@ issuer-again issuer h =
     let second = filled-again issuer.group (group-id issuer.group issuer.group_spelled) in
     rw (first, second) (with_again issuer (is_ok (group_of issuer.group)) refl)
 
+pub both_fields : (id group : List ℕ) (issuer : Issuer) → ((issuer_in id group ≡ Ok issuer) ↔ ((id_of issuer.id ≡ Ok issuer.id) × (id ≡ filled issuer.id) × (group ≡ filled issuer.group)))
+both_fields id group issuer = (
+  (λ h. let are = issuer-fields id group issuer h in (are.first.spelled, are.first.whole, are.second.whole)),
+  λ h. ap (λ (t : List ℕ). issuer_in t group) h.1 ∙ ap (issuer_in (filled issuer.id)) h.2 ∙ issuer-again issuer h.0,
+)
+
 -- ---- the record
 
 passed : {A : Type 0} (short same little : Bool) (r : Result A RecordFault) (x : A) → cond short (Err faults.Short) (cond (not same || little) (Err faults.BadLength) r) ≡ Ok x → (short ≡ false) × (same ≡ true) × (r ≡ Ok x)

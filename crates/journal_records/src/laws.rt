@@ -1,14 +1,22 @@
 //! Laws of the definitions. The functions do nothing: their contracts are what is proved.
 ghost use Rattle.std.specs.Prelude.{◌≡◌, ◌≤◌, ◌+◌, ◌↔◌, List, ℕ, Ok, Some, length, drop};
 ghost use Rattle.byteorder.specs.Endian.{big_number};
+ghost use Rattle.access_levels.specs.Spelling.{id_of};
+ghost use Rattle.command_parser.specs.declared.commands.Issuer.{Issuer};
 ghost use Rattle.command_parser.specs.declared.fields.CommandFields.{CommandFields};
 ghost use Rattle.command_parser.specs.Canonical.{canonical, IsWritten};
 ghost use Rattle.journal_records.specs.declared.record.CommandRecord.{CommandRecord};
-ghost use Rattle.journal_records.specs.Spelling.{spelled, IsLawful, AreBytes};
-ghost use Rattle.journal_records.specs.Reading.{canonical_command, record_of};
+ghost use Rattle.journal_records.specs.Spelling.{filled, spelled, IsLawful, AreBytes};
+ghost use Rattle.journal_records.specs.Reading.{id_in, issuer_in, canonical_command, record_of};
 
 use crate::record::CommandRecord;
 use command_parser::printed_is_read;
+
+/// A field is read as the identifier that fills it, and two fields as the issuer whose identifiers fill them.
+pub fn fields_are_of_identifiers()
+    ensures one { (field id : List ℕ) → ((id_in field ≡ Some id) ↔ ((id_of id ≡ Ok id) × (field ≡ filled id))) }
+    ensures two { (id group : List ℕ) (issuer : Issuer) → ((issuer_in id group ≡ Ok issuer) ↔ ((id_of issuer.id ≡ Ok issuer.id) × (id ≡ filled issuer.id) × (group ≡ filled issuer.group))) }
+{}
 
 /// A text is the canonical one of the command that it is read as, and of no other, whoever gives it. It has 1 to 30,000
 /// bytes.

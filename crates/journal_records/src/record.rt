@@ -5,7 +5,9 @@ use thiserror::Error;
 /// A command, with the issuer who gave it and the group that was current for him.
 #[derive(Drop)]
 pub struct CommandRecord {
+    /// Who gave it.
     pub issuer: Issuer,
+    /// What he gave.
     pub command: Command,
 }
 

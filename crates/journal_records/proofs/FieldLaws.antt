@@ -7,17 +7,13 @@ use Rattle.std.proofs.lemmas.List.{length-append, length-replicate}
 use Rattle.std.proofs.lemmas.List.Sums.{take_while-cons}
 use Rattle.std.proofs.lemmas.Slice.Eq.{bytes_eq-Decides}
 use Rattle.access_levels.specs.Spelling.{is_id_byte, id_of, group_of, unless_bad, bad_byte, bad_group_byte, begins_with_digit}
+use Rattle.access_levels.proofs.SpelledIds.{id_of-short}
 use Rattle.access_levels.specs.declared.ids.IdFault.{IdFault}
 use Rattle.access_levels.specs.declared.ids.IdFault.TheVariants.{Empty, TooLong, BadByte}
 use Rattle.journal_records.specs.Spelling.{filled}
 use Rattle.journal_records.specs.Reading.{is_blank, unless_unfilled, id_in}
 
 -- ---- spellings
-
--- What a text says of itself where it is read as a name.
-pub record IsShort (text : List ℕ) (bad : Option ℕ) : Type 0 where
-  pub short : length text ≤ 8
-  pub good : bad ≡ None
 
 abbrev named : (empty long : Bool) → Option ℕ → List ℕ → Result (List ℕ) IdFault
 named empty long bad text = cond empty (Err Empty) (cond long (Err TooLong) (unless_bad bad text))
@@ -36,15 +32,6 @@ name-good false false (Some place) text h = absurd cc
 
 pub id-itself : (text : List ℕ) → is_ok (id_of text) ≡ true → id_of text ≡ Ok text
 id-itself text h = name-itself (length text == 0) (nat_lt 8 (length text)) (bad_byte text) text h
-
-abbrev spelled_as : List ℕ → Result (List ℕ) IdFault
-spelled_as text = Ok text
-
-pub id-short : (text : List ℕ) → id_of text ≡ Ok text → length text ≤ 8
-id-short text h =
-    let good = name-good (length text == 0) (nat_lt 8 (length text)) (bad_byte text) text (ap is_ok h) in
-    let short : nat_lt 8 (length text) ≡ false = good.1 in
-    grind (arith, nat_tests)
 
 pub id-good : (text : List ℕ) → id_of text ≡ Ok text → bad_byte text ≡ None
 id-good text h = (name-good (length text == 0) (nat_lt 8 (length text)) (bad_byte text) text (ap is_ok h)).2
@@ -87,7 +74,7 @@ front-filled (byte ∷ text) place n h =
     take_while-cons (λ byte. not (is_blank byte)) byte (text ++ blanks n) ∙ rw blank (ap (λ (t : List ℕ). byte ∷ t) rest)
 
 pub length-filled : (id : List ℕ) → id_of id ≡ Ok id → length (filled id) ≡ 8
-length-filled id h = let short = id-short id h in omega (arith, length-append id (blanks (8 - length id)), length-replicate {A = ℕ} (8 - length id) 32)
+length-filled id h = let short = id_of-short id id h in omega (arith, length-append id (blanks (8 - length id)), length-replicate {A = ℕ} (8 - length id) 32)
 
 -- The field of an identifier is read as the identifier.
 pub filled-again : (id : List ℕ) → id_of id ≡ Ok id → id_in (filled id) ≡ Some id

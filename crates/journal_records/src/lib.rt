@@ -5,8 +5,7 @@
 //! record has one spelling. Commands and their canonical texts are those of `command_parser`.
 //!
 //! ```
-//! let issuer = Issuer::new(ibmuser, sys1)?;
-//! let command = parse(alloc, ibmuser, b"AU JOE")?;
+//! let command = parse(alloc, issuer.id, b"AU JOE")?;
 //! let mut bytes = Vec::new(alloc);
 //! write(&CommandRecord { issuer, command }, &mut bytes)?;     // X'0000001B', IBMUSER, SYS1, ADDUSER JOE
 //! let record = read(alloc, &bytes)?;                          // the same issuer and command

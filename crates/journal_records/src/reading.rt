@@ -1,5 +1,5 @@
 //! Records, read from their bytes.
-ghost use Rattle.std.specs.Prelude.{◌≡◌, List, ℕ, IfOk, IfErr};
+ghost use Rattle.std.specs.Prelude.{◌≡◌, List, ℕ, Ok, IfOk, IfErr};
 ghost use Rattle.command_parser.specs.declared.fields.CommandFields.{CommandFields};
 ghost use Rattle.journal_records.specs.declared.record.CommandRecord.{CommandRecord};
 ghost use Rattle.journal_records.specs.declared.record.RecordFault.TheVariants.{BadText};
@@ -27,7 +27,10 @@ const SHORTEST: usize = 17;
 /// The first fault that stands: `Short`, `BadLength`, `BadIssuer`, `BadGroup`, `BadText`; `NoMemory` where there was no
 /// room for the command or its canonical text.
 pub fn read(alloc: Global, bytes: &[u8]) -> Result<CommandRecord, RecordFault>
-    // What is read is spelled so: written again, it gives the bytes.
+    // What is read is what the bytes spell.
+    ensures same { IfOk result (λ item. record_of bytes.now ≡ Ok item) }
+
+    // So it is written again as these bytes.
     ensures found { IfOk result (λ item. bytes.now ≡ spelled item) }
 
     // What is spelled so is read, unless memory runs out.

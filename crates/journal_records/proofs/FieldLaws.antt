@@ -1,7 +1,7 @@
 -- The fields of identifiers, written and read.
-use Rattle.std.proofs.Common.{◌≡◌, ℕ, zero, suc, ◌+◌, ◌-◌, ◌<◌, ◌≤◌, Bool, true, false, cond, ltb, List, [], ◌∷◌, ◌++◌, length, take, replicate, Option, Some, None, Result, Ok, Err, is_ok, bytes_eq, refl, sym, ap, subst, ◌∙◌, arith}
+use Rattle.std.proofs.Common.{◌≡◌, ℕ, zero, suc, ◌+◌, ◌-◌, Bool, true, false, cond, List, [], ◌∷◌, ◌++◌, length, replicate, Option, Some, None, Result, Ok, Err, is_ok, bytes_eq, refl, sym, ap, subst, ◌∙◌, arith}
 use Rattle.std.specs.Prelude.{◌↔◌, ◌==◌, not, ◌&&◌, nat_lt}
-use Rattle.std.specs.List.{prefix_len, position_from, before_first}
+use Rattle.std.specs.List.{position_from, before_first}
 use Rattle.std.proofs.lemmas.Bool.Decides.{nat_tests}
 use Rattle.std.proofs.lemmas.List.{length-append, length-replicate}
 use Rattle.std.proofs.lemmas.List.Sums.{take_while-cons}
@@ -9,9 +9,9 @@ use Rattle.std.proofs.lemmas.Slice.Eq.{bytes_eq-Decides}
 use Rattle.access_levels.specs.Spelling.{is_id_byte, id_of, group_of, unless_bad, bad_byte, bad_group_byte, begins_with_digit}
 use Rattle.access_levels.proofs.SpelledIds.{id_of-short}
 use Rattle.access_levels.specs.declared.ids.IdFault.{IdFault}
-use Rattle.access_levels.specs.declared.ids.IdFault.TheVariants.{Empty, TooLong, BadByte}
+use Rattle.access_levels.specs.declared.ids.IdFault.TheVariants.{Empty, TooLong}
 use Rattle.journal_records.specs.Spelling.{filled}
-use Rattle.journal_records.specs.Reading.{is_blank, unless_unfilled, id_in}
+use Rattle.journal_records.specs.Reading.{is_blank, id_in}
 
 -- ---- spellings
 

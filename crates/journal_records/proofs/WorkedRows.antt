@@ -8,6 +8,7 @@ use Rattle.command_parser.specs.declared.commands.Issuer.{Issuer}
 use Rattle.command_parser.specs.declared.fields.CommandFields.{CommandFields}
 use Rattle.command_parser.specs.declared.fields.CommandFields.TheVariants as commands
 use Rattle.command_parser.specs.Canonical.{canonical}
+use Rattle.command_parser.specs.Fields.{front, behind}
 use Rattle.command_parser.specs.CommandOf.{command_of}
 use Rattle.journal_records.specs.declared.record.CommandRecord.{CommandRecord}
 use Rattle.journal_records.specs.declared.record.RecordFault.TheVariants.{Short, BadLength, BadIssuer, BadGroup, BadText}
@@ -27,26 +28,26 @@ abbrev by_ibmuser : CommandFields → CommandRecord
 by_ibmuser command = record { issuer = ibmuser; command = command }
 
 -- A length below 256, and what stands behind it.
-abbrev behind : (length : ℕ) → List ℕ → List ℕ
-behind length content = 0 ∷ 0 ∷ 0 ∷ length ∷ content
+abbrev of_length : (length : ℕ) → List ℕ → List ℕ
+of_length length content = 0 ∷ 0 ∷ 0 ∷ length ∷ content
 
 -- ---- records
 
-add-user-written : spelled (by_ibmuser add_joe) ≡ behind 27 (codes "IBMUSER SYS1    ADDUSER JOE")
+add-user-written : spelled (by_ibmuser add_joe) ≡ of_length 27 (codes "IBMUSER SYS1    ADDUSER JOE")
 unfolding spelled canonical
 add-user-written = refl
 
-add-user-read : record_of (behind 27 (codes "IBMUSER SYS1    ADDUSER JOE")) ≡ Ok (by_ibmuser add_joe)
-unfolding record_of tokens parsed canon command_of canonical
+add-user-read : record_of (of_length 27 (codes "IBMUSER SYS1    ADDUSER JOE")) ≡ Ok (by_ibmuser add_joe)
+unfolding record_of tokens parsed canon command_of front behind canonical
 add-user-read = refl
 
 -- from a journal that another program wrote
-connect-written : spelled (by_ibmuser connect_u1) ≡ behind 36 (codes "IBMUSER SYS1    CONNECT U1 GROUP(G3)")
+connect-written : spelled (by_ibmuser connect_u1) ≡ of_length 36 (codes "IBMUSER SYS1    CONNECT U1 GROUP(G3)")
 unfolding spelled canonical
 connect-written = refl
 
-connect-read : record_of (behind 36 (codes "IBMUSER SYS1    CONNECT U1 GROUP(G3)")) ≡ Ok (by_ibmuser connect_u1)
-unfolding record_of tokens parsed canon command_of canonical
+connect-read : record_of (of_length 36 (codes "IBMUSER SYS1    CONNECT U1 GROUP(G3)")) ≡ Ok (by_ibmuser connect_u1)
+unfolding record_of tokens parsed canon command_of front behind canonical
 connect-read = refl
 
 -- ---- faults, each once, and each before those behind it
@@ -55,11 +56,11 @@ short : record_fault (0 ∷ 0 ∷ 27 ∷ []) ≡ Some Short
 unfolding record_of
 short = refl
 
-length-of-the-whole : record_fault (behind 31 (codes "IBMUSER SYS1    ADDUSER JOE")) ≡ Some BadLength
+length-of-the-whole : record_fault (of_length 31 (codes "IBMUSER SYS1    ADDUSER JOE")) ≡ Some BadLength
 unfolding record_of
 length-of-the-whole = refl
 
-no-text : record_fault (behind 16 (codes "ibmuser sys1    ")) ≡ Some BadLength
+no-text : record_fault (of_length 16 (codes "ibmuser sys1    ")) ≡ Some BadLength
 unfolding record_of
 no-text = refl
 
@@ -67,30 +68,30 @@ lowest-first : record_fault (27 ∷ 0 ∷ 0 ∷ 0 ∷ codes "IBMUSER SYS1    ADD
 unfolding record_of
 lowest-first = refl
 
-issuer-folded : record_fault (behind 22 (codes "ibmuser sys1    AU JOE")) ≡ Some BadIssuer
+issuer-folded : record_fault (of_length 22 (codes "ibmuser sys1    AU JOE")) ≡ Some BadIssuer
 unfolding record_of
 issuer-folded = refl
 
-blank-in-issuer : record_fault (behind 27 (codes "IBM USERSYS1    ADDUSER JOE")) ≡ Some BadIssuer
+blank-in-issuer : record_fault (of_length 27 (codes "IBM USERSYS1    ADDUSER JOE")) ≡ Some BadIssuer
 unfolding record_of
 blank-in-issuer = refl
 
-issuer-zero-filled : record_fault (behind 27 (codes "IBMUSER" ++ 0 ∷ codes "SYS1    ADDUSER JOE")) ≡ Some BadIssuer
+issuer-zero-filled : record_fault (of_length 27 (codes "IBMUSER" ++ 0 ∷ codes "SYS1    ADDUSER JOE")) ≡ Some BadIssuer
 unfolding record_of
 issuer-zero-filled = refl
 
-group-with-digit : record_fault (behind 22 (codes "IBMUSER 1SYS    AU JOE")) ≡ Some BadGroup
+group-with-digit : record_fault (of_length 22 (codes "IBMUSER 1SYS    AU JOE")) ≡ Some BadGroup
 unfolding record_of
 group-with-digit = refl
 
-group-behind-blank : record_fault (behind 27 (codes "IBMUSER  SYS1   ADDUSER JOE")) ≡ Some BadGroup
+group-behind-blank : record_fault (of_length 27 (codes "IBMUSER  SYS1   ADDUSER JOE")) ≡ Some BadGroup
 unfolding record_of
 group-behind-blank = refl
 
-short-name : record_fault (behind 22 (codes "IBMUSER SYS1    AU JOE")) ≡ Some BadText
-unfolding record_of tokens parsed canon command_of canonical
+short-name : record_fault (of_length 22 (codes "IBMUSER SYS1    AU JOE")) ≡ Some BadText
+unfolding record_of tokens parsed canon command_of front behind canonical
 short-name = refl
 
-no-command : record_fault (behind 23 (codes "IBMUSER SYS1    LISTCAT")) ≡ Some BadText
-unfolding record_of tokens parsed canon command_of canonical
+no-command : record_fault (of_length 23 (codes "IBMUSER SYS1    LISTCAT")) ≡ Some BadText
+unfolding record_of tokens parsed canon command_of front behind canonical
 no-command = refl

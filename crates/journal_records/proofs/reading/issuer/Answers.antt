@@ -1,4 +1,3 @@
-use Rattle.std.proofs.Common.{sym, ◌∙◌}
 use Rattle.journal_records.proofs.RecordLaws.{issuer_with-is}
 use Rattle.journal_records.proofs.reading.issuer.Goals as goal
 

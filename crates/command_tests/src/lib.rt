@@ -1,4 +1,5 @@
-//! No code, but tests: commands from their text to what their issuer lacks, and databases that commands change.
+//! No code, but tests: commands from their text to what their issuer lacks, their records, and databases that commands
+//! change.
 #![tactic(auto)]
 
 #[cfg(test)]
@@ -9,6 +10,8 @@ mod database_tests;
 mod grammar_tests;
 #[cfg(test)]
 mod parser_tests;
+#[cfg(test)]
+mod record_tests;
 #[cfg(test)]
 mod security_tests;
 #[cfg(test)]

@@ -1,0 +1,5 @@
+mod FieldLaws
+mod NumberLaws
+mod CommandLaws
+mod RecordLaws
+mod WorkedRows

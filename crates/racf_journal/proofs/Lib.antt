@@ -1,2 +1,3 @@
-mod Runs
+mod Files
+mod Walks
 mod WorkedRows

@@ -1,4 +1,4 @@
+pub mod Appending
 pub mod Kept
 pub mod Opening
 pub mod Reading
-pub mod Staged

@@ -2,5 +2,9 @@
 #![tactic(auto)]
 
 mod fault;
+mod gates;
+mod journal;
+mod writing;
 
 pub use fault::JournalFault;
+pub use journal::Journal;

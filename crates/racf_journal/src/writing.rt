@@ -1,0 +1,80 @@
+//! How a record comes onto the disk.
+
+ghost use Rattle.std.specs.Prelude.{ℕ, ◌+◌, ◌<◌, ◌≤◌, ◌≡◌, ◌^◌, ◌∷◌, ◌++◌, ◌⊎◌, [], List, length, IfErr, OnOk};
+ghost use Rattle.racf_outside.specs.Causes.{HasCause};
+ghost use Rattle.racf_outside.specs.Disk.{Now};
+ghost use Rattle.racf_journal.specs.declared.fault.JournalFault.TheVariants as fault;
+ghost use Rattle.racf_journal.specs.Appending.{Acknowledges, LeavesEither};
+ghost use Rattle.racf_journal.specs.Kept.{IsResting};
+ghost use Rattle.racf_journal.specs.Opening.{IsCaused};
+ghost use Rattle.racf_journal.specs.Reading.{IsRecord};
+
+use crate::fault::JournalFault;
+use crate::gates::{CLOSED, OPEN};
+use racf_outside::{Disk, Failed};
+use std::alloc::Global;
+
+/// The longest record of a command: its length, its issuer and group, and a text of 30,000 bytes.
+const LONGEST_COMMAND: usize = 30_020;
+
+/// Writes a record behind the last gate and opens that. Nothing is written where memory is short, which is needed only
+/// for a record that is longer than a command's.
+pub(crate) fn write_record<D: Disk>(
+    alloc: Global,
+    disk: &mut D,
+    gate: u64,
+    record: &[u8],
+) -> Result<(), JournalFault>
+    requires room { gate < 2 ^ 28 }
+    requires rest { Now (D.tells disk.old) (λ m. (start : ℕ) × IsResting start gate m) }
+    requires lawful { IsRecord record.now }
+
+    ensures acknowledged { OnOk result ((start : ℕ) → Acknowledges start gate record.now (D.tells disk.old) (D.tells disk.new)) }
+    ensures moments { (start : ℕ) → LeavesEither start gate record.now (D.tells disk.old) (D.tells disk.new) }
+    ensures fault { IfErr result (λ why. (why ≡ fault.DiskFault) ⊎ ((why ≡ fault.NoMemory) × (30020 < length record.now) × (disk.new ≡ disk.old))) }
+    ensures cause { IfErr result (IsCaused (D.faults disk.old) (D.faults disk.new)) }
+    ensures no_fewer { D.faults disk.old ≤ D.faults disk.new }
+{
+    if record.len() <= LONGEST_COMMAND {
+        write_short(disk, gate, record)?;
+        return Ok(());
+    }
+    let mut bytes = Vec::with_capacity(alloc, record.len() + 1)?;
+    bytes.extend_from_slice(record)?;
+    bytes.push(CLOSED)?;
+    put_behind(disk, gate, &bytes)?;
+    Ok(())
+}
+
+/// Writes a record that is no longer than a command's behind the last gate and opens that.
+fn write_short<D: Disk>(disk: &mut D, gate: u64, record: &[u8]) -> Result<(), Failed>
+    requires room { gate < 2 ^ 28 }
+    requires rest { Now (D.tells disk.old) (λ m. (start : ℕ) × IsResting start gate m) }
+    requires lawful { IsRecord record.now }
+    requires short { length record.now ≤ 30020 }
+    ensures acknowledged { OnOk result ((start : ℕ) → Acknowledges start gate record.now (D.tells disk.old) (D.tells disk.new)) }
+    ensures moments { (start : ℕ) → LeavesEither start gate record.now (D.tells disk.old) (D.tells disk.new) }
+    ensures cause { HasCause (D.faults disk.old) (D.faults disk.new) result }
+{
+    let mut bytes = [CLOSED; LONGEST_COMMAND + 1];
+    bytes[..record.len()].copy_from_slice(record);
+    put_behind(disk, gate, &bytes[..=record.len()])
+}
+
+/// Writes a record and a closed gate behind the last gate, and then opens that. Each write is on the disk before the
+/// next step is taken.
+fn put_behind<D: Disk>(disk: &mut D, gate: u64, bytes: &[u8]) -> Result<(), Failed>
+    requires room { gate < 2 ^ 28 }
+    requires rest { Now (D.tells disk.old) (λ m. (start : ℕ) × IsResting start gate m) }
+    ensures acknowledged { OnOk result ((start : ℕ) (record_bytes : List ℕ) → IsRecord record_bytes → bytes.now ≡ record_bytes ++ 0 ∷ []
+        → Acknowledges start gate record_bytes (D.tells disk.old) (D.tells disk.new)) }
+    ensures moments { (start : ℕ) (record_bytes : List ℕ) → IsRecord record_bytes → bytes.now ≡ record_bytes ++ 0 ∷ []
+        → LeavesEither start gate record_bytes (D.tells disk.old) (D.tells disk.new) }
+    ensures cause { HasCause (D.faults disk.old) (D.faults disk.new) result }
+{
+    disk.write_at(gate + 1, bytes)?;
+    disk.sync()?;
+    disk.write_at(gate, &[OPEN])?;
+    disk.sync()?;
+    Ok(())
+}

@@ -1,3 +1,4 @@
+mod Appends
 mod Files
 mod Walks
 mod WorkedRows

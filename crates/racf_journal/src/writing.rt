@@ -56,9 +56,18 @@ fn write_short<D: Disk>(disk: &mut D, gate: u64, record: &[u8]) -> Result<(), Fa
     ensures moments { (start : ℕ) → LeavesEither start gate record.now (D.tells disk.old) (D.tells disk.new) }
     ensures cause { HasCause (D.faults disk.old) (D.faults disk.new) result }
 {
-    let mut bytes = [CLOSED; LONGEST_COMMAND + 1];
-    bytes[..record.len()].copy_from_slice(record);
+    let mut bytes = [0; LONGEST_COMMAND + 1];
+    stage(record, &mut bytes[..=record.len()]);
     put_behind(disk, gate, &bytes[..=record.len()])
+}
+
+/// Fills bytes with a record and the closed gate behind it.
+fn stage(record: &[u8], bytes: &mut [u8])
+    requires { length bytes.old ≡ length record.now + 1 }
+    ensures { bytes.new ≡ record.now ++ 0 ∷ [] }
+{
+    bytes[..record.len()].copy_from_slice(record);
+    bytes[record.len()] = CLOSED;
 }
 
 /// Writes a record and a closed gate behind the last gate, and then opens that. Each write is on the disk before the

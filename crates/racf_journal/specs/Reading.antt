@@ -62,4 +62,4 @@ IsEnd bytes = is_open bytes ≡ false
 -- the bytes of these records, each behind its open gate
 abbrev pub spelled : List (List ℕ) → List ℕ
 spelled [] = []
-spelled (record_bytes ∷ records) = 1 ∷ (record_bytes ++ spelled records)
+spelled (first ∷ records) = 1 ∷ (first ++ spelled records)

@@ -1,7 +1,35 @@
 //! Gates: the byte in front of each record, which tells whether the record counts.
 
+ghost use Rattle.std.specs.Prelude.{◌<◌, ◌≤◌, ◌≡◌, length, take, IfSome, IfNone};
+ghost use Rattle.racf_journal.specs.Reading.{claims, is_open};
+
+use byteorder::{BigEndian, ByteOrder};
+
 /// The gate of a record that counts.
 pub(crate) const OPEN: u8 = 1;
 
-/// A gate that ends the journal. Any other byte but [`OPEN`] ends it too, and so does [`OPEN`] as the last byte of a file.
+/// The gate that ends the journal.
 pub(crate) const CLOSED: u8 = 0;
+
+/// Whether the gate in front is open: any other byte is a closed gate, and so is the last byte of a file.
+pub(crate) fn gate_is_open(bytes: &[u8]) -> bool
+    ensures { result ≡ is_open bytes.now }
+{
+    matches!(bytes, [OPEN, _, ..])
+}
+
+/// The record in front, if it is whole.
+pub(crate) fn first_record(bytes: &[u8]) -> Option<&[u8]>
+    ensures whole { IfSome result (λ first. claims bytes.now ≤ length bytes.now) }
+    ensures first { IfSome result (λ first. first.now ≡ take (claims bytes.now) bytes.now) }
+    ensures short { IfNone result (length bytes.now < claims bytes.now) }
+{
+    if bytes.len() < 4 {
+        return None;
+    }
+    let size = 4 + BigEndian::read_u32(bytes) as usize;
+    if size > bytes.len() {
+        return None;
+    }
+    Some(&bytes[..size])
+}

@@ -4,6 +4,9 @@
 mod fault;
 mod gates;
 mod journal;
+mod reading;
+mod repair;
+mod scan;
 mod writing;
 
 pub use fault::JournalFault;

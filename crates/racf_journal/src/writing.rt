@@ -75,10 +75,10 @@ fn stage(record: &[u8], bytes: &mut [u8])
 fn put_behind<D: Disk>(disk: &mut D, gate: u64, bytes: &[u8]) -> Result<(), Failed>
     requires room { gate < 2 ^ 28 }
     requires rest { Now (D.tells disk.old) (λ m. (start : ℕ) × IsResting start gate m) }
-    ensures acknowledged { OnOk result ((start : ℕ) (record_bytes : List ℕ) → IsRecord record_bytes → bytes.now ≡ record_bytes ++ 0 ∷ []
-        → Acknowledges start gate record_bytes (D.tells disk.old) (D.tells disk.new)) }
-    ensures moments { (start : ℕ) (record_bytes : List ℕ) → IsRecord record_bytes → bytes.now ≡ record_bytes ++ 0 ∷ []
-        → LeavesEither start gate record_bytes (D.tells disk.old) (D.tells disk.new) }
+    ensures acknowledged { OnOk result ((start : ℕ) (next : List ℕ) → IsRecord next → bytes.now ≡ next ++ 0 ∷ []
+        → Acknowledges start gate next (D.tells disk.old) (D.tells disk.new)) }
+    ensures moments { (start : ℕ) (next : List ℕ) → IsRecord next → bytes.now ≡ next ++ 0 ∷ []
+        → LeavesEither start gate next (D.tells disk.old) (D.tells disk.new) }
     ensures cause { HasCause (D.faults disk.old) (D.faults disk.new) result }
 {
     disk.write_at(gate + 1, bytes)?;

@@ -1,4 +1,5 @@
 mod Appends
 mod Files
+mod Repairs
 mod Walks
 mod WorkedRows

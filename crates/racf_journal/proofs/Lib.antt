@@ -1,5 +1,6 @@
 mod Appends
 mod Files
 mod Repairs
+mod Scans
 mod Walks
 mod WorkedRows

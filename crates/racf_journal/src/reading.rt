@@ -22,7 +22,7 @@ const BLOCK: usize = 65_536;
 
 /// Whether the file may hold a journal that begins at `start`.
 pub(crate) fn is_formatted<D: Disk>(disk: &mut D, start: u64) -> Result<bool, Failed>
-    ensures value { IfOk result (λ yes. Now (D.tells disk.old) (λ m. yes ≡ is_formatted start m.bytes)) }
+    ensures value { IfOk result (λ formatted. Now (D.tells disk.old) (λ m. formatted ≡ is_formatted start m.bytes)) }
     ensures kept { D.tells disk.new ≡ D.tells disk.old }
     ensures cause { HasCause (D.faults disk.old) (D.faults disk.new) result }
 {

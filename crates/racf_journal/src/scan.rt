@@ -6,7 +6,7 @@ ghost use Rattle.racf_journal.specs.Reading.{walk};
 ghost use Rattle.racf_journal.specs.Repair.{IsScanned};
 
 use crate::fault::JournalFault;
-use crate::gates::{first_record, gate_is_open};
+use crate::gates::{gate_is_open, record_behind};
 use access_levels::Text;
 use std::alloc::Global;
 
@@ -29,13 +29,12 @@ pub(crate) fn scan(alloc: Global, bytes: &[u8], start: u64) -> Result<Found, Jou
     let mut rest = bytes;
     let mut gate = start;
     while gate_is_open(rest) {
-        let behind = &rest[1..];
-        let Some(record) = first_record(behind) else {
+        let Some(record) = record_behind(rest) else {
             return Err(JournalFault::Damaged(gate));
         };
         records.push(Text::of(alloc, record)?)?;
-        rest = &behind[record.len()..];
         gate += 1 + record.len() as u64;
+        rest = &rest[1 + record.len()..];
     }
     Ok(Found { records, gate })
 }

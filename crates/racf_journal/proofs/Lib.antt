@@ -1,5 +1,6 @@
 mod Appends
 mod Files
+mod Opens
 mod Repairs
 mod Scans
 mod Walks

@@ -4,6 +4,7 @@
 mod fault;
 mod gates;
 mod journal;
+mod opening;
 mod reading;
 mod repair;
 mod scan;

@@ -1,6 +1,6 @@
 //! How the records of a journal are found.
 
-ghost use Rattle.std.specs.Prelude.{◌+◌, ◌<◌, ◌≡◌, ◌^◌, ◌⊎◌, Err, length, IfOk, IfErr};
+ghost use Rattle.std.specs.Prelude.{◌+◌, ◌<◌, ◌≡◌, ◌≢◌, ◌^◌, ◌⊎◌, Err, length, IfOk, IfErr};
 ghost use Rattle.racf_journal.specs.declared.fault.JournalFault.TheVariants as fault;
 ghost use Rattle.racf_journal.specs.Reading.{walk};
 ghost use Rattle.racf_journal.specs.Repair.{IsScanned};
@@ -24,6 +24,7 @@ pub(crate) fn scan(alloc: Global, bytes: &[u8], start: u64) -> Result<Found, Jou
     requires { start + length bytes.now < 2 ^ 64 }
     ensures found { IfOk result (λ found. IsScanned start bytes.now found.records.items found.gate) }
     ensures fault { IfErr result (λ why. (walk 0 start bytes.now ≡ Err why) ⊎ (why ≡ fault.NoMemory)) }
+    ensures no_other { IfErr result (λ why. (why ≢ fault.DiskFault) × (why ≢ fault.Full)) }
 {
     let mut records = Vec::new(alloc);
     let mut rest = bytes;

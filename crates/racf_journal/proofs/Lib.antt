@@ -1,6 +1,7 @@
 mod Appends
 mod Files
 mod Opens
+mod Parts
 mod Repairs
 mod Scans
 mod Walks

@@ -13,7 +13,7 @@ use Rattle.racf_outside.proofs.Images.{only}
 use Rattle.racf_outside.proofs.Runs.{Runs, starts, ok, same_told, ends, StaysIn-joined, StaysIn-weaker}
 use Rattle.racf_journal.specs.declared.fault.JournalFault.{JournalFault}
 use Rattle.racf_journal.specs.declared.fault.JournalFault.TheVariants.{NotFormatted}
-use Rattle.racf_journal.specs.Kept.{IsAtRest, Keeps}
+use Rattle.racf_journal.specs.Kept.{IsAtRest, IsResting, Keeps}
 use Rattle.racf_journal.specs.Opening.{IsStart, WasPossible}
 use Rattle.racf_journal.specs.Reading.{magic, is_formatted, walk, reading, spelled}
 use Rattle.racf_journal.specs.Repair.{IsScanned, Holds, HoldsEnd, Ends}
@@ -64,7 +64,7 @@ module _ (start gate : ℕ) (records : List (List ℕ)) (file bytes : List ℕ) 
   front_formatted = formatted_front start file least ∙ formatted
 
   -- each file of these records and an end is read alike
-  ends_read : (other : List ℕ) → Ends base other → (take start other ≡ front) × (reading start other ≡ Ok (record { records = records; gate = gate }))
+  pub ends_read : (other : List ℕ) → Ends base other → (take start other ≡ front) × (reading start other ≡ Ok (record { records = records; gate = gate }))
   ends_read other e =
       let split : other ≡ front ++ (spelled records ++ e.end) = e.split ∙ append_assoc front (spelled records) e.end in
       let same_front : take start other ≡ front = ap (take start) split ∙ take_at front (spelled records ++ e.end) start from in
@@ -173,6 +173,10 @@ module _ (start : ℕ) (a b c : Option History) (law : (h : History) → a ≡ S
       pub opened_stays : (before : Moment) → Now a (λ m. m ≡ before) → StaysIn (WasPossible start before) a d
       opened_stays before was =
           StaysIn-from (WasPossible start before) a d repaired_untold (λ h e. StaysIn-joined (seen_stays before was) (StaysIn-weaker (WasPossible start before) (moments (take start h.now.bytes ++ spelled records) (size_at h e) (holds_at h e)) (λ k told image is. possible_at before was h e image is)))
+
+      pub opened_resting : ((base : List ℕ) → length base ≡ gate → Holds (base ++ end) c → Holds (base ++ 0 ∷ []) d) → Now d (IsResting start gate)
+      opened_resting repaired =
+          Now-from a d (IsResting start gate) repaired_untold (λ h e k told. (take start h.now.bytes, records, base_rests start gate records h.now.bytes bytes (within_at h e).0 (within_at h e).1 (formatted_at h e) (behind_at h e) s k.now (repaired (take start h.now.bytes ++ spelled records) (size_at h e) (holds_at h e) k told)))
 
       pub opened_rests : ((base : List ℕ) → length base ≡ gate → Holds (base ++ end) c → Holds (base ++ 0 ∷ []) d) → (front : List ℕ) → Now a (λ m. take start m.bytes ≡ front) → Keeps front start gate records d
       opened_rests repaired front same =

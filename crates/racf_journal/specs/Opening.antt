@@ -1,6 +1,7 @@
 -- What opening a journal finds, and what crashes within it leave.
 use Rattle.std.specs.Prelude.{ℕ, ◌<◌, ◌≤◌, ◌≡◌, List, length, take, Option, Ok, Err, ◌⊎◌}
 use Rattle.racf_outside.specs.Causes.{Rose}
+use Rattle.racf_outside.specs.Crashes.{StaysIn}
 use Rattle.racf_outside.specs.Disk.{History, Now}
 use Rattle.racf_outside.specs.Moments.{Moment, IsImage}
 use Rattle.racf_journal.specs.declared.fault.JournalFault.{JournalFault}
@@ -18,6 +19,10 @@ pub record WasPossible (start : ℕ) (moment : Moment) (file : List ℕ) : Type 
   pub was_left : IsImage moment image
   pub front : take start file ≡ take start image
   pub reads : reading start file ≡ reading start image
+
+-- At every moment of the opening a crash leaves what was possible when it began.
+abbrev pub StaysPossible : (start : ℕ) → (old new : Option History) → Type 0
+StaysPossible start old new = (before : Moment) → Now old (λ moment. moment ≡ before) → StaysIn (WasPossible start before) old new
 
 -- A call fails for the fault that the file's reading is, for a fault of the disk, or for want of memory.
 abbrev pub Refuses : (start : ℕ) → (file : List ℕ) → JournalFault → Type 0

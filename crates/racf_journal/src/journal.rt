@@ -1,14 +1,19 @@
 //! The journal.
 
-ghost use Rattle.std.specs.Prelude.{◌+◌, ◌<◌, ◌≤◌, ◌≡◌, ◌≢◌, ◌^◌, ◌↔◌, length, IsTrue, IfErr, OnOk, OnErr, IsErrOf};
+ghost use Rattle.std.specs.Prelude.{ℕ, ◌+◌, ◌<◌, ◌≤◌, ◌≡◌, ◌≢◌, ◌^◌, ◌↔◌, List, [], length, take, Ok, IsTrue, IfOk, IfErr, OnOk, IsErrOf, MatchResult};
+ghost use Rattle.racf_outside.specs.Causes.{Rose};
 ghost use Rattle.racf_outside.specs.Disk.{Now};
 ghost use Rattle.racf_journal.specs.Appending.{Acknowledges, LeavesEither, IsOfAppend};
-ghost use Rattle.racf_journal.specs.Kept.{IsResting};
-ghost use Rattle.racf_journal.specs.Opening.{IsCaused};
-ghost use Rattle.racf_journal.specs.Reading.{IsRecord};
+ghost use Rattle.racf_journal.specs.Kept.{IsResting, Keeps};
+ghost use Rattle.racf_journal.specs.Opening.{IsStart, StaysPossible, Refuses, IsCaused};
+ghost use Rattle.racf_journal.specs.Reading.{magic, reading, IsRecord};
 
 use crate::fault::JournalFault;
-use crate::writing::write_record;
+use crate::opening::opened;
+use crate::reading::FIRST_START;
+use crate::scan::Found;
+use crate::writing::{write_new, write_record};
+use access_levels::Text;
 use racf_outside::Disk;
 use std::alloc::Global;
 use std::marker::Model;
@@ -35,6 +40,49 @@ impl<D: Disk> Model for Journal<D> {
 }
 
 impl<D: Disk> Journal<D> {
+    /// Makes a new journal of a disk, whatever that held: the file is its first eight bytes and one closed gate. A crash
+    /// meanwhile may leave anything. Where the disk fails, it is handed back.
+    pub fn format(mut disk: D) -> Result<Journal<D>, (D, JournalFault)>
+        ensures made { IfOk result (λ made. Keeps magic made.start made.gate [] (D.tells made.disk)) }
+        ensures start { IfOk result (λ made. made.start ≡ 8) }
+        ensures fault { IfErr result (λ back. back.1 ≡ JournalFault.DiskFault) }
+        ensures cause { IfErr result (λ back. Rose (D.faults disk) (D.faults back.0)) }
+        ensures no_fewer { MatchResult result (λ made. D.faults disk ≤ D.faults made.disk) (λ back. D.faults disk ≤ D.faults back.0) }
+    {
+        match write_new(&mut disk) {
+            Ok(()) => Ok(Journal {
+                disk,
+                start: FIRST_START,
+                gate: FIRST_START,
+            }),
+            Err(fault) => Err((disk, JournalFault::from(fault))),
+        }
+    }
+
+    /// Opens the journal that begins at `start`, and gives its whole open records. At every moment a crash leaves a
+    /// file with a reading that was possible before; after `Ok` it leaves the records given. Otherwise the disk is handed
+    /// back.
+    pub fn open(alloc: Global, mut disk: D, start: u64) -> Result<(Journal<D>, Vec<Text>), (D, JournalFault)>
+        requires { IsStart start (D.tells disk) }
+
+        ensures reads { IfOk result (λ opened. Now (D.tells disk) (λ m. reading start m.bytes ≡ Ok (record { records = opened.1.items; gate = opened.0.gate }))) }
+        ensures rest { IfOk result (λ opened. (front : List ℕ) → Now (D.tells disk) (λ m. take start m.bytes ≡ front)
+            → Keeps front start opened.0.gate opened.1.items (D.tells opened.0.disk)) }
+        ensures resting { IfOk result (λ opened. Now (D.tells opened.0.disk) (IsResting start opened.0.gate)) }
+        ensures start { IfOk result (λ opened. opened.0.start ≡ start) }
+        ensures moments { MatchResult result (λ opened. StaysPossible start (D.tells disk) (D.tells opened.0.disk)) (λ back. StaysPossible start (D.tells disk) (D.tells back.0)) }
+
+        ensures fault { IfErr result (λ back. Now (D.tells disk) (λ m. Refuses start m.bytes back.1)) }
+        ensures no_other { IfErr result (λ back. back.1 ≢ JournalFault.Full) }
+        ensures cause { IfErr result (λ back. IsCaused (D.faults disk) (D.faults back.0) back.1) }
+        ensures no_fewer { MatchResult result (λ opened. D.faults disk ≤ D.faults opened.0.disk) (λ back. D.faults disk ≤ D.faults back.0) }
+    {
+        match opened(alloc, &mut disk, start) {
+            Ok(Found { records, gate }) => Ok((Journal { disk, start, gate }, records)),
+            Err(fault) => Err((disk, fault)),
+        }
+    }
+
     /// Appends a record. After `Ok` every crash keeps it, and at every moment before a crash leaves the records as they
     /// were or with this one behind them. After a fault of the disk the journal is to be opened again; after any other
     /// all is as before. Takes memory only for more than 30,020 bytes.

@@ -4,6 +4,7 @@
 mod fault;
 mod gates;
 mod journal;
+mod laws;
 mod opening;
 mod reading;
 mod repair;
@@ -12,3 +13,4 @@ mod writing;
 
 pub use fault::JournalFault;
 pub use journal::Journal;
+pub use laws::{cutting_changes_no_reading, rewriting_the_gate_changes_no_reading};

@@ -1,12 +1,10 @@
 //! How a journal is opened.
 
 ghost use Rattle.std.specs.Prelude.{ℕ, ◌+◌, ◌<◌, ◌≤◌, ◌≡◌, ◌≢◌, ◌^◌, List, Ok, true, length, take, drop, IfOk, IfErr};
-ghost use Rattle.racf_outside.specs.Crashes.{StaysIn};
 ghost use Rattle.racf_outside.specs.Disk.{Now};
-ghost use Rattle.racf_outside.specs.Moments.{Moment};
 ghost use Rattle.racf_journal.specs.declared.fault.JournalFault.TheVariants as fault;
-ghost use Rattle.racf_journal.specs.Kept.{Keeps};
-ghost use Rattle.racf_journal.specs.Opening.{IsStart, WasPossible, Refuses, IsCaused};
+ghost use Rattle.racf_journal.specs.Kept.{IsResting, Keeps};
+ghost use Rattle.racf_journal.specs.Opening.{IsStart, StaysPossible, Refuses, IsCaused};
 ghost use Rattle.racf_journal.specs.Reading.{is_formatted, reading};
 ghost use Rattle.racf_journal.specs.Repair.{IsScanned};
 
@@ -23,7 +21,8 @@ pub(crate) fn opened<D: Disk>(alloc: Global, disk: &mut D, start: u64) -> Result
     ensures reads { IfOk result (λ found. Now (D.tells disk.old) (λ m. reading start m.bytes ≡ Ok (record { records = found.records.items; gate = found.gate }))) }
     ensures rest { IfOk result (λ found. (front : List ℕ) → Now (D.tells disk.old) (λ m. take start m.bytes ≡ front)
         → Keeps front start found.gate found.records.items (D.tells disk.new)) }
-    ensures moments { (before : Moment) → Now (D.tells disk.old) (λ m. m ≡ before) → StaysIn (WasPossible start before) (D.tells disk.old) (D.tells disk.new) }
+    ensures resting { IfOk result (λ found. Now (D.tells disk.new) (IsResting start found.gate)) }
+    ensures moments { StaysPossible start (D.tells disk.old) (D.tells disk.new) }
     ensures fault { IfErr result (λ why. Now (D.tells disk.old) (λ m. Refuses start m.bytes why)) }
     ensures no_other { IfErr result (λ why. why ≢ fault.Full) }
     ensures cause { IfErr result (IsCaused (D.faults disk.old) (D.faults disk.new)) }

@@ -5,9 +5,9 @@ ghost use Rattle.racf_outside.specs.Causes.{HasCause};
 ghost use Rattle.racf_outside.specs.Disk.{Now};
 ghost use Rattle.racf_journal.specs.declared.fault.JournalFault.TheVariants as fault;
 ghost use Rattle.racf_journal.specs.Appending.{Acknowledges, LeavesEither};
-ghost use Rattle.racf_journal.specs.Kept.{IsResting};
+ghost use Rattle.racf_journal.specs.Kept.{IsResting, Keeps};
 ghost use Rattle.racf_journal.specs.Opening.{IsCaused};
-ghost use Rattle.racf_journal.specs.Reading.{IsRecord};
+ghost use Rattle.racf_journal.specs.Reading.{magic, IsRecord};
 
 use crate::fault::JournalFault;
 use crate::gates::{CLOSED, OPEN};
@@ -16,6 +16,20 @@ use std::alloc::Global;
 
 /// The longest record of a command: its length, its issuer and group, and a text of 30,000 bytes.
 const LONGEST_COMMAND: usize = 30_020;
+
+/// The bytes of a file whose journal is new.
+const NEW: [u8; 9] = *b"RACFJNL1\0";
+
+/// Makes the file that of a new journal.
+pub(crate) fn write_new<D: Disk>(disk: &mut D) -> Result<(), Failed>
+    ensures done { OnOk result (Keeps magic 8 8 [] (D.tells disk.new)) }
+    ensures cause { HasCause (D.faults disk.old) (D.faults disk.new) result }
+{
+    disk.write_at(0, &NEW)?;
+    disk.cut(NEW.len() as u64)?;
+    disk.sync()?;
+    Ok(())
+}
 
 /// Writes a record behind the last gate and opens that. Nothing is written where memory is short, which is needed only
 /// for a record that is longer than a command's.

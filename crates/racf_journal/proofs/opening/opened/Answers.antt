@@ -3,7 +3,7 @@ use Rattle.std.proofs.Common.{◌-◌, ◌≡◌, ◌∙◌, length, take, drop,
 use Rattle.std.proofs.lemmas.List.{take_rest}
 use Rattle.racf_outside.proofs.Runs.{err}
 use Rattle.racf_journal.specs.Opening.{Refuses}
-use Rattle.racf_journal.proofs.Opens.{possible_start, possible_here, seen_stays, seen_before, opened_held, opened_stays, opened_reads, opened_rests}
+use Rattle.racf_journal.proofs.Opens.{possible_start, possible_here, seen_stays, seen_before, opened_held, opened_stays, opened_reads, opened_rests, opened_resting}
 use Rattle.racf_journal.proofs.opening.opened.Goals as goal
 
 pub returns-in_err-sync-clause-moments : goal.returns-in_err-sync-clause-moments
@@ -53,3 +53,10 @@ returns-clause-rest g c =
     let bytes = c.in_ok-found.bytes in
     let end_is : take (length c.deref.result.now - (found.gate - c.args.start)) (drop (found.gate - c.args.start) c.deref.result.now) ≡ drop (found.gate - c.args.start) bytes.items = take_rest c.deref.result.now (found.gate - c.args.start) ∙ ap (drop (found.gate - c.args.start)) c.deref.ensures.value in
     opened_rests c.args.start (g.D.Disk.tells c.args.disk.now) (g.D.Disk.tells c.sync.new.self) (g.D.Disk.tells c.find.new.disk) (g.met.D.Disk.reads_an_image c.args.disk.now) c.in_ok-sync.ensures.done c.find.ensures.kept found.gate found.records.items bytes.items (take (length c.deref.result.now - (found.gate - c.args.start)) (drop (found.gate - c.args.start) c.deref.result.now)) c.requires c.in_ok-found.ensures.seen c.in_ok-found.ensures.found end_is (g.D.Disk.tells c.repair.new.disk) c.repair.ensures.moments c.in_ok-repair.ensures.done
+
+pub returns-clause-resting : goal.returns-clause-resting
+returns-clause-resting g c =
+    let found = c.in_ok-found.found in
+    let bytes = c.in_ok-found.bytes in
+    let end_is : take (length c.deref.result.now - (found.gate - c.args.start)) (drop (found.gate - c.args.start) c.deref.result.now) ≡ drop (found.gate - c.args.start) bytes.items = take_rest c.deref.result.now (found.gate - c.args.start) ∙ ap (drop (found.gate - c.args.start)) c.deref.ensures.value in
+    opened_resting c.args.start (g.D.Disk.tells c.args.disk.now) (g.D.Disk.tells c.sync.new.self) (g.D.Disk.tells c.find.new.disk) (g.met.D.Disk.reads_an_image c.args.disk.now) c.in_ok-sync.ensures.done c.find.ensures.kept found.gate found.records.items bytes.items (take (length c.deref.result.now - (found.gate - c.args.start)) (drop (found.gate - c.args.start) c.deref.result.now)) c.requires c.in_ok-found.ensures.seen c.in_ok-found.ensures.found end_is (g.D.Disk.tells c.repair.new.disk) c.repair.ensures.moments c.in_ok-repair.ensures.done

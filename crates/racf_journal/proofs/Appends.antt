@@ -49,79 +49,79 @@ around_byte place base rest old byte image at i =
 module _ (front : List ℕ) (records : List (List ℕ)) (next : List ℕ) (gate : ℕ) (formatted : is_formatted (length front) front ≡ true) (lawful : AllByRecursion IsRecord records) (is : IsRecord next)
     (at : length (front ++ spelled records) ≡ gate)
   where
-  abbrev base : List ℕ
-  base = front ++ spelled records
+    abbrev base : List ℕ
+    base = front ++ spelled records
 
-  -- before the first write, behind it, and behind the second
-  abbrev pub resting : Moment
-  resting = durable (base ++ 0 ∷ [])
+    -- before the first write, behind it, and behind the second
+    abbrev pub resting : Moment
+    resting = durable (base ++ 0 ∷ [])
 
-  abbrev pub behind : Moment
-  behind = written (gate + 1) (next ++ 0 ∷ []) resting
+    abbrev pub behind : Moment
+    behind = written (gate + 1) (next ++ 0 ∷ []) resting
 
-  abbrev pub opened : Moment
-  opened = written gate (1 ∷ []) (synced behind)
+    abbrev pub opened : Moment
+    opened = written gate (1 ∷ []) (synced behind)
 
-  abbrev P : List ℕ → Type 0
-  P = ReadsAsEither front records next
+    abbrev P : List ℕ → Type 0
+    P = ReadsAsEither front records next
 
-  reads_before : (end image : List ℕ) → image ≡ base ++ 0 ∷ end → P image
-  reads_before end image same = inl (subst (ReadsAs front records) (sym (append_assoc front (spelled records) (0 ∷ end)) ∙ sym same) (ReadsAs-end front records (0 ∷ end) formatted lawful (closed_is_end 0 end (λ no. absurd (omega arith)))))
+    reads_before : (end image : List ℕ) → image ≡ base ++ 0 ∷ end → P image
+    reads_before end image same = inl (subst (ReadsAs front records) (sym (append_assoc front (spelled records) (0 ∷ end)) ∙ sym same) (ReadsAs-end front records (0 ∷ end) formatted lawful (closed_is_end 0 end (λ no. absurd (omega arith)))))
 
-  pub resting_leaves : Leaves P resting
-  resting_leaves = record { each = λ image i. reads_before [] image (only (base ++ 0 ∷ []) image i) }
+    pub resting_leaves : Leaves P resting
+    resting_leaves = record { each = λ image i. reads_before [] image (only (base ++ 0 ∷ []) image i) }
 
-  size : length (base ++ 0 ∷ []) ≡ gate + 1
-  size = omega (arith, at, length-append base (0 ∷ []))
+    size : length (base ++ 0 ∷ []) ≡ gate + 1
+    size = omega (arith, at, length-append base (0 ∷ []))
 
-  behind_bytes : behind.bytes ≡ base ++ 0 ∷ (next ++ 0 ∷ [])
-  behind_bytes = written_end (gate + 1) (base ++ 0 ∷ []) (next ++ 0 ∷ []) (sym size) ∙ append_assoc base (0 ∷ []) (next ++ 0 ∷ [])
+    behind_bytes : behind.bytes ≡ base ++ 0 ∷ (next ++ 0 ∷ [])
+    behind_bytes = written_end (gate + 1) (base ++ 0 ∷ []) (next ++ 0 ∷ []) (sym size) ∙ append_assoc base (0 ∷ []) (next ++ 0 ∷ [])
 
-  pub behind_leaves : Leaves P behind
-  behind_leaves = record {
-    each = λ image i.
-        let stays : image ≡ (base ++ 0 ∷ []) ++ drop (length (base ++ 0 ∷ [])) image = front_stays behind (base ++ 0 ∷ []) (next ++ 0 ∷ []) image (behind_bytes ∙ sym (append_assoc base (0 ∷ []) (next ++ 0 ∷ []))) (omega arith) (λ p below. unwritten_before p (gate + 1) (gate + 1 + length (next ++ 0 ∷ [])) (omega (arith, size, below))) i in
-        reads_before (drop (length (base ++ 0 ∷ [])) image) image (stays ∙ append_assoc base (0 ∷ []) (drop (length (base ++ 0 ∷ [])) image));
-  }
+    pub behind_leaves : Leaves P behind
+    behind_leaves = record {
+      each = λ image i.
+          let stays : image ≡ (base ++ 0 ∷ []) ++ drop (length (base ++ 0 ∷ [])) image = front_stays behind (base ++ 0 ∷ []) (next ++ 0 ∷ []) image (behind_bytes ∙ sym (append_assoc base (0 ∷ []) (next ++ 0 ∷ []))) (omega arith) (λ p below. unwritten_before p (gate + 1) (gate + 1 + length (next ++ 0 ∷ [])) (omega (arith, size, below))) i in
+          reads_before (drop (length (base ++ 0 ∷ [])) image) image (stays ∙ append_assoc base (0 ∷ []) (drop (length (base ++ 0 ∷ [])) image));
+    }
 
-  opened_is : opened ≡ written gate (1 ∷ []) (durable (base ++ 0 ∷ (next ++ 0 ∷ [])))
-  opened_is = ap (λ (l : List ℕ). written gate (1 ∷ []) (durable l)) behind_bytes
+    opened_is : opened ≡ written gate (1 ∷ []) (durable (base ++ 0 ∷ (next ++ 0 ∷ [])))
+    opened_is = ap (λ (l : List ℕ). written gate (1 ∷ []) (durable l)) behind_bytes
 
-  pub opened_leaves : Leaves P opened
-  opened_leaves = record {
-    each = λ image i.
-        let one = around_byte gate base (next ++ 0 ∷ []) 0 1 image at (subst (λ m. IsImage m image) opened_is i) in
-        subst P (sym (append_assoc front (spelled records) (one.0 ∷ (next ++ 0 ∷ []))) ∙ sym one.1) (ReadsAsEither-gate front records next one.0 formatted lawful is);
-  }
+    pub opened_leaves : Leaves P opened
+    opened_leaves = record {
+      each = λ image i.
+          let one = around_byte gate base (next ++ 0 ∷ []) 0 1 image at (subst (λ m. IsImage m image) opened_is i) in
+          subst P (sym (append_assoc front (spelled records) (one.0 ∷ (next ++ 0 ∷ []))) ∙ sym one.1) (ReadsAsEither-gate front records next one.0 formatted lawful is);
+    }
 
-  pub synced_is : synced opened ≡ durable (front ++ spelled (records ++ next ∷ []) ++ 0 ∷ [])
-  synced_is =
-      ap durable (ap (λ m. m.bytes) opened_is
-      ∙ written_byte gate base (next ++ 0 ∷ []) 0 1 at
-      ∙ sym (append_assoc base (1 ∷ next) (0 ∷ []))
-      ∙ ap (λ (l : List ℕ). l ++ 0 ∷ []) (append_assoc front (spelled records) (1 ∷ next) ∙ ap (λ (l : List ℕ). front ++ l) (sym (spelled-push records next))))
+    pub synced_is : synced opened ≡ durable (front ++ spelled (records ++ next ∷ []) ++ 0 ∷ [])
+    synced_is =
+        ap durable (ap (λ m. m.bytes) opened_is
+        ∙ written_byte gate base (next ++ 0 ∷ []) 0 1 at
+        ∙ sym (append_assoc base (1 ∷ next) (0 ∷ []))
+        ∙ ap (λ (l : List ℕ). l ++ 0 ∷ []) (append_assoc front (spelled records) (1 ∷ next) ∙ ap (λ (l : List ℕ). front ++ l) (sym (spelled-push records next))))
 
-  size_then : gate + 1 + length next ≡ length front + length (spelled (records ++ next ∷ []))
-  size_then = omega (arith, at, length-append front (spelled records), ap length (spelled-push records next), length-append (spelled records) (1 ∷ next))
+    size_then : gate + 1 + length next ≡ length front + length (spelled (records ++ next ∷ []))
+    size_then = omega (arith, at, length-append front (spelled records), ap length (spelled-push records next), length-append (spelled records) (1 ∷ next))
 
-  pub staged_leaves : Leaves P (synced behind)
-  staged_leaves = record { each = λ image i. reads_before (next ++ 0 ∷ []) image (only behind.bytes image i ∙ behind_bytes) }
+    pub staged_leaves : Leaves P (synced behind)
+    staged_leaves = record { each = λ image i. reads_before (next ++ 0 ∷ []) image (only behind.bytes image i ∙ behind_bytes) }
 
-  pub ended_leaves : Leaves P (synced opened)
-  ended_leaves = record {
-    each = λ image i.
-        let same : image ≡ front ++ (spelled (records ++ next ∷ []) ++ 0 ∷ []) = only opened.bytes image i ∙ ap (λ m. m.bytes) synced_is ∙ append_assoc front (spelled (records ++ next ∷ [])) (0 ∷ []) in
-        inr (subst (ReadsAs front (records ++ next ∷ [])) (sym same) (ReadsAs-end front (records ++ next ∷ []) (0 ∷ []) formatted (lawful-push records next lawful is) refl));
-  }
+    pub ended_leaves : Leaves P (synced opened)
+    ended_leaves = record {
+      each = λ image i.
+          let same : image ≡ front ++ (spelled (records ++ next ∷ []) ++ 0 ∷ []) = only opened.bytes image i ∙ ap (λ m. m.bytes) synced_is ∙ append_assoc front (spelled (records ++ next ∷ [])) (0 ∷ []) in
+          inr (subst (ReadsAs front (records ++ next ∷ [])) (sym same) (ReadsAs-end front (records ++ next ∷ []) (0 ∷ []) formatted (lawful-push records next lawful is) refl));
+    }
 
-  pub ended_rests : (start : ℕ) → length front ≡ start → IsAtRest front start (gate + 1 + length next) (records ++ next ∷ []) (synced opened)
-  ended_rests start from = record {
-    from = from;
-    formatted = ap (λ s. is_formatted s front) (sym from) ∙ formatted;
-    to = omega (arith, from, size_then);
-    lawful = lawful-push records next lawful is;
-    is = synced_is;
-  }
+    pub ended_rests : (start : ℕ) → length front ≡ start → IsAtRest front start (gate + 1 + length next) (records ++ next ∷ []) (synced opened)
+    ended_rests start from = record {
+      from = from;
+      formatted = ap (λ s. is_formatted s front) (sym from) ∙ formatted;
+      to = omega (arith, from, size_then);
+      lawful = lawful-push records next lawful is;
+      is = synced_is;
+    }
 
 -- what crashes leave at the moments of an append, and what it comes to
 pub record IsAppending (front : List ℕ) (start gate : ℕ) (records : List (List ℕ)) (next bytes : List ℕ) (m : Moment) : Type 0 where
@@ -138,8 +138,10 @@ appends front start gate records next bytes m is same rest =
   where
     formatted : is_formatted (length front) front ≡ true
     formatted = ap (λ s. is_formatted s front) rest.from ∙ rest.formatted
+
     at : length (front ++ spelled records) ≡ gate
     at = omega (arith, rest.from, rest.to, length-append front (spelled records))
+
     here : IsAppending front start gate records next (next ++ 0 ∷ []) (durable (front ++ spelled records ++ 0 ∷ []))
     here = record {
       before = resting_leaves front records next gate formatted rest.lawful is at;

@@ -8,7 +8,7 @@ use Rattle.racf_journal.specs.declared.fault.JournalFault.TheVariants.{NotFormat
 use Rattle.racf_journal.specs.Reading.{Reading, claims, is_formatted, ends_at, and_then_read, walk, reading, IsEnd, spelled}
 use Rattle.racf_journal.specs.Repair.{IsScanned, Ends}
 use Rattle.racf_journal.proofs.Walks.{IsRecord-front}
-use Rattle.racf_journal.proofs.Opens.{base, base_size, base_whole, ends_read}
+use Rattle.racf_journal.proofs.Opens.{base_size, base_whole, ends_read, reading-formatted, reading-unformatted}
 
 never : {T : Type 0} (fault : JournalFault) (found : Reading) → ◌≡◌ {A = Result Reading JournalFault} (Err fault) (Ok found) → T
 never fault found e = cc
@@ -63,3 +63,51 @@ parts zero place (gate ∷ byte ∷ bytes) found within e =
                 one_more place gate body more.0 found (eqb-true gate 1 is_open) le (parts (claims (byte ∷ bytes)) (suc place) (byte ∷ bytes) more.0 le more.1) more.2
           ]
     ])
+
+-- a front of an end is an end
+end_front : (n : ℕ) (bytes : List ℕ) → IsEnd bytes → IsEnd (take n bytes)
+end_front zero bytes is = refl
+end_front (suc n) [] is = refl
+end_front (suc zero) (gate ∷ bytes) is = refl
+end_front (suc (suc n)) (gate ∷ []) is = refl
+end_front (suc (suc n)) (gate ∷ byte ∷ bytes) is = is
+
+module _ (start : ℕ) (file : List ℕ) (found : Reading) (least : 8 ≤ start) (within : start ≤ length file) (reads : reading start file ≡ Ok found) where
+  formatted : is_formatted start file ≡ true
+  formatted = elim (cases_Bool (is_formatted start file)) [
+    | inl is ↦ is
+    | inr not_so ↦ never NotFormatted found (sym (reading-unformatted start file not_so) ∙ reads)
+  ]
+
+  s : IsScanned start (drop start file) found.records found.gate
+  s = let same : start + 0 ≡ start = omega arith in
+      subst (λ p. IsScanned p (drop start file) found.records found.gate) same (parts zero start (drop start file) found (omega arith) (sym (reading-formatted start file formatted) ∙ reads))
+
+  abbrev front : List ℕ
+  front = take start file ++ spelled found.records
+
+  size : length front ≡ found.gate
+  size = base_size start found.gate found.records file (drop start file) least within formatted refl s
+
+  whole : file ≡ front ++ s.end
+  whole = base_whole start found.gate found.records file (drop start file) least within formatted refl s
+
+  reads_other : (other : List ℕ) → Ends front other → reading start other ≡ Ok found
+  reads_other other e = (ends_read start found.gate found.records file (drop start file) least within formatted refl s other e).1
+
+  pub reads_cut : (end : ℕ) → found.gate ≤ end → reading start (take end file) ≡ Ok found
+  reads_cut end behind =
+      let n : ℕ = end - found.gate in
+      let place : end ≡ length front + n = omega (arith, size) in
+      reads_other (take end file) (record {
+        end = take n s.end;
+        split = ap (take end) whole ∙ ap (λ k. take k (front ++ s.end)) place ∙ take-append-add front s.end n;
+        ends = end_front n s.end s.ends;
+      })
+
+  pub reads_rewritten : (byte : ℕ) → reading start (take found.gate file ++ byte ∷ []) ≡ Ok found
+  reads_rewritten byte = reads_other (take found.gate file ++ byte ∷ []) (record {
+    end = byte ∷ [];
+    split = ap (λ (l : List ℕ). l ++ byte ∷ []) (ap (take found.gate) whole ∙ take_at front s.end found.gate size);
+    ends = refl;
+  })

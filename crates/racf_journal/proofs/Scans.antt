@@ -42,6 +42,7 @@ module _ (bytes : List ℕ) (records : List (List ℕ)) (rest : List ℕ) (split
       where
         subst_first : IsRecord (take (claims (drop 1 rest)) (drop 1 rest)) → IsRecord first
         subst_first h = rw front h
+
         subst_more : AllByRecursion IsRecord (records ++ first ∷ []) → AllByRecursion IsRecord more
         subst_more h = rw pushed h
 

@@ -42,8 +42,8 @@ walk (suc skip) place (byte ∷ bytes) = walk skip (suc place) bytes
 walk zero place (gate ∷ []) = ends_at place
 walk zero place (gate ∷ byte ∷ bytes) =
     if gate == 1 then (
-        if nat_lt (length (byte ∷ bytes)) (claims (byte ∷ bytes)) then Err (Damaged place)
-        else and_then_read (take (claims (byte ∷ bytes)) (byte ∷ bytes)) (walk (claims (byte ∷ bytes)) (suc place) (byte ∷ bytes)))
+    if nat_lt (length (byte ∷ bytes)) (claims (byte ∷ bytes)) then Err (Damaged place)
+    else and_then_read (take (claims (byte ∷ bytes)) (byte ∷ bytes)) (walk (claims (byte ∷ bytes)) (suc place) (byte ∷ bytes)))
     else ends_at place
 
 -- what a file says of the journal that begins at this place

@@ -62,7 +62,11 @@ impl<D: Disk> Journal<D> {
     /// Opens the journal that begins at `start`, and gives its whole open records. At every moment a crash leaves a
     /// file with a reading that was possible before; after `Ok` it leaves the records given. Otherwise the disk is handed
     /// back.
-    pub fn open(alloc: Global, mut disk: D, start: u64) -> Result<(Journal<D>, Vec<Text>), (D, JournalFault)>
+    pub fn open(
+        alloc: Global,
+        mut disk: D,
+        start: u64,
+    ) -> Result<(Journal<D>, Vec<Text>), (D, JournalFault)>
         requires { IsStart start (D.tells disk) }
 
         ensures reads { IfOk result (λ opened. Now (D.tells disk) (λ m. reading start m.bytes ≡ Ok (record { records = opened.1.items; gate = opened.0.gate }))) }

@@ -16,7 +16,11 @@ use racf_outside::Disk;
 use std::alloc::Global;
 
 /// Finds the records of a disk, and makes its end a closed gate and nothing behind it.
-pub(crate) fn opened<D: Disk>(alloc: Global, disk: &mut D, start: u64) -> Result<Found, JournalFault>
+pub(crate) fn opened<D: Disk>(
+    alloc: Global,
+    disk: &mut D,
+    start: u64,
+) -> Result<Found, JournalFault>
     requires { IsStart start (D.tells disk.old) }
     ensures reads { IfOk result (λ found. Now (D.tells disk.old) (λ m. reading start m.bytes ≡ Ok (record { records = found.records.items; gate = found.gate }))) }
     ensures rest { IfOk result (λ found. (front : List ℕ) → Now (D.tells disk.old) (λ m. take start m.bytes ≡ front)

@@ -96,6 +96,7 @@ impl<D: Disk> Journal<D> {
 
         ensures acknowledged { OnOk result (Acknowledges self.old.start self.old.gate bytes.now (D.tells self.old.disk) (D.tells self.new.disk)) }
         ensures moments { LeavesEither self.old.start self.old.gate bytes.now (D.tells self.old.disk) (D.tells self.new.disk) }
+        ensures resting { OnOk result (Now (D.tells self.new.disk) (IsResting self.new.start self.new.gate)) }
         ensures start { self.new.start ≡ self.old.start }
         ensures gate { OnOk result (self.new.gate ≡ self.old.gate + 1 + length bytes.now) }
 

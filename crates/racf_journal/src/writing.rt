@@ -96,8 +96,8 @@ fn put_behind<D: Disk>(disk: &mut D, gate: u64, bytes: &[u8]) -> Result<(), Fail
     ensures cause { HasCause (D.faults disk.old) (D.faults disk.new) result }
 {
     disk.write_at(gate + 1, bytes)?;
-    disk.sync()?;
+    disk.sync()?; // now the record is kept, and doesn't count
     disk.write_at(gate, &[OPEN])?;
-    disk.sync()?;
+    disk.sync()?; // now it counts for good
     Ok(())
 }

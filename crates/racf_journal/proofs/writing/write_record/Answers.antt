@@ -7,7 +7,7 @@ use Rattle.racf_journal.proofs.writing.write_record.Goals as goal
 
 pub returns-in_err-bytes-clause-moments : goal.returns-in_err-bytes-clause-moments
 returns-in_err-bytes-clause-moments g c start front records keeps =
-    StaysIn-none (ReadsAsEither front records c.args.record.now) _ (λ h e. rest_leaves front start c.args.gate records c.args.record.now h.now c.requires.lawful (keeps h e))
+    StaysIn-none (ReadsAsEither front records c.args.record.now) _ (λ h e. rest_leaves front start c.args.gate records c.args.record.now h.now (keeps h e))
 
 pub returns-in_err-put_behind-clause-moments : goal.returns-in_err-put_behind-clause-moments
 returns-in_err-put_behind-clause-moments g c start =

@@ -4,6 +4,8 @@
 #[cfg(test)]
 mod defined_tests;
 #[cfg(test)]
+mod disk_tests;
+#[cfg(test)]
 mod outside_tests;
 #[cfg(test)]
 mod page_tests;

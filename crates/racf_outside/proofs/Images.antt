@@ -1,7 +1,8 @@
 -- The images of a moment: what stays at the front and at the end, place by place.
-use Rattle.std.proofs.Common.{ℕ, ◌+◌, ◌-◌, ◌<◌, ◌≤◌, ◌≡◌, false, List, ◌++◌, length, take, drop, get_or, refl, sym, ◌∙◌, ap, arith, length-drop}
+use Rattle.std.proofs.Common.{ℕ, ◌+◌, ◌-◌, ◌<◌, ◌≤◌, ◌≡◌, false, List, ◌++◌, length, take, drop, get_or, refl, sym, ◌∙◌, ap, subst, arith, length-drop}
 use Rattle.std.proofs.lemmas.List.{ext_get_or, get_or_append_left, get_or-drop, get_or-take, take-append-drop, length-take}
-use Rattle.racf_outside.specs.Moments.{Moment, IsImage, is_written, durable}
+use Rattle.racf_outside.specs.Crashes.{Leaves}
+use Rattle.racf_outside.specs.Moments.{Moment, IsImage, is_written, durable, synced}
 
 -- where nothing is in doubt, a crash leaves what a read gives
 pub only : (bytes image : List ℕ) → IsImage (durable bytes) image → image ≡ bytes
@@ -29,3 +30,11 @@ back_stays m n image short long untouched i =
     get_or-drop n image place 0
     ∙ i.stays (n + place) (omega (arith, within, length-drop n image, whole, short)) (untouched (n + place) (omega arith))
     ∙ sym (get_or-drop n m.bytes place 0))
+
+-- where nothing is in doubt, a crash leaves what has P if a read gives it
+pub durable-leaves : (P : List ℕ → Type 0) (bytes : List ℕ) → P bytes → Leaves P (durable bytes)
+durable-leaves P bytes p = record { each = λ image i. subst P (sym (only bytes image i)) p }
+
+-- a sync of a disk that reads as one of its images
+pub synced-leaves : (P : List ℕ → Type 0) (m : Moment) → IsImage m m.bytes → Leaves P m → Leaves P (synced m)
+synced-leaves P m reads l = durable-leaves P m.bytes (l.each m.bytes reads)

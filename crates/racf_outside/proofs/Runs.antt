@@ -110,7 +110,7 @@ err {P} {a} {b} {c} {s} step r f l =
       untold = λ untold. f.untold (untold_by s a b r.is untold);
     }
 
-same_history : (h k : History) → Some h ≡ Some k → h ≡ k
+pub same_history : (h k : History) → Some h ≡ Some k → h ≡ k
 same_history h k e = cc
 
 -- what the moment has behind calls that succeeded

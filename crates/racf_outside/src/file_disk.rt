@@ -28,6 +28,8 @@ struct FileAt<R: Files<File = File> + Drop> {
     path: String,
     /// The file, once it is there.
     file: Option<File>,
+    /// A sync failed. The system may have dropped what it couldn't write, and tell the next sync nothing of it.
+    lost: bool,
 }
 
 impl<R: Files<File = File> + Drop> FileAt<R> {
@@ -39,7 +41,7 @@ impl<R: Files<File = File> + Drop> FileAt<R> {
             .write(true)
             .open(&runtime, path.as_str());
         let file = match opened {
-            Ok(file) => Some(locked(file)?),
+            Ok(file) => Some(settled(locked(file)?)?),
             Err(error) if error.kind() == ErrorKind::NotFound => None,
             Err(error) => return Err(error),
         };
@@ -47,6 +49,7 @@ impl<R: Files<File = File> + Drop> FileAt<R> {
             runtime,
             path,
             file,
+            lost: false,
         })
     }
 
@@ -93,17 +96,23 @@ impl<R: Files<File = File> + Drop> FileAt<R> {
         }
     }
 
-    /// Waits until the bytes and the length are on the device.
-    fn sync(&self) -> io::Result<()> {
-        match &self.file {
-            Some(file) => file.sync_all(),
-            None => Ok(()),
+    /// Waits until the bytes and the length are on the device. Behind a sync that failed each later one fails.
+    fn sync(&mut self) -> io::Result<()> {
+        if self.lost {
+            return Err(io::Error::from(ErrorKind::Other));
         }
+        let Some(file) = &self.file else {
+            return Ok(());
+        };
+        let synced = file.sync_all();
+        self.lost = synced.is_err();
+        synced
     }
 }
 
 /// A regular file as a disk. It is locked as long as it is open: one that is locked already, by another process or
-/// another disk of this one, isn't opened. A sync waits for the device.
+/// another disk of this one, isn't opened. A sync waits for the device; behind one that failed none succeeds, until the
+/// file is opened again.
 ///
 /// A file that isn't there is an empty disk. It is made at the first write, and its folder is synced then.
 ///
@@ -126,8 +135,8 @@ impl<R: Files<File = File> + Drop> Model for FileDisk<R> {
 }
 
 impl<R: Files<File = File> + Drop> FileDisk<R> {
-    /// Opens the file at this path, a relative one from the folder that the program runs in. It is an error where the
-    /// file is locked, or is no regular file.
+    /// Opens the file at this path, a relative one from the folder that the program runs in, and syncs it. It is an error
+    /// where the file is locked, or is no regular file.
     pub fn open(alloc: Global, runtime: R, path: &str) -> io::Result<FileDisk<R>>
         ensures { IfOk result (λ disk. disk ≡ 0) }
     {
@@ -198,6 +207,17 @@ fn locked(file: File) -> io::Result<File> {
         Err(TryLockError::WouldBlock) => Err(io::Error::from(ErrorKind::WouldBlock)),
         Err(TryLockError::Error(error)) => Err(error),
     }
+}
+
+/// The file, synced, without the system's own copies of its pages: what an earlier process couldn't sync may stand in
+/// these alone.
+fn settled(file: File) -> io::Result<File> {
+    file.sync_all()?;
+    let advised = libc::posix_fadvise(file.as_raw_fd(), 0, 0, libc::POSIX_FADV_DONTNEED);
+    if advised != 0 {
+        return Err(io::Error::from_raw_os_error(advised));
+    }
+    Ok(file)
 }
 
 /// The folder that a file lies in.

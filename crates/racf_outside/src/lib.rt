@@ -5,6 +5,9 @@
 //! The principal type is `Shelf`: `FileShelf` is that of real files, `MemoryShelf` that of an embedder or a test, which
 //! tells what was written. `racf_run` works a stream between an input and an output of either.
 //!
+//! A `Disk` outlives the program: `FileDisk` is a real file, `MemoryDisk` one in memory, which tells what a read gives
+//! and what a crash may leave at each moment.
+//!
 //! ```text
 //! let mut shelf = MemoryShelf::new(alloc, failing);
 //! shelf.put("IN", bytes, Vec::new(alloc))?;

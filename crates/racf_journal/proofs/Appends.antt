@@ -1,0 +1,174 @@
+-- What a crash leaves at each moment of an append.
+use Rattle.std.proofs.Common.{ℕ, ◌+◌, ◌<◌, ◌≤◌, ◌≡◌, ◌∙◌, true, false, not, ◌&&◌, ◌||◌, ltb, List, [], ◌∷◌, ◌++◌, Option, None, Some, length, get_or, drop, refl, sym, ap, subst, arith, append_assoc, length-append, inl, inr}
+use Rattle.std.specs.List.{AllByRecursion}
+use Rattle.std.proofs.lemmas.List.{take_all, take_at, drop_all, drop_at, drop_more, append-nil}
+use Rattle.std.proofs.lemmas.Option.{none-some, same_Some}
+use Rattle.std.proofs.lemmas.Bool.{lt-ltb, le-ltb}
+use Rattle.racf_outside.specs.Moments.{Moment, IsImage, is_written, durable, written, synced}
+use Rattle.racf_outside.specs.Crashes.{Leaves}
+use Rattle.racf_outside.specs.Disk.{History, Now}
+use Rattle.racf_outside.proofs.Images.{only, front_stays, back_stays}
+use Rattle.racf_journal.specs.Appending.{Acknowledges, LeavesEither}
+use Rattle.racf_journal.specs.Kept.{IsAtRest, IsResting, ReadsAs, ReadsAsEither}
+use Rattle.racf_journal.specs.Reading.{is_formatted, IsRecord, spelled}
+use Rattle.racf_journal.proofs.Walks.{spelled-push, lawful-push}
+use Rattle.racf_journal.proofs.Files.{ReadsAs-end, ReadsAsEither-gate, closed_is_end}
+
+-- a place before or behind the one range that was written
+pub unwritten_before : (place from to : ℕ) → place < from → is_written ((from, to) ∷ []) place ≡ false
+unwritten_before place from to before = ap (λ b. (not b && ltb place to) || false) (lt-ltb place from before)
+
+pub unwritten_behind : (place from to : ℕ) → to ≤ place → from ≤ to → is_written ((from, to) ∷ []) place ≡ false
+unwritten_behind place from to behind order =
+    ap (λ b. (not b && ltb place to) || false) (le-ltb place from (omega arith)) ∙ ap (λ b. b || false) (le-ltb place to behind)
+
+-- a write behind all bytes, and one over a byte
+pub written_end : (place : ℕ) (bytes more : List ℕ) → place ≡ length bytes → (written place more (durable bytes)).bytes ≡ bytes ++ more
+written_end place bytes more at_end =
+    ap (λ (l : List ℕ). l ++ (more ++ drop (place + length more) bytes)) (take_all place bytes (omega (arith, at_end)))
+    ∙ ap (λ (l : List ℕ). bytes ++ (more ++ l)) (drop_all (place + length more) bytes (omega (arith, at_end)))
+    ∙ ap (λ (l : List ℕ). bytes ++ l) (append-nil more)
+
+pub written_byte : (place : ℕ) (base rest : List ℕ) (old byte : ℕ) → length base ≡ place → (written place (byte ∷ []) (durable (base ++ old ∷ rest))).bytes ≡ base ++ byte ∷ rest
+written_byte place base rest old byte at =
+    let split : base ++ old ∷ rest ≡ (base ++ old ∷ []) ++ rest = sym (append_assoc base (old ∷ []) rest) in
+    ap (λ (l : List ℕ). l ++ (byte ∷ drop (place + 1) (base ++ old ∷ rest))) (take_at base (old ∷ rest) place at)
+    ∙ ap (λ (l : List ℕ). base ++ byte ∷ l) (ap (drop (place + 1)) split ∙ drop_at (base ++ old ∷ []) rest (place + 1) (omega (arith, at, length-append base (old ∷ []))))
+
+-- a moment at which a crash leaves the bytes of a front, one byte, and those behind it
+pub around_byte : (place : ℕ) (base rest : List ℕ) (old byte : ℕ) (image : List ℕ) → length base ≡ place → IsImage (written place (byte ∷ []) (durable (base ++ old ∷ rest))) image → (any : ℕ) × (image ≡ base ++ any ∷ rest)
+around_byte place base rest old byte image at i =
+    let m : Moment = written place (byte ∷ []) (durable (base ++ old ∷ rest)) in
+    let size : length (base ++ old ∷ rest) ≡ place + 1 + length rest = omega (arith, at, length-append base (old ∷ rest)) in
+    let bytes : m.bytes ≡ base ++ byte ∷ rest = written_byte place base rest old byte at in
+    let size_now : length m.bytes ≡ place + 1 + length rest = omega (arith, ap length bytes, at, length-append base (byte ∷ rest)) in
+    let before : image ≡ base ++ drop (length base) image = front_stays m base (byte ∷ rest) image bytes (omega (arith, size, at)) (λ p below. unwritten_before p place (place + 1) (omega (arith, at, below))) i in
+    let behind : drop (place + 1) image ≡ drop (place + 1) m.bytes = back_stays m (place + 1) image (omega (arith, size, size_now)) (omega (arith, size, size_now)) (λ p above. unwritten_behind p place (place + 1) above (omega arith)) i in
+    let rest_is : drop (place + 1) m.bytes ≡ rest = ap (drop (place + 1)) (bytes ∙ sym (append_assoc base (byte ∷ []) rest)) ∙ drop_at (base ++ byte ∷ []) rest (place + 1) (omega (arith, at, length-append base (byte ∷ []))) in
+    let any : ℕ = get_or image place 0 in
+    let first : drop place image ≡ any ∷ drop (place + 1) image = drop_more image place 0 (omega (arith, i.no_shorter, size)) in
+    (any, before ∙ ap (λ n. base ++ drop n image) at ∙ ap (λ (l : List ℕ). base ++ l) (first ∙ ap (λ (l : List ℕ). any ∷ l) (behind ∙ rest_is)))
+
+module _ (front : List ℕ) (records : List (List ℕ)) (next : List ℕ) (gate : ℕ) (formatted : is_formatted (length front) front ≡ true) (lawful : AllByRecursion IsRecord records) (is : IsRecord next)
+    (at : length (front ++ spelled records) ≡ gate)
+  where
+    abbrev base : List ℕ
+    base = front ++ spelled records
+
+    -- before the first write, behind it, and behind the second
+    abbrev pub resting : Moment
+    resting = durable (base ++ 0 ∷ [])
+
+    abbrev pub behind : Moment
+    behind = written (gate + 1) (next ++ 0 ∷ []) resting
+
+    abbrev pub opened : Moment
+    opened = written gate (1 ∷ []) (synced behind)
+
+    abbrev P : List ℕ → Type 0
+    P = ReadsAsEither front records next
+
+    reads_before : (end image : List ℕ) → image ≡ base ++ 0 ∷ end → P image
+    reads_before end image same = inl (subst (ReadsAs front records) (sym (append_assoc front (spelled records) (0 ∷ end)) ∙ sym same) (ReadsAs-end front records (0 ∷ end) formatted lawful (closed_is_end 0 end (λ no. absurd (omega arith)))))
+
+    pub resting_leaves : Leaves P resting
+    resting_leaves = record { each = λ image i. reads_before [] image (only (base ++ 0 ∷ []) image i) }
+
+    size : length (base ++ 0 ∷ []) ≡ gate + 1
+    size = omega (arith, at, length-append base (0 ∷ []))
+
+    behind_bytes : behind.bytes ≡ base ++ 0 ∷ (next ++ 0 ∷ [])
+    behind_bytes = written_end (gate + 1) (base ++ 0 ∷ []) (next ++ 0 ∷ []) (sym size) ∙ append_assoc base (0 ∷ []) (next ++ 0 ∷ [])
+
+    pub behind_leaves : Leaves P behind
+    behind_leaves = record {
+      each = λ image i.
+          let stays : image ≡ (base ++ 0 ∷ []) ++ drop (length (base ++ 0 ∷ [])) image = front_stays behind (base ++ 0 ∷ []) (next ++ 0 ∷ []) image (behind_bytes ∙ sym (append_assoc base (0 ∷ []) (next ++ 0 ∷ []))) (omega arith) (λ p below. unwritten_before p (gate + 1) (gate + 1 + length (next ++ 0 ∷ [])) (omega (arith, size, below))) i in
+          reads_before (drop (length (base ++ 0 ∷ [])) image) image (stays ∙ append_assoc base (0 ∷ []) (drop (length (base ++ 0 ∷ [])) image));
+    }
+
+    opened_is : opened ≡ written gate (1 ∷ []) (durable (base ++ 0 ∷ (next ++ 0 ∷ [])))
+    opened_is = ap (λ (l : List ℕ). written gate (1 ∷ []) (durable l)) behind_bytes
+
+    pub opened_leaves : Leaves P opened
+    opened_leaves = record {
+      each = λ image i.
+          let one = around_byte gate base (next ++ 0 ∷ []) 0 1 image at (subst (λ m. IsImage m image) opened_is i) in
+          subst P (sym (append_assoc front (spelled records) (one.0 ∷ (next ++ 0 ∷ []))) ∙ sym one.1) (ReadsAsEither-gate front records next one.0 formatted lawful is);
+    }
+
+    pub synced_is : synced opened ≡ durable (front ++ spelled (records ++ next ∷ []) ++ 0 ∷ [])
+    synced_is =
+        ap durable (ap (λ m. m.bytes) opened_is
+        ∙ written_byte gate base (next ++ 0 ∷ []) 0 1 at
+        ∙ sym (append_assoc base (1 ∷ next) (0 ∷ []))
+        ∙ ap (λ (l : List ℕ). l ++ 0 ∷ []) (append_assoc front (spelled records) (1 ∷ next) ∙ ap (λ (l : List ℕ). front ++ l) (sym (spelled-push records next))))
+
+    size_then : gate + 1 + length next ≡ length front + length (spelled (records ++ next ∷ []))
+    size_then = omega (arith, at, length-append front (spelled records), ap length (spelled-push records next), length-append (spelled records) (1 ∷ next))
+
+    pub staged_leaves : Leaves P (synced behind)
+    staged_leaves = record { each = λ image i. reads_before (next ++ 0 ∷ []) image (only behind.bytes image i ∙ behind_bytes) }
+
+    pub ended_leaves : Leaves P (synced opened)
+    ended_leaves = record {
+      each = λ image i.
+          let same : image ≡ front ++ (spelled (records ++ next ∷ []) ++ 0 ∷ []) = only opened.bytes image i ∙ ap (λ m. m.bytes) synced_is ∙ append_assoc front (spelled (records ++ next ∷ [])) (0 ∷ []) in
+          inr (subst (ReadsAs front (records ++ next ∷ [])) (sym same) (ReadsAs-end front (records ++ next ∷ []) (0 ∷ []) formatted (lawful-push records next lawful is) refl));
+    }
+
+    pub ended_rests : (start : ℕ) → length front ≡ start → IsAtRest front start (gate + 1 + length next) (records ++ next ∷ []) (synced opened)
+    ended_rests start from = record {
+      from = from;
+      formatted = ap (λ s. is_formatted s front) (sym from) ∙ formatted;
+      to = omega (arith, from, size_then);
+      lawful = lawful-push records next lawful is;
+      is = synced_is;
+    }
+
+-- what crashes leave at the moments of an append, and what it comes to
+pub record IsAppending (front : List ℕ) (start gate : ℕ) (records : List (List ℕ)) (next bytes : List ℕ) (m : Moment) : Type 0 where
+  pub before : Leaves (ReadsAsEither front records next) m
+  pub behind : Leaves (ReadsAsEither front records next) (written (gate + 1) bytes m)
+  pub staged : Leaves (ReadsAsEither front records next) (synced (written (gate + 1) bytes m))
+  pub opened : Leaves (ReadsAsEither front records next) (written gate (1 ∷ []) (synced (written (gate + 1) bytes m)))
+  pub ended : Leaves (ReadsAsEither front records next) (synced (written gate (1 ∷ []) (synced (written (gate + 1) bytes m))))
+  pub rests : IsAtRest front start (gate + 1 + length next) (records ++ next ∷ []) (synced (written gate (1 ∷ []) (synced (written (gate + 1) bytes m))))
+
+pub appends : (front : List ℕ) (start gate : ℕ) (records : List (List ℕ)) (next bytes : List ℕ) (m : Moment) → IsRecord next → bytes ≡ next ++ 0 ∷ [] → IsAtRest front start gate records m → IsAppending front start gate records next bytes m
+appends front start gate records next bytes m is same rest =
+    subst (λ (b : List ℕ). IsAppending front start gate records next b m) (sym same) (subst (IsAppending front start gate records next (next ++ 0 ∷ [])) (sym rest.is) here)
+  where
+    formatted : is_formatted (length front) front ≡ true
+    formatted = ap (λ s. is_formatted s front) rest.from ∙ rest.formatted
+
+    at : length (front ++ spelled records) ≡ gate
+    at = omega (arith, rest.from, rest.to, length-append front (spelled records))
+
+    here : IsAppending front start gate records next (next ++ 0 ∷ []) (durable (front ++ spelled records ++ 0 ∷ []))
+    here = record {
+      before = resting_leaves front records next gate formatted rest.lawful is at;
+      behind = behind_leaves front records next gate formatted rest.lawful is at;
+      staged = staged_leaves front records next gate formatted rest.lawful is at;
+      opened = opened_leaves front records next gate formatted rest.lawful is at;
+      ended = ended_leaves front records next gate formatted rest.lawful is at;
+      rests = ended_rests front records next gate formatted rest.lawful is at start rest.from;
+    }
+
+-- a journal at rest leaves its records, whatever crashes
+pub rest_reads : (front : List ℕ) (start gate : ℕ) (records : List (List ℕ)) (m : Moment) → IsAtRest front start gate records m → Leaves (ReadsAs front records) m
+rest_reads front start gate records m rest = record {
+  each = λ image i.
+      let same : image ≡ front ++ (spelled records ++ 0 ∷ []) = only (front ++ spelled records ++ 0 ∷ []) image (subst (λ n. IsImage n image) rest.is i) ∙ append_assoc front (spelled records) (0 ∷ []) in
+      subst (ReadsAs front records) (sym same) (ReadsAs-end front records (0 ∷ []) (ap (λ s. is_formatted s front) rest.from ∙ rest.formatted) rest.lawful refl);
+}
+
+pub rest_leaves : (front : List ℕ) (start gate : ℕ) (records : List (List ℕ)) (next : List ℕ) (m : Moment) → IsAtRest front start gate records m → Leaves (ReadsAsEither front records next) m
+rest_leaves front start gate records next m rest = record { each = λ image i. inl ((rest_reads front start gate records m rest).each image i) }
+
+-- behind an append that succeeded the journal is at rest again
+pub resting_then : (start gate place : ℕ) (next : List ℕ) (a b : Option History) → place ≡ gate + 1 + length next → Acknowledges start gate next a b → LeavesEither start gate next a b → Now a (IsResting start gate) → Now b (IsResting start place)
+resting_then start gate place next None b at kept leaves rest k e = absurd (none-some k (sym ((leaves [] [] (λ h told. absurd (none-some h told))).untold refl) ∙ e))
+resting_then start gate place next (Some h) b at kept leaves rest k e =
+    let r = rest h refl in
+    (r.0, r.1 ++ next ∷ [], subst (λ n. IsAtRest r.0 start n (r.1 ++ next ∷ []) k.now) (sym at) (kept r.0 r.1 (λ i told. subst (λ j. IsAtRest r.0 start gate r.1 j.now) (same_Some h i told) r.2) k e))

@@ -1,0 +1,33 @@
+-- What opening a journal finds, and what crashes within it leave.
+use Rattle.std.specs.Prelude.{ℕ, ◌<◌, ◌≤◌, ◌≡◌, List, length, take, Option, Ok, Err, ◌⊎◌}
+use Rattle.racf_outside.specs.Causes.{Rose}
+use Rattle.racf_outside.specs.Crashes.{StaysIn}
+use Rattle.racf_outside.specs.Disk.{History, Now}
+use Rattle.racf_outside.specs.Moments.{Moment, IsImage}
+use Rattle.racf_journal.specs.declared.fault.JournalFault.{JournalFault}
+use Rattle.racf_journal.specs.declared.fault.JournalFault.TheVariants as fault
+use Rattle.racf_journal.specs.Reading.{reading}
+
+-- Where a journal may begin: at place 8, or behind it within the file.
+abbrev pub IsStart : (start : ℕ) → Option History → Type 0
+IsStart start told = (start ≡ 8) ⊎ ((8 < start) × Now told (λ moment. start ≤ length moment.bytes))
+
+-- A file was possible at that moment, as far as the bytes before the start and the reading go: a crash at it might have
+-- left such bytes and that reading.
+pub record WasPossible (start : ℕ) (moment : Moment) (file : List ℕ) : Type 0 where
+  pub image : List ℕ
+  pub was_left : IsImage moment image
+  pub front : take start file ≡ take start image
+  pub reads : reading start file ≡ reading start image
+
+-- At every moment of the opening a crash leaves what was possible when it began.
+abbrev pub StaysPossible : (start : ℕ) → (old new : Option History) → Type 0
+StaysPossible start old new = (before : Moment) → Now old (λ moment. moment ≡ before) → StaysIn (WasPossible start before) old new
+
+-- A call fails for the fault that the file's reading is, for a fault of the disk, or for want of memory.
+abbrev pub Refuses : (start : ℕ) → (file : List ℕ) → JournalFault → Type 0
+Refuses start file why = (reading start file ≡ Err why) ⊎ (why ≡ fault.DiskFault) ⊎ (why ≡ fault.NoMemory)
+
+-- a fault of the disk is answered only where its count rose
+abbrev pub IsCaused : (before now : ℕ) → JournalFault → Type 0
+IsCaused before now why = why ≡ fault.DiskFault → Rose before now

@@ -1,0 +1,41 @@
+//! How the records of a journal are found.
+
+ghost use Rattle.std.specs.Prelude.{◌+◌, ◌<◌, ◌≡◌, ◌≢◌, ◌^◌, ◌⊎◌, Err, length, IfOk, IfErr};
+ghost use Rattle.racf_journal.specs.declared.fault.JournalFault.TheVariants as fault;
+ghost use Rattle.racf_journal.specs.Reading.{walk};
+ghost use Rattle.racf_journal.specs.Repair.{IsScanned};
+
+use crate::fault::JournalFault;
+use crate::gates::{gate_is_open, record_behind};
+use access_levels::Text;
+use std::alloc::Global;
+
+/// What is found in a journal.
+#[derive(Drop)]
+pub(crate) struct Found {
+    /// The open records.
+    pub(crate) records: Vec<Text>,
+    /// The place of the closed gate behind them.
+    pub(crate) gate: u64,
+}
+
+/// The records in the bytes of a file from the place `start` on.
+pub(crate) fn scan(alloc: Global, bytes: &[u8], start: u64) -> Result<Found, JournalFault>
+    requires { start + length bytes.now < 2 ^ 64 }
+    ensures found { IfOk result (λ found. IsScanned start bytes.now found.records.items found.gate) }
+    ensures fault { IfErr result (λ why. (walk 0 start bytes.now ≡ Err why) ⊎ (why ≡ fault.NoMemory)) }
+    ensures no_other { IfErr result (λ why. (why ≢ fault.DiskFault) × (why ≢ fault.Full)) }
+{
+    let mut records = Vec::new(alloc);
+    let mut rest = bytes;
+    let mut gate = start;
+    while gate_is_open(rest) {
+        let Some(record) = record_behind(rest) else {
+            return Err(JournalFault::Damaged(gate));
+        };
+        records.push(Text::of(alloc, record)?)?;
+        gate += 1 + record.len() as u64;
+        rest = &rest[1 + record.len()..];
+    }
+    Ok(Found { records, gate })
+}

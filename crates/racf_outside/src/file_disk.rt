@@ -117,7 +117,8 @@ impl<R: Files<File = File> + Drop> FileAt<R> {
 /// A file that isn't there is an empty disk. It is made at the first write, and its folder is synced then.
 ///
 /// Nothing is claimed of what the system, the file system and the device do: that they keep to what a disk promises is
-/// trusted.
+/// trusted. So it is trusted too that a sync tells what an earlier process' sync could not write, although a system may
+/// have dropped that and keep it in memory alone.
 #[derive(Drop)]
 pub struct FileDisk<R: Files<File = File> + Drop> {
     /// The file.
@@ -209,14 +210,9 @@ fn locked(file: File) -> io::Result<File> {
     }
 }
 
-/// The file, synced, without the system's own copies of its pages: what an earlier process couldn't sync may stand in
-/// these alone.
+/// The file, synced: what an earlier process wrote and didn't sync is on the device then.
 fn settled(file: File) -> io::Result<File> {
     file.sync_all()?;
-    let advised = libc::posix_fadvise(file.as_raw_fd(), 0, 0, libc::POSIX_FADV_DONTNEED);
-    if advised != 0 {
-        return Err(io::Error::from_raw_os_error(advised));
-    }
     Ok(file)
 }
 

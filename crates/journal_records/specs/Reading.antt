@@ -16,25 +16,29 @@ use Rattle.journal_records.specs.Spelling.{filled}
 
 -- ---- the fields
 
+-- What fills a field.
 abbrev pub is_blank : ℕ → Bool
 is_blank byte = byte == 32
 
--- The identifier whose field the bytes are: what stands before the first blank, where nothing but blanks stand behind.
+-- This identifier, where the field is the one that it fills.
 abbrev pub unless_unfilled : (id field : List ℕ) → Option (List ℕ)
 unless_unfilled id field = if is_ok (id_of id) && bytes_eq (filled id) field then Some id else None
 
+-- The identifier that fills a field: what stands before the first blank.
 abbrev pub id_in : (field : List ℕ) → Option (List ℕ)
 id_in field = unless_unfilled (before_first is_blank field) field
 
--- The command of which the text is the canonical one.
+-- This command, where the text is its canonical one.
 abbrev pub unless_other : (text : List ℕ) → CommandFields → Option CommandFields
 unless_other text command = if bytes_eq (canonical command) text then Some command else None
 
+-- The command of which a text is the canonical one: the one that it spells.
 abbrev pub canonical_command : (issuer text : List ℕ) → Option CommandFields
 canonical_command issuer text = option_and_then (unless_other text) (command_in issuer text)
 
 -- ---- the record, or the first fault
 
+-- A further test, where those before it are passed.
 infixl 10 ◌>>=◌
 abbrev pub ◌>>=◌ : {A B : Type 0} → Result A RecordFault → (A → Result B RecordFault) → Result B RecordFault
 (Ok x) >>= f = f x

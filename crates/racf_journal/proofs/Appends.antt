@@ -7,7 +7,7 @@ use Rattle.std.proofs.lemmas.Bool.{lt-ltb, le-ltb}
 use Rattle.racf_outside.specs.Moments.{Moment, IsImage, is_written, durable, written, synced}
 use Rattle.racf_outside.specs.Crashes.{Leaves}
 use Rattle.racf_outside.specs.Disk.{History, Now}
-use Rattle.racf_outside.proofs.Images.{only, front_stays, back_stays}
+use Rattle.racf_outside.proofs.Images.{front_stays, back_stays, durable-leaves}
 use Rattle.racf_journal.specs.Appending.{Acknowledges, LeavesEither}
 use Rattle.racf_journal.specs.Kept.{IsAtRest, IsResting, ReadsAs, ReadsAsEither}
 use Rattle.racf_journal.specs.Reading.{is_formatted, IsRecord, spelled}
@@ -72,7 +72,7 @@ module _ (front : List ℕ) (records : List (List ℕ)) (next : List ℕ) (gate 
     reads_before end image same = inl (subst (ReadsAs front records) (sym (append_assoc front (spelled records) (0 ∷ end)) ∙ sym same) (ReadsAs-end front records (0 ∷ end) formatted lawful (closed_is_end 0 end (λ no. absurd (omega arith)))))
 
     pub resting_leaves : Leaves P resting
-    resting_leaves = record { each = λ image i. reads_before [] image (only (base ++ 0 ∷ []) image i) }
+    resting_leaves = durable-leaves P (base ++ 0 ∷ []) (reads_before [] (base ++ 0 ∷ []) refl)
 
     size : length (base ++ 0 ∷ []) ≡ gate + 1
     size = omega (arith, at, length-append base (0 ∷ []))
@@ -108,14 +108,12 @@ module _ (front : List ℕ) (records : List (List ℕ)) (next : List ℕ) (gate 
     size_then = omega (arith, at, length-append front (spelled records), ap length (spelled-push records next), length-append (spelled records) (1 ∷ next))
 
     pub staged_leaves : Leaves P (synced behind)
-    staged_leaves = record { each = λ image i. reads_before (next ++ 0 ∷ []) image (only behind.bytes image i ∙ behind_bytes) }
+    staged_leaves = durable-leaves P behind.bytes (reads_before (next ++ 0 ∷ []) behind.bytes behind_bytes)
 
     pub ended_leaves : Leaves P (synced opened)
-    ended_leaves = record {
-      each = λ image i.
-          let same : image ≡ front ++ (spelled (records ++ next ∷ []) ++ 0 ∷ []) = only opened.bytes image i ∙ ap (λ m. m.bytes) synced_is ∙ append_assoc front (spelled (records ++ next ∷ [])) (0 ∷ []) in
-          inr (subst (ReadsAs front (records ++ next ∷ [])) (sym same) (ReadsAs-end front (records ++ next ∷ []) (0 ∷ []) formatted (lawful-push records next lawful is) refl));
-    }
+    ended_leaves =
+        let same : opened.bytes ≡ front ++ (spelled (records ++ next ∷ []) ++ 0 ∷ []) = ap (λ m. m.bytes) synced_is ∙ append_assoc front (spelled (records ++ next ∷ [])) (0 ∷ []) in
+        durable-leaves P opened.bytes (inr (subst (ReadsAs front (records ++ next ∷ [])) (sym same) (ReadsAs-end front (records ++ next ∷ []) (0 ∷ []) formatted (lawful-push records next lawful is) refl)))
 
     pub ended_rests : (start : ℕ) → length front ≡ start → IsAtRest front start (gate + 1 + length next) (records ++ next ∷ []) (synced opened)
     ended_rests start from = record {
@@ -157,11 +155,10 @@ appends front start gate records next bytes m is same rest =
 
 -- a journal at rest leaves its records, whatever crashes
 pub rest_reads : (front : List ℕ) (start gate : ℕ) (records : List (List ℕ)) (m : Moment) → IsAtRest front start gate records m → Leaves (ReadsAs front records) m
-rest_reads front start gate records m rest = record {
-  each = λ image i.
-      let same : image ≡ front ++ (spelled records ++ 0 ∷ []) = only (front ++ spelled records ++ 0 ∷ []) image (subst (λ n. IsImage n image) rest.is i) ∙ append_assoc front (spelled records) (0 ∷ []) in
-      subst (ReadsAs front records) (sym same) (ReadsAs-end front records (0 ∷ []) (ap (λ s. is_formatted s front) rest.from ∙ rest.formatted) rest.lawful refl);
-}
+rest_reads front start gate records m rest =
+    let bytes : List ℕ = front ++ spelled records ++ 0 ∷ [] in
+    let whole : ReadsAs front records (front ++ (spelled records ++ 0 ∷ [])) = ReadsAs-end front records (0 ∷ []) (ap (λ s. is_formatted s front) rest.from ∙ rest.formatted) rest.lawful refl in
+    subst (Leaves (ReadsAs front records)) (sym rest.is) (durable-leaves (ReadsAs front records) bytes (subst (ReadsAs front records) (sym (append_assoc front (spelled records) (0 ∷ []))) whole))
 
 pub rest_leaves : (front : List ℕ) (start gate : ℕ) (records : List (List ℕ)) (next : List ℕ) (m : Moment) → IsAtRest front start gate records m → Leaves (ReadsAsEither front records next) m
 rest_leaves front start gate records next m rest = record { each = λ image i. inl ((rest_reads front start gate records m rest).each image i) }

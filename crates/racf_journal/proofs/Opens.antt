@@ -9,7 +9,7 @@ use Rattle.std.proofs.lemmas.Slice.Eq.{bytes_eq-Decides}
 use Rattle.racf_outside.specs.Crashes.{Leaves, StaysIn}
 use Rattle.racf_outside.specs.Disk.{History, goes, Now}
 use Rattle.racf_outside.specs.Moments.{Moment, IsImage, durable, synced}
-use Rattle.racf_outside.proofs.Images.{only}
+use Rattle.racf_outside.proofs.Images.{synced-leaves}
 use Rattle.racf_outside.proofs.Runs.{Runs, starts, ok, same_told, ends, StaysIn-joined, StaysIn-weaker}
 use Rattle.racf_journal.specs.declared.fault.JournalFault.{JournalFault}
 use Rattle.racf_journal.specs.declared.fault.JournalFault.TheVariants.{NotFormatted}
@@ -102,11 +102,6 @@ StaysIn-from P a b untold told = record { told = λ h e. (told h e).told h e; un
 possible_now : (start : ℕ) (before m : Moment) → m ≡ before → Leaves (WasPossible start before) m
 possible_now start before m same = record { each = λ image i. record { image = image; was_left = subst (λ n. IsImage n image) same i; front = refl; reads = refl } }
 
-possible_synced : (start : ℕ) (before m : Moment) → m ≡ before → IsImage m m.bytes → Leaves (WasPossible start before) (synced m)
-possible_synced start before m same law = record {
-  each = λ image i. record { image = m.bytes; was_left = subst (λ n. IsImage n m.bytes) same law; front = ap (take start) (only m.bytes image i); reads = ap (reading start) (only m.bytes image i) };
-}
-
 pub possible_start : (start : ℕ) (before : Moment) (a : Option History) → Now a (λ m. m ≡ before) → Runs (WasPossible start before) a (λ h. h) a
 possible_start start before a was = starts (WasPossible start before) a (λ h e. possible_now start before h.now (was h e))
 
@@ -122,7 +117,7 @@ module _ (start : ℕ) (a b c : Option History) (law : (h : History) → a ≡ S
   seen_told h e = kept ∙ done ∙ ap (option_map (goes synced)) e
 
   pub seen_stays : (before : Moment) → Now a (λ m. m ≡ before) → StaysIn (WasPossible start before) a c
-  seen_stays before was = ends (same_told (ok synced (possible_start start before a was) done (λ h e. possible_synced start before h.now (was h e) (law h e))) kept)
+  seen_stays before was = ends (same_told (ok synced (possible_start start before a was) done (λ h e. synced-leaves (WasPossible start before) h.now (law h e) (possible_now start before h.now (was h e)))) kept)
 
   synced_told : (h : History) → a ≡ Some h → b ≡ Some (goes synced h)
   synced_told h e = done ∙ ap (option_map (goes synced)) e

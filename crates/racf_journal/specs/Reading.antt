@@ -4,10 +4,11 @@ use Rattle.byteorder.specs.Endian.{big_number}
 use Rattle.racf_journal.specs.declared.fault.JournalFault.{JournalFault}
 use Rattle.racf_journal.specs.declared.fault.JournalFault.TheVariants.{NotFormatted, Damaged}
 
--- A journal that stands alone begins at place 8, behind these bytes. What lies before a later start isn't its own.
+-- what the file of a journal begins with that stands alone, and so begins at place 8
 abbrev pub magic : List ℕ
 magic = codes "RACFJNL1"
 
+-- Whether a journal may begin there: at place 8 only behind these bytes. What lies before a later start isn't asked.
 abbrev pub is_formatted : (start : ℕ) → (file : List ℕ) → Bool
 is_formatted start file = nat_lt 8 start || bytes_eq (take 8 file) magic
 
@@ -50,12 +51,13 @@ walk zero place (gate ∷ byte ∷ bytes) =
 abbrev pub reading : (start : ℕ) → (file : List ℕ) → Result Reading JournalFault
 reading start file = if is_formatted start file then walk zero start (drop start file) else Err NotFormatted
 
--- Whether the gate in front is open; where it isn't, the bytes end a journal.
+-- whether the gate in front is open
 abbrev pub is_open : List ℕ → Bool
 is_open [] = false
 is_open (gate ∷ []) = false
 is_open (gate ∷ byte ∷ bytes) = gate == 1
 
+-- Where it isn't, these bytes end a journal.
 abbrev pub IsEnd : List ℕ → Type 0
 IsEnd bytes = is_open bytes ≡ false
 

@@ -45,6 +45,7 @@ impl<D: Disk> Journal<D> {
     pub fn format(mut disk: D) -> Result<Journal<D>, (D, JournalFault)>
         ensures made { IfOk result (λ made. Keeps magic made.start made.gate [] (D.tells made.disk)) }
         ensures start { IfOk result (λ made. made.start ≡ 8) }
+        ensures gate { IfOk result (λ made. made.gate ≡ 8) }
         ensures fault { IfErr result (λ back. back.1 ≡ JournalFault.DiskFault) }
         ensures cause { IfErr result (λ back. Rose (D.faults disk) (D.faults back.0)) }
         ensures no_fewer { MatchResult result (λ made. D.faults disk ≤ D.faults made.disk) (λ back. D.faults disk ≤ D.faults back.0) }

@@ -6,8 +6,8 @@ use Rattle.racf_journal.proofs.writing.write_short.Goals as goal
 
 pub returns-clause-moments : goal.returns-clause-moments
 returns-clause-moments g c start =
-    c.put_behind.ensures.moments start c.args.record.now c.requires.lawful (take_at c.stage.new.bytes _ (length c.args.record.now + 1) (omega (arith, ap length c.stage.ensures, length-append c.args.record.now (0 ∷ []))) ∙ c.stage.ensures)
+    c.put_behind.ensures.moments start c.args.next.now c.requires.lawful (take_at c.stage.new.bytes _ (length c.args.next.now + 1) (omega (arith, ap length c.stage.ensures, length-append c.args.next.now (0 ∷ []))) ∙ c.stage.ensures)
 
 pub returns-clause-acknowledged : goal.returns-clause-acknowledged
 returns-clause-acknowledged g c =
-    on_ok_weaker c.put_behind.result (λ kept start. kept start c.args.record.now c.requires.lawful (take_at c.stage.new.bytes _ (length c.args.record.now + 1) (omega (arith, ap length c.stage.ensures, length-append c.args.record.now (0 ∷ []))) ∙ c.stage.ensures)) c.put_behind.ensures.acknowledged
+    on_ok_weaker c.put_behind.result (λ kept start. kept start c.args.next.now c.requires.lawful (take_at c.stage.new.bytes _ (length c.args.next.now + 1) (omega (arith, ap length c.stage.ensures, length-append c.args.next.now (0 ∷ []))) ∙ c.stage.ensures)) c.put_behind.ensures.acknowledged

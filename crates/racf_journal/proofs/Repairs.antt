@@ -1,9 +1,9 @@
 -- What crashes leave while the end of a journal is repaired.
 use Rattle.std.proofs.Common.{ℕ, ◌+◌, ◌<◌, ◌≤◌, ◌≡◌, ◌∙◌, List, [], ◌∷◌, ◌++◌, length, take, drop, refl, sym, ap, subst, arith, append_assoc, length-append, Option, None, Some, replicate}
-use Rattle.std.proofs.lemmas.List.{take_all, take_at, drop_all, append-nil, length-drop, length-take, length-replicate}
+use Rattle.std.proofs.lemmas.List.{take_at, drop_all, append-nil, length-drop, length-take, length-replicate}
 use Rattle.std.proofs.lemmas.Option.{none-some, same_Some}
 use Rattle.racf_outside.specs.Disk.{History}
-use Rattle.racf_outside.specs.Moments.{Moment, IsImage, durable, written, cut_to, synced}
+use Rattle.racf_outside.specs.Moments.{Moment, durable, written, cut_to, synced}
 use Rattle.racf_outside.specs.Crashes.{Leaves}
 use Rattle.racf_outside.proofs.Images.{front_stays, durable-leaves}
 use Rattle.racf_journal.specs.Reading.{IsEnd}

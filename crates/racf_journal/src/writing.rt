@@ -10,15 +10,9 @@ ghost use Rattle.racf_journal.specs.Opening.{IsCaused};
 ghost use Rattle.racf_journal.specs.Reading.{magic, IsRecord};
 
 use crate::fault::JournalFault;
-use crate::gates::{CLOSED, OPEN};
+use crate::layout::{CLOSED, LONGEST_COMMAND, NEW, OPEN};
 use racf_outside::{Disk, Failed};
 use std::alloc::Global;
-
-/// The longest record of a command: its length, its issuer and group, and a text of 30,000 bytes.
-const LONGEST_COMMAND: usize = 30_020;
-
-/// The bytes of a file whose journal is new.
-const NEW: [u8; 9] = *b"RACFJNL1\0";
 
 /// Makes the file that of a new journal.
 pub(crate) fn write_new<D: Disk>(disk: &mut D) -> Result<(), Failed>

@@ -1,5 +1,5 @@
 -- The array's front is what was staged there.
-use Rattle.std.proofs.Common.{◌+◌, ◌≡◌, ◌∙◌, [], ◌∷◌, length, take, ap, arith, length-append}
+use Rattle.std.proofs.Common.{◌+◌, ◌∙◌, [], ◌∷◌, length, ap, arith, length-append}
 use Rattle.std.proofs.lemmas.List.{take_at}
 use Rattle.std.proofs.lemmas.Result.{on_ok_weaker}
 use Rattle.racf_journal.proofs.writing.write_short.Goals as goal

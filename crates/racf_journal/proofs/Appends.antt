@@ -1,15 +1,12 @@
 -- What a crash leaves at each moment of an append.
-use Rattle.std.proofs.Common.{ℕ, ◌+◌, ◌<◌, ◌≤◌, ◌≡◌, ◌∙◌, true, false, not, ◌&&◌, ◌||◌, ltb, List, [], ◌∷◌, ◌++◌, Option, None, Some, length, get_or, drop, refl, sym, ap, subst, arith, append_assoc, length-append, inl, inr}
+use Rattle.std.proofs.Common.{ℕ, ◌+◌, ◌<◌, ◌≤◌, ◌≡◌, ◌∙◌, true, false, not, ◌&&◌, ◌||◌, ltb, List, [], ◌∷◌, ◌++◌, length, get_or, drop, refl, sym, ap, subst, arith, append_assoc, length-append, inl, inr}
 use Rattle.std.specs.List.{AllByRecursion}
 use Rattle.std.proofs.lemmas.List.{take_all, take_at, drop_all, drop_at, drop_more, append-nil}
-use Rattle.std.proofs.lemmas.Option.{none-some, same_Some}
 use Rattle.std.proofs.lemmas.Bool.{lt-ltb, le-ltb}
 use Rattle.racf_outside.specs.Moments.{Moment, IsImage, is_written, durable, written, synced}
 use Rattle.racf_outside.specs.Crashes.{Leaves}
-use Rattle.racf_outside.specs.Disk.{History, Now}
-use Rattle.racf_outside.proofs.Images.{only, front_stays, back_stays}
-use Rattle.racf_journal.specs.Appending.{Acknowledges, LeavesEither}
-use Rattle.racf_journal.specs.Kept.{IsAtRest, IsResting, ReadsAs, ReadsAsEither}
+use Rattle.racf_outside.proofs.Images.{front_stays, back_stays, durable-leaves}
+use Rattle.racf_journal.specs.Kept.{IsAtRest, ReadsAs, ReadsAsEither}
 use Rattle.racf_journal.specs.Reading.{is_formatted, IsRecord, spelled}
 use Rattle.racf_journal.proofs.Walks.{spelled-push, lawful-push}
 use Rattle.racf_journal.proofs.Files.{ReadsAs-end, ReadsAsEither-gate, closed_is_end}
@@ -72,7 +69,7 @@ module _ (front : List ℕ) (records : List (List ℕ)) (next : List ℕ) (gate 
     reads_before end image same = inl (subst (ReadsAs front records) (sym (append_assoc front (spelled records) (0 ∷ end)) ∙ sym same) (ReadsAs-end front records (0 ∷ end) formatted lawful (closed_is_end 0 end (λ no. absurd (omega arith)))))
 
     pub resting_leaves : Leaves P resting
-    resting_leaves = record { each = λ image i. reads_before [] image (only (base ++ 0 ∷ []) image i) }
+    resting_leaves = durable-leaves P (base ++ 0 ∷ []) (reads_before [] (base ++ 0 ∷ []) refl)
 
     size : length (base ++ 0 ∷ []) ≡ gate + 1
     size = omega (arith, at, length-append base (0 ∷ []))
@@ -108,14 +105,12 @@ module _ (front : List ℕ) (records : List (List ℕ)) (next : List ℕ) (gate 
     size_then = omega (arith, at, length-append front (spelled records), ap length (spelled-push records next), length-append (spelled records) (1 ∷ next))
 
     pub staged_leaves : Leaves P (synced behind)
-    staged_leaves = record { each = λ image i. reads_before (next ++ 0 ∷ []) image (only behind.bytes image i ∙ behind_bytes) }
+    staged_leaves = durable-leaves P behind.bytes (reads_before (next ++ 0 ∷ []) behind.bytes behind_bytes)
 
     pub ended_leaves : Leaves P (synced opened)
-    ended_leaves = record {
-      each = λ image i.
-          let same : image ≡ front ++ (spelled (records ++ next ∷ []) ++ 0 ∷ []) = only opened.bytes image i ∙ ap (λ m. m.bytes) synced_is ∙ append_assoc front (spelled (records ++ next ∷ [])) (0 ∷ []) in
-          inr (subst (ReadsAs front (records ++ next ∷ [])) (sym same) (ReadsAs-end front (records ++ next ∷ []) (0 ∷ []) formatted (lawful-push records next lawful is) refl));
-    }
+    ended_leaves =
+        let same : opened.bytes ≡ front ++ (spelled (records ++ next ∷ []) ++ 0 ∷ []) = ap (λ m. m.bytes) synced_is ∙ append_assoc front (spelled (records ++ next ∷ [])) (0 ∷ []) in
+        durable-leaves P opened.bytes (inr (subst (ReadsAs front (records ++ next ∷ [])) (sym same) (ReadsAs-end front (records ++ next ∷ []) (0 ∷ []) formatted (lawful-push records next lawful is) refl)))
 
     pub ended_rests : (start : ℕ) → length front ≡ start → IsAtRest front start (gate + 1 + length next) (records ++ next ∷ []) (synced opened)
     ended_rests start from = record {
@@ -154,21 +149,3 @@ appends front start gate records next bytes m is same rest =
       ended = ended_leaves front records next gate formatted rest.lawful is at;
       rests = ended_rests front records next gate formatted rest.lawful is at start rest.from;
     }
-
--- a journal at rest leaves its records, whatever crashes
-pub rest_reads : (front : List ℕ) (start gate : ℕ) (records : List (List ℕ)) (m : Moment) → IsAtRest front start gate records m → Leaves (ReadsAs front records) m
-rest_reads front start gate records m rest = record {
-  each = λ image i.
-      let same : image ≡ front ++ (spelled records ++ 0 ∷ []) = only (front ++ spelled records ++ 0 ∷ []) image (subst (λ n. IsImage n image) rest.is i) ∙ append_assoc front (spelled records) (0 ∷ []) in
-      subst (ReadsAs front records) (sym same) (ReadsAs-end front records (0 ∷ []) (ap (λ s. is_formatted s front) rest.from ∙ rest.formatted) rest.lawful refl);
-}
-
-pub rest_leaves : (front : List ℕ) (start gate : ℕ) (records : List (List ℕ)) (next : List ℕ) (m : Moment) → IsAtRest front start gate records m → Leaves (ReadsAsEither front records next) m
-rest_leaves front start gate records next m rest = record { each = λ image i. inl ((rest_reads front start gate records m rest).each image i) }
-
--- behind an append that succeeded the journal is at rest again
-pub resting_then : (start gate place : ℕ) (next : List ℕ) (a b : Option History) → place ≡ gate + 1 + length next → Acknowledges start gate next a b → LeavesEither start gate next a b → Now a (IsResting start gate) → Now b (IsResting start place)
-resting_then start gate place next None b at kept leaves rest k e = absurd (none-some k (sym ((leaves [] [] (λ h told. absurd (none-some h told))).untold refl) ∙ e))
-resting_then start gate place next (Some h) b at kept leaves rest k e =
-    let r = rest h refl in
-    (r.0, r.1 ++ next ∷ [], subst (λ n. IsAtRest r.0 start n (r.1 ++ next ∷ []) k.now) (sym at) (kept r.0 r.1 (λ i told. subst (λ j. IsAtRest r.0 start gate r.1 j.now) (same_Some h i told) r.2) k e))

@@ -1,12 +1,10 @@
 -- Whole files: a front, records and an end.
-use Rattle.std.proofs.Common.{ℕ, ◌+◌, ◌<◌, ◌≤◌, ◌≡◌, ◌∙◌, Bool, true, false, cond, ltb, List, [], ◌∷◌, ◌++◌, length, take, drop, Result, Ok, Err, refl, sym, ap, subst, arith, append_assoc, length-append, inl, inr}
-use Rattle.std.specs.Prelude.{bytes_eq, ◌||◌, ◌⊎◌}
+use Rattle.std.proofs.Common.{ℕ, ◌≤◌, ◌≡◌, ◌∙◌, true, ltb, List, [], ◌∷◌, ◌++◌, length, take, refl, sym, ap, subst, arith, append_assoc, inl, inr}
+use Rattle.std.specs.Prelude.{bytes_eq}
 use Rattle.std.specs.List.{AllByRecursion}
 use Rattle.std.proofs.lemmas.List.{take_at, drop_at, take-append-le, length-take}
-use Rattle.std.proofs.lemmas.Bool.{cond-true, or_cases, or_left, or_right, cases_eq, ne_eqb, eqb-true}
+use Rattle.std.proofs.lemmas.Bool.{cond-true, or_cases, or_left, or_right, cases_eq, ne_eqb}
 use Rattle.std.proofs.lemmas.Slice.Eq.{bytes_eq-Decides}
-use Rattle.racf_journal.specs.declared.fault.JournalFault.{JournalFault}
-use Rattle.racf_journal.specs.declared.fault.JournalFault.TheVariants.{NotFormatted}
 use Rattle.racf_journal.specs.Kept.{ReadsAs, ReadsAsEither}
 use Rattle.racf_journal.specs.Reading.{magic, is_formatted, IsRecord, walk, reading, IsEnd, spelled}
 use Rattle.racf_journal.proofs.Walks.{walk_to_end, spelled-push, lawful-push}

@@ -1,17 +1,16 @@
 -- What opening a journal leaves, and what crashes leave meanwhile.
-use Rattle.std.proofs.Common.{ℕ, ◌+◌, ◌-◌, ◌<◌, ◌≤◌, ◌≡◌, ◌∙◌, ◌||◌, true, false, List, [], ◌∷◌, ◌++◌, length, take, drop, Option, None, Some, Ok, Err, refl, sym, ap, subst, arith, append_assoc, length-append, replicate, inl, inr, ltb}
+use Rattle.std.proofs.Common.{ℕ, ◌-◌, ◌≤◌, ◌≡◌, ◌∙◌, ◌||◌, true, false, List, [], ◌∷◌, ◌++◌, length, take, drop, Option, None, Some, Ok, Err, refl, sym, ap, subst, arith, append_assoc, length-append, replicate, inl, inr, ltb}
 use Rattle.std.specs.Prelude.{bytes_eq}
 use Rattle.std.specs.Option.{option_map}
 use Rattle.std.proofs.lemmas.Option.{none-some, same_Some}
 use Rattle.std.proofs.lemmas.List.{take_at, drop_at, take-take, take-append-drop, length-take, length-take-le, length-replicate}
-use Rattle.std.proofs.lemmas.Bool.{cond-true, cond-false, or_cases}
+use Rattle.std.proofs.lemmas.Bool.{cond-true, cond-false}
 use Rattle.std.proofs.lemmas.Slice.Eq.{bytes_eq-Decides}
 use Rattle.racf_outside.specs.Crashes.{Leaves, StaysIn}
 use Rattle.racf_outside.specs.Disk.{History, goes, Now}
 use Rattle.racf_outside.specs.Moments.{Moment, IsImage, durable, synced}
-use Rattle.racf_outside.proofs.Images.{only}
+use Rattle.racf_outside.proofs.Images.{synced-leaves}
 use Rattle.racf_outside.proofs.Runs.{Runs, starts, ok, same_told, ends, StaysIn-joined, StaysIn-weaker}
-use Rattle.racf_journal.specs.declared.fault.JournalFault.{JournalFault}
 use Rattle.racf_journal.specs.declared.fault.JournalFault.TheVariants.{NotFormatted}
 use Rattle.racf_journal.specs.Kept.{IsAtRest, IsResting, Keeps}
 use Rattle.racf_journal.specs.Opening.{IsStart, WasPossible}
@@ -102,11 +101,6 @@ StaysIn-from P a b untold told = record { told = λ h e. (told h e).told h e; un
 possible_now : (start : ℕ) (before m : Moment) → m ≡ before → Leaves (WasPossible start before) m
 possible_now start before m same = record { each = λ image i. record { image = image; was_left = subst (λ n. IsImage n image) same i; front = refl; reads = refl } }
 
-possible_synced : (start : ℕ) (before m : Moment) → m ≡ before → IsImage m m.bytes → Leaves (WasPossible start before) (synced m)
-possible_synced start before m same law = record {
-  each = λ image i. record { image = m.bytes; was_left = subst (λ n. IsImage n m.bytes) same law; front = ap (take start) (only m.bytes image i); reads = ap (reading start) (only m.bytes image i) };
-}
-
 pub possible_start : (start : ℕ) (before : Moment) (a : Option History) → Now a (λ m. m ≡ before) → Runs (WasPossible start before) a (λ h. h) a
 possible_start start before a was = starts (WasPossible start before) a (λ h e. possible_now start before h.now (was h e))
 
@@ -122,7 +116,7 @@ module _ (start : ℕ) (a b c : Option History) (law : (h : History) → a ≡ S
   seen_told h e = kept ∙ done ∙ ap (option_map (goes synced)) e
 
   pub seen_stays : (before : Moment) → Now a (λ m. m ≡ before) → StaysIn (WasPossible start before) a c
-  seen_stays before was = ends (same_told (ok synced (possible_start start before a was) done (λ h e. possible_synced start before h.now (was h e) (law h e))) kept)
+  seen_stays before was = ends (same_told (ok synced (possible_start start before a was) done (λ h e. synced-leaves (WasPossible start before) h.now (law h e) (possible_now start before h.now (was h e)))) kept)
 
   synced_told : (h : History) → a ≡ Some h → b ≡ Some (goes synced h)
   synced_told h e = done ∙ ap (option_map (goes synced)) e

@@ -1,11 +1,11 @@
 -- What crashes leave while the end of a journal is repaired.
 use Rattle.std.proofs.Common.{ℕ, ◌+◌, ◌<◌, ◌≤◌, ◌≡◌, ◌∙◌, List, [], ◌∷◌, ◌++◌, length, take, drop, refl, sym, ap, subst, arith, append_assoc, length-append, Option, None, Some, replicate}
-use Rattle.std.proofs.lemmas.List.{take_all, take_at, drop_all, append-nil, length-drop, length-take, length-replicate}
+use Rattle.std.proofs.lemmas.List.{take_at, drop_all, append-nil, length-drop, length-take, length-replicate}
 use Rattle.std.proofs.lemmas.Option.{none-some, same_Some}
 use Rattle.racf_outside.specs.Disk.{History}
-use Rattle.racf_outside.specs.Moments.{Moment, IsImage, durable, written, cut_to, synced}
+use Rattle.racf_outside.specs.Moments.{Moment, durable, written, cut_to, synced}
 use Rattle.racf_outside.specs.Crashes.{Leaves}
-use Rattle.racf_outside.proofs.Images.{only, front_stays}
+use Rattle.racf_outside.proofs.Images.{front_stays, durable-leaves}
 use Rattle.racf_journal.specs.Reading.{IsEnd}
 use Rattle.racf_journal.specs.Repair.{Holds, HoldsEnd, Ends}
 use Rattle.racf_journal.proofs.Appends.{unwritten_before}
@@ -22,7 +22,7 @@ end_then gate byte bytes [] is = refl
 end_then gate byte bytes (other ∷ rest) is = is
 
 pub held_leaves : (base end : List ℕ) → IsEnd end → Leaves (Ends base) (durable (base ++ end))
-held_leaves base end is = record { each = λ image i. record { end = end; split = only (base ++ end) image i; ends = is } }
+held_leaves base end is = durable-leaves (Ends base) (base ++ end) (record { end = end; split = refl; ends = is })
 
 -- a cut behind the closed gate
 pub record IsCutting (base end : List ℕ) (place : ℕ) (m : Moment) : Type 0 where
@@ -58,7 +58,7 @@ module _ (base : List ℕ) (gate byte : ℕ) (bytes : List ℕ) (place : ℕ) (a
   cutting_here = record {
     before = held_leaves base (gate ∷ byte ∷ bytes) is;
     cut = cut_leaves;
-    kept = record { each = λ image i. record { end = gate ∷ []; split = only (take place whole) image i ∙ cut_bytes; ends = refl } };
+    kept = durable-leaves (Ends base) (take place whole) (record { end = gate ∷ []; split = cut_bytes; ends = refl });
     held = ap durable cut_bytes;
   }
 
@@ -97,7 +97,7 @@ module _ (base end : List ℕ) (gate : ℕ) (at : length base ≡ gate) (short :
   closing_here = record {
     before = held_leaves base end (short_is_end end short);
     closed = closed_leaves;
-    kept = record { each = λ image i. record { end = 0 ∷ []; split = only closing.bytes image i ∙ closing_bytes; ends = refl } };
+    kept = durable-leaves (Ends base) closing.bytes (record { end = 0 ∷ []; split = closing_bytes; ends = refl });
     held = ap durable closing_bytes;
   }
 

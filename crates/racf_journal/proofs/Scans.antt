@@ -1,5 +1,5 @@
 -- How the records of a file are found, one after another, and how its bytes are read.
-use Rattle.std.proofs.Common.{ℕ, ◌+◌, ◌-◌, ◌<◌, ◌≤◌, ◌≡◌, ◌∙◌, min, Bool, true, ◌||◌, List, [], ◌∷◌, ◌++◌, length, take, drop, Err, refl, sym, ap, arith, append_assoc, length-append}
+use Rattle.std.proofs.Common.{ℕ, ◌+◌, ◌-◌, ◌<◌, ◌≤◌, ◌≡◌, ◌∙◌, min, Bool, true, ◌||◌, List, [], ◌∷◌, ◌++◌, length, take, drop, Err, sym, ap, arith, append_assoc, length-append}
 use Rattle.std.specs.Prelude.{bytes_eq}
 use Rattle.std.specs.List.{AllByRecursion}
 use Rattle.std.proofs.lemmas.List.{take_rest, take_min, take-take, drop-take, drop-drop, take-append-drop, length-take-le}

@@ -1,13 +1,12 @@
 -- What records read as, one behind another.
-use Rattle.std.proofs.Common.{ℕ, zero, suc, ◌+◌, ◌<◌, ◌≤◌, ◌≡◌, ◌∙◌, Bool, true, false, cond, ltb, eqb, List, [], ◌∷◌, ◌++◌, length, take, drop, Result, Ok, Err, refl, sym, ap, arith, append_assoc, length-append, take-append-drop}
+use Rattle.std.proofs.Common.{ℕ, zero, suc, ◌+◌, ◌<◌, ◌≤◌, ◌≡◌, ◌∙◌, cond, ltb, eqb, List, [], ◌∷◌, ◌++◌, length, take, drop, Result, Ok, Err, refl, sym, ap, arith, append_assoc, length-append, take-append-drop}
 use Rattle.std.specs.List.{AllByRecursion}
 use Rattle.std.proofs.lemmas.List.{take_at, drop_at, length-take-le, append-nil}
-use Rattle.std.proofs.lemmas.Bool.{ltb-true, ltb-false, lt-ltb, le-ltb, cond-true, cond-false}
-use Rattle.byteorder.specs.Endian.{big_number}
+use Rattle.std.proofs.lemmas.Bool.{lt-ltb, le-ltb, cond-true, cond-false}
 use Rattle.byteorder.specs.Numbers.{big_from-append}
 use Rattle.racf_journal.specs.declared.fault.JournalFault.{JournalFault}
 use Rattle.racf_journal.specs.declared.fault.JournalFault.TheVariants.{Damaged}
-use Rattle.racf_journal.specs.Reading.{claims, IsRecord, Reading, ends_at, and_then_read, walk, is_open, IsEnd, spelled}
+use Rattle.racf_journal.specs.Reading.{claims, IsRecord, Reading, ends_at, and_then_read, walk, IsEnd, spelled}
 
 -- a record takes at least its length
 pub claims_four : (bytes : List ℕ) → 4 ≤ claims bytes

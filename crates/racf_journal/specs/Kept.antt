@@ -2,7 +2,7 @@
 use Rattle.std.specs.Prelude.{ℕ, ◌+◌, ◌≡◌, true, List, [], ◌∷◌, ◌++◌, length, take, Option, Ok, ◌⊎◌}
 use Rattle.std.specs.List.{AllByRecursion}
 use Rattle.racf_outside.specs.Disk.{History, Now}
-use Rattle.racf_outside.specs.Moments.{Moment, IsImage, durable}
+use Rattle.racf_outside.specs.Moments.{Moment, durable}
 use Rattle.racf_journal.specs.Reading.{is_formatted, reading, IsRecord, spelled}
 
 -- A journal as data: its disk, the place where it begins, and that of its last gate.

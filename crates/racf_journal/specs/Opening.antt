@@ -1,5 +1,5 @@
 -- What opening a journal finds, and what crashes within it leave.
-use Rattle.std.specs.Prelude.{ℕ, ◌<◌, ◌≤◌, ◌≡◌, List, length, take, Option, Ok, Err, ◌⊎◌}
+use Rattle.std.specs.Prelude.{ℕ, ◌<◌, ◌≤◌, ◌≡◌, List, length, take, Option, Err, ◌⊎◌}
 use Rattle.racf_outside.specs.Causes.{Rose}
 use Rattle.racf_outside.specs.Crashes.{StaysIn}
 use Rattle.racf_outside.specs.Disk.{History, Now}

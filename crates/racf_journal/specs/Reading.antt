@@ -4,10 +4,11 @@ use Rattle.byteorder.specs.Endian.{big_number}
 use Rattle.racf_journal.specs.declared.fault.JournalFault.{JournalFault}
 use Rattle.racf_journal.specs.declared.fault.JournalFault.TheVariants.{NotFormatted, Damaged}
 
--- A journal that stands alone begins at place 8, behind these bytes. What lies before a later start isn't its own.
+-- what the file of a journal begins with that stands alone, and so begins at place 8
 abbrev pub magic : List ℕ
 magic = codes "RACFJNL1"
 
+-- Whether a journal may begin there: at place 8 only behind these bytes. What lies before a later start isn't asked.
 abbrev pub is_formatted : (start : ℕ) → (file : List ℕ) → Bool
 is_formatted start file = nat_lt 8 start || bytes_eq (take 8 file) magic
 
@@ -33,9 +34,8 @@ abbrev pub and_then_read : List ℕ → Result Reading JournalFault → Result R
 and_then_read first (Ok more) = Ok (record { records = first ∷ more.records; gate = more.gate })
 and_then_read first (Err fault) = Err fault
 
--- A gate is open where its byte is X'01' and a byte follows it: then a record follows, and the next gate. Every other
--- byte, or the end of the file, is a closed gate and ends the journal. An open gate without a whole record is damaged.
--- `skip` counts the bytes in front that still belong to a record, `place` is the place of the first byte.
+-- A gate X'01' is open where a byte follows it: then a whole record follows, else it is damaged, and the next gate. Every
+-- other byte, or the file's end, is closed and ends the journal. `skip` bytes in front still belong to a record.
 abbrev pub walk : (skip place : ℕ) → (bytes : List ℕ) → Result Reading JournalFault
 walk skip place [] = ends_at place
 walk (suc skip) place (byte ∷ bytes) = walk skip (suc place) bytes
@@ -50,12 +50,13 @@ walk zero place (gate ∷ byte ∷ bytes) =
 abbrev pub reading : (start : ℕ) → (file : List ℕ) → Result Reading JournalFault
 reading start file = if is_formatted start file then walk zero start (drop start file) else Err NotFormatted
 
--- Whether the gate in front is open; where it isn't, the bytes end a journal.
+-- whether the gate in front is open
 abbrev pub is_open : List ℕ → Bool
 is_open [] = false
 is_open (gate ∷ []) = false
 is_open (gate ∷ byte ∷ bytes) = gate == 1
 
+-- Where it isn't, these bytes end a journal.
 abbrev pub IsEnd : List ℕ → Type 0
 IsEnd bytes = is_open bytes ≡ false
 

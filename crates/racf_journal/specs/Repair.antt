@@ -2,7 +2,7 @@
 use Rattle.std.specs.Prelude.{ℕ, ◌+◌, ◌≡◌, List, ◌++◌, length, Option}
 use Rattle.std.specs.List.{AllByRecursion}
 use Rattle.racf_outside.specs.Disk.{History, Now}
-use Rattle.racf_outside.specs.Moments.{Moment, durable}
+use Rattle.racf_outside.specs.Moments.{durable}
 use Rattle.racf_journal.specs.Reading.{IsRecord, IsEnd, spelled}
 
 -- These bytes are whole records behind open gates, up to the gate at this place, and an end.

@@ -3,13 +3,8 @@
 ghost use Rattle.std.specs.Prelude.{◌<◌, ◌≤◌, ◌≡◌, length, take, drop, IfSome, IfNone};
 ghost use Rattle.racf_journal.specs.Reading.{claims, is_open};
 
+use crate::layout::OPEN;
 use byteorder::{BigEndian, ByteOrder};
-
-/// The gate of a record that counts.
-pub(crate) const OPEN: u8 = 1;
-
-/// The gate that ends the journal.
-pub(crate) const CLOSED: u8 = 0;
 
 /// Whether the gate in front is open: any other byte is a closed gate, and so is the last byte of a file.
 pub(crate) fn gate_is_open(bytes: &[u8]) -> bool

@@ -9,17 +9,14 @@ ghost use Rattle.racf_journal.specs.Opening.{IsStart, StaysPossible, Refuses, Is
 ghost use Rattle.racf_journal.specs.Reading.{magic, reading, IsRecord};
 
 use crate::fault::JournalFault;
+use crate::layout::{FIRST_START, MOST_BYTES};
 use crate::opening::opened;
-use crate::reading::FIRST_START;
 use crate::scan::Found;
 use crate::writing::{write_new, write_record};
 use access_levels::Text;
 use racf_outside::Disk;
 use std::alloc::Global;
 use std::marker::Model;
-
-/// How many bytes a file may have.
-const MOST_BYTES: u64 = 1 << 28;
 
 /// Records behind gates, on a disk of its own or in the last part of a file.
 pub struct Journal<D: Disk> {
@@ -45,6 +42,7 @@ impl<D: Disk> Journal<D> {
     pub fn format(mut disk: D) -> Result<Journal<D>, (D, JournalFault)>
         ensures made { IfOk result (λ made. Keeps magic made.start made.gate [] (D.tells made.disk)) }
         ensures start { IfOk result (λ made. made.start ≡ 8) }
+        ensures gate { IfOk result (λ made. made.gate ≡ 8) }
         ensures fault { IfErr result (λ back. back.1 ≡ JournalFault.DiskFault) }
         ensures cause { IfErr result (λ back. Rose (D.faults disk) (D.faults back.0)) }
         ensures no_fewer { MatchResult result (λ made. D.faults disk ≤ D.faults made.disk) (λ back. D.faults disk ≤ D.faults back.0) }

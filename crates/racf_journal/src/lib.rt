@@ -18,6 +18,7 @@ mod fault;
 mod gates;
 mod journal;
 mod laws;
+mod layout;
 mod opening;
 mod reading;
 mod repair;

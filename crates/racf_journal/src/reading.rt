@@ -8,14 +8,9 @@ ghost use Rattle.racf_journal.specs.Opening.{IsCaused};
 ghost use Rattle.racf_journal.specs.Reading.{is_formatted};
 
 use crate::fault::JournalFault;
+use crate::layout::{FIRST_START, MAGIC};
 use racf_outside::{Disk, Failed};
 use std::alloc::{AllocError, Global};
-
-/// What the file of a journal begins with that stands alone.
-pub(crate) const MAGIC: [u8; 8] = *b"RACFJNL1";
-
-/// Where such a journal begins.
-pub(crate) const FIRST_START: u64 = 8;
 
 /// How many bytes are read at once.
 const BLOCK: usize = 65_536;

@@ -6,7 +6,7 @@ ghost use Rattle.racf_outside.specs.Crashes.{StaysIn};
 ghost use Rattle.racf_journal.specs.Reading.{IsEnd};
 ghost use Rattle.racf_journal.specs.Repair.{Holds, HoldsEnd, Ends};
 
-use crate::gates::CLOSED;
+use crate::layout::CLOSED;
 use racf_outside::{Disk, Failed};
 
 /// Makes the bytes from the gate on, `end`, a closed gate. What lies behind the gate is gone from the disk before the

@@ -30,12 +30,12 @@ pub(crate) fn scan(alloc: Global, bytes: &[u8], start: u64) -> Result<Found, Jou
     let mut rest = bytes;
     let mut gate = start;
     while gate_is_open(rest) {
-        let Some(record) = record_behind(rest) else {
+        let Some(next) = record_behind(rest) else {
             return Err(JournalFault::Damaged(gate));
         };
-        records.push(Text::of(alloc, record)?)?;
-        gate += 1 + record.len() as u64;
-        rest = &rest[1 + record.len()..];
+        records.push(Text::of(alloc, next)?)?;
+        gate += 1 + next.len() as u64;
+        rest = &rest[1 + next.len()..];
     }
     Ok(Found { records, gate })
 }

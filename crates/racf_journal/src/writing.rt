@@ -10,15 +10,9 @@ ghost use Rattle.racf_journal.specs.Opening.{IsCaused};
 ghost use Rattle.racf_journal.specs.Reading.{magic, IsRecord};
 
 use crate::fault::JournalFault;
-use crate::gates::{CLOSED, OPEN};
+use crate::layout::{CLOSED, LONGEST_COMMAND, NEW, OPEN};
 use racf_outside::{Disk, Failed};
 use std::alloc::Global;
-
-/// The longest record of a command: its length, its issuer and group, and a text of 30,000 bytes.
-const LONGEST_COMMAND: usize = 30_020;
-
-/// The bytes of a file whose journal is new.
-const NEW: [u8; 9] = *b"RACFJNL1\0";
 
 /// Makes the file that of a new journal.
 pub(crate) fn write_new<D: Disk>(disk: &mut D) -> Result<(), Failed>
@@ -37,51 +31,51 @@ pub(crate) fn write_record<D: Disk>(
     alloc: Global,
     disk: &mut D,
     gate: u64,
-    record: &[u8],
+    next: &[u8],
 ) -> Result<(), JournalFault>
     requires room { gate < 2 ^ 28 }
     requires rest { Now (D.tells disk.old) (λ m. (start : ℕ) × IsResting start gate m) }
-    requires lawful { IsRecord record.now }
+    requires lawful { IsRecord next.now }
 
-    ensures acknowledged { OnOk result ((start : ℕ) → Acknowledges start gate record.now (D.tells disk.old) (D.tells disk.new)) }
-    ensures moments { (start : ℕ) → LeavesEither start gate record.now (D.tells disk.old) (D.tells disk.new) }
-    ensures fault { IfErr result (λ why. (why ≡ fault.DiskFault) ⊎ ((why ≡ fault.NoMemory) × (30020 < length record.now) × (disk.new ≡ disk.old))) }
+    ensures acknowledged { OnOk result ((start : ℕ) → Acknowledges start gate next.now (D.tells disk.old) (D.tells disk.new)) }
+    ensures moments { (start : ℕ) → LeavesEither start gate next.now (D.tells disk.old) (D.tells disk.new) }
+    ensures fault { IfErr result (λ why. (why ≡ fault.DiskFault) ⊎ ((why ≡ fault.NoMemory) × (30020 < length next.now) × (disk.new ≡ disk.old))) }
     ensures cause { IfErr result (IsCaused (D.faults disk.old) (D.faults disk.new)) }
     ensures no_fewer { D.faults disk.old ≤ D.faults disk.new }
 {
-    if record.len() <= LONGEST_COMMAND {
-        write_short(disk, gate, record)?;
+    if next.len() <= LONGEST_COMMAND {
+        write_short(disk, gate, next)?;
         return Ok(());
     }
-    let mut bytes = Vec::with_capacity(alloc, record.len() + 1)?;
-    bytes.extend_from_slice(record)?;
+    let mut bytes = Vec::with_capacity(alloc, next.len() + 1)?;
+    bytes.extend_from_slice(next)?;
     bytes.push(CLOSED)?;
     put_behind(disk, gate, &bytes)?;
     Ok(())
 }
 
 /// Writes a record that is no longer than a command's behind the last gate and opens that.
-fn write_short<D: Disk>(disk: &mut D, gate: u64, record: &[u8]) -> Result<(), Failed>
+fn write_short<D: Disk>(disk: &mut D, gate: u64, next: &[u8]) -> Result<(), Failed>
     requires room { gate < 2 ^ 28 }
     requires rest { Now (D.tells disk.old) (λ m. (start : ℕ) × IsResting start gate m) }
-    requires lawful { IsRecord record.now }
-    requires short { length record.now ≤ 30020 }
-    ensures acknowledged { OnOk result ((start : ℕ) → Acknowledges start gate record.now (D.tells disk.old) (D.tells disk.new)) }
-    ensures moments { (start : ℕ) → LeavesEither start gate record.now (D.tells disk.old) (D.tells disk.new) }
+    requires lawful { IsRecord next.now }
+    requires short { length next.now ≤ 30020 }
+    ensures acknowledged { OnOk result ((start : ℕ) → Acknowledges start gate next.now (D.tells disk.old) (D.tells disk.new)) }
+    ensures moments { (start : ℕ) → LeavesEither start gate next.now (D.tells disk.old) (D.tells disk.new) }
     ensures cause { HasCause (D.faults disk.old) (D.faults disk.new) result }
 {
     let mut bytes = [0; LONGEST_COMMAND + 1];
-    stage(record, &mut bytes[..=record.len()]);
-    put_behind(disk, gate, &bytes[..=record.len()])
+    stage(next, &mut bytes[..=next.len()]);
+    put_behind(disk, gate, &bytes[..=next.len()])
 }
 
 /// Fills bytes with a record and the closed gate behind it.
-fn stage(record: &[u8], bytes: &mut [u8])
-    requires { length bytes.old ≡ length record.now + 1 }
-    ensures { bytes.new ≡ record.now ++ 0 ∷ [] }
+fn stage(next: &[u8], bytes: &mut [u8])
+    requires { length bytes.old ≡ length next.now + 1 }
+    ensures { bytes.new ≡ next.now ++ 0 ∷ [] }
 {
-    bytes[..record.len()].copy_from_slice(record);
-    bytes[record.len()] = CLOSED;
+    bytes[..next.len()].copy_from_slice(next);
+    bytes[next.len()] = CLOSED;
 }
 
 /// Writes a record and a closed gate behind the last gate, and then opens that. Each write is on the disk before the

@@ -14,9 +14,9 @@ pub loop-rest-preserved : goal.loop-rest-preserved
 loop-rest-preserved c =
     let i = c.loop-rest.invariant in
     let is : is_open c.loop-rest.rest.now ≡ true = sym c.gate_is_open.ensures ∙ c.loop-rest-test.true in
-    let pushed : c.push.new.self.items ≡ c.loop-rest.records.items ++ c.in-Some.record.now ∷ [] = search rules in
+    let pushed : c.push.new.self.items ≡ c.loop-rest.records.items ++ c.in-Some.next.now ∷ [] = search rules in
     record {
-      split = scanned_split c.args.bytes.now c.loop-rest.records.items c.loop-rest.rest.now i.split i.lawful is c.in-Some.record.now c.push.new.self.items c.in-Some.ensures.whole c.in-Some.ensures.first pushed;
-      lawful = scanned_lawful c.args.bytes.now c.loop-rest.records.items c.loop-rest.rest.now i.split i.lawful is c.in-Some.record.now c.push.new.self.items c.in-Some.ensures.whole c.in-Some.ensures.first pushed;
-      to = scanned_to c.args.bytes.now c.loop-rest.records.items c.loop-rest.rest.now i.split i.lawful is c.in-Some.record.now c.push.new.self.items c.in-Some.ensures.whole c.in-Some.ensures.first pushed c.args.start c.loop-rest.gate i.to;
+      split = scanned_split c.args.bytes.now c.loop-rest.records.items c.loop-rest.rest.now i.split i.lawful is c.in-Some.next.now c.push.new.self.items c.in-Some.ensures.whole c.in-Some.ensures.first pushed;
+      lawful = scanned_lawful c.args.bytes.now c.loop-rest.records.items c.loop-rest.rest.now i.split i.lawful is c.in-Some.next.now c.push.new.self.items c.in-Some.ensures.whole c.in-Some.ensures.first pushed;
+      to = scanned_to c.args.bytes.now c.loop-rest.records.items c.loop-rest.rest.now i.split i.lawful is c.in-Some.next.now c.push.new.self.items c.in-Some.ensures.whole c.in-Some.ensures.first pushed c.args.start c.loop-rest.gate i.to;
     }

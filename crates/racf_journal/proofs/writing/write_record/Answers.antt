@@ -2,24 +2,24 @@
 use Rattle.std.proofs.Common.{◌≡◌, [], ◌∷◌, ◌++◌, rules}
 use Rattle.racf_outside.proofs.Runs.{StaysIn-none}
 use Rattle.racf_journal.specs.Kept.{ReadsAsEither}
-use Rattle.racf_journal.proofs.Appends.{rest_leaves}
+use Rattle.racf_journal.proofs.Rests.{rest_leaves_either}
 use Rattle.racf_journal.proofs.writing.write_record.Goals as goal
 
 pub returns-in_err-bytes-clause-moments : goal.returns-in_err-bytes-clause-moments
 returns-in_err-bytes-clause-moments g c start front records keeps =
-    StaysIn-none (ReadsAsEither front records c.args.record.now) _ (λ h e. rest_leaves front start c.args.gate records c.args.record.now h.now (keeps h e))
+    StaysIn-none (ReadsAsEither front records c.args.next.now) _ (λ h e. rest_leaves_either front start c.args.gate records c.args.next.now h.now (keeps h e))
 
 pub returns-in_err-put_behind-clause-moments : goal.returns-in_err-put_behind-clause-moments
 returns-in_err-put_behind-clause-moments g c start =
-    let same : c.deref.result.now ≡ c.args.record.now ++ 0 ∷ [] = search rules in
-    c.put_behind.ensures.moments start c.args.record.now c.requires.lawful same
+    let same : c.deref.result.now ≡ c.args.next.now ++ 0 ∷ [] = search rules in
+    c.put_behind.ensures.moments start c.args.next.now c.requires.lawful same
 
 pub returns-clause-moments : goal.returns-clause-moments
 returns-clause-moments g c start =
-    let same : c.deref.result.now ≡ c.args.record.now ++ 0 ∷ [] = search rules in
-    c.put_behind.ensures.moments start c.args.record.now c.requires.lawful same
+    let same : c.deref.result.now ≡ c.args.next.now ++ 0 ∷ [] = search rules in
+    c.put_behind.ensures.moments start c.args.next.now c.requires.lawful same
 
 pub returns-clause-acknowledged : goal.returns-clause-acknowledged
 returns-clause-acknowledged g c start =
-    let same : c.deref.result.now ≡ c.args.record.now ++ 0 ∷ [] = search rules in
-    c.in_ok-put_behind.ensures.acknowledged start c.args.record.now c.requires.lawful same
+    let same : c.deref.result.now ≡ c.args.next.now ++ 0 ∷ [] = search rules in
+    c.in_ok-put_behind.ensures.acknowledged start c.args.next.now c.requires.lawful same

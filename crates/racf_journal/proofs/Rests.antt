@@ -1,5 +1,5 @@
--- For the layers above: what crashes leave of a journal at rest, what an append and an opening say of the records that a
--- caller knows of, and the front of a journal that stands alone.
+-- For the layers above: what crashes leave of a journal at rest, what an append and an opening say of the records that
+-- a caller knows of, and the front of a journal that stands alone.
 use Rattle.std.proofs.Common.{ℕ, ◌+◌, ◌≡◌, ◌∙◌, List, [], ◌∷◌, ◌++◌, Option, None, Some, Ok, length, take, refl, sym, ap, subst, append_assoc, inl}
 use Rattle.std.proofs.lemmas.Option.{none-some, same_Some}
 use Rattle.std.proofs.lemmas.Slice.Eq.{bytes_eq-Decides}
@@ -31,7 +31,7 @@ kept_at front start gate records a h e rest i told = subst (λ j. IsAtRest front
 append_untold : (start gate : ℕ) (next : List ℕ) (a b : Option History) → LeavesEither start gate next a b → a ≡ None → b ≡ None
 append_untold start gate next a b leaves none = (leaves [] [] (λ h told. absurd (none-some h (sym none ∙ told)))).untold none
 
--- Within an append a crash leaves what has P, where that holds of the records from before, and of these and the new one.
+-- Within an append a crash leaves what has P, where that holds of the records from before, and of these with the new.
 pub append_stays : (P : List ℕ → Type 0) (start gate : ℕ) (next : List ℕ) (a b : Option History) → LeavesEither start gate next a b
     → ((h : History) → a ≡ Some h → (front : List ℕ) × (records : List (List ℕ)) × IsAtRest front start gate records h.now × ((image : List ℕ) → ReadsAsEither front records next image → P image)) → StaysIn P a b
 append_stays P start gate next a b leaves known = record {

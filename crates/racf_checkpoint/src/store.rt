@@ -54,6 +54,7 @@ impl<D: Disk> Store<D> {
     /// that fails, both are handed back.
     pub fn format(disks: Two<D>) -> Result<Store<D>, (Two<D>, StoreFault)>
         ensures stores { IfOk result (λ store. Stores D.tells store []) }
+        ensures ready { IfOk result (λ store. IsReady D.tells store) }
         ensures start { IfOk result (λ store. store.journal.start ≡ 8) }
         ensures gate { IfOk result (λ store. store.journal.gate ≡ 8) }
         ensures second { MatchResult result (λ store. store.second ≡ disks.second) (λ back. back.0.second ≡ disks.second) }
@@ -64,7 +65,7 @@ impl<D: Disk> Store<D> {
         let Two { first, second } = disks;
         match Journal::format(first) {
             Ok(journal) => Ok(Store { journal, second }),
-            Err((first, fault)) => Err((Two { first, second }, StoreFault::from(fault))),
+            Err((first, _)) => Err((Two { first, second }, StoreFault::DiskFault)),
         }
     }
 

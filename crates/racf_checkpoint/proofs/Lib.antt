@@ -1,1 +1,2 @@
 mod Says
+pub mod Steps

@@ -20,15 +20,15 @@ known : (Q : List (List ℕ) → Type 0) (start gate : ℕ) (told : Option Histo
 known Q start gate told h e s k f = subst (λ i. IsStored start gate s.0 i.now) (same_history h k (sym e ∙ f)) s.1
 
 one_said : (Q R : List (List ℕ) → Type 0) (next : List ℕ) (records : List (List ℕ)) (first second : List ℕ) → Q records → R (records ++ next ∷ [])
-  → SaysEither records next first second → SaysSome (λ rs. Q rs ⊎ R rs) first second
+    → SaysEither records next first second → SaysSome (λ rs. Q rs ⊎ R rs) first second
 one_said Q R next records first second q r (inl says) = (records, says, inl q)
 one_said Q R next records first second q r (inr says) = (records ++ next ∷ [], says, inr r)
 
 -- At every moment of the append a crash leaves files that say records with Q, or with R.
 pub append_leaves : (Q R : List (List ℕ) → Type 0) (next : List ℕ) (start gate : ℕ) (second old new : Option History)
-  → ((records : List (List ℕ)) → Now old (IsStored start gate records) → StaysIn (Beside second (SaysEither records next)) old new)
-  → Now old (IsStoredSome Q start gate) → ((records : List (List ℕ)) → Q records → R (records ++ next ∷ []))
-  → StaysIn (Beside second (SaysSome (λ rs. Q rs ⊎ R rs))) old new
+    → ((records : List (List ℕ)) → Now old (IsStored start gate records) → StaysIn (Beside second (SaysEither records next)) old new)
+    → Now old (IsStoredSome Q start gate) → ((records : List (List ℕ)) → Q records → R (records ++ next ∷ []))
+    → StaysIn (Beside second (SaysSome (λ rs. Q rs ⊎ R rs))) old new
 append_leaves Q R next start gate second None new moments holds grows =
     StaysIn-weaker (Beside second (SaysSome (λ rs. Q rs ⊎ R rs))) (moments [] (λ h e. absurd (none-some h e))) (λ h e image p. absurd (none-some h e))
 append_leaves Q R next start gate second (Some h) new moments holds grows =
@@ -38,10 +38,10 @@ append_leaves Q R next start gate second (Some h) new moments holds grows =
 
 -- Behind it the store keeps records with R.
 pub append_keeps : (Q R : List (List ℕ) → Type 0) (next : List ℕ) (start gate later end : ℕ) (second old new : Option History)
-  → ((records : List (List ℕ)) → Now old (IsStored start gate records) → StaysIn (Beside second (SaysEither records next)) old new)
-  → ((records : List (List ℕ)) → Now old (IsStored start gate records) → Now new (IsStored later end (records ++ next ∷ [])))
-  → Now old (IsStoredSome Q start gate) → ((records : List (List ℕ)) → Q records → R (records ++ next ∷ []))
-  → Now new (IsStoredSome R later end)
+    → ((records : List (List ℕ)) → Now old (IsStored start gate records) → StaysIn (Beside second (SaysEither records next)) old new)
+    → ((records : List (List ℕ)) → Now old (IsStored start gate records) → Now new (IsStored later end (records ++ next ∷ [])))
+    → Now old (IsStoredSome Q start gate) → ((records : List (List ℕ)) → Q records → R (records ++ next ∷ []))
+    → Now new (IsStoredSome R later end)
 append_keeps Q R next start gate later end second old new moments acknowledged holds grows =
     now_if (IsStoredSome R later end) (append_leaves Q R next start gate second old new moments holds grows)
     (λ h e. let s = holds h e in λ k f. (s.0 ++ next ∷ [], acknowledged s.0 (known Q start gate old h e s) k f, grows s.0 s.2))

@@ -1,15 +1,12 @@
 -- What a crash leaves at each moment of an append.
-use Rattle.std.proofs.Common.{ℕ, ◌+◌, ◌<◌, ◌≤◌, ◌≡◌, ◌∙◌, true, false, not, ◌&&◌, ◌||◌, ltb, List, [], ◌∷◌, ◌++◌, Option, None, Some, length, get_or, drop, refl, sym, ap, subst, arith, append_assoc, length-append, inl, inr}
+use Rattle.std.proofs.Common.{ℕ, ◌+◌, ◌<◌, ◌≤◌, ◌≡◌, ◌∙◌, true, false, not, ◌&&◌, ◌||◌, ltb, List, [], ◌∷◌, ◌++◌, length, get_or, drop, refl, sym, ap, subst, arith, append_assoc, length-append, inl, inr}
 use Rattle.std.specs.List.{AllByRecursion}
 use Rattle.std.proofs.lemmas.List.{take_all, take_at, drop_all, drop_at, drop_more, append-nil}
-use Rattle.std.proofs.lemmas.Option.{none-some, same_Some}
 use Rattle.std.proofs.lemmas.Bool.{lt-ltb, le-ltb}
 use Rattle.racf_outside.specs.Moments.{Moment, IsImage, is_written, durable, written, synced}
 use Rattle.racf_outside.specs.Crashes.{Leaves}
-use Rattle.racf_outside.specs.Disk.{History, Now}
 use Rattle.racf_outside.proofs.Images.{front_stays, back_stays, durable-leaves}
-use Rattle.racf_journal.specs.Appending.{Acknowledges, LeavesEither}
-use Rattle.racf_journal.specs.Kept.{IsAtRest, IsResting, ReadsAs, ReadsAsEither}
+use Rattle.racf_journal.specs.Kept.{IsAtRest, ReadsAs, ReadsAsEither}
 use Rattle.racf_journal.specs.Reading.{is_formatted, IsRecord, spelled}
 use Rattle.racf_journal.proofs.Walks.{spelled-push, lawful-push}
 use Rattle.racf_journal.proofs.Files.{ReadsAs-end, ReadsAsEither-gate, closed_is_end}
@@ -152,20 +149,3 @@ appends front start gate records next bytes m is same rest =
       ended = ended_leaves front records next gate formatted rest.lawful is at;
       rests = ended_rests front records next gate formatted rest.lawful is at start rest.from;
     }
-
--- a journal at rest leaves its records, whatever crashes
-pub rest_reads : (front : List ℕ) (start gate : ℕ) (records : List (List ℕ)) (m : Moment) → IsAtRest front start gate records m → Leaves (ReadsAs front records) m
-rest_reads front start gate records m rest =
-    let bytes : List ℕ = front ++ spelled records ++ 0 ∷ [] in
-    let whole : ReadsAs front records (front ++ (spelled records ++ 0 ∷ [])) = ReadsAs-end front records (0 ∷ []) (ap (λ s. is_formatted s front) rest.from ∙ rest.formatted) rest.lawful refl in
-    subst (Leaves (ReadsAs front records)) (sym rest.is) (durable-leaves (ReadsAs front records) bytes (subst (ReadsAs front records) (sym (append_assoc front (spelled records) (0 ∷ []))) whole))
-
-pub rest_leaves : (front : List ℕ) (start gate : ℕ) (records : List (List ℕ)) (next : List ℕ) (m : Moment) → IsAtRest front start gate records m → Leaves (ReadsAsEither front records next) m
-rest_leaves front start gate records next m rest = record { each = λ image i. inl ((rest_reads front start gate records m rest).each image i) }
-
--- behind an append that succeeded the journal is at rest again
-pub resting_then : (start gate place : ℕ) (next : List ℕ) (a b : Option History) → place ≡ gate + 1 + length next → Acknowledges start gate next a b → LeavesEither start gate next a b → Now a (IsResting start gate) → Now b (IsResting start place)
-resting_then start gate place next None b at kept leaves rest k e = absurd (none-some k (sym ((leaves [] [] (λ h told. absurd (none-some h told))).untold refl) ∙ e))
-resting_then start gate place next (Some h) b at kept leaves rest k e =
-    let r = rest h refl in
-    (r.0, r.1 ++ next ∷ [], subst (λ n. IsAtRest r.0 start n (r.1 ++ next ∷ []) k.now) (sym at) (kept r.0 r.1 (λ i told. subst (λ j. IsAtRest r.0 start gate r.1 j.now) (same_Some h i told) r.2) k e))

@@ -3,6 +3,7 @@ mod Files
 mod Opens
 mod Parts
 mod Repairs
+pub mod Rests
 mod Scans
 mod Walks
 mod WorkedRows

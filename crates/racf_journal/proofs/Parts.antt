@@ -72,28 +72,29 @@ end_front (suc zero) (gate ∷ bytes) is = refl
 end_front (suc (suc n)) (gate ∷ []) is = refl
 end_front (suc (suc n)) (gate ∷ byte ∷ bytes) is = is
 
-module _ (start : ℕ) (file : List ℕ) (found : Reading) (least : 8 ≤ start) (within : start ≤ length file) (reads : reading start file ≡ Ok found) where
-  formatted : is_formatted start file ≡ true
-  formatted = elim (cases_Bool (is_formatted start file)) [
-    | inl is ↦ is
-    | inr not_so ↦ never NotFormatted found (sym (reading-unformatted start file not_so) ∙ reads)
-  ]
+-- a file that is read begins as it has to
+pub formatted : (start : ℕ) (file : List ℕ) (found : Reading) → reading start file ≡ Ok found → is_formatted start file ≡ true
+formatted start file found reads = elim (cases_Bool (is_formatted start file)) [
+  | inl is ↦ is
+  | inr not_so ↦ never NotFormatted found (sym (reading-unformatted start file not_so) ∙ reads)
+]
 
+module _ (start : ℕ) (file : List ℕ) (found : Reading) (least : 8 ≤ start) (within : start ≤ length file) (reads : reading start file ≡ Ok found) where
   s : IsScanned start (drop start file) found.records found.gate
   s = let same : start + 0 ≡ start = omega arith in
-      subst (λ p. IsScanned p (drop start file) found.records found.gate) same (parts zero start (drop start file) found (omega arith) (sym (reading-formatted start file formatted) ∙ reads))
+      subst (λ p. IsScanned p (drop start file) found.records found.gate) same (parts zero start (drop start file) found (omega arith) (sym (reading-formatted start file (formatted start file found reads)) ∙ reads))
 
   abbrev front : List ℕ
   front = take start file ++ spelled found.records
 
   size : length front ≡ found.gate
-  size = base_size start found.gate found.records file (drop start file) least within formatted refl s
+  size = base_size start found.gate found.records file (drop start file) least within (formatted start file found reads) refl s
 
   whole : file ≡ front ++ s.end
-  whole = base_whole start found.gate found.records file (drop start file) least within formatted refl s
+  whole = base_whole start found.gate found.records file (drop start file) least within (formatted start file found reads) refl s
 
   reads_other : (other : List ℕ) → Ends front other → reading start other ≡ Ok found
-  reads_other other e = (ends_read start found.gate found.records file (drop start file) least within formatted refl s other e).1
+  reads_other other e = (ends_read start found.gate found.records file (drop start file) least within (formatted start file found reads) refl s other e).1
 
   pub reads_cut : (end : ℕ) → found.gate ≤ end → reading start (take end file) ≡ Ok found
   reads_cut end behind =

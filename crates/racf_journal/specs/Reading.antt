@@ -34,9 +34,8 @@ abbrev pub and_then_read : List ℕ → Result Reading JournalFault → Result R
 and_then_read first (Ok more) = Ok (record { records = first ∷ more.records; gate = more.gate })
 and_then_read first (Err fault) = Err fault
 
--- A gate is open where its byte is X'01' and a byte follows it: then a record follows, and the next gate. Every other
--- byte, or the end of the file, is a closed gate and ends the journal. An open gate without a whole record is damaged.
--- `skip` counts the bytes in front that still belong to a record, `place` is the place of the first byte.
+-- A gate X'01' that a byte follows is open: a whole record stands behind it, or it is damaged, and then the next gate.
+-- Any other byte, or the file's end, is closed and ends the journal. `skip` bytes in front still belong to a record.
 abbrev pub walk : (skip place : ℕ) → (bytes : List ℕ) → Result Reading JournalFault
 walk skip place [] = ends_at place
 walk (suc skip) place (byte ∷ bytes) = walk skip (suc place) bytes

@@ -1,5 +1,5 @@
-use Rattle.racf_journal.proofs.Appends.{rest_reads}
+use Rattle.racf_journal.proofs.Rests.{rest_leaves}
 use Rattle.racf_journal.proofs.laws.resting_reads_as_its_records.Goals as goal
 
 pub returns : goal.returns
-returns c front start gate records m rest = rest_reads front start gate records m rest
+returns c front start gate records m rest = rest_leaves front start gate records m rest

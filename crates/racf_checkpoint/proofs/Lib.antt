@@ -1,0 +1,3 @@
+mod Says
+pub mod Steps
+mod WorkedRows

@@ -1,0 +1,7 @@
+//! No code, but tests: the journal over disks in memory.
+#![tactic(auto)]
+
+#[cfg(test)]
+mod crash_tests;
+#[cfg(test)]
+mod layout_tests;

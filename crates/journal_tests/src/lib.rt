@@ -5,3 +5,5 @@
 mod crash_tests;
 #[cfg(test)]
 mod layout_tests;
+#[cfg(test)]
+mod stored_tests;

@@ -56,7 +56,7 @@ impl Moment<'_> {
         self.written.0 <= place && place < self.written.1 || self.ends.0 <= place
     }
 
-    /// How many of the first bytes a crash may leave as they are or change: 2 to the number of those in doubt.
+    /// How many choices there are of bytes in doubt before this end.
     fn choices(&self, end: usize) -> u64 {
         let mut count: u64 = 1;
         for place in 0..end {
@@ -75,7 +75,7 @@ impl Moment<'_> {
         }
     }
 
-    /// An image that ends here. Of its bytes in doubt those that the choice picks are another one.
+    /// An image that ends here: the bytes as they are, but for those in doubt that the choice picks.
     fn image(
         &self,
         rt: &(impl AllocGlobal + Abort),
@@ -98,7 +98,20 @@ impl Moment<'_> {
         image
     }
 
-    /// Opens images of each length.
+    /// Opens that image.
+    fn opened(
+        &self,
+        rt: &(impl AllocGlobal + Abort),
+        end: usize,
+        choice: u64,
+        other: u8,
+    ) -> Opened {
+        let image = self.image(rt, end, choice, other);
+        open_disk(rt, disk_of(rt, &image, &[]))
+    }
+
+    /// Opens images of each length: that of the bytes as they are, and for each choice of bytes in doubt those with X'00',
+    /// X'01', X'02' and X'FF' in their places.
     fn counts(&self, rt: &(impl AllocGlobal + Abort)) -> Counts {
         let mut counts = Counts {
             first: 0,
@@ -106,10 +119,10 @@ impl Moment<'_> {
             other: 0,
         };
         for end in self.ends.0..=self.ends.1 {
-            for choice in 0..self.choices(end) {
+            counts = counts.with(&self.opened(rt, end, 0, 0));
+            for choice in 1..self.choices(end) {
                 for other in [0, 1, 2, 0xFF] {
-                    let image = self.image(rt, end, choice, other);
-                    counts = counts.with(&open_disk(rt, disk_of(rt, &image, &[])));
+                    counts = counts.with(&self.opened(rt, end, choice, other));
                 }
             }
         }
@@ -152,7 +165,7 @@ fn run(
     match Journal::open(rt.alloc(), disk, 8) {
         Ok((mut journal, _)) => {
             let answer = if appends {
-                journal.append(rt.alloc(), &[0, 0, 0, 1, 2])
+                journal.append(rt.alloc(), SECOND)
             } else {
                 Ok(())
             };
@@ -177,29 +190,29 @@ type Stop = (
 /// Runs that open the file with the first record (a sync and three reads) and append the second (a write and a sync of
 /// the record, a write and a sync of the gate). No run has a ninth call.
 const APPENDS: [Stop; 9] = [
-    (1, ONE, (0, 0), (15, 15), &[FIRST], (4, 0)),
-    (2, ONE, (0, 0), (15, 15), &[FIRST], (4, 0)),
-    (3, ONE, (0, 0), (15, 15), &[FIRST], (4, 0)),
-    (4, ONE, (0, 0), (15, 15), &[FIRST], (4, 0)),
-    (5, ONE, (0, 0), (15, 15), &[FIRST], (4, 0)),
-    (6, BEHIND, (15, 21), (15, 21), &[FIRST], (508, 0)),
-    (7, BEHIND, (0, 0), (21, 21), &[FIRST], (4, 0)),
-    (8, BOTH, (14, 15), (21, 21), &[FIRST, SECOND], (3, 5)),
-    (0, BOTH, (0, 0), (21, 21), &[FIRST, SECOND], (0, 4)),
+    (1, ONE, (0, 0), (15, 15), &[FIRST], (1, 0)),
+    (2, ONE, (0, 0), (15, 15), &[FIRST], (1, 0)),
+    (3, ONE, (0, 0), (15, 15), &[FIRST], (1, 0)),
+    (4, ONE, (0, 0), (15, 15), &[FIRST], (1, 0)),
+    (5, ONE, (0, 0), (15, 15), &[FIRST], (1, 0)),
+    (6, BEHIND, (15, 21), (15, 21), &[FIRST], (487, 0)),
+    (7, BEHIND, (0, 0), (21, 21), &[FIRST], (1, 0)),
+    (8, BOTH, (14, 15), (21, 21), &[FIRST, SECOND], (3, 2)),
+    (0, BOTH, (0, 0), (21, 21), &[FIRST, SECOND], (0, 1)),
 ];
 
 /// Runs that open a file whose closed gate is X'02' and has a record behind it (a sync, three reads, a cut and its sync, a
 /// write of the gate and its sync).
 const OPENINGS: [Stop; 9] = [
-    (1, UNTIDY, (0, 0), (21, 21), &[FIRST], (4, 0)),
-    (2, UNTIDY, (0, 0), (21, 21), &[FIRST], (4, 0)),
-    (3, UNTIDY, (0, 0), (21, 21), &[FIRST], (4, 0)),
-    (4, UNTIDY, (0, 0), (21, 21), &[FIRST], (4, 0)),
-    (5, UNTIDY, (0, 0), (21, 21), &[FIRST], (4, 0)),
-    (6, UNCLOSED, (0, 0), (15, 21), &[FIRST], (508, 0)),
-    (7, UNCLOSED, (0, 0), (15, 15), &[FIRST], (4, 0)),
-    (8, ONE, (14, 15), (15, 15), &[FIRST], (8, 0)),
-    (0, ONE, (0, 0), (15, 15), &[FIRST], (4, 0)),
+    (1, UNTIDY, (0, 0), (21, 21), &[FIRST], (1, 0)),
+    (2, UNTIDY, (0, 0), (21, 21), &[FIRST], (1, 0)),
+    (3, UNTIDY, (0, 0), (21, 21), &[FIRST], (1, 0)),
+    (4, UNTIDY, (0, 0), (21, 21), &[FIRST], (1, 0)),
+    (5, UNTIDY, (0, 0), (21, 21), &[FIRST], (1, 0)),
+    (6, UNCLOSED, (0, 0), (15, 21), &[FIRST], (487, 0)),
+    (7, UNCLOSED, (0, 0), (15, 15), &[FIRST], (1, 0)),
+    (8, ONE, (14, 15), (15, 15), &[FIRST], (5, 0)),
+    (0, ONE, (0, 0), (15, 15), &[FIRST], (1, 0)),
 ];
 
 /// Runs each row.
@@ -207,14 +220,12 @@ fn stop(rt: &(impl AllocGlobal + Abort), file: &[u8], appends: bool, stops: &[St
     for (failing, bytes, written, ends, records, (first, both)) in stops {
         let (disk, answer) = run(rt, disk_of(rt, file, &[*failing]), appends);
         let fails = *failing != 0;
-        assert!(rt;
-            answer
-                == if fails {
-                    Err(JournalFault::DiskFault)
-                } else {
-                    Ok(())
-                }
-        );
+        let wanted = if fails {
+            Err(JournalFault::DiskFault)
+        } else {
+            Ok(())
+        };
+        assert!(rt; answer == wanted, "at call {failing}");
         assert!(rt; disk.faults() == u64::from(fails) && disk.bytes() == *bytes);
         let moment = Moment {
             file,

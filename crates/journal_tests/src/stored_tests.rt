@@ -1,8 +1,11 @@
 //! A disk that an independent program wrote.
 
+ghost use Rattle.racf_journal.specs.Reading.{IsRecord};
+
 use crate::layout_tests::{disk_of, gave, open_disk};
 use racf_journal::Journal;
 use racf_outside::MemoryDisk;
+use std::process::Abort;
 
 /// The records of a stored disk, which an independent program wrote: commands behind their issuers and groups.
 const STORED_RECORDS: [&[u8]; 19] = [
@@ -70,12 +73,10 @@ fn two_appended(rt: &impl AllocGlobal, disk: MemoryDisk) -> (bool, MemoryDisk) {
         Ok(journal) => journal,
         Err((disk, _)) => return (false, disk),
     };
-    let first = b"\0\0\0'IBMUSER SYS1    ADDGROUP G1 OWNER(SYS1)";
-    let second = b"\0\0\0*IBMUSER SYS1    ADDGROUP G3 SUPGROUP(SYS1)";
-    if journal.append(rt.alloc(), first).is_err() {
+    if journal.append(rt.alloc(), STORED_RECORDS[0]).is_err() {
         return (false, journal.into_disk());
     }
-    let appended = journal.append(rt.alloc(), second).is_ok();
+    let appended = journal.append(rt.alloc(), STORED_RECORDS[1]).is_ok();
     (appended, journal.into_disk())
 }
 
@@ -85,4 +86,28 @@ fn records_are_laid_out(rt: HostRuntime) {
     let (appended, disk) = two_appended(&rt, disk_of(&rt, b"ABC", &[]));
     assert!(rt; appended && disk.bytes() == FIRST_TWO);
     assert!(rt; gave(&open_disk(&rt, disk), &Ok(&STORED_RECORDS[..2])));
+}
+
+/// A record of 32,772 bytes, which is longer than any of a command.
+fn long_record(rt: &(impl AllocGlobal + Abort)) -> Vec<u8>
+    ensures { IsRecord result.items }
+{
+    let mut bytes = Vec::from_slice(rt.alloc(), &[0, 0, 0x80, 0]).expect(rt, "memory");
+    bytes.extend_from_slice(&[7; 0x8000]).expect(rt, "memory");
+    bytes
+}
+
+/// A record that is longer than any of a command takes memory to append, and is given back.
+#[test]
+fn a_long_record_is_appended(rt: HostRuntime) {
+    let record = long_record(&rt);
+    match Journal::format(disk_of(&rt, b"", &[])) {
+        Ok(mut journal) => {
+            let answer = journal.append(rt.alloc(), &record);
+            let opened = open_disk(&rt, journal.into_disk());
+            assert!(rt; answer == Ok(()));
+            assert!(rt; gave(&opened, &Ok(&[record.as_slice()])));
+        }
+        Err((_, fault)) => panic!(rt; "{fault}"),
+    }
 }

@@ -1,4 +1,4 @@
-//! Runs that stop: at a call of the disk that fails, and by a crash.
+//! Runs that stop: at a call of the disk that fails, and by a crash before that call or within the one before it.
 
 use crate::layout_tests::{Opened, disk_of, gave, open_disk};
 use racf_journal::{Journal, JournalFault};
@@ -110,8 +110,8 @@ impl Moment<'_> {
         open_disk(rt, disk_of(rt, &image, &[]))
     }
 
-    /// Opens images of each length: that of the bytes as they are, and for each choice of bytes in doubt those with X'00',
-    /// X'01', X'02' and X'FF' in their places.
+    /// Opens images of each length: that of the bytes as they are, and for each choice of bytes in doubt those with
+    /// X'00', X'01', X'02' and X'FF' in their places.
     fn counts(&self, rt: &(impl AllocGlobal + Abort)) -> Counts {
         let mut counts = Counts {
             first: 0,
@@ -175,9 +175,10 @@ fn run(
     }
 }
 
-/// The number of the call that fails, what a read gives then, what was written since the last sync, the shortest and the
-/// longest end since, the records that opening the disk again gives, and how many images of the moment before the failing
-/// call open as the first record and as both.
+/// The number of the call that fails, or 0 where none does; what a read gives behind the run; the first place that was
+/// written since the last sync, and the place behind the last; the shortest and the longest end since; the records that
+/// opening the same disk again gives; how many images open as a journal of the first record, and how many as one of
+/// both. None opens as anything else.
 type Stop = (
     u64,
     &'static [u8],
@@ -201,8 +202,8 @@ const APPENDS: [Stop; 9] = [
     (0, BOTH, (0, 0), (21, 21), &[FIRST, SECOND], (0, 1)),
 ];
 
-/// Runs that open a file whose closed gate is X'02' and has a record behind it (a sync, three reads, a cut and its sync, a
-/// write of the gate and its sync).
+/// Runs that open a file whose closed gate is X'02' and has a record behind it (a sync, three reads, a cut and its
+/// sync, a write of the gate and its sync).
 const OPENINGS: [Stop; 9] = [
     (1, UNTIDY, (0, 0), (21, 21), &[FIRST], (1, 0)),
     (2, UNTIDY, (0, 0), (21, 21), &[FIRST], (1, 0)),
@@ -215,7 +216,7 @@ const OPENINGS: [Stop; 9] = [
     (0, ONE, (0, 0), (15, 15), &[FIRST], (1, 0)),
 ];
 
-/// Runs each row.
+/// Makes the run of each row, opens the images of the moment that it left, and then its disk again.
 fn stop(rt: &(impl AllocGlobal + Abort), file: &[u8], appends: bool, stops: &[Stop; 9]) {
     for (failing, bytes, written, ends, records, (first, both)) in stops {
         let (disk, answer) = run(rt, disk_of(rt, file, &[*failing]), appends);
@@ -246,11 +247,14 @@ fn stop(rt: &(impl AllocGlobal + Abort), file: &[u8], appends: bool, stops: &[St
     }
 }
 
+/// An append that stops before the write of the gate leaves the first record, one that stops behind it either the first
+/// or both, and behind the sync of the gate both stay.
 #[test]
 fn runs_stop_within_an_append(rt: HostRuntime) {
     stop(&rt, ONE, true, &APPENDS);
 }
 
+/// An opening that stops leaves the record from before, though a whole one stands behind the closed gate.
 #[test]
 fn runs_stop_within_an_opening(rt: HostRuntime) {
     stop(&rt, UNTIDY, false, &OPENINGS);

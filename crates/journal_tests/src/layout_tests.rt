@@ -78,8 +78,8 @@ fn are(found: &[Text], records: &[&[u8]]) -> bool {
     true
 }
 
-/// What the disk holds, which call of `format` is to fail, and what a read gives behind it. The calls are a write, a cut
-/// and a sync.
+/// What the disk holds, which call of `format` is to fail, and what a read gives behind it. The calls are a write, a
+/// cut and a sync.
 const FORMATS: [(&[u8], &[u64], &[u8]); 6] = [
     (b"", &[], b"RACFJNL1\0"),
     (b"ABC", &[], b"RACFJNL1\0"),

@@ -40,7 +40,7 @@ struct Moment<'a> {
 }
 
 /// How many images of a moment open as a journal of the first record, as one of both, and otherwise.
-#[derive(Clone, Copy, Debug, PartialEq, Eq)]
+#[derive(Clone, Copy, PartialEq, Eq)]
 struct Counts {
     /// Those of the first record.
     first: u64,

@@ -25,9 +25,9 @@ pub(crate) fn disk_of(
     MemoryDisk::new(rt.alloc(), bytes, failing).expect(rt, "memory")
 }
 
-/// Opens the journal that begins at place 8.
-pub(crate) fn open_disk(rt: &impl AllocGlobal, disk: MemoryDisk) -> Opened {
-    match Journal::open(rt.alloc(), disk, 8) {
+/// What an opening gave, and its disk.
+fn behind(answer: Result<(Journal<MemoryDisk>, Vec<Text>), (MemoryDisk, JournalFault)>) -> Opened {
+    match answer {
         Ok((journal, records)) => Opened {
             disk: journal.into_disk(),
             found: Ok(records),
@@ -39,21 +39,17 @@ pub(crate) fn open_disk(rt: &impl AllocGlobal, disk: MemoryDisk) -> Opened {
     }
 }
 
-/// Opens the journal that begins at a place within the file, where there is that place.
+/// Opens the journal that begins at place 8.
+pub(crate) fn open_disk(rt: &impl AllocGlobal, disk: MemoryDisk) -> Opened {
+    behind(Journal::open(rt.alloc(), disk, 8))
+}
+
+/// Opens the journal that begins at a place behind 8 within the file, and without such a place at 8.
 fn opened_at(rt: &impl AllocGlobal, disk: MemoryDisk, start: u64) -> Opened {
     if start <= 8 || start > disk.bytes().len() as u64 {
         return open_disk(rt, disk);
     }
-    match Journal::open(rt.alloc(), disk, start) {
-        Ok((journal, records)) => Opened {
-            disk: journal.into_disk(),
-            found: Ok(records),
-        },
-        Err((disk, fault)) => Opened {
-            disk,
-            found: Err(fault),
-        },
-    }
+    behind(Journal::open(rt.alloc(), disk, start))
 }
 
 /// Whether an opening gave just these records, or that fault.

@@ -25,10 +25,10 @@ impl System {
 
     /// Gives a command, which makes the next image of the one before.
     pub(crate) fn command(&mut self, alloc: Global, text: &str) -> Result<()> {
-        match self.followed.give(alloc, text.as_bytes())? {
-            Outcome::Accepted => Ok(()),
-            Outcome::Faulty(_) => Err(anyhow!("no command")),
-            Outcome::Refused(_) => Err(anyhow!("a command in conflict")),
+        match self.followed.give(alloc, text.as_bytes()) {
+            Ok(Outcome::Accepted) => Ok(()),
+            Ok(_) => Err(anyhow!("a command that is refused: {text}")),
+            Err(_) => Err(anyhow!("no memory for a command")),
         }
     }
 

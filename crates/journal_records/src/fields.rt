@@ -1,6 +1,7 @@
 //! The fields of a record that hold an identifier.
-ghost use Rattle.std.specs.Prelude.{◌≡◌};
+ghost use Rattle.std.specs.Prelude.{◌≡◌, Ok};
 ghost use Rattle.std.specs.List.{position, before_first};
+ghost use Rattle.access_levels.specs.Spelling.{id_of};
 ghost use Rattle.journal_records.specs.Spelling.{filled};
 ghost use Rattle.journal_records.specs.Reading.{is_blank, id_in};
 
@@ -32,6 +33,13 @@ pub fn id_in(field: &[u8]) -> Option<Id>
     } else {
         None
     }
+}
+
+/// An identifier is spelled as one. It does nothing: its contract is what it is for.
+pub fn is_spelled(id: &Id)
+    ensures { id_of id.now ≡ Ok id.now }
+{
+    let _text = id.text();
 }
 
 /// What stands before the first blank.

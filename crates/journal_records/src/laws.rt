@@ -9,6 +9,7 @@ ghost use Rattle.journal_records.specs.declared.record.CommandRecord.{CommandRec
 ghost use Rattle.journal_records.specs.Spelling.{filled, spelled, IsLawful, AreBytes};
 ghost use Rattle.journal_records.specs.Reading.{id_in, issuer_in, canonical_command, record_of};
 
+use crate::fields::is_spelled;
 use crate::record::CommandRecord;
 use command_parser::printed_is_read;
 
@@ -54,6 +55,6 @@ pub fn written_is_read(item: &CommandRecord)
     ensures read { record_of (spelled item.now) ≡ Ok item.now }
 {
     printed_is_read(&item.command);
-    let _id = item.issuer.id.text();
+    is_spelled(&item.issuer.id);
     records_are_their_spelling();
 }

@@ -3,7 +3,7 @@ ghost use Rattle.std.specs.Prelude.{◌≡◌, ◌++◌, ◌≤◌, length, OnOk
 ghost use Rattle.command_parser.specs.Canonical.{canonical};
 ghost use Rattle.journal_records.specs.Spelling.{content, spelled};
 
-use crate::fields::filled;
+use crate::fields::{filled, is_spelled};
 use crate::laws;
 use crate::record::CommandRecord;
 use byteorder::{BigEndian, ByteOrder};
@@ -31,8 +31,8 @@ fn content_length(item: &CommandRecord) -> u32
     ensures { result ≡ length (content item.now) }
 {
     let text = short_text(&item.command);
-    let _id = item.issuer.id.text();
-    let _group = item.issuer.group.text();
+    is_spelled(&item.issuer.id);
+    is_spelled(&item.issuer.group);
     16 + text.len() as u32
 }
 

@@ -65,8 +65,15 @@ pub(crate) fn last_part<T: Drop, P: Part<T>>(parts: &[P]) -> &P
 {
     let end = parts.len() - 1;
     let last = &parts[end];
-    let _some = last.len();
+    has_an_item(last);
     last
+}
+
+/// Every part has an item. It does nothing: its contract is what it is for.
+fn has_an_item<T: Drop, P: Part<T>>(part: &P)
+    ensures { 0 < length (P.items part.now) }
+{
+    let _len = part.len();
 }
 
 /// The first part whose last item passes, or the number of parts. Where one passes, those behind it do.

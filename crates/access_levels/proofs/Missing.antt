@@ -10,7 +10,7 @@ use Rattle.access_levels.specs.Category.{is_missing, first_missing}
 use Rattle.access_levels.specs.Words.{joined, AreWords, bit_at-joined}
 
 -- A search of numbers in order.
-find_none : (p : ℕ → Bool) (a n : ℕ) → ((m : ℕ) → a ≤ m → m < a + n → p m ≡ false) → find p (range_with_len a n) ≡ None
+pub find_none : (p : ℕ → Bool) (a n : ℕ) → ((m : ℕ) → a ≤ m → m < a + n → p m ≡ false) → find p (range_with_len a n) ≡ None
 find_none p a zero none = refl
 find_none p a (suc n) none =
     ap (λ b. cond b (Some a) (find p (range_with_len (a + 1) n))) (none a (omega arith) (omega arith)) ∙ find_none p (a + 1) n (λ m l u. none m (omega arith) (omega arith))

@@ -1,16 +1,14 @@
 -- What files say, by what is read of them, and what crashes leave of two disks, by what they leave of the first.
-use Rattle.std.proofs.Common.{ℕ, zero, ◌+◌, ◌≡◌, Bool, true, false, List, [], ◌∷◌, ◌++◌, length, take, drop, Option, Result, Ok, Err, inl, inr, if◌then◌else◌, refl, sym, ap, subst}
-use Rattle.std.proofs.lemmas.Slice.Eq.{bytes_eq-Decides}
+use Rattle.std.proofs.Common.{ℕ, ◌+◌, ◌≡◌, List, [], ◌∷◌, ◌++◌, length, take, Option, Ok, inl, inr, sym, ap, subst}
 use Rattle.racf_outside.specs.Crashes.{Leaves, StaysIn}
 use Rattle.racf_outside.specs.Disk.{History, Now}
 use Rattle.racf_outside.specs.Moments.{Moment}
 use Rattle.racf_outside.proofs.Runs.{StaysIn-weaker, Leaves-weaker}
-use Rattle.racf_journal.specs.declared.fault.JournalFault.{JournalFault}
-use Rattle.racf_journal.specs.declared.fault.JournalFault.TheVariants.{NotFormatted}
 use Rattle.racf_journal.specs.Appending.{Acknowledges, LeavesEither}
 use Rattle.racf_journal.specs.Kept.{Keeps, ReadsAs, ReadsAsEither}
 use Rattle.racf_journal.specs.Opening.{StaysPossible as JournalStaysPossible, WasPossible as JournalWasPossible}
-use Rattle.racf_journal.specs.Reading.{Reading, magic, is_formatted, reading, walk}
+use Rattle.racf_journal.specs.Reading.{magic, reading}
+use Rattle.racf_journal.proofs.Rests.{opened_keeps}
 use Rattle.racf_checkpoint.specs.Contents.{records_of, Says, SaysEither}
 use Rattle.racf_checkpoint.specs.Stored.{IsStored, Beside, WasPossible, StaysPossible}
 
@@ -54,14 +52,7 @@ stays_possible second old new s before was =
     (λ h told file w. beside second (WasPossible before) file (λ other. possible before file other w))
 
 -- at a load's end
-was_formatted : (formatted : Bool) (walked : Result Reading JournalFault) (found : Reading) → (if formatted then walked else Err NotFormatted) ≡ Ok found → formatted ≡ true
-was_formatted true walked found is = refl
-was_formatted false walked found is = cc
-
-begins : (file : List ℕ) (found : Reading) → reading 8 file ≡ Ok found → take 8 file ≡ magic
-begins file found is = (bytes_eq-Decides (take 8 file) magic).0 (was_formatted (is_formatted 8 file) (walk zero 8 (drop 8 file)) found is)
-
 pub loaded : (start gate : ℕ) (records : List (List ℕ)) (old new : Option History) → Now old (λ m. reading 8 m.bytes ≡ Ok (record { records = records; gate = gate }))
     → ((front : List ℕ) → Now old (λ m. take 8 m.bytes ≡ front) → Keeps front 8 gate records new) → start ≡ 8 → Now new (IsStored start gate records)
 loaded start gate records old new reads rest at =
-    subst (λ s. Now new (IsStored s gate records)) (sym at) (rest magic (λ h told. begins h.now.bytes _ (reads h told)))
+    subst (λ s. Now new (IsStored s gate records)) (sym at) (opened_keeps gate records old new reads rest)

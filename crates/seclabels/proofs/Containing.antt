@@ -4,6 +4,7 @@ use Rattle.std.specs.Prelude.{IsTrue, ◌↔◌}
 use Rattle.std.specs.List.{find, range_with_len}
 use Rattle.std.proofs.lemmas.Bool.{cases_eq, cases_Bool, and_parts, and_from, leb-true, le-leb}
 use Rattle.access_levels.specs.Category.{is_member, is_missing, first_missing}
+use Rattle.access_levels.proofs.Missing.{find_none}
 use Rattle.seclabels.specs.declared.labels.Label.{Label}
 use Rattle.seclabels.specs.Labels.{contains, dominates}
 
@@ -19,11 +20,6 @@ none_passes p a (suc n) h m low high =
     (λ (other : a ≡ m → ⊥). none_passes p (a + 1) n (sym (ap (λ b. cond b (Some a) rest) miss) ∙ h) m (omega arith) (omega arith))
     (cases_eq a m))
     (cases_Bool (p a))
-
-finds_none : (p : ℕ → Bool) (a n : ℕ) → ((m : ℕ) → a ≤ m → m < a + n → p m ≡ false) → find p (range_with_len a n) ≡ None
-finds_none p a zero none = refl
-finds_none p a (suc n) none =
-    ap (λ b. cond b (Some a) (find p (range_with_len (a + 1) n))) (none a (omega arith) (omega arith)) ∙ finds_none p (a + 1) n (λ m l u. none m (omega arith) (omega arith))
 
 none_is_None : (o : Option ℕ) → is_none o ≡ true → o ≡ None
 none_is_None None h = refl
@@ -50,7 +46,7 @@ each-contained set other h n small = there _ _ (none_passes (is_missing set othe
 
 contained-each : (set other : ℕ) → HasEach set other → IsTrue (contains set other)
 unfolding first_missing
-contained-each set other each = ap is_none (finds_none (is_missing set other) 0 256 (λ m low high. not_missing _ _ (each m (omega arith))))
+contained-each set other each = ap is_none (find_none (is_missing set other) 0 256 (λ m low high. not_missing _ _ (each m (omega arith))))
 
 -- Dominance as a relation.
 pub dominates-each : (label other : Label) → IsTrue (dominates label other) ↔ ((other.level ≤ label.level) × HasEach label.categories other.categories)

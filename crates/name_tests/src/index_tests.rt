@@ -1,6 +1,7 @@
 //! Indices beside a plain scan and beside each other, large ones, and the names that changes place.
 ghost use Rattle.std.specs.Prelude.{◌≡◌, ◌<◌, ◌≤◌, length, IfOk};
 ghost use Rattle.generic_names.specs.declared.kind.NameKind.TheVariants.{General};
+ghost use Rattle.generic_names.specs.Laws.{IsPattern};
 ghost use Rattle.profile_index.specs.Indexed.{AreOf};
 
 use generic_names::{NameKind, Pattern, Resource};
@@ -326,11 +327,18 @@ fn answers_a_million_times(rt: HostRuntime) {
     }
 }
 
+/// A name is spelled as one. It does nothing: its contract is what it is for.
+fn is_spelled(name: &Pattern)
+    ensures { IsPattern name.now }
+{
+    let _text = name.text();
+}
+
 /// An index of one entry.
 fn single(alloc: Global, name: Pattern, item: u32) -> Result<SharedIndex<u32>, NoMemory>
     ensures { IfOk result (λ index. AreOf name.kind index) }
 {
-    let _text = name.text();
+    is_spelled(&name);
     let mut entries = Vec::new(alloc);
     entries.push(Entry { name, item })?;
     SharedIndex::of(alloc, entries)

@@ -1,6 +1,7 @@
 //! Tables of a few profiles: what is found, replaced and taken away, and what the counts say.
 ghost use Rattle.std.specs.Prelude.{◌≡◌, length, IfOk};
 ghost use Rattle.racf_profiles.specs.Counts.{entries_in};
+ghost use Rattle.racf_profiles.specs.LawfulProfiles.{AreProfiles};
 
 use access_levels::{Categories, Entry, Id, Level, Who};
 use class_profiles::laws::{counts_are_enough, puts_are_counted};
@@ -245,11 +246,18 @@ fn two_classes(rt: HostRuntime) {
     assert!(rt; class_count(alloc, &mut tables, terminals) == 14);
 }
 
+/// The profiles of a table are lawful. It does nothing: its contract is what it is for.
+fn are_lawful(table: &ProfileTable)
+    ensures { AreProfiles table.now.kind table.now.profiles }
+{
+    let _count = table.len();
+}
+
 /// The profiles of a table, in a table that doesn't change.
 fn shared(alloc: Global, table: &ProfileTable) -> Result<SharedProfiles, NoMemory>
     ensures { IfOk result (λ shared. shared.profiles ≡ table.now.profiles) }
 {
-    let _count = table.len();
+    are_lawful(table);
     let rows = table.rows(alloc)?;
     SharedProfiles::of(alloc, table.kind(), &rows.items)
 }

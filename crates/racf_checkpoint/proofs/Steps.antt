@@ -1,12 +1,16 @@
--- What an append makes of a store of whose records no more is known than that they have Q: for the layer above.
+-- What a crash leaves and an append makes of a store of whose records no more is known than that they have Q: for the
+-- layer above.
 use Rattle.std.proofs.Common.{ℕ, ◌≡◌, List, [], ◌∷◌, ◌++◌, Option, None, Some, ◌⊎◌, inl, inr, refl, sym, ◌∙◌, subst}
 use Rattle.std.proofs.lemmas.Option.{none-some}
-use Rattle.racf_outside.specs.Crashes.{StaysIn}
+use Rattle.racf_outside.specs.Crashes.{Leaves, StaysIn}
 use Rattle.racf_outside.specs.Disk.{History, Now}
 use Rattle.racf_outside.specs.Moments.{Moment}
 use Rattle.racf_outside.proofs.Runs.{StaysIn-weaker, Leaves-weaker, now_if, same_history}
+use Rattle.racf_journal.specs.Reading.{magic}
+use Rattle.racf_journal.proofs.Rests.{rest_leaves}
 use Rattle.racf_checkpoint.specs.Contents.{Says, SaysEither}
 use Rattle.racf_checkpoint.specs.Stored.{IsStored, Beside}
+use Rattle.racf_checkpoint.proofs.Says.{said}
 
 -- the first disk holds some records, and these have Q
 abbrev pub IsStoredSome : (Q : List (List ℕ) → Type 0) → (start gate : ℕ) → Moment → Type 0
@@ -15,6 +19,13 @@ IsStoredSome Q start gate m = (records : List (List ℕ)) × IsStored start gate
 -- two files say some records, and these have Q
 abbrev pub SaysSome : (Q : List (List ℕ) → Type 0) → (first second : List ℕ) → Type 0
 SaysSome Q first second = (records : List (List ℕ)) × Says records first second × Q records
+
+-- Of a store at rest every crash leaves files that say records with Q.
+pub stored_leaves : (Q : List (List ℕ) → Type 0) (start gate : ℕ) (second : Option History) (m : Moment) → IsStoredSome Q start gate m → Leaves (Beside second (SaysSome Q)) m
+stored_leaves Q start gate second m s =
+    Leaves-weaker (Beside second (Says s.0)) (Beside second (SaysSome Q)) m
+    (λ image p other f. Leaves-weaker (Says s.0 image) (SaysSome Q image) other.now (λ file says. (s.0, says, s.2)) (p other f))
+    (said s.0 m second (rest_leaves magic start gate s.0 m s.1))
 
 known : (Q : List (List ℕ) → Type 0) (start gate : ℕ) (told : Option History) (h : History) → told ≡ Some h → (s : IsStoredSome Q start gate h.now) → Now told (IsStored start gate s.0)
 known Q start gate told h e s k f = subst (λ i. IsStored start gate s.0 i.now) (same_history h k (sym e ∙ f)) s.1

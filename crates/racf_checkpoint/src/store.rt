@@ -3,7 +3,7 @@
 ghost use Rattle.std.specs.Prelude.{ℕ, ◌+◌, ◌<◌, ◌≤◌, ◌≡◌, ◌≢◌, ◌^◌, ◌↔◌, ◌++◌, ◌∷◌, [], List, length, IsTrue, IfOk, IfErr, OnOk, IsErrOf, MatchResult};
 ghost use Rattle.racf_outside.specs.Causes.{Rose};
 ghost use Rattle.racf_outside.specs.Crashes.{StaysIn};
-ghost use Rattle.racf_journal.specs.Reading.{IsRecord};
+ghost use Rattle.racf_journal.specs.Reading.{IsRecord, spelled};
 ghost use Rattle.racf_profiles.specs.NewDatabase.{new_database};
 ghost use Rattle.racf_checkpoint.specs.Contents.{Says, SaysEither, Refuses, IsCaused, IsOfAppend};
 ghost use Rattle.racf_checkpoint.specs.Stored.{Stores, IsReady, NowRead, Beside, StaysPossible};
@@ -79,6 +79,7 @@ impl<D: Disk> Store<D> {
         ensures rows { IfOk result (λ loaded. loaded.rows ≡ new_database) }
         ensures number { IfOk result (λ loaded. loaded.number ≡ 0) }
         ensures start { IfOk result (λ loaded. (loaded.start ≡ 8) × (loaded.store.journal.start ≡ 8)) }
+        ensures counted { IfOk result (λ loaded. loaded.store.journal.gate ≡ 8 + length (spelled loaded.records.items)) }
         ensures moments { MatchResult result (λ loaded. StaysPossible (D.tells disks.second) (D.tells disks.first) (D.tells loaded.store.journal.disk))
             (λ back. StaysPossible (D.tells disks.second) (D.tells disks.first) (D.tells back.0.first)) }
         ensures second { MatchResult result (λ loaded. loaded.store.second ≡ disks.second) (λ back. back.0.second ≡ disks.second) }

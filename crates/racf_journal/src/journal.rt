@@ -1,12 +1,13 @@
 //! The journal.
 
 ghost use Rattle.std.specs.Prelude.{ℕ, ◌+◌, ◌<◌, ◌≤◌, ◌≡◌, ◌≢◌, ◌^◌, ◌↔◌, List, [], length, take, Ok, IsTrue, IfOk, IfErr, OnOk, IsErrOf, MatchResult};
+ghost use Rattle.std.specs.List.{AllByRecursion};
 ghost use Rattle.racf_outside.specs.Causes.{Rose};
 ghost use Rattle.racf_outside.specs.Disk.{Now};
 ghost use Rattle.racf_journal.specs.Appending.{Acknowledges, LeavesEither, IsOfAppend};
 ghost use Rattle.racf_journal.specs.Kept.{IsResting, Keeps};
 ghost use Rattle.racf_journal.specs.Opening.{IsStart, StaysPossible, Refuses, IsCaused};
-ghost use Rattle.racf_journal.specs.Reading.{magic, reading, IsRecord};
+ghost use Rattle.racf_journal.specs.Reading.{magic, reading, IsRecord, spelled};
 
 use crate::fault::JournalFault;
 use crate::layout::{FIRST_START, MOST_BYTES};
@@ -72,6 +73,8 @@ impl<D: Disk> Journal<D> {
             → Keeps front start opened.0.gate opened.1.items (D.tells opened.0.disk)) }
         ensures resting { IfOk result (λ opened. Now (D.tells opened.0.disk) (IsResting start opened.0.gate)) }
         ensures start { IfOk result (λ opened. opened.0.start ≡ start) }
+        ensures counted { IfOk result (λ opened. opened.0.gate ≡ start + length (spelled opened.1.items)) }
+        ensures each { IfOk result (λ opened. AllByRecursion IsRecord opened.1.items) }
         ensures moments { MatchResult result (λ opened. StaysPossible start (D.tells disk) (D.tells opened.0.disk)) (λ back. StaysPossible start (D.tells disk) (D.tells back.0)) }
 
         ensures fault { IfErr result (λ back. Now (D.tells disk) (λ m. Refuses start m.bytes back.1)) }

@@ -1,11 +1,12 @@
 //! How a journal is opened.
 
 ghost use Rattle.std.specs.Prelude.{ℕ, ◌+◌, ◌<◌, ◌≤◌, ◌≡◌, ◌≢◌, ◌^◌, List, Ok, true, length, take, drop, IfOk, IfErr};
+ghost use Rattle.std.specs.List.{AllByRecursion};
 ghost use Rattle.racf_outside.specs.Disk.{Now};
 ghost use Rattle.racf_journal.specs.declared.fault.JournalFault.TheVariants as fault;
 ghost use Rattle.racf_journal.specs.Kept.{IsResting, Keeps};
 ghost use Rattle.racf_journal.specs.Opening.{IsStart, StaysPossible, Refuses, IsCaused};
-ghost use Rattle.racf_journal.specs.Reading.{is_formatted, reading};
+ghost use Rattle.racf_journal.specs.Reading.{is_formatted, reading, IsRecord, spelled};
 ghost use Rattle.racf_journal.specs.Repair.{IsScanned};
 
 use crate::fault::JournalFault;
@@ -26,6 +27,8 @@ pub(crate) fn opened<D: Disk>(
     ensures rest { IfOk result (λ found. (front : List ℕ) → Now (D.tells disk.old) (λ m. take start m.bytes ≡ front)
         → Keeps front start found.gate found.records.items (D.tells disk.new)) }
     ensures resting { IfOk result (λ found. Now (D.tells disk.new) (IsResting start found.gate)) }
+    ensures counted { IfOk result (λ found. found.gate ≡ start + length (spelled found.records.items)) }
+    ensures each { IfOk result (λ found. AllByRecursion IsRecord found.records.items) }
     ensures moments { StaysPossible start (D.tells disk.old) (D.tells disk.new) }
     ensures fault { IfErr result (λ why. Now (D.tells disk.old) (λ m. Refuses start m.bytes why)) }
     ensures no_other { IfErr result (λ why. why ≢ fault.Full) }

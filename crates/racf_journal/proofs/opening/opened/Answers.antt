@@ -60,3 +60,9 @@ returns-clause-resting g c =
     let bytes = c.in_ok-found.bytes in
     let end_is : take (length c.deref.result.now - (found.gate - c.args.start)) (drop (found.gate - c.args.start) c.deref.result.now) ≡ drop (found.gate - c.args.start) bytes.items = take_rest c.deref.result.now (found.gate - c.args.start) ∙ ap (drop (found.gate - c.args.start)) c.deref.ensures.value in
     opened_resting c.args.start (g.D.Disk.tells c.args.disk.now) (g.D.Disk.tells c.sync.new.self) (g.D.Disk.tells c.find.new.disk) (g.met.D.Disk.reads_an_image c.args.disk.now) c.in_ok-sync.ensures.done c.find.ensures.kept found.gate found.records.items bytes.items (take (length c.deref.result.now - (found.gate - c.args.start)) (drop (found.gate - c.args.start) c.deref.result.now)) c.requires c.in_ok-found.ensures.seen c.in_ok-found.ensures.found end_is (g.D.Disk.tells c.repair.new.disk) c.repair.ensures.moments c.in_ok-repair.ensures.done
+
+pub returns-clause-counted : goal.returns-clause-counted
+returns-clause-counted g c = c.in_ok-found.ensures.found.to
+
+pub returns-clause-each : goal.returns-clause-each
+returns-clause-each g c = c.in_ok-found.ensures.found.lawful

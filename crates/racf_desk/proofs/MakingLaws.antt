@@ -19,7 +19,7 @@ use Rattle.raclist_image.specs.Imaged.{Imaged}
 use Rattle.command_conflicts.specs.declared.conflict.Conflict.{Conflict}
 use Rattle.command_authority.specs.declared.needs.Need.{Need}
 use Rattle.racf_desk.specs.declared.refusal.Refusal.TheVariants as refusal
-use Rattle.racf_desk.specs.declared.outcome.IssuedCommand.{IssuedCommand}
+use Rattle.journal_records.specs.declared.record.CommandRecord.{CommandRecord}
 use Rattle.racf_desk.specs.Outcome.{most_number, first_of, number_spent}
 use Rattle.racf_desk.specs.Position.{copies_behind, state_behind}
 use Rattle.racf_desk.specs.Made.{Made, made_at}
@@ -62,7 +62,7 @@ copies-behind issuer (fields.SetRopts c) edits state are others = ap (λ (es : L
 copies-behind issuer command edits state are others = copies-kept edits state (others refl)
 
 -- the state behind the edits of a command
-pub behind : (issued : IssuedCommand) (edits : List Edit) (state : State) → edits ≡ edits_of issued.issuer issued.command state.rows → changed edits state.rows ≡ step issued.issuer issued.command state.rows
+pub behind : (issued : CommandRecord) (edits : List Edit) (state : State) → edits ≡ edits_of issued.issuer issued.command state.rows → changed edits state.rows ≡ step issued.issuer issued.command state.rows
     → (changed_state edits state).rows ≡ changed edits state.rows → (IsFalse (is_set_ropts issued.command) → list_all (λ (edit : Edit). not (is_of_copies edit)) edits ≡ true)
     → changed_state edits state ≡ state_behind state issued
 behind issued edits state are makes law others =
@@ -70,7 +70,7 @@ behind issued edits state are makes law others =
     ∙ ap (λ (copies : List ListedCopy). record { rows = step issued.issuer issued.command state.rows; copies = copies }) (copies-behind issued.issuer issued.command edits state are others)
 
 -- what is made, field by field
-pub made_is : (position : Imaged) (issued : IssuedCommand) (number : ℕ) (text : List ℕ) (change : Change) (image : Imaged)
+pub made_is : (position : Imaged) (issued : CommandRecord) (number : ℕ) (text : List ℕ) (change : Change) (image : Imaged)
     → number ≡ position.generation + 1
     → text ≡ canonical issued.command
     → change.edits ≡ edits_of issued.issuer issued.command position.state.rows

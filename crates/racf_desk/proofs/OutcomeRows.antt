@@ -10,11 +10,10 @@ use Rattle.command_conflicts.specs.Conflicts.{is_root, has_subgroup, has_connect
 use Rattle.command_conflicts.specs.Required.{no_user, no_group, no_owner, no_named_group, no_class, name_taken, not_connected, default_not_connected, unknown_level, unknown_category, never_category, unknown_label}
 use Rattle.command_authority.specs.Requirements.{add_user_requirements, alt_user_requirements, add_group_requirements, alt_group_requirements, del_group_requirements, connect_requirements, remove_requirements}
 use Rattle.command_authority.specs.Authority.{is_met, need}
-use Rattle.raclist_image.specs.Imaged.{Imaged}
 use Rattle.racf_desk.specs.declared.refusal.Refusal.{Refusal}
-use Rattle.racf_desk.specs.declared.outcome.IssuedCommand.{IssuedCommand}
+use Rattle.journal_records.specs.declared.record.CommandRecord.{CommandRecord}
 use Rattle.racf_desk.specs.Outcome.{outcome_in, outcome}
-use Rattle.racf_desk.specs.Position.{first_position, position_after}
+use Rattle.racf_desk.specs.Position.{Position, first_position, position_after}
 use Rattle.racf_desk.specs.Words.{refusal_words}
 
 -- A command, who gives it, and the group that is named for him if one is.
@@ -23,11 +22,11 @@ record Given : Type 0 where
   group : Option (List ℕ)
   text : List ℕ
 
-abbrev words : Result IssuedCommand Refusal → List ℕ
+abbrev words : Result CommandRecord Refusal → List ℕ
 words (Ok issued) = codes "ACCEPTED"
 words (Err why) = refusal_words why
 
-abbrev told : Imaged → List Given → List (List ℕ)
+abbrev told : Position → List Given → List (List ℕ)
 told position [] = []
 told position (one ∷ others) = let is = outcome position one.issuer one.group one.text in words is ∷ told (position_after position is) others
 
@@ -78,8 +77,12 @@ issuer_rows : told first_position (
 unfolding canon form_in parsed front behind command_of tokens is_root has_subgroup has_connected has_profile meets cycle owner_not_superior default_group last_special users_full groups_full connections_full user_full add_user_conflicts alt_user_conflicts del_user_conflicts add_group_conflicts alt_group_conflicts del_group_conflicts connect_conflicts remove_conflicts no_user no_group no_owner no_named_group no_class name_taken not_connected default_not_connected unknown_level unknown_category never_category unknown_label add_user_requirements alt_user_requirements add_group_requirements alt_group_requirements del_group_requirements connect_requirements remove_requirements is_met need outcome_in
 issuer_rows = refl
 
+-- A position with that number, and with the gate there.
+abbrev at : ℕ → ℕ → Position
+at number gate = record { image = record { state = first_position.image.state; generation = number }; gate = gate }
+
 -- The needs are told behind the conflicts of names and before the others, and the numbers' end behind all.
-order_rows : told (record first_position { generation = 2 ^ 62 }) (
+order_rows : told (at (2 ^ 62) 8) (
     by (codes "IBMUSER") (codes "AU IBMUSER")
     ∷ by (codes "IBMUSER") (codes "DG SYS1")
     ∷ by (codes "IBMUSER") (codes "AU JOE SECLEVEL(TOP)")

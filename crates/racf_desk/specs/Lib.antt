@@ -1,7 +1,11 @@
 pub mod Words
 pub mod Issuers
-pub mod Outcome
 pub mod Position
+pub mod Outcome
+pub mod Recovery
 pub mod Made
+pub mod Durable
 pub mod Images
 pub mod Kept
+pub mod Recovering
+pub mod History

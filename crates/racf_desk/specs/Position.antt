@@ -1,6 +1,6 @@
 -- Where a desk stands, and where it stands behind a command. A position is the number of the commands that were accepted
--- so far and the state that they led to, as an image of it shows them.
-use Rattle.std.specs.Prelude.{◌+◌, List, Result, Ok, Err}
+-- so far, the state that they led to, as an image of it shows them, and where the journal's last gate is.
+use Rattle.std.specs.Prelude.{ℕ, ◌+◌, List, length, Result, Ok, Err}
 use Rattle.racf_profiles.specs.State.{State, ListedCopy, restart, changed_state}
 use Rattle.racf_profiles.specs.NewDatabase.{new_database}
 use Rattle.command_parser.specs.declared.fields.CommandFields.{CommandFields}
@@ -8,26 +8,45 @@ use Rattle.command_parser.specs.declared.fields.CommandFields.TheVariants as fie
 use Rattle.command_effects.specs.Effects.{step}
 use Rattle.command_effects.specs.Edits.{edits_of_set_ropts}
 use Rattle.raclist_image.specs.Imaged.{Imaged}
+use Rattle.journal_records.specs.declared.record.CommandRecord.{CommandRecord}
+use Rattle.journal_records.specs.Spelling.{spelled}
 use Rattle.racf_desk.specs.declared.refusal.Refusal.{Refusal}
-use Rattle.racf_desk.specs.declared.outcome.IssuedCommand.{IssuedCommand}
 
--- That of a new database.
-abbrev pub first_position : Imaged
-first_position = record { state = restart new_database; generation = 0 }
+-- The journal's file ends behind the gate.
+pub record Position : Type 0 where
+  pub image : Imaged
+  pub gate : ℕ
+
+-- That of a new database, whose journal has its first gate at place 8.
+abbrev pub first_position : Position
+first_position = record { image = record { state = restart new_database; generation = 0 }; gate = 8 }
 
 -- The listed copies behind a command: SETROPTS makes and drops them by its edits, and no other command does.
 abbrev pub copies_behind : CommandFields → State → List ListedCopy
 copies_behind (fields.SetRopts c) state = (changed_state (edits_of_set_ropts c state.rows) state).copies
 copies_behind command state = state.copies
 
--- Behind an accepted command: one command more, and the rows are as it leaves them.
-abbrev pub state_behind : State → IssuedCommand → State
-state_behind state issued = record { rows = step issued.issuer issued.command state.rows; copies = copies_behind issued.command state }
+-- Behind an accepted command, which is the record of it: one command more, and the rows are as it leaves them.
+abbrev pub state_behind : State → CommandRecord → State
+state_behind state given = record { rows = step given.issuer given.command state.rows; copies = copies_behind given.command state }
 
-abbrev pub position_behind : Imaged → IssuedCommand → Imaged
-position_behind position issued = record { state = state_behind position.state issued; generation = position.generation + 1 }
+abbrev pub image_behind : Imaged → CommandRecord → Imaged
+image_behind image given = record { state = state_behind image.state given; generation = image.generation + 1 }
+
+-- Its record stands in the journal behind the last gate, and then the next gate.
+abbrev pub position_behind : Position → CommandRecord → Position
+position_behind position given =
+    record { image = image_behind position.image given; gate = position.gate + 1 + length (spelled given) }
 
 -- Behind a command with this outcome: a refusal changes nothing.
-abbrev pub position_after : Imaged → Result IssuedCommand Refusal → Imaged
-position_after position (Ok issued) = position_behind position issued
+abbrev pub position_after : Position → Result CommandRecord Refusal → Position
+position_after position (Ok given) = position_behind position given
 position_after position (Err why) = position
+
+-- What is left of a position where the desk is opened again: each listed copy is equal to the live profiles.
+abbrev pub restarted : Position → Position
+restarted position =
+    record {
+      image = record { state = restart position.image.state.rows; generation = position.image.generation };
+      gate = position.gate;
+    }

@@ -106,4 +106,5 @@ refusal_words (refusal.IssuerRevoked id) = codes "ISSUERREVOKED " ++ id
 refusal_words (refusal.IssuerNotConnected group) = codes "ISSUERNOTCONNECTED " ++ group
 refusal_words (refusal.Conflict conflict) = conflict_words conflict
 refusal_words (refusal.Need needs) = codes "NEED" ++ each_need needs
+refusal_words refusal.JournalFull = codes "JOURNALFULL"
 refusal_words refusal.NumberSpent = codes "NUMBERSPENT"

@@ -16,6 +16,8 @@ pub struct Ready {
     pub issuer: Issuer,
     /// Its canonical text.
     pub text: Text,
+    /// Its record, as the journal keeps it.
+    pub entry: Text,
     /// Its edits of the rows.
     pub change: Change,
     /// The state behind it, with the number.
@@ -25,10 +27,14 @@ pub struct Ready {
 /// The answer to a command. Each number is that of the commands that were accepted so far.
 #[derive(Drop)]
 pub enum Reply {
-    /// The command was accepted, and counts in the number.
+    /// The command was accepted, stands on the disks, and counts in the number.
     Accepted(u64),
     /// The command was refused, and changed nothing.
     Refused(u64, Refusal),
+    /// A disk failed an earlier command, and the desk takes no more.
+    Halted(u64),
+    /// A disk failed this command, which may stand there or not. The desk takes no more.
+    DiskFault(u64),
     /// Memory was wanting, and nothing has changed.
     NoMemory,
 }

@@ -1,86 +1,177 @@
-//! The desk: where it stands, and what was made last.
-ghost use Rattle.std.specs.Prelude.{◌≡◌, Some, None, Ok, IfOk, IfErr, OnErr};
+//! The desk: where it stands, what was made last, and its disks.
+ghost use Rattle.std.specs.Prelude.{◌≡◌, ◌≢◌, ◌⊎◌, ◌≤◌, true, false, Some, None, Ok, Err, IfOk, IfErr, OnOk, OnErr, MatchResult};
 ghost use Rattle.std.specs.Arc.{arc_value};
+ghost use Rattle.racf_outside.specs.Causes.{HasCause, Rose};
+ghost use Rattle.racf_checkpoint.specs.Contents.{IsCaused};
+ghost use Rattle.racf_checkpoint.specs.Stored.{NowRead};
 
 use crate::answers::{Ready, Reply};
 use crate::making::make;
-use crate::outcome::{IssuedCommand, outcome_in};
+use crate::outcome::outcome_in;
+use crate::recovery::{Recovered, recover};
 use access_levels::Id;
+use racf_checkpoint::{Loaded, Store, StoreFault};
 use racf_database::Database;
-use racf_profiles::NoMemory;
+use racf_outside::{Disk, Failed, Two};
 use raclist_image::Image;
 use std::alloc::Global;
 use std::marker::Model;
 use std::snapshot::Snapshot;
 use std::sync::Arc;
 
-/// A database at which commands are given, with the image of its rows. To the layer above it is its position and what
-/// was made last. A command is judged, made and installed, one after another; nothing is copied but what a command
-/// leads to.
-#[derive(Drop)]
-pub struct Desk {
+/// A database on disks, at which commands are given, with the image of its rows. To the layer above it is its position,
+/// its store, whether a disk failed a command, and what was made last. A command is judged, made, committed and installed,
+/// one after another; nothing is copied but what a command leads to.
+pub struct Desk<D: Disk> {
+    /// Where the journal takes its memory for a record that is longer than any of a command: it takes none.
+    alloc: Global,
     /// The rows. Of what was made last it has the edits prepared.
     database: Database,
     /// The image of the rows, with the number of commands that led to them.
     image: Arc<Image>,
+    /// Where the journal's last gate is at this position.
+    gate: u64,
+    /// The records of the commands, on the disks.
+    store: Store<D>,
+    /// Whether a disk failed a command. Then the desk takes no more.
+    halted: bool,
     /// What `judge` made last and isn't installed, as contracts see it: the value itself is its owner's. Its edits are
     /// those that the database has prepared.
     made: Option<Snapshot<Ready>>,
+    /// Whether what was made last stands on the disks.
+    committed: bool,
 }
 
-impl Model for Desk {
-    ghost use Rattle.racf_desk.specs.Made.{Contents};
-
-    ghost Value = { Contents };
-
+impl<D: Disk> Model for Desk<D> {
+    ghost use Rattle.racf_desk.specs.Made.{DeskOn};
     ghost use Rattle.racf_desk.specs.Kept.{contents_of, IsKept};
+
+    ghost Value = { DeskOn D };
 
     ghost view = { contents_of };
 
-    ghost invariant = { IsKept };
+    ghost invariant = { IsKept D.tells };
 }
 
-impl Desk {
+impl<D: Disk> Desk<D> {
     ghost use Rattle.racf_desk.specs.Outcome.{outcome};
-    ghost use Rattle.racf_desk.specs.Position.{first_position};
-    ghost use Rattle.racf_desk.specs.Made.{made_in, made_of_outcome, IsRefusal, IsAnswer};
+    ghost use Rattle.racf_desk.specs.Position.{first_position, position_after};
+    ghost use Rattle.racf_desk.specs.Made.{installed, is_fresh, made_in, made_of_outcome, number_at, IsRefusal, IsAnswer};
+    ghost use Rattle.racf_desk.specs.Recovery.{standing, Refuses};
+    ghost use Rattle.racf_desk.specs.Durable.{LeavesIt, StandsThere, StaysEither, StaysPossible};
+    ghost use Rattle.racf_desk.specs.Images.{IsImageOf};
 
-    /// A desk over a new database.
-    pub fn new(alloc: Global) -> Result<Desk, NoMemory>
-        ensures position { IfOk result (λ desk. desk.position ≡ first_position) }
-        ensures nothing_made { IfOk result (λ desk. desk.made ≡ None) }
+    /// A desk over a new database, whatever the disks held. A crash meanwhile may leave anything of the first. Where that
+    /// fails, both are handed back.
+    pub fn format(alloc: Global, disks: Two<D>) -> Result<Desk<D>, (Two<D>, StoreFault)>
+        ensures desk { IfOk result (λ desk. desk ≡ is_fresh first_position desk.store) }
+        ensures leaves { IfOk result (λ desk. LeavesIt D.tells desk.store first_position) }
+        ensures second { MatchResult result (λ desk. desk.store.second ≡ disks.second) (λ back. back.0.second ≡ disks.second) }
+        ensures fault { IfErr result (λ back. (back.1 ≡ StoreFault.DiskFault) ⊎ (back.1 ≡ StoreFault.NoMemory)) }
+        ensures cause { IfErr result (λ back. IsCaused (D.faults disks.first) (D.faults back.0.first) back.1) }
+        ensures no_fewer { MatchResult result (λ desk. D.faults disks.first ≤ D.faults desk.store.journal.disk) (λ back. D.faults disks.first ≤ D.faults back.0.first) }
     {
-        let database = Database::new(alloc)?;
-        let rows = database.to_rows(alloc)?;
-        let image = Image::of(alloc, &rows, 0)?;
-        Ok(Desk {
+        let found = match recover(alloc, &[]) {
+            Ok(found) => found,
+            Err(fault) => return Err((disks, fault)),
+        };
+        match Store::format(disks) {
+            Ok(store) => Ok(Desk::fresh(alloc, found, store)),
+            Err(back) => Err(back),
+        }
+    }
+
+    /// Opens the database that the disks stand for: repeats the commands of the journal's records, from a new database on,
+    /// in time that grows with their number, and makes the image of the rows once. At every moment a crash leaves files
+    /// that stand for what was possible before; after `Ok` it leaves what was opened. Otherwise the disks are handed back.
+    pub fn open(alloc: Global, disks: Two<D>) -> Result<Desk<D>, (Two<D>, StoreFault)>
+        ensures stands { IfOk result (λ desk. NowRead (D.tells disks.first) (D.tells disks.second) (λ first second. standing first second ≡ Ok desk.position)) }
+        ensures desk { IfOk result (λ desk. desk ≡ is_fresh desk.position desk.store) }
+        ensures leaves { IfOk result (λ desk. LeavesIt D.tells desk.store desk.position) }
+        ensures moments { MatchResult result (λ desk. StaysPossible (D.tells disks.second) (D.tells disks.first) (D.tells desk.store.journal.disk))
+            (λ back. StaysPossible (D.tells disks.second) (D.tells disks.first) (D.tells back.0.first)) }
+        ensures second { MatchResult result (λ desk. desk.store.second ≡ disks.second) (λ back. back.0.second ≡ disks.second) }
+
+        ensures fault { IfErr result (λ back. NowRead (D.tells disks.first) (D.tells disks.second) (Refuses back.1)) }
+        ensures no_other { IfErr result (λ back. back.1 ≢ StoreFault.Full) }
+        ensures cause { IfErr result (λ back. IsCaused (D.faults disks.first) (D.faults back.0.first) back.1) }
+        ensures no_fewer { MatchResult result (λ desk. D.faults disks.first ≤ D.faults desk.store.journal.disk) (λ back. D.faults disks.first ≤ D.faults back.0.first) }
+    {
+        let Loaded {
+            store,
+            rows: _,
+            number: _,
+            start: _,
+            records,
+        } = match Store::load(alloc, disks) {
+            Ok(loaded) => loaded,
+            Err(back) => return Err(back),
+        };
+        match recover(alloc, &records) {
+            Ok(found) => Ok(Desk::fresh(alloc, found, store)),
+            Err(fault) => Err((store.into_disks(), fault)),
+        }
+    }
+
+    /// A desk at what was recovered, whose store stands there.
+    fn fresh(alloc: Global, found: Recovered, store: Store<D>) -> Desk<D>
+        requires image { IsImageOf found.database.rows (arc_value found.image) }
+        requires stands { StandsThere D.tells store (record { image = arc_value found.image; gate = found.gate }) }
+        ensures { result ≡ is_fresh (record { image = arc_value found.image; gate = found.gate }) store }
+    {
+        let Recovered {
             database,
             image,
+            gate,
+        } = found;
+        Desk {
+            alloc,
+            database,
+            image,
+            gate,
+            store,
+            halted: false,
             made: None,
-        })
+            committed: false,
+        }
     }
 
     /// How many commands were accepted.
     pub fn number(&self) -> u64
-        ensures { result ≡ self.now.position.generation }
+        ensures { result ≡ number_at self.now.position }
     {
         self.image.generation()
     }
 
     /// The image of the position. Whoever takes an owner of it can read it on while the desk goes on.
     pub fn image(&self) -> &Arc<Image>
-        ensures { arc_value result.now ≡ self.now.position }
+        ensures { arc_value result.now ≡ self.now.position.image }
     {
         &self.image
     }
 
-    /// Judges a command, and makes what `install` puts in place: it takes all memory that the command needs. The issuer
-    /// is named by his ID, and by the group that is to be current for him, else his default group is. The position
-    /// stays as it is, and what was made before doesn't stand any longer.
+    /// Whether a disk failed a command. Then every further command is answered by `Halted`.
+    pub fn halted(&self) -> bool
+        ensures { result ≡ self.now.halted }
+    {
+        self.halted
+    }
+
+    /// A desk at rest: unless a disk failed, whatever a crash now leaves of the disks stands for its position. It does
+    /// nothing: its contract is what it is for.
+    pub fn is_at_rest(&self)
+        requires { self.now.committed ≡ false }
+        ensures { self.now.halted ≡ false → LeavesIt D.tells self.now.store self.now.position }
+    {
+    }
+
+    /// Judges a command, and makes what `commit` and `install` put in place: it takes all memory that the command needs.
+    /// The issuer is named by his ID, and by the group that is to be current for him, else his default group is. The
+    /// position stays as it is, and what was made before doesn't stand any longer.
     ///
     /// # Errors
     ///
-    /// The refusal, or want of memory; the latter comes behind every refusal that needs none to be told.
+    /// `Halted`, the refusal, or want of memory; the latter comes behind every refusal that needs none to be told.
     pub fn judge(
         &mut self,
         alloc: Global,
@@ -88,54 +179,125 @@ impl Desk {
         group: Option<Id>,
         text: &[u8],
     ) -> Result<Ready, Reply>
-        ensures accepted { IfOk result (λ ready. made_of_outcome self.old.position (outcome self.old.position issuer group text.now) ≡ Ok (made_in ready)) }
-        ensures made { IfOk result (λ ready. self.new.made ≡ Some (made_in ready)) }
-        ensures refused { IfErr result (IsRefusal self.old.position (outcome self.old.position issuer group text.now)) }
-        ensures nothing_made { OnErr result (self.new.made ≡ None) }
-        ensures position { self.new.position ≡ self.old.position }
+        requires settled { self.old.committed ≡ false }
+        ensures running { IfOk result (λ ready. self.old.halted ≡ false) }
+        ensures accepted { IfOk result (λ ready. made_of_outcome self.old.position.image (outcome self.old.position issuer group text.now) ≡ Ok (made_in ready)) }
+        ensures made { IfOk result (λ ready. self.new ≡ record self.old { made = Some (made_in ready) }) }
+        ensures refused { IfErr result (IsRefusal self.old.halted self.old.position (outcome self.old.position issuer group text.now)) }
+        ensures nothing_made { OnErr result (self.new ≡ record self.old { made = None }) }
     {
         self.made = None;
         let number = self.image.generation();
-        let issued = match outcome_in(alloc, number, &self.database, issuer, group, text) {
-            Ok(Ok(issued)) => issued,
+        if self.halted {
+            return Err(Reply::Halted(number));
+        }
+        let given = match outcome_in(alloc, self.gate, number, &self.database, issuer, group, text) {
+            Ok(Ok(given)) => given,
             Ok(Err(why)) => return Err(Reply::Refused(number, why)),
             Err(_) => return Err(Reply::NoMemory),
         };
-        let Ok(ready) = make(alloc, &mut self.database, &self.image, &issued) else {
+        let Ok(ready) = make(alloc, &mut self.database, &self.image, &given) else {
             return Err(Reply::NoMemory);
         };
         self.made = Some(Snapshot::of(&ready));
         Ok(ready)
     }
 
-    /// Puts in place what was made last, and answers its number. It takes no memory, and the time that the change takes
-    /// in the database.
+    /// Puts the record of what was made last on the disks, in two syncs. It takes no memory. After `Ok` every crash
+    /// leaves what stands for the position behind it, and at every moment before for that or for the position as it is.
+    ///
+    /// # Errors
+    ///
+    /// A disk failed. Then the desk is halted: a crash leaves the one or the other, and no further command is taken.
+    pub fn commit(&mut self, ready: &Ready) -> Result<(), Failed>
+        requires made { self.old.made ≡ Some (made_in ready.now) }
+        requires running { self.old.halted ≡ false }
+        requires settled { self.old.committed ≡ false }
+        ensures committed { OnOk result (self.new ≡ record self.old { store = self.new.store; committed = true }) }
+        ensures leaves { OnOk result (LeavesIt D.tells self.new.store (installed self.old.position (made_in ready.now))) }
+        ensures moments { StaysEither D.tells self.old.store self.new.store self.old.position (installed self.old.position (made_in ready.now)) }
+        ensures halted { OnErr result (self.new ≡ record self.old { store = self.new.store; halted = true }) }
+        ensures second { self.new.store.second ≡ self.old.store.second }
+        ensures cause { HasCause (D.faults self.old.store.journal.disk) (D.faults self.new.store.journal.disk) result }
+    {
+        match self.store.append(self.alloc, ready.entry.bytes()) {
+            Ok(()) => {
+                self.committed = true;
+                Ok(())
+            }
+            Err(_) => {
+                self.halted = true;
+                Err(Failed)
+            }
+        }
+    }
+
+    /// Puts in place what was made last and stands on the disks, and answers its number. It takes no memory, and the time
+    /// that the change takes in the database.
     pub fn install(&mut self, ready: Ready) -> u64
-        requires { self.old.made ≡ Some (made_in ready) }
+        requires made { self.old.made ≡ Some (made_in ready) }
+        requires committed { self.old.committed ≡ true }
         ensures number { result ≡ ready.number }
-        ensures position { self.new.position ≡ arc_value ready.image }
-        ensures nothing_made { self.new.made ≡ None }
+        ensures installed { self.new ≡ is_fresh (installed self.old.position (made_in ready)) self.old.store }
     {
         let Ready {
             number,
+            entry,
             change,
             image,
             ..
         } = ready;
         self.made.take();
+        self.committed = false;
+        self.gate += 1 + entry.bytes().len() as u64;
         self.image = image;
         self.database.apply(change);
         number
     }
 
-    /// Judges a command and, where it is accepted, makes and installs it.
+    /// Judges a command and, where it is accepted, makes, commits and installs it. At every moment a crash leaves what
+    /// stands for the position as it was or, where the command is accepted, for the one behind it; after `Accepted` it
+    /// leaves the latter.
     pub fn execute(&mut self, alloc: Global, issuer: Id, group: Option<Id>, text: &[u8]) -> Reply
-        ensures answer { IsAnswer self.old.position (outcome self.old.position issuer group text.now) result self.new.position }
+        requires settled { self.old.committed ≡ false }
+        ensures answer { IsAnswer self.old.halted self.old.position (outcome self.old.position issuer group text.now) result self.new.position self.new.halted }
+        ensures moments { self.old.halted ≡ false → StaysEither D.tells self.old.store self.new.store self.old.position
+            (position_after self.old.position (outcome self.old.position issuer group text.now)) }
+        ensures leaves { self.new.halted ≡ false → LeavesIt D.tells self.new.store self.new.position }
         ensures nothing_made { self.new.made ≡ None }
+        ensures settled { self.new.committed ≡ false }
+        ensures second { self.new.store.second ≡ self.old.store.second }
+        ensures cause { self.old.halted ≡ false → self.new.halted ≡ true → Rose (D.faults self.old.store.journal.disk) (D.faults self.new.store.journal.disk) }
+        ensures no_fewer { D.faults self.old.store.journal.disk ≤ D.faults self.new.store.journal.disk }
     {
-        match self.judge(alloc, issuer, group, text) {
-            Ok(ready) => Reply::Accepted(self.install(ready)),
-            Err(reply) => reply,
+        let ready = match self.judge(alloc, issuer, group, text) {
+            Ok(ready) => ready,
+            Err(reply) => return reply,
+        };
+        match self.commit(&ready) {
+            Ok(()) => Reply::Accepted(self.install(ready)),
+            Err(Failed) => {
+                self.made = None;
+                Reply::DiskFault(self.number())
+            }
         }
+    }
+
+    /// The disks.
+    pub fn into_disks(self) -> Two<D>
+        ensures first { result.first ≡ self.store.journal.disk }
+        ensures second { result.second ≡ self.store.second }
+    {
+        let Desk {
+            alloc: _,
+            database: _,
+            image: _,
+            gate: _,
+            store,
+            halted: _,
+            made: _,
+            committed: _,
+        } = self;
+        store.into_disks()
     }
 }

@@ -1,15 +1,18 @@
-//! The desk: one command after another, judged as its issuer stands at that command, made and installed.
+//! The desk: one command after another, judged as its issuer stands at that command, made, put on the disks and installed.
 //!
-//! A [`Desk`] has the database and the image of its rows. [`Desk::judge`] tests a command in a fixed order, takes all
-//! memory and makes the next image; [`Desk::install`] puts it in place and takes none; [`Desk::execute`] is the two.
-//! The commands are those of `command_parser`; `racf_database` says what they conflict with and `command_authority` who
-//! may give them. [`Refusal::write`] has the words of every refusal.
+//! A [`Desk`] has the database, the image of its rows, and the store of `racf_checkpoint` with the records of the commands.
+//! [`Desk::format`] makes a new database and [`Desk::open`] opens the one that the disks stand for. [`Desk::judge`] tests a
+//! command in a fixed order, takes all memory and makes the next image; [`Desk::commit`] puts its record on the disks, and
+//! [`Desk::install`] puts the image in place; [`Desk::execute`] is the three. The commands are those of `command_parser`,
+//! their records those of `journal_records`; `racf_database` says what they conflict with and `command_authority` who may
+//! give them. [`Refusal::write`] has the words of every refusal.
 //!
 //! ```
-//! let mut desk = Desk::new(alloc)?;
+//! let mut desk = Desk::open(alloc, disks)?;
 //! match desk.execute(alloc, ibmuser(), None, b"ADDUSER JOE") {
-//!     Reply::Accepted(number) => count(number),
+//!     Reply::Accepted(number) => count(number),                   // every crash keeps it
 //!     Reply::Refused(number, refusal) => refusal.write(out)?,     // EXISTS JOE
+//!     Reply::DiskFault(number) | Reply::Halted(number) => return Err(open_again(desk.into_disks())),
 //!     Reply::NoMemory => return Err(NoMemory),
 //! }
 //! ```
@@ -18,13 +21,15 @@
 mod answers;
 mod desk;
 mod issuers;
+pub mod laws;
 mod making;
 mod outcome;
+mod recovery;
 mod refusal;
 mod refusal_words;
 
 pub use answers::{Ready, Reply};
 pub use desk::Desk;
-pub use outcome::{IssuedCommand, MOST_NUMBER};
+pub use outcome::MOST_NUMBER;
 pub use racf_profiles::NoMemory;
 pub use refusal::Refusal;

@@ -3,14 +3,15 @@ ghost use Rattle.std.specs.Prelude.{◌≡◌, Some, None, IfOk};
 ghost use Rattle.std.specs.Arc.{arc_value};
 ghost use Rattle.racf_profiles.specs.Edits.{changed};
 ghost use Rattle.command_parser.specs.Canonical.{canonical};
-ghost use Rattle.racf_desk.specs.Outcome.{first_of, tests_of};
+ghost use Rattle.journal_records.specs.Spelling.{spelled};
+ghost use Rattle.racf_desk.specs.Outcome.{rules_of, number_spent};
 ghost use Rattle.racf_desk.specs.Images.{IsImageOf};
 ghost use Rattle.racf_desk.specs.Made.{made_at, made_in};
 
 use crate::answers::Ready;
-use crate::outcome::IssuedCommand;
 use access_levels::Text;
 use command_parser::{Command, print};
+use journal_records::{CommandRecord, write};
 use racf_database::Database;
 use racf_profiles::NoMemory;
 use racf_profiles::laws::rows_are_changed;
@@ -23,11 +24,12 @@ pub(crate) fn make(
     alloc: Global,
     database: &mut Database,
     image: &Arc<Image>,
-    issued: &IssuedCommand,
+    given: &CommandRecord,
 ) -> Result<Ready, NoMemory>
     requires image { IsImageOf database.old.rows (arc_value image.now) }
-    requires accepted { first_of (tests_of (arc_value image.now).generation database.old.rows issued.now.issuer issued.now.command) ≡ None }
-    ensures made { IfOk result (λ ready. made_in ready ≡ made_at (arc_value image.now) issued.now) }
+    requires rules { rules_of database.old.rows given.now ≡ None }
+    requires numbered { number_spent (arc_value image.now).generation ≡ None }
+    ensures made { IfOk result (λ ready. made_in ready ≡ made_at (arc_value image.now) given.now) }
     ensures behind { IfOk result (λ ready. IsImageOf (changed ready.change.edits database.old.rows) (arc_value ready.image)) }
     ensures prepared { IfOk result (λ ready. database.new.prepared ≡ Some ready.change) }
     ensures rows { database.new.rows ≡ database.old.rows }
@@ -35,13 +37,15 @@ pub(crate) fn make(
     // The rows of the state behind the edits are those behind them.
     rows_are_changed();
     let number = image.generation() + 1;
-    let text = canonical_text(alloc, &issued.command)?;
-    let change = database.prepare(alloc, &issued.issuer, &issued.command)?;
+    let text = canonical_text(alloc, &given.command)?;
+    let entry = entry_of(alloc, given)?;
+    let change = database.prepare(alloc, &given.issuer, &given.command)?;
     let image = image.after(alloc, &change, number)?;
     Ok(Ready {
         number,
-        issuer: issued.issuer,
+        issuer: given.issuer,
         text,
+        entry,
         change,
         image,
     })
@@ -54,4 +58,13 @@ fn canonical_text(alloc: Global, command: &Command) -> Result<Text, NoMemory>
     let mut text = Vec::new(alloc);
     print(command, &mut text)?;
     Text::of(alloc, text.as_slice())
+}
+
+/// The bytes of the record.
+fn entry_of(alloc: Global, given: &CommandRecord) -> Result<Text, NoMemory>
+    ensures { IfOk result (λ entry. entry ≡ spelled given.now) }
+{
+    let mut entry = Vec::new(alloc);
+    write(given, &mut entry)?;
+    Text::of(alloc, entry.as_slice())
 }

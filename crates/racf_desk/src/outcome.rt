@@ -1,13 +1,16 @@
 //! The outcome of a command: the tests in their order.
-ghost use Rattle.std.specs.Prelude.{◌≡◌, None, IfOk};
-ghost use Rattle.racf_desk.specs.Outcome.{command_of_text, first_of, tests_of, outcome_in};
+ghost use Rattle.std.specs.Prelude.{◌≡◌, ◌+◌, ◌≤◌, ◌^◌, ◌↔◌, None, IfOk, IsTrue, length};
+ghost use Rattle.journal_records.specs.Spelling.{spelled};
+ghost use Rattle.racf_desk.specs.Outcome.{command_of_text, journal_full, outcome_in, refusal_of, rules_of};
 
 use crate::issuers::issuer_of;
 use crate::refusal::Refusal;
 use access_levels::Id;
 use command_authority::authorised;
 use command_parser::laws::one_command_is_spelled;
-use command_parser::{Command, Issuer, ParseFault, parse};
+use command_parser::{Command, ParseFault, parse};
+use journal_records::CommandRecord;
+use journal_records::laws::{lengths_are_those_of_the_texts, written_is_read};
 use racf_database::Database;
 use racf_profiles::NoMemory;
 use std::alloc::{AllocError, Global};
@@ -16,25 +19,23 @@ use std::alloc::{AllocError, Global};
 /// command.
 pub const MOST_NUMBER: u64 = 1 << 62;
 
-/// A command, and who gives it with which current group.
-#[derive(Drop)]
-pub struct IssuedCommand {
-    pub issuer: Issuer,
-    pub command: Command,
-}
+/// The most bytes that the file of a journal gets by a command (this product's own limit).
+const MOST_BYTES: u64 = 1 << 28;
 
-/// The outcome of a command over the rows, with this number of commands before it.
+/// The outcome of a command over the rows, with this number of commands before it and the journal's last gate at this
+/// place: the record of it where it is accepted.
 #[tactic(auto, unfolding(crate::specs::Outcome::outcome_in))]
 pub(crate) fn outcome_in(
     alloc: Global,
+    gate: u64,
     number: u64,
     database: &Database,
     id: Id,
     group: Option<Id>,
     text: &[u8],
-) -> Result<Result<IssuedCommand, Refusal>, NoMemory>
-    ensures outcome { IfOk result (λ outcome. outcome ≡ outcome_in number database.now.rows id group text.now) }
-    ensures accepted { IfOk result (λ outcome. IfOk outcome (λ issued. first_of (tests_of number database.now.rows issued.issuer issued.command) ≡ None)) }
+) -> Result<Result<CommandRecord, Refusal>, NoMemory>
+    ensures outcome { IfOk result (λ outcome. outcome ≡ outcome_in gate number database.now.rows id group text.now) }
+    ensures accepted { IfOk result (λ outcome. IfOk outcome (λ given. refusal_of gate number database.now.rows given ≡ None)) }
 {
     let command = match command_of_text(alloc, id, text)? {
         Ok(command) => command,
@@ -44,9 +45,10 @@ pub(crate) fn outcome_in(
         Ok(issuer) => issuer,
         Err(why) => return Ok(Err(why)),
     };
-    Ok(match refusal_of(number, database, &issuer, &command) {
+    let given = CommandRecord { issuer, command };
+    Ok(match refusal_of(gate, number, database, &given) {
         Some(why) => Err(why),
-        None => Ok(IssuedCommand { issuer, command }),
+        None => Ok(given),
     })
 }
 
@@ -63,15 +65,32 @@ fn command_of_text(alloc: Global, id: Id, text: &[u8]) -> Result<Result<Command,
     }
 }
 
-/// Why a command that this issuer gives is refused, if it is.
+/// Why a command is refused where its issuer gives it, if it is.
 fn refusal_of(
+    gate: u64,
     number: u64,
     database: &Database,
-    issuer: &Issuer,
-    command: &Command,
+    given: &CommandRecord,
 ) -> Option<Refusal>
-    ensures { result ≡ first_of (tests_of number database.now.rows issuer.now command.now) }
+    ensures { result ≡ refusal_of gate number database.now.rows given.now }
 {
+    if let Some(why) = rules_of(database, given) {
+        return Some(why);
+    }
+    if !has_room(gate, given) {
+        return Some(Refusal::JournalFull);
+    }
+    if number >= MOST_NUMBER {
+        return Some(Refusal::NumberSpent);
+    }
+    None
+}
+
+/// What the rules refuse a command for where its issuer gives it, if they do.
+pub(crate) fn rules_of(database: &Database, given: &CommandRecord) -> Option<Refusal>
+    ensures { result ≡ rules_of database.now.rows given.now }
+{
+    let CommandRecord { issuer, command } = given;
     if let Err(conflict) = database.check_first(issuer, command) {
         return Some(Refusal::Conflict(conflict));
     }
@@ -80,7 +99,22 @@ fn refusal_of(
     }
     match database.check(issuer, command) {
         Err(conflict) => Some(Refusal::Conflict(conflict)),
-        Ok(()) if number >= MOST_NUMBER => Some(Refusal::NumberSpent),
         Ok(()) => None,
     }
+}
+
+/// Whether a journal whose last gate is at this place has room for the record and one gate more.
+fn has_room(gate: u64, given: &CommandRecord) -> bool
+    ensures { IsTrue result ↔ ((gate + 1) + (length (spelled given.now) + 1) ≤ 2 ^ 28) }
+{
+    gate.saturating_add(2).saturating_add(record_length(given)) <= MOST_BYTES
+}
+
+/// How many bytes the record takes.
+pub(crate) fn record_length(given: &CommandRecord) -> u64
+    ensures { result ≡ length (spelled given.now) }
+{
+    written_is_read(given);
+    lengths_are_those_of_the_texts();
+    20 + given.command.text().len() as u64
 }

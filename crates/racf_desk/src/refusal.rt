@@ -22,6 +22,8 @@ pub enum Refusal {
     Conflict(Conflict),
     /// What would let the issuer give it.
     Need(Needs),
+    /// The journal has no room for the command's record.
+    JournalFull,
     /// As many commands were accepted as there are numbers.
     NumberSpent,
 }
@@ -49,6 +51,7 @@ impl Refusal {
                 out.extend_from_slice(b"NEED")?;
                 write_needs(needs, out)
             }
+            Refusal::JournalFull => out.extend_from_slice(b"JOURNALFULL"),
             Refusal::NumberSpent => out.extend_from_slice(b"NUMBERSPENT"),
         }
     }

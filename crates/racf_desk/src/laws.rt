@@ -1,0 +1,25 @@
+//! Laws of the definitions. The functions do nothing: their contracts are what is proved.
+
+ghost use Rattle.std.specs.Prelude.{◌≡◌, ℕ, List, Option, Some, Ok, map};
+ghost use Rattle.journal_records.specs.declared.record.CommandRecord.{CommandRecord};
+ghost use Rattle.journal_records.specs.Reading.{record_of};
+ghost use Rattle.racf_desk.specs.History.{at, IsLegal};
+ghost use Rattle.racf_desk.specs.Outcome.{outcome};
+ghost use Rattle.racf_desk.specs.Position.{Position, first_position, restarted};
+ghost use Rattle.racf_desk.specs.Recovery.{recovered};
+
+/// A desk that is opened again goes on as the one that ran: a command has the same outcome at both, and behind the same
+/// commands both have the same number, rows and journal, so that what is opened then is the same.
+pub fn recovery_agrees_with_the_running_desk()
+    ensures outcome { (position : Position) (id : List ℕ) (group : Option (List ℕ)) (text : List ℕ) →
+        outcome (restarted position) id group text ≡ outcome position id group text }
+    ensures history { (base : Position) (history : List CommandRecord) → restarted (at (restarted base) history) ≡ restarted (at base history) }
+{}
+
+/// Where records lead to a position, they are those of a history that is legal from a new database on, and the position is
+/// the one behind it, as far as it outlives a restart.
+pub fn records_lead_along_a_history()
+    ensures { (records : List (List ℕ)) (position : Position) → recovered records ≡ Ok position →
+        (history : List CommandRecord) × IsLegal first_position history × (map record_of records ≡ map Ok history)
+        × (position ≡ restarted (at first_position history)) }
+{}

@@ -1,0 +1,156 @@
+//! What the records of a journal lead to, from a new database on.
+
+ghost use Rattle.std.specs.Prelude.{ℕ, ◌≡◌, ◌+◌, ◌<◌, ◌≤◌, ◌⊎◌, ◌^◌, Some, Ok, Err, length, IfOk, IfErr, OnOk};
+ghost use Rattle.std.specs.Result.{result_ok};
+ghost use Rattle.std.specs.Arc.{arc_value};
+ghost use Rattle.journal_records.specs.Reading.{record_of};
+ghost use Rattle.racf_journal.specs.Reading.{spelled};
+ghost use Rattle.racf_checkpoint.specs.declared.fault.StoreFault.TheVariants.{NoMemory};
+ghost use Rattle.racf_profiles.specs.State.{restart};
+ghost use Rattle.racf_desk.specs.Images.{IsImageOf};
+ghost use Rattle.racf_desk.specs.Outcome.{most_number, judged};
+ghost use Rattle.racf_desk.specs.Position.{Position, first_position};
+ghost use Rattle.racf_desk.specs.Recovery.{behind_record, behind_records, recovered, refusal_again};
+ghost use Rattle.racf_desk.specs.Recovering.{IsAt};
+
+use crate::issuers::issuer_of;
+use crate::outcome::{MOST_NUMBER, rules_of};
+use access_levels::Text;
+use journal_records::{CommandRecord, RecordFault, read};
+use racf_checkpoint::StoreFault;
+use racf_database::Database;
+use racf_profiles::NoMemory;
+use raclist_image::Image;
+use std::alloc::Global;
+use std::sync::Arc;
+
+/// Where the journal of a new database has its first gate.
+const FIRST_GATE: u64 = 8;
+
+/// A position that records lead to.
+#[derive(Drop)]
+pub(crate) struct Recovered {
+    /// The rows.
+    pub(crate) database: Database,
+    /// The image of the rows, with the number of commands that led to them.
+    pub(crate) image: Arc<Image>,
+    /// Where the journal's last gate is.
+    pub(crate) gate: u64,
+}
+
+/// Where these records lead from a new database on, each where the ones before it lead.
+pub(crate) fn recover(alloc: Global, records: &[Text]) -> Result<Recovered, StoreFault>
+    requires room { 8 + length (spelled records.now) < 2 ^ 64 }
+    ensures position { IfOk result (λ found. recovered records.now ≡ Ok (record { image = arc_value found.image; gate = found.gate })) }
+    ensures image { IfOk result (λ found. IsImageOf found.database.rows (arc_value found.image)) }
+    ensures fault { IfErr result (λ why. (recovered records.now ≡ Err why) ⊎ (why ≡ NoMemory)) }
+{
+    let recovery = Recovery::of(alloc, records)?;
+    match recovery.imaged(alloc) {
+        Ok(found) => Ok(found),
+        Err(_) => Err(StoreFault::NoMemory),
+    }
+}
+
+/// How far records were repeated: a position without its image.
+#[derive(Drop)]
+struct Recovery {
+    /// The rows.
+    database: Database,
+    /// How many commands led to them.
+    number: u64,
+    /// Where the journal's last gate is.
+    gate: u64,
+}
+
+impl Recovery {
+    /// A new database.
+    fn new(alloc: Global) -> Result<Recovery, StoreFault>
+        ensures at { IfOk result (λ recovery. IsAt recovery first_position) }
+        ensures memory { IfErr result (λ why. why ≡ NoMemory) }
+    {
+        let Ok(database) = Database::new(alloc) else {
+            return Err(StoreFault::NoMemory);
+        };
+        Ok(Recovery {
+            database,
+            number: 0,
+            gate: FIRST_GATE,
+        })
+    }
+
+    /// Where these records lead, each where the ones before it lead.
+    fn of(alloc: Global, records: &[Text]) -> Result<Recovery, StoreFault>
+        requires room { 8 + length (spelled records.now) < 2 ^ 64 }
+        ensures recovered { IfOk result (λ recovery. (position : Position) × IsAt recovery position × (behind_records records.now first_position ≡ Ok position)) }
+        ensures fault { IfErr result (λ why. (behind_records records.now first_position ≡ Err why) ⊎ (why ≡ NoMemory)) }
+    {
+        let mut recovery = Recovery::new(alloc)?;
+        for record in records {
+            recovery.repeat(alloc, record.bytes())?;
+        }
+        Ok(recovery)
+    }
+
+    /// Gives the command of a record again.
+    fn repeat(&mut self, alloc: Global, bytes: &[u8]) -> Result<(), StoreFault>
+        requires room { self.old.gate + 1 + length bytes.now < 2 ^ 64 }
+        ensures leads { OnOk result ((position : Position) → IsAt self.old position
+            → (next : Position) × IsAt self.new next × (behind_record position (record_of bytes.now) ≡ Ok next)) }
+        ensures gate { OnOk result (self.new.gate ≡ self.old.gate + 1 + length bytes.now) }
+        ensures fault { IfErr result (λ why. (why ≡ NoMemory) ⊎ ((position : Position) → IsAt self.old position
+            → behind_record position (record_of bytes.now) ≡ Err why)) }
+    {
+        let given = match read(alloc, bytes) {
+            Ok(given) => given,
+            Err(RecordFault::NoMemory) => return Err(StoreFault::NoMemory),
+            Err(_) => return Err(StoreFault::Damaged(self.gate)),
+        };
+        let Some(issued) = accepted_again(self.number, &self.database, given) else {
+            return Err(StoreFault::Damaged(self.gate));
+        };
+        let Ok(change) = self.database.prepare(alloc, &issued.issuer, &issued.command) else {
+            return Err(StoreFault::NoMemory);
+        };
+        self.database.apply(change);
+        self.number += 1;
+        self.gate += 1 + bytes.len() as u64;
+        Ok(())
+    }
+
+    /// What was recovered, with the image of the rows.
+    fn imaged(self, alloc: Global) -> Result<Recovered, NoMemory>
+        requires within { self.number ≤ most_number }
+        ensures image { IfOk result (λ recovered. arc_value recovered.image ≡ record { state = restart self.database.rows; generation = self.number }) }
+        ensures rows { IfOk result (λ recovered. IsImageOf recovered.database.rows (arc_value recovered.image)) }
+        ensures gate { IfOk result (λ recovered. recovered.gate ≡ self.gate) }
+    {
+        let Recovery {
+            database,
+            number,
+            gate,
+        } = self;
+        let rows = database.to_rows(alloc)?;
+        let image = Image::of(alloc, &rows, number)?;
+        Ok(Recovered {
+            database,
+            image,
+            gate,
+        })
+    }
+}
+
+/// The record, as it is accepted where so many commands led to the rows.
+fn accepted_again(number: u64, database: &Database, given: CommandRecord) -> Option<CommandRecord>
+    ensures { result ≡ result_ok (judged (refusal_again number database.now.rows) database.now.rows given.issuer.id (Some given.issuer.group) given.command) }
+{
+    let CommandRecord { issuer, command } = given;
+    let Ok(issuer) = issuer_of(database, issuer.id, Some(issuer.group)) else {
+        return None;
+    };
+    let given = CommandRecord { issuer, command };
+    if rules_of(database, &given).is_some() || number >= MOST_NUMBER {
+        return None;
+    }
+    Some(given)
+}

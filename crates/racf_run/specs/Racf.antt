@@ -1,12 +1,24 @@
--- The words of the command line, and what the program does to the shelf.
-use Rattle.std.specs.Prelude.{◌≡◌, ◌⊎◌, ℕ, Bool, true, ◌||◌, ◌&&◌, not, Option, Some, None, IfSome, Result, Ok, Err, List, [], ◌∷◌, codes, if◌then◌else◌}
+-- The words of the command line, and what the program does to the shelf and to the database on the disks.
+use Rattle.std.specs.Prelude.{◌≡◌, ◌⊎◌, ℕ, Bool, true, false, ◌||◌, ◌&&◌, not, Option, Some, None, IfSome, Result, Ok, Err, List, [], ◌∷◌, codes, if◌then◌else◌}
 use Rattle.std.specs.Str.{bytes_eq}
+use Rattle.racf_outside.specs.Crashes.{Leaves, StaysIn}
 use Rattle.racf_outside.specs.declared.streams.Failed.{Failed}
+use Rattle.racf_outside.specs.Disk.{History, Now}
+use Rattle.racf_outside.specs.Moments.{Moment}
 use Rattle.racf_outside.specs.Shelf.{told, SameBytes, SameOthers}
+use Rattle.racf_checkpoint.specs.declared.fault.StoreFault.{StoreFault}
+use Rattle.racf_checkpoint.specs.declared.fault.StoreFault.TheVariants as fault
+use Rattle.racf_checkpoint.specs.Stored.{Beside, NowRead}
+use Rattle.racf_desk.specs.Durable.{WasPossible, LeavesIt}
+use Rattle.racf_desk.specs.Made.{DeskOn}
+use Rattle.racf_desk.specs.Position.{Position}
+use Rattle.racf_desk.specs.Recovery.{standing, Refuses, StandsFor}
 use Rattle.racf_run.specs.declared.status.Status.{Status}
-use Rattle.racf_run.specs.declared.status.Status.TheVariants.{ReadFault, WriteFault}
+use Rattle.racf_run.specs.declared.status.Status.TheVariants.{ReadFault, WriteFault, DiskFault, NotFormatted, Damaged, NoMemory}
+use Rattle.racf_run.specs.Durable.{StandsForFront}
 use Rattle.racf_run.specs.Runs.{Ran}
-use Rattle.racf_run.specs.Script.{stream, script_output, script_status}
+use Rattle.racf_run.specs.Script.{stream, script_output, script_status, fault_at, StandsAt}
+use Rattle.racf_run.specs.Stream.{State, new_stream, number_of}
 use Rattle.racf_run.specs.Making.{MakeWords, make_text, WroteText}
 
 -- the names of an input and of an output
@@ -21,19 +33,35 @@ script_files (verb ∷ input ∷ output ∷ []) =
     then Some (record { input = input; output = output }) else None
 script_files others = None
 
+-- The words `init`.
+abbrev pub is_init : List (List ℕ) → Bool
+is_init (verb ∷ []) = bytes_eq verb (codes "init")
+is_init others = false
+
+-- the status where a database couldn't be made or opened
+abbrev pub opening_status : StoreFault → Status
+opening_status fault.DiskFault = DiskFault
+opening_status fault.NotFormatted = NotFormatted
+opening_status (fault.Damaged place) = Damaged place
+opening_status fault.Full = NoMemory
+opening_status fault.NoMemory = NoMemory
+
 -- The stream was worked from the input `input` of a shelf to its output of the name `name`, which was new and empty,
--- and is given back: the outputs told `old` before, and tell `new` now.
-pub record RanTo (tells : Bool) (status : Status) (input : Option (List ℕ)) (name : List ℕ) (old new : List ℕ → Option (List ℕ)) : Type 0 where
+-- and is given back: the outputs told `old` before, and tell `new` now. It was worked from the position `base` on, and what
+-- stands behind it has P.
+pub record RanTo (P : State → Type 0) (base : Position) (tells : Bool) (status : Status) (input : Option (List ℕ)) (name : List ℕ) (old new : List ℕ → Option (List ℕ)) : Type 0 where
+  pub fault : Option ℕ
   pub left : Option (List ℕ)
-  pub ran : Ran stream status input left (told tells []) (new name)
+  pub ran : Ran (stream fault base) (λ s. (fault ≡ fault_at s.halted (number_of s)) × P s) status input left (told tells []) (new name)
   pub others : SameOthers name old new
 
 -- The calls that the program makes of a shelf of the kind S, whose inputs are of the kind I and whose outputs of the
 -- kind O: `source` and the other three say that a call was made. `output` is what the outputs of a shelf tell.
-module _ {S I O : Type 0} (source : S → List ℕ → Result I Failed → S → Type 0) (sink : S → List ℕ → Result O Failed → S → Type 0) (take_back : S → List ℕ → I → S → Type 0) (give_back : S → List ℕ → O → S → Type 0) (tells : Bool) (output : S → List ℕ → Option (List ℕ)) where
+module _ {S I O : Type 0} (source : S → List ℕ → Result I Failed → S → Type 0) (sink : S → List ℕ → Result O Failed → S → Type 0) (take_back : S → List ℕ → I → S → Type 0) (give_back : S → List ℕ → O → S → Type 0) (tells : Bool) (output : S → List ℕ → Option (List ℕ)) (P : State → Type 0) (base : Position) where
   -- The input couldn't be opened, and nothing else was called.
   pub record OpensNothing (status : Status) (files : Files) (old new : S) : Type 0 where
     pub is_status : status ≡ ReadFault
+    pub stands : P (new_stream base)
     pub failed : Failed
     pub input_asked : source old files.input (Err failed) new
     pub outputs : SameBytes (output old) (output new)
@@ -41,6 +69,7 @@ module _ {S I O : Type 0} (source : S → List ℕ → Result I Failed → S →
   -- The input was opened, the output then couldn't be, and the input was taken back.
   pub record OpensNoOutput (status : Status) (files : Files) (old new : S) : Type 0 where
     pub is_status : status ≡ WriteFault
+    pub stands : P (new_stream base)
     pub opened : I
     pub failed : Failed
     pub first : S
@@ -64,7 +93,7 @@ module _ {S I O : Type 0} (source : S → List ℕ → Result I Failed → S →
     pub worked_output : O
     pub input_back : take_back second files.input worked third
     pub output_back : give_back third files.output worked_output new
-    pub ran : RanTo tells status bytes files.output (output old) (output new)
+    pub ran : RanTo P base tells status bytes files.output (output old) (output new)
 
   -- how the program ends, and what it leaves
   abbrev pub RunsOnShelf : Status → Option (List ℕ) → Files → S → S → Type 0
@@ -98,10 +127,49 @@ module _ {S O : Type 0} (sink : S → List ℕ → Result O Failed → S → Typ
   abbrev pub MakesOnShelf : Status → MakeWords → S → S → Type 0
   MakesOnShelf status words old new = MakesNoOutput status words old new ⊎ MakesOutput status words old new
 
--- The output is the whole output of the input's bytes, where the shelf tells both, and the status is theirs.
-pub record IsWholeOutput (tells : Bool) (status : Status) (input output : Option (List ℕ)) : Type 0 where
-  pub written : IfSome input (λ bytes. output ≡ told tells (script_output bytes))
-  pub ended : IfSome input (λ bytes. status ≡ script_status bytes)
+-- The output is the whole output of the input's bytes from this position on, where the shelf tells both, and the status is
+-- theirs.
+pub record IsWholeOutput (base : Position) (tells : Bool) (status : Status) (input output : Option (List ℕ)) : Type 0 where
+  pub written : IfSome input (λ bytes. output ≡ told tells (script_output None base bytes))
+  pub ended : IfSome input (λ bytes. status ≡ script_status None base bytes)
+
+-- ---- the database
+-- The disks stood for this position where they were opened, as far as they tell.
+abbrev pub StoodFor : (first second : Option History) → Position → Type 0
+StoodFor first second base = NowRead first second (λ one other. standing one other ≡ Ok base)
+
+-- Whatever a crash now leaves of the disks stands for the position of this state, unless a disk failed.
+abbrev pub EndsOn : (first second : Option History) → State → Type 0
+EndsOn first second s = s.halted ≡ false → Now first (Leaves (Beside second (StandsFor s.position)))
+
+-- The desk stands where the state says, and, unless a disk failed, so do its disks.
+pub record EndsAt {D : Type 0} (tells : D → Option History) (desk : DeskOn D) (s : State) : Type 0 where
+  pub stands : StandsAt desk s
+  pub leaves : s.halted ≡ false → LeavesIt tells desk.store s.position
+
+-- The database couldn't be opened, for this fault, and nothing of the shelf was.
+pub record OpensNoDatabase {S : Type 0} (first second : Option History) (status : Status) (old new : S) : Type 0 where
+  pub why : StoreFault
+  pub is_status : status ≡ opening_status why
+  pub refused : NowRead first second (Refuses why)
+  pub kept : new ≡ old
+
+-- The database was opened at a position, and then this was run from there on.
+pub record OpensDatabase (first second : Option History) (runs : Position → Type 0) : Type 0 where
+  pub base : Position
+  pub stood : StoodFor first second base
+  pub ran : runs base
+
+-- Two files stand for what was possible when the database was opened, or for the position behind some front of the
+-- statements of the input, from the position on at which it was opened.
+abbrev pub StandsAlong : (first : Option History) → (second : Option History) → (before : Moment) → (input : Option (List ℕ)) → (one other : List ℕ) → Type 0
+StandsAlong first second before input one other =
+    WasPossible before one other ⊎ ((base : Position) × StoodFor first second base × StandsForFront base input one other)
+
+-- At every moment a crash leaves that.
+abbrev pub StaysAlongFrom : (second : Option History) → (input : Option (List ℕ)) → (old new : Option History) → Type 0
+StaysAlongFrom second input old new =
+    (before : Moment) → Now old (λ moment. moment ≡ before) → StaysIn (Beside second (StandsAlong old second before input)) old new
 
 -- Each output that is open now was open before: what the call opened was given back.
 abbrev pub OpensNone : (List ℕ → Bool) → (List ℕ → Bool) → Type 0

@@ -4,7 +4,7 @@ use Rattle.racf_desk.specs.Words as words
 use Rattle.racf_run.specs.declared.reply.Refusal.{Refusal}
 use Rattle.racf_run.specs.declared.reply.Refusal.TheVariants as refusal
 use Rattle.racf_run.specs.declared.reply.Reply.{Reply}
-use Rattle.racf_run.specs.declared.reply.Reply.TheVariants.{Accepted, Refused}
+use Rattle.racf_run.specs.declared.reply.Reply.TheVariants.{Accepted, Refused, DiskFault, Halted}
 
 -- why a line was refused
 abbrev pub refusal_words : Refusal → List ℕ
@@ -13,6 +13,8 @@ refusal_words refusal.LineTooLong = codes "LINETOOLONG"
 
 abbrev pub reply_words : Reply → List ℕ
 reply_words Accepted = codes "ACCEPTED"
+reply_words DiskFault = codes "DISKFAULT"
+reply_words Halted = codes "HALTED"
 reply_words (Refused why) = codes "REFUSED " ++ refusal_words why
 
 -- A line is printed for each: the number, a blank, and the words.

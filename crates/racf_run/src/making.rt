@@ -1,9 +1,10 @@
 //! The generated text, written with the counts of what its stream is answered.
 
-ghost use Rattle.std.specs.Prelude.{◌≡◌, ◌⊎◌, ◌<◌, ◌≤◌, length, IfOk};
+ghost use Rattle.std.specs.Prelude.{◌≡◌, ◌⊎◌, ◌<◌, ◌≤◌, false, None, length, IfOk};
 ghost use Rattle.racf_outside.specs.Causes.{Rose};
 ghost use Rattle.racf_generator.specs.MadeText.{made_text};
 ghost use Rattle.racf_run.specs.Making.{make_text, summary_text, most_users, WroteText};
+ghost use Rattle.racf_desk.specs.Position.{first_position};
 ghost use Rattle.racf_run.specs.Script.{script_output};
 
 use crate::replies::write_all;
@@ -11,14 +12,15 @@ use crate::scripts::script;
 use crate::status::Status;
 use racf_generator::laws::made_text_is_short;
 use racf_generator::{AnswerTally, MadeText, line_count};
-use racf_outside::{Failed, Sink, Source};
+use racf_desk::Desk;
+use racf_outside::{Failed, NeverDisk, Sink, Source, Two};
 use std::alloc::{AllocError, Global};
 
 /// How many bytes of the text are written at once.
 const BLOCK: usize = 65_536;
 
 /// Writes the generated text of so many users, at most 10,000, to the sink, and behind it a line with the counts of what
-/// `script` answers to it, which is worked out over a database of its own. Neither the text nor the answers are kept, so
+/// `script` answers to it, which is worked out over a new database that no disk keeps. Neither the text nor the answers are kept, so
 /// that memory grows with the database alone. `NoMemory` comes also where a source or a sink in memory wants memory.
 pub fn make<O: Sink>(alloc: Global, users: u32, sink: &mut O) -> Status
     requires few { users ≤ most_users }
@@ -101,15 +103,42 @@ fn summary_line(alloc: Global, users: u32) -> Result<Vec<u8>, AllocError>
 /// What the stream of the generated text is answered, counted.
 fn tallied(alloc: Global, users: u32) -> Result<AnswerTally, AllocError>
     requires few { users ≤ most_users }
-    ensures { IfOk result (λ answers. answers.taken ≡ script_output (made_text users)) }
+    ensures { IfOk result (λ answers. answers.taken ≡ script_output None first_position (made_text users)) }
 {
     made_text_is_short();
+    let Ok(desk) = new_desk(alloc) else {
+        return Err(AllocError);
+    };
     let mut answers = AnswerTally::new(alloc);
-    let (status, _) = script(alloc, MadeText::new(alloc, users), &mut answers);
+    let (status, _, desk) = script(alloc, MadeText::new(alloc, users), &mut answers, desk);
+    let Two {
+        first: NeverDisk,
+        second: NeverDisk,
+    } = desk.into_disks();
     match status {
         Status::Done | Status::Refusals => Ok(answers),
         Status::ReadFault | Status::WriteFault | Status::NoMemory => Err(AllocError),
-        Status::Usage | Status::InputTooLong => unreachable!(),
+        Status::Usage
+        | Status::InputTooLong
+        | Status::DiskFault
+        | Status::NotFormatted
+        | Status::Damaged(_) => unreachable!(),
+    }
+}
+
+/// A desk over a new database that nothing keeps.
+fn new_desk(alloc: Global) -> Result<Desk<NeverDisk>, AllocError>
+    ensures position { IfOk result (λ desk. desk.position ≡ first_position) }
+    ensures running { IfOk result (λ desk. desk.halted ≡ false) }
+    ensures settled { IfOk result (λ desk. desk.committed ≡ false) }
+{
+    let disks = Two {
+        first: NeverDisk,
+        second: NeverDisk,
+    };
+    match Desk::format(alloc, disks) {
+        Ok(desk) => Ok(desk),
+        Err(_) => Err(AllocError),
     }
 }
 

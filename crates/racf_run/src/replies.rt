@@ -4,11 +4,12 @@ ghost use Rattle.std.specs.Prelude.{◌≡◌, [], OnOk, OnErr};
 ghost use Rattle.std.specs.Io.KnownBytes.{append_known};
 ghost use Rattle.racf_outside.specs.Causes.{HasCause};
 ghost use Rattle.racf_run.specs.Gathering.{IsCutShort};
-ghost use Rattle.racf_run.specs.Stream.{DoesAs, answer};
+ghost use Rattle.racf_run.specs.Durable.{DoesOn, Moves, fault_in};
+ghost use Rattle.racf_run.specs.Stream.{answer};
 
 use crate::statement::Statement;
 use crate::stream::Stream;
-use racf_outside::{Failed, Sink};
+use racf_outside::{Disk, Failed, Sink};
 use std::alloc::{AllocError, Global};
 use std::marker::Model;
 
@@ -16,18 +17,18 @@ use std::marker::Model;
 /// of its bytes.
 #[derive(Drop)]
 pub(crate) struct Replies {
-    /// The text that waits.
+    /// The text that waits, but for the newest reply.
     text: Vec<u8>,
-    /// Room for the newest reply, until it stands whole.
+    /// The newest reply. It has room of its own, so that nothing is wanted behind a command that stands on the disks.
     newest: Vec<u8>,
 }
 
 impl Model for Replies {
-    ghost use Rattle.std.specs.Prelude.{ℕ, List};
+    ghost use Rattle.std.specs.Prelude.{ℕ, List, ◌++◌};
 
     ghost Value = { List ℕ };
 
-    ghost view = { λ a. a.text.items };
+    ghost view = { λ a. a.text.items ++ a.newest.items };
 }
 
 impl Replies {
@@ -41,20 +42,25 @@ impl Replies {
         }
     }
 
-    /// Processes a statement, and gathers its text. Where memory is short, nothing more is gathered.
-    pub(crate) fn gather(
+    /// Processes a statement, and gathers its text. Where memory is short, nothing more is gathered, and nothing else has
+    /// changed.
+    pub(crate) fn gather<D: Disk>(
         &mut self,
         alloc: Global,
-        stream: &mut Stream,
+        stream: &mut Stream<D>,
         item: &Statement,
     ) -> Result<(), AllocError>
-        ensures ok { OnOk result (DoesAs (answer item.now stream.old) stream.new self.old self.new) }
-        ensures err { OnErr result (self.new ≡ self.old) }
+        ensures ok { OnOk result (DoesOn (answer (fault_in stream.new) item.now) stream.old stream.new self.old self.new) }
+        ensures err { OnErr result ((self.new ≡ self.old) × (stream.new ≡ stream.old)) }
+        ensures moves { Moves D.tells D.faults item.now stream.old stream.new }
     {
-        self.newest.clear();
-        stream.process(alloc, item, &mut self.newest)?;
         self.text.extend_from_slice(self.newest.as_slice())?;
-        Ok(())
+        self.newest.clear();
+        let done = stream.process(alloc, item, &mut self.newest);
+        if done.is_err() {
+            self.newest.clear();
+        }
+        done
     }
 
     /// Writes what is gathered. Where that fails, it stays.
@@ -66,7 +72,9 @@ impl Replies {
         ensures cause { HasCause (O.faults sink.old) (O.faults sink.new) result }
     {
         write_all(sink, self.text.as_slice())?;
+        write_all(sink, self.newest.as_slice())?;
         self.text.clear();
+        self.newest.clear();
         Ok(())
     }
 }

@@ -19,8 +19,12 @@ pub enum Refusal {
 /// What is printed for a line, after the number.
 #[derive(Drop)]
 pub enum Reply {
-    /// The command was worked.
+    /// The command was worked, and stands on the disks.
     Accepted,
+    /// A disk failed the command.
+    DiskFault,
+    /// A disk failed an earlier command.
+    Halted,
     /// The line was refused, and changed nothing.
     Refused(Refusal),
 }
@@ -56,6 +60,8 @@ impl Reply {
     {
         match self {
             Reply::Accepted => out.extend_from_slice(b"ACCEPTED"),
+            Reply::DiskFault => out.extend_from_slice(b"DISKFAULT"),
+            Reply::Halted => out.extend_from_slice(b"HALTED"),
             Reply::Refused(refusal) => {
                 out.extend_from_slice(b"REFUSED ")?;
                 refusal.write(out)

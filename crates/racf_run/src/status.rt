@@ -1,6 +1,6 @@
 ghost use Rattle.std.specs.Prelude.{◌≡◌};
 ghost use Rattle.std.specs.Option.{option_map};
-ghost use Rattle.racf_run.specs.Status.{code_of, message_of};
+ghost use Rattle.racf_run.specs.Status.{code_of, message_of, place_of};
 
 /// How a run of the program ended. The statuses and their codes are this product's own.
 #[derive(Clone, Copy, Debug, PartialEq, Eq)]
@@ -15,6 +15,12 @@ pub enum Status {
     ReadFault,
     /// An output couldn't be opened, or writing it failed.
     WriteFault,
+    /// A disk failed.
+    DiskFault,
+    /// The disks hold no database.
+    NotFormatted,
+    /// The first disk holds what can't be read, from this place on.
+    Damaged(u64),
     /// Memory ran out.
     NoMemory,
     /// A line doesn't end within the longest input, 2^28 bytes.
@@ -32,6 +38,8 @@ impl Status {
             Status::Usage => 8,
             Status::ReadFault => 12,
             Status::WriteFault => 16,
+            Status::DiskFault => 20,
+            Status::NotFormatted | Status::Damaged(_) => 24,
             Status::NoMemory => 28,
             Status::InputTooLong => 36,
         }
@@ -46,8 +54,21 @@ impl Status {
             Status::Usage => Some("USAGE"),
             Status::ReadFault => Some("READ FAULT"),
             Status::WriteFault => Some("WRITE FAULT"),
+            Status::DiskFault => Some("DISK FAULT"),
+            Status::NotFormatted => Some("NOT FORMATTED"),
+            Status::Damaged(_) => Some("DAMAGED AT"),
             Status::NoMemory => Some("NO MEMORY"),
             Status::InputTooLong => Some("INPUT TOO LONG"),
+        }
+    }
+
+    /// The place that stands behind the message, where it names one.
+    pub fn place(self) -> Option<u64>
+        ensures { result ≡ place_of self }
+    {
+        match self {
+            Status::Damaged(place) => Some(place),
+            _ => None,
         }
     }
 }

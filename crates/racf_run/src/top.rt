@@ -1,10 +1,17 @@
 //! The top call: the words of the command line, over a shelf of named inputs and outputs.
 
-ghost use Rattle.std.specs.Prelude.{◌≡◌, ◌⊎◌, ◌↔◌, ◌≤◌, ◌<◌, map, IsNone, IsTrue, IfSome, length, string_bytes};
+ghost use Rattle.std.specs.Prelude.{ℕ, ◌≡◌, ◌≢◌, ◌⊎◌, ◌↔◌, ◌≤◌, ◌<◌, ◌||◌, true, false, map, is_some, IsNone, IsSome, IsTrue, IfSome, length, string_bytes};
 ghost use Rattle.std.specs.Option.{option_map};
 ghost use Rattle.racf_outside.specs.Causes.{Rose};
+ghost use Rattle.racf_outside.specs.Crashes.{Leaves};
+ghost use Rattle.racf_outside.specs.Disk.{Now};
 ghost use Rattle.racf_outside.specs.Shelf.{SameBytes};
-ghost use Rattle.racf_run.specs.Racf.{script_files, RunsOnShelf, MakesOnShelf, IsWholeOutput, OpensNone};
+ghost use Rattle.racf_checkpoint.specs.Stored.{Beside};
+ghost use Rattle.racf_desk.specs.Position.{first_position};
+ghost use Rattle.racf_desk.specs.Recovery.{StandsFor};
+ghost use Rattle.racf_run.specs.Durable.{StaysAlong};
+ghost use Rattle.racf_run.specs.Racf.{script_files, is_init, opening_status, RunsOnShelf, MakesOnShelf, IsWholeOutput, OpensNone};
+ghost use Rattle.racf_run.specs.Racf.{OpensNoDatabase, OpensDatabase, EndsOn, EndsAt, StaysAlongFrom};
 ghost use Rattle.racf_run.specs.Making.{make_words, most_users};
 ghost use Rattle.racf_run.specs.Runs.{longest_input};
 ghost use Rattle.racf_run.specs.Script.{is_whole};
@@ -12,7 +19,9 @@ ghost use Rattle.racf_run.specs.Script.{is_whole};
 use crate::making::make;
 use crate::scripts::script;
 use crate::status::Status;
-use racf_outside::{Failed, Shelf};
+use racf_checkpoint::StoreFault;
+use racf_desk::Desk;
+use racf_outside::{Disk, Failed, Shelf, Two};
 use request_files::number_word;
 use std::alloc::Global;
 
@@ -37,48 +46,149 @@ struct MakeWords<'a> {
     output: &'a str,
 }
 
-/// The program: works what the words ask for, over the inputs and outputs of a shelf. The words `script IN OUT` work
-/// the stream of the input IN, and write to the output OUT; IN and OUT differ or are both `-`. The words `make N OUT`
-/// write the generated text of N users, from 1 to 10,000, to the output OUT. Other words are `Usage`. (The words are this
-/// product's own.)
+/// The program: works what the words ask for, over the inputs and outputs of a shelf and the database on the disks. The
+/// word `init` makes a new database, whatever the disks held. The words `script IN OUT` open the database, work the stream
+/// of the input IN, and write to the output OUT; IN and OUT differ or are both `-`. The words `make N OUT` write the
+/// generated text of N users, from 1 to 10,000, to the output OUT. Other words are `Usage`. (The words are this product's
+/// own.)
 ///
-/// The input is opened first, then the output; each that was opened is handed back, under its name.
-pub fn racf<F: Shelf>(alloc: Global, words: &[String], shelf: &mut F) -> Status
-    // Which calls it makes of the shelf, in which order, and what the outputs tell afterwards, wherever the stream
-    // stopped.
+/// The database is opened first, then the input, then the output; each that was opened is handed back, under its name.
+pub fn racf<F: Shelf, D: Disk>(
+    alloc: Global,
+    words: &[String],
+    shelf: &mut F,
+    disks: Two<D>,
+) -> (Status, Two<D>)
+    // The database is opened, or why not. Which calls are made of the shelf then, in which order, what the outputs tell
+    // afterwards, wherever the stream stopped, and what every crash leaves of the disks behind it.
     ensures runs { IfSome (script_files (map string_bytes words.now)) (λ files.
+        OpensNoDatabase (D.tells disks.first) (D.tells disks.second) result.0 shelf.old shelf.new
+        ⊎ OpensDatabase (D.tells disks.first) (D.tells disks.second) (λ base.
         RunsOnShelf F.source_gives F.sink_gives F.take_back_gives F.give_back_gives F.tells F.output
-        result (F.input shelf.old files.input) files shelf.old shelf.new) }
+        (EndsOn (D.tells result.1.first) (D.tells result.1.second)) base
+        result.0 (F.input shelf.old files.input) files shelf.old shelf.new)) }
+
+    // Where the input was read to its end and no disk failed, all of its output was written, and nothing else.
+    ensures whole { IsTrue (is_whole result.0) → IfSome (script_files (map string_bytes words.now)) (λ files.
+        OpensDatabase (D.tells disks.first) (D.tells disks.second) (λ base.
+        IsWholeOutput base F.tells result.0 (F.input shelf.old files.input) (F.output shelf.new files.output))) }
+
+    // What every crash leaves meanwhile.
+    ensures moments { IfSome (script_files (map string_bytes words.now)) (λ files.
+        StaysAlongFrom (D.tells disks.second) (F.input shelf.old files.input) (D.tells disks.first) (D.tells result.1.first)) }
 
     ensures makes { IfSome (make_words (map string_bytes words.now)) (λ asked.
-        MakesOnShelf F.sink_gives F.give_back_gives F.tells F.output result asked shelf.old shelf.new) }
+        MakesOnShelf F.sink_gives F.give_back_gives F.tells F.output result.0 asked shelf.old shelf.new) }
 
-    // Where the input was read to its end, all of its output was written, and nothing else.
-    ensures whole { IsTrue (is_whole result) → IfSome (script_files (map string_bytes words.now)) (λ files.
-        IsWholeOutput F.tells result (F.input shelf.old files.input) (F.output shelf.new files.output)) }
+    // A new database: every crash leaves what stands for it.
+    ensures new { is_init (map string_bytes words.now) ≡ true → result.0 ≡ Status.Done →
+        Now (D.tells result.1.first) (Leaves (Beside (D.tells result.1.second) (StandsFor first_position))) }
+    ensures new_or_not { is_init (map string_bytes words.now) ≡ true →
+        (result.0 ≡ Status.Done) ⊎ ((result.0 ≡ Status.DiskFault) ⊎ (result.0 ≡ Status.NoMemory)) }
 
     // Why it stopped.
-    ensures usage { (result ≡ Status.Usage) ↔ (IsNone (script_files (map string_bytes words.now)) × IsNone (make_words (map string_bytes words.now))) }
-    ensures nothing_opened { result ≡ Status.Usage → shelf.new ≡ shelf.old }
-    ensures read_fault { result ≡ Status.ReadFault → Rose (F.source_faults shelf.old) (F.source_faults shelf.new) }
-    ensures write_fault { result ≡ Status.WriteFault → Rose (F.sink_faults shelf.old) (F.sink_faults shelf.new) }
-    ensures too_long { result ≡ Status.InputTooLong → IfSome (script_files (map string_bytes words.now)) (λ files.
+    ensures usage { (result.0 ≡ Status.Usage) ↔ (IsNone (script_files (map string_bytes words.now)) × IsNone (make_words (map string_bytes words.now))
+        × (is_init (map string_bytes words.now) ≡ false)) }
+    ensures nothing_opened { (result.0 ≡ Status.Usage) ⊎ (is_init (map string_bytes words.now) ≡ true) → shelf.new ≡ shelf.old }
+    ensures read_fault { result.0 ≡ Status.ReadFault → Rose (F.source_faults shelf.old) (F.source_faults shelf.new) }
+    ensures write_fault { result.0 ≡ Status.WriteFault → Rose (F.sink_faults shelf.old) (F.sink_faults shelf.new) }
+    ensures disk_fault { result.0 ≡ Status.DiskFault → Rose (D.faults disks.first) (D.faults result.1.first) }
+    ensures too_long { result.0 ≡ Status.InputTooLong → IfSome (script_files (map string_bytes words.now)) (λ files.
         IfSome (F.input shelf.old files.input) (λ bytes. longest_input < length bytes)) }
-    ensures not_too_long { IsTrue (is_whole result) → IfSome (script_files (map string_bytes words.now)) (λ files.
+    ensures not_too_long { IsTrue (is_whole result.0) → IfSome (script_files (map string_bytes words.now)) (λ files.
         IfSome (F.input shelf.old files.input) (λ bytes. length bytes ≤ longest_input)) }
 
     // What stays.
+    ensures untouched { (result.0 ≡ Status.Usage) ⊎ IsSome (make_words (map string_bytes words.now)) → result.1 ≡ disks }
+    ensures second { result.1.second ≡ disks.second }
     ensures inputs { SameBytes (F.input shelf.old) (F.input shelf.new) }
     ensures handed_back { OpensNone (F.is_open shelf.old) (F.is_open shelf.new) }
     ensures source_faults { F.source_faults shelf.old ≤ F.source_faults shelf.new }
     ensures sink_faults { F.sink_faults shelf.old ≤ F.sink_faults shelf.new }
+    ensures disk_faults { D.faults disks.first ≤ D.faults result.1.first }
 {
     if let Some(files) = script_files(words) {
-        return script_between(alloc, files.input, files.output, shelf);
+        return script_on(alloc, files.input, files.output, shelf, disks);
     }
-    match make_words(words) {
+    if is_init(words) {
+        return init(alloc, disks);
+    }
+    let status = match make_words(words) {
         Some(asked) => make_into(alloc, asked.users, asked.output, shelf),
         None => Status::Usage,
+    };
+    (status, disks)
+}
+
+/// Whether the words are of a form that works on the disks. Where they aren't, `racf` leaves the disks as they are, so that
+/// a program need not open them.
+pub fn works_on_disks(words: &[String]) -> bool
+    ensures { result ≡ is_some (script_files (map string_bytes words.now)) || is_init (map string_bytes words.now) }
+{
+    script_files(words).is_some() || is_init(words)
+}
+
+/// Makes a new database on the disks.
+fn init<D: Disk>(alloc: Global, disks: Two<D>) -> (Status, Two<D>)
+    ensures ends { (result.0 ≡ Status.Done) ⊎ ((result.0 ≡ Status.DiskFault) ⊎ (result.0 ≡ Status.NoMemory)) }
+    ensures new { result.0 ≡ Status.Done → Now (D.tells result.1.first) (Leaves (Beside (D.tells result.1.second) (StandsFor first_position))) }
+    ensures disk_fault { result.0 ≡ Status.DiskFault → Rose (D.faults disks.first) (D.faults result.1.first) }
+    ensures second { result.1.second ≡ disks.second }
+    ensures disk_faults { D.faults disks.first ≤ D.faults result.1.first }
+{
+    match Desk::format(alloc, disks) {
+        Ok(desk) => (Status::Done, desk.into_disks()),
+        Err((disks, why)) => (opening_status(why), disks),
+    }
+}
+
+/// Opens the database on the disks, and works a stream from an input of a shelf to an output.
+fn script_on<F: Shelf, D: Disk>(
+    alloc: Global,
+    input: &str,
+    output: &str,
+    shelf: &mut F,
+    disks: Two<D>,
+) -> (Status, Two<D>)
+    ensures runs { OpensNoDatabase (D.tells disks.first) (D.tells disks.second) result.0 shelf.old shelf.new
+        ⊎ OpensDatabase (D.tells disks.first) (D.tells disks.second) (λ base.
+        RunsOnShelf F.source_gives F.sink_gives F.take_back_gives F.give_back_gives F.tells F.output
+        (EndsOn (D.tells result.1.first) (D.tells result.1.second)) base
+        result.0 (F.input shelf.old input.now) (record { input = input.now; output = output.now }) shelf.old shelf.new) }
+    ensures whole { IsTrue (is_whole result.0) → OpensDatabase (D.tells disks.first) (D.tells disks.second) (λ base.
+        IsWholeOutput base F.tells result.0 (F.input shelf.old input.now) (F.output shelf.new output.now)) }
+    ensures moments { StaysAlongFrom (D.tells disks.second) (F.input shelf.old input.now) (D.tells disks.first) (D.tells result.1.first) }
+    ensures usage { result.0 ≢ Status.Usage }
+    ensures read_fault { result.0 ≡ Status.ReadFault → Rose (F.source_faults shelf.old) (F.source_faults shelf.new) }
+    ensures write_fault { result.0 ≡ Status.WriteFault → Rose (F.sink_faults shelf.old) (F.sink_faults shelf.new) }
+    ensures disk_fault { result.0 ≡ Status.DiskFault → Rose (D.faults disks.first) (D.faults result.1.first) }
+    ensures too_long { result.0 ≡ Status.InputTooLong → IfSome (F.input shelf.old input.now) (λ bytes. longest_input < length bytes) }
+    ensures not_too_long { IsTrue (is_whole result.0) → IfSome (F.input shelf.old input.now) (λ bytes. length bytes ≤ longest_input) }
+    ensures second { result.1.second ≡ disks.second }
+    ensures inputs { SameBytes (F.input shelf.old) (F.input shelf.new) }
+    ensures handed_back { OpensNone (F.is_open shelf.old) (F.is_open shelf.new) }
+    ensures source_faults { F.source_faults shelf.old ≤ F.source_faults shelf.new }
+    ensures sink_faults { F.sink_faults shelf.old ≤ F.sink_faults shelf.new }
+    ensures disk_faults { D.faults disks.first ≤ D.faults result.1.first }
+{
+    match Desk::open(alloc, disks) {
+        Ok(desk) => {
+            let (status, desk) = script_between(alloc, input, output, shelf, desk);
+            (status, desk.into_disks())
+        }
+        Err((disks, why)) => (opening_status(why), disks),
+    }
+}
+
+/// The status where a database couldn't be made or opened.
+fn opening_status(why: StoreFault) -> Status
+    ensures { result ≡ opening_status why }
+{
+    match why {
+        StoreFault::DiskFault => Status::DiskFault,
+        StoreFault::NotFormatted => Status::NotFormatted,
+        StoreFault::Damaged(place) => Status::Damaged(place),
+        StoreFault::Full | StoreFault::NoMemory => Status::NoMemory,
     }
 }
 
@@ -102,35 +212,61 @@ fn make_into<F: Shelf>(alloc: Global, users: u32, output: &str, shelf: &mut F) -
     status
 }
 
-/// Works a stream from an input of a shelf to an output.
-fn script_between<F: Shelf>(alloc: Global, input: &str, output: &str, shelf: &mut F) -> Status
+/// Works a stream from an input of a shelf to an output, at a desk that was opened.
+fn script_between<F: Shelf, D: Disk>(
+    alloc: Global,
+    input: &str,
+    output: &str,
+    shelf: &mut F,
+    desk: Desk<D>,
+) -> (Status, Desk<D>)
+    requires running { desk.halted ≡ false }
+    requires settled { desk.committed ≡ false }
     ensures runs { RunsOnShelf F.source_gives F.sink_gives F.take_back_gives F.give_back_gives F.tells F.output
-        result (F.input shelf.old input.now) (record { input = input.now; output = output.now }) shelf.old shelf.new }
-    ensures whole { IsTrue (is_whole result) → IsWholeOutput F.tells result (F.input shelf.old input.now) (F.output shelf.new output.now) }
-    ensures read_fault { result ≡ Status.ReadFault → Rose (F.source_faults shelf.old) (F.source_faults shelf.new) }
-    ensures write_fault { result ≡ Status.WriteFault → Rose (F.sink_faults shelf.old) (F.sink_faults shelf.new) }
-    ensures too_long { result ≡ Status.InputTooLong → IfSome (F.input shelf.old input.now) (λ bytes. longest_input < length bytes) }
-    ensures not_too_long { IsTrue (is_whole result) → IfSome (F.input shelf.old input.now) (λ bytes. length bytes ≤ longest_input) }
+        (EndsAt D.tells result.1) desk.position
+        result.0 (F.input shelf.old input.now) (record { input = input.now; output = output.now }) shelf.old shelf.new }
+    ensures whole { IsTrue (is_whole result.0) → IsWholeOutput desk.position F.tells result.0 (F.input shelf.old input.now) (F.output shelf.new output.now) }
+    ensures moments { StaysAlong D.tells desk.position (F.input shelf.old input.now) desk.store result.1.store }
+    ensures second { result.1.store.second ≡ desk.store.second }
+    ensures no_other { (result.0 ≢ Status.Usage) × (result.0 ≢ Status.NotFormatted) }
+    ensures undamaged { (place : ℕ) → result.0 ≢ Status.Damaged place }
+    ensures read_fault { result.0 ≡ Status.ReadFault → Rose (F.source_faults shelf.old) (F.source_faults shelf.new) }
+    ensures write_fault { result.0 ≡ Status.WriteFault → Rose (F.sink_faults shelf.old) (F.sink_faults shelf.new) }
+    ensures disk_fault { result.0 ≡ Status.DiskFault → Rose (D.faults desk.store.journal.disk) (D.faults result.1.store.journal.disk) }
+    ensures too_long { result.0 ≡ Status.InputTooLong → IfSome (F.input shelf.old input.now) (λ bytes. longest_input < length bytes) }
+    ensures not_too_long { IsTrue (is_whole result.0) → IfSome (F.input shelf.old input.now) (λ bytes. length bytes ≤ longest_input) }
     ensures inputs { SameBytes (F.input shelf.old) (F.input shelf.new) }
     ensures handed_back { OpensNone (F.is_open shelf.old) (F.is_open shelf.new) }
     ensures source_faults { F.source_faults shelf.old ≤ F.source_faults shelf.new }
     ensures sink_faults { F.sink_faults shelf.old ≤ F.sink_faults shelf.new }
+    ensures disk_faults { D.faults desk.store.journal.disk ≤ D.faults result.1.store.journal.disk }
 {
+    desk.is_at_rest();
     let source = match shelf.source(input) {
         Ok(source) => source,
-        Err(Failed) => return Status::ReadFault,
+        Err(Failed) => return (Status::ReadFault, desk),
     };
     let mut sink = match shelf.sink(output) {
         Ok(sink) => sink,
         Err(Failed) => {
             shelf.take_back(input, source);
-            return Status::WriteFault;
+            return (Status::WriteFault, desk);
         }
     };
-    let (status, source) = script(alloc, source, &mut sink);
+    let (status, source, desk) = script(alloc, source, &mut sink, desk);
     shelf.take_back(input, source);
     shelf.give_back(output, sink);
-    status
+    (status, desk)
+}
+
+/// Whether the words are `init`.
+fn is_init(words: &[String]) -> bool
+    ensures { result ≡ is_init (map string_bytes words.now) }
+{
+    let [verb] = words else {
+        return false;
+    };
+    verb.as_str() == "init"
 }
 
 /// The files that the words name, where they are `script IN OUT`, and IN and OUT differ or are both `-`.

@@ -1,32 +1,39 @@
 -- What a reader of an output finds there: the lines that each statement prints, in the order of the statements.
-use Rattle.std.specs.Prelude.{◌≡◌, ◌⊎◌, ℕ, ◌==◌, nat_eq, Bool, ◌||◌, List, [], ◌∷◌, ◌++◌, codes, if◌then◌else◌}
+use Rattle.std.specs.Prelude.{◌≡◌, ◌⊎◌, ℕ, ◌==◌, nat_eq, Bool, ◌||◌, Option, Ok, List, [], ◌∷◌, ◌++◌, codes, if◌then◌else◌}
 use Rattle.std.specs.List.{starts_with, onto_first}
 use Rattle.racf_outside.specs.Lines.{NoFeed}
 use Rattle.request_files.specs.Answers.{numbered, never_line}
 use Rattle.racf_run.specs.declared.statement.Statement.{Statement}
-use Rattle.racf_run.specs.Stream.{State, number_of, step, text}
-use Rattle.racf_run.specs.Script.{stream}
+use Rattle.racf_desk.specs.Position.{Position}
+use Rattle.racf_desk.specs.Recovery.{recovered}
+use Rattle.racf_run.specs.Stream.{State, new_stream, number_of, step, text}
+use Rattle.racf_run.specs.Script.{statements}
 
--- A statement at its turn: what stands before it.
+-- A statement at its turn: what stands before it, and where a disk fails a command, if one does.
 pub record Turn : Type 0 where
+  pub fault : Option ℕ
   pub item : Statement
   pub before : State
 
 -- the turns of these statements, from a state on
-abbrev pub turns : List Statement → State → List Turn
-turns [] s = []
-turns (item ∷ items) s = record { item = item; before = s } ∷ turns items (step item s)
+abbrev pub turns : (fault : Option ℕ) → List Statement → State → List Turn
+turns fault [] s = []
+turns fault (item ∷ items) s = record { fault = fault; item = item; before = s } ∷ turns fault items (step fault item s)
 
--- the turns of a whole input
-abbrev pub input_turns : List ℕ → List Turn
-input_turns bytes = turns (stream.items bytes) stream.start
+-- the turns of a whole input, from a position on
+abbrev pub input_turns : (fault : Option ℕ) → (base : Position) → List ℕ → List Turn
+input_turns fault base bytes = turns fault (statements.items bytes) (new_stream base)
+
+-- Some disks stand for this position.
+abbrev pub IsReached : Position → Type 0
+IsReached base = (records : List (List ℕ)) × (recovered records ≡ Ok base)
 
 -- what is printed at a turn, and what stands behind it
 abbrev pub printed : Turn → List ℕ
-printed turn = text turn.item turn.before
+printed turn = text turn.fault turn.item turn.before
 
 abbrev pub behind : Turn → State
-behind turn = step turn.item turn.before
+behind turn = step turn.fault turn.item turn.before
 
 -- What is printed at a turn: nothing; or one line, whose words hold no line feed and stand behind the number of the
 -- commands that have been accepted, this one counted; or such a line and an AUDIT line; or that this number is never
@@ -67,3 +74,7 @@ behind_blank (byte ∷ bytes) = if byte == 32 then bytes else behind_blank bytes
 -- A line says that a line of the input was refused: REFUSED stands behind its number, or NEVER in front.
 abbrev pub says_refused : List ℕ → Bool
 says_refused line = starts_with nat_eq line (codes "NEVER ") || starts_with nat_eq (behind_blank line) (codes "REFUSED ")
+
+-- A line says that a disk failed a command.
+abbrev pub says_failed : List ℕ → Bool
+says_failed line = starts_with nat_eq (behind_blank line) (codes "DISKFAULT")

@@ -3,7 +3,8 @@
 ghost use Rattle.std.specs.Prelude.{◌≡◌, ◌≤◌, ◌++◌, true, false, Some, OnOk, OnErr, IfOk, IfErr};
 ghost use Rattle.racf_outside.specs.Causes.{Rose};
 ghost use Rattle.racf_desk.specs.Durable.{LeavesIt};
-ghost use Rattle.racf_desk.specs.Made.{made_in, installed};
+ghost use Rattle.racf_desk.specs.Made.{made_in};
+ghost use Rattle.racf_run.specs.Durable.{Settles};
 
 use crate::issuer::{first_issuer, issuer_refusal};
 use crate::reply::{Refusal, Reply};

@@ -9,9 +9,12 @@ pub mod Judged
 pub mod FrontLaws
 pub mod StatementLaws
 pub mod Pieces
+pub mod Faults
 pub mod Processing
 pub mod Settling
 pub mod StreamWalk
+pub mod Moments
+pub mod Resting
 pub mod PrintedLaws
 pub mod Feedless
 pub mod FeedlessNames

@@ -2,3 +2,4 @@ mod IssuerLaws
 pub mod TextLaws
 mod MakingLaws
 mod OutcomeRows
+pub mod RecoveryLaws

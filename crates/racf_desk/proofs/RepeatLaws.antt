@@ -1,16 +1,11 @@
 -- Where a recovery is behind the records that it repeated.
-use Rattle.std.proofs.Common.{◌≡◌, ℕ, ◌+◌, ◌<◌, ◌≤◌, ◌^◌, ◌⊎◌, Bool, true, false, cond, List, [], ◌∷◌, ◌++◌, length, take, drop, get_or, Option, Some, None, Result, Ok, Err, inl, inr, refl, sym, ◌∙◌, ap, subst, arith, length-append, drop-cons, add-one}
-use Rattle.std.specs.Prelude.{nat_le, option_map}
+use Rattle.std.proofs.Common.{◌≡◌, ℕ, ◌+◌, ◌<◌, ◌≤◌, ◌^◌, ◌⊎◌, List, [], ◌∷◌, ◌++◌, length, take, drop, get_or, Option, Some, None, Result, Ok, Err, inl, inr, refl, sym, ◌∙◌, ap, subst, arith, length-append, drop-cons, add-one}
 use Rattle.std.specs.Result.{result_ok}
 use Rattle.std.proofs.lemmas.List.{take_more, take_all, take-append-drop}
 use Rattle.racf_profiles.specs.declared.rows.Rows.{Rows}
-use Rattle.command_conflicts.specs.declared.conflict.Conflict.{Conflict}
-use Rattle.command_conflicts.specs.Conflicts.{conflict_of, first_conflict_of}
-use Rattle.command_authority.specs.declared.needs.Need.{Need}
-use Rattle.command_authority.specs.Authority.{need}
+use Rattle.command_conflicts.specs.Conflicts.{conflict_of}
 use Rattle.command_effects.specs.Effects.{step}
 use Rattle.journal_records.specs.declared.record.CommandRecord.{CommandRecord}
-use Rattle.journal_records.specs.declared.record.RecordFault.{RecordFault}
 use Rattle.journal_records.specs.Reading.{record_of}
 use Rattle.journal_records.specs.Spelling.{spelled as record_bytes}
 use Rattle.racf_journal.specs.Reading.{spelled}
@@ -18,16 +13,16 @@ use Rattle.racf_checkpoint.specs.declared.fault.StoreFault.{StoreFault}
 use Rattle.racf_checkpoint.specs.declared.fault.StoreFault.TheVariants.{NoMemory}
 use Rattle.racf_desk.specs.declared.recovery.Recovery.{Recovery}
 use Rattle.racf_desk.specs.declared.refusal.Refusal.{Refusal}
-use Rattle.racf_desk.specs.declared.refusal.Refusal.TheVariants as refusal
 use Rattle.racf_desk.specs.Outcome.{most_number, first_of, rules_of, number_spent, judged}
 use Rattle.racf_desk.specs.Position.{Position, first_position, position_behind}
-use Rattle.racf_desk.specs.Recovery.{unless_faulty, refusal_again, outcome_again, behind_outcome, behind_record, behind_records}
+use Rattle.racf_desk.specs.Recovery.{unless_faulty, refusal_again, behind_outcome, behind_record, behind_records}
 use Rattle.racf_desk.specs.Recovering.{IsAt}
-use Rattle.racf_desk.proofs.MakingLaws.{within}
+use Rattle.racf_desk.proofs.MakingLaws.{unspent, within}
 use Rattle.racf_desk.proofs.RecoveryLaws.{judged_parts, same_again, behind_append}
 
 -- ---- one record
 
+-- What is found there was accepted.
 accepted_of : {X E : Type 0} (r : Result X E) (x : X) → Some x ≡ result_ok r → r ≡ Ok x
 accepted_of (Ok other) x h = cc
 accepted_of (Err why) x h = cc
@@ -38,20 +33,6 @@ unrefused (Some why) spent h = cc
 unrefused None (Some why) h = cc
 unrefused None None h = (refl, refl)
 
-no_conflict : (first : Option Conflict) (lacking : Option (List Need)) (conflict : Option Conflict)
-    → first_of (option_map refusal.Conflict first ∷ option_map refusal.Need lacking ∷ option_map refusal.Conflict conflict ∷ []) ≡ None → conflict ≡ None
-no_conflict (Some early) lacking conflict h = cc
-no_conflict None (Some needs) conflict h = cc
-no_conflict None None (Some late) h = cc
-no_conflict None None None h = refl
-
-numbered : (number : ℕ) → number_spent number ≡ None → number + 1 ≤ most_number
-numbered number h = by (nat_le most_number number) refl h
-  where
-    by : (b : Bool) → nat_le most_number number ≡ b → cond b (Some refusal.NumberSpent) None ≡ None → number + 1 ≤ most_number
-    by true is h = cc
-    by false is h = within number is
-
 -- What is accepted again is the record, it has no conflict, and there is a number for it.
 pub accepted_again_is : (rows : Rows) (number : ℕ) (asked given : CommandRecord)
     → Some given ≡ result_ok (judged (refusal_again number rows) rows asked.issuer.id (Some asked.issuer.group) asked.command)
@@ -59,9 +40,12 @@ pub accepted_again_is : (rows : Rows) (number : ℕ) (asked given : CommandRecor
 accepted_again_is rows number asked given h =
     let judges = accepted_of (judged (refusal_again number rows) rows asked.issuer.id (Some asked.issuer.group) asked.command) given h in
     let none = unrefused (rules_of rows given) (number_spent number) (judged_parts (refusal_again number rows) rows asked.issuer.id (Some asked.issuer.group) asked.command given judges).2 in
-    (same_again (refusal_again number rows) rows asked given judges,
-    no_conflict (first_conflict_of given.issuer given.command rows) (need rows given.issuer given.command) (conflict_of given.issuer given.command rows) none.0,
-    numbered number none.1)
+    let allowed : rules_of rows given ≡ None = none.0 in
+    let no_conflict : conflict_of given.issuer given.command rows ≡ None = grind arith in (
+      same_again (refusal_again number rows) rows asked given judges,
+      no_conflict,
+      within number (unspent number none.1),
+    )
 
 -- One record further, a recovery is at the position behind it.
 pub repeated : (old new : Recovery) (asked given : CommandRecord) (bytes : List ℕ)
@@ -71,23 +55,24 @@ pub repeated : (old new : Recovery) (asked given : CommandRecord) (bytes : List 
     → (position : Position) → IsAt old position → (next : Position) × IsAt new next × (behind_record position (record_of bytes) ≡ Ok next)
 repeated old new asked given bytes reads spells h rows number gate position at =
     let parts = accepted_again_is old.database.rows old.number asked given h in
-    let long : length bytes ≡ length (record_bytes given) = ap length (spells ∙ ap record_bytes (sym parts.0)) in
-    (position_behind position given,
-    record {
-      rows = rows ∙ ap (step given.issuer given.command) at.rows;
-      number = number ∙ ap (λ n. n + 1) at.number;
-      gate = let is = at.gate in omega arith;
-      within = subst (λ n. n ≤ most_number) (sym number) parts.2;
-    },
-    ap (behind_record position) reads
-    ∙ ap (behind_outcome position)
-    (ap (λ (r : Rows). judged (refusal_again position.image.generation r) r asked.issuer.id (Some asked.issuer.group) asked.command) (sym at.rows)
-    ∙ ap (λ n. judged (refusal_again n old.database.rows) old.database.rows asked.issuer.id (Some asked.issuer.group) asked.command) (sym at.number)
-    ∙ accepted_of (judged (refusal_again old.number old.database.rows) old.database.rows asked.issuer.id (Some asked.issuer.group) asked.command) given h))
+    let long : length bytes ≡ length (record_bytes given) = ap length (spells ∙ ap record_bytes (sym parts.0)) in (
+      position_behind position given,
+      record {
+        rows = rows ∙ ap (step given.issuer given.command) at.rows;
+        number = number ∙ ap (λ n. n + 1) at.number;
+        gate = let is = at.gate in omega arith;
+        within = subst (λ n. n ≤ most_number) (sym number) parts.2;
+      },
+      ap (behind_record position) reads
+          ∙ ap (behind_outcome position)
+          (ap (λ (r : Rows). judged (refusal_again position.image.generation r) r asked.issuer.id (Some asked.issuer.group) asked.command) (sym at.rows)
+          ∙ ap (λ n. judged (refusal_again n old.database.rows) old.database.rows asked.issuer.id (Some asked.issuer.group) asked.command) (sym at.number)
+          ∙ accepted_of (judged (refusal_again old.number old.database.rows) old.database.rows asked.issuer.id (Some asked.issuer.group) asked.command) given h),
+    )
 
 -- ---- many records
 
--- Each record stands behind its gate.
+-- Records with others behind them take as many bytes as both.
 spelled_append : (records others : List (List ℕ)) → length (spelled (records ++ others)) ≡ length (spelled records) + length (spelled others)
 spelled_append [] others = omega arith
 spelled_append (first ∷ records) others =
@@ -117,7 +102,7 @@ pub fits : (records : List (List ℕ)) (i : ℕ) (bytes : List ℕ) (recovery : 
 fits records i bytes recovery within is room led =
     let gate = led.gate in
     let whole : length (spelled records) ≡ length (spelled (take i records)) + length (spelled (bytes ∷ drop (i + 1) records)) =
-            sym (ap (λ (all : List (List ℕ)). length (spelled all)) (parted records i bytes within is)) ∙ spelled_append (take i records) (bytes ∷ drop (i + 1) records) in
+    sym (ap (λ (all : List (List ℕ)). length (spelled all)) (parted records i bytes within is)) ∙ spelled_append (take i records) (bytes ∷ drop (i + 1) records) in
     let first : length (spelled (bytes ∷ drop (i + 1) records)) ≡ 1 + (length bytes + length (spelled (drop (i + 1) records))) = simp length-append (omega arith) in
     omega arith
 
@@ -156,7 +141,7 @@ led_to_damage records i bytes recovery why within is led (inr fault) =
     ∙ ap (λ (found : Result Position StoreFault). unless_faulty found (behind_records (bytes ∷ drop (i + 1) records))) led.leads
     ∙ ap (λ (found : Result Position StoreFault). unless_faulty found (behind_records (drop (i + 1) records))) (fault led.position led.is_at))
 
--- All of them led there.
+-- Behind the last, all of them led there.
 pub all_led : (records : List (List ℕ)) (i : ℕ) (recovery : Recovery) → length records ≤ i → HasLed (take i records) recovery
     → (position : Position) × IsAt recovery position × (behind_records records first_position ≡ Ok position)
 all_led records i recovery past led =

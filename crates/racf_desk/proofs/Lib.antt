@@ -3,3 +3,4 @@ pub mod TextLaws
 mod MakingLaws
 mod OutcomeRows
 pub mod RecoveryLaws
+mod DeskLaws

@@ -17,6 +17,7 @@ use Rattle.racf_checkpoint.proofs.Steps.{IsStoredSome, SaysSome, stored_leaves, 
 use Rattle.journal_records.specs.declared.record.CommandRecord.{CommandRecord}
 use Rattle.journal_records.specs.Spelling.{spelled}
 use Rattle.racf_database.specs.Contents.{Contents as Database}
+use Rattle.racf_desk.specs.declared.answers.Ready.{Ready}
 use Rattle.racf_desk.specs.declared.desk.Desk.TheInside.{Inside}
 use Rattle.racf_desk.specs.declared.refusal.Refusal.{Refusal}
 use Rattle.racf_desk.specs.declared.refusal.Refusal.TheVariants as refusal
@@ -67,17 +68,18 @@ ready_at database position given made is prepared image recorded accepted unrefu
     }
 
 -- the same of a command with that outcome over the rows
-pub ready : (database : Database) (position : Position) (number : ℕ) (rows : Rows) (id : List ℕ) (group : Option (List ℕ)) (text : List ℕ) (given : CommandRecord) (made : Made)
+pub ready : (database : Database) (position : Position) (number : ℕ) (rows : Rows) (id : List ℕ) (group : Option (List ℕ)) (text : List ℕ) (given : CommandRecord) (value made : Ready)
     → number ≡ position.image.generation → position.image.state.rows ≡ rows → database.rows ≡ rows
-    → Ok given ≡ outcome_in position.gate number rows id group text → refusal_of position.gate number rows given ≡ None
-    → made ≡ made_at position.image given → database.prepared ≡ Some made.change → IsImageOf (changed made.change.edits rows) made.behind
-    → IsRecorded given → IsReady database position made
-ready database position number rows id group text given made counts shows same decided unrefused is prepared image recorded =
+    → Ok given ≡ outcome_in position.gate number rows id group text → refusal_of position.gate number rows given ≡ None → IsRecorded given
+    → value ≡ made → made_in made ≡ made_at position.image given → database.prepared ≡ Some made.change → IsImageOf (changed made.change.edits rows) (arc_value made.image)
+    → IsReady database position (made_in value)
+ready database position number rows id group text given value made counts shows same decided unrefused recorded seen is prepared image =
     let here : outcome position id group text ≡ Ok given =
         ap (λ (r : Rows). outcome_in position.gate position.image.generation r id group text) shows ∙ ap (λ n. outcome_in position.gate n rows id group text) (sym counts) ∙ sym decided in
-    ready_at database position given made is prepared (subst (λ (r : Rows). IsImageOf (changed made.change.edits r) made.behind) (sym same) image) recorded
+    subst (λ (r : Ready). IsReady database position (made_in r)) (sym seen)
+    (ready_at database position given (made_in made) is prepared (subst (λ (r : Rows). IsImageOf (changed made.change.edits r) (arc_value made.image)) (sym same) image) recorded
     (accepted_leads position id group text given here)
-    (ap (λ (r : Rows). refusal_of position.gate position.image.generation r given) shows ∙ ap (λ n. refusal_of position.gate n rows given) (sym counts) ∙ unrefused)
+    (ap (λ (r : Rows). refusal_of position.gate position.image.generation r given) shows ∙ ap (λ n. refusal_of position.gate n rows given) (sym counts) ∙ unrefused))
 
 -- Behind an accepted command stands what was made of it.
 pub behind_made : (position : Position) (one : Result CommandRecord Refusal) (made : Made) → made_of_outcome position.image one ≡ Ok made → position_after position one ≡ installed position made
@@ -159,9 +161,15 @@ stands_settled : (committed : Bool) (made : Option Made) (position : Position) �
 stands_settled true made position settled = cc
 stands_settled false made position settled = refl
 
-pub kept_stands : {D : Type 0} (tells : D → Option History) (desk : Inside D) → IsKept tells desk → desk.committed ≡ false → desk.halted ≡ false → StandsThere tells desk.store (contents_of desk).position
+kept_stands : {D : Type 0} (tells : D → Option History) (desk : Inside D) → IsKept tells desk → desk.committed ≡ false → desk.halted ≡ false → StandsThere tells desk.store (contents_of desk).position
 kept_stands tells desk kept settled runs =
     subst (StandsThere tells desk.store) (stands_settled desk.committed (contents_of desk).made (contents_of desk).position settled) (kept.stands runs)
+
+-- so whatever is made
+pub still_stands : {D : Type 0} (tells : D → Option History) (desk : Inside D) (made : Option Made) → IsKept tells desk → desk.committed ≡ false → desk.halted ≡ false
+    → StandsThere tells desk.store (stands_at desk.committed made (contents_of desk).position)
+still_stands tells desk made kept settled runs =
+    subst (StandsThere tells desk.store) (sym (stands_settled desk.committed made (contents_of desk).position settled)) (kept_stands tells desk kept settled runs)
 
 pub kept_leaves : {D : Type 0} (tells : D → Option History) (desk : Inside D) (seen : DeskOn D) → IsKept tells desk → contents_of desk ≡ seen → seen.committed ≡ false → seen.halted ≡ false → LeavesIt tells seen.store seen.position
 kept_leaves {D} tells desk seen kept is =

@@ -7,7 +7,7 @@ use Rattle.std.proofs.lemmas.Bool.{ltb-false}
 use Rattle.racf_outside.specs.Crashes.{Leaves, StaysIn}
 use Rattle.racf_outside.specs.Disk.{History, Now}
 use Rattle.racf_outside.specs.Moments.{Moment}
-use Rattle.racf_outside.proofs.Runs.{Leaves-weaker, StaysIn-weaker}
+use Rattle.racf_outside.proofs.Runs.{Leaves-weaker, StaysIn-none, StaysIn-weaker}
 use Rattle.racf_profiles.specs.Edits.{changed}
 use Rattle.racf_profiles.specs.declared.rows.Rows.{Rows}
 use Rattle.racf_journal.specs.Reading.{IsRecord}
@@ -115,6 +115,14 @@ at_rest tells store position stands h told =
     Leaves-weaker (Beside (tells store.second) (SaysSome (LeadTo position))) (Beside (tells store.second) (StandsFor position)) h.now
     (beside_weaker (SaysSome (LeadTo position)) (StandsFor position) (tells store.second) (stands_by position))
     (stored_leaves (LeadTo position) 8 position.gate (tells store.second) h.now (stands.durable h told))
+
+-- A call that puts nothing on the disks leaves them at rest.
+pub rests_on : {D : Type 0} (tells : D → Option History) (old new : StoreOn D) (position next : Position) → new ≡ old → LeavesIt tells old position → StaysEither tells old new position next
+rests_on {D} tells old new position next same leaves =
+    subst (λ (s : StoreOn D). StaysEither tells old s position next) (sym same)
+    (StaysIn-none (Beside (tells old.second) (StandsForEither position next)) (tells old.journal.disk)
+    (λ h told. Leaves-weaker (Beside (tells old.second) (StandsFor position)) (Beside (tells old.second) (StandsForEither position next)) h.now
+    (beside_weaker (StandsFor position) (StandsForEither position next) (tells old.second) (λ first other stands. inl stands)) (leaves h told)))
 
 -- it holds some records there
 holds : {D : Type 0} (tells : D → Option History) (store : StoreOn D) (position : Position) → StandsThere tells store position

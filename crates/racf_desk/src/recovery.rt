@@ -109,7 +109,10 @@ impl Recovery {
         let Some(issued) = accepted_again(self.number, &self.database, given) else {
             return Err(StoreFault::Damaged(self.gate));
         };
-        let Ok(change) = self.database.prepare(alloc, &issued.issuer, &issued.command) else {
+        let Ok(change) = self
+            .database
+            .prepare(alloc, &issued.issuer, &issued.command)
+        else {
             return Err(StoreFault::NoMemory);
         };
         self.database.apply(change);

@@ -5,3 +5,4 @@ mod OutcomeRows
 mod RecoveryRows
 pub mod RecoveryLaws
 mod RepeatLaws
+mod DeskLaws

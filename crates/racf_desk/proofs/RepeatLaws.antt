@@ -146,3 +146,6 @@ pub all_led : (records : List (List ℕ)) (i : ℕ) (recovery : Recovery) → le
     → (position : Position) × IsAt recovery position × (behind_records records first_position ≡ Ok position)
 all_led records i recovery past led =
     (led.position, led.is_at, sym (ap (λ (all : List (List ℕ)). behind_records all first_position) (take_all i records past)) ∙ led.leads)
+
+pub all_counted : (records : List (List ℕ)) (i : ℕ) (recovery : Recovery) → length records ≤ i → HasLed (take i records) recovery → recovery.gate ≡ 8 + length (spelled records)
+all_counted records i recovery past led = led.gate ∙ ap (λ (all : List (List ℕ)). 8 + length (spelled all)) (take_all i records past)

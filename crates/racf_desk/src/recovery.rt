@@ -43,6 +43,7 @@ pub(crate) fn recover(alloc: Global, records: &[Text]) -> Result<Recovered, Stor
     requires room { 8 + length (spelled records.now) < 2 ^ 64 }
     ensures position { IfOk result (λ found. recovered records.now ≡ Ok (record { image = arc_value found.image; gate = found.gate })) }
     ensures image { IfOk result (λ found. IsImageOf found.database.rows (arc_value found.image)) }
+    ensures gate { IfOk result (λ found. found.gate ≡ 8 + length (spelled records.now)) }
     ensures fault { IfErr result (λ why. (recovered records.now ≡ Err why) ⊎ (why ≡ NoMemory)) }
 {
     let recovery = Recovery::of(alloc, records)?;
@@ -83,6 +84,7 @@ impl Recovery {
     fn of(alloc: Global, records: &[Text]) -> Result<Recovery, StoreFault>
         requires room { 8 + length (spelled records.now) < 2 ^ 64 }
         ensures recovered { IfOk result (λ recovery. (position : Position) × IsAt recovery position × (behind_records records.now first_position ≡ Ok position)) }
+        ensures gate { IfOk result (λ recovery. recovery.gate ≡ 8 + length (spelled records.now)) }
         ensures fault { IfErr result (λ why. (behind_records records.now first_position ≡ Err why) ⊎ (why ≡ NoMemory)) }
     {
         let mut recovery = Recovery::new(alloc)?;

@@ -1,5 +1,5 @@
 use Rattle.std.proofs.Common.{◌≡◌, Err, refl, rules}
-use Rattle.racf_desk.proofs.RepeatLaws.{item_at, fits, led_on, led_to_damage, all_led}
+use Rattle.racf_desk.proofs.RepeatLaws.{item_at, fits, led_on, led_to_damage, all_led, all_counted}
 use Rattle.racf_desk.proofs.recovery.Recovery.of.Goals as goal
 
 -- no record led to a new database
@@ -30,3 +30,6 @@ loop-record-preserved c =
 -- and all led there
 pub returns-clause-recovered : goal.returns-clause-recovered
 returns-clause-recovered c = all_led c.args.records.now c.loop-record.record-index c.loop-record.recovery c.loop-record-test.false c.loop-record.invariant
+
+pub returns-clause-gate : goal.returns-clause-gate
+returns-clause-gate c = all_counted c.args.records.now c.loop-record.record-index c.loop-record.recovery c.loop-record-test.false c.loop-record.invariant

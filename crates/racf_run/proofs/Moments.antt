@@ -39,6 +39,10 @@ stands_walked base source reader s before now gathered w position is one other s
 beside_weaker : (second : Option History) (P Q : List ℕ → List ℕ → Type 0) (one : List ℕ) → ((other : List ℕ) → P one other → Q one other) → Beside second P one → Beside second Q one
 beside_weaker second P Q one weaker p history told = Leaves-weaker (P one) (Q one) history.now weaker (p history told)
 
+new_position : (base : Position) → base ≡ (new_stream base).position
+unfolding new_stream
+new_position base = refl
+
 -- before the first statement
 pub StaysAlong-none : {D : Type 0} (tells : D → Option History) (base : Position) (source : Option (List ℕ)) (store : StoreOn D) → LeavesIt tells store base → StaysAlong tells base source store store
 StaysAlong-none tells base source store leaves =
@@ -47,10 +51,6 @@ StaysAlong-none tells base source store leaves =
     StaysIn-none (Beside (tells store.second) (StandsForFront base source)) (tells store.journal.disk)
     (λ h told. Leaves-weaker (Beside (tells store.second) (StandsFor base)) (Beside (tells store.second) (StandsForFront base source)) h.now
     (λ one. beside_weaker (tells store.second) (StandsFor base) (StandsForFront base source) one (front one)) (leaves h told))
-  where
-    new_position : (base : Position) → base ≡ (new_stream base).position
-    unfolding new_stream
-    new_position base = refl
 
 module _ {D : Type 0} (tells : D → Option History) (faults : D → ℕ) (base : Position) (source : Option (List ℕ)) (first : StoreOn D) (s t : StreamOn D) where
   -- nothing was done to the disks
@@ -67,16 +67,16 @@ module _ {D : Type 0} (tells : D → Option History) (faults : D → ℕ) (base 
       let is : (answer None item s.state).state.position ≡ next.position = ap (λ (x : State). x.position) (sym (step_is None item s.state)) in
       let behind : Walk m source new next before now (gathered ++ output m (item ∷ []) s.state) = Walk-items m (item ∷ []) bytes source old new s.state next before now gathered (gathered ++ output m (item ∷ []) s.state) w takes refl refl in
       let front : (one other : List ℕ) → StandsForEither s.state.position (answer None item s.state).state.position one other → StandsForFront base source one other =
-      by_either (stands_walked base source old s.state before now gathered w s.state.position refl) (stands_walked base source new next before now (gathered ++ output m (item ∷ []) s.state) behind (answer None item s.state).state.position is) in
+      by_either s.state.position (answer None item s.state).state.position (stands_walked base source old s.state before now gathered w s.state.position refl) (stands_walked base source new next before now (gathered ++ output m (item ∷ []) s.state) behind (answer None item s.state).state.position is) in
       StaysIn-joined along
       (StaysIn-weaker (Beside (tells first.second) (StandsForFront base source)) either
       (λ h told one p. beside_weaker (tells first.second) (StandsForEither s.state.position (answer None item s.state).state.position) (StandsForFront base source) one (front one)
       (subst (λ (d : D). Beside (tells d) (StandsForEither s.state.position (answer None item s.state).state.position) one) second p)))
     where
-      by_either : {p q : Position} → ((one other : List ℕ) → StandsFor p one other → StandsForFront base source one other) → ((one other : List ℕ) → StandsFor q one other → StandsForFront base source one other)
+      by_either : (p q : Position) → ((one other : List ℕ) → StandsFor p one other → StandsForFront base source one other) → ((one other : List ℕ) → StandsFor q one other → StandsForFront base source one other)
           → (one other : List ℕ) → StandsForEither p q one other → StandsForFront base source one other
-      by_either l r one other (inl x) = l one other x
-      by_either l r one other (inr x) = r one other x
+      by_either p q l r one other (inl x) = l one other x
+      by_either p q l r one other (inr x) = r one other x
 
   -- a statement, where there is one
   pub moved : (old new : Reader) (given : Option Statement) (bytes : List ℕ) (before now : Option (List ℕ)) (gathered : List ℕ)

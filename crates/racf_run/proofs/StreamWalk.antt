@@ -35,6 +35,11 @@ begun base reader s before gathered fresh new none =
     let at_none : StreamWalk base reader.left reader s before before [] = subst (λ (x : State). StreamWalk base reader.left reader x before before []) (sym new) at_new in
     subst (λ (bytes : List ℕ). StreamWalk base reader.left reader s before before bytes) (sym none) at_none
 
+-- no disk has failed then
+pub new_runs : (base : Position) (s : State) → s ≡ new_stream base → s.halted ≡ false
+unfolding new_stream
+new_runs base s new = ap (λ (x : State). x.halted) new
+
 pub passed_none : (reader : Reader) → reader ≡ at_start reader.left reader.faults → reader.passed ≤ 2 ^ 28
 passed_none reader fresh = subst (λ (r : Reader). r.passed ≤ 2 ^ 28) (sym fresh) (omega arith)
 
@@ -49,7 +54,7 @@ goes_on base (Some item) bytes source old new s t before now gathered more w tak
     (fault_of_next base source old item s.state t.state before now gathered (works.state ∙ step_is (fault_in t) item s.state) w) takes works.state works.text
 
 module _ (base : Position) (P : State → Type 0) (source : Option (List ℕ)) (old new : Reader) (s : State) (before now then : Option (List ℕ)) (gathered : List ℕ) (w : StreamWalk base source old s before now gathered) (p : P s) where
-  m : Machine State Statement
+  abbrev pub m : Machine State Statement
   m = stream (fault_at s.halted (number_of s)) base
 
   at_stop : (why : Stop) → then ≡ append_known now gathered → NextsStatement (Err why) old new → new.passed ≤ 2 ^ 28 → Ran m P (stop_status why s.halted s.has_refused) source new.left before then
@@ -74,3 +79,13 @@ module _ (base : Position) (P : State → Type 0) (source : Option (List ℕ)) (
   unanswered status (inl wrote) =
       subst (λ (x : Status). Ran m P x source new.left before then) (sym wrote.0) (walked_to_item m P source new.left old s before now then gathered w p wrote.1)
   unanswered status (inr fails) = cut status fails.1 fails.0
+
+-- likewise where the stream is known to be as it was
+pub unanswered_at : {D : Type 0} (base : Position) (source : Option (List ℕ)) (old : Reader) (left : Option (List ℕ)) (s t : StreamOn D) (before now then : Option (List ℕ)) (gathered more : List ℕ) (status : Status)
+    → StreamWalk base source old s.state before now gathered → (t ≡ s) × (more ≡ gathered) → Ends stop.NoMemory t.state.halted t.state.has_refused status more now then
+    → Ran (stream (fault_in t) base) (λ (x : State). t.state ≡ x) status source left before then
+unanswered_at base source old left s t before now then gathered more status w same ends =
+    let walk : StreamWalk base source old t.state before now more =
+    subst (λ (bytes : List ℕ). StreamWalk base source old t.state before now bytes) (sym same.1)
+    (subst (λ x. StreamWalk base source old x before now gathered) (ap (λ x. x.state) (sym same.0)) w) in
+    unanswered base (λ (x : State). t.state ≡ x) source old (record old { left = left }) t.state before now then more walk refl status ends

@@ -106,7 +106,7 @@ stands_by_either position next first second (records, says, inl leads) = inl (st
 stands_by_either position next first second (records, says, inr leads) = inr (standing_by next records first second says leads)
 
 -- what files of the first disk have beside whatever the second leaves, where they have more than that
-beside_weaker : (P Q : (first second : List ℕ) → Type 0) (second : Option History) → ((first other : List ℕ) → P first other → Q first other) → (first : List ℕ) → Beside second P first → Beside second Q first
+pub beside_weaker : (P Q : (first second : List ℕ) → Type 0) (second : Option History) → ((first other : List ℕ) → P first other → Q first other) → (first : List ℕ) → Beside second P first → Beside second Q first
 beside_weaker P Q second weaker first p other told = Leaves-weaker (P first) (Q first) other.now (weaker first) (p other told)
 
 -- Where a store stands at a position, every crash leaves what stands for it.

@@ -117,14 +117,15 @@ impl<D: Disk> Desk<D> {
     fn fresh(alloc: Global, found: Recovered, store: Store<D>) -> Desk<D>
         requires image { IsImageOf found.database.rows (arc_value found.image) }
         requires stands { StandsThere D.tells store (record { image = arc_value found.image; gate = found.gate }) }
-        ensures { result ≡ is_fresh (record { image = arc_value found.image; gate = found.gate }) store }
+        ensures desk { result ≡ is_fresh (record { image = arc_value found.image; gate = found.gate }) store }
+        ensures leaves { LeavesIt D.tells result.store result.position }
     {
         let Recovered {
             database,
             image,
             gate,
         } = found;
-        Desk {
+        let desk = Desk {
             alloc,
             database,
             image,
@@ -133,7 +134,9 @@ impl<D: Disk> Desk<D> {
             halted: false,
             made: None,
             committed: false,
-        }
+        };
+        desk.is_at_rest();
+        desk
     }
 
     /// How many commands were accepted.

@@ -39,6 +39,10 @@ anew (Err why) position leads = cc
 leads_anew : (records : List (List ℕ)) (position : Position) → recovered records ≡ Ok position → LeadTo position records
 leads_anew records position leads = leads ∙ ap (λ (p : Position). Ok p) (anew (behind_records records first_position) position leads)
 
+-- No record leads to a new database.
+pub new_is_first : (position : Position) → recovered [] ≡ Ok position → position ≡ first_position
+new_is_first position leads = let same : restarted first_position ≡ position = cc in sym same
+
 -- The store that was loaded stands there.
 pub stands_there : {D : Type 0} (tells : D → Option History) (store : StoreOn D) (records : List (List ℕ)) (position : Position) → Stores tells store records
     → store.journal.start ≡ 8 → store.journal.gate ≡ 8 + length (spelled records) → position.gate ≡ 8 + length (spelled records) → recovered records ≡ Ok position

@@ -154,7 +154,10 @@ fn accepted_again(number: u64, database: &Database, given: CommandRecord) -> Opt
         return None;
     };
     let given = CommandRecord { issuer, command };
-    if rules_of(database, &given).is_some() || number >= MOST_NUMBER {
+    if rules_of(database, &given).is_some() {
+        return None;
+    }
+    if number >= MOST_NUMBER {
         return None;
     }
     Some(given)

@@ -1,7 +1,7 @@
 -- What an opening finds: where the records lead that were loaded, and why they may not.
-use Rattle.std.proofs.Common.{◌≡◌, ℕ, ◌+◌, List, [], ◌∷◌, length, Option, Some, Result, Ok, Err, ◌⊎◌, inl, inr, refl, sym, ◌∙◌, ap, subst}
+use Rattle.std.proofs.Common.{◌≡◌, ℕ, ◌+◌, List, [], ◌∷◌, length, Option, Result, Ok, Err, ◌⊎◌, inl, inr, refl, sym, ◌∙◌, ap, subst}
 use Rattle.std.specs.Prelude.{◌≢◌}
-use Rattle.racf_outside.specs.Disk.{History, Now}
+use Rattle.racf_outside.specs.Disk.{History}
 use Rattle.racf_outside.specs.Moments.{Moment}
 use Rattle.racf_outside.proofs.Runs.{StaysIn-weaker}
 use Rattle.racf_journal.specs.Reading.{spelled}
@@ -15,7 +15,7 @@ use Rattle.journal_records.specs.Reading.{record_of}
 use Rattle.racf_desk.specs.declared.refusal.Refusal.{Refusal}
 use Rattle.racf_desk.specs.Position.{Position, first_position, restarted}
 use Rattle.racf_desk.specs.Recovery.{unless_faulty, outcome_again, behind_outcome, behind_record, behind_records, recovered, standing, Refuses}
-use Rattle.racf_desk.specs.Durable.{LeadTo, IsDurable, StandsThere, WasPossible, StaysPossible}
+use Rattle.racf_desk.specs.Durable.{LeadTo, StandsThere, WasPossible, StaysPossible}
 use Rattle.racf_desk.proofs.DeskLaws.{beside_weaker}
 
 -- What is read of both disks has more, where that is known of every file.

@@ -195,7 +195,15 @@ impl<D: Disk> Desk<D> {
         if self.halted {
             return Err(Reply::Halted(number));
         }
-        let given = match outcome_in(alloc, self.gate, number, &self.database, issuer, group, text) {
+        let given = match outcome_in(
+            alloc,
+            self.gate,
+            number,
+            &self.database,
+            issuer,
+            group,
+            text,
+        ) {
             Ok(Ok(given)) => given,
             Ok(Err(why)) => return Err(Reply::Refused(number, why)),
             Err(_) => return Err(Reply::NoMemory),

@@ -195,7 +195,7 @@ impl<D: Disk> Desk<D> {
         if self.halted {
             return Err(Reply::Halted(number));
         }
-        let outcome = outcome_in(
+        let given = match outcome_in(
             alloc,
             self.gate,
             number,
@@ -203,8 +203,7 @@ impl<D: Disk> Desk<D> {
             issuer,
             group,
             text,
-        );
-        let given = match outcome {
+        ) {
             Ok(Ok(given)) => given,
             Ok(Err(why)) => return Err(Reply::Refused(number, why)),
             Err(_) => return Err(Reply::NoMemory),

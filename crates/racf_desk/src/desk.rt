@@ -208,6 +208,7 @@ impl<D: Disk> Desk<D> {
             Ok(Err(why)) => return Err(Reply::Refused(number, why)),
             Err(_) => return Err(Reply::NoMemory),
         };
+        // Its record is one of the journal, and short.
         is_recorded(&given);
         let Ok(ready) = make(alloc, &mut self.database, &self.image, &given) else {
             return Err(Reply::NoMemory);
@@ -283,6 +284,7 @@ impl<D: Disk> Desk<D> {
         ensures cause { self.old.halted ≡ false → self.new.halted ≡ true → Rose (D.faults self.old.store.journal.disk) (D.faults self.new.store.journal.disk) }
         ensures no_fewer { D.faults self.old.store.journal.disk ≤ D.faults self.new.store.journal.disk }
     {
+        // A refusal leaves the disks as they stand.
         self.is_at_rest();
         let ready = match self.judge(alloc, issuer, group, text) {
             Ok(ready) => ready,

@@ -6,6 +6,7 @@ pub mod CutLaws
 pub mod Walk
 pub mod MarkLaws
 pub mod Judged
+pub mod CommandLaws
 pub mod FrontLaws
 pub mod StatementLaws
 pub mod Pieces

@@ -14,6 +14,7 @@ pub mod Processing
 pub mod Settling
 pub mod StreamWalk
 pub mod PrintedLaws
+pub mod FailedLaws
 pub mod Feedless
 pub mod FeedlessNames
 pub mod FeedlessRows

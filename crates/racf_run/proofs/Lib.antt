@@ -23,6 +23,8 @@ pub mod FeedlessConflicts
 pub mod FeedlessNeeds
 pub mod FeedlessDecisions
 pub mod FeedlessLines
+pub mod FeedlessOutcomes
+pub mod FeedlessReached
 pub mod FeedlessTurns
 pub mod OutputLaws
 pub mod OutputLines

@@ -1,6 +1,6 @@
 -- What a command prints at its turn and where it leads, and whom the line of an issuer leaves.
 use Rattle.std.proofs.Common.{◌≡◌, ℕ, Bool, true, false, List, Result, Ok, Err, refl, sym, ◌∙◌, ap, true≢false}
-use Rattle.std.specs.Prelude.{Option, unwrap_or, if◌then◌else◌}
+use Rattle.std.specs.Prelude.{unwrap_or, if◌then◌else◌}
 use Rattle.std.specs.Result.{result_ok}
 use Rattle.journal_records.specs.declared.record.CommandRecord.{CommandRecord}
 use Rattle.racf_desk.specs.declared.refusal.Refusal.{Refusal}

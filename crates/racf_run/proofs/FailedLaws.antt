@@ -32,7 +32,7 @@ use Rattle.racf_run.specs.Replies.{refusal_words, reply_line}
 use Rattle.racf_run.specs.IssuerLines.{issuer_refusal}
 use Rattle.racf_run.specs.Stream as s
 use Rattle.racf_run.specs.Stream.{State, Answer, number_of}
-use Rattle.racf_run.specs.Printed.{behind_blank, says_failed}
+use Rattle.racf_run.specs.Printed.{says_failed}
 use Rattle.racf_run.proofs.PrintedLaws.{AllDigits, decimal-AllDigits, behind_digits, numbered_parts, numbered_front}
 
 -- ---- what a line says, by its words

@@ -1,8 +1,7 @@
 -- The outcome of a command holds no line feed where the rows hold none: neither the words of a refusal, nor what an
 -- accepted command leaves.
-use Rattle.std.proofs.Common.{◌≡◌, ℕ, ◌+◌, Bool, true, false, List, [], ◌∷◌, ◌++◌, Option, None, Some, Result, Ok, Err, refl, length, codes}
+use Rattle.std.proofs.Common.{◌≡◌, ℕ, ◌+◌, Bool, true, false, List, ◌∷◌, ◌++◌, Option, None, Some, Result, Ok, Err, refl, length, codes}
 use Rattle.std.specs.Prelude.{nat_le, nat_lt, IfSome, option_map, is_ok}
-use Rattle.std.specs.List.{AllByRecursion}
 use Rattle.racf_profiles.specs.declared.rows.Rows.{Rows}
 use Rattle.racf_profiles.specs.Lookup.{is_user, user_of}
 use Rattle.racf_profiles.specs.declared.users.User.{User}

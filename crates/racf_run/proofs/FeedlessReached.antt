@@ -1,6 +1,6 @@
 -- Where records lead no name holds a line feed.
 use Rattle.std.proofs.Common.{◌≡◌, ℕ, Bool, true, false, List, [], ◌∷◌, take, drop, Option, None, Some, Result, Ok, Err, refl, sym, subst, true≢false, length}
-use Rattle.std.specs.Prelude.{◌==◌, not, ◌||◌, nat_lt, is_ok, if◌then◌else◌}
+use Rattle.std.specs.Prelude.{nat_lt, is_ok, if◌then◌else◌}
 use Rattle.access_levels.specs.Spelling.{id_of, group_of}
 use Rattle.racf_profiles.specs.declared.class_rows.ClassRow.{ClassRow}
 use Rattle.racf_profiles.specs.declared.rows.Rows.{Rows}
@@ -17,7 +17,7 @@ use Rattle.journal_records.specs.Reading.{issuer_in, canonical_command, ◌>>=�
 use Rattle.lawful_commands.proofs.RowLists.{all-filter}
 use Rattle.racf_desk.specs.declared.refusal.Refusal.{Refusal}
 use Rattle.racf_desk.specs.Position.{Position, first_position, position_behind, restarted}
-use Rattle.racf_desk.specs.Recovery.{unless_faulty, outcome_again, behind_outcome, behind_record, behind_records, recovered}
+use Rattle.racf_desk.specs.Recovery.{unless_faulty, outcome_again, behind_outcome, behind_record, behind_records}
 use Rattle.racf_run.specs.Printed.{IsReached}
 use Rattle.racf_run.proofs.Feedless.{IsFeedless, read_id-feedless, read_group-feedless}
 use Rattle.racf_run.proofs.FeedlessCopies.{copies-all}

@@ -1,6 +1,6 @@
 -- Each statement of an input prints nothing, one line, or one and an AUDIT line, and no line feed stands in their words.
 use Rattle.std.proofs.Common.{◌≡◌, ℕ, ◌+◌, Bool, true, false, not, List, [], ◌∷◌, ◌++◌, Option, None, Some, Result, Ok, Err, refl, sym, subst, true≢false, inl, inr, is_some, length, codes, cond, append-nil}
-use Rattle.std.specs.Prelude.{◌⊎◌, ◌==◌, nat_le, IfSome, IfOk, find, option_map, unwrap_or, is_ok}
+use Rattle.std.specs.Prelude.{◌⊎◌, ◌==◌, nat_le, IfSome, IfOk, find, unwrap_or}
 use Rattle.std.specs.List.{AllByRecursion}
 use Rattle.std.proofs.lemmas.List.Sums.{AllPass-from_list_all}
 use Rattle.racf_outside.specs.Lines.{NoFeed}
@@ -42,7 +42,7 @@ use Rattle.racf_run.specs.Stream as s
 use Rattle.racf_run.specs.Stream.{State, Answer, number_of}
 use Rattle.racf_run.specs.Printed.{Turn, turns, input_turns, printed, behind, audit_text, PrintsItsLines}
 use Rattle.racf_run.specs.Script.{statements}
-use Rattle.racf_run.proofs.Feedless.{IsFeedless, joined, decimal-feedless, either, if-given, if-map, if-found}
+use Rattle.racf_run.proofs.Feedless.{IsFeedless, decimal-feedless, either, if-map, if-found}
 use Rattle.racf_run.proofs.FeedlessRows.{IsFeedlessState}
 use Rattle.racf_run.proofs.FeedlessOutcomes.{IsFeedlessOutcome, IsFeedlessAccepted, IsFeedlessCommand, syntax-words, outcome-feedless, behind-feedless}
 use Rattle.racf_run.proofs.FeedlessDecisions.{IsFeedlessAcee, decided-words, fast_decided-words, audit-words, verified-acee}

@@ -1,5 +1,5 @@
 -- The output of an input as the lines of its statements, and its status as what they say.
-use Rattle.std.proofs.Common.{◌≡◌, ℕ, Bool, false, ◌||◌, List, [], ◌∷◌, ◌++◌, refl, sym, ◌∙◌, ap}
+use Rattle.std.proofs.Common.{◌≡◌, ℕ, Bool, ◌||◌, List, [], ◌∷◌, ◌++◌, refl, sym, ◌∙◌, ap}
 use Rattle.std.specs.Prelude.{Option, map}
 use Rattle.std.specs.List.{concat, list_any}
 use Rattle.std.proofs.Math.Bool.{or-false, or_assoc}

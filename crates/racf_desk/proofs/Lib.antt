@@ -2,3 +2,7 @@ mod IssuerLaws
 pub mod TextLaws
 mod MakingLaws
 mod OutcomeRows
+mod RecoveryRows
+pub mod RecoveryLaws
+mod RepeatLaws
+mod DeskLaws

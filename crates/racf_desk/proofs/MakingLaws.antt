@@ -16,29 +16,20 @@ use Rattle.command_parser.specs.Canonical.{canonical}
 use Rattle.command_effects.specs.Effects.{step}
 use Rattle.command_effects.specs.Edits.{edits_of, is_set_ropts}
 use Rattle.raclist_image.specs.Imaged.{Imaged}
-use Rattle.command_conflicts.specs.declared.conflict.Conflict.{Conflict}
-use Rattle.command_authority.specs.declared.needs.Need.{Need}
 use Rattle.racf_desk.specs.declared.refusal.Refusal.TheVariants as refusal
 use Rattle.journal_records.specs.declared.record.CommandRecord.{CommandRecord}
-use Rattle.racf_desk.specs.Outcome.{most_number, first_of, number_spent}
+use Rattle.journal_records.specs.Spelling.{spelled}
+use Rattle.racf_desk.specs.Outcome.{most_number, number_spent}
 use Rattle.racf_desk.specs.Position.{copies_behind, state_behind}
 use Rattle.racf_desk.specs.Made.{Made, made_at}
 
--- no test is met: none of the later conflicts is, and there is a number
-unspent : (number : ℕ) → first_of (number_spent number ∷ []) ≡ None → nat_le most_number number ≡ false
+-- the numbers aren't spent
+pub unspent : (number : ℕ) → number_spent number ≡ None → nat_le most_number number ≡ false
 unspent number h = by (nat_le most_number number) refl h
   where
-    by : (b : Bool) → nat_le most_number number ≡ b → first_of (cond b (Some refusal.NumberSpent) None ∷ []) ≡ None → nat_le most_number number ≡ false
+    by : (b : Bool) → nat_le most_number number ≡ b → cond b (Some refusal.NumberSpent) None ≡ None → nat_le most_number number ≡ false
     by true is h = cc
     by false is h = is
-
-pub none_met : (first : Option Conflict) (lacking : Option (List Need)) (conflict : Option Conflict) (number : ℕ)
-    → first_of (option_map refusal.Conflict first ∷ option_map refusal.Need lacking ∷ option_map refusal.Conflict conflict ∷ number_spent number ∷ []) ≡ None
-    → (conflict ≡ None) × (nat_le most_number number ≡ false)
-none_met (Some early) lacking conflict number h = cc
-none_met None (Some needs) conflict number h = cc
-none_met None None (Some late) number h = cc
-none_met None None None number h = (refl, unspent number h)
 
 -- the number behind it is one that there is
 pub within : (number : ℕ) → nat_le most_number number ≡ false → number + 1 ≤ most_number
@@ -62,24 +53,26 @@ copies-behind issuer (fields.SetRopts c) edits state are others = ap (λ (es : L
 copies-behind issuer command edits state are others = copies-kept edits state (others refl)
 
 -- the state behind the edits of a command
-pub behind : (issued : CommandRecord) (edits : List Edit) (state : State) → edits ≡ edits_of issued.issuer issued.command state.rows → changed edits state.rows ≡ step issued.issuer issued.command state.rows
-    → (changed_state edits state).rows ≡ changed edits state.rows → (IsFalse (is_set_ropts issued.command) → list_all (λ (edit : Edit). not (is_of_copies edit)) edits ≡ true)
-    → changed_state edits state ≡ state_behind state issued
-behind issued edits state are makes law others =
+pub behind : (given : CommandRecord) (edits : List Edit) (state : State) → edits ≡ edits_of given.issuer given.command state.rows → changed edits state.rows ≡ step given.issuer given.command state.rows
+    → (changed_state edits state).rows ≡ changed edits state.rows → (IsFalse (is_set_ropts given.command) → list_all (λ (edit : Edit). not (is_of_copies edit)) edits ≡ true)
+    → changed_state edits state ≡ state_behind state given
+behind given edits state are makes law others =
     ap (λ (rows : Rows). record { rows = rows; copies = (changed_state edits state).copies }) (law ∙ makes)
-    ∙ ap (λ (copies : List ListedCopy). record { rows = step issued.issuer issued.command state.rows; copies = copies }) (copies-behind issued.issuer issued.command edits state are others)
+    ∙ ap (λ (copies : List ListedCopy). record { rows = step given.issuer given.command state.rows; copies = copies }) (copies-behind given.issuer given.command edits state are others)
 
 -- what is made, field by field
-pub made_is : (position : Imaged) (issued : CommandRecord) (number : ℕ) (text : List ℕ) (change : Change) (image : Imaged)
+pub made_is : (position : Imaged) (given : CommandRecord) (number : ℕ) (text entry : List ℕ) (change : Change) (image : Imaged)
     → number ≡ position.generation + 1
-    → text ≡ canonical issued.command
-    → change.edits ≡ edits_of issued.issuer issued.command position.state.rows
-    → image ≡ record { state = state_behind position.state issued; generation = number }
-    → record { number = number; issuer = issued.issuer; text = text; change = change; behind = image } ≡ made_at position issued
-made_is position issued number text change image next spelled edits behind =
-    let mk : ℕ → List ℕ → List Edit → Imaged → Made = λ n t es im. record { number = n; issuer = issued.issuer; text = t; change = record { edits = es }; behind = im } in
-    let after : ℕ → Imaged = λ n. record { state = state_behind position.state issued; generation = n } in
-    ap (mk number text change.edits) behind
-    ∙ ap (λ n. mk n text change.edits (after n)) next
-    ∙ ap (λ t. mk (position.generation + 1) t change.edits (after (position.generation + 1))) spelled
-    ∙ ap (λ es. mk (position.generation + 1) (canonical issued.command) es (after (position.generation + 1))) edits
+    → text ≡ canonical given.command
+    → entry ≡ spelled given
+    → change.edits ≡ edits_of given.issuer given.command position.state.rows
+    → image ≡ record { state = state_behind position.state given; generation = number }
+    → record { number = number; issuer = given.issuer; text = text; entry = entry; change = change; behind = image } ≡ made_at position given
+made_is position given number text entry change image next canon spells edits behind =
+    let mk : ℕ → List ℕ → List ℕ → List Edit → Imaged → Made = λ n t e es im. record { number = n; issuer = given.issuer; text = t; entry = e; change = record { edits = es }; behind = im } in
+    let after : ℕ → Imaged = λ n. record { state = state_behind position.state given; generation = n } in
+    ap (mk number text entry change.edits) behind
+    ∙ ap (λ n. mk n text entry change.edits (after n)) next
+    ∙ ap (λ t. mk (position.generation + 1) t entry change.edits (after (position.generation + 1))) canon
+    ∙ ap (λ e. mk (position.generation + 1) (canonical given.command) e change.edits (after (position.generation + 1))) spells
+    ∙ ap (λ es. mk (position.generation + 1) (canonical given.command) (spelled given) es (after (position.generation + 1))) edits

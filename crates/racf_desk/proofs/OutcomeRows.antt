@@ -1,10 +1,11 @@
 -- What commands by several issuers are answered, computed on the definitions.
-use Rattle.std.proofs.Common.{◌≡◌, ℕ, ◌^◌, List, [], ◌∷◌, Option, Some, None, Result, Ok, Err, codes, refl}
+use Rattle.std.proofs.Common.{◌≡◌, ℕ, ◌-◌, ◌^◌, List, [], ◌∷◌, ◌++◌, Option, Some, None, Result, Ok, Err, codes, refl}
 use Rattle.command_grammar.specs.Canon.{canon}
 use Rattle.command_values.specs.ProfileNames.{form_in}
 use Rattle.command_grammar.specs.Reading.{parsed}
 use Rattle.command_parser.specs.Fields.{front, behind}
 use Rattle.command_parser.specs.CommandOf.{command_of}
+use Rattle.command_parser.specs.Canonical.{canonical}
 use Rattle.command_words.specs.Tokens.{tokens}
 use Rattle.command_conflicts.specs.Conflicts.{is_root, has_subgroup, has_connected, has_profile, meets, cycle, owner_not_superior, default_group, last_special, users_full, groups_full, connections_full, user_full, add_user_conflicts, alt_user_conflicts, del_user_conflicts, add_group_conflicts, alt_group_conflicts, del_group_conflicts, connect_conflicts, remove_conflicts}
 use Rattle.command_conflicts.specs.Required.{no_user, no_group, no_owner, no_named_group, no_class, name_taken, not_connected, default_not_connected, unknown_level, unknown_category, never_category, unknown_label}
@@ -12,6 +13,7 @@ use Rattle.command_authority.specs.Requirements.{add_user_requirements, alt_user
 use Rattle.command_authority.specs.Authority.{is_met, need}
 use Rattle.racf_desk.specs.declared.refusal.Refusal.{Refusal}
 use Rattle.journal_records.specs.declared.record.CommandRecord.{CommandRecord}
+use Rattle.journal_records.specs.Spelling.{spelled}
 use Rattle.racf_desk.specs.Outcome.{outcome_in, outcome}
 use Rattle.racf_desk.specs.Position.{Position, first_position, position_after}
 use Rattle.racf_desk.specs.Words.{refusal_words}
@@ -52,7 +54,7 @@ scope_rows : told first_position (
     ∷ by (codes "ADM") (codes "ALU SUE REVOKE")
     ∷ [])
     ≡ codes "ACCEPTED" ∷ codes "ACCEPTED" ∷ codes "ACCEPTED" ∷ codes "ACCEPTED" ∷ codes "ACCEPTED" ∷ codes "ACCEPTED" ∷ codes "ACCEPTED" ∷ codes "ACCEPTED" ∷ codes "NEED SPECIAL OWNER GROUPSPECIAL" ∷ []
-unfolding canon form_in parsed front behind command_of tokens is_root has_subgroup has_connected has_profile meets cycle owner_not_superior default_group last_special users_full groups_full connections_full user_full add_user_conflicts alt_user_conflicts del_user_conflicts add_group_conflicts alt_group_conflicts del_group_conflicts connect_conflicts remove_conflicts no_user no_group no_owner no_named_group no_class name_taken not_connected default_not_connected unknown_level unknown_category never_category unknown_label add_user_requirements alt_user_requirements add_group_requirements alt_group_requirements del_group_requirements connect_requirements remove_requirements is_met need outcome_in
+unfolding canon form_in parsed front behind command_of tokens is_root has_subgroup has_connected has_profile meets cycle owner_not_superior default_group last_special users_full groups_full connections_full user_full add_user_conflicts alt_user_conflicts del_user_conflicts add_group_conflicts alt_group_conflicts del_group_conflicts connect_conflicts remove_conflicts no_user no_group no_owner no_named_group no_class name_taken not_connected default_not_connected unknown_level unknown_category never_category unknown_label add_user_requirements alt_user_requirements add_group_requirements alt_group_requirements del_group_requirements connect_requirements remove_requirements is_met need spelled canonical outcome_in
 scope_rows = refl
 
 -- An issuer is judged as he stands at the command.
@@ -74,23 +76,32 @@ issuer_rows : told first_position (
     ∷ [])
     ≡ codes "ISSUERUNKNOWN ANN" ∷ codes "SYNTAX UNKNOWNCOMMAND" ∷ codes "ACCEPTED" ∷ codes "ACCEPTED" ∷ codes "ACCEPTED" ∷ codes "ISSUERNOTCONNECTED G2"
     ∷ codes "ACCEPTED" ∷ codes "ACCEPTED" ∷ codes "NEED SPECIAL JOIN(G2) OWNER GROUPSPECIAL" ∷ codes "ACCEPTED" ∷ codes "ACCEPTED" ∷ codes "ISSUERNOTCONNECTED G2" ∷ codes "ACCEPTED" ∷ codes "ISSUERREVOKED ANN" ∷ []
-unfolding canon form_in parsed front behind command_of tokens is_root has_subgroup has_connected has_profile meets cycle owner_not_superior default_group last_special users_full groups_full connections_full user_full add_user_conflicts alt_user_conflicts del_user_conflicts add_group_conflicts alt_group_conflicts del_group_conflicts connect_conflicts remove_conflicts no_user no_group no_owner no_named_group no_class name_taken not_connected default_not_connected unknown_level unknown_category never_category unknown_label add_user_requirements alt_user_requirements add_group_requirements alt_group_requirements del_group_requirements connect_requirements remove_requirements is_met need outcome_in
+unfolding canon form_in parsed front behind command_of tokens is_root has_subgroup has_connected has_profile meets cycle owner_not_superior default_group last_special users_full groups_full connections_full user_full add_user_conflicts alt_user_conflicts del_user_conflicts add_group_conflicts alt_group_conflicts del_group_conflicts connect_conflicts remove_conflicts no_user no_group no_owner no_named_group no_class name_taken not_connected default_not_connected unknown_level unknown_category never_category unknown_label add_user_requirements alt_user_requirements add_group_requirements alt_group_requirements del_group_requirements connect_requirements remove_requirements is_met need spelled canonical outcome_in
 issuer_rows = refl
 
--- A position with that number, and with the gate there.
-abbrev at : ℕ → ℕ → Position
-at number gate = record { image = record { state = first_position.image.state; generation = number }; gate = gate }
+-- A position over a new database, with that number, and with the gate there.
+abbrev standing_at : ℕ → ℕ → Position
+standing_at number gate = record { image = record { state = first_position.image.state; generation = number }; gate = gate }
 
--- The needs are told behind the conflicts of names and before the others, and the numbers' end behind all.
-order_rows : told (at (2 ^ 62) 8) (
-    by (codes "IBMUSER") (codes "AU IBMUSER")
-    ∷ by (codes "IBMUSER") (codes "DG SYS1")
-    ∷ by (codes "IBMUSER") (codes "AU JOE SECLEVEL(TOP)")
-    ∷ by (codes "IBMUSER") (codes "AU JOE")
+-- The needs are told behind the conflicts of names and before the others, then the journal's room, and the numbers' end
+-- behind all.
+order_rows : told (standing_at (2 ^ 62) (2 ^ 28)) (
+    prepared (codes "AU IBMUSER")
+    ∷ prepared (codes "DG SYS1")
+    ∷ prepared (codes "AU JOE SECLEVEL(TOP)")
+    ∷ prepared (codes "AU JOE")
     ∷ [])
-    ≡ codes "EXISTS IBMUSER" ∷ codes "ROOT" ∷ codes "UNKNOWNNAME TOP" ∷ codes "NUMBERSPENT" ∷ []
-unfolding canon form_in parsed front behind command_of tokens is_root has_subgroup has_connected has_profile meets cycle owner_not_superior default_group last_special users_full groups_full connections_full user_full add_user_conflicts alt_user_conflicts del_user_conflicts add_group_conflicts alt_group_conflicts del_group_conflicts connect_conflicts remove_conflicts no_user no_group no_owner no_named_group no_class name_taken not_connected default_not_connected unknown_level unknown_category never_category unknown_label add_user_requirements alt_user_requirements add_group_requirements alt_group_requirements del_group_requirements connect_requirements remove_requirements is_met need outcome_in
+    ≡ codes "EXISTS IBMUSER" ∷ codes "ROOT" ∷ codes "UNKNOWNNAME TOP" ∷ codes "JOURNALFULL" ∷ []
+unfolding canon form_in parsed front behind command_of tokens is_root has_subgroup has_connected has_profile meets cycle owner_not_superior default_group last_special users_full groups_full connections_full user_full add_user_conflicts alt_user_conflicts del_user_conflicts add_group_conflicts alt_group_conflicts del_group_conflicts connect_conflicts remove_conflicts no_user no_group no_owner no_named_group no_class name_taken not_connected default_not_connected unknown_level unknown_category never_category unknown_label add_user_requirements alt_user_requirements add_group_requirements alt_group_requirements del_group_requirements connect_requirements remove_requirements is_met need spelled canonical outcome_in
 order_rows = refl
+
+-- The journal has room for the record of 31 bytes where its gate and one more byte fit, and there is a last number.
+room_rows : told (standing_at (2 ^ 62 - 1) (2 ^ 28 - 32)) (prepared (codes "AU JOE") ∷ [])
+    ++ told (standing_at (2 ^ 62) (2 ^ 28 - 33)) (prepared (codes "AU JOE") ∷ [])
+    ++ told (standing_at (2 ^ 62 - 1) (2 ^ 28 - 33)) (prepared (codes "AU JOE") ∷ [])
+    ≡ codes "JOURNALFULL" ∷ codes "NUMBERSPENT" ∷ codes "ACCEPTED" ∷ []
+unfolding canon form_in parsed front behind command_of tokens is_root has_subgroup has_connected has_profile meets cycle owner_not_superior default_group last_special users_full groups_full connections_full user_full add_user_conflicts alt_user_conflicts del_user_conflicts add_group_conflicts alt_group_conflicts del_group_conflicts connect_conflicts remove_conflicts no_user no_group no_owner no_named_group no_class name_taken not_connected default_not_connected unknown_level unknown_category never_category unknown_label add_user_requirements alt_user_requirements add_group_requirements alt_group_requirements del_group_requirements connect_requirements remove_requirements is_met need spelled canonical outcome_in
+room_rows = refl
 
 need_rows : told first_position (
     prepared (codes "AU ANN")
@@ -101,5 +112,5 @@ need_rows : told first_position (
     ∷ [])
     ≡ codes "ACCEPTED" ∷ codes "EXISTS IBMUSER" ∷ codes "NEED SPECIAL OWNER GROUPSPECIAL" ∷ codes "NEED SPECIAL CONNECT(SYS1) OWNER GROUPSPECIAL"
     ∷ codes "NEED SPECIAL CLAUTH(USER)+JOIN(SYS1) CLAUTH(USER)+OWNER CLAUTH(USER)+GROUPSPECIAL" ∷ []
-unfolding canon form_in parsed front behind command_of tokens is_root has_subgroup has_connected has_profile meets cycle owner_not_superior default_group last_special users_full groups_full connections_full user_full add_user_conflicts alt_user_conflicts del_user_conflicts add_group_conflicts alt_group_conflicts del_group_conflicts connect_conflicts remove_conflicts no_user no_group no_owner no_named_group no_class name_taken not_connected default_not_connected unknown_level unknown_category never_category unknown_label add_user_requirements alt_user_requirements add_group_requirements alt_group_requirements del_group_requirements connect_requirements remove_requirements is_met need outcome_in
+unfolding canon form_in parsed front behind command_of tokens is_root has_subgroup has_connected has_profile meets cycle owner_not_superior default_group last_special users_full groups_full connections_full user_full add_user_conflicts alt_user_conflicts del_user_conflicts add_group_conflicts alt_group_conflicts del_group_conflicts connect_conflicts remove_conflicts no_user no_group no_owner no_named_group no_class name_taken not_connected default_not_connected unknown_level unknown_category never_category unknown_label add_user_requirements alt_user_requirements add_group_requirements alt_group_requirements del_group_requirements connect_requirements remove_requirements is_met need spelled canonical outcome_in
 need_rows = refl

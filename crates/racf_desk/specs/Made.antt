@@ -1,6 +1,6 @@
 -- What `judge` makes of an accepted command, for `commit` and `install`; what contracts see of a desk; and what its
 -- answers mean.
-use Rattle.std.specs.Prelude.{◌≡◌, ℕ, ◌+◌, Bool, true, false, List, length, Option, Some, None, Result, Ok, Err, IsOk}
+use Rattle.std.specs.Prelude.{◌≡◌, ℕ, ◌+◌, ◌≤◌, Bool, true, false, List, length, Option, Some, None, Result, Ok, Err, IsOk}
 use Rattle.std.specs.Arc.{arc_value}
 use Rattle.racf_profiles.specs.declared.edits.Change.{Change}
 use Rattle.raclist_image.specs.Imaged.{Imaged}
@@ -9,6 +9,8 @@ use Rattle.command_parser.specs.Canonical.{canonical}
 use Rattle.command_effects.specs.Edits.{edits_of}
 use Rattle.journal_records.specs.declared.record.CommandRecord.{CommandRecord}
 use Rattle.journal_records.specs.Spelling.{spelled}
+use Rattle.journal_records.specs.Reading.{record_of}
+use Rattle.racf_journal.specs.Reading.{IsRecord}
 use Rattle.racf_checkpoint.specs.Stored.{StoreOn}
 use Rattle.racf_desk.specs.declared.refusal.Refusal.{Refusal}
 use Rattle.racf_desk.specs.declared.answers.Ready.{Ready}
@@ -25,6 +27,12 @@ pub record Made : Type 0 where
   pub entry : List ℕ
   pub change : Change
   pub behind : Imaged
+
+-- A command's record is one of the journal, is short, and is read as the command.
+pub record IsRecorded (given : CommandRecord) : Type 0 where
+  pub read : record_of (spelled given) ≡ Ok given
+  pub whole : IsRecord (spelled given)
+  pub short : length (spelled given) ≤ 30020
 
 -- This is made of a command that is accepted at a position,
 abbrev pub made_at : Imaged → CommandRecord → Made

@@ -6,7 +6,7 @@ ghost use Rattle.racf_checkpoint.specs.Contents.{IsCaused};
 ghost use Rattle.racf_checkpoint.specs.Stored.{NowRead};
 
 use crate::answers::{Ready, Reply};
-use crate::making::make;
+use crate::making::{is_recorded, make};
 use crate::outcome::outcome_in;
 use crate::recovery::{Recovered, recover};
 use access_levels::Id;
@@ -163,6 +163,7 @@ impl<D: Disk> Desk<D> {
         requires { self.now.committed ≡ false }
         ensures { self.now.halted ≡ false → LeavesIt D.tells self.now.store self.now.position }
     {
+        let _ = &self.halted;
     }
 
     /// Judges a command, and makes what `commit` and `install` put in place: it takes all memory that the command needs.
@@ -196,6 +197,7 @@ impl<D: Disk> Desk<D> {
             Ok(Err(why)) => return Err(Reply::Refused(number, why)),
             Err(_) => return Err(Reply::NoMemory),
         };
+        is_recorded(&given);
         let Ok(ready) = make(alloc, &mut self.database, &self.image, &given) else {
             return Err(Reply::NoMemory);
         };
@@ -270,6 +272,7 @@ impl<D: Disk> Desk<D> {
         ensures cause { self.old.halted ≡ false → self.new.halted ≡ true → Rose (D.faults self.old.store.journal.disk) (D.faults self.new.store.journal.disk) }
         ensures no_fewer { D.faults self.old.store.journal.disk ≤ D.faults self.new.store.journal.disk }
     {
+        self.is_at_rest();
         let ready = match self.judge(alloc, issuer, group, text) {
             Ok(ready) => ready,
             Err(reply) => return reply,

@@ -6,11 +6,12 @@ ghost use Rattle.command_parser.specs.Canonical.{canonical};
 ghost use Rattle.journal_records.specs.Spelling.{spelled};
 ghost use Rattle.racf_desk.specs.Outcome.{rules_of, number_spent};
 ghost use Rattle.racf_desk.specs.Images.{IsImageOf};
-ghost use Rattle.racf_desk.specs.Made.{made_at, made_in};
+ghost use Rattle.racf_desk.specs.Made.{made_at, made_in, IsRecorded};
 
 use crate::answers::Ready;
 use access_levels::Text;
 use command_parser::{Command, print};
+use journal_records::laws::{lengths_are_those_of_the_texts, written_is_read};
 use journal_records::{CommandRecord, write};
 use racf_database::Database;
 use racf_profiles::NoMemory;
@@ -67,4 +68,12 @@ fn entry_of(alloc: Global, given: &CommandRecord) -> Result<Text, NoMemory>
     let mut entry = Vec::new(alloc);
     write(given, &mut entry)?;
     Text::of(alloc, entry.as_slice())
+}
+
+/// The record of every command can be kept. It does nothing: its contract is what it is for.
+pub(crate) fn is_recorded(given: &CommandRecord)
+    ensures { IsRecorded given.now }
+{
+    written_is_read(given);
+    lengths_are_those_of_the_texts();
 }

@@ -66,12 +66,7 @@ fn command_of_text(alloc: Global, id: Id, text: &[u8]) -> Result<Result<Command,
 }
 
 /// Why a command is refused where its issuer gives it, if it is.
-fn refusal_of(
-    gate: u64,
-    number: u64,
-    database: &Database,
-    given: &CommandRecord,
-) -> Option<Refusal>
+fn refusal_of(gate: u64, number: u64, database: &Database, given: &CommandRecord) -> Option<Refusal>
     ensures { result ≡ refusal_of gate number database.now.rows given.now }
 {
     if let Some(why) = rules_of(database, given) {

@@ -43,6 +43,7 @@ pub(crate) fn recover(alloc: Global, records: &[Text]) -> Result<Recovered, Stor
     requires room { 8 + length (spelled records.now) < 2 ^ 64 }
     ensures position { IfOk result (λ found. recovered records.now ≡ Ok (record { image = arc_value found.image; gate = found.gate })) }
     ensures image { IfOk result (λ found. IsImageOf found.database.rows (arc_value found.image)) }
+    ensures gate { IfOk result (λ found. found.gate ≡ 8 + length (spelled records.now)) }
     ensures fault { IfErr result (λ why. (recovered records.now ≡ Err why) ⊎ (why ≡ NoMemory)) }
 {
     let recovery = Recovery::of(alloc, records)?;
@@ -83,6 +84,7 @@ impl Recovery {
     fn of(alloc: Global, records: &[Text]) -> Result<Recovery, StoreFault>
         requires room { 8 + length (spelled records.now) < 2 ^ 64 }
         ensures recovered { IfOk result (λ recovery. (position : Position) × IsAt recovery position × (behind_records records.now first_position ≡ Ok position)) }
+        ensures gate { IfOk result (λ recovery. recovery.gate ≡ 8 + length (spelled records.now)) }
         ensures fault { IfErr result (λ why. (behind_records records.now first_position ≡ Err why) ⊎ (why ≡ NoMemory)) }
     {
         let mut recovery = Recovery::new(alloc)?;
@@ -109,7 +111,10 @@ impl Recovery {
         let Some(issued) = accepted_again(self.number, &self.database, given) else {
             return Err(StoreFault::Damaged(self.gate));
         };
-        let Ok(change) = self.database.prepare(alloc, &issued.issuer, &issued.command) else {
+        let Ok(change) = self
+            .database
+            .prepare(alloc, &issued.issuer, &issued.command)
+        else {
             return Err(StoreFault::NoMemory);
         };
         self.database.apply(change);
@@ -149,7 +154,10 @@ fn accepted_again(number: u64, database: &Database, given: CommandRecord) -> Opt
         return None;
     };
     let given = CommandRecord { issuer, command };
-    if rules_of(database, &given).is_some() || number >= MOST_NUMBER {
+    if rules_of(database, &given).is_some() {
+        return None;
+    }
+    if number >= MOST_NUMBER {
         return None;
     }
     Some(given)

@@ -1,10 +1,9 @@
 -- A front of the output of some items is the output of the first of them, and a front of the next one's text.
 use Rattle.std.proofs.Common.{◌≡◌, ℕ, ◌+◌, ◌-◌, ◌<◌, ◌≤◌, ltb, Bool, true, false, List, [], ◌∷◌, ◌++◌, length, take, refl, sym, ◌∙◌, ap, subst, arith, append_assoc, length-append}
-use Rattle.std.specs.Prelude.{Option}
 use Rattle.std.proofs.lemmas.Bool.{ltb-true, ltb-false}
 use Rattle.std.proofs.lemmas.List.{take-append-le}
 use Rattle.std.proofs.Math.Seq.{take-append-add}
-use Rattle.racf_run.specs.Runs.{Machine, after, output, BeginsWith}
+use Rattle.racf_run.specs.Runs.{Machine, after, output}
 
 -- These bytes are the output of the items before one of them, and a front of that one's text.
 pub record IsFrontOf {S I : Type 0} (m : Machine S I) (items : List I) (s : S) (bytes : List ℕ) : Type 0 where
@@ -52,17 +51,3 @@ cut_in m items s written gathered count whole short =
     let front : take n (output m items s) ≡ written ++ take count gathered =
     ap (take n) whole ∙ take-append-add written gathered count in
     subst (λ (bytes : List ℕ). IsFrontOf m items s bytes) front (front_of m items s n (omega (arith, size, short)))
-
--- the items up to that one are the first ones too
-pub begins_before : {S I : Type 0} (m : Machine S I) (read : List ℕ) (more : Option (List ℕ)) (items done : List I) (last : I) (rest : List I) → items ≡ done ++ last ∷ rest → BeginsWith m read more items → BeginsWith m read more (done ++ last ∷ [])
-begins_before m read more items done last rest split first =
-    record {
-      rest = first.rest;
-      is_rest = first.is_rest;
-      others = rest ++ first.others;
-      in_order =
-          first.in_order
-          ∙ ap (λ is. is ++ first.others) split
-          ∙ append_assoc done (last ∷ rest) first.others
-          ∙ sym (append_assoc done (last ∷ []) (rest ++ first.others));
-    }

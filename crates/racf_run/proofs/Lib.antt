@@ -10,9 +10,12 @@ pub mod CommandLaws
 pub mod FrontLaws
 pub mod StatementLaws
 pub mod Pieces
+pub mod Faults
 pub mod Processing
 pub mod Settling
 pub mod StreamWalk
+pub mod Moments
+pub mod Resting
 pub mod PrintedLaws
 pub mod FailedLaws
 pub mod Feedless

@@ -1,28 +1,28 @@
 -- A statement that was worked, and whose text was gathered.
-use Rattle.std.proofs.Common.{◌≡◌, List, ℕ, ◌++◌, Some, sym, ◌∙◌, ap, append-nil}
+use Rattle.std.proofs.Common.{◌≡◌, List, ℕ, [], ◌∷◌, ◌++◌, None, Some, refl, sym, ◌∙◌, ap, append-nil}
 use Rattle.std.specs.Prelude.{Option, Result, Ok, Err, OnOk, OnErr}
 use Rattle.std.specs.Option.{option_to_list}
+use Rattle.racf_desk.specs.Position.{Position}
 use Rattle.racf_run.specs.declared.statement.Statement.{Statement}
+use Rattle.racf_run.specs.Durable.{StreamOn, DoesOn, fault_in}
 use Rattle.racf_run.specs.Runs.{after, output}
-use Rattle.racf_run.specs.Stream.{State, DoesAs, answer, step, text}
+use Rattle.racf_run.specs.Stream.{answer, text}
 use Rattle.racf_run.specs.Script.{stream}
-use Rattle.racf_run.specs.Processing.{Processes}
+use Rattle.racf_run.specs.Processing.{Works, Processes}
+use Rattle.racf_run.proofs.Faults.{step_is, text_is}
 
-worked_state : (item : Statement) (s t : State) (old out : List ℕ) → DoesAs (answer item s) t old out → t ≡ stream.step item s
-unfolding stream step
-worked_state item s t old out d = d.left
+worked : {D : Type 0} (base : Position) (item : Statement) (s t : StreamOn D) (old out : List ℕ) → DoesOn (answer (fault_in t) item) s t old out → Works base (Some item) s t old out
+worked base item s t old out d =
+    record {
+      state = d.left ∙ sym (step_is (fault_in t) item s.state);
+      text = d.wrote ∙ ap (λ more. old ++ more) (sym (text_is (fault_in t) item s.state) ∙ sym (append-nil (text (fault_in t) item s.state)));
+    }
 
-worked_text : (item : Statement) (s t : State) (old out : List ℕ) → DoesAs (answer item s) t old out → out ≡ old ++ stream.text item s
-unfolding stream text
-worked_text item s t old out d = d.wrote
+pub worked_by : {T E D : Type 0} (base : Position) (r : Result T E) (item : Statement) (given : Option Statement) (s t : StreamOn D) (old now : List ℕ) → given ≡ Some item
+    → OnOk r (DoesOn (answer (fault_in t) item) s t old now) → OnErr r ((now ≡ old) × (t ≡ s)) → Processes base r given s t old now
+worked_by base (Ok done) item given s t old now is ok err = rw is (worked base item s t old now ok)
+worked_by base (Err fault) item given s t old now is ok err = (err.1, err.0)
 
-worked : (item : Statement) (given : Option Statement) (s t : State) (old out : List ℕ) → given ≡ Some item → DoesAs (answer item s) t old out → (t ≡ after stream (option_to_list given) s) × (out ≡ old ++ output stream (option_to_list given) s)
-worked item given s t old out is d =
-    rw is (
-      worked_state item s t old out d,
-      worked_text item s t old out d ∙ ap (λ more. old ++ more) (sym (append-nil (stream.text item s))),
-    )
-
-pub worked_by : {T E : Type 0} (r : Result T E) (item : Statement) (given : Option Statement) (s t : State) (old now : List ℕ) → given ≡ Some item → OnOk r (DoesAs (answer item s) t old now) → OnErr r (now ≡ old) → Processes r given s t old now
-worked_by (Ok done) item given s t old now is ok err = worked item given s t old now is ok
-worked_by (Err fault) item given s t old now is ok err = err
+-- no statement
+pub none_worked : {D : Type 0} (base : Position) (s : StreamOn D) (old : List ℕ) → Works base None s s old old
+none_worked base s old = record { state = refl; text = sym (append-nil old) }

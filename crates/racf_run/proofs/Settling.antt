@@ -1,9 +1,10 @@
 -- What is gathered over several writes, each of which may come to nothing.
-use Rattle.std.proofs.Common.{◌≡◌, ℕ, List, length, inl, inr, refl, ◌∙◌, ap, subst, arith}
+use Rattle.std.proofs.Common.{◌≡◌, ℕ, ◌+◌, List, ◌++◌, length, take, inl, inr, refl, sym, ◌∙◌, ap, subst, arith, length-append}
 use Rattle.std.specs.Prelude.{Option, Result, Ok, Err, OnErr}
 use Rattle.std.specs.Io.KnownBytes.{append_known}
 use Rattle.racf_run.specs.Gathering.{Settles, IsCutShort}
-use Rattle.racf_run.proofs.Folds.{append_known-nil}
+use Rattle.std.proofs.Math.Seq.{take-append-add}
+use Rattle.racf_run.proofs.Folds.{append_known-append, append_known-nil}
 
 pub Settles-none : (gathered : List ℕ) (before : Option (List ℕ)) → Settles gathered gathered before before
 Settles-none gathered before = inl (refl, refl)
@@ -28,3 +29,16 @@ cut_later gathered rest before now then (inr wrote) cut =
 pub at_fault : {T E P : Type 0} (r : Result T E) → P → OnErr r P
 at_fault (Ok value) h = tt
 at_fault (Err why) h = h
+
+-- a text that was written whole, and one behind it that was cut short
+pub cut_behind : (first second : List ℕ) (before now then : Option (List ℕ)) → now ≡ append_known before first → IsCutShort second now then → IsCutShort (first ++ second) before then
+cut_behind first second before now then wrote cut =
+    record {
+      count = length first + cut.count;
+      short = let short = cut.short in omega (arith, short, length-append first second);
+      front =
+          cut.front
+          ∙ ap (λ known. append_known known (take cut.count second)) wrote
+          ∙ sym (append_known-append before first (take cut.count second))
+          ∙ ap (append_known before) (sym (take-append-add first second cut.count));
+    }

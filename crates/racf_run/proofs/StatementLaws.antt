@@ -21,7 +21,7 @@ use Rattle.racf_run.specs.declared.statement.Statement.TheVariants.{Command, Lin
 use Rattle.racf_run.specs.Joining.{role_of, last_command}
 use Rattle.racf_run.specs.NextStatement.{IsWalked, TakesStatements, TakesFront, TakesTooMuch, NextsStatement}
 use Rattle.racf_run.specs.NextRole.{EndsCommand, GivesRole, NextsRole, ReadsRole, ReadsEnd}
-use Rattle.racf_run.specs.Script.{stream}
+use Rattle.racf_run.specs.Script.{statements}
 use Rattle.racf_run.proofs.FrontLaws.{IsFront, IsFront-none, IsFront-more, IsFront-walked, IsFront-last_front, IsFront-last, IsFront-end, IsFront-none_whole, no_items}
 use Rattle.racf_outside.proofs.Rises.{Rose-later}
 use Rattle.racf_outside.proofs.Bytes.{prepend-append, prepend-nil}
@@ -38,7 +38,7 @@ pub record Taken (begun : Option Front) (old new : Reader) : Type 0 where
   pub counted : new.passed ≡ old.passed + length bytes
   pub has_begun : HasBegun begun bytes old new
   pub goes_on : new.ended ≡ false → IsFront bytes begun
-  pub last : new.ended ≡ true → stream.items bytes ≡ last_command begun
+  pub last : new.ended ≡ true → statements.items bytes ≡ last_command begun
 
 pub Taken-none : (reader : Reader) → Taken None reader reader
 Taken-none reader =
@@ -71,10 +71,10 @@ front_on : (ended : Bool) (bytes raw : List ℕ) (begun : Option Front) (front :
 front_on false bytes raw begun front w h e is = IsFront-more bytes raw begun front w h e
 front_on true bytes raw begun front w h e is = cc
 
-front_last : (ended : Bool) (bytes raw : List ℕ) (begun : Option Front) (front : Front) → IsFront bytes begun → NoFeed raw → (ended ≡ true → 0 < length raw) → role_of begun (line_of raw) ≡ GoesOn front → ended ≡ true → stream.items (bytes ++ (raw ++ line.end_of ended)) ≡ last_command (Some front)
+front_last : (ended : Bool) (bytes raw : List ℕ) (begun : Option Front) (front : Front) → IsFront bytes begun → NoFeed raw → (ended ≡ true → 0 < length raw) → role_of begun (line_of raw) ≡ GoesOn front → ended ≡ true → statements.items (bytes ++ (raw ++ line.end_of ended)) ≡ last_command (Some front)
 front_last false bytes raw begun front w h some e is = cc
 front_last true bytes raw begun front w h some e is =
-    ap (λ bs. stream.items (bytes ++ bs)) (append-nil raw) ∙ IsFront-last_front bytes raw begun front w h (some is) e
+    ap (λ bs. statements.items (bytes ++ bs)) (append-nil raw) ∙ IsFront-last_front bytes raw begun front w h (some is) e
 
 Taken-more : (begun : Option Front) (front : Front) (raw : List ℕ) (old mid new : Reader) → Taken begun old mid → line.TakesLine raw mid new → role_of begun (line_of raw) ≡ GoesOn front → Taken (Some front) old new
 Taken-more begun front raw old mid new w t e =
@@ -88,16 +88,16 @@ Taken-more begun front raw old mid new w t e =
     }
 
 -- the line ends the statement, or is skipped
-walked_on : (ended : Bool) (bytes raw : List ℕ) (begun : Option Front) (item : Option Statement) → IsFront bytes begun → NoFeed raw → role_of begun (line_of raw) ≡ Whole item → ended ≡ false → IsWalked stream (bytes ++ (raw ++ line.end_of ended)) (option_to_list item)
+walked_on : (ended : Bool) (bytes raw : List ℕ) (begun : Option Front) (item : Option Statement) → IsFront bytes begun → NoFeed raw → role_of begun (line_of raw) ≡ Whole item → ended ≡ false → IsWalked statements (bytes ++ (raw ++ line.end_of ended)) (option_to_list item)
 walked_on false bytes raw begun item w h e is = IsFront-walked bytes raw begun item w h e
 walked_on true bytes raw begun item w h e is = cc
 
-walked_last : (ended : Bool) (bytes raw : List ℕ) (begun : Option Front) (item : Option Statement) → IsFront bytes begun → NoFeed raw → (ended ≡ true → 0 < length raw) → role_of begun (line_of raw) ≡ Whole item → ended ≡ true → stream.items (bytes ++ (raw ++ line.end_of ended)) ≡ option_to_list item
+walked_last : (ended : Bool) (bytes raw : List ℕ) (begun : Option Front) (item : Option Statement) → IsFront bytes begun → NoFeed raw → (ended ≡ true → 0 < length raw) → role_of begun (line_of raw) ≡ Whole item → ended ≡ true → statements.items (bytes ++ (raw ++ line.end_of ended)) ≡ option_to_list item
 walked_last false bytes raw begun item w h some e is = cc
 walked_last true bytes raw begun item w h some e is =
-    ap (λ bs. stream.items (bytes ++ bs)) (append-nil raw) ∙ IsFront-last bytes raw begun item w h (some is) e
+    ap (λ bs. statements.items (bytes ++ bs)) (append-nil raw) ∙ IsFront-last bytes raw begun item w h (some is) e
 
-takes_line : (begun : Option Front) (item : Option Statement) (raw : List ℕ) (old mid new : Reader) → (w : Taken begun old mid) → line.TakesLine raw mid new → role_of begun (line_of raw) ≡ Whole item → TakesStatements stream (option_to_list item) (w.bytes ++ (raw ++ line.end_of new.ended)) old new
+takes_line : (begun : Option Front) (item : Option Statement) (raw : List ℕ) (old mid new : Reader) → (w : Taken begun old mid) → line.TakesLine raw mid new → role_of begun (line_of raw) ≡ Whole item → TakesStatements statements (option_to_list item) (w.bytes ++ (raw ++ line.end_of new.ended)) old new
 takes_line begun item raw old mid new w t e =
     record {
       begun = had_begun begun w.bytes old mid w.has_begun t.begun;
@@ -109,11 +109,11 @@ takes_line begun item raw old mid new w t e =
     }
 
 -- the input's end ends the statement
-end_items : (ended : Bool) (begun : Option Front) (old mid : Reader) → (w : Taken begun old mid) → mid.ended ≡ ended → stream.items w.bytes ≡ last_command begun
+end_items : (ended : Bool) (begun : Option Front) (old mid : Reader) → (w : Taken begun old mid) → mid.ended ≡ ended → statements.items w.bytes ≡ last_command begun
 end_items false begun old mid w e = IsFront-end w.bytes begun (w.goes_on e)
 end_items true begun old mid w e = w.last e
 
-takes_command : (front : Front) (old mid new : Reader) → (w : Taken (Some front) old mid) → line.TakesEnd mid new → TakesStatements stream (Command front.text ∷ []) w.bytes old new
+takes_command : (front : Front) (old mid new : Reader) → (w : Taken (Some front) old mid) → line.TakesEnd mid new → TakesStatements statements (Command front.text ∷ []) w.bytes old new
 takes_command front old mid new w t =
     record {
       begun = w.has_begun.0;
@@ -124,11 +124,11 @@ takes_command front old mid new w t =
       last = λ is. record { all = end_items mid.ended (Some front) old mid w refl; at_end = t.at_end };
     }
 
-takes_end : (begun : Option Front) (item : Option Statement) (old mid new : Reader) → Taken begun old mid → EndsCommand begun (Whole item) mid new → (bytes : List ℕ) × TakesStatements stream (option_to_list item) bytes old new
+takes_end : (begun : Option Front) (item : Option Statement) (old mid new : Reader) → Taken begun old mid → EndsCommand begun (Whole item) mid new → (bytes : List ℕ) × TakesStatements statements (option_to_list item) bytes old new
 takes_end begun item old mid new w ends =
     let v : Taken (Some ends.front) old mid = subst (λ (b : Option Front). Taken b old mid) ends.is_begun w in
     let is : Some (Command ends.front.text) ≡ item = cc (ends.command) in
-    (v.bytes, subst (λ (i : Option Statement). TakesStatements stream (option_to_list i) v.bytes old new) is (takes_command ends.front old mid new v ends.at_end))
+    (v.bytes, subst (λ (i : Option Statement). TakesStatements statements (option_to_list i) v.bytes old new) is (takes_command ends.front old mid new v ends.at_end))
 
 -- a statement came
 pub ends_item : (r : Result LineRole Stop) (begun : Option Front) (item : Option Statement) (old mid new : Reader) → Taken begun old mid → NextsRole r begun mid new → r ≡ Ok (Whole item) → NextsStatement (Ok item) old new
@@ -155,7 +155,7 @@ passes_more r begun front mid new h e = by_way (subst (λ (x : Result LineRole S
     by_way way = elim way [ inl gives ↦ by_line gives.raw gives.line | inr ends ↦ cc (ends.command) ]
 
 -- no statement came
-takes_front : (begun : Option Front) (raw : List ℕ) (old mid new : Reader) → (w : Taken begun old mid) → old.faults ≤ mid.faults → line.TakesFront raw mid new → TakesFront stream (w.bytes ++ raw) old new
+takes_front : (begun : Option Front) (raw : List ℕ) (old mid new : Reader) → (w : Taken begun old mid) → old.faults ≤ mid.faults → line.TakesFront raw mid new → TakesFront statements (w.bytes ++ raw) old new
 takes_front begun raw old mid new w faults t =
     record {
       begun = had_begun begun w.bytes old mid w.has_begun t.begun;
@@ -165,7 +165,7 @@ takes_front begun raw old mid new w faults t =
       cause = Rose-later old.faults mid.faults new.faults faults t.cause;
     }
 
-takes_too_much : (begun : Option Front) (raw : List ℕ) (over : ℕ) (old mid new : Reader) → (w : Taken begun old mid) → line.TakesTooMuch raw over mid new → TakesTooMuch stream (w.bytes ++ raw) over old new
+takes_too_much : (begun : Option Front) (raw : List ℕ) (over : ℕ) (old mid new : Reader) → (w : Taken begun old mid) → line.TakesTooMuch raw over mid new → TakesTooMuch statements (w.bytes ++ raw) over old new
 takes_too_much begun raw over old mid new w t =
     record {
       begun = had_begun begun w.bytes old mid w.has_begun t.begun;

@@ -1,66 +1,76 @@
--- The run of the stream: how it begins, and what stands at each of its stops.
-use Rattle.std.proofs.Common.{◌≡◌, ℕ, ◌≤◌, ◌^◌, Bool, true, false, List, [], Err, inl, inr, refl, sym, ◌∙◌, ap, subst, arith}
+-- The run of the stream: how it begins, how a statement goes on with it, and what stands at each of its stops.
+use Rattle.std.proofs.Common.{◌≡◌, ℕ, ◌≤◌, ◌^◌, Bool, true, false, List, [], ◌∷◌, ◌++◌, None, Some, Ok, Err, inl, inr, refl, sym, ◌∙◌, ap, subst, arith}
 use Rattle.std.specs.Prelude.{Option}
+use Rattle.std.specs.Option.{option_to_list}
 use Rattle.std.specs.Io.KnownBytes.{append_known}
 use Rattle.racf_outside.specs.Reader.{Reader, at_start}
+use Rattle.racf_desk.specs.Position.{Position}
 use Rattle.racf_run.specs.declared.input.Stop.{Stop}
 use Rattle.racf_run.specs.declared.input.Stop.TheVariants as stop
+use Rattle.racf_run.specs.declared.statement.Statement.{Statement}
 use Rattle.racf_run.specs.declared.status.Status.{Status}
 use Rattle.racf_run.specs.declared.status.Status.TheVariants.{WriteFault, NoMemory}
-use Rattle.racf_run.specs.Runs.{Ran}
+use Rattle.racf_run.specs.Durable.{StreamOn, fault_in}
+use Rattle.racf_run.specs.Runs.{Machine, Ran}
 use Rattle.racf_run.specs.Gathering.{IsCutShort}
-use Rattle.racf_run.specs.NextStatement.{NextsStatement}
-use Rattle.racf_run.specs.Stream.{State, new_stream}
-use Rattle.racf_run.specs.Script.{stream}
-use Rattle.racf_run.specs.Processing.{Ends, stop_status}
+use Rattle.racf_run.specs.NextStatement.{TakesStatements, NextsStatement}
+use Rattle.racf_run.specs.Stream.{State, number_of, new_stream, answer}
+use Rattle.racf_run.specs.Script.{stream, statements, fault_at}
+use Rattle.racf_run.specs.Processing.{Ends, Works, stop_status, unless_failed}
+use Rattle.racf_run.proofs.Faults.{step_is, fault_of_next}
 use Rattle.racf_run.proofs.FrontLaws.{no_items}
-use Rattle.racf_run.proofs.Walk.{Walk, Walk-none, Walk-done, Walk-refusals, Walk-read_fault, Walk-too_long, Walk-no_memory, Walk-write_fault, none_read}
+use Rattle.racf_run.proofs.Walk.{Walk, Walk-none, Walk-items, walked_all, walked_to_read_fault, walked_too_long, walked_to_item, walked_to_write_fault}
 
-begun_at : (source before : Option (List ℕ)) (faults : ℕ) → Walk stream source (at_start source faults) new_stream before before []
-unfolding stream
-begun_at source before faults = Walk-none stream source before faults
+-- a run so far, with the fault that the state tells
+abbrev pub StreamWalk : (base : Position) → (source : Option (List ℕ)) → Reader → State → (before now : Option (List ℕ)) → (gathered : List ℕ) → Type 0
+StreamWalk base source reader s before now gathered = Walk (stream (fault_at s.halted (number_of s)) base) source reader s before now gathered
 
-pub begun : (reader : Reader) (s : State) (before : Option (List ℕ)) (gathered : List ℕ) → reader ≡ at_start reader.left reader.faults → s ≡ new_stream → gathered ≡ [] → Walk stream reader.left reader s before before gathered
-begun reader s before gathered fresh new none =
-    let at_new : Walk stream reader.left reader new_stream before before [] =
-    subst (λ (r : Reader). Walk stream reader.left r new_stream before before []) (sym fresh) (begun_at reader.left before reader.faults) in
-    let at_none : Walk stream reader.left reader s before before [] = subst (λ (x : State). Walk stream reader.left reader x before before []) (sym new) at_new in
-    subst (λ (bytes : List ℕ). Walk stream reader.left reader s before before bytes) (sym none) at_none
+begun_at : (base : Position) (source before : Option (List ℕ)) (faults : ℕ) → StreamWalk base source (at_start source faults) (new_stream base) before before []
+begun_at base source before faults = Walk-none (stream (fault_at (new_stream base).halted (number_of (new_stream base))) base) source before faults
 
-pub no_start : (reader : Reader) (before : Option (List ℕ)) → Ran stream NoMemory reader.left reader.left before before
-no_start reader before = none_read stream reader.left reader.left before
+pub begun : (base : Position) (reader : Reader) (s : State) (before : Option (List ℕ)) (gathered : List ℕ) → reader ≡ at_start reader.left reader.faults → s ≡ new_stream base → gathered ≡ [] → StreamWalk base reader.left reader s before before gathered
+begun base reader s before gathered fresh new none =
+    let at_new : StreamWalk base reader.left reader (new_stream base) before before [] =
+    subst (λ (r : Reader). StreamWalk base reader.left r (new_stream base) before before []) (sym fresh) (begun_at base reader.left before reader.faults) in
+    let at_none : StreamWalk base reader.left reader s before before [] = subst (λ (x : State). StreamWalk base reader.left reader x before before []) (sym new) at_new in
+    subst (λ (bytes : List ℕ). StreamWalk base reader.left reader s before before bytes) (sym none) at_none
 
 pub passed_none : (reader : Reader) → reader ≡ at_start reader.left reader.faults → reader.passed ≤ 2 ^ 28
 passed_none reader fresh = subst (λ (r : Reader). r.passed ≤ 2 ^ 28) (sym fresh) (omega arith)
 
-has_refused_is : (s : State) (refused : Bool) → s.has_refused ≡ refused → stream.has_refused s ≡ refused
-unfolding stream
-has_refused_is s refused h = h
+-- a statement was worked, or a line was skipped
+pub goes_on : {D : Type 0} (base : Position) (given : Option Statement) (bytes : List ℕ) (source : Option (List ℕ)) (old new : Reader) (s t : StreamOn D) (before now : Option (List ℕ)) (gathered more : List ℕ)
+    → StreamWalk base source old s.state before now gathered → TakesStatements statements (option_to_list given) bytes old new → Works base given s t gathered more → StreamWalk base source new t.state before now more
+goes_on base None bytes source old new s t before now gathered more w takes works =
+    Walk-items (stream (fault_in t) base) [] bytes source old new s.state t.state before now gathered more
+    (subst (λ (x : State). Walk (stream (fault_at x.halted (number_of x)) base) source old s.state before now gathered) (sym works.state) w) takes works.state works.text
+goes_on base (Some item) bytes source old new s t before now gathered more w takes works =
+    Walk-items (stream (fault_in t) base) (item ∷ []) bytes source old new s.state t.state before now gathered more
+    (fault_of_next base source old item s.state t.state before now gathered (works.state ∙ step_is (fault_in t) item s.state) w) takes works.state works.text
 
-module _ (source : Option (List ℕ)) (old new : Reader) (s : State) (before now then : Option (List ℕ)) (gathered : List ℕ) where
-  at_end : (refused : Bool) → Walk stream source old s before now gathered → then ≡ append_known now gathered → NextsStatement (Err stop.End) old new → new.passed ≤ 2 ^ 28 → s.has_refused ≡ refused → Ran stream (stop_status stop.End refused) source new.left before then
-  at_end false w wrote end limit h = Walk-done stream source new.left old new s before now then gathered w wrote no_items end limit (has_refused_is s false h)
-  at_end true w wrote end limit h = Walk-refusals stream source new.left old new s before now then gathered w wrote no_items end limit (has_refused_is s true h)
+module _ (base : Position) (P : State → Type 0) (source : Option (List ℕ)) (old new : Reader) (s : State) (before now then : Option (List ℕ)) (gathered : List ℕ) (w : StreamWalk base source old s before now gathered) (p : P s) where
+  m : Machine State Statement
+  m = stream (fault_at s.halted (number_of s)) base
 
-  at_stop : (why : Stop) → Walk stream source old s before now gathered → then ≡ append_known now gathered → NextsStatement (Err why) old new → new.passed ≤ 2 ^ 28 → Ran stream (stop_status why s.has_refused) source new.left before then
-  at_stop stop.End w wrote h limit = at_end s.has_refused w wrote h limit refl
-  at_stop stop.ReadFault w wrote h limit = Walk-read_fault stream h.0 source old new s before now then gathered w wrote h.1
-  at_stop stop.InputTooLong w wrote h limit = Walk-too_long stream h.0 h.1 source new.left old new s before now then gathered w wrote h.2
-  at_stop stop.NoMemory w wrote h limit = Walk-no_memory stream source new.left old s before now then gathered w wrote
+  at_stop : (why : Stop) → then ≡ append_known now gathered → NextsStatement (Err why) old new → new.passed ≤ 2 ^ 28 → Ran m P (stop_status why s.halted s.has_refused) source new.left before then
+  at_stop stop.End wrote h limit = walked_all m P source new.left old s before now then gathered w p new wrote no_items h limit
+  at_stop stop.ReadFault wrote h limit = walked_to_read_fault m P source new.left old s before now then gathered w p h.0 new wrote h.1
+  at_stop stop.InputTooLong wrote h limit = walked_too_long m P source new.left old s before now then gathered w p h.0 h.1 new wrote h.2
+  at_stop stop.NoMemory wrote h limit = walked_to_item m P source new.left old s before now then gathered w p wrote
 
   -- what is gathered couldn't be written
-  pub cut : (status : Status) → Walk stream source old s before now gathered → IsCutShort gathered now then → status ≡ WriteFault → Ran stream status source new.left before then
-  cut status w short ended =
-      subst (λ (x : Status). Ran stream x source new.left before then) (sym ended) (Walk-write_fault stream source new.left old s before now then gathered w short)
+  pub cut : (status : Status) → IsCutShort gathered now then → status ≡ unless_failed s.halted WriteFault → Ran m P status source new.left before then
+  cut status short ended =
+      subst (λ (x : Status). Ran m P x source new.left before then) (sym ended) (walked_to_write_fault m P source new.left old s before now then gathered w p short)
 
   -- no item came
-  pub stopped : (why : Stop) (refused : Bool) (status : Status) → Walk stream source old s before now gathered → NextsStatement (Err why) old new → new.passed ≤ 2 ^ 28 → refused ≡ s.has_refused → Ends why refused status gathered now then → Ran stream status source new.left before then
-  stopped why refused status w h limit is (inl wrote) =
-      subst (λ (x : Status). Ran stream x source new.left before then) (sym (wrote.0 ∙ ap (stop_status why) is)) (at_stop why w wrote.1 h limit)
-  stopped why refused status w h limit is (inr fails) = cut status w fails.1 fails.0
+  pub stopped : (why : Stop) (status : Status) → NextsStatement (Err why) old new → new.passed ≤ 2 ^ 28 → Ends why s.halted s.has_refused status gathered now then → Ran m P status source new.left before then
+  stopped why status h limit (inl wrote) =
+      subst (λ (x : Status). Ran m P x source new.left before then) (sym wrote.0) (at_stop why wrote.1 h limit)
+  stopped why status h limit (inr fails) = cut status fails.1 fails.0
 
   -- an item was not answered
-  pub unanswered : (refused : Bool) (status : Status) → Walk stream source old s before now gathered → Ends stop.NoMemory refused status gathered now then → Ran stream status source new.left before then
-  unanswered refused status w (inl wrote) =
-      subst (λ (x : Status). Ran stream x source new.left before then) (sym wrote.0) (Walk-no_memory stream source new.left old s before now then gathered w wrote.1)
-  unanswered refused status w (inr fails) = cut status w fails.1 fails.0
+  pub unanswered : (status : Status) → Ends stop.NoMemory s.halted s.has_refused status gathered now then → Ran m P status source new.left before then
+  unanswered status (inl wrote) =
+      subst (λ (x : Status). Ran m P x source new.left before then) (sym wrote.0) (walked_to_item m P source new.left old s before now then gathered w p wrote.1)
+  unanswered status (inr fails) = cut status fails.1 fails.0

@@ -46,6 +46,11 @@ pub record DoesOn {D : Type 0} (answer : State → Answer) (s t : StreamOn D) (o
   pub left : t.state ≡ (answer s.state).state
   pub wrote : new ≡ old ++ (answer s.state).text
 
+-- The desk is as it was.
+pub record Stays {D : Type 0} (s t : StreamOn D) : Type 0 where
+  pub store : t.store ≡ s.store
+  pub halted : t.state.halted ≡ s.state.halted
+
 -- What a statement does to the disks: nothing; or it is one at a desk that isn't halted, and at every moment a crash leaves
 -- what stands for the position before it, or for the one behind it where no disk fails. A disk is said to have failed only
 -- where its count rose.

@@ -9,7 +9,7 @@ ghost use Rattle.racf_desk.specs.Position.{Position};
 ghost use Rattle.racf_run.specs.Durable.{MovesBy, StaysAlong, fault_in};
 ghost use Rattle.racf_run.specs.Gathering.{IsCutShort, Settles};
 ghost use Rattle.racf_run.specs.Runs.{Ran, longest_input};
-ghost use Rattle.racf_run.specs.Script.{stream, fault_of, is_whole, script_output, script_status, StandsAt};
+ghost use Rattle.racf_run.specs.Script.{stream, stream as machine, fault_of, is_whole, script_output, script_status, StandsAt};
 ghost use Rattle.racf_run.specs.Processing.{Ends, Processes, stop_status, unless_failed};
 ghost use Rattle.racf_run.specs.Stream.{new_stream};
 
@@ -88,7 +88,7 @@ fn run<S: Source, O: Sink, D: Disk>(
 ) -> Status
     requires begins { lines.old ≡ at_start lines.old.left lines.old.faults }
     requires new { stream.old.state ≡ new_stream stream.old.state.position }
-    ensures ran { Ran (stream (fault_in stream.new) stream.old.state.position) (λ s. stream.new.state ≡ s) result lines.old.left lines.new.left (O.taken sink.old) (O.taken sink.new) }
+    ensures ran { Ran (machine (fault_in stream.new) stream.old.state.position) (λ s. stream.new.state ≡ s) result lines.old.left lines.new.left (O.taken sink.old) (O.taken sink.new) }
     ensures moments { StaysAlong D.tells stream.old.state.position lines.old.left stream.old.store stream.new.store }
     ensures second { stream.new.store.second ≡ stream.old.store.second }
     ensures read_fault { result ≡ Status.ReadFault → Rose lines.old.faults lines.new.faults }

@@ -42,7 +42,7 @@ impl<D: Disk> Model for Stream<D> {
 
 impl<D: Disk> Stream<D> {
     ghost use Rattle.request_files.specs.Seen.{line_read};
-    ghost use Rattle.racf_run.specs.Durable.{Moves, StandsIn, fault_in, DoesOn};
+    ghost use Rattle.racf_run.specs.Durable.{Moves, Stays, StandsIn, fault_in, DoesOn};
     ghost use Rattle.racf_run.specs.Stream.{new_stream, answer, answer_line, request, refuse, command, name_issuer};
 
     /// The state before the first line. Where memory is short, the desk is given back.
@@ -155,7 +155,7 @@ impl<D: Disk> Stream<D> {
     fn name_issuer(&mut self, text: &LineText, out: &mut Vec<u8>) -> Result<(), AllocError>
         ensures ok { OnOk result (DoesOn (name_issuer text.now) self.old self.new out.old.items out.new.items) }
         ensures err { OnErr result (self.new ≡ self.old) }
-        ensures store { self.new.store ≡ self.old.store }
+        ensures stays { Stays self.old self.new }
     {
         match read_issuer(text.as_slice()) {
             Ok(issuer) => {
@@ -176,7 +176,7 @@ impl<D: Disk> Stream<D> {
     ) -> Result<(), AllocError>
         ensures ok { OnOk result (DoesOn (request text.now) self.old self.new out.old.items out.new.items) }
         ensures err { OnErr result (self.new ≡ self.old) }
-        ensures store { self.new.store ≡ self.old.store }
+        ensures stays { Stays self.old self.new }
     {
         self.answer(alloc, &read_line(text.as_slice()), out)
     }
@@ -190,7 +190,7 @@ impl<D: Disk> Stream<D> {
     ) -> Result<(), AllocError>
         ensures ok { OnOk result (DoesOn (answer_line (line_read line.now)) self.old self.new out.old.items out.new.items) }
         ensures err { OnErr result (self.new ≡ self.old) }
-        ensures store { self.new.store ≡ self.old.store }
+        ensures stays { Stays self.old self.new }
     {
         let refused = respond(alloc, line, self.desk.image(), &mut self.acees, out)?;
         self.has_refused = self.has_refused || refused;
@@ -201,7 +201,7 @@ impl<D: Disk> Stream<D> {
     fn refuse(&mut self, why: Refusal, out: &mut Vec<u8>) -> Result<(), AllocError>
         ensures ok { OnOk result (DoesOn (refuse why) self.old self.new out.old.items out.new.items) }
         ensures err { OnErr result (self.new ≡ self.old) }
-        ensures store { self.new.store ≡ self.old.store }
+        ensures stays { Stays self.old self.new }
     {
         Reply::Refused(why).write_line(self.desk.number(), out)?;
         self.has_refused = true;

@@ -5,48 +5,34 @@ use Rattle.raclist_image.specs.Imaged.{Imaged}
 use Rattle.racf_profiles.specs.Edits.{changed}
 use Rattle.command_effects.specs.Effects.{step}
 use Rattle.command_effects.specs.Edits.{edits_of}
-use Rattle.command_authority.specs.Authority.{need}
-use Rattle.command_conflicts.specs.Conflicts.{conflict_of, first_conflict_of}
 use Rattle.racf_desk.specs.Outcome.{most_number}
-use Rattle.racf_desk.proofs.MakingLaws.{none_met, within, behind, made_is}
+use Rattle.racf_desk.proofs.MakingLaws.{unspent, within, behind, made_is}
 use Rattle.racf_desk.proofs.making.make.Goals as goal
-
--- no conflict is met
-pub prepare-requires : goal.prepare-requires
-prepare-requires c =
-    let issuer = c.args.issued.now.issuer in
-    let command = c.args.issued.now.command in
-    let rows = c.args.database.now.rows in
-    (none_met (first_conflict_of issuer command rows) (need rows issuer command) (conflict_of issuer command rows) _ c.requires.accepted).0
 
 pub returns-clause-made : goal.returns-clause-made
 returns-clause-made c =
     let position = arc_value c.args.image.now in
-    let issued = c.args.issued.now in
+    let given = c.args.given.now in
     let change = c.in_ok-change.change in
     let same = c.requires.image.same in
-    let edits = c.in_ok-change.ensures.edits ∙ sym (ap (edits_of issued.issuer issued.command) same) in
-    let made = ap (changed change.edits) same ∙ c.in_ok-change.ensures.step ∙ sym (ap (step issued.issuer issued.command) same) in
+    let edits = c.in_ok-change.ensures.edits ∙ sym (ap (edits_of given.issuer given.command) same) in
+    let made = ap (changed change.edits) same ∙ c.in_ok-change.ensures.step ∙ sym (ap (step given.issuer given.command) same) in
     let seen = ap (λ (i : Imaged). i.state) c.deref-2.ensures in
-    made_is position issued (c.generation-number.result + 1) c.in_ok-text.text change (arc_value c.in_ok-image.image)
-    (ap (λ n. n + 1) (c.generation-number.ensures ∙ ap (λ (i : Imaged). i.generation) c.deref.ensures)) c.in_ok-text.ensures edits
+    made_is position given (c.generation-number.result + 1) c.in_ok-text.text c.in_ok-entry.entry change (arc_value c.in_ok-image.image)
+    (ap (λ n. n + 1) (c.generation-number.ensures ∙ ap (λ (i : Imaged). i.generation) c.deref.ensures)) c.in_ok-text.ensures c.in_ok-entry.ensures edits
     (c.in_ok-image.ensures
     ∙ ap (λ (s : State). record { state = s; generation = c.generation-number.result + 1 })
-    (ap (changed_state change.edits) seen ∙ behind issued change.edits position.state edits made (c.rows_are_changed.ensures change.edits position.state) c.in_ok-change.ensures.listed))
+    (ap (changed_state change.edits) seen ∙ behind given change.edits position.state edits made (c.rows_are_changed.ensures change.edits position.state) c.in_ok-change.ensures.listed))
 
 pub returns-clause-behind : goal.returns-clause-behind
 returns-clause-behind c =
-    let issuer = c.args.issued.now.issuer in
-    let command = c.args.issued.now.command in
-    let rows = c.args.database.now.rows in
     let change = c.in_ok-change.change in
     let position = arc_value c.args.image.now in
-    let unspent = (none_met (first_conflict_of issuer command rows) (need rows issuer command) (conflict_of issuer command rows) position.generation c.requires.accepted).1 in
     let seen = ap (λ (i : Imaged). i.state) c.deref-2.ensures in
     record {
       same = ap (λ (i : Imaged). i.state.rows) c.in_ok-image.ensures ∙ ap (λ (s : State). (changed_state change.edits s).rows) seen ∙ c.rows_are_changed.ensures change.edits position.state ∙ ap (changed change.edits) c.requires.image.same;
       number =
           subst (λ n. n ≤ most_number)
           (sym (ap (λ (i : Imaged). i.generation) c.in_ok-image.ensures ∙ ap (λ n. n + 1) (c.generation-number.ensures ∙ ap (λ (i : Imaged). i.generation) c.deref.ensures)))
-          (within position.generation unspent);
+          (within position.generation (unspent position.generation c.requires.numbered));
     }

@@ -15,6 +15,8 @@ pub mod Processing
 pub mod Settling
 pub mod StreamWalk
 pub mod Moments
+pub mod ScriptLaws
+pub mod TopLaws
 pub mod Resting
 pub mod PrintedLaws
 pub mod FailedLaws

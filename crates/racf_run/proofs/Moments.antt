@@ -36,7 +36,7 @@ stands_walked base source reader s before now gathered w position is one other s
     }
 
 -- beside whatever a crash leaves of the second disk
-beside_weaker : (second : Option History) (P Q : List ℕ → List ℕ → Type 0) (one : List ℕ) → ((other : List ℕ) → P one other → Q one other) → Beside second P one → Beside second Q one
+pub beside_weaker : (second : Option History) (P Q : List ℕ → List ℕ → Type 0) (one : List ℕ) → ((other : List ℕ) → P one other → Q one other) → Beside second P one → Beside second Q one
 beside_weaker second P Q one weaker p history told = Leaves-weaker (P one) (Q one) history.now weaker (p history told)
 
 new_position : (base : Position) → base ≡ (new_stream base).position

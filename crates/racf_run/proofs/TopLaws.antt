@@ -31,9 +31,9 @@ ends_new tells desk running settled leaves =
 -- and behind a run
 ends_at : {D : Type 0} (tells : D → Option History) (desk : DeskOn D) → (desk.halted ≡ false → LeavesIt tells desk.store desk.position) → (s : State) → StandsAt desk s → (fault_of desk ≡ fault_at s.halted (number_of s)) × EndsAt tells desk s
 ends_at tells desk leaves s stands = (
-    ap (λ h. fault_at h desk.position.image.generation) stands.halted ∙ ap (λ (p : Position). fault_at s.halted p.image.generation) stands.position,
-    record { stands = stands; leaves = λ h. subst (LeavesIt tells desk.store) stands.position (leaves (stands.halted ∙ h)) },
-  )
+  ap (λ h. fault_at h desk.position.image.generation) stands.halted ∙ ap (λ (p : Position). fault_at s.halted p.image.generation) stands.position,
+  record { stands = stands; leaves = λ h. subst (LeavesIt tells desk.store) stands.position (leaves (stands.halted ∙ h)) },
+)
 
 pub ran_to : {D : Type 0} (tells : D → Option History) (desk : DeskOn D) (base : Position) (told_any : Bool) (status : Status) (source input left before now : Option (List ℕ)) (name : List ℕ) (old new : List ℕ → Option (List ℕ))
     → Ran (stream (fault_of desk) base) (StandsAt desk) status source left before now → (desk.halted ≡ false → LeavesIt tells desk.store desk.position)

@@ -53,6 +53,10 @@ goes_on base (Some item) bytes source old new s t before now gathered more w tak
     Walk-items (stream (fault_in t) base) (item ∷ []) bytes source old new s.state t.state before now gathered more
     (fault_of_next base source old item s.state t.state before now gathered (works.state ∙ step_is (fault_in t) item s.state) w) takes works.state works.text
 
+-- the status of a write that failed, by what the state tells
+pub failed_status : (status : Status) (told halted : Bool) → status ≡ unless_failed told WriteFault → told ≡ halted → status ≡ unless_failed halted WriteFault
+failed_status status told halted is same = is ∙ ap (λ failed. unless_failed failed WriteFault) same
+
 module _ (base : Position) (P : State → Type 0) (source : Option (List ℕ)) (old new : Reader) (s : State) (before now then : Option (List ℕ)) (gathered : List ℕ) (w : StreamWalk base source old s before now gathered) (p : P s) where
   abbrev pub m : Machine State Statement
   m = stream (fault_at s.halted (number_of s)) base

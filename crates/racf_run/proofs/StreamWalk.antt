@@ -1,5 +1,5 @@
 -- The run of the stream: how it begins, how a statement goes on with it, and what stands at each of its stops.
-use Rattle.std.proofs.Common.{◌≡◌, ℕ, ◌≤◌, ◌^◌, Bool, true, false, List, [], ◌∷◌, ◌++◌, None, Some, Ok, Err, inl, inr, refl, sym, ◌∙◌, ap, subst, arith}
+use Rattle.std.proofs.Common.{◌≡◌, ℕ, ◌≤◌, ◌^◌, Bool, false, List, [], ◌∷◌, None, Some, Err, inl, inr, refl, sym, ◌∙◌, ap, subst, arith}
 use Rattle.std.specs.Prelude.{Option}
 use Rattle.std.specs.Option.{option_to_list}
 use Rattle.std.specs.Io.KnownBytes.{append_known}
@@ -9,12 +9,12 @@ use Rattle.racf_run.specs.declared.input.Stop.{Stop}
 use Rattle.racf_run.specs.declared.input.Stop.TheVariants as stop
 use Rattle.racf_run.specs.declared.statement.Statement.{Statement}
 use Rattle.racf_run.specs.declared.status.Status.{Status}
-use Rattle.racf_run.specs.declared.status.Status.TheVariants.{WriteFault, NoMemory}
+use Rattle.racf_run.specs.declared.status.Status.TheVariants.{WriteFault}
 use Rattle.racf_run.specs.Durable.{StreamOn, fault_in}
 use Rattle.racf_run.specs.Runs.{Machine, Ran}
 use Rattle.racf_run.specs.Gathering.{IsCutShort}
 use Rattle.racf_run.specs.NextStatement.{TakesStatements, NextsStatement}
-use Rattle.racf_run.specs.Stream.{State, number_of, new_stream, answer}
+use Rattle.racf_run.specs.Stream.{State, number_of, new_stream}
 use Rattle.racf_run.specs.Script.{stream, statements, fault_at}
 use Rattle.racf_run.specs.Processing.{Ends, Works, stop_status, unless_failed}
 use Rattle.racf_run.proofs.Faults.{step_is, fault_of_next}

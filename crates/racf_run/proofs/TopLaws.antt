@@ -1,19 +1,18 @@
 -- What the top call says of the shelf and of the disks, by what its parts say.
-use Rattle.std.proofs.Common.{◌≡◌, ◌⊎◌, ℕ, Bool, false, List, [], inl, inr, refl, sym, ◌∙◌, ap, subst}
+use Rattle.std.proofs.Common.{◌≡◌, ℕ, Bool, false, List, [], inl, inr, refl, sym, ◌∙◌, ap, subst}
 use Rattle.std.specs.Prelude.{Option, Result}
-use Rattle.racf_outside.specs.Crashes.{Leaves, StaysIn}
+use Rattle.racf_outside.specs.Crashes.{StaysIn}
 use Rattle.racf_outside.specs.declared.streams.Failed.{Failed}
-use Rattle.racf_outside.specs.Disk.{History, Now}
-use Rattle.racf_outside.specs.Moments.{Moment}
+use Rattle.racf_outside.specs.Disk.{History}
 use Rattle.racf_outside.specs.Shelf.{told, SameOthers}
 use Rattle.racf_outside.proofs.Runs.{StaysIn-joined, StaysIn-weaker}
-use Rattle.racf_checkpoint.specs.Stored.{StoreOn, Beside}
+use Rattle.racf_checkpoint.specs.Stored.{Beside}
 use Rattle.racf_desk.specs.Durable.{LeavesIt, WasPossible, StaysPossible}
 use Rattle.racf_desk.specs.Made.{DeskOn}
 use Rattle.racf_desk.specs.Position.{Position}
 use Rattle.racf_run.specs.declared.status.Status.{Status}
-use Rattle.racf_run.specs.Durable.{StandsForFront, StaysAlong}
-use Rattle.racf_run.specs.Racf.{Files, RanTo, OpensNothing, OpensNoOutput, OpensBoth, RunsOnShelf, EndsAt, EndsOn, StoodFor, StandsAlong, StaysAlongFrom}
+use Rattle.racf_run.specs.Durable.{StandsForFront}
+use Rattle.racf_run.specs.Racf.{Files, RanTo, RunsOnShelf, EndsAt, EndsOn, StoodFor, StandsAlong, StaysAlongFrom}
 use Rattle.racf_run.specs.Runs.{Ran}
 use Rattle.racf_run.specs.Script.{stream, fault_at, fault_of, StandsAt}
 use Rattle.racf_run.specs.Stream.{State, number_of, new_stream}

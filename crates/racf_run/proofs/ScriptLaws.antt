@@ -1,5 +1,5 @@
 -- What a stream's run says of the desk that it was given and gives back.
-use Rattle.std.proofs.Common.{◌≡◌, ℕ, ◌+◌, ◌<◌, ◌≤◌, ◌^◌, Bool, true, false, List, [], ◌∷◌, ◌++◌, length, None, Some, refl, sym, ◌∙◌, ap, subst, arith, append-nil, length-append}
+use Rattle.std.proofs.Common.{◌≡◌, ℕ, ◌+◌, ◌<◌, Bool, true, false, List, [], ◌++◌, length, None, Some, refl, sym, ◌∙◌, ap, subst, arith, append-nil, length-append}
 use Rattle.std.specs.Prelude.{Option, IsTrue, IfSome}
 use Rattle.std.specs.Io.KnownBytes.{prepend_known, append_known, IsAtEnd}
 use Rattle.racf_outside.specs.Disk.{History}
@@ -11,7 +11,7 @@ use Rattle.racf_run.specs.declared.status.Status.{Status}
 use Rattle.racf_run.specs.declared.status.Status.TheVariants.{Done, Refusals, Usage, ReadFault, WriteFault, DiskFault, NotFormatted, Damaged, NoMemory, InputTooLong}
 use Rattle.racf_run.specs.Durable.{StreamOn, StandsIn, StaysAlong, fault_in}
 use Rattle.racf_run.specs.Runs.{Machine, after, output, longest_input, Ran, Wrote, WroteAll, whole_status, status_of}
-use Rattle.racf_run.specs.Script.{stream, statements, fault_at, fault_of, is_whole, script_output, script_status, StandsAt}
+use Rattle.racf_run.specs.Script.{stream, fault_at, fault_of, is_whole, script_output, script_status, StandsAt}
 use Rattle.racf_run.specs.Stream.{State, number_of, new_stream}
 
 -- a new stream stands at its base

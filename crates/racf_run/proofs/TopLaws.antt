@@ -1,19 +1,18 @@
 -- What the top call says of the shelf and of the disks, by what its parts say.
-use Rattle.std.proofs.Common.{◌≡◌, ◌⊎◌, ℕ, Bool, false, List, [], inl, inr, refl, sym, ◌∙◌, ap, subst}
+use Rattle.std.proofs.Common.{◌≡◌, ℕ, Bool, false, List, [], inl, inr, refl, sym, ◌∙◌, ap, subst}
 use Rattle.std.specs.Prelude.{Option, Result}
-use Rattle.racf_outside.specs.Crashes.{Leaves, StaysIn}
+use Rattle.racf_outside.specs.Crashes.{StaysIn}
 use Rattle.racf_outside.specs.declared.streams.Failed.{Failed}
-use Rattle.racf_outside.specs.Disk.{History, Now}
-use Rattle.racf_outside.specs.Moments.{Moment}
+use Rattle.racf_outside.specs.Disk.{History}
 use Rattle.racf_outside.specs.Shelf.{told, SameOthers}
 use Rattle.racf_outside.proofs.Runs.{StaysIn-joined, StaysIn-weaker}
-use Rattle.racf_checkpoint.specs.Stored.{StoreOn, Beside}
+use Rattle.racf_checkpoint.specs.Stored.{Beside}
 use Rattle.racf_desk.specs.Durable.{LeavesIt, WasPossible, StaysPossible}
 use Rattle.racf_desk.specs.Made.{DeskOn}
 use Rattle.racf_desk.specs.Position.{Position}
 use Rattle.racf_run.specs.declared.status.Status.{Status}
-use Rattle.racf_run.specs.Durable.{StandsForFront, StaysAlong}
-use Rattle.racf_run.specs.Racf.{Files, RanTo, OpensNothing, OpensNoOutput, OpensBoth, RunsOnShelf, EndsAt, EndsOn, StoodFor, StandsAlong, StaysAlongFrom}
+use Rattle.racf_run.specs.Durable.{StandsForFront}
+use Rattle.racf_run.specs.Racf.{Files, RanTo, RunsOnShelf, EndsAt, EndsOn, StoodFor, StandsAlong, StaysAlongFrom}
 use Rattle.racf_run.specs.Runs.{Ran}
 use Rattle.racf_run.specs.Script.{stream, fault_at, fault_of, StandsAt}
 use Rattle.racf_run.specs.Stream.{State, number_of, new_stream}
@@ -31,9 +30,9 @@ ends_new tells desk running settled leaves =
 -- and behind a run
 ends_at : {D : Type 0} (tells : D → Option History) (desk : DeskOn D) → (desk.halted ≡ false → LeavesIt tells desk.store desk.position) → (s : State) → StandsAt desk s → (fault_of desk ≡ fault_at s.halted (number_of s)) × EndsAt tells desk s
 ends_at tells desk leaves s stands = (
-    ap (λ h. fault_at h desk.position.image.generation) stands.halted ∙ ap (λ (p : Position). fault_at s.halted p.image.generation) stands.position,
-    record { stands = stands; leaves = λ h. subst (LeavesIt tells desk.store) stands.position (leaves (stands.halted ∙ h)) },
-  )
+  ap (λ h. fault_at h desk.position.image.generation) stands.halted ∙ ap (λ (p : Position). fault_at s.halted p.image.generation) stands.position,
+  record { stands = stands; leaves = λ h. subst (LeavesIt tells desk.store) stands.position (leaves (stands.halted ∙ h)) },
+)
 
 pub ran_to : {D : Type 0} (tells : D → Option History) (desk : DeskOn D) (base : Position) (told_any : Bool) (status : Status) (source input left before now : Option (List ℕ)) (name : List ℕ) (old new : List ℕ → Option (List ℕ))
     → Ran (stream (fault_of desk) base) (StandsAt desk) status source left before now → (desk.halted ≡ false → LeavesIt tells desk.store desk.position)

@@ -1,11 +1,10 @@
-use Rattle.std.proofs.Common.{◌≡◌, ℕ, List, sym, ◌∙◌, ap, subst}
+use Rattle.std.proofs.Common.{◌≡◌, ℕ, List, sym, ap, subst}
 use Rattle.std.specs.Prelude.{Option}
 use Rattle.racf_outside.specs.Reader.{Reader}
 use Rattle.racf_desk.specs.Made.{DeskOn}
 use Rattle.racf_run.specs.Durable.{StreamOn, StaysAlong}
 use Rattle.racf_run.specs.Runs.{Ran}
 use Rattle.racf_run.specs.Script.{stream, fault_of, StandsAt}
-use Rattle.racf_run.specs.Stream.{State}
 use Rattle.racf_run.specs.declared.status.Status.TheVariants.{NoMemory}
 use Rattle.racf_run.proofs.Walk.{none_read}
 use Rattle.racf_run.proofs.Moments.{StaysAlong-none}

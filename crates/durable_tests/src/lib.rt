@@ -1,0 +1,2 @@
+//! No code, but tests: the desk and streams over disks in memory.
+#![tactic(auto)]

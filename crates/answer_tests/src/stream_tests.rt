@@ -284,16 +284,18 @@ const ACCEPTED: &str = "0 0 VERIFIED\n1 ACCEPTED\n";
 
 const WHOLE: &str = "0 0 VERIFIED\n1 ACCEPTED\n1 0 VERIFIED\n";
 
-/// Streams of which a read or a write fails, or none.
-const MID_STREAM: [Worked<'static>; 9] = [
+/// Streams of which a read or a write fails, or none. The replies are written behind each command that is accepted, and
+/// else before the next read and at the end: what waited in one call, and the newest reply in another.
+const MID_STREAM: [Worked<'static>; 10] = [
     (THREE, 0, 0, WHOLE, Status::Done),
     (THREE, 1, 0, "", Status::ReadFault),
     (THREE, 2, 0, ACCEPTED, Status::ReadFault),
     (THREE, 0, 1, "", Status::WriteFault),
-    (THREE, 0, 2, ACCEPTED, Status::WriteFault),
-    // One call writes the replies to all lines that end in a block: a second one would fail.
-    (FED, 0, 2, WHOLE, Status::Done),
-    (FED, 0, 1, "", Status::WriteFault),
+    (THREE, 0, 2, VERIFIED, Status::WriteFault),
+    (THREE, 0, 3, ACCEPTED, Status::WriteFault),
+    // A fourth call would fail.
+    (FED, 0, 4, WHOLE, Status::Done),
+    (FED, 0, 3, ACCEPTED, Status::WriteFault),
     (JOINED, 0, 0, ACCEPTED, Status::Done),
     (JOINED, 2, 0, VERIFIED, Status::ReadFault),
 ];

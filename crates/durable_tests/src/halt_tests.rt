@@ -44,10 +44,10 @@ fn executed(alloc: Global, desk: &mut Desk<MemoryDisk>, text: &[u8]) -> Answer
 fn judged(alloc: Global, desk: &mut Desk<MemoryDisk>, text: &[u8]) -> Answer
     requires settled { desk.old.committed ≡ false }
 {
-    match desk.judge(alloc, ibmuser(), None, text) {
-        Ok(_) => Answer::Other,
-        Err(reply) => kind_of(&reply),
-    }
+    let Err(reply) = desk.judge(alloc, ibmuser(), None, text) else {
+        return Answer::Other;
+    };
+    kind_of(&reply)
 }
 
 /// The call of the first disk that fails; what is answered to `AU JOE`, `AU BOB` and `AX`, which is no command; and where

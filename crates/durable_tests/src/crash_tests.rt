@@ -1,8 +1,6 @@
 //! A stream over a disk of which each call fails in turn: what is printed, what a read of the disk gives then, and where
 //! a desk stands that is opened over what a crash leaves at that moment.
 
-ghost use Rattle.std.specs.Prelude.{◌≡◌, false};
-
 use crate::layout_tests::{NEW, Opened, Stand, disks_of, open_desk, read_as, stand_of};
 use racf_desk::Desk;
 use racf_outside::{MemoryDisk, MemorySink, MemorySource, Two};

@@ -1,18 +1,17 @@
 -- What a desk keeps on its disks: how an append leads them on, and what crashes leave.
-use Rattle.std.proofs.Common.{◌≡◌, ℕ, ◌+◌, ◌≤◌, ◌^◌, Bool, true, false, cond, List, [], ◌∷◌, ◌++◌, length, drop, Option, Some, None, Result, Ok, Err, ◌⊎◌, inl, inr, refl, sym, ◌∙◌, ap, subst, arith, length-drop}
+use Rattle.std.proofs.Common.{◌≡◌, ℕ, ◌+◌, ◌≤◌, ◌^◌, Bool, true, false, cond, List, [], ◌∷◌, ◌++◌, length, Option, Some, None, Result, Ok, Err, ◌⊎◌, inl, inr, refl, sym, ◌∙◌, ap, subst}
 use Rattle.std.specs.Prelude.{nat_lt, MatchOption, IsSome}
 use Rattle.std.specs.Option.{option_map}
 use Rattle.std.specs.Arc.{arc_value}
 use Rattle.std.proofs.lemmas.Bool.{ltb-false}
-use Rattle.racf_outside.specs.Crashes.{Leaves, StaysIn}
+use Rattle.racf_outside.specs.Crashes.{StaysIn}
 use Rattle.racf_outside.specs.Disk.{History, Now}
-use Rattle.racf_outside.specs.Moments.{Moment}
 use Rattle.racf_outside.proofs.Runs.{Leaves-weaker, StaysIn-none, StaysIn-weaker}
 use Rattle.racf_profiles.specs.Edits.{changed}
 use Rattle.racf_profiles.specs.declared.rows.Rows.{Rows}
 use Rattle.racf_journal.specs.Reading.{IsRecord}
-use Rattle.racf_checkpoint.specs.Contents.{Says, SaysEither}
-use Rattle.racf_checkpoint.specs.Stored.{IsStored, Beside, Stores, StoreOn}
+use Rattle.racf_checkpoint.specs.Contents.{SaysEither}
+use Rattle.racf_checkpoint.specs.Stored.{Beside, Stores, StoreOn}
 use Rattle.racf_checkpoint.proofs.Steps.{IsStoredSome, SaysSome, stored_leaves, append_leaves, append_keeps}
 use Rattle.journal_records.specs.declared.record.CommandRecord.{CommandRecord}
 use Rattle.journal_records.specs.Spelling.{spelled}
@@ -23,7 +22,7 @@ use Rattle.racf_desk.specs.declared.refusal.Refusal.{Refusal}
 use Rattle.racf_desk.specs.declared.refusal.Refusal.TheVariants as refusal
 use Rattle.racf_desk.specs.Images.{IsImageOf}
 use Rattle.racf_desk.specs.Outcome.{most_bytes, first_of, rules_of, journal_full, number_spent, refusal_of, outcome_in, outcome}
-use Rattle.racf_desk.specs.Position.{Position, position_behind, position_after, restarted}
+use Rattle.racf_desk.specs.Position.{Position, position_after}
 use Rattle.racf_desk.specs.Made.{Made, DeskOn, made_at, made_in, made_of_outcome, installed, IsRecorded}
 use Rattle.racf_desk.specs.Recovery.{StandsFor, StandsForEither, outcome_again}
 use Rattle.racf_desk.specs.Durable.{LeadTo, StandsThere, LeavesIt, StaysEither, stands_at}
@@ -75,7 +74,7 @@ pub ready : (database : Database) (position : Position) (number : ℕ) (rows : R
     → IsReady database position (made_in value)
 ready database position number rows id group text given value made counts shows same decided unrefused recorded seen is prepared image =
     let here : outcome position id group text ≡ Ok given =
-        ap (λ (r : Rows). outcome_in position.gate position.image.generation r id group text) shows ∙ ap (λ n. outcome_in position.gate n rows id group text) (sym counts) ∙ sym decided in
+    ap (λ (r : Rows). outcome_in position.gate position.image.generation r id group text) shows ∙ ap (λ n. outcome_in position.gate n rows id group text) (sym counts) ∙ sym decided in
     subst (λ (r : Ready). IsReady database position (made_in r)) (sym seen)
     (ready_at database position given (made_in made) is prepared (subst (λ (r : Rows). IsImageOf (changed made.change.edits r) (arc_value made.image)) (sym same) image) recorded
     (accepted_leads position id group text given here)
@@ -106,7 +105,7 @@ stands_by_either position next first second (records, says, inl leads) = inl (st
 stands_by_either position next first second (records, says, inr leads) = inr (standing_by next records first second says leads)
 
 -- what files of the first disk have beside whatever the second leaves, where they have more than that
-beside_weaker : (P Q : (first second : List ℕ) → Type 0) (second : Option History) → ((first other : List ℕ) → P first other → Q first other) → (first : List ℕ) → Beside second P first → Beside second Q first
+pub beside_weaker : (P Q : (first second : List ℕ) → Type 0) (second : Option History) → ((first other : List ℕ) → P first other → Q first other) → (first : List ℕ) → Beside second P first → Beside second Q first
 beside_weaker P Q second weaker first p other told = Leaves-weaker (P first) (Q first) other.now (weaker first) (p other told)
 
 -- Where a store stands at a position, every crash leaves what stands for it.

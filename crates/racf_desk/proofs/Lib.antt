@@ -6,3 +6,4 @@ mod RecoveryRows
 pub mod RecoveryLaws
 mod RepeatLaws
 mod DeskLaws
+mod OpenLaws

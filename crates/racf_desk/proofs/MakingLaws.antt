@@ -1,6 +1,6 @@
 -- What is made of an accepted command is the position behind it.
-use Rattle.std.proofs.Common.{◌≡◌, ℕ, ◌+◌, ◌≤◌, ◌<◌, Bool, true, false, cond, not, List, [], ◌∷◌, Option, Some, None, refl, ◌∙◌, ap, arith}
-use Rattle.std.specs.Prelude.{nat_le, option_map, IsFalse}
+use Rattle.std.proofs.Common.{◌≡◌, ℕ, ◌+◌, ◌≤◌, ◌<◌, Bool, true, false, cond, not, List, [], ◌∷◌, Some, None, refl, ◌∙◌, ap, arith}
+use Rattle.std.specs.Prelude.{nat_le, IsFalse}
 use Rattle.std.specs.List.{list_all}
 use Rattle.std.proofs.lemmas.Bool.{leb-false, and_parts}
 use Rattle.racf_profiles.specs.declared.rows.Rows.{Rows}

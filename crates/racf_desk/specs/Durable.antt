@@ -1,11 +1,11 @@
 -- What the disks of a desk keep, and what every crash leaves of them.
-use Rattle.std.specs.Prelude.{ℕ, ◌≡◌, Bool, true, false, List, Option, Some, Ok}
+use Rattle.std.specs.Prelude.{ℕ, ◌≡◌, Bool, true, List, Option, Some, Ok}
 use Rattle.racf_outside.specs.Crashes.{Leaves, StaysIn}
 use Rattle.racf_outside.specs.Disk.{History, Now}
 use Rattle.racf_outside.specs.Moments.{Moment, IsImage}
 use Rattle.racf_checkpoint.specs.Stored.{IsStored, Beside, StoreOn}
 use Rattle.racf_desk.specs.Position.{Position, restarted}
-use Rattle.racf_desk.specs.Made.{Made, DeskOn, installed}
+use Rattle.racf_desk.specs.Made.{Made, installed}
 use Rattle.racf_desk.specs.Recovery.{recovered, standing, StandsFor, StandsForEither}
 
 -- These records lead to this position, as far as it outlives a restart.

@@ -1,8 +1,8 @@
 -- How a desk is kept: its image, what was made last, as contracts alone see it, and its disks.
-use Rattle.std.specs.Prelude.{◌≡◌, ℕ, ◌+◌, ◌≤◌, ◌^◌, Bool, true, false, List, [], ◌∷◌, ◌++◌, length, Option, Some, MatchOption, IsSome}
+use Rattle.std.specs.Prelude.{◌≡◌, ℕ, ◌+◌, ◌≤◌, ◌^◌, true, false, List, [], ◌∷◌, ◌++◌, length, Option, Some, MatchOption, IsSome}
 use Rattle.std.specs.Option.{option_map}
 use Rattle.std.specs.Arc.{arc_value}
-use Rattle.racf_outside.specs.Disk.{History, Now}
+use Rattle.racf_outside.specs.Disk.{History}
 use Rattle.racf_profiles.specs.Edits.{changed}
 use Rattle.racf_journal.specs.Reading.{IsRecord}
 use Rattle.racf_database.specs.Contents.{Contents as Database}

@@ -1,6 +1,6 @@
 -- What `judge` makes of an accepted command, for `commit` and `install`; what contracts see of a desk; and what its
 -- answers mean.
-use Rattle.std.specs.Prelude.{◌≡◌, ℕ, ◌+◌, ◌≤◌, Bool, true, false, List, length, Option, Some, None, Result, Ok, Err, IsOk}
+use Rattle.std.specs.Prelude.{◌≡◌, ℕ, ◌+◌, ◌≤◌, Bool, true, false, List, length, Option, None, Result, Ok, Err, IsOk}
 use Rattle.std.specs.Arc.{arc_value}
 use Rattle.racf_profiles.specs.declared.edits.Change.{Change}
 use Rattle.raclist_image.specs.Imaged.{Imaged}

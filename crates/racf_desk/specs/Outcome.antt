@@ -11,7 +11,6 @@ use Rattle.std.specs.Prelude.{ℕ, ◌+◌, ◌^◌, nat_le, nat_lt, List, [], �
 use Rattle.racf_profiles.specs.declared.rows.Rows.{Rows}
 use Rattle.command_values.specs.declared.faults.Syntax.{Syntax}
 use Rattle.command_values.specs.declared.faults.Syntax.TheVariants.{UnknownCommand}
-use Rattle.command_parser.specs.declared.commands.Issuer.{Issuer}
 use Rattle.command_parser.specs.declared.fields.CommandFields.{CommandFields}
 use Rattle.command_parser.specs.Canonical.{fault}
 use Rattle.command_parser.specs.CommandOf.{command_in}

@@ -117,14 +117,15 @@ impl<D: Disk> Desk<D> {
     fn fresh(alloc: Global, found: Recovered, store: Store<D>) -> Desk<D>
         requires image { IsImageOf found.database.rows (arc_value found.image) }
         requires stands { StandsThere D.tells store (record { image = arc_value found.image; gate = found.gate }) }
-        ensures { result ≡ is_fresh (record { image = arc_value found.image; gate = found.gate }) store }
+        ensures desk { result ≡ is_fresh (record { image = arc_value found.image; gate = found.gate }) store }
+        ensures leaves { LeavesIt D.tells result.store result.position }
     {
         let Recovered {
             database,
             image,
             gate,
         } = found;
-        Desk {
+        let desk = Desk {
             alloc,
             database,
             image,
@@ -133,7 +134,9 @@ impl<D: Disk> Desk<D> {
             halted: false,
             made: None,
             committed: false,
-        }
+        };
+        desk.is_at_rest();
+        desk
     }
 
     /// How many commands were accepted.
@@ -192,11 +195,20 @@ impl<D: Disk> Desk<D> {
         if self.halted {
             return Err(Reply::Halted(number));
         }
-        let given = match outcome_in(alloc, self.gate, number, &self.database, issuer, group, text) {
+        let given = match outcome_in(
+            alloc,
+            self.gate,
+            number,
+            &self.database,
+            issuer,
+            group,
+            text,
+        ) {
             Ok(Ok(given)) => given,
             Ok(Err(why)) => return Err(Reply::Refused(number, why)),
             Err(_) => return Err(Reply::NoMemory),
         };
+        // Its record is one of the journal, and short.
         is_recorded(&given);
         let Ok(ready) = make(alloc, &mut self.database, &self.image, &given) else {
             return Err(Reply::NoMemory);
@@ -272,6 +284,7 @@ impl<D: Disk> Desk<D> {
         ensures cause { self.old.halted ≡ false → self.new.halted ≡ true → Rose (D.faults self.old.store.journal.disk) (D.faults self.new.store.journal.disk) }
         ensures no_fewer { D.faults self.old.store.journal.disk ≤ D.faults self.new.store.journal.disk }
     {
+        // A refusal leaves the disks as they stand.
         self.is_at_rest();
         let ready = match self.judge(alloc, issuer, group, text) {
             Ok(ready) => ready,

@@ -13,22 +13,26 @@ use Rattle.racf_run.specs.declared.statement.Statement.TheVariants as item
 use Rattle.racf_run.specs.Stream as s
 use Rattle.racf_run.specs.Stream.{State, number_of}
 
-request_as : (r : Result Line LineRefusal) (line : List ℕ) (before : State) → read line ≡ r → s.text (item.Request line) before ≡ (s.answer_line r before).text
+-- A request's text is that of what its line is read as, wherever a disk fails a command.
+request_as : (fault : Option ℕ) (r : Result Line LineRefusal) (line : List ℕ) (before : State) → read line ≡ r → s.text fault (item.Request line) before ≡ (s.answer_line r before).text
 unfolding s.text s.request
-request_as r line before h =
+request_as fault r line before h =
     ap (λ (x : Result Line LineRefusal). (s.answer_line x before).text) h
 
-pub auth_text : (line acee : List ℕ) (access : Access) (user : Acee) (before : State) → read line ≡ Ok (Auth acee access) → acee_named acee before.acees ≡ Some user → s.text (item.Request line) before ≡ decision_text before.position false access user (decided before.position.state (number_of before) user access.class access.name access.asked)
-auth_text line acee access user before h found =
-    request_as (Ok (Auth acee access)) line before h
-    ∙ ap (λ (x : Option Acee). (answer_for before.position before.acees acee (auth_for before.position before.acees access) x).text) found
+pub auth_text : (fault : Option ℕ) (line acee : List ℕ) (access : Access) (user : Acee) (before : State) → read line ≡ Ok (Auth acee access) → acee_named acee before.acees ≡ Some user
+    → s.text fault (item.Request line) before ≡ decision_text before.position.image false access user (decided before.position.image.state (number_of before) user access.class access.name access.asked)
+auth_text fault line acee access user before h found =
+    request_as fault (Ok (Auth acee access)) line before h
+    ∙ ap (λ (x : Option Acee). (answer_for before.position.image before.acees acee (auth_for before.position.image before.acees access) x).text) found
 
-pub fastauth_text : (line acee : List ℕ) (access : Access) (user : Acee) (before : State) → read line ≡ Ok (Fastauth acee access) → acee_named acee before.acees ≡ Some user → s.text (item.Request line) before ≡ decision_text before.position true access user (fast_decided before.position.state (number_of before) user access.class access.name access.asked)
-fastauth_text line acee access user before h found =
-    request_as (Ok (Fastauth acee access)) line before h
-    ∙ ap (λ (x : Option Acee). (answer_for before.position before.acees acee (fastauth_for before.position before.acees access) x).text) found
+pub fastauth_text : (fault : Option ℕ) (line acee : List ℕ) (access : Access) (user : Acee) (before : State) → read line ≡ Ok (Fastauth acee access) → acee_named acee before.acees ≡ Some user
+    → s.text fault (item.Request line) before ≡ decision_text before.position.image true access user (fast_decided before.position.image.state (number_of before) user access.class access.name access.asked)
+fastauth_text fault line acee access user before h found =
+    request_as fault (Ok (Fastauth acee access)) line before h
+    ∙ ap (λ (x : Option Acee). (answer_for before.position.image before.acees acee (fastauth_for before.position.image before.acees access) x).text) found
 
-pub verify_text : (line acee : List ℕ) (asked : VerifyRequest) (before : State) → read line ≡ Ok (Verify acee asked) → put_refusal acee before.acees ≡ None → s.text (item.Request line) before ≡ (verify_told before.position before.acees acee (verified before.position.state (number_of before) asked)).text
-verify_text line acee asked before h free =
-    request_as (Ok (Verify acee asked)) line before h
-    ∙ ap (λ (x : Option LineRefusal). (verify_unless before.position before.acees acee asked x).text) free
+pub verify_text : (fault : Option ℕ) (line acee : List ℕ) (asked : VerifyRequest) (before : State) → read line ≡ Ok (Verify acee asked) → put_refusal acee before.acees ≡ None
+    → s.text fault (item.Request line) before ≡ (verify_told before.position.image before.acees acee (verified before.position.image.state (number_of before) asked)).text
+verify_text fault line acee asked before h free =
+    request_as fault (Ok (Verify acee asked)) line before h
+    ∙ ap (λ (x : Option LineRefusal). (verify_unless before.position.image before.acees acee asked x).text) free

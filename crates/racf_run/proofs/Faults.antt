@@ -1,5 +1,5 @@
 -- Where a disk fails a command, all that comes before it is as where none fails.
-use Rattle.std.proofs.Common.{◌≡◌, ◌≢◌, ℕ, ◌+◌, ◌≤◌, Bool, true, false, cond, List, [], ◌∷◌, ◌++◌, None, Some, Ok, Err, refl, sym, ◌∙◌, ap, subst, arith}
+use Rattle.std.proofs.Common.{◌≡◌, ℕ, ◌+◌, ◌≤◌, Bool, true, false, cond, List, [], ◌∷◌, ◌++◌, None, Some, Ok, Err, refl, sym, ◌∙◌, ap, subst, arith}
 use Rattle.std.specs.Prelude.{Option, Result, ◌==◌}
 use Rattle.std.proofs.lemmas.Bool.{ne_eqb}
 use Rattle.journal_records.specs.declared.record.CommandRecord.{CommandRecord}
@@ -12,7 +12,7 @@ use Rattle.request_files.specs.IssuerLines.{issuer_of_line}
 use Rattle.racf_run.specs.declared.statement.Statement.{Statement}
 use Rattle.racf_run.specs.declared.statement.Statement.TheVariants as item
 use Rattle.racf_run.specs.Stream.{State, Answer, number_of, new_stream, fails_behind, fail, accept, halt, answer_outcome, outcome_of, command, issue_by, request, answer, step, text}
-use Rattle.racf_run.specs.Script.{stream, statements, fault_at}
+use Rattle.racf_run.specs.Script.{stream, fault_at}
 use Rattle.racf_run.specs.Runs.{after, output}
 use Rattle.racf_run.proofs.Walk.{Walk}
 

@@ -89,3 +89,8 @@ changed-keeps (edit ∷ edits) state keep are = changed-keeps edits (edited_stat
 pub copies-feedless : (command : CommandFields) (state : State) → IsFeedlessState state → AllByRecursion IsFeedlessCopy (copies_behind command state)
 copies-feedless (fields.SetRopts c) state are = (changed-keeps (edits_of_set_ropts c state.rows) state (set_ropts-keep c state are) are).copies
 copies-feedless command state are = are.copies
+
+-- the copies of classes whose profiles hold none
+pub copies-all : (classes : List ClassRow) → AllByRecursion AreFeedlessProfiles classes → AllByRecursion IsFeedlessCopy (map copy_of_class classes)
+copies-all [] are = tt
+copies-all (class ∷ classes) are = (are.0, copies-all classes are.1)

@@ -1,12 +1,9 @@
 -- Each statement of an input prints nothing, one line, or one and an AUDIT line, and no line feed stands in their words.
 use Rattle.std.proofs.Common.{◌≡◌, ℕ, ◌+◌, Bool, true, false, not, List, [], ◌∷◌, ◌++◌, Option, None, Some, Result, Ok, Err, refl, sym, subst, true≢false, inl, inr, is_some, length, codes, cond, append-nil}
-use Rattle.std.specs.Prelude.{◌⊎◌, ◌==◌, nat_le, IfSome, IfOk, find, option_map, unwrap_or, is_ok}
+use Rattle.std.specs.Prelude.{◌⊎◌, ◌==◌, nat_le, IfSome, IfOk, find, unwrap_or}
 use Rattle.std.specs.List.{AllByRecursion}
 use Rattle.std.proofs.lemmas.List.Sums.{AllPass-from_list_all}
 use Rattle.racf_outside.specs.Lines.{NoFeed}
-use Rattle.racf_profiles.specs.declared.rows.Rows.{Rows}
-use Rattle.racf_profiles.specs.Lookup.{is_user, user_of}
-use Rattle.racf_profiles.specs.declared.users.User.{User}
 use Rattle.raclist_image.specs.Imaged.{Imaged}
 use Rattle.racf_profiles.proofs.EditLaws.{all-drop_row}
 use Rattle.acee.specs.declared.acee.Acee.{Acee}
@@ -16,21 +13,11 @@ use Rattle.decision.specs.declared.outcome.Decision.{Decision}
 use Rattle.decision.specs.Verify.{verified}
 use Rattle.audit_records.specs.Logged.{logged}
 use Rattle.audit_records.specs.Line.{audit_line}
-use Rattle.command_values.specs.declared.faults.Syntax.{Syntax}
 use Rattle.command_values.specs.declared.faults.Syntax.TheVariants as syntax
-use Rattle.command_values.specs.declared.operand_words.Word.{Word}
-use Rattle.command_values.specs.declared.operand_words.Word.TheVariants as words
-use Rattle.command_values.specs.OperandWords.{spelling_of}
-use Rattle.command_parser.specs.declared.commands.Issuer.{Issuer}
 use Rattle.command_parser.specs.declared.fields.CommandFields.{CommandFields}
 use Rattle.command_parser.specs.CommandOf.{command_in}
 use Rattle.command_parser.specs.Canonical.{fault}
 use Rattle.command_parser.specs.LawfulFields.{AreLawfulFields}
-use Rattle.command_conflicts.specs.declared.conflict.Conflict.{Conflict}
-use Rattle.command_conflicts.specs.Conflicts.{conflict_of, first_conflict_of}
-use Rattle.command_authority.specs.declared.needs.Need.{Need}
-use Rattle.command_authority.specs.Authority.{need}
-use Rattle.access_levels.specs.Spelling.{group_of}
 use Rattle.request_files.specs.declared.acees.NamedAcee.{NamedAcee}
 use Rattle.request_files.specs.declared.issuer_line.NamedIssuer.{NamedIssuer}
 use Rattle.request_files.specs.IssuerLines.{issuer_of_line}
@@ -46,23 +33,18 @@ use Rattle.racf_run.specs.declared.statement.Statement.TheVariants as item
 use Rattle.racf_run.specs.declared.reply.Refusal.{Refusal}
 use Rattle.racf_run.specs.declared.reply.Refusal.TheVariants as refusal
 use Rattle.racf_desk.specs.declared.refusal.Refusal.{Refusal as OfCommand}
-use Rattle.racf_desk.specs.declared.refusal.Refusal.TheVariants as of_command
-use Rattle.racf_desk.specs.declared.outcome.IssuedCommand.{IssuedCommand}
-use Rattle.racf_desk.specs.Issuers.{current_group, is_connected, issuer_in, unless_not_connected, issuer_among, issuer_of}
-use Rattle.racf_desk.specs.Outcome.{most_number, unless_refused, found_command, command_of_text, first_of, number_spent, tests_of, unless_met, outcome_in}
-use Rattle.racf_desk.specs.Words.{syntax_words, each_need}
-use Rattle.racf_desk.specs.Words.{refusal_words as command_refusal_words}
+use Rattle.journal_records.specs.declared.record.CommandRecord.{CommandRecord}
+use Rattle.racf_desk.specs.Outcome.{found_command, command_of_text}
+use Rattle.racf_desk.specs.Position.{Position}
 use Rattle.racf_run.specs.Replies.{refusal_words, reply_line}
 use Rattle.racf_run.specs.IssuerLines.{issuer_refusal}
 use Rattle.racf_run.specs.Stream as s
 use Rattle.racf_run.specs.Stream.{State, Answer, number_of}
 use Rattle.racf_run.specs.Printed.{Turn, turns, input_turns, printed, behind, audit_text, PrintsItsLines}
-use Rattle.racf_run.specs.Script.{stream}
-use Rattle.racf_run.proofs.Feedless.{IsFeedless, joined, decimal-feedless, either, if-given, if-map, if-found}
-use Rattle.racf_run.proofs.FeedlessCopies.{copies-feedless}
-use Rattle.racf_run.proofs.FeedlessRows.{IsFeedlessUser, AreFeedless, IsFeedlessState, first-feedless, step-feedless}
-use Rattle.racf_run.proofs.FeedlessConflicts.{IsFeedlessTest, conflict-feedless, early-feedless}
-use Rattle.racf_run.proofs.FeedlessNeeds.{need-feedless}
+use Rattle.racf_run.specs.Script.{statements}
+use Rattle.racf_run.proofs.Feedless.{IsFeedless, decimal-feedless, either, if-map, if-found}
+use Rattle.racf_run.proofs.FeedlessRows.{IsFeedlessState}
+use Rattle.racf_run.proofs.FeedlessOutcomes.{IsFeedlessOutcome, IsFeedlessAccepted, IsFeedlessCommand, syntax-words, outcome-feedless, behind-feedless}
 use Rattle.racf_run.proofs.FeedlessDecisions.{IsFeedlessAcee, decided-words, fast_decided-words, audit-words, verified-acee}
 use Rattle.racf_run.proofs.FeedlessLines.{IsFeedlessAccess, IsFeedlessLine, IsFeedlessRefusal, IsFeedlessRead, IsFeedlessNamed, read-feedless, issuer-feedless, refusal-words, verify-words}
 
@@ -170,109 +152,9 @@ module _ (position : Imaged) (acees : List NamedAcee) (are : IsFeedlessState pos
   works-read (Ok read) h = works-line read h
   works-read (Err why) h = works-refused (request.told acees why) (told-feedless acees why h)
 
--- ---- the words of a refused command
-spelling-words : (word : Word) → IsFeedless (spelling_of word)
-spelling-words words.User = refl
-spelling-words other = refl
-
-syntax-words : (why : Syntax) → IsFeedless (syntax_words why)
-syntax-words syntax.UnknownCommand = refl
-syntax-words (syntax.UnknownOperand place) = decimal-feedless place
-syntax-words (syntax.AmbiguousOperand place) = decimal-feedless place
-syntax-words (syntax.Missing word) = spelling-words word
-syntax-words (syntax.Repeated word) = spelling-words word
-syntax-words (syntax.Excluded word other) =
-    joined (spelling_of word ++ codes " ") (spelling_of other) (joined (spelling_of word) (codes " ") (spelling-words word) refl) (spelling-words other)
-syntax-words (syntax.BadValue place) = decimal-feedless place
-syntax-words (syntax.Unclosed place) = decimal-feedless place
-syntax-words syntax.TextTooLong = refl
-
-abbrev IsFeedlessReply : OfCommand → Type 0
-IsFeedlessReply why = IsFeedless (command_refusal_words why)
-
-abbrev IsFeedlessAnswer : Option OfCommand → Type 0
-IsFeedlessAnswer why = IfSome why IsFeedlessReply
-
-spent-words : (number : ℕ) → IsFeedlessAnswer (number_spent number)
-spent-words number = either IsFeedlessAnswer (nat_le most_number number) (Some of_command.NumberSpent) None refl tt
-
-conflict-words : (o : Option Conflict) → IsFeedlessTest o → IsFeedlessAnswer (option_map of_command.Conflict o)
-conflict-words None h = tt
-conflict-words (Some conflict) h = h conflict refl
-
-lack-words : (o : Option (List Need)) → IfSome o (λ lacked. IsFeedless (codes "NEED" ++ each_need lacked)) → IsFeedlessAnswer (option_map of_command.Need o)
-lack-words None h = tt
-lack-words (Some lacked) h = h
-
-first-words : (list : List (Option OfCommand)) → AllByRecursion IsFeedlessAnswer list → IsFeedlessAnswer (first_of list)
-first-words [] h = tt
-first-words (None ∷ list) h = first-words list h.1
-first-words (Some why ∷ list) h = h.0
-
-tests-words : (issuer : Issuer) → IsFeedless issuer.id → IsFeedless issuer.group → (number : ℕ) (rows : Rows) (c : CommandFields) → AreLawfulFields c → AreFeedless rows → IsFeedlessAnswer (first_of (tests_of number rows issuer c))
-tests-words issuer id group number rows c f are =
-    first-words (tests_of number rows issuer c) (
-      conflict-words (first_conflict_of issuer c rows) (early-feedless issuer id group c rows f are),
-      (
-        lack-words (need rows issuer c) (need-feedless issuer id group c rows f are),
-        (conflict-words (conflict_of issuer c rows) (conflict-feedless issuer id group c rows f are), (spent-words number, tt)),
-      ),
-    )
-
--- ---- the issuer of a command
-record IsFeedlessIssuer (issuer : Issuer) : Type 0 where
-  id : IsFeedless issuer.id
-  group : IsFeedless issuer.group
-
-abbrev IsFeedlessFound : Result Issuer OfCommand → Type 0
-IsFeedlessFound (Ok issuer) = IsFeedlessIssuer issuer
-IsFeedlessFound (Err why) = IsFeedlessReply why
-
-issuer-in : (id group : List ℕ) (b : Bool) (is : is_ok (group_of group) ≡ b) → IsFeedless id → IsFeedless group → IsFeedlessFound (issuer_in id group b is)
-issuer-in id group true is h k = record { id = h; group = k }
-issuer-in id group false is h k = k
-
-connected-issuer : (user : User) (id group : List ℕ) → IsFeedless id → IsFeedless group → IsFeedlessFound (unless_not_connected user id group)
-connected-issuer user id group h k =
-    either IsFeedlessFound (is_connected user group) (issuer_in id group (is_ok (group_of group)) refl) (Err (of_command.IssuerNotConnected group)) (issuer-in id group (is_ok (group_of group)) refl h k) k
-
-issuer-among : (o : Option User) (id : List ℕ) (group : Option (List ℕ)) → IfSome o IsFeedlessUser → IsFeedless id → IfSome group IsFeedless → IsFeedlessFound (issuer_among o id group)
-issuer-among None id group h i k = i
-issuer-among (Some user) id group h i k =
-    either IsFeedlessFound user.attributes.revoked (Err (of_command.IssuerRevoked id)) (unless_not_connected user id (current_group user group)) i
-    (connected-issuer user id (current_group user group) i (if-given group user.default_group k h.default_group))
-
--- ---- the outcome of a command
-record IsFeedlessAccepted (issued : IssuedCommand) : Type 0 where
-  issuer : IsFeedlessIssuer issued.issuer
-  fields : AreLawfulFields issued.command
-
-abbrev IsFeedlessOutcome : Result IssuedCommand OfCommand → Type 0
-IsFeedlessOutcome (Ok issued) = IsFeedlessAccepted issued
-IsFeedlessOutcome (Err why) = IsFeedlessReply why
-
-abbrev IsFeedlessCommand : Result CommandFields OfCommand → Type 0
-IsFeedlessCommand (Ok c) = AreLawfulFields c
-IsFeedlessCommand (Err why) = IsFeedlessReply why
-
-unless-met : (why : Option OfCommand) (issuer : Issuer) (c : CommandFields) → IsFeedlessAnswer why → IsFeedlessIssuer issuer → AreLawfulFields c → IsFeedlessOutcome (unless_met why issuer c)
-unless-met None issuer c h i f = record { issuer = i; fields = f }
-unless-met (Some why) issuer c h i f = h
-
-issued-outcome : (number : ℕ) (rows : Rows) (c : CommandFields) (found : Result Issuer OfCommand) → AreFeedless rows → AreLawfulFields c → IsFeedlessFound found
-    → IsFeedlessOutcome (unless_refused found (λ issuer. unless_met (first_of (tests_of number rows issuer c)) issuer c))
-issued-outcome number rows c (Err why) are f h = h
-issued-outcome number rows c (Ok issuer) are f h = unless-met (first_of (tests_of number rows issuer c)) issuer c (tests-words issuer h.id h.group number rows c f are) h f
-
-command-outcome : (number : ℕ) (rows : Rows) (id : List ℕ) (group : Option (List ℕ)) (read : Result CommandFields OfCommand) → AreFeedless rows → IsFeedless id → IfSome group IsFeedless → IsFeedlessCommand read
-    → IsFeedlessOutcome (unless_refused read (λ c. unless_refused (issuer_of rows id group) (λ issuer. unless_met (first_of (tests_of number rows issuer c)) issuer c)))
-command-outcome number rows id group (Err why) are i k h = h
-command-outcome number rows id group (Ok c) are i k h =
-    issued-outcome number rows c (issuer_of rows id group) are h (issuer-among (user_of id rows) id group (if-found IsFeedlessUser (is_user id) rows.users are.users) i k)
-
 -- ---- the answer to each statement
 record IsGood (before : State) : Type 0 where
-  state : IsFeedlessState before.position.state
+  state : IsFeedlessState before.position.image.state
   issuer : IsFeedless before.issuer.id
   group : IfSome before.issuer.group IsFeedless
   acees : AreFeedlessAcees before.acees
@@ -288,18 +170,28 @@ prints-refuse why before h good = record {
   good = record { state = good.state; issuer = good.issuer; group = good.group; acees = good.acees };
 }
 
-prints-outcome : (o : Result IssuedCommand OfCommand) (before : State) → IsFeedlessOutcome o → IsGood before → Prints (s.answer_outcome o before)
+prints-accept : (given : CommandRecord) (before : State) → IsFeedlessAccepted given → IsGood before → Prints (s.accept given before)
 unfolding reply_line
-prints-outcome (Err why) before h good = prints-refuse (refusal.Command why) before h good
-prints-outcome (Ok issued) before h good = record {
+prints-accept given before h good = record {
   lines = line (number_of before + 1) (codes "ACCEPTED") refl;
-  good = record {
-    state = record { rows = step-feedless issued.issuer h.issuer.id h.issuer.group issued.command before.position.state.rows h.fields good.state.rows; copies = copies-feedless issued.command before.position.state good.state };
-    issuer = good.issuer;
-    group = good.group;
-    acees = good.acees;
-  };
+  good = record { state = behind-feedless before.position given h good.state; issuer = good.issuer; group = good.group; acees = good.acees };
 }
+
+prints-fail : (before : State) → IsGood before → Prints (s.fail before)
+unfolding reply_line
+prints-fail before good = record {
+  lines = line (number_of before) (codes "DISKFAULT") refl;
+  good = record { state = good.state; issuer = good.issuer; group = good.group; acees = good.acees };
+}
+
+prints-halt : (before : State) → IsGood before → Prints (s.halt before)
+unfolding reply_line
+prints-halt before good = record { lines = line (number_of before) (codes "HALTED") refl; good = good }
+
+prints-outcome : (fault : Option ℕ) (o : Result CommandRecord OfCommand) (before : State) → IsFeedlessOutcome o → IsGood before → Prints (s.answer_outcome fault o before)
+prints-outcome fault (Err why) before h good = prints-refuse (refusal.Command why) before h good
+prints-outcome fault (Ok given) before h good =
+    either Prints (s.fails_behind fault (number_of before)) (s.fail before) (s.accept given before) (prints-fail before good) (prints-accept given before h good)
 
 prints-with : (o : request.Outcome) (before : State) → Works (number_of before) o → IsGood before → Prints (s.answer_with o before)
 prints-with o before works good = record { lines = works.lines; good = record { state = good.state; issuer = good.issuer; group = good.group; acees = works.acees } }
@@ -307,7 +199,7 @@ prints-with o before works good = record { lines = works.lines; good = record { 
 prints-request : (text : List ℕ) (before : State) → IsGood before → Prints (s.request text before)
 unfolding s.request
 prints-request text before good =
-    prints-with (request.worked before.position before.acees (read text)) before (works-read before.position before.acees good.state good.acees (read text) (read-feedless text)) good
+    prints-with (request.worked before.position.image before.acees (read text)) before (works-read before.position.image before.acees good.state good.acees (read text) (read-feedless text)) good
 
 -- ---- the lines of issuers
 issuer_refusal-words : (why : LineRefusal) → IsFeedless (refusal_words (issuer_refusal why))
@@ -339,7 +231,7 @@ its_lines turn (inr (inr (inl is))) =
 its_lines turn (inr (inr (inr never))) = inr (inr (inr never))
 
 -- where the fields of a command that a text spells are lawful
-module _ (lawful : (issuer text : List ℕ) (c : CommandFields) → command_in issuer text ≡ Some c → AreLawfulFields c) where
+module _ (lawful : (issuer text : List ℕ) (c : CommandFields) → command_in issuer text ≡ Some c → AreLawfulFields c) (failed : Option ℕ) where
   command-read : (id text : List ℕ) → IsFeedlessCommand (command_of_text id text)
   command-read id text = found (command_in id text) refl
     where
@@ -347,26 +239,28 @@ module _ (lawful : (issuer text : List ℕ) (c : CommandFields) → command_in i
       found (Some c) e = lawful id text c e
       found None e = syntax-words (unwrap_or (fault id text) syntax.UnknownCommand)
 
-  prints-command : (text : List ℕ) (before : State) → IsGood before → Prints (s.command text before)
-  unfolding s.command outcome_in
+  prints-command : (text : List ℕ) (before : State) → IsGood before → Prints (s.command failed text before)
+  unfolding s.command
   prints-command text before good =
-      prints-outcome (s.outcome_of text before) before
-      (command-outcome (number_of before) before.position.state.rows before.issuer.id before.issuer.group (command_of_text before.issuer.id text) good.state.rows good.issuer good.group (command-read before.issuer.id text)) good
+      either Prints before.halted (s.halt before) (s.answer_outcome failed (s.outcome_of text before) before) (prints-halt before good)
+      (prints-outcome failed (s.outcome_of text before) before
+      (outcome-feedless before.position before.issuer.id before.issuer.group text good.state.rows good.issuer good.group (command-read before.issuer.id text)) good)
 
-  prints-answer : (i : Statement) (before : State) → IsGood before → Prints (s.answer i before)
+  prints-answer : (i : Statement) (before : State) → IsGood before → Prints (s.answer failed i before)
   prints-answer (item.Command text) before good = prints-command text before good
   prints-answer (item.Issuer text) before good = prints-issue (issuer_of_line text) before (issuer-feedless text) good
   prints-answer (item.Request text) before good = prints-request text before good
   prints-answer item.LineTooLong before good = prints-refuse refusal.LineTooLong before refl good
 
-  turns-from : (items : List Statement) (before : State) → IsGood before → AllByRecursion PrintsItsLines (turns items before)
+  turns-from : (items : List Statement) (before : State) → IsGood before → AllByRecursion PrintsItsLines (turns failed items before)
   unfolding s.step s.text
   turns-from [] before good = tt
   turns-from (i ∷ items) before good =
       let prints = prints-answer i before good in
-      (its_lines (record { item = i; before = before }) prints.lines, turns-from items (s.step i before) prints.good)
+      (its_lines (record { fault = failed; item = i; before = before }) prints.lines, turns-from items (s.step failed i before) prints.good)
 
-  pub each_line : (bytes : List ℕ) → AllByRecursion PrintsItsLines (input_turns bytes)
-  unfolding s.new_stream stream
-  each_line bytes =
-      turns-from (stream.items bytes) s.new_stream (record { state = record { rows = first-feedless; copies = tt }; issuer = refl; group = tt; acees = tt })
+  -- from a base on whose names hold no line feed
+  pub each_line : (base : Position) (bytes : List ℕ) → IsFeedlessState base.image.state → AllByRecursion PrintsItsLines (input_turns failed base bytes)
+  unfolding s.new_stream
+  each_line base bytes are =
+      turns-from (statements.items bytes) (s.new_stream base) (record { state = are; issuer = refl; group = tt; acees = tt })

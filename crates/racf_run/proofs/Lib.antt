@@ -5,8 +5,8 @@ pub mod Folds
 pub mod CutLaws
 pub mod Walk
 pub mod MarkLaws
-pub mod Judged
 pub mod Settled
+pub mod CommandLaws
 pub mod FrontLaws
 pub mod StatementLaws
 pub mod Pieces
@@ -15,8 +15,11 @@ pub mod Processing
 pub mod Settling
 pub mod StreamWalk
 pub mod Moments
+pub mod ScriptLaws
+pub mod TopLaws
 pub mod Resting
 pub mod PrintedLaws
+pub mod FailedLaws
 pub mod Feedless
 pub mod FeedlessNames
 pub mod FeedlessRows
@@ -25,6 +28,8 @@ pub mod FeedlessConflicts
 pub mod FeedlessNeeds
 pub mod FeedlessDecisions
 pub mod FeedlessLines
+pub mod FeedlessOutcomes
+pub mod FeedlessReached
 pub mod FeedlessTurns
 pub mod OutputLaws
 pub mod OutputLines

@@ -1,10 +1,9 @@
 -- What every crash leaves along a stream: what stands for the position behind some front of its statements.
-use Rattle.std.proofs.Common.{◌≡◌, ℕ, ◌+◌, ◌≤◌, Bool, true, false, List, [], ◌∷◌, ◌++◌, None, Some, inl, inr, refl, sym, ◌∙◌, ap, subst, arith}
+use Rattle.std.proofs.Common.{◌≡◌, ℕ, ◌≤◌, Bool, true, false, List, [], ◌∷◌, ◌++◌, None, Some, inl, inr, refl, sym, ◌∙◌, ap, subst, arith}
 use Rattle.std.specs.Prelude.{Option, ◌⊎◌}
 use Rattle.std.specs.Option.{option_to_list}
 use Rattle.racf_outside.specs.Causes.{Rose}
-use Rattle.racf_outside.specs.Crashes.{Leaves, StaysIn}
-use Rattle.racf_outside.specs.Disk.{History, Now}
+use Rattle.racf_outside.specs.Disk.{History}
 use Rattle.racf_outside.specs.Reader.{Reader, at_start}
 use Rattle.racf_outside.proofs.Rises.{Rose-later}
 use Rattle.racf_outside.proofs.Runs.{Leaves-weaker, StaysIn-none, StaysIn-joined, StaysIn-weaker}
@@ -13,9 +12,9 @@ use Rattle.racf_desk.specs.Durable.{LeavesIt, StaysEither}
 use Rattle.racf_desk.specs.Position.{Position}
 use Rattle.racf_desk.specs.Recovery.{StandsFor, StandsForEither}
 use Rattle.racf_run.specs.declared.statement.Statement.{Statement}
-use Rattle.racf_run.specs.Durable.{StreamOn, Moves, MovesBy, StandsForFront, StaysAlong}
+use Rattle.racf_run.specs.Durable.{StreamOn, MovesBy, StandsForFront, StaysAlong}
 use Rattle.racf_run.specs.NextStatement.{TakesStatements}
-use Rattle.racf_run.specs.Runs.{after, output}
+use Rattle.racf_run.specs.Runs.{output}
 use Rattle.racf_run.specs.Script.{stream, statements, fault_at}
 use Rattle.racf_run.specs.Stream.{State, number_of, new_stream, answer, step}
 use Rattle.racf_run.proofs.Faults.{step_is}
@@ -36,7 +35,7 @@ stands_walked base source reader s before now gathered w position is one other s
     }
 
 -- beside whatever a crash leaves of the second disk
-beside_weaker : (second : Option History) (P Q : List ℕ → List ℕ → Type 0) (one : List ℕ) → ((other : List ℕ) → P one other → Q one other) → Beside second P one → Beside second Q one
+pub beside_weaker : (second : Option History) (P Q : List ℕ → List ℕ → Type 0) (one : List ℕ) → ((other : List ℕ) → P one other → Q one other) → Beside second P one → Beside second Q one
 beside_weaker second P Q one weaker p history told = Leaves-weaker (P one) (Q one) history.now weaker (p history told)
 
 new_position : (base : Position) → base ≡ (new_stream base).position

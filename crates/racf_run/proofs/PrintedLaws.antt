@@ -23,7 +23,7 @@ use Rattle.request_files.specs.Answers.{numbered, verified_words, verify_fault_w
 use Rattle.request_files.specs.Acees.{acee_named, put_refusal}
 use Rattle.request_files.specs.Grammar.{Access, Line, Verify, Auth, Fastauth, Delete, After, Skip, read}
 use Rattle.request_files.specs.Worked as request
-use Rattle.racf_desk.specs.declared.outcome.IssuedCommand.{IssuedCommand}
+use Rattle.journal_records.specs.declared.record.CommandRecord.{CommandRecord}
 use Rattle.racf_desk.specs.declared.refusal.Refusal.{Refusal as OfCommand}
 use Rattle.racf_run.specs.declared.statement.Statement.{Statement}
 use Rattle.racf_run.specs.declared.statement.Statement.TheVariants as item
@@ -70,7 +70,7 @@ decimal-AllDigits n = digits_onto-AllDigits 64 n [] tt
 no_blank : (d : ℕ) → 48 ≤ d → (d == 32) ≡ false
 no_blank d h = ne_eqb d 32 (λ e. omega arith)
 
-behind_digits : (ds rest : List ℕ) → AllDigits ds → behind_blank (ds ++ 32 ∷ rest) ≡ rest
+pub behind_digits : (ds rest : List ℕ) → AllDigits ds → behind_blank (ds ++ 32 ∷ rest) ≡ rest
 behind_digits [] rest h = refl
 behind_digits (d ∷ ds) rest h = rw (no_blank d h.0) (behind_digits ds rest h.2)
 
@@ -90,7 +90,7 @@ digits_not_refused (d ∷ ds) rest h = rw (refused_other d h.1) refl
 
 -- ---- what a line says, by its words
 
-numbered_parts : (n : ℕ) (words : List ℕ) → numbered n words ≡ decimal n ++ 32 ∷ (words ++ codes "\n")
+pub numbered_parts : (n : ℕ) (words : List ℕ) → numbered n words ≡ decimal n ++ 32 ∷ (words ++ codes "\n")
 numbered_parts n words =
     append_assoc (decimal n ++ codes " ") words (codes "\n") ∙ append_assoc (decimal n) (codes " ") (words ++ codes "\n")
 
@@ -104,7 +104,7 @@ refused_says : (n : ℕ) (words : List ℕ) → says_refused (numbered n (codes 
 refused_says n words = numbered_says n (codes "REFUSED " ++ words)
 
 -- whatever stands behind the line
-numbered_front : (n : ℕ) (words rest : List ℕ) → numbered n words ++ rest ≡ decimal n ++ 32 ∷ ((words ++ codes "\n") ++ rest)
+pub numbered_front : (n : ℕ) (words rest : List ℕ) → numbered n words ++ rest ≡ decimal n ++ 32 ∷ ((words ++ codes "\n") ++ rest)
 numbered_front n words rest =
     ap (λ (line : List ℕ). line ++ rest) (numbered_parts n words) ∙ append_assoc (decimal n) (32 ∷ (words ++ codes "\n")) rest
 
@@ -194,17 +194,26 @@ says_refuse : (why : Refusal) (before : State) → Says before (s.refuse why bef
 unfolding reply_line
 says_refuse why before = sym (or_right before.has_refused true refl) ∙ ap (λ b. before.has_refused || b) (sym (refused_says (number_of before) (refusal_words why)))
 
-says_accept : (issued : IssuedCommand) (before : State) → Says before (s.accept issued before)
+says_accept : (given : CommandRecord) (before : State) → Says before (s.accept given before)
 unfolding reply_line
-says_accept issued before = sym (or-false before.has_refused) ∙ ap (λ b. before.has_refused || b) (sym (numbered_says (number_of before + 1) (codes "ACCEPTED")))
+says_accept given before = sym (or-false before.has_refused) ∙ ap (λ b. before.has_refused || b) (sym (numbered_says (number_of before + 1) (codes "ACCEPTED")))
 
-says_outcome : (o : Result IssuedCommand OfCommand) (before : State) → Says before (s.answer_outcome o before)
-says_outcome (Err why) before = says_refuse (refusal.Command why) before
-says_outcome (Ok issued) before = says_accept issued before
+says_fail : (before : State) → Says before (s.fail before)
+unfolding reply_line
+says_fail before = sym (or-false before.has_refused) ∙ ap (λ b. before.has_refused || b) (sym (numbered_says (number_of before) (codes "DISKFAULT")))
 
-says_command : (text : List ℕ) (before : State) → Says before (s.command text before)
+says_halt : (before : State) → Says before (s.halt before)
+unfolding reply_line
+says_halt before = sym (or-false before.has_refused) ∙ ap (λ b. before.has_refused || b) (sym (numbered_says (number_of before) (codes "HALTED")))
+
+says_outcome : (fault : Option ℕ) (o : Result CommandRecord OfCommand) (before : State) → Says before (s.answer_outcome fault o before)
+says_outcome fault (Err why) before = says_refuse (refusal.Command why) before
+says_outcome fault (Ok given) before = says_either before (s.fails_behind fault (number_of before)) (s.fail before) (s.accept given before) (says_fail before) (says_accept given before)
+
+says_command : (fault : Option ℕ) (text : List ℕ) (before : State) → Says before (s.command fault text before)
 unfolding s.command
-says_command text before = says_outcome (s.outcome_of text before) before
+says_command fault text before =
+    says_either before before.halted (s.halt before) (s.answer_outcome fault (s.outcome_of text before) before) (says_halt before) (says_outcome fault (s.outcome_of text before) before)
 
 says_issue : (read : Result NamedIssuer LineRefusal) (before : State) → Says before (s.issue_by read before)
 says_issue (Ok issuer) before = sym (or-false before.has_refused)
@@ -216,14 +225,14 @@ says_with o before t = ap (λ b. before.has_refused || b) t
 says_request : (text : List ℕ) (before : State) → Says before (s.request text before)
 unfolding s.request
 says_request text before =
-    says_with (request.worked before.position before.acees (read text)) before (tells_worked before.position before.acees (read text))
+    says_with (request.worked before.position.image before.acees (read text)) before (tells_worked before.position.image before.acees (read text))
 
-says_answer : (i : Statement) (before : State) → Says before (s.answer i before)
-says_answer (item.Command text) before = says_command text before
-says_answer (item.Request text) before = says_request text before
-says_answer (item.Issuer text) before = says_issue (issuer_of_line text) before
-says_answer item.LineTooLong before = says_refuse refusal.LineTooLong before
+says_answer : (fault : Option ℕ) (i : Statement) (before : State) → Says before (s.answer fault i before)
+says_answer fault (item.Command text) before = says_command fault text before
+says_answer fault (item.Request text) before = says_request text before
+says_answer fault (item.Issuer text) before = says_issue (issuer_of_line text) before
+says_answer fault item.LineTooLong before = says_refuse refusal.LineTooLong before
 
-pub item_says : (i : Statement) (before : State) → (s.step i before).has_refused ≡ (before.has_refused || says_refused (s.text i before))
+pub item_says : (fault : Option ℕ) (i : Statement) (before : State) → (s.step fault i before).has_refused ≡ (before.has_refused || says_refused (s.text fault i before))
 unfolding s.step s.text
-item_says i before = says_answer i before
+item_says fault i before = says_answer fault i before

@@ -1,13 +1,10 @@
 -- A statement that was worked, and whose text was gathered.
-use Rattle.std.proofs.Common.{◌≡◌, List, ℕ, [], ◌∷◌, ◌++◌, None, Some, refl, sym, ◌∙◌, ap, append-nil}
+use Rattle.std.proofs.Common.{◌≡◌, List, ℕ, ◌++◌, None, Some, refl, sym, ◌∙◌, ap, append-nil}
 use Rattle.std.specs.Prelude.{Option, Result, Ok, Err, OnOk, OnErr}
-use Rattle.std.specs.Option.{option_to_list}
 use Rattle.racf_desk.specs.Position.{Position}
 use Rattle.racf_run.specs.declared.statement.Statement.{Statement}
 use Rattle.racf_run.specs.Durable.{StreamOn, DoesOn, fault_in}
-use Rattle.racf_run.specs.Runs.{after, output}
 use Rattle.racf_run.specs.Stream.{answer, text}
-use Rattle.racf_run.specs.Script.{stream}
 use Rattle.racf_run.specs.Processing.{Works, Processes}
 use Rattle.racf_run.proofs.Faults.{step_is, text_is}
 

@@ -5,7 +5,7 @@ use Rattle.std.specs.Io.KnownBytes.{append_known}
 use Rattle.std.proofs.lemmas.List.{take-append-drop}
 use Rattle.racf_run.specs.Gathering.{IsCutShort}
 use Rattle.racf_run.specs.declared.status.Status.{Status}
-use Rattle.racf_run.specs.declared.status.Status.TheVariants.{Done, Usage, Refusals, ReadFault, WriteFault, NoMemory, InputTooLong}
+use Rattle.racf_run.specs.declared.status.Status.TheVariants.{Done, Usage, Refusals, ReadFault, WriteFault, DiskFault, NotFormatted, Damaged, NoMemory, InputTooLong}
 use Rattle.racf_run.specs.Making.{WroteFront, WroteText}
 use Rattle.racf_run.proofs.Folds.{append_known-append, append_known-nil}
 
@@ -85,6 +85,9 @@ both NoMemory first second before middle now one two = both_front first second b
 both Refusals first second before middle now one two = elim two [ ]
 both Usage first second before middle now one two = elim two [ ]
 both ReadFault first second before middle now one two = elim two [ ]
+both DiskFault first second before middle now one two = elim two [ ]
+both NotFormatted first second before middle now one two = elim two [ ]
+both (Damaged place) first second before middle now one two = elim two [ ]
 both InputTooLong first second before middle now one two = elim two [ ]
 
 pub stopped : (status : Status) (first second : List ℕ) (before now : Option (List ℕ)) → status ≢ Done → WroteText status first before now → WroteText status (first ++ second) before now
@@ -94,6 +97,9 @@ stopped NoMemory first second before now other one = first_front first second be
 stopped Refusals first second before now other one = elim one [ ]
 stopped Usage first second before now other one = elim one [ ]
 stopped ReadFault first second before now other one = elim one [ ]
+stopped DiskFault first second before now other one = elim one [ ]
+stopped NotFormatted first second before now other one = elim one [ ]
+stopped (Damaged place) first second before now other one = elim one [ ]
 stopped InputTooLong first second before now other one = elim one [ ]
 
 -- how it ends
@@ -104,4 +110,7 @@ ends NoMemory text before now h = inr (inr refl)
 ends Refusals text before now h = elim h [ ]
 ends Usage text before now h = elim h [ ]
 ends ReadFault text before now h = elim h [ ]
+ends DiskFault text before now h = elim h [ ]
+ends NotFormatted text before now h = elim h [ ]
+ends (Damaged place) text before now h = elim h [ ]
 ends InputTooLong text before now h = elim h [ ]

@@ -12,9 +12,9 @@ use Rattle.racf_desk.specs.Position.{Position, position_behind}
 use Rattle.request_files.specs.declared.acees.NamedAcee.{NamedAcee}
 use Rattle.request_files.specs.declared.issuer_line.NamedIssuer.{NamedIssuer}
 use Rattle.racf_run.specs.declared.reply.Reply.TheVariants.{Accepted, DiskFault}
-use Rattle.racf_run.specs.Durable.{StreamOn, stream_on, fault_in, DoesOn, Settles}
+use Rattle.racf_run.specs.Durable.{stream_on, fault_in, DoesOn, Settles}
 use Rattle.racf_run.specs.Replies.{reply_line}
-use Rattle.racf_run.specs.Stream.{State, Answer, number_of, accept, fail, halt, fails_behind, answer_outcome, outcome_of, command}
+use Rattle.racf_run.specs.Stream.{State, Answer, accept, fail, halt, answer_outcome, outcome_of, command}
 
 -- a command where no disk has failed
 command_runs : (fault : Option ℕ) (text : List ℕ) (s : State) (o : Result CommandRecord Refusal) → s.halted ≡ false → outcome_of text s ≡ o → command fault text s ≡ answer_outcome fault o s

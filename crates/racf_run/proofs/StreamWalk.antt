@@ -1,5 +1,5 @@
 -- The run of the stream: how it begins, how a statement goes on with it, and what stands at each of its stops.
-use Rattle.std.proofs.Common.{◌≡◌, ℕ, ◌≤◌, ◌^◌, Bool, true, false, List, [], ◌∷◌, ◌++◌, None, Some, Ok, Err, inl, inr, refl, sym, ◌∙◌, ap, subst, arith}
+use Rattle.std.proofs.Common.{◌≡◌, ℕ, ◌≤◌, ◌^◌, Bool, false, List, [], ◌∷◌, None, Some, Err, inl, inr, refl, sym, ◌∙◌, ap, subst, arith}
 use Rattle.std.specs.Prelude.{Option}
 use Rattle.std.specs.Option.{option_to_list}
 use Rattle.std.specs.Io.KnownBytes.{append_known}
@@ -9,12 +9,12 @@ use Rattle.racf_run.specs.declared.input.Stop.{Stop}
 use Rattle.racf_run.specs.declared.input.Stop.TheVariants as stop
 use Rattle.racf_run.specs.declared.statement.Statement.{Statement}
 use Rattle.racf_run.specs.declared.status.Status.{Status}
-use Rattle.racf_run.specs.declared.status.Status.TheVariants.{WriteFault, NoMemory}
+use Rattle.racf_run.specs.declared.status.Status.TheVariants.{WriteFault}
 use Rattle.racf_run.specs.Durable.{StreamOn, fault_in}
 use Rattle.racf_run.specs.Runs.{Machine, Ran}
 use Rattle.racf_run.specs.Gathering.{IsCutShort}
 use Rattle.racf_run.specs.NextStatement.{TakesStatements, NextsStatement}
-use Rattle.racf_run.specs.Stream.{State, number_of, new_stream, answer}
+use Rattle.racf_run.specs.Stream.{State, number_of, new_stream}
 use Rattle.racf_run.specs.Script.{stream, statements, fault_at}
 use Rattle.racf_run.specs.Processing.{Ends, Works, stop_status, unless_failed}
 use Rattle.racf_run.proofs.Faults.{step_is, fault_of_next}
@@ -52,6 +52,10 @@ goes_on base None bytes source old new s t before now gathered more w takes work
 goes_on base (Some item) bytes source old new s t before now gathered more w takes works =
     Walk-items (stream (fault_in t) base) (item ∷ []) bytes source old new s.state t.state before now gathered more
     (fault_of_next base source old item s.state t.state before now gathered (works.state ∙ step_is (fault_in t) item s.state) w) takes works.state works.text
+
+-- the status of a write that failed, by what the state tells
+pub failed_status : (status : Status) (told halted : Bool) → status ≡ unless_failed told WriteFault → told ≡ halted → status ≡ unless_failed halted WriteFault
+failed_status status told halted is same = is ∙ ap (λ failed. unless_failed failed WriteFault) same
 
 module _ (base : Position) (P : State → Type 0) (source : Option (List ℕ)) (old new : Reader) (s : State) (before now then : Option (List ℕ)) (gathered : List ℕ) (w : StreamWalk base source old s before now gathered) (p : P s) where
   abbrev pub m : Machine State Statement

@@ -1,9 +1,9 @@
 -- A stream whose desk stands on disks: what its statements do to them, and what every crash leaves.
-use Rattle.std.specs.Prelude.{◌≡◌, ◌⊎◌, ◌++◌, ◌≤◌, ℕ, Bool, true, false, Option, None, Some, List, [], if◌then◌else◌}
+use Rattle.std.specs.Prelude.{◌≡◌, ◌⊎◌, ◌++◌, ◌≤◌, ℕ, Bool, true, false, Option, None, Some, List}
 use Rattle.std.specs.Io.KnownBytes.{prepend_known}
 use Rattle.racf_outside.specs.Causes.{Rose}
-use Rattle.racf_outside.specs.Crashes.{Leaves, StaysIn}
-use Rattle.racf_outside.specs.Disk.{History, Now}
+use Rattle.racf_outside.specs.Crashes.{StaysIn}
+use Rattle.racf_outside.specs.Disk.{History}
 use Rattle.racf_checkpoint.specs.Stored.{StoreOn, Beside}
 use Rattle.racf_desk.specs.Durable.{StaysEither}
 use Rattle.racf_desk.specs.Made.{Made, DeskOn, installed}

@@ -1,5 +1,5 @@
 -- What the working of a statement does to the stream and to the replies, and how a run ends.
-use Rattle.std.specs.Prelude.{◌≡◌, ◌⊎◌, ◌++◌, ℕ, Bool, Option, Result, Ok, Err, List, [], ◌∷◌, if◌then◌else◌}
+use Rattle.std.specs.Prelude.{◌≡◌, ◌⊎◌, ◌++◌, ℕ, Bool, Option, Result, Ok, Err, List, if◌then◌else◌}
 use Rattle.std.specs.Option.{option_to_list}
 use Rattle.std.specs.Io.KnownBytes.{append_known}
 use Rattle.racf_desk.specs.Position.{Position}
@@ -11,7 +11,6 @@ use Rattle.racf_run.specs.declared.status.Status.TheVariants.{ReadFault, WriteFa
 use Rattle.racf_run.specs.Durable.{StreamOn, fault_in}
 use Rattle.racf_run.specs.Gathering.{IsCutShort}
 use Rattle.racf_run.specs.Runs.{after, output, whole_status}
-use Rattle.racf_run.specs.Stream.{State}
 use Rattle.racf_run.specs.Script.{stream}
 
 -- A statement, where there is one, was worked from the one state to the other, and its text was gathered.

@@ -1,14 +1,13 @@
 -- The stream of the words `script IN OUT`: its statements, its output, and the status that it ends with.
 use Rattle.std.specs.Prelude.{◌≡◌, ℕ, Bool, true, false, Option, None, Some, List, if◌then◌else◌}
 use Rattle.racf_outside.specs.Lines.{lines, whole_lines}
-use Rattle.racf_checkpoint.specs.Stored.{StoreOn}
 use Rattle.racf_desk.specs.Position.{Position}
 use Rattle.racf_desk.specs.Made.{DeskOn}
 use Rattle.racf_run.specs.declared.statement.Statement.{Statement}
 use Rattle.racf_run.specs.declared.status.Status.{Status}
 use Rattle.racf_run.specs.declared.status.Status.TheVariants.{Done, Refusals}
 use Rattle.racf_run.specs.Joining.{items_of, whole_items_of}
-use Rattle.racf_run.specs.Stream.{State, new_stream, number_of, step, text}
+use Rattle.racf_run.specs.Stream.{State, new_stream, step, text}
 use Rattle.racf_run.specs.Runs.{Input, Machine, after, output, status_of}
 
 -- the stream's statements are those of its lines

@@ -24,6 +24,7 @@ ghost use Rattle.racf_run.specs.Printed.{Turn, IsReached, input_turns, turns, pr
 ghost use Rattle.racf_run.specs.Printed.{says_failed, says_refused};
 
 use command_parser::laws::{fields_of_a_text_are_lawful, one_command_is_spelled};
+use journal_records::laws::{canonical_texts_are_of_commands, fields_are_of_identifiers};
 
 /// The output of a whole input is what its statements print at their turns, in order. Whatever the input's bytes, each
 /// prints nothing, or one line, or the line of a decision and an AUDIT line behind it, so that the lines of the output are
@@ -41,6 +42,8 @@ pub fn an_item_prints_its_lines()
 {
     one_command_is_spelled();
     fields_of_a_text_are_lawful();
+    canonical_texts_are_of_commands();
+    fields_are_of_identifiers();
 }
 
 /// What is printed for an AUTH or a FASTAUTH whose ACEE is in use is the decision that the table gives for that ACEE at the

@@ -10,9 +10,9 @@ ghost use Rattle.racf_run.specs.Script.{script_output};
 use crate::replies::write_all;
 use crate::scripts::script;
 use crate::status::Status;
+use racf_desk::Desk;
 use racf_generator::laws::made_text_is_short;
 use racf_generator::{AnswerTally, MadeText, line_count};
-use racf_desk::Desk;
 use racf_outside::{Failed, NeverDisk, Sink, Source, Two};
 use std::alloc::{AllocError, Global};
 

@@ -5,12 +5,12 @@ use Rattle.racf_run.proofs.laws.requests_are_decided.Goals as goal
 
 pub returns-clause-auth : goal.returns-clause-auth
 returns-clause-auth c =
-    λ turn line acee access user is reads found. ap (λ item. text item turn.before) is ∙ auth_text line acee access user turn.before reads found
+    λ turn line acee access user is reads found. ap (λ item. text turn.fault item turn.before) is ∙ auth_text turn.fault line acee access user turn.before reads found
 
 pub returns-clause-fastauth : goal.returns-clause-fastauth
 returns-clause-fastauth c =
-    λ turn line acee access user is reads found. ap (λ item. text item turn.before) is ∙ fastauth_text line acee access user turn.before reads found
+    λ turn line acee access user is reads found. ap (λ item. text turn.fault item turn.before) is ∙ fastauth_text turn.fault line acee access user turn.before reads found
 
 pub returns-clause-verify : goal.returns-clause-verify
 returns-clause-verify c =
-    λ turn line acee asked is reads free. ap (λ item. text item turn.before) is ∙ verify_text line acee asked turn.before reads free
+    λ turn line acee asked is reads free. ap (λ item. text turn.fault item turn.before) is ∙ verify_text turn.fault line acee asked turn.before reads free

@@ -1,12 +1,9 @@
-use Rattle.std.proofs.Common.{◌≡◌, false, arith, refl, sym, ◌∙◌, ap}
-use Rattle.racf_outside.proofs.Rises.{Rose-later}
-use Rattle.racf_run.specs.declared.status.Status.TheVariants.{WriteFault}
+use Rattle.std.proofs.Common.{◌≡◌, arith, refl}
 use Rattle.racf_run.specs.Durable.{fault_in}
-use Rattle.racf_run.specs.Processing.{unless_failed}
 use Rattle.racf_run.specs.Script.{stream}
 use Rattle.racf_run.specs.Stream.{State}
 use Rattle.racf_run.proofs.Walk.{Walk-settles}
-use Rattle.racf_run.proofs.StreamWalk.{begun, new_runs, passed_none, goes_on, cut, stopped, unanswered_at}
+use Rattle.racf_run.proofs.StreamWalk.{begun, new_runs, passed_none, goes_on, cut, stopped, failed_status, unanswered_at}
 use Rattle.racf_run.proofs.Moments.{StaysAlong-none, moved, same_second, no_fewer, halts}
 use Rattle.racf_run.proofs.scripts.run.Goals as goal
 
@@ -37,7 +34,7 @@ pub returns-in-Err-clause-ran : goal.returns-in-Err-clause-ran
 returns-in-Err-clause-ran g c =
     cut c.args.stream.now.state.position (λ (s : State). c.item.stream.state ≡ s) c.args.lines.now.left c.item.lines c.next_statement.new.lines c.item.stream.state _ _ _ c.item.replies
     c.item.invariant.walk refl c.unless_failed.result c.in-Err.ensures.front
-    (c.unless_failed.ensures ∙ ap (λ failed. unless_failed failed WriteFault) c.has_failed.ensures)
+    (failed_status c.unless_failed.result c.has_failed.result c.item.stream.state.halted c.unless_failed.ensures c.has_failed.ensures)
 
 -- memory ran out
 pub returns-in-Err-process_statement-clause-ran : goal.returns-in-Err-process_statement-clause-ran
@@ -89,7 +86,7 @@ returns-in-Err-acknowledge-clause-ran g c =
     (Walk-settles (stream (fault_in c.item.stream) base) _ c.item.lines c.item.stream.state _ _ _ c.item.replies c.next_statement.new.replies c.item.invariant.walk c.in-Ok-Ok.ensures.settled)
     takes.1 (c.in-Ok.ensures.processes base))
     refl c.unless_failed-in-Err-acknowledge.result c.in-Err-acknowledge.ensures.front
-    (c.unless_failed-in-Err-acknowledge.ensures ∙ ap (λ failed. unless_failed failed WriteFault) c.has_failed-in-Err-acknowledge.ensures)
+    (failed_status c.unless_failed-in-Err-acknowledge.result c.has_failed-in-Err-acknowledge.result new.state.halted c.unless_failed-in-Err-acknowledge.ensures c.has_failed-in-Err-acknowledge.ensures)
 
 pub returns-in-Err-acknowledge-clause-moments : goal.returns-in-Err-acknowledge-clause-moments
 returns-in-Err-acknowledge-clause-moments g c =

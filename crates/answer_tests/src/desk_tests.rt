@@ -1,7 +1,11 @@
 //! Commands by several issuers, one after another: the words of each answer, and where the desk stands behind them.
 
+ghost use Rattle.std.specs.Prelude.{◌≡◌, false, Some, IfSome};
+ghost use Rattle.racf_desk.specs.Made.{made_in};
+
 use access_levels::Id;
-use racf_desk::{Desk, Refusal, Reply};
+use racf_desk::{Desk, Ready, Refusal, Reply};
+use racf_outside::{NeverDisk, Two};
 use racf_profiles::ibmuser;
 use std::alloc::Global;
 use std::process::Abort;
@@ -34,12 +38,34 @@ fn has_words(alloc: Global, reply: &Reply, words: &[u8]) -> bool {
     match reply {
         Reply::Accepted(_) => words == b"ACCEPTED".as_slice(),
         Reply::Refused(_, why) => is_told(alloc, why, words),
-        Reply::NoMemory => false,
+        Reply::Halted(_) | Reply::DiskFault(_) | Reply::NoMemory => false,
+    }
+}
+
+/// Disks that keep nothing.
+pub(crate) fn never_disks() -> Two<NeverDisk> {
+    Two {
+        first: NeverDisk,
+        second: NeverDisk,
+    }
+}
+
+/// A new desk over such disks.
+pub(crate) fn new_desk(rt: &(impl AllocGlobal + Abort)) -> Desk<NeverDisk>
+    ensures running { result.halted ≡ false }
+    ensures settled { result.committed ≡ false }
+{
+    match Desk::format(rt.alloc(), never_disks()) {
+        Ok(desk) => desk,
+        Err((_, fault)) => panic!(rt; "{fault}"),
     }
 }
 
 /// Whether the desk answers the command with its words.
-fn answers(rt: &(impl AllocGlobal + Abort), desk: &mut Desk, given: Given) -> bool {
+fn answers(rt: &(impl AllocGlobal + Abort), desk: &mut Desk<NeverDisk>, given: Given) -> bool
+    requires settled { desk.old.committed ≡ false }
+    ensures settled { desk.new.committed ≡ false }
+{
     let (issuer, group, text, words) = given;
     let (issuer, group) = (id(rt, issuer), group_named(rt, group));
     let reply = desk.execute(rt.alloc(), issuer, group, text);
@@ -48,12 +74,13 @@ fn answers(rt: &(impl AllocGlobal + Abort), desk: &mut Desk, given: Given) -> bo
 
 /// Gives the commands at a new desk, and asserts the words of each answer and the number behind them.
 fn assert_answers(rt: &(impl AllocGlobal + Abort), rows: &[Given], number: u64) {
-    let mut desk = Desk::new(rt.alloc()).expect(rt, "memory");
+    let mut desk = new_desk(rt);
     for row in rows {
         assert!(rt; answers(rt, &mut desk, *row));
     }
     assert!(rt; desk.number() == number);
     assert!(rt; desk.image().generation() == number);
+    let _ = desk.into_disks();
 }
 
 /// Group-SPECIAL ends above a group that a user owns.
@@ -206,24 +233,44 @@ fn conflicts_and_needs(rt: HostRuntime) {
     assert_answers(&rt, &CONFLICTS, 2);
 }
 
-/// Whether the desk makes IBMUSER's command for JIM, as the first, and installs it.
-fn installs_jim(alloc: Global, desk: &mut Desk) -> bool {
-    match desk.judge(alloc, ibmuser(), None, b"AU JIM NAME('Jim')") {
-        Ok(ready) => {
-            let is_canonical = ready.text.bytes() == b"ADDUSER JIM NAME('Jim')".as_slice();
-            let before = desk.number();
-            let number = desk.install(ready);
-            is_canonical && before == 0 && number == 1
-        }
-        Err(_) => false,
+/// Makes IBMUSER's command of that text.
+fn judged(alloc: Global, desk: &mut Desk<NeverDisk>, text: &[u8]) -> Option<Ready>
+    requires running { desk.old.halted ≡ false }
+    requires settled { desk.old.committed ≡ false }
+    ensures made { IfSome result (λ ready. desk.new.made ≡ Some (made_in ready)) }
+    ensures running { desk.new.halted ≡ false }
+    ensures settled { desk.new.committed ≡ false }
+{
+    match desk.judge(alloc, ibmuser(), None, text) {
+        Ok(ready) => Some(ready),
+        Err(_) => None,
     }
 }
 
+/// Whether the desk makes IBMUSER's command for JIM, as the first, commits and installs it.
+fn installs_jim(alloc: Global, desk: &mut Desk<NeverDisk>) -> bool
+    requires running { desk.old.halted ≡ false }
+    requires settled { desk.old.committed ≡ false }
+{
+    let Some(ready) = judged(alloc, desk, b"AU JIM NAME('Jim')") else {
+        return false;
+    };
+    let is_canonical = ready.text.bytes() == b"ADDUSER JIM NAME('Jim')".as_slice();
+    let before = desk.number();
+    if desk.commit(&ready).is_err() {
+        return false;
+    }
+    is_canonical && before == 0 && desk.number() == 0 && desk.install(ready) == 1
+}
+
 /// Whether JIM is installed while what was made of a command for JOE before it is still there.
-fn installs_the_last(alloc: Global, desk: &mut Desk) -> bool {
-    match desk.judge(alloc, ibmuser(), None, b"ADDUSER JOE") {
-        Ok(_first) => installs_jim(alloc, desk),
-        Err(_) => false,
+fn installs_the_last(alloc: Global, desk: &mut Desk<NeverDisk>) -> bool
+    requires running { desk.old.halted ≡ false }
+    requires settled { desk.old.committed ≡ false }
+{
+    match judged(alloc, desk, b"ADDUSER JOE") {
+        Some(_first) => installs_jim(alloc, desk),
+        None => false,
     }
 }
 
@@ -231,9 +278,10 @@ fn installs_the_last(alloc: Global, desk: &mut Desk) -> bool {
 #[test]
 fn the_last_is_installed(rt: HostRuntime) {
     let (joe, jim) = (id(&rt, b"JOE"), id(&rt, b"JIM"));
-    let mut desk = Desk::new(rt.alloc()).expect(&rt, "memory");
+    let mut desk = new_desk(&rt);
     assert!(rt; installs_the_last(rt.alloc(), &mut desk));
     assert!(rt; desk.number() == 1);
     assert!(rt; desk.image().user(joe).is_none());
     assert!(rt; desk.image().user(jim).is_some());
+    let _ = desk.into_disks();
 }

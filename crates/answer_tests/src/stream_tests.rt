@@ -1,10 +1,13 @@
 //! Streams with their outputs, stops at each fault and in mid-stream, and limits.
-ghost use Rattle.std.specs.Prelude.{◌≡◌, map, None, Some, IfSome, IsTrue, string_bytes};
-ghost use Rattle.racf_run.specs.Racf.{script_files};
-ghost use Rattle.racf_run.specs.Script.{script_output, is_whole};
+ghost use Rattle.std.specs.Prelude.{◌≡◌, map, false, None, IfSome, IsTrue, string_bytes};
+ghost use Rattle.racf_run.specs.Racf.{script_files, IsWholeOutput, OpensDatabase};
+ghost use Rattle.racf_run.specs.Script.{is_whole};
 
+use crate::desk_tests::{never_disks, new_desk};
+use racf_desk::Desk;
 use racf_outside::{
-    Failed, Failing, FileShelf, MemoryShelf, MemorySink, MemorySource, Shelf, Source,
+    Disk, Failed, Failing, FileShelf, MemoryDisk, MemoryShelf, MemorySink, MemorySource, NeverDisk,
+    Shelf, Source, Two,
 };
 use racf_run::{Status, racf, script};
 use std::alloc::Global;
@@ -65,14 +68,35 @@ fn numbers(rt: &(impl AllocGlobal + Abort), number: u64) -> Vec<u64> {
     numbers
 }
 
-/// The program over a shelf in memory. What an embedder knows then: where the input was read to its end, the output is
-/// exactly that of the input's bytes.
-fn racf_in_memory(alloc: Global, words: &[String], shelf: &mut MemoryShelf) -> Status
-    ensures { IsTrue (is_whole result) → IfSome (script_files (map string_bytes words.now)) (λ files.
-        IfSome (⟦<MemoryShelf as Shelf>⟧.input shelf.old files.input) (λ bytes.
-        ⟦<MemoryShelf as Shelf>⟧.output shelf.new files.output ≡ Some (script_output bytes))) }
+/// A disk in memory that holds these bytes.
+fn disk_of(rt: &(impl AllocGlobal + Abort), bytes: &[u8]) -> MemoryDisk {
+    let bytes = Vec::from_slice(rt.alloc(), bytes).expect(rt, "memory");
+    MemoryDisk::new(rt.alloc(), bytes, Vec::new(rt.alloc())).expect(rt, "memory")
+}
+
+/// Disks that hold a new database.
+fn database(rt: &(impl AllocGlobal + Abort)) -> Two<MemoryDisk> {
+    Two {
+        first: disk_of(rt, b"RACFJNL1\0"),
+        second: disk_of(rt, b""),
+    }
+}
+
+/// The program over a shelf and disks in memory. What an embedder knows then: where the words are `script IN OUT` and the
+/// input was read to its end, the disks stood for a position, and the output is exactly that of the input's bytes from
+/// there on.
+fn racf_in_memory(
+    alloc: Global,
+    words: &[String],
+    shelf: &mut MemoryShelf,
+    disks: Two<MemoryDisk>,
+) -> (Status, Two<MemoryDisk>)
+    ensures { IsTrue (is_whole result.0) → IfSome (script_files (map string_bytes words.now)) (λ files.
+        OpensDatabase (⟦<MemoryDisk as Disk>⟧.tells disks.first) (⟦<MemoryDisk as Disk>⟧.tells disks.second) (λ base.
+        IsWholeOutput base ⟦<MemoryShelf as Shelf>⟧.tells result.0
+        (⟦<MemoryShelf as Shelf>⟧.input shelf.old files.input) (⟦<MemoryShelf as Shelf>⟧.output shelf.new files.output))) }
 {
-    racf(alloc, words, shelf)
+    racf(alloc, words, shelf, disks)
 }
 
 /// Which calls are to fail, by their numbers, and 0 where none is: the opening of an input and of an output, a read and a
@@ -120,9 +144,11 @@ fn has_output(shelf: &MemoryShelf, wanted: Option<&str>) -> bool {
 fn assert_works(rt: &(impl AllocGlobal + Abort), input: &str, output: &str, status: Status) {
     let words = words(rt, "IN", "OUT");
     let mut shelf = shelf(rt, input, NONE);
-    assert!(rt; racf_in_memory(rt.alloc(), words.as_slice(), &mut shelf) == status);
+    let (told, disks) = racf_in_memory(rt.alloc(), words.as_slice(), &mut shelf, database(rt));
+    assert!(rt; told == status);
     assert!(rt; has_output(&shelf, Some(output)));
-    assert!(rt; racf(rt.alloc(), &[], &mut shelf) == Status::Usage);
+    let (told, _disks) = racf(rt.alloc(), &[], &mut shelf, disks);
+    assert!(rt; told == Status::Usage);
 }
 
 #[test]
@@ -165,7 +191,8 @@ fn stops(rt: &(impl AllocGlobal + Abort), words: &[String], stop: Stop) -> bool 
         write,
     };
     let mut shelf = shelf(rt, TWO, calls);
-    racf(rt.alloc(), words, &mut shelf) == status && has_output(&shelf, output)
+    let (told, _disks) = racf(rt.alloc(), words, &mut shelf, database(rt));
+    told == status && has_output(&shelf, output)
 }
 
 #[test]
@@ -181,7 +208,7 @@ fn stops_at_the_longest_input(rt: HostRuntime) {
     let words = words(&rt, "/dev/zero", "/dev/null");
     let host = rt.clone().expect(&rt, "memory");
     let mut shelf = FileShelf::new(rt.alloc(), host);
-    let status = racf(rt.alloc(), words.as_slice(), &mut shelf);
+    let (status, _disks) = racf(rt.alloc(), words.as_slice(), &mut shelf, database(&rt));
     assert!(rt; status == Status::InputTooLong);
 }
 
@@ -191,9 +218,18 @@ fn source(rt: &(impl AllocGlobal + Abort), bytes: &[u8], read: u64) -> MemorySou
     MemorySource::new(bytes, numbers(rt, read))
 }
 
-/// The status and the output of a stream.
-fn worked(alloc: Global, source: MemorySource, mut sink: MemorySink) -> (Status, Vec<u8>) {
-    let (status, _source) = script(alloc, source, &mut sink);
+/// The status and the output of a stream at a desk that nothing happened at.
+fn worked(
+    alloc: Global,
+    desk: Desk<NeverDisk>,
+    source: MemorySource,
+    mut sink: MemorySink,
+) -> (Status, Vec<u8>)
+    requires running { desk.halted ≡ false }
+    requires settled { desk.committed ≡ false }
+{
+    let (status, _source, desk) = script(alloc, source, &mut sink, desk);
+    let _ = desk.into_disks();
     (status, sink.into_bytes())
 }
 
@@ -206,7 +242,7 @@ fn ends(rt: &(impl AllocGlobal + Abort), stream: Worked<'_>) -> bool {
     let (input, read, write, output, wanted) = stream;
     let source = source(rt, input, read);
     let sink = MemorySink::new(rt.alloc(), numbers(rt, write));
-    let (status, written) = worked(rt.alloc(), source, sink);
+    let (status, written) = worked(rt.alloc(), new_desk(rt), source, sink);
     status == wanted && written.as_slice() == output.as_bytes()
 }
 
@@ -248,16 +284,18 @@ const ACCEPTED: &str = "0 0 VERIFIED\n1 ACCEPTED\n";
 
 const WHOLE: &str = "0 0 VERIFIED\n1 ACCEPTED\n1 0 VERIFIED\n";
 
-/// Streams of which a read or a write fails, or none.
-const MID_STREAM: [Worked<'static>; 9] = [
+/// Streams of which a read or a write fails, or none. The replies are written behind each command that is accepted, and
+/// else before the next read and at the end: what waited in one call, and the newest reply in another.
+const MID_STREAM: [Worked<'static>; 10] = [
     (THREE, 0, 0, WHOLE, Status::Done),
     (THREE, 1, 0, "", Status::ReadFault),
     (THREE, 2, 0, ACCEPTED, Status::ReadFault),
     (THREE, 0, 1, "", Status::WriteFault),
-    (THREE, 0, 2, ACCEPTED, Status::WriteFault),
-    // One call writes the replies to all lines that end in a block: a second one would fail.
-    (FED, 0, 2, WHOLE, Status::Done),
-    (FED, 0, 1, "", Status::WriteFault),
+    (THREE, 0, 2, VERIFIED, Status::WriteFault),
+    (THREE, 0, 3, ACCEPTED, Status::WriteFault),
+    // A fourth call would fail.
+    (FED, 0, 4, WHOLE, Status::Done),
+    (FED, 0, 3, ACCEPTED, Status::WriteFault),
     (JOINED, 0, 0, ACCEPTED, Status::Done),
     (JOINED, 2, 0, VERIFIED, Status::ReadFault),
 ];
@@ -297,7 +335,8 @@ const TYPED: &[u8] = b"VERIFY A IBMUSER\nVERIFY B IBMUSER\nVERIFY C IBMUSER\n";
 fn is_replied_first(rt: &(impl AllocGlobal + Abort), write: u64, read: u64, length: usize) -> bool {
     let inner = source(rt, TYPED, read);
     let mut sink = MemorySink::new(rt.alloc(), numbers(rt, write));
-    let (status, source) = script(rt.alloc(), Typed { inner }, &mut sink);
+    let (status, source, desk) = script(rt.alloc(), Typed { inner }, &mut sink, new_desk(rt));
+    let _ = desk.into_disks();
     status == Status::WriteFault && source.inner.faults() == 0 && sink.bytes().len() == length
 }
 
@@ -313,7 +352,7 @@ fn replies_before_it_reads_again(rt: HostRuntime) {
 fn is_refused_at_last(rt: &(impl AllocGlobal + Abort), input: &str, last: &[u8]) -> bool {
     let source = source(rt, input.as_bytes(), 0);
     let sink = MemorySink::new(rt.alloc(), Vec::new(rt.alloc()));
-    let (status, written) = worked(rt.alloc(), source, sink);
+    let (status, written) = worked(rt.alloc(), new_desk(rt), source, sink);
     status == Status::Refusals && written.as_slice().ends_with(last)
 }
 
@@ -365,6 +404,9 @@ fn gives_up_wherever_memory_is_refused(rt: HostRuntime) {
     };
     let source = MemorySource::new(bytes, Vec::new(rt.alloc()));
     let sink = MemorySink::new(rt.alloc(), Vec::new(rt.alloc()));
-    let (status, written) = worked(rt.alloc(), source, sink);
+    let Ok(desk) = Desk::format(rt.alloc(), never_disks()) else {
+        return;
+    };
+    let (status, written) = worked(rt.alloc(), desk, source, sink);
     assert!(rt; is_whole_or_front(status, written.as_slice()));
 }

@@ -1,11 +1,13 @@
 //! The example of docs/EMBEDDING.md as a whole program: it makes a desk, gives it commands by two issuers, verifies
-//! two users and decides on two requests, and prints each step. Who puts the libraries into a program of his own may
-//! begin with a copy of it.
+//! two users and decides on two requests, and prints each step. Its database ends with it: the disks keep nothing. Who puts
+//! the libraries into a program of his own may begin with a copy of it.
 //!
 //! ```
 //! rt run      # in this folder: prints what `stdout` holds
 //! ```
 #![tactic(auto)]
+
+ghost use Rattle.std.specs.Prelude.{◌≡◌, false};
 
 use access_levels::{Id, Level};
 use acee::{Acee, VerifyRequest};
@@ -13,6 +15,7 @@ use anyhow::{Result, anyhow};
 use decision::{Request, auth, verify};
 use generic_names::{NameKind, Resource};
 use racf_desk::{Desk, Refusal, Reply};
+use racf_outside::{NeverDisk, Two};
 use racf_profiles::FixedClass;
 use raclist_image::Image;
 
@@ -26,16 +29,33 @@ const COMMANDS: [(&str, &str); 6] = [
     ("ANN", "PERMIT 'PAY.**' ID(ANN) ACCESS(UPDATE)"),
 ];
 
-/// Goes through the steps, from a new database to two users' requests.
+/// Goes through the steps, from a new database to two users' requests. A desk is never just let go: at the end it hands
+/// back its disks.
 fn main(rt: HostRuntime) -> Result<()> {
-    let mut desk = Desk::new(rt.alloc())?;
+    let nothing_is_kept = Two {
+        first: NeverDisk,
+        second: NeverDisk,
+    };
+    let mut desk = match Desk::format(rt.alloc(), nothing_is_kept) {
+        Ok(desk) => desk,
+        Err((_, fault)) => return Err(anyhow!("{fault}")),
+    };
+    let shown = show(&rt, &mut desk);
+    let _ = desk.into_disks();
+    shown
+}
+
+/// Gives the commands, and decides on the image behind them. Between two commands nothing is under way at the desk.
+fn show(rt: &(impl Print + AllocGlobal), desk: &mut Desk<NeverDisk>) -> Result<()>
+    requires settled { desk.old.committed ≡ false }
+{
     for (issuer, text) in COMMANDS {
-        give(&rt, &mut desk, identifier(issuer)?, text)?;
+        give(rt, desk, identifier(issuer)?, text)?;
     }
     let image = desk.image();
     println!(rt; "the image has {} users", image.user_count())?;
-    show_user(&rt, image, "ANN")?;
-    show_user(&rt, image, "BOB")
+    show_user(rt, image, "ANN")?;
+    show_user(rt, image, "BOB")
 }
 
 /// The ID that is spelled so.
@@ -43,13 +63,23 @@ fn identifier(text: &str) -> Result<Id> {
     Id::read(text.as_bytes()).map_err(|_| anyhow!("no identifier"))
 }
 
-/// Gives a command, by this issuer in his default group.
-fn give(rt: &(impl Print + AllocGlobal), desk: &mut Desk, issuer: Id, text: &str) -> Result<()> {
+/// Gives a command, by this issuer in his default group. Over disks that keep something, a command that is accepted stands
+/// on them; where they fail, the desk takes no more, and the database is to be opened again.
+fn give(
+    rt: &(impl Print + AllocGlobal),
+    desk: &mut Desk<NeverDisk>,
+    issuer: Id,
+    text: &str,
+) -> Result<()>
+    requires settled { desk.old.committed ≡ false }
+    ensures settled { desk.new.committed ≡ false }
+{
     match desk.execute(rt.alloc(), issuer, None, text.as_bytes()) {
         Reply::Accepted(number) => println!(rt; "{number} accepted: {text}")?,
         Reply::Refused(number, refusal) => {
             println!(rt; "{number} refused, {}: {text}", words(rt, &refusal)?)?;
         }
+        Reply::DiskFault(_) | Reply::Halted(_) => return Err(anyhow!("a disk failed")),
         Reply::NoMemory => return Err(anyhow!("no memory")),
     }
     Ok(())

@@ -1,10 +1,11 @@
 -- Beginnings of lists of events, and which list extends which.
-use Rattle.std.proofs.Common.{◌≡◌, ◌⊎◌, ◌+◌, ◌-◌, ◌≤◌, ℕ, Bool, nat_lt, MatchBool, true, false, List, [], ◌∷◌, ◌++◌, length, refl, ap, sym, ◌∙◌, subst, arith, inl, inr, append_assoc, length-append}
+use Rattle.std.proofs.Common.{◌≡◌, ◌⊎◌, Some, ◌+◌, ◌-◌, ◌≤◌, ℕ, Bool, nat_lt, MatchBool, true, false, List, [], ◌∷◌, ◌++◌, length, refl, ap, sym, ◌∙◌, subst, arith, inl, inr, append_assoc, length-append}
 use Rattle.std.proofs.lemmas.Bool.Decides.{nat_tests}
 use mathlib.Core.List.{IsPrefix}
 use Rattle.command_history.specs.declared.events.Event.{Event}
 use Rattle.command_history.specs.declared.events.Event.TheVariants.{Added, Ended}
-use Rattle.command_history.specs.Events.{is_ended, ends_last, Extends}
+use Rattle.command_history.specs.declared.events.Accepted.{Accepted}
+use Rattle.command_history.specs.Events.{entries_of, mark_of, is_ended, ends_last, all_of, Extends}
 
 -- ---- beginnings
 
@@ -93,3 +94,23 @@ compared_so xs ys both last last' p q false is = shorter_front ys xs both last q
 pub compared : (xs ys both : List Event) → ends_last xs ≡ true → ends_last ys ≡ true → IsPrefix xs both → IsPrefix ys both
     → MatchBool (nat_lt (length xs) (length ys)) (Extends xs ys) (Extends ys xs)
 compared xs ys both last last' p q = compared_so xs ys both last last' p q (nat_lt (length xs) (length ys)) refl
+
+-- ---- whole lists
+
+pub all_is : (events : List Event) (halted : Bool) → ends_last events ≡ true → mark_of events ≡ Some halted → events ≡ all_of (entries_of events) halted
+all_is [] halted last mark = absurd (cc mark)
+all_is (Added entry ∷ events) halted last mark = ap (λ (l : List Event). Added entry ∷ l) (all_is events halted last mark)
+all_is (Ended h ∷ []) halted last mark = cc mark
+all_is (Ended h ∷ event ∷ events) halted last mark = absurd (cc last)
+
+pub entries_of_all : (entries : List Accepted) (halted : Bool) → entries_of (all_of entries halted) ≡ entries
+entries_of_all [] halted = refl
+entries_of_all (entry ∷ entries) halted = ap (λ (l : List Accepted). entry ∷ l) (entries_of_all entries halted)
+
+pub mark_of_all : (entries : List Accepted) (halted : Bool) → mark_of (all_of entries halted) ≡ Some halted
+mark_of_all [] halted = refl
+mark_of_all (entry ∷ entries) halted = mark_of_all entries halted
+
+pub last_of_all : (entries : List Accepted) (halted : Bool) → ends_last (all_of entries halted) ≡ true
+last_of_all [] halted = refl
+last_of_all (entry ∷ entries) halted = last_of_all entries halted

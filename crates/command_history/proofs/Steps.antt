@@ -3,13 +3,12 @@ use Rattle.std.proofs.Common.{◌≡◌, ◌≢◌, ℕ, ◌+◌, ◌<◌, ◌�
 use Rattle.std.proofs.lemmas.List.{append-nil, set-get_or, get_or_append_left}
 use Rattle.std.proofs.lemmas.Bool.{cases_lt}
 use Rattle.std.proofs.lemmas.Bool.Decides.{nat_tests}
-use mathlib.Core.List.{IsPrefix}
 use prog.Atomic.{either}
-use Rattle.logbook.specs.Pages.{Cell, cell, Act, keeps, gives, adds, cells_after, Nib, nib, no_nib, may_make, may_write, step, Moves, Goes}
+use Rattle.logbook.specs.Pages.{Cell, cell, keeps, gives, adds, Nib, nib, no_nib, may_make, may_write, step, Moves, Goes}
 use Rattle.command_history.specs.declared.events.Event.{Event}
 use Rattle.command_history.specs.declared.events.Event.TheVariants.{Added, Ended}
 use Rattle.command_history.specs.Events.{is_ended, ends_last}
-use Rattle.command_history.specs.Rules.{IsKept, Takes, Adds, Stays}
+use Rattle.command_history.specs.Rules.{IsKept, Takes, Adds}
 use Rattle.command_history.proofs.Extensions.{prefix_whole}
 
 abbrev pub shown : List Event → List Event
@@ -54,26 +53,6 @@ kept_same cells log n kept is =
     subst (λ (c : List Cell). IsKept c (log ++ [])) (sym (same_word cells n is (head_home cells log kept)))
     (subst (λ (l : List Event). IsKept cells l) (sym (append-nil log)) kept)
 
--- ---- a step that adds nothing
-
-pub stays_moves : (v : List Event) (p : Nib) (e : Event) → p.right ≡ may_write
-    → Moves IsKept shown moved 0 (v, (p, None)) (λ n. either (n == 0) 0 n) (Stays (step 0 0 0 e) (v, (p, None)))
-stays_moves v p e may cells log kept pre away =
-    let all : log ++ [] ≡ log = append-nil log in
-    let bound = still_away cells log p.key kept (away may).1 in (
-      there cells 0 (head_home cells log kept),
-      head_home cells log kept,
-      (
-        keeps,
-        [],
-        None,
-        tt,
-        kept_same cells log (either ((cell cells 0).0 == 0) 0 (cell cells 0).0) kept (unchanged (cell cells 0).0),
-        inl (refl, refl),
-        (subst (λ (l : List Event). length l + 2 ≤ p.key) (sym all) bound, refl, subst (λ (l : List Event). ends_last l ≡ true) (sym all) kept.last),
-      ),
-    )
-
 -- ---- a step that adds an event
 
 ends_push : (events : List Event) (event : Event) → is_ended events ≡ false → ends_last (events ++ event ∷ []) ≡ true
@@ -112,7 +91,7 @@ adds_moves v p e may key goes cells log kept pre away =
         None,
         may,
         subst (λ (c : List Cell). IsKept (slice_set c p.key (p.value, true)) (log ++ e ∷ [])) (sym head)
-        (kept_add cells log e p.key p.value kept is (away may).0 goes'),
+            (kept_add cells log e p.key p.value kept is (away may).0 goes'),
         inl (refl, refl),
         (ap (λ (l : List Event). l ++ e ∷ []) (sym same), ends_push log e goes'),
       ),

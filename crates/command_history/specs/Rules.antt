@@ -6,8 +6,8 @@ use Rattle.command_history.specs.Events.{ends_last}
 
 -- What holds between any two steps. Word n + 2 comes home with event n, and not before.
 pub record IsKept (cells : List Cell) (log : List Event) : Type 0 where
-  pub count : (cell cells 0).0 ≡ length cells                                    -- the first word is the number of words
-  pub home : (key : ℕ) → key < length log + 2 → (cell cells key).1 ≡ true        -- so many words are at home
+  pub count : (cell cells 0).0 ≡ length cells  -- the first word is the number of words
+  pub home : (key : ℕ) → key < length log + 2 → (cell cells key).1 ≡ true  -- so many words are at home
   pub last : ends_last log ≡ true
 
 -- the word that everybody shares

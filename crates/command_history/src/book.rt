@@ -71,7 +71,13 @@ impl<J: Naming> Book<J> {
         let mut pen = seen.no_pen();
         let found = self
             .head
-            .compare_exchange::<Take, Nothing>(place + 2, place + 3, &mut seen, &mut offer, &mut pen);
+            .compare_exchange::<Take, Nothing>(
+                place + 2,
+                place + 3,
+                &mut seen,
+                &mut offer,
+                &mut pen,
+            );
         if found != place + 2 {
             return None;
         }

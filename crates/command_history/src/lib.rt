@@ -4,6 +4,7 @@
 mod book;
 mod events;
 mod front;
+pub mod laws;
 mod rule;
 mod turn;
 

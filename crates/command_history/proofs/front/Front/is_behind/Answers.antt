@@ -1,8 +1,6 @@
-use Rattle.std.proofs.Common.{◌≡◌, ◌≤◌, ◌<◌, MatchBool, nat_lt, Bool, true, false, length, ap, subst, List, arith}
+use Rattle.std.proofs.Common.{ap, subst, List}
 use mathlib.Core.List.{IsPrefix}
-use Rattle.std.proofs.lemmas.Bool.Decides.{nat_tests}
 use Rattle.command_history.specs.declared.events.Event.{Event}
-use Rattle.command_history.specs.Events.{Extends}
 use Rattle.command_history.proofs.Extensions.{compared}
 use Rattle.command_history.proofs.front.Front.is_behind.Goals as goal
 

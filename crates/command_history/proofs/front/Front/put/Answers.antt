@@ -1,4 +1,4 @@
-use Rattle.std.proofs.Common.{◌≡◌, ◌+◌, false, length, sym, ◌∙◌, ap, subst, arith}
+use Rattle.std.proofs.Common.{◌≡◌, ◌+◌, false, length, sym, ◌∙◌, ap, arith}
 use Rattle.command_history.specs.Events.{is_ended}
 use Rattle.command_history.proofs.Steps.{adds_moves}
 use Rattle.command_history.proofs.front.Front.put.Goals as goal
@@ -17,5 +17,5 @@ compare_exchange-found-requires g c =
       c.turn.invariant.0 ∙ book,
       offer.0,
       rw (ap (λ w. w.key) h, offer.3 ∙ c.requires.waits)
-      (adds_moves c.self.inside.seen.log c.turn.inside.pen.nib c.plain-offer.result.ask c.turn.invariant.1 key goes),
+          (adds_moves c.self.inside.seen.log c.turn.inside.pen.nib c.plain-offer.result.ask c.turn.invariant.1 key goes),
     )

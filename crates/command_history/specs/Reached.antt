@@ -30,7 +30,8 @@ records_of (entry ∷ entries) = with_record (record_of entry) (records_of entri
 unfoldable pub reached : Position → List Event → Position
 reached base events = at base (records_of (entries_of events))
 
--- Entries are legal from a base where each has a record, whose command is accepted at the position behind those before it.
+-- Entries are legal from a base where each has a record, whose command is accepted at the position behind those before
+-- it.
 abbrev pub AreLegal : Position → List Accepted → Type 0
 AreLegal base [] = Unit {0}
 AreLegal base (entry ∷ entries) =

@@ -4,7 +4,8 @@ use Rattle.logbook.specs.Pages.{Cell, cell, Step, View, Book, Named, nib, may_ma
 use Rattle.command_history.specs.declared.events.Event.{Event}
 use Rattle.command_history.specs.Events.{ends_last}
 
--- What holds between any two steps. Word n + 2 comes home with event n, and not before.
+-- What holds between any two steps. The book begins with two words, and word n + 2 comes home with event n: who has the
+-- pen of a word that is still away knows that its event isn't there.
 pub record IsKept (cells : List Cell) (log : List Event) : Type 0 where
   pub count : (cell cells 0).0 ≡ length cells  -- the first word is the number of words
   pub home : (key : ℕ) → key < length log + 2 → (cell cells key).1 ≡ true  -- so many words are at home

@@ -1,15 +1,18 @@
--- What a crash leaves and an append makes of a store of whose records no more is known than that they have Q: for the
--- layer above.
-use Rattle.std.proofs.Common.{ℕ, ◌≡◌, List, [], ◌∷◌, ◌++◌, Option, None, Some, ◌⊎◌, inl, inr, refl, sym, ◌∙◌, subst}
+-- For the layer above: what a crash leaves and an append makes of a store of whose records no more is known than that they
+-- have Q, and how the moments of a reading and an opening join.
+use Rattle.std.proofs.Common.{ℕ, ◌≡◌, List, [], ◌∷◌, ◌++◌, Option, None, Some, ◌⊎◌, inl, inr, refl, sym, ◌∙◌, ap, subst}
+use Rattle.std.specs.Option.{option_map}
 use Rattle.std.proofs.lemmas.Option.{none-some}
 use Rattle.racf_outside.specs.Crashes.{Leaves, StaysIn}
-use Rattle.racf_outside.specs.Disk.{History, Now}
-use Rattle.racf_outside.specs.Moments.{Moment}
-use Rattle.racf_outside.proofs.Runs.{StaysIn-weaker, Leaves-weaker, now_if, same_history}
+use Rattle.racf_outside.specs.Disk.{History, goes, Now}
+use Rattle.racf_outside.specs.Moments.{Moment, IsImage, synced}
+use Rattle.racf_outside.proofs.Images.{only}
+use Rattle.racf_outside.proofs.Runs.{StaysIn-weaker, StaysIn-joined, Leaves-weaker, now_if, same_history}
+use Rattle.racf_journal.specs.Opening.{OnlySynced}
 use Rattle.racf_journal.specs.Reading.{magic}
 use Rattle.racf_journal.proofs.Rests.{rest_leaves}
 use Rattle.racf_checkpoint.specs.Contents.{Says, SaysEither}
-use Rattle.racf_checkpoint.specs.Stored.{IsStored, Beside}
+use Rattle.racf_checkpoint.specs.Stored.{IsStored, Beside, WasPossible, StaysPossible}
 use Rattle.racf_checkpoint.proofs.Says.{said}
 
 -- the first disk holds some records, and these have Q
@@ -56,3 +59,22 @@ pub append_keeps : (Q R : List (List ℕ) → Type 0) (next : List ℕ) (start g
 append_keeps Q R next start gate later end second old new moments acknowledged holds grows =
     now_if (IsStoredSome R later end) (append_leaves Q R next start gate second old new moments holds grows)
     (λ h e. let s = holds h e in λ k f. (s.0 ++ next ∷ [], acknowledged s.0 (known Q start gate old h e s) k f, grows s.0 s.2))
+
+-- Behind a call that only synced, the disk holds what was read before it, and nothing is in doubt.
+pub synced_now : (a b : Option History) → OnlySynced a b → Now a (λ m. Now b (λ n. n ≡ synced m))
+synced_now a b s h e k f = ap (λ i. i.now) (sym (same_history (goes synced h) k (sym (s.is ∙ ap (option_map (goes synced)) e) ∙ f)))
+
+-- What was possible behind it was so before it.
+possible_before : (m before : Moment) → m ≡ before → IsImage m m.bytes → (first second : List ℕ) → WasPossible (synced m) first second → WasPossible before first second
+possible_before m before same law first second w =
+    record { image = w.image; was_left = subst (λ n. IsImage n w.image) same (subst (IsImage m) (sym (only m.bytes w.image w.was_left)) law); says = w.says }
+
+-- A call that only synced the first disk, and one after it.
+pub possible_joined : (second a b c : Option History) → StaysPossible second a b → OnlySynced a b → StaysPossible second b c → StaysPossible second a c
+possible_joined second a b c stays s later before was = record {
+  told = λ h e. (StaysIn-joined (stays before was) (StaysIn-weaker (Beside second (WasPossible before)) (later (synced h.now) (synced_now a b s h e))
+      (λ k f image p other g. Leaves-weaker (WasPossible (synced h.now) image) (WasPossible before image) other.now (λ file w. possible_before h.now before (was h e) (s.was_left h e) image file w) (p other g)))).told h e;
+  untold = λ none.
+      let next : b ≡ None = s.is ∙ ap (option_map (goes synced)) none in
+      (later before (λ k f. absurd (none-some k (sym next ∙ f)))).untold next;
+}

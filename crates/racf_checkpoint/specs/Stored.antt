@@ -4,12 +4,18 @@ use Rattle.racf_outside.specs.Crashes.{Leaves, StaysIn}
 use Rattle.racf_outside.specs.Disk.{History, Now}
 use Rattle.racf_outside.specs.Moments.{Moment, IsImage}
 use Rattle.racf_journal.specs.Kept.{JournalOn, IsAtRest, IsResting}
+use Rattle.racf_journal.specs.Opening.{FoundOn as JournalFoundOn}
 use Rattle.racf_journal.specs.Reading.{magic}
 use Rattle.racf_checkpoint.specs.Contents.{contents}
 
 -- A store as data: the journal on its first disk, and the second disk.
 pub record StoreOn (D : Type 0) : Type 0 where
   pub journal : JournalOn D
+  pub second : D
+
+-- A store that was read and isn't open yet, as data.
+pub record FoundOn (D : Type 0) : Type 0 where
+  pub journal : JournalFoundOn D
   pub second : D
 
 -- The first disk holds the journal of these records and nothing else, and a crash changes none of it.

@@ -3,7 +3,9 @@
 //! A [`Store`] keeps the rows of a database and the records of the commands since, on a pair of disks. There are no
 //! checkpoints yet: the rows are those of a new database, all records stand in the journal of the first disk, and the
 //! second is handed through untouched. [`Store::append`] returns once a record stays whatever happens; [`Store::load`]
-//! gives the rows and the records again. The journal is that of `racf_journal`, the rows are those of `racf_profiles`.
+//! gives the rows and the records again. For a caller that judges the records first, [`Store::find`] reads them and leaves
+//! the disks as they are, and [`FoundStore::open`] makes a store of them. The journal is that of `racf_journal`, the rows
+//! are those of `racf_profiles`.
 //!
 //! ```
 //! let mut store = Store::format(disks)?;
@@ -15,9 +17,11 @@
 #![tactic(auto)]
 
 mod fault;
+mod found;
 mod laws;
 mod store;
 
 pub use fault::StoreFault;
+pub use found::FoundStore;
 pub use laws::what_is_stored_is_said;
 pub use store::{Loaded, Store};

@@ -17,14 +17,14 @@ use std::alloc::Global;
 use std::marker::Model;
 
 /// Where the journal of the first disk begins.
-const START: u64 = 8;
+pub(crate) const START: u64 = 8;
 
 /// The rows of a database and the records since, on two disks. The first has the journal; the second isn't used yet.
 pub struct Store<D: Disk> {
     /// The journal, which is all that the first disk holds.
-    journal: Journal<D>,
+    pub(crate) journal: Journal<D>,
     /// The second disk, as it was handed in.
-    second: D,
+    pub(crate) second: D,
 }
 
 impl<D: Disk> Model for Store<D> {
@@ -92,17 +92,14 @@ impl<D: Disk> Store<D> {
         let Ok(rows) = Rows::new_database(alloc) else {
             return Err((disks, StoreFault::NoMemory));
         };
-        let Two { first, second } = disks;
-        match Journal::open(alloc, first, START) {
-            Ok((journal, records)) => Ok(Loaded {
-                store: Store { journal, second },
-                rows,
-                number: 0,
-                start: START,
-                records,
-            }),
-            Err((first, fault)) => Err((Two { first, second }, StoreFault::from(fault))),
-        }
+        let (store, records) = Store::find(alloc, disks)?.open()?;
+        Ok(Loaded {
+            store,
+            rows,
+            number: 0,
+            start: START,
+            records,
+        })
     }
 
     /// Appends a record. After `Ok` every crash keeps it, and at every moment before a crash leaves files that say the

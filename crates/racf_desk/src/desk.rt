@@ -10,7 +10,7 @@ use crate::making::{is_recorded, make};
 use crate::outcome::outcome_in;
 use crate::recovery::{Recovered, recover};
 use access_levels::Id;
-use racf_checkpoint::{Loaded, Store, StoreFault};
+use racf_checkpoint::{Store, StoreFault};
 use racf_database::Database;
 use racf_outside::{Disk, Failed, Two};
 use raclist_image::Image;
@@ -82,8 +82,9 @@ impl<D: Disk> Desk<D> {
     }
 
     /// Opens the database that the disks stand for: repeats the commands of the journal's records, from a new database on,
-    /// in time that grows with their number, and makes the image of the rows once. At every moment a crash leaves files
-    /// that stand for what was possible before; after `Ok` it leaves what was opened. Otherwise the disks are handed back.
+    /// in time that grows with their number, and makes the image of the rows once. Nothing is written before all of them are
+    /// judged. At every moment a crash leaves files that stand for what was possible before; after `Ok` it leaves what was
+    /// opened. Otherwise the disks are handed back.
     pub fn open(alloc: Global, disks: Two<D>) -> Result<Desk<D>, (Two<D>, StoreFault)>
         ensures stands { IfOk result (λ desk. NowRead (D.tells disks.first) (D.tells disks.second) (λ first second. standing first second ≡ Ok desk.position)) }
         ensures desk { IfOk result (λ desk. desk ≡ is_fresh desk.position desk.store) }
@@ -97,19 +98,18 @@ impl<D: Disk> Desk<D> {
         ensures cause { IfErr result (λ back. IsCaused (D.faults disks.first) (D.faults back.0.first) back.1) }
         ensures no_fewer { MatchResult result (λ desk. D.faults disks.first ≤ D.faults desk.store.journal.disk) (λ back. D.faults disks.first ≤ D.faults back.0.first) }
     {
-        let Loaded {
-            store,
-            rows: _,
-            number: _,
-            start: _,
-            records,
-        } = match Store::load(alloc, disks) {
-            Ok(loaded) => loaded,
+        let found = match Store::find(alloc, disks) {
+            Ok(found) => found,
             Err(back) => return Err(back),
         };
-        match recover(alloc, &records) {
-            Ok(found) => Ok(Desk::fresh(alloc, found, store)),
-            Err(fault) => Err((store.into_disks(), fault)),
+        // The records are judged before anything is written.
+        let recovered = match recover(alloc, found.records()) {
+            Ok(recovered) => recovered,
+            Err(fault) => return Err((found.into_disks(), fault)),
+        };
+        match found.open() {
+            Ok((store, _records)) => Ok(Desk::fresh(alloc, recovered, store)),
+            Err(back) => Err(back),
         }
     }
 

@@ -1,6 +1,7 @@
 -- What opening a journal leaves, and what crashes leave meanwhile.
-use Rattle.std.proofs.Common.{ℕ, ◌-◌, ◌≤◌, ◌≡◌, ◌∙◌, ◌||◌, true, false, List, [], ◌∷◌, ◌++◌, length, take, drop, Option, None, Some, Ok, Err, refl, sym, ap, subst, arith, append_assoc, length-append, replicate, inl, inr, ltb}
+use Rattle.std.proofs.Common.{ℕ, ◌+◌, ◌-◌, ◌<◌, ◌≤◌, ◌≡◌, ◌∙◌, ◌^◌, ◌||◌, true, false, List, [], ◌∷◌, ◌++◌, length, take, drop, Option, None, Some, Result, Ok, Err, IfOk, MatchResult, refl, sym, ap, subst, arith, append_assoc, length-append, replicate, inl, inr, ltb}
 use Rattle.std.specs.Prelude.{bytes_eq}
+use Rattle.std.specs.List.{AllByRecursion}
 use Rattle.std.specs.Option.{option_map}
 use Rattle.std.proofs.lemmas.Option.{none-some, same_Some}
 use Rattle.std.proofs.lemmas.List.{take_at, drop_at, take-take, take-append-drop, length-take, length-take-le, length-replicate}
@@ -9,13 +10,14 @@ use Rattle.std.proofs.lemmas.Slice.Eq.{bytes_eq-Decides}
 use Rattle.racf_outside.specs.Crashes.{Leaves, StaysIn}
 use Rattle.racf_outside.specs.Disk.{History, goes, Now}
 use Rattle.racf_outside.specs.Moments.{Moment, IsImage, durable, synced}
-use Rattle.racf_outside.proofs.Images.{synced-leaves}
-use Rattle.racf_outside.proofs.Runs.{Runs, starts, ok, same_told, ends, StaysIn-joined, StaysIn-weaker}
+use Rattle.racf_outside.proofs.Images.{only, synced-leaves}
+use Rattle.racf_outside.proofs.Runs.{Runs, starts, ok, ends, StaysIn-joined, StaysIn-weaker}
 use Rattle.racf_journal.specs.declared.fault.JournalFault.TheVariants.{NotFormatted}
 use Rattle.racf_journal.specs.Kept.{IsAtRest, IsResting, Keeps}
-use Rattle.racf_journal.specs.Opening.{IsStart, WasPossible}
-use Rattle.racf_journal.specs.Reading.{magic, is_formatted, walk, reading, spelled}
-use Rattle.racf_journal.specs.Repair.{IsScanned, Holds, HoldsEnd, Ends}
+use Rattle.racf_journal.specs.Opening.{IsStart, OnlySynced, WasPossible, StaysPossible}
+use Rattle.racf_journal.specs.Reading.{magic, is_formatted, walk, reading, IsRecord, IsEnd, spelled}
+use Rattle.racf_journal.specs.Repair.{IsScanned, Holds, HoldsEnd, HoldsFound, IsFound, Ends}
+use Rattle.racf_journal.proofs.Files.{reading-front}
 use Rattle.racf_journal.proofs.Walks.{walk_to_end}
 
 -- ---- the reading, by the test of the front
@@ -41,6 +43,35 @@ start_within start told h (inl first) e is =
     (omega (arith, first), omega (arith, first, long))
 start_within start told h (inr later) e is = (omega (arith, later.0), later.1 h e)
 
+-- ---- a front, records and an end
+
+module _ (start gate : ℕ) (records : List (List ℕ)) (front : List ℕ) (from : length front ≡ start) (formatted : is_formatted start front ≡ true) (lawful : AllByRecursion IsRecord records) (to : gate ≡ start + length (spelled records)) where
+  abbrev pub front_base : List ℕ
+  front_base = front ++ spelled records
+
+  pub front_size : length front_base ≡ gate
+  front_size = omega (arith, from, to, length-append front (spelled records))
+
+  -- each file of these records and an end is read alike
+  pub front_reads : (other : List ℕ) → Ends front_base other → (take start other ≡ front) × (reading start other ≡ Ok (record { records = records; gate = gate }))
+  front_reads other e =
+      let split : other ≡ front ++ (spelled records ++ e.end) = e.split ∙ append_assoc front (spelled records) e.end in (
+        ap (take start) split ∙ take_at front (spelled records ++ e.end) start from,
+        ap (reading start) split ∙ reading-front start front (spelled records ++ e.end) from formatted ∙ walk_to_end records start e.end lawful e.ends ∙ ap (λ n. Ok (record { records = records; gate = n })) (sym to),
+      )
+
+  -- so each was possible where one was
+  pub front_possible : (m : Moment) → Ends front_base m.bytes → IsImage m m.bytes → (other : List ℕ) → Ends front_base other → WasPossible start m other
+  front_possible m is law other e = record {
+    image = m.bytes;
+    was_left = law;
+    front = (front_reads other e).0 ∙ sym (front_reads m.bytes is).0;
+    reads = (front_reads other e).1 ∙ sym (front_reads m.bytes is).1;
+  }
+
+  pub front_rests : (m : Moment) → m ≡ durable (front_base ++ 0 ∷ []) → IsAtRest front start gate records m
+  front_rests m is = record { from = from; formatted = formatted; to = to; lawful = lawful; is = is }
+
 -- ---- a file whose records were found
 
 module _ (start gate : ℕ) (records : List (List ℕ)) (file bytes : List ℕ) (least : 8 ≤ start) (within : start ≤ length file) (formatted : is_formatted start file ≡ true) (behind : bytes ≡ drop start file) (s : IsScanned start bytes records gate) where
@@ -50,43 +81,23 @@ module _ (start gate : ℕ) (records : List (List ℕ)) (file bytes : List ℕ) 
   abbrev pub base : List ℕ
   base = front ++ spelled records
 
-  from : length front ≡ start
+  pub from : length front ≡ start
   from = length-take-le start file within
 
+  pub front_formatted : is_formatted start front ≡ true
+  front_formatted = formatted_front start file least ∙ formatted
+
   pub base_size : length base ≡ gate
-  base_size = omega (arith, from, s.to, length-append front (spelled records))
+  base_size = front_size start gate records front from front_formatted s.lawful s.to
 
   pub base_whole : file ≡ base ++ s.end
   base_whole = sym (take-append-drop start file) ∙ ap (λ (l : List ℕ). front ++ l) (sym behind ∙ s.split) ∙ sym (append_assoc front (spelled records) s.end)
 
-  front_formatted : is_formatted start front ≡ true
-  front_formatted = formatted_front start file least ∙ formatted
-
-  -- each file of these records and an end is read alike
   pub ends_read : (other : List ℕ) → Ends base other → (take start other ≡ front) × (reading start other ≡ Ok (record { records = records; gate = gate }))
-  ends_read other e =
-      let split : other ≡ front ++ (spelled records ++ e.end) = e.split ∙ append_assoc front (spelled records) e.end in
-      let same_front : take start other ≡ front = ap (take start) split ∙ take_at front (spelled records ++ e.end) start from in
-      let is : is_formatted start other ≡ true = sym (formatted_front start other least) ∙ ap (is_formatted start) same_front ∙ front_formatted in
-      (same_front, reading-formatted start other is ∙ ap (walk 0 start) (ap (drop start) split ∙ drop_at front (spelled records ++ e.end) start from) ∙ walk_to_end records start e.end s.lawful e.ends ∙ ap (λ n. Ok (record { records = records; gate = n })) (sym s.to))
-
-  file_ends : Ends base file
-  file_ends = record { end = s.end; split = base_whole; ends = s.ends }
+  ends_read = front_reads start gate records front from front_formatted s.lawful s.to
 
   pub file_reads : reading start file ≡ Ok (record { records = records; gate = gate })
-  file_reads = (ends_read file file_ends).1
-
-  -- so each was possible where the file was
-  pub ends_possible : (m : Moment) → m.bytes ≡ file → IsImage m m.bytes → (other : List ℕ) → Ends base other → WasPossible start m other
-  ends_possible m same law other e = record {
-    image = m.bytes;
-    was_left = law;
-    front = (ends_read other e).0 ∙ ap (take start) (sym same);
-    reads = (ends_read other e).1 ∙ sym file_reads ∙ ap (reading start) (sym same);
-  }
-
-  pub base_rests : (m : Moment) → m ≡ durable (base ++ 0 ∷ []) → IsAtRest front start gate records m
-  base_rests m is = record { from = from; formatted = front_formatted; to = s.to; lawful = s.lawful; is = is }
+  file_reads = (ends_read file (record { end = s.end; split = base_whole; ends = s.ends })).1
 
 -- ---- the moments
 
@@ -107,71 +118,148 @@ possible_start start before a was = starts (WasPossible start before) a (λ h e.
 pub possible_here : (start : ℕ) (before : Moment) (a : Option History) → Now a (λ m. m ≡ before) → (h : History) → a ≡ Some h → Leaves (WasPossible start before) h.now
 possible_here start before a was h e = possible_now start before h.now (was h e)
 
--- a disk that was synced and then read
-module _ (start : ℕ) (a b c : Option History) (law : (h : History) → a ≡ Some h → IsImage h.now h.now.bytes) (done : b ≡ option_map (goes synced) a) (kept : c ≡ b) where
-  seen_untold : a ≡ None → c ≡ None
-  seen_untold none = kept ∙ done ∙ ap (option_map (goes synced)) none
-
-  pub seen_told : (h : History) → a ≡ Some h → c ≡ Some (goes synced h)
-  seen_told h e = kept ∙ done ∙ ap (option_map (goes synced)) e
-
-  pub seen_stays : (before : Moment) → Now a (λ m. m ≡ before) → StaysIn (WasPossible start before) a c
-  seen_stays before was = ends (same_told (ok synced (possible_start start before a was) done (λ h e. synced-leaves (WasPossible start before) h.now (law h e) (possible_now start before h.now (was h e)))) kept)
+-- a disk that was synced
+module _ (start : ℕ) (a b : Option History) (s : OnlySynced a b) where
+  synced_untold : a ≡ None → b ≡ None
+  synced_untold none = s.is ∙ ap (option_map (goes synced)) none
 
   synced_told : (h : History) → a ≡ Some h → b ≡ Some (goes synced h)
-  synced_told h e = done ∙ ap (option_map (goes synced)) e
+  synced_told h e = s.is ∙ ap (option_map (goes synced)) e
+
+  pub synced_stays : StaysPossible start a b
+  synced_stays before was =
+      ends (ok synced (possible_start start before a was) s.is (λ h e. synced-leaves (WasPossible start before) h.now (s.was_left h e) (possible_now start before h.now (was h e))))
 
   -- what is said of the bytes behind the sync holds of those before it
-  pub seen_before : (Q : List ℕ → Type 0) → Now b (λ m. Q m.bytes) → Now a (λ m. Q m.bytes)
-  seen_before Q holds h e = holds (goes synced h) (synced_told h e)
+  pub synced_before : (Q : List ℕ → Type 0) → Now b (λ m. Q m.bytes) → Now a (λ m. Q m.bytes)
+  synced_before Q holds h e = holds (goes synced h) (synced_told h e)
 
-  -- and in which the records were found
+  -- and the other way round
+  pub synced_behind : (Q : List ℕ → Type 0) → Now a (λ m. Q m.bytes) → Now b (λ m. Q m.bytes)
+  synced_behind Q holds =
+      Now-from a b (λ m. Q m.bytes) synced_untold (λ h e k told. subst (λ (i : History). Q i.now.bytes) (same_Some (goes synced h) k (sym (synced_told h e) ∙ told)) (holds h e))
+
+  -- what was possible behind it was so before
+  possible_before : (m before : Moment) → m ≡ before → IsImage m m.bytes → (file : List ℕ) → WasPossible start (synced m) file → WasPossible start before file
+  possible_before m before same law file w =
+      let image_is : w.image ≡ m.bytes = only m.bytes w.image w.was_left in
+      record { image = w.image; was_left = subst (λ n. IsImage n w.image) same (subst (IsImage m) (sym image_is) law); front = w.front; reads = w.reads }
+
+  pub possible_joined : (c : Option History) → StaysPossible start b c → StaysPossible start a c
+  possible_joined c later before was =
+      StaysIn-from (WasPossible start before) a c
+      (λ none. (later before (λ k told. absurd (none-some k (sym (synced_untold none) ∙ told)))).untold (synced_untold none))
+      (λ h e. StaysIn-joined (synced_stays before was)
+      (StaysIn-weaker (WasPossible start before) (later (synced h.now) (λ k told. ap (λ history. history.now) (sym (same_Some (goes synced h) k (sym (synced_told h e) ∙ told)))))
+      (λ k told image w. possible_before h.now before (was h e) (s.was_left h e) image w)))
+
+-- ---- what was found behind a sync
+
+module _ (start : ℕ) (a b c : Option History) (law : (h : History) → a ≡ Some h → IsImage h.now h.now.bytes) (done : b ≡ option_map (goes synced) a) (kept : c ≡ b) where
+  pub read_synced : OnlySynced a c
+  read_synced = record { was_left = law; is = kept ∙ done }
+
+  pub read_before : (Q : List ℕ → Type 0) → Now b (λ m. Q m.bytes) → Now a (λ m. Q m.bytes)
+  read_before = synced_before start a b (record { was_left = law; is = done })
+
   module _ (gate : ℕ) (records : List (List ℕ)) (bytes end : List ℕ) (is_start : IsStart start a) (seen : Now b (λ m. (is_formatted start m.bytes ≡ true) × (bytes ≡ drop start m.bytes))) (s : IsScanned start bytes records gate) (end_is : end ≡ drop (gate - start) bytes) where
-    formatted_at : (h : History) → a ≡ Some h → is_formatted start h.now.bytes ≡ true
-    formatted_at h e = (seen (goes synced h) (synced_told h e)).0
-
-    behind_at : (h : History) → a ≡ Some h → bytes ≡ drop start h.now.bytes
-    behind_at h e = (seen (goes synced h) (synced_told h e)).1
+    before : (h : History) → a ≡ Some h → (is_formatted start h.now.bytes ≡ true) × (bytes ≡ drop start h.now.bytes)
+    before = read_before (λ file. (is_formatted start file ≡ true) × (bytes ≡ drop start file)) seen
 
     within_at : (h : History) → a ≡ Some h → (8 ≤ start) × (start ≤ length h.now.bytes)
-    within_at h e = start_within start a h is_start e (formatted_at h e)
+    within_at h e = start_within start a h is_start e (before h e).0
 
     end_same : end ≡ s.end
     end_same = end_is ∙ ap (drop (gate - start)) s.split ∙ drop_at (spelled records) s.end (gate - start) (omega (arith, s.to))
 
-    size_at : (h : History) (e : a ≡ Some h) → length (take start h.now.bytes ++ spelled records) ≡ gate
-    size_at h e = base_size start gate records h.now.bytes bytes (within_at h e).0 (within_at h e).1 (formatted_at h e) (behind_at h e) s
+    split_end : bytes ≡ spelled records ++ end
+    split_end = s.split ∙ ap (λ (l : List ℕ). spelled records ++ l) (sym end_same)
 
-    whole_at : (h : History) (e : a ≡ Some h) → h.now.bytes ≡ (take start h.now.bytes ++ spelled records) ++ end
-    whole_at h e = base_whole start gate records h.now.bytes bytes (within_at h e).0 (within_at h e).1 (formatted_at h e) (behind_at h e) s ∙ ap (λ (l : List ℕ). (take start h.now.bytes ++ spelled records) ++ l) (sym end_same)
+    pub found_before : Now a (λ m. reading start m.bytes ≡ Ok (record { records = records; gate = gate }))
+    found_before h e = file_reads start gate records h.now.bytes bytes (within_at h e).0 (within_at h e).1 (before h e).0 (before h e).1 s
 
-    holds_at : (h : History) (e : a ≡ Some h) → Holds ((take start h.now.bytes ++ spelled records) ++ end) c
-    holds_at h e k told = ap (λ history. history.now) (sym (same_Some (goes synced h) k (sym (seen_told h e) ∙ told))) ∙ ap durable (whole_at h e)
+    held_at : (h : History) → a ≡ Some h → HoldsFound start records end (synced h.now)
+    held_at h e = record {
+      front = take start h.now.bytes;
+      from = length-take-le start h.now.bytes (within_at h e).1;
+      formatted = formatted_front start h.now.bytes (within_at h e).0 ∙ (before h e).0;
+      is = ap durable (sym (take-append-drop start h.now.bytes) ∙ ap (λ (l : List ℕ). take start h.now.bytes ++ l) (sym (before h e).1 ∙ split_end));
+    }
 
-    pub opened_reads : Now a (λ m. reading start m.bytes ≡ Ok (record { records = records; gate = gate }))
-    opened_reads h e = file_reads start gate records h.now.bytes bytes (within_at h e).0 (within_at h e).1 (formatted_at h e) (behind_at h e) s
+    pub found_is : start + length bytes < 2 ^ 64 → IsFound start gate records end c
+    found_is room = record {
+      to = s.to;
+      lawful = s.lawful;
+      ends = subst IsEnd (sym end_same) s.ends;
+      room = omega (arith, room, s.to, ap length split_end, length-append (spelled records) end);
+      held = Now-from a c (HoldsFound start records end) (λ none. kept ∙ done ∙ ap (option_map (goes synced)) none) (λ h e k told.
+          subst (λ (i : History). HoldsFound start records end i.now) (same_Some (goes synced h) k (sym (kept ∙ done ∙ ap (option_map (goes synced)) e) ∙ told)) (held_at h e));
+    }
 
-    pub opened_held : HoldsEnd gate end c
-    opened_held = Now-from a c (λ m. (base : List ℕ) × (length base ≡ gate) × (m ≡ durable (base ++ end))) seen_untold (λ h e k told. (take start h.now.bytes ++ spelled records, size_at h e, holds_at h e k told))
+-- ---- the repair of what was found
 
-    -- and whose end was repaired
-    module _ (d : Option History) (moments : (base : List ℕ) → length base ≡ gate → Holds (base ++ end) c → StaysIn (Ends base) c d) where
-      repaired_untold : a ≡ None → d ≡ None
-      repaired_untold none =
-          (moments (replicate gate 0) (length-replicate gate 0) (λ k e. absurd (none-some k (sym (seen_untold none) ∙ e)))).untold (seen_untold none)
+module _ (start gate : ℕ) (records : List (List ℕ)) (end : List ℕ) (a : Option History) (f : IsFound start gate records end a) where
+  abbrev base_at : (h : History) → a ≡ Some h → List ℕ
+  base_at h e = (f.held h e).front ++ spelled records
 
-      possible_at : (before : Moment) → Now a (λ m. m ≡ before) → (h : History) (e : a ≡ Some h) (image : List ℕ) → Ends (take start h.now.bytes ++ spelled records) image → WasPossible start before image
-      possible_at before was h e image is =
-          subst (λ m. WasPossible start m image) (was h e) (ends_possible start gate records h.now.bytes bytes (within_at h e).0 (within_at h e).1 (formatted_at h e) (behind_at h e) s h.now refl (law h e) image is)
+  size_at : (h : History) (e : a ≡ Some h) → length (base_at h e) ≡ gate
+  size_at h e = let held = f.held h e in front_size start gate records held.front held.from held.formatted f.lawful f.to
 
-      pub opened_stays : (before : Moment) → Now a (λ m. m ≡ before) → StaysIn (WasPossible start before) a d
-      opened_stays before was =
-          StaysIn-from (WasPossible start before) a d repaired_untold (λ h e. StaysIn-joined (seen_stays before was) (StaysIn-weaker (WasPossible start before) (moments (take start h.now.bytes ++ spelled records) (size_at h e) (holds_at h e)) (λ k told image is. possible_at before was h e image is)))
+  moment_at : (h : History) (e : a ≡ Some h) → h.now ≡ durable (base_at h e ++ end)
+  moment_at h e = let held = f.held h e in held.is ∙ ap durable (sym (append_assoc held.front (spelled records) end))
 
-      pub opened_resting : ((base : List ℕ) → length base ≡ gate → Holds (base ++ end) c → Holds (base ++ 0 ∷ []) d) → Now d (IsResting start gate)
-      opened_resting repaired =
-          Now-from a d (IsResting start gate) repaired_untold (λ h e k told. (take start h.now.bytes, records, base_rests start gate records h.now.bytes bytes (within_at h e).0 (within_at h e).1 (formatted_at h e) (behind_at h e) s k.now (repaired (take start h.now.bytes ++ spelled records) (size_at h e) (holds_at h e) k told)))
+  holds_at : (h : History) (e : a ≡ Some h) → Holds (base_at h e ++ end) a
+  holds_at h e k told = ap (λ history. history.now) (sym (same_Some h k (sym e ∙ told))) ∙ moment_at h e
 
-      pub opened_rests : ((base : List ℕ) → length base ≡ gate → Holds (base ++ end) c → Holds (base ++ 0 ∷ []) d) → (front : List ℕ) → Now a (λ m. take start m.bytes ≡ front) → Keeps front start gate records d
-      opened_rests repaired front same =
-          Now-from a d (IsAtRest front start gate records) repaired_untold (λ h e k told. subst (λ f. IsAtRest f start gate records k.now) (same h e) (base_rests start gate records h.now.bytes bytes (within_at h e).0 (within_at h e).1 (formatted_at h e) (behind_at h e) s k.now (repaired (take start h.now.bytes ++ spelled records) (size_at h e) (holds_at h e) k told)))
+  ends_at : (h : History) (e : a ≡ Some h) → Ends (base_at h e) h.now.bytes
+  ends_at h e = record { end = end; split = ap (λ (m : Moment). m.bytes) (moment_at h e); ends = f.ends }
+
+  pub found_held : HoldsEnd gate end a
+  found_held h e = (base_at h e, size_at h e, moment_at h e)
+
+  pub found_reads : Now a (λ m. reading start m.bytes ≡ Ok (record { records = records; gate = gate }))
+  found_reads h e = let held = f.held h e in (front_reads start gate records held.front held.from held.formatted f.lawful f.to h.now.bytes (ends_at h e)).1
+
+  module _ (law : (h : History) → a ≡ Some h → IsImage h.now h.now.bytes) (d : Option History) (moments : (base : List ℕ) → length base ≡ gate → Holds (base ++ end) a → StaysIn (Ends base) a d) where
+    repaired_untold : a ≡ None → d ≡ None
+    repaired_untold none =
+        (moments (replicate gate 0) (length-replicate gate 0) (λ k e. absurd (none-some k (sym none ∙ e)))).untold none
+
+    pub repaired_stays : StaysPossible start a d
+    repaired_stays before was =
+        StaysIn-from (WasPossible start before) a d repaired_untold (λ h e. StaysIn-weaker (WasPossible start before) (moments (base_at h e) (size_at h e) (holds_at h e)) (λ k told image is.
+        let held = f.held h e in
+        subst (λ m. WasPossible start m image) (was h e) (front_possible start gate records held.front held.from held.formatted f.lawful f.to h.now (ends_at h e) (law h e) image is)))
+
+    module _ (repaired : (base : List ℕ) → length base ≡ gate → Holds (base ++ end) a → Holds (base ++ 0 ∷ []) d) where
+      rests_at : (h : History) (e : a ≡ Some h) → Now d (IsAtRest (f.held h e).front start gate records)
+      rests_at h e k told =
+          let held = f.held h e in
+          front_rests start gate records held.front held.from held.formatted f.lawful f.to k.now (repaired (base_at h e) (size_at h e) (holds_at h e) k told)
+
+      pub repaired_resting : Now d (IsResting start gate)
+      repaired_resting = Now-from a d (IsResting start gate) repaired_untold (λ h e k told. ((f.held h e).front, records, rests_at h e k told))
+
+      pub repaired_rests : (front : List ℕ) → Now a (λ m. take start m.bytes ≡ front) → Keeps front start gate records d
+      repaired_rests front same =
+          Now-from a d (IsAtRest front start gate records) repaired_untold (λ h e k told.
+          let held = f.held h e in
+          let front_is : held.front ≡ front = sym (front_reads start gate records held.front held.from held.formatted f.lawful f.to h.now.bytes (ends_at h e)).0 ∙ same h e in
+          subst (λ l. IsAtRest l start gate records k.now) front_is (rests_at h e k told))
+
+-- ---- both, one after the other
+
+module _ {T E : Type 0} (start : ℕ) (a b : Option History) (s : OnlySynced a b) where
+  pub both_stay : (result : Result T E) (opened : T → Option History) (back : E → Option History)
+      → MatchResult result (λ one. StaysPossible start b (opened one)) (λ one. StaysPossible start b (back one)) → MatchResult result (λ one. StaysPossible start a (opened one)) (λ one. StaysPossible start a (back one))
+  both_stay (Ok one) opened back stays = possible_joined start a b s (opened one) stays
+  both_stay (Err one) opened back stays = possible_joined start a b s (back one) stays
+
+  pub both_rest : (result : Result T E) (opened : T → Option History) (gate : T → ℕ) (records : T → List (List ℕ)) (found_gate : ℕ) (found_records : List (List ℕ))
+      → IfOk result (λ one. gate one ≡ found_gate) → IfOk result (λ one. records one ≡ found_records)
+      → IfOk result (λ one. (front : List ℕ) → Now b (λ m. take start m.bytes ≡ front) → Keeps front start found_gate found_records (opened one))
+      → IfOk result (λ one. (front : List ℕ) → Now a (λ m. take start m.bytes ≡ front) → Keeps front start (gate one) (records one) (opened one))
+  both_rest (Ok one) opened gate records found_gate found_records at are rest = λ front same.
+      subst (λ n. Keeps front start n (records one) (opened one)) (sym at)
+      (subst (λ rs. Keeps front start found_gate rs (opened one)) (sym are) (rest front (synced_behind start a b s (λ file. take start file ≡ front) same)))
+  both_rest (Err one) opened gate records found_gate found_records at are rest = tt

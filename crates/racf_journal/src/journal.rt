@@ -11,8 +11,6 @@ ghost use Rattle.racf_journal.specs.Reading.{magic, reading, IsRecord, spelled};
 
 use crate::fault::JournalFault;
 use crate::layout::{FIRST_START, MOST_BYTES};
-use crate::opening::opened;
-use crate::scan::Found;
 use crate::writing::{write_new, write_record};
 use access_levels::Text;
 use racf_outside::Disk;
@@ -22,11 +20,11 @@ use std::marker::Model;
 /// Records behind gates, on a disk of its own or in the last part of a file.
 pub struct Journal<D: Disk> {
     /// What it lies on.
-    disk: D,
+    pub(crate) disk: D,
     /// Where its first gate is.
-    start: u64,
+    pub(crate) start: u64,
     /// Where its last gate is, which is closed.
-    gate: u64,
+    pub(crate) gate: u64,
 }
 
 impl<D: Disk> Model for Journal<D> {
@@ -63,7 +61,7 @@ impl<D: Disk> Journal<D> {
     /// back.
     pub fn open(
         alloc: Global,
-        mut disk: D,
+        disk: D,
         start: u64,
     ) -> Result<(Journal<D>, Vec<Text>), (D, JournalFault)>
         requires { IsStart start (D.tells disk) }
@@ -82,10 +80,7 @@ impl<D: Disk> Journal<D> {
         ensures cause { IfErr result (λ back. IsCaused (D.faults disk) (D.faults back.0) back.1) }
         ensures no_fewer { MatchResult result (λ opened. D.faults disk ≤ D.faults opened.0.disk) (λ back. D.faults disk ≤ D.faults back.0) }
     {
-        match opened(alloc, &mut disk, start) {
-            Ok(Found { records, gate }) => Ok((Journal { disk, start, gate }, records)),
-            Err(fault) => Err((disk, fault)),
-        }
+        Journal::find(alloc, disk, start)?.open()
     }
 
     /// Appends a record. After `Ok` every crash keeps it, and at every moment before a crash leaves the records as they

@@ -1,13 +1,16 @@
--- The load is the journal's opening, on the first disk.
-use Rattle.racf_checkpoint.proofs.Says.{loaded, stays_possible}
+-- The store is read, and then opened.
+use Rattle.std.proofs.Common.{◌≡◌, Err, rules}
+use Rattle.racf_checkpoint.proofs.Steps.{possible_joined}
 use Rattle.racf_checkpoint.proofs.store.Store.load.Goals as goal
 
-pub returns-in-Ok-open-clause-stores : goal.returns-in-Ok-open-clause-stores
-returns-in-Ok-open-clause-stores g c =
-    loaded _ _ c.in-Ok-open.records.items (g.D.Disk.tells c.args.disks.first) (g.D.Disk.tells c.in-Ok-open.journal.disk) c.in-Ok-open.ensures.reads c.in-Ok-open.ensures.rest c.in-Ok-open.ensures.start
+pub returns-in_err-store-clause-moments : goal.returns-in_err-store-clause-moments
+returns-in_err-store-clause-moments g c =
+    let is : c.from_residual-in_err-store.result ≡ Err c.in_err-store.field-0.0 = search rules in
+    rw is (possible_joined (g.D.Disk.tells c.args.disks.second) _ _ _ c.in_ok-find.ensures.moments c.in_ok-find.ensures.synced (rw c.in_ok-find.ensures.second at c.in_err-store.ensures.moments))
 
-pub returns-in-Ok-open-clause-moments : goal.returns-in-Ok-open-clause-moments
-returns-in-Ok-open-clause-moments g c = stays_possible _ _ _ c.in-Ok-open.ensures.moments
+pub returns-clause-says : goal.returns-clause-says
+returns-clause-says g c = rw c.in_ok-store.ensures.records c.in_ok-find.ensures.says
 
-pub returns-in-Err-clause-moments : goal.returns-in-Err-clause-moments
-returns-in-Err-clause-moments g c = stays_possible _ _ _ c.in-Err.ensures.moments
+pub returns-clause-moments : goal.returns-clause-moments
+returns-clause-moments g c =
+    possible_joined (g.D.Disk.tells c.args.disks.second) _ _ _ c.in_ok-find.ensures.moments c.in_ok-find.ensures.synced (rw c.in_ok-find.ensures.second at c.in_ok-store.ensures.moments)

@@ -1,0 +1,78 @@
+-- Where a list of events leads, behind one event more.
+use Rattle.std.proofs.Common.{◌≡◌, ℕ, Ok, List, [], ◌∷◌, ◌++◌, Bool, Option, Some, None, refl, sym, ◌∙◌, ap, subst}
+use Rattle.journal_records.specs.declared.record.CommandRecord.{CommandRecord}
+use Rattle.racf_desk.specs.Position.{Position, position_behind}
+use Rattle.racf_desk.specs.History.{at, IsLegal}
+use Rattle.racf_desk.specs.Outcome.{outcome}
+use Rattle.racf_desk.specs.Recovery.{outcome_again}
+use Rattle.racf_desk.proofs.RecoveryLaws.{accepted_leads}
+use Rattle.command_history.specs.declared.events.Accepted.{Accepted}
+use Rattle.command_history.specs.declared.events.Event.{Event}
+use Rattle.command_history.specs.declared.events.Event.TheVariants.{Added, Ended}
+use Rattle.command_history.specs.Events.{entries_of}
+use Rattle.command_history.specs.Reached.{record_of, with_record, records_of, reached, AreLegal}
+
+-- behind one record more
+at_more : (base : Position) (history : List CommandRecord) (given : CommandRecord) → at base (history ++ given ∷ []) ≡ position_behind (at base history) given
+at_more base [] given = refl
+at_more base (first ∷ history) given = at_more (position_behind base first) history given
+
+entries_more : (events : List Event) (entry : Accepted) → entries_of (events ++ Added entry ∷ []) ≡ entries_of events ++ entry ∷ []
+entries_more [] entry = refl
+entries_more (Added first ∷ events) entry = ap (λ (l : List Accepted). first ∷ l) (entries_more events entry)
+entries_more (Ended halted ∷ events) entry = entries_more events entry
+
+entries_ended : (events : List Event) (halted : Bool) → entries_of (events ++ Ended halted ∷ []) ≡ entries_of events
+entries_ended [] halted = refl
+entries_ended (Added first ∷ events) halted = ap (λ (l : List Accepted). first ∷ l) (entries_ended events halted)
+entries_ended (Ended h ∷ events) halted = entries_ended events halted
+
+with_more : (one : Option CommandRecord) (history more : List CommandRecord) → with_record one (history ++ more) ≡ with_record one history ++ more
+with_more None history more = refl
+with_more (Some given) history more = refl
+
+records_more : (entries : List Accepted) (entry : Accepted) (given : CommandRecord) → record_of entry ≡ Some given
+    → records_of (entries ++ entry ∷ []) ≡ records_of entries ++ given ∷ []
+records_more [] entry given is = ap (λ (o : Option CommandRecord). with_record o []) is
+records_more (first ∷ entries) entry given is =
+    ap (λ (l : List CommandRecord). with_record (record_of first) l) (records_more entries entry given is)
+    ∙ with_more (record_of first) (records_of entries) (given ∷ [])
+
+pub reached_added : (base : Position) (events : List Event) (entry : Accepted) (given : CommandRecord) → record_of entry ≡ Some given
+    → reached base (events ++ Added entry ∷ []) ≡ position_behind (reached base events) given
+reached_added base events entry given is =
+    unfold reached in
+    ap (λ (l : List Accepted). at base (records_of l)) (entries_more events entry)
+    ∙ (ap (λ (l : List CommandRecord). at base l) (records_more (entries_of events) entry given is)
+    ∙ at_more base (records_of (entries_of events)) given)
+
+pub reached_ended : (base : Position) (events : List Event) (halted : Bool) → reached base (events ++ Ended halted ∷ []) ≡ reached base events
+reached_ended base events halted = unfold reached in ap (λ (l : List Accepted). at base (records_of l)) (entries_ended events halted)
+
+pub reached_none : (base : Position) → reached base [] ≡ base
+reached_none base = unfold reached in refl
+
+-- ---- legal entries
+
+legal_more : (base : Position) (entries : List Accepted) (entry : Accepted) (given : CommandRecord) → AreLegal base entries → record_of entry ≡ Some given
+    → outcome_again (at base (records_of entries)) given ≡ Ok given → AreLegal base (entries ++ entry ∷ [])
+legal_more base [] entry given legal is accepted = (given, is, accepted, tt)
+legal_more base (first ∷ entries) entry given legal is accepted =
+    let P : Option CommandRecord → Type 0 = λ one. outcome_again (at base (with_record one (records_of entries))) given ≡ Ok given in
+    (legal.0, legal.1, legal.2, legal_more (position_behind base legal.0) entries entry given legal.3 is (subst P legal.1 accepted))
+
+pub legal_added : (base : Position) (events : List Event) (entry : Accepted) (given : CommandRecord) (id : List ℕ) (group : Option (List ℕ)) (text : List ℕ)
+    → AreLegal base (entries_of events) → record_of entry ≡ Some given → outcome (reached base events) id group text ≡ Ok given
+    → AreLegal base (entries_of (events ++ Added entry ∷ []))
+legal_added base events entry given id group text legal is accepted =
+    let again : outcome_again (at base (records_of (entries_of events))) given ≡ Ok given = unfold reached in accepted_leads (reached base events) id group text given accepted in
+    subst (λ (l : List Accepted). AreLegal base l) (sym (entries_more events entry)) (legal_more base (entries_of events) entry given legal is again)
+
+pub legal_ended : (base : Position) (events : List Event) (halted : Bool) → AreLegal base (entries_of events) → AreLegal base (entries_of (events ++ Ended halted ∷ []))
+legal_ended base events halted legal = subst (λ (l : List Accepted). AreLegal base l) (sym (entries_ended events halted)) legal
+
+pub legal_history : (base : Position) (entries : List Accepted) → AreLegal base entries → IsLegal base (records_of entries)
+legal_history base [] legal = tt
+legal_history base (entry ∷ entries) legal =
+    subst (λ (one : Option CommandRecord). IsLegal base (with_record one (records_of entries))) (sym legal.1)
+    (legal.2, legal_history (position_behind base legal.0) entries legal.3)

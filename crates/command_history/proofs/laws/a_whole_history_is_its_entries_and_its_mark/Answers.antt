@@ -1,0 +1,14 @@
+use Rattle.command_history.proofs.Extensions.{all_is, entries_of_all, mark_of_all, last_of_all}
+use Rattle.command_history.proofs.laws.a_whole_history_is_its_entries_and_its_mark.Goals as goal
+
+pub returns-clause-whole : goal.returns-clause-whole
+returns-clause-whole c = all_is
+
+pub returns-clause-entries : goal.returns-clause-entries
+returns-clause-entries c = entries_of_all
+
+pub returns-clause-mark : goal.returns-clause-mark
+returns-clause-mark c = mark_of_all
+
+pub returns-clause-last : goal.returns-clause-last
+returns-clause-last c = last_of_all

@@ -1,0 +1,108 @@
+//! The rule of a history's book, the steps that are taken at it, and its name.
+
+use crate::events::{Accepted, Event};
+use logbook::{Gain, Plain, Play, Rule};
+use std::marker::Brand;
+
+/// The rule of the book.
+pub struct Law;
+
+impl Rule<Event, u64> for Law {
+    ghost use Rattle.std.specs.Prelude.{[]};
+    ghost use base.Fml.{ftrue};
+    ghost use Rattle.command_history.specs.Rules.{IsKept};
+
+    ghost holds = { λ cells log. IsKept cells log };
+
+    ghost first = { [] };
+
+    ghost hinted = { λ n log. Unit {0} };
+
+    ghost shows = { λ log. [] };
+
+    ghost keeps = { λ names log. ftrue };
+
+    ghost moves = { λ ask before after answer. Unit {0} };
+}
+
+/// Callers trade nothing.
+pub struct Nothing;
+
+impl Gain<Event, u64> for Nothing {
+    ghost use base.Fml.{ftrue};
+
+    ghost after = { λ names about answer. ftrue };
+}
+
+/// A step that takes the right to an event.
+pub struct Take;
+
+impl Play<Event, u64> for Take {
+    ghost use Rattle.command_history.specs.Rules.{Takes};
+
+    ghost then = { Takes };
+}
+
+/// A step that adds an event.
+pub struct Add;
+
+impl Play<Event, u64> for Add {
+    ghost use Rattle.command_history.specs.Rules.{Adds};
+
+    ghost then = { Adds };
+}
+
+/// A step that adds nothing.
+pub struct Stay;
+
+impl Play<Event, u64> for Stay {
+    ghost use Rattle.command_history.specs.Rules.{Stays};
+
+    ghost then = { Stays };
+}
+
+/// An entry, as what a step asks for.
+impl Plain<Accepted, Event, u64> for Add {
+    ghost use Rattle.std.specs.Prelude.{None};
+    ghost use Rattle.command_history.specs.declared.events.Event.TheVariants.{Added};
+
+    ghost ask = { λ entry. Added entry };
+
+    ghost state = { λ entry. None };
+}
+
+/// The final mark, as what a step asks for. A step that adds nothing may ask for anything.
+pub struct End;
+
+impl Plain<bool, Event, u64> for End {
+    ghost use Rattle.std.specs.Prelude.{None};
+    ghost use Rattle.command_history.specs.declared.events.Event.TheVariants.{Ended};
+
+    ghost ask = { λ halted. Ended halted };
+
+    ghost state = { λ halted. None };
+}
+
+/// Which history it is. Whatever belongs together has one parameter of this kind, and who opens a history picks it.
+pub trait Naming {
+    ghost use Rattle.std.specs.Prelude.{ℕ};
+    ghost use Rattle.logbook.specs.Pages.{Book};
+    ghost use Rattle.racf_desk.specs.Position.{Position};
+
+    // The book of the history.
+    ghost book: { Book };
+    // Where the history begins.
+    ghost base: { Position };
+    // How many faults of the disk had been counted there.
+    ghost faults: { ℕ };
+}
+
+impl Naming for Brand {
+    ghost use Rattle.racf_desk.specs.Position.{first_position};
+
+    ghost book = { record { number = 0; log_name = 0; cells_name = 0 } };
+
+    ghost base = { first_position };
+
+    ghost faults = { 0 };
+}

@@ -8,16 +8,26 @@ use crate::front::Front;
 use crate::rule::{End, Law, Naming, Nothing, Stay, Take};
 use crate::turn::Turn;
 use logbook::{Offer, Seen, Start, Word};
-use std::marker::PhantomData;
+use std::marker::{Model, PhantomData};
 
-/// A history without events, which has no name yet.
+/// A history without events, which has no name yet. Contracts see it as its book, by which a name is picked for it.
 pub struct Opened {
     /// The number of words.
     head: Word<Event, u64, Law>,
     /// That nothing has happened yet.
     seen: Seen<Event, u64, Law>,
-    pub ghost empty: { seen.log ≡ [] },
-    pub ghost head_is: { head ≡ head_of seen.book },
+}
+
+impl Model for Opened {
+    ghost use Rattle.std.specs.Prelude.{◌≡◌, []};
+    ghost use Rattle.logbook.specs.Pages.{Book};
+    ghost use Rattle.command_history.specs.Rules.{head_of};
+
+    ghost Value = { Book };
+
+    ghost view = { λ o. o.seen.book };
+
+    ghost invariant = { λ o. (o.seen.log ≡ []) × (o.head ≡ head_of o.seen.book) };
 }
 
 impl Opened {
@@ -32,7 +42,7 @@ impl Opened {
 
     /// The history under a name that was picked for it, and the front that has no event.
     pub fn named<J: Naming>(self) -> (Book<J>, Front<J>)
-        requires { self.seen.book ≡ J.book }
+        requires { self ≡ J.book }
         ensures { result.1 ≡ [] }
     {
         let Opened { head, seen } = self;

@@ -21,7 +21,7 @@ fn goes_on<J: Naming + Send + Sync, R: Abort>(
     alloc: Global,
     opened: Opened,
 ) -> Result<(), Fail>
-    requires book { opened.seen.book ≡ J.book }
+    requires book { opened ≡ J.book }
     requires base { J.base ≡ first_position }
 {
     let (book, mut front) = opened.named::<J>();

@@ -3,4 +3,4 @@ use Rattle.history_tests.proofs.tests.one_command_and_the_mark.Given as goal
 
 -- the history that was just opened
 abbrev pub ghosts-goes_on : goal.ghosts-goes_on
-ghosts-goes_on g a = record { book = a.opened.seen.book; base = first_position; faults = 0 }
+ghosts-goes_on g a = record { book = a.opened; base = first_position; faults = 0 }

@@ -50,6 +50,7 @@ impl<D: Disk> Store<D> {
 
         ensures fault { IfErr result (λ back. NowRead (D.tells disks.first) (D.tells disks.second) (Refuses back.1)) }
         ensures no_other { IfErr result (λ back. back.1 ≢ StoreFault.Full) }
+        ensures untouched { IfErr result (λ back. back.1 ≢ StoreFault.DiskFault → OnlySynced (D.tells disks.first) (D.tells back.0.first)) }
         ensures cause { IfErr result (λ back. IsCaused (D.faults disks.first) (D.faults back.0.first) back.1) }
         ensures no_fewer { MatchResult result (λ found. D.faults disks.first ≤ D.faults found.journal.disk) (λ back. D.faults disks.first ≤ D.faults back.0.first) }
     {

@@ -1,8 +1,9 @@
 //! The store.
 
-ghost use Rattle.std.specs.Prelude.{ℕ, ◌+◌, ◌<◌, ◌≤◌, ◌≡◌, ◌≢◌, ◌^◌, ◌↔◌, ◌++◌, ◌∷◌, [], List, length, IsTrue, IfOk, IfErr, OnOk, IsErrOf, MatchResult};
+ghost use Rattle.std.specs.Prelude.{ℕ, ◌+◌, ◌<◌, ◌≤◌, ◌≡◌, ◌≢◌, ◌^◌, ◌↔◌, ◌⊎◌, ◌++◌, ◌∷◌, [], List, length, IsTrue, IfOk, IfErr, OnOk, IsErrOf, MatchResult};
 ghost use Rattle.racf_outside.specs.Causes.{Rose};
 ghost use Rattle.racf_outside.specs.Crashes.{StaysIn};
+ghost use Rattle.racf_journal.specs.Opening.{OnlySynced};
 ghost use Rattle.racf_journal.specs.Reading.{IsRecord, spelled};
 ghost use Rattle.racf_profiles.specs.NewDatabase.{new_database};
 ghost use Rattle.racf_checkpoint.specs.Contents.{Says, SaysEither, Refuses, IsCaused, IsOfAppend};
@@ -86,6 +87,7 @@ impl<D: Disk> Store<D> {
 
         ensures fault { IfErr result (λ back. NowRead (D.tells disks.first) (D.tells disks.second) (Refuses back.1)) }
         ensures no_other { IfErr result (λ back. back.1 ≢ StoreFault.Full) }
+        ensures untouched { IfErr result (λ back. back.1 ≢ StoreFault.DiskFault → (back.0 ≡ disks) ⊎ OnlySynced (D.tells disks.first) (D.tells back.0.first)) }
         ensures cause { IfErr result (λ back. IsCaused (D.faults disks.first) (D.faults back.0.first) back.1) }
         ensures no_fewer { MatchResult result (λ loaded. D.faults disks.first ≤ D.faults loaded.store.journal.disk) (λ back. D.faults disks.first ≤ D.faults back.0.first) }
     {

@@ -2,6 +2,7 @@
 ghost use Rattle.std.specs.Prelude.{◌≡◌, ◌≢◌, ◌⊎◌, ◌≤◌, true, false, Some, None, Ok, Err, IfOk, IfErr, OnOk, OnErr, MatchResult};
 ghost use Rattle.std.specs.Arc.{arc_value};
 ghost use Rattle.racf_outside.specs.Causes.{HasCause, Rose};
+ghost use Rattle.racf_journal.specs.Opening.{OnlySynced};
 ghost use Rattle.racf_checkpoint.specs.Contents.{IsCaused};
 ghost use Rattle.racf_checkpoint.specs.Stored.{NowRead};
 
@@ -95,6 +96,7 @@ impl<D: Disk> Desk<D> {
 
         ensures fault { IfErr result (λ back. NowRead (D.tells disks.first) (D.tells disks.second) (Refuses back.1)) }
         ensures no_other { IfErr result (λ back. back.1 ≢ StoreFault.Full) }
+        ensures untouched { IfErr result (λ back. back.1 ≢ StoreFault.DiskFault → OnlySynced (D.tells disks.first) (D.tells back.0.first)) }
         ensures cause { IfErr result (λ back. IsCaused (D.faults disks.first) (D.faults back.0.first) back.1) }
         ensures no_fewer { MatchResult result (λ desk. D.faults disks.first ≤ D.faults desk.store.journal.disk) (λ back. D.faults disks.first ≤ D.faults back.0.first) }
     {

@@ -62,6 +62,7 @@ impl<D: Disk> Journal<D> {
 
         ensures fault { IfErr result (λ back. Now (D.tells disk) (λ m. Refuses start m.bytes back.1)) }
         ensures no_other { IfErr result (λ back. back.1 ≢ fault.Full) }
+        ensures untouched { IfErr result (λ back. back.1 ≢ fault.DiskFault → OnlySynced (D.tells disk) (D.tells back.0)) }
         ensures cause { IfErr result (λ back. IsCaused (D.faults disk) (D.faults back.0) back.1) }
         ensures no_fewer { MatchResult result (λ found. D.faults disk ≤ D.faults found.disk) (λ back. D.faults disk ≤ D.faults back.0) }
     {
@@ -137,6 +138,7 @@ fn find<D: Disk>(alloc: Global, disk: &mut D, start: u64) -> Result<(Found, Text
     ensures moments { StaysPossible start (D.tells disk.old) (D.tells disk.new) }
     ensures fault { IfErr result (λ why. Now (D.tells disk.old) (λ m. Refuses start m.bytes why)) }
     ensures no_other { IfErr result (λ why. why ≢ fault.Full) }
+    ensures untouched { IfErr result (λ why. why ≢ fault.DiskFault → OnlySynced (D.tells disk.old) (D.tells disk.new)) }
     ensures cause { IfErr result (IsCaused (D.faults disk.old) (D.faults disk.new)) }
     ensures no_fewer { D.faults disk.old ≤ D.faults disk.new }
 {

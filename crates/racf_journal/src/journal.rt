@@ -6,7 +6,7 @@ ghost use Rattle.racf_outside.specs.Causes.{Rose};
 ghost use Rattle.racf_outside.specs.Disk.{Now};
 ghost use Rattle.racf_journal.specs.Appending.{Acknowledges, LeavesEither, IsOfAppend};
 ghost use Rattle.racf_journal.specs.Kept.{IsResting, Keeps};
-ghost use Rattle.racf_journal.specs.Opening.{IsStart, StaysPossible, Refuses, IsCaused};
+ghost use Rattle.racf_journal.specs.Opening.{IsStart, OnlySynced, StaysPossible, Refuses, IsCaused};
 ghost use Rattle.racf_journal.specs.Reading.{magic, reading, IsRecord, spelled};
 
 use crate::fault::JournalFault;
@@ -77,6 +77,7 @@ impl<D: Disk> Journal<D> {
 
         ensures fault { IfErr result (λ back. Now (D.tells disk) (λ m. Refuses start m.bytes back.1)) }
         ensures no_other { IfErr result (λ back. back.1 ≢ JournalFault.Full) }
+        ensures untouched { IfErr result (λ back. back.1 ≢ JournalFault.DiskFault → OnlySynced (D.tells disk) (D.tells back.0)) }
         ensures cause { IfErr result (λ back. IsCaused (D.faults disk) (D.faults back.0) back.1) }
         ensures no_fewer { MatchResult result (λ opened. D.faults disk ≤ D.faults opened.0.disk) (λ back. D.faults disk ≤ D.faults back.0) }
     {

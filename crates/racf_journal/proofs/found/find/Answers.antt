@@ -2,6 +2,7 @@
 use Rattle.std.proofs.Common.{◌-◌, ◌≡◌, ◌∙◌, drop, Err, ap, rules}
 use Rattle.std.proofs.lemmas.List.{take_rest}
 use Rattle.racf_outside.proofs.Runs.{err}
+use Rattle.racf_journal.specs.declared.fault.JournalFault.TheVariants.{NoMemory}
 use Rattle.racf_journal.specs.Opening.{Refuses}
 use Rattle.racf_journal.proofs.Opens.{possible_start, possible_here, synced_stays, read_synced, read_before, found_before, found_is}
 use Rattle.racf_journal.proofs.found.find.Goals as goal
@@ -38,3 +39,14 @@ returns-clause-found g c =
 
 pub returns-clause-moments : goal.returns-clause-moments
 returns-clause-moments g c = synced_stays c.args.start (g.D.Disk.tells c.args.disk.now) (g.D.Disk.tells c.read.new.disk) (read_synced c.args.start (g.D.Disk.tells c.args.disk.now) (g.D.Disk.tells c.sync.new.self) (g.D.Disk.tells c.read.new.disk) (g.met.D.Disk.reads_an_image c.args.disk.now) c.in_ok-sync.ensures.done c.read.ensures.kept)
+
+pub returns-in_err-found-clause-untouched : goal.returns-in_err-found-clause-untouched
+returns-in_err-found-clause-untouched g c =
+    let why = c.in_err-found.field-0.0 in
+    let is : c.from_residual-in_err-found.result ≡ Err why = search rules in
+    rw is (λ other. read_synced c.args.start (g.D.Disk.tells c.args.disk.now) (g.D.Disk.tells c.sync.new.self) (g.D.Disk.tells c.read.new.disk) (g.met.D.Disk.reads_an_image c.args.disk.now) c.in_ok-sync.ensures.done c.read.ensures.kept)
+
+pub returns-in_err-end-clause-untouched : goal.returns-in_err-end-clause-untouched
+returns-in_err-end-clause-untouched g c =
+    let is : c.from_residual-in_err-end.result ≡ Err NoMemory = search rules in
+    rw is (λ other. read_synced c.args.start (g.D.Disk.tells c.args.disk.now) (g.D.Disk.tells c.sync.new.self) (g.D.Disk.tells c.read.new.disk) (g.met.D.Disk.reads_an_image c.args.disk.now) c.in_ok-sync.ensures.done c.read.ensures.kept)

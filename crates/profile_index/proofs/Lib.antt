@@ -6,3 +6,5 @@ mod KeyLaws
 mod UnderLaws
 mod SlotLaws
 mod BucketLaws
+mod KeyBeginLaws
+mod SlotOrderLaws

@@ -16,12 +16,12 @@ use Rattle.profile_index.specs.declared.entry.Entry.{Entry}
 use Rattle.profile_index.specs.Indexed.{name_of}
 
 module _ {A : Type 0} where
-  some-get : (xs : List A) (i : ℕ) → i < length xs → (x : A) × (slice_get xs i ≡ Some x)
+  pub some-get : (xs : List A) (i : ℕ) → i < length xs → (x : A) × (slice_get xs i ≡ Some x)
   some-get [] i h = absurd (omega arith)
   some-get (x ∷ xs) zero h = (x, refl)
   some-get (x ∷ xs) (suc i) h = some-get xs i (omega arith)
 
-  get-some : (xs : List A) (i : ℕ) (x : A) → slice_get xs i ≡ Some x → (i < length xs) × (x ≡ get_or xs i x)
+  pub get-some : (xs : List A) (i : ℕ) (x : A) → slice_get xs i ≡ Some x → (i < length xs) × (x ≡ get_or xs i x)
   get-some [] i x h = absurd (cc (h))
   get-some (y ∷ xs) zero x h = (omega arith, cc (h))
   get-some (y ∷ xs) (suc i) x h = let found = get-some xs i x h in (omega (arith, found.0), found.1)
@@ -44,12 +44,12 @@ module _ {A : Type 0} where
       ap (λ (xs : List A). slice_get xs (suc k)) (slots-cons slots slot order y.0 y.1) ∙ get-in_slots slots order there.1 k (omega arith) x is
 
   -- more slots, none of them used
-  get-push : (slots : List A) (i : ℕ) (e : A) → i < length slots → slice_get (slots ++ e ∷ []) i ≡ slice_get slots i
+  pub get-push : (slots : List A) (i : ℕ) (e : A) → i < length slots → slice_get (slots ++ e ∷ []) i ≡ slice_get slots i
   get-push [] i e h = absurd (omega arith)
   get-push (x ∷ slots) zero e h = refl
   get-push (x ∷ slots) (suc i) e h = get-push slots i e (omega arith)
 
-  get-pushed : (slots : List A) (e : A) → slice_get (slots ++ e ∷ []) (length slots) ≡ Some e
+  pub get-pushed : (slots : List A) (e : A) → slice_get (slots ++ e ∷ []) (length slots) ≡ Some e
   get-pushed [] e = refl
   get-pushed (x ∷ slots) e = get-pushed slots e
 
@@ -204,9 +204,12 @@ module _ {A : Type 0} (slots others : List A) (order : List ℕ) (kept : IsKept 
         omega arith;
   }
 
+  pub rest-got : AllByRecursion (λ s. slice_get others (renamed (length others) slot s) ≡ slice_get slots s) (remove order p)
+  rest-got = all-weaker (λ s. (s < length slots) × (s ≢ slot)) (λ s. slice_get others (renamed (length others) slot s) ≡ slice_get slots s) (remove order p) renamed-get rest-all
+
   pub remove-slots : in_slots others (map (λ s. renamed (length others) slot s) (remove order p)) ≡ remove (in_slots slots order) p
   remove-slots =
-      in_slots-map slots others (remove order p) (λ s. renamed (length others) slot s) (all-weaker (λ s. (s < length slots) × (s ≢ slot)) (λ s. slice_get others (renamed (length others) slot s) ≡ slice_get slots s) (remove order p) renamed-get rest-all)
+      in_slots-map slots others (remove order p) (λ s. renamed (length others) slot s) rest-got
       ∙ in_slots-remove slots order p kept.there
 
 pub value-at : {A : Type 0} (xs : List A) (k : ℕ) (x : A) → slice_get xs k ≡ Some x → x ≡ get_or xs k x
@@ -311,34 +314,3 @@ module _ {T : Type 0} (slots : List (Entry T)) (order : List ℕ) (there : AllBy
       (λ (same : k ≤ place). omega arith)
       (cases_lt place k))
       (cases_lt k place)
-
--- a number that stands at one place at most, under its new one
-module _ (from to : ℕ) where
-  renamed-same : (x : ℕ) → x ≡ from → renamed from to x ≡ to
-  renamed-same x is = settled (eqb x from) refl
-    where
-      settled : (t : Bool) → eqb x from ≡ t → cond t to x ≡ to
-      settled true e = refl
-      settled false e = let other : x ≢ from = grind (arith, nat_tests) in absurd (other is)
-
-  renamed-other : (x : ℕ) → x ≢ from → renamed from to x ≡ x
-  renamed-other x other = settled (eqb x from) refl
-    where
-      settled : (t : Bool) → eqb x from ≡ t → cond t to x ≡ x
-      settled true e = let is : x ≡ from = grind (arith, nat_tests) in absurd (other is)
-      settled false e = refl
-
-  pub renamed-none : (xs : List ℕ) → ((k : ℕ) → slice_get xs k ≡ Some from → ⊥) → xs ≡ map (λ x. renamed from to x) xs
-  renamed-none [] none = refl
-  renamed-none (x ∷ xs) none =
-      ap (λ (ys : List ℕ). x ∷ ys) (renamed-none xs (λ k h. none (suc k) h))
-      ∙ ap (λ (y : ℕ). y ∷ map (λ z. renamed from to z) xs) (sym (renamed-other x (λ e. none 0 (ap (λ (y : ℕ). Some y) e))))
-
-  pub renamed-at : (xs : List ℕ) (place : ℕ) → place < length xs → get_or xs place 0 ≡ from → ((k : ℕ) → slice_get xs k ≡ Some from → k ≡ place) → set xs place to ≡ map (λ x. renamed from to x) xs
-  renamed-at [] place h is only = absurd (omega arith)
-  renamed-at (x ∷ xs) zero h is only =
-      ap (λ (ys : List ℕ). to ∷ ys) (renamed-none xs (λ k at. let e : suc k ≡ 0 = only (suc k) at in omega arith))
-      ∙ ap (λ (y : ℕ). y ∷ map (λ z. renamed from to z) xs) (sym (renamed-same x is))
-  renamed-at (x ∷ xs) (suc place) h is only =
-      ap (λ (ys : List ℕ). x ∷ ys) (renamed-at xs place (omega arith) is (λ k at. let e : suc k ≡ suc place = only (suc k) at in omega arith))
-      ∙ ap (λ (y : ℕ). y ∷ map (λ z. renamed from to z) xs) (sym (renamed-other x (λ e. let first : 0 ≡ suc place = only 0 (ap (λ (y : ℕ). Some y) e) in omega arith)))

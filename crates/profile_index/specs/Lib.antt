@@ -1,4 +1,5 @@
 pub mod Indexed
 pub mod Places
+pub mod KeyBegin
 pub mod EntrySlots
 pub mod Buckets

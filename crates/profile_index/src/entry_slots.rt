@@ -2,18 +2,33 @@ ghost use Rattle.std.specs.Prelude.{◌≡◌, ℕ, ◌+◌, ◌<◌, ◌≤◌,
 ghost use Rattle.std.specs.List.{AllByRecursion, AllWithin, slice_get, insert, remove};
 ghost use Rattle.generic_names.specs.Best.{IsInOrder, AreNamed};
 ghost use Rattle.generic_names.specs.OrderKey.{is_lower};
-ghost use Rattle.profile_index.specs.EntrySlots.{in_slots, renamed};
+ghost use Rattle.generic_names.specs.Laws.{IsPattern};
+ghost use Rattle.profile_index.specs.declared.entry.Entry.{Entry};
+ghost use Rattle.profile_index.specs.Buckets.{key_of};
+ghost use Rattle.profile_index.specs.EntrySlots.{in_slots, numbers, renamed_slot, HaveBegins};
 ghost use Rattle.profile_index.specs.Indexed.{name_of};
+ghost use Rattle.profile_index.specs.KeyBegin.{begin_of, AreBytes};
 
 use crate::entry::Entry;
 use crate::entry_list::EntryList;
+use crate::key_begin::begin_of;
 use crate::keyed_entry::KeyedEntry;
 use generic_names::OrderKey;
 use std::alloc::{AllocError, Global};
 use std::marker::Model;
+use tiered_list::TieredList;
 
 /// The most entries that there may be: the numbers of their slots have 32 bits.
 const MOST: usize = 4_294_967_295;
+
+/// A slot by its number, with the begin of its entry's key: most steps of a search read nothing else.
+#[derive(Clone, Copy)]
+pub(crate) struct Slot {
+    /// The first eight bytes of the key as a number.
+    begin: u64,
+    /// The number of the slot.
+    number: u32,
+}
 
 /// Entries by their places. They stand in slots of no order, and the numbers of the slots in the order of
 /// the entries, so that an entry goes in or out without moving the others.
@@ -21,23 +36,23 @@ const MOST: usize = 4_294_967_295;
 pub(crate) struct EntrySlots<T> {
     /// The entries with the keys of their names, in no order.
     slots: Vec<KeyedEntry<T>>,
-    /// The numbers of the slots, in the order of the entries.
-    order: Vec<u32>,
+    /// The slots by their numbers, in the order of the entries.
+    order: TieredList<Slot>,
     /// How many entries can be put in without memory.
     spare: usize,
 }
 
 impl<T> Model for EntrySlots<T> {
-    ghost use Rattle.std.specs.Prelude.{ℕ, ◌+◌, ◌≤◌, vec_len};
+    ghost use Rattle.std.specs.Prelude.{◌+◌, ◌≤◌, vec_len};
     ghost use Rattle.std.specs.Vec.{vec_capacity};
     ghost use Rattle.profile_index.specs.Indexed.{Indexed};
-    ghost use Rattle.profile_index.specs.EntrySlots.{in_slots, IsKept};
+    ghost use Rattle.profile_index.specs.EntrySlots.{in_slots, numbers, IsKept, HaveBegins};
 
     ghost Value = { Indexed T };
 
-    ghost view = { λ s. record { entries = in_slots s.slots.items s.order.items; spare = s.spare } };
+    ghost view = { λ s. record { entries = in_slots s.slots.items (numbers s.order.items); spare = s.spare } };
 
-    ghost invariant = { λ s. IsKept s.slots.items s.order.items × (vec_len s.slots + s.spare ≤ vec_capacity s.slots) × (vec_len s.order + s.spare ≤ vec_capacity s.order) × (vec_len s.slots + s.spare ≤ 4294967295) };
+    ghost invariant = { λ s. IsKept s.slots.items (numbers s.order.items) × HaveBegins s.slots.items s.order.items × (vec_len s.slots + s.spare ≤ vec_capacity s.slots) × (s.spare ≤ s.order.spare) × (vec_len s.slots + s.spare ≤ 4294967295) };
 }
 
 impl<T> EntrySlots<T> {
@@ -48,7 +63,7 @@ impl<T> EntrySlots<T> {
     {
         EntrySlots {
             slots: Vec::new(alloc),
-            order: Vec::new(alloc),
+            order: TieredList::new(alloc),
             spare: 0,
         }
     }
@@ -100,7 +115,7 @@ impl<T> EntrySlots<T> {
         ensures there { slice_get self.now.entries place ≡ Some result.now }
         ensures value { result.now ≡ get_or self.now.entries place result.now }
     {
-        &self.slots[self.order[place] as usize]
+        &self.slots[self.order.at(place).number as usize]
     }
 
     /// Puts an entry in at a place.
@@ -110,9 +125,10 @@ impl<T> EntrySlots<T> {
         ensures entries { self.new.entries ≡ insert self.old.entries place entry }
         ensures spare { self.new.spare + 1 ≡ self.old.spare }
     {
-        let slot = self.slots.len() as u32;
+        let number = self.slots.len() as u32;
+        let begin = begin_of(entry.key());
         self.slots.push(entry).unwrap();
-        self.order.insert(place, slot).unwrap();
+        self.order.insert(place, Slot { begin, number });
         self.spare -= 1;
     }
 
@@ -123,7 +139,7 @@ impl<T> EntrySlots<T> {
         ensures entries { (d : Entry T) → self.new.entries ≡ slice_set self.old.entries place (record { name = (get_or self.old.entries place d).name; item = item }) }
         ensures spare { self.new.spare ≡ self.old.spare }
     {
-        let slot = self.order[place] as usize;
+        let slot = self.order.at(place).number as usize;
         self.slots[slot].replace(item)
     }
 
@@ -140,8 +156,8 @@ impl<T> EntrySlots<T> {
         let slot = self.order.remove(place);
         let last = self.slots.len() - 1;
         let moved = end_below(&self.slots, &self.order, self.slots[last].key());
-        let entry = self.slots.swap_remove(slot as usize);
-        rename(&mut self.order, moved, last as u32, slot);
+        let entry = self.slots.swap_remove(slot.number as usize);
+        rename(&mut self.order, moved, last as u32, slot.number);
         self.spare += 1;
         entry.into_item()
     }
@@ -164,19 +180,21 @@ impl<T> EntryList<T> for EntrySlots<T> {
 }
 
 /// Where the entries in these slots end whose names have lower keys than this one.
-fn end_below<T>(slots: &[KeyedEntry<T>], order: &[u32], key: &OrderKey) -> usize
-    requires there { AllByRecursion (λ slot. slot < length slots.now) order.now }
-    requires ordered { IsInOrder name_of (in_slots slots.now order.now) }
-    requires named { AreNamed name_of (in_slots slots.now order.now) }
-    ensures within { result ≤ length order.now }
-    ensures below { AllWithin (λ e. is_lower e.name key.now ≡ true) (in_slots slots.now order.now) 0 result }
-    ensures above { AllWithin (λ e. is_lower e.name key.now ≡ false) (in_slots slots.now order.now) result (length order.now) }
+fn end_below<T>(slots: &[KeyedEntry<T>], order: &TieredList<Slot>, key: &OrderKey) -> usize
+    requires there { AllByRecursion (λ number. number < length slots.now) (numbers order.now.items) }
+    requires begins { HaveBegins slots.now order.now.items }
+    requires ordered { IsInOrder name_of (in_slots slots.now (numbers order.now.items)) }
+    requires named { AreNamed name_of (in_slots slots.now (numbers order.now.items)) }
+    ensures within { result ≤ length order.now.items }
+    ensures below { AllWithin (λ e. is_lower e.name key.now ≡ true) (in_slots slots.now (numbers order.now.items)) 0 result }
+    ensures above { AllWithin (λ e. is_lower e.name key.now ≡ false) (in_slots slots.now (numbers order.now.items)) result (length order.now.items) }
 {
+    let begin = begin_of(key);
     let mut low = 0;
     let mut high = order.len();
     while low < high {
         let middle = low + (high - low) / 2;
-        if slots[order[middle] as usize].is_lower(key) {
+        if is_lower(slots, *order.at(middle), begin, key) {
             low = middle + 1;
         } else {
             high = middle;
@@ -185,12 +203,28 @@ fn end_below<T>(slots: &[KeyedEntry<T>], order: &[u32], key: &OrderKey) -> usize
     low
 }
 
-/// Gives the slot of that number another one. If it is there at all, it is at that place.
-fn rename(order: &mut [u32], place: usize, from: u32, to: u32)
-    requires { (k : ℕ) → slice_get order.old k ≡ Some from → k ≡ place }
-    ensures { order.new ≡ map (λ slot. renamed from to slot) order.old }
+/// Whether the key of a slot's entry is lower than this one, which has that begin. Where the begins differ, the entry
+/// isn't looked at.
+fn is_lower<T>(slots: &[KeyedEntry<T>], slot: Slot, begin: u64, key: &OrderKey) -> bool
+    requires there { slot.number < length slots.now }
+    requires begin { begin ≡ begin_of key.now }
+    requires bytes { AreBytes key.now }
+    ensures { (e : Entry T) → slice_get slots.now slot.number ≡ Some e → slot.begin ≡ begin_of (key_of e) → IsPattern e.name → result ≡ is_lower e.name key.now }
 {
-    if place < order.len() && order[place] == from {
-        order[place] = to;
+    if slot.begin == begin {
+        return slots[slot.number as usize].is_lower(key);
+    }
+    slot.begin < begin
+}
+
+/// Gives the slot of that number another one. If it is there at all, it is at that place.
+fn rename(order: &mut TieredList<Slot>, place: usize, from: u32, to: u32)
+    requires { (k : ℕ) → slice_get (numbers order.old.items) k ≡ Some from → k ≡ place }
+    ensures items { order.new.items ≡ map (λ slot. renamed_slot from to slot) order.old.items }
+    ensures spare { order.new.spare ≡ order.old.spare }
+{
+    if place < order.len() && order.at(place).number == from {
+        let begin = order.at(place).begin;
+        order.replace(place, Slot { begin, number: to });
     }
 }

@@ -24,6 +24,7 @@ mod entry;
 mod entry_list;
 mod entry_slots;
 mod index;
+mod key_begin;
 mod keyed_entry;
 mod search;
 mod shared_index;

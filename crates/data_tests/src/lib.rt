@@ -1,4 +1,4 @@
-//! No code, but tests: what lies outside of the program, and lists and rows whose versions share.
+//! No code, but tests: what lies outside of the program, lists in rows, and lists and rows whose versions share.
 #![tactic(auto)]
 
 #[cfg(test)]
@@ -13,3 +13,5 @@ mod page_tests;
 mod region_tests;
 #[cfg(test)]
 mod sorted_tests;
+#[cfg(test)]
+mod tiered_tests;

@@ -1,1 +1,2 @@
 pub mod Tiered
+pub mod Rows

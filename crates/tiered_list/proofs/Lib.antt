@@ -1,0 +1,2 @@
+mod Seams
+mod RowLaws

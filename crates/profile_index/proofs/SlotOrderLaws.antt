@@ -1,5 +1,5 @@
 -- The order of slots by their numbers, with the begins of the keys.
-use Rattle.std.proofs.Common.{◌≡◌, ◌≢◌, ℕ, zero, suc, ◌+◌, ◌-◌, ◌<◌, ◌≤◌, Bool, true, false, cond, eqb, List, [], ◌∷◌, ◌++◌, length, map, get_or, set, Option, Some, refl, ap, sym, ◌∙◌, subst, arith}
+use Rattle.std.proofs.Common.{◌≡◌, ◌≢◌, ℕ, zero, suc, ◌<◌, Bool, true, false, cond, eqb, List, [], ◌∷◌, ◌++◌, length, map, get_or, set, Option, Some, refl, ap, sym, ◌∙◌, subst, arith}
 use Rattle.std.specs.List.{AllByRecursion, slice_get, insert, remove}
 use Rattle.std.specs.Option.{option_map}
 use Rattle.std.proofs.lemmas.Bool.Decides.{nat_tests}
@@ -140,13 +140,15 @@ module _ {T : Type 0} (slots : List (Entry T)) (order : List Slot) (there : AllB
   entry-there =
       let found = some-get slots slot.number (slot-there slots order there place slot got) in
       let e = found.0 in
-      let value = value-at slots slot.number e found.1 in
-      (e, record {
-        is = found.1;
-        begin = begin-got slots slot e (all-got (λ s. HasBegin slots s) order begins place slot got) found.1;
-        lawful = all-got (λ x. IsPattern x.name) (in_slots slots (numbers order)) named place e (entry-got slots order there place slot got e value);
-        read = entry-read slots order there place slot got e value;
-      })
+      let value = value-at slots slot.number e found.1 in (
+        e,
+        record {
+          is = found.1;
+          begin = begin-got slots slot e (all-got (λ s. HasBegin slots s) order begins place slot got) found.1;
+          lawful = all-got (λ x. IsPattern x.name) (in_slots slots (numbers order)) named place e (entry-got slots order there place slot got e value);
+          read = entry-read slots order there place slot got e value;
+        },
+      )
 
 -- a number that stands at one place at most, under its new one
 module _ (from to : ℕ) where

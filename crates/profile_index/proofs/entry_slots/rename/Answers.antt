@@ -27,7 +27,7 @@ returns-else-place-len-clause-items c = renamed-none c.args.from c.args.to c.arg
     let size = length-map order (λ (s : Slot). s.number) in
     elim c.else-place-len.branch [
       | else-place-len-via-then-place-len+else-at-from w ↦
-      let here : Some w.at.result.now.number ≡ Some c.args.from = sym (number-got order c.args.place w.at.result.now w.at.ensures.there) ∙ subst (λ n. slice_get (numbers order) n ≡ Some c.args.from) is at in
-      w.if-at-from.false (cc (here))
+          let here : Some w.at.result.now.number ≡ Some c.args.from = sym (number-got order c.args.place w.at.result.now w.at.ensures.there) ∙ subst (λ n. slice_get (numbers order) n ≡ Some c.args.from) is at in
+          w.if-at-from.false (cc (here))
       | else-place-len-via-else-place-len w ↦ omega (arith, w.if-place-len.false, is, low, size, c.len.ensures)
     ])

@@ -1,5 +1,5 @@
-use Rattle.std.proofs.Common.{◌≡◌, ◌+◌, ◌-◌, ◌*◌, ◌/◌, ◌<◌, ◌≤◌, ℕ, true, false, List, ◌++◌, ◌∷◌, [], Option, Some, length, map, get_or, set, ap, sym, subst, ◌∙◌, arith}
-use Rattle.std.specs.List.{AllByRecursion, AllWithin, slice_get, insert, remove}
+use Rattle.std.proofs.Common.{◌≡◌, ◌+◌, ◌-◌, ◌<◌, true, false, List, length, map, get_or, ap, sym, subst, ◌∙◌, arith}
+use Rattle.std.specs.List.{remove}
 use Rattle.profile_index.specs.declared.entry.Entry.{Entry}
 use Rattle.profile_index.specs.declared.entry_slots.Slot.{Slot}
 use Rattle.profile_index.specs.EntrySlots.{in_slots, numbers, renamed, renamed_slot, IsKept, HaveBegins}

@@ -1,8 +1,6 @@
-use Rattle.std.proofs.Common.{◌≡◌, ◌+◌, ◌-◌, ◌*◌, ◌/◌, ◌<◌, ◌≤◌, ℕ, true, false, List, ◌++◌, ◌∷◌, [], Option, Some, length, map, get_or, set, ap, sym, subst, ◌∙◌, arith}
-use Rattle.std.specs.List.{AllByRecursion, AllWithin, slice_get, insert, remove}
-use Rattle.profile_index.specs.declared.entry.Entry.{Entry}
-use Rattle.profile_index.specs.declared.entry_slots.Slot.{Slot}
-use Rattle.profile_index.specs.EntrySlots.{in_slots, numbers, renamed, renamed_slot, IsKept, HaveBegins}
+use Rattle.std.proofs.Common.{◌≡◌, false, length, ap, subst, arith}
+use Rattle.std.specs.List.{AllWithin}
+use Rattle.profile_index.specs.EntrySlots.{in_slots, numbers}
 use Rattle.generic_names.specs.OrderKey.{is_lower}
 use Rattle.profile_index.proofs.SlotOrderLaws.{length-entries}
 use Rattle.profile_index.proofs.entry_slots.EntrySlotsEntryList.end_below.Goals as goal

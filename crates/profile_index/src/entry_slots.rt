@@ -21,7 +21,7 @@ use tiered_list::TieredList;
 /// The most entries that there may be: the numbers of their slots have 32 bits.
 const MOST: usize = 4_294_967_295;
 
-/// A slot by its number, with the begin of its entry's key: most steps of a search read nothing else.
+/// A slot by its number, with the begin of its entry's key: where that decides, a step of a search reads nothing else.
 #[derive(Clone, Copy)]
 pub(crate) struct Slot {
     /// The first eight bytes of the key as a number.

@@ -7,3 +7,4 @@ pub mod RecoveryLaws
 mod RepeatLaws
 mod DeskLaws
 mod OpenLaws
+mod AcceptedLaws

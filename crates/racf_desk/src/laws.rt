@@ -1,6 +1,7 @@
 //! Laws of the definitions. The functions do nothing: their contracts are what is proved.
 
 ghost use Rattle.std.specs.Prelude.{◌≡◌, ℕ, List, Option, Some, Ok, map};
+ghost use Rattle.command_parser.specs.Canonical.{canonical, IsWritten};
 ghost use Rattle.journal_records.specs.declared.record.CommandRecord.{CommandRecord};
 ghost use Rattle.journal_records.specs.Reading.{record_of};
 ghost use Rattle.racf_desk.specs.History.{at, IsLegal};
@@ -23,3 +24,14 @@ pub fn records_lead_along_a_history()
         (history : List CommandRecord) × IsLegal first_position history × (map record_of records ≡ map Ok history)
         × (position ≡ restarted (at first_position history)) }
 {}
+
+/// A command that is accepted is written: its canonical text spells it, whoever gives it.
+pub fn accepted_commands_are_written()
+    ensures { (position : Position) (id : List ℕ) (group : Option (List ℕ)) (text : List ℕ) (given : CommandRecord) →
+        outcome position id group text ≡ Ok given → IsWritten given.command (canonical given.command) }
+{
+    command_parser::laws::operands_are_the_tables();
+    command_parser::laws::one_command_is_spelled();
+    command_grammar::laws::what_is_read_is_lawful();
+    command_grammar::laws::canonical_text_is_read_again();
+}

@@ -1,5 +1,5 @@
 -- The stream: what stands between two lines, and the answer to each statement.
-use Rattle.std.specs.Prelude.{◌≡◌, ℕ, ◌+◌, ◌==◌, Bool, true, false, ◌||◌, Option, None, Some, Result, Ok, Err, List, [], ◌++◌, if◌then◌else◌}
+use Rattle.std.specs.Prelude.{ℕ, ◌+◌, ◌==◌, Bool, true, false, ◌||◌, Option, None, Some, Result, Ok, Err, List, [], if◌then◌else◌}
 use Rattle.racf_run.specs.declared.statement.Statement.{Statement}
 use Rattle.racf_run.specs.declared.statement.Statement.TheVariants as item
 use Rattle.racf_run.specs.declared.reply.Refusal.{Refusal}
@@ -38,11 +38,6 @@ new_stream base = record { position = base; issuer = first_issuer; has_refused =
 pub record Answer : Type 0 where
   pub state : State
   pub text : List ℕ
-
--- What a call did is this answer: the state is its state, and its text was written.
-pub record DoesAs (a : Answer) (state : State) (old new : List ℕ) : Type 0 where
-  pub left : state ≡ a.state
-  pub wrote : new ≡ old ++ a.text
 
 -- A refusal changes nothing, but that a line was refused. The number of the commands accepted so far is printed.
 abbrev pub refuse : Refusal → State → Answer

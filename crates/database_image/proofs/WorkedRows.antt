@@ -1,9 +1,10 @@
 -- Images, worked out: that of a new database as another program wrote it, and bytes with a fault in a field or between two.
-use Rattle.std.proofs.Common.{◌≡◌, ℕ, List, [], ◌∷◌, ◌++◌, replicate, None, Some, Ok, refl}
+use Rattle.std.proofs.Common.{◌≡◌, ℕ, List, [], ◌∷◌, ◌++◌, replicate, Ok, refl}
 use Rattle.std.specs.Prelude.{codes}
 use Rattle.racf_profiles.specs.NewDatabase.{new_database}
-use Rattle.database_image.specs.Description.{options, group, connection, user, entry, cond_entry, member, profile, class, image}
-use Rattle.database_image.specs.Image.{image_of, first_pass, second_pass, rows_of, first_fault}
+use Rattle.database_image.specs.Description.{options, group, connection, user, profile, class, image}
+use Rattle.database_image.specs.Forms.{spelled_at}
+use Rattle.database_image.specs.Image.{image_of, first_pass, second_pass, rows_of}
 
 abbrev zeros : ℕ → List ℕ
 zeros count = replicate count 0
@@ -28,5 +29,5 @@ unfolding image_of image options group user connection class profile
 new-written = refl
 
 new-read : rows_of (with_user (first_user (codes "SYS1    ") 7 0) ++ classes) ≡ Ok new_database
-unfolding rows_of first_pass second_pass image options group user connection class profile
+unfolding spelled_at rows_of first_pass second_pass image options group user connection class profile
 new-read = refl

@@ -4,7 +4,6 @@ use Rattle.std.specs.List.{list_any, list_all, sum_by, slice_get}
 use Rattle.std.specs.Option.{option_map_or, option_eq}
 use Rattle.std.specs.Result.{result_ok}
 use Rattle.access_levels.specs.Spelling.{id_of}
-use Rattle.access_levels.specs.Entries.{is_same_who}
 use Rattle.access_levels.specs.Level.{level_rank, levels, authority_rank, authorities, port_classes}
 use Rattle.access_levels.specs.declared.levels.Level.{Level}
 use Rattle.access_levels.specs.declared.levels.Level.TheVariants.{NoAccess, Execute, Read, Update, Control, Alter}
@@ -12,10 +11,8 @@ use Rattle.access_levels.specs.declared.entries.Attributes.{Attributes}
 use Rattle.access_levels.specs.declared.entries.Who.{Who}
 use Rattle.access_levels.specs.declared.entries.Entry.{Entry}
 use Rattle.access_levels.specs.declared.entries.CondEntry.{CondEntry}
-use Rattle.access_levels.specs.declared.entries.Condition.{Condition}
 use Rattle.access_levels.specs.declared.entries.PortClass.{PortClass}
 use Rattle.access_levels.specs.declared.entries.PortClass.TheVariants.{Terminal, Console, Jesinput, Appcport}
-use Rattle.generic_names.specs.declared.kind.NameKind.{NameKind}
 use Rattle.generic_names.specs.declared.kind.NameKind.TheVariants.{General}
 use Rattle.generic_names.specs.Spelled.{Spelled, first_qualifier}
 use Rattle.generic_names.specs.Faults.{pattern_of, member_of, longest}
@@ -41,9 +38,9 @@ use Rattle.racf_profiles.specs.Names.{connections}
 use Rattle.racf_profiles.specs.Counts.{profile_count, entry_count, entries_in}
 use Rattle.racf_profiles.specs.Limits.{most_users, most_groups, most_connections, most_connections_in_all, most_class_profiles, most_profiles, most_list_entries, most_entries_in_all, most_members, most_categories}
 use Rattle.racf_profiles.specs.LawfulUsers.{is_printable}
-use Rattle.racf_profiles.specs.LawfulProfiles.{kind_in, is_same_entry, member_name}
+use Rattle.racf_profiles.specs.LawfulProfiles.{kind_in, member_name}
 use Rattle.database_image.specs.Forms.{Form, Part, the, followed, done, field, number, listed}
-use Rattle.database_image.specs.Fields.{any, below, at_most, id, group_name, label, group_or_none, who, ranked, itself, category_set, text_spelling, bit, is_set, is_new}
+use Rattle.database_image.specs.Fields.{any, below, at_most, filled, id, group_name, label, group_or_none, who_text, who, ranked, itself, category_set, text_spelling, bit, is_set, is_new}
 
 -- In the forms below a line names a part, and the lines behind it may speak of it.
 infixl 10 ◌>>=◌
@@ -160,9 +157,13 @@ abbrev pub flag_rank : Bool → ℕ
 flag_rank false = 0
 flag_rank true = 1
 
+-- No two entries of a list are for the same users.
+abbrev pub entry_key : Entry → List ℕ
+entry_key entry = who_text entry.who
+
 unfoldable pub entry : (before : List Entry) → Form Entry
 entry before = do
-  who ← the (λ e. e.who) (who (λ who. not (list_any (λ (e : Entry). is_same_who e.who who) before)))
+  who ← the (λ e. e.who) (who (λ who. is_new (map entry_key before) (who_text who)))
   level ← the (λ e. e.level) (ranked level_rank levels)
   done (record { who = who; level = level })
 
@@ -172,12 +173,18 @@ port_rank Console = 2
 port_rank Jesinput = 3
 port_rank Appcport = 4
 
--- A conditional entry stood before where one for the same users under the same condition did.
+-- No two conditional entries are for the same users under the same condition: each has first bytes of its own.
+abbrev pub cond_key : PortClass → (port : List ℕ) → Who → List ℕ
+cond_key class port who = port_rank class ∷ (filled port ++ who_text who)
+
+abbrev pub cond_entry_key : CondEntry → List ℕ
+cond_entry_key entry = cond_key entry.condition.class entry.condition.name entry.who
+
 unfoldable pub cond_entry : (before : List CondEntry) → Form CondEntry
 cond_entry before = do
   class ← the (λ e. e.condition.class) (ranked port_rank port_classes)
   port ← the (λ e. e.condition.name) (id any)
-  who ← the (λ e. e.who) (who (λ who. not (list_any (λ (e : CondEntry). is_same_entry e (record { condition = record { class = class; name = port }; who = who; level = NoAccess })) before)))
+  who ← the (λ e. e.who) (who (λ who. is_new (map cond_entry_key before) (cond_key class port who)))
   level ← the (λ e. e.level) (ranked level_rank levels)
   done (record { condition = record { class = class; name = port }; who = who; level = level })
 

@@ -1,5 +1,5 @@
 -- The fields of an image: identifiers, ranks, sets of categories, flags.
-use Rattle.std.specs.Prelude.{ℕ, ◌==◌, ◌*◌, ◌^◌, ◌/◌, ◌%◌, ◌-◌, ◌+◌, nat_lt, nat_le, Bool, true, false, not, ◌&&◌, List, [], ◌∷◌, ◌++◌, length, replicate, Option, Some, None, option_map, is_ok, bytes_eq, codes, if◌then◌else◌}
+use Rattle.std.specs.Prelude.{ℕ, ◌==◌, ◌/◌, ◌%◌, ◌-◌, nat_lt, nat_le, Bool, true, false, not, List, [], ◌∷◌, ◌++◌, length, replicate, Option, Some, None, option_map, is_ok, bytes_eq, codes, if◌then◌else◌}
 use Rattle.std.specs.List.{find, before_first, list_any}
 use Rattle.byteorder.specs.Endian.{big_number, little_bytes, little_number}
 use Rattle.access_levels.specs.Spelling.{id_of, group_of}

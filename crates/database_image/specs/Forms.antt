@@ -1,6 +1,6 @@
 -- Forms: how values are written as bytes, which are lawful, and how they are read. A form is made of fields and lists, one
 -- behind another, so that one description says all three.
-use Rattle.std.specs.Prelude.{◌≡◌, ℕ, zero, suc, ◌==◌, Bool, nat_lt, List, [], ◌∷◌, ◌++◌, length, take, drop, Option, Some, None, Result, Ok, Err, IsTrue, if◌then◌else◌}
+use Rattle.std.specs.Prelude.{◌≡◌, ℕ, zero, suc, Bool, nat_lt, List, [], ◌∷◌, ◌++◌, length, take, drop, Option, Some, None, Ok, Err, IsTrue, if◌then◌else◌}
 use Rattle.std.specs.List.{flat_map}
 use Rattle.byteorder.specs.Endian.{big_bytes, big_number}
 use Rattle.database_image.specs.Reading.{Reading, ◌>>=◌, where_lawful}
@@ -24,10 +24,15 @@ pub record IsSpelled {A : Type 0} (spelling : Spelling A) (x : A) : Type 0 where
   pub whole : length (spelling.spelled x) ≡ spelling.width
   pub back : spelling.value (spelling.spelled x) ≡ Some x
 
--- What a field has, unless it has no lawful value.
-abbrev pub valued : {A : Type 0} → Option A → (A → Bool) → (bytes rest : List ℕ) → Reading A
-valued None is_lawful bytes rest = Err (length bytes)
-valued (Some x) is_lawful bytes rest = where_lawful (is_lawful x) bytes (x, rest)
+-- What a field that ends within the bytes spells.
+abbrev pub valued : {A : Type 0} → Option A → (bytes rest : List ℕ) → Reading A
+valued None bytes rest = Err (length bytes)
+valued (Some x) bytes rest = Ok (x, rest)
+
+unfoldable pub spelled_at : {A : Type 0} → Spelling A → (bytes : List ℕ) → Reading A
+spelled_at spelling bytes =
+    if nat_lt (length bytes) spelling.width then Err (length bytes)
+    else valued (spelling.value (take spelling.width bytes)) bytes (drop spelling.width bytes)
 
 -- A field has no lawful value where it doesn't end within the bytes, where it spells nothing, and where what it spells
 -- isn't lawful.
@@ -35,7 +40,7 @@ abbrev pub field : {A : Type 0} → Spelling A → (A → Bool) → Form A
 field spelling is_lawful = record {
   bytes = spelling.spelled;
   Fits = λ x. IsSpelled spelling x × IsTrue (is_lawful x);
-  reading = λ bytes. if nat_lt (length bytes) spelling.width then Err (length bytes) else valued (spelling.value (take spelling.width bytes)) is_lawful bytes (drop spelling.width bytes);
+  reading = λ bytes. spelled_at spelling bytes >>= λ x. where_lawful (is_lawful x.0) bytes x;
 }
 
 -- A number of so many bytes, the highest first.

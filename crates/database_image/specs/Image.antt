@@ -4,7 +4,7 @@ use Rattle.std.specs.Result.{result_err}
 use Rattle.racf_profiles.specs.declared.rows.Rows.{Rows}
 use Rattle.database_image.specs.declared.faults.ImageFault.{ImageFault}
 use Rattle.database_image.specs.declared.faults.ImageFault.TheVariants as faults
-use Rattle.database_image.specs.Reading.{Reading, ◌>>=◌}
+use Rattle.database_image.specs.Reading.{◌>>=◌}
 use Rattle.database_image.specs.Description.{image}
 use Rattle.database_image.specs.Facts.{facts, first_broken}
 

@@ -1,4 +1,8 @@
 //! Why an image wasn't read.
+ghost use Rattle.std.specs.Prelude.{◌≡◌};
+ghost use Rattle.database_image.specs.declared.faults.ReadFault.TheVariants.{NoMemory};
+
+use std::alloc::{AllocError, AllocFailed};
 use thiserror::Error;
 
 /// Why bytes were not read.
@@ -17,4 +21,20 @@ pub enum ReadFault {
     /// So many bytes were left at the first field without a lawful value.
     At(usize),
     NoMemory,
+}
+
+impl From<AllocError> for ReadFault {
+    ghost from_gives = { λ _ fault. fault ≡ NoMemory };
+
+    fn from(_fault: AllocError) -> ReadFault {
+        ReadFault::NoMemory
+    }
+}
+
+impl<T: Drop> From<AllocFailed<T>> for ReadFault {
+    ghost from_gives = { λ _ fault. fault ≡ NoMemory };
+
+    fn from(_fault: AllocFailed<T>) -> ReadFault {
+        ReadFault::NoMemory
+    }
 }

@@ -1,1 +1,3 @@
 mod WorkedRows
+mod NameLaws
+mod Loops

@@ -87,6 +87,11 @@ attribute_flags a = bit 1 a.special + bit 2 a.operations + bit 4 a.auditor + bit
 abbrev pub attributes_of : ℕ → Attributes
 attributes_of flags = record { special = is_set flags 1; operations = is_set flags 2; auditor = is_set flags 4; restricted = is_set flags 8; revoked = is_set flags 16; uaudit = is_set flags 32 }
 
+abbrev pub attributes : Form Attributes
+attributes = do
+  flags ← the attribute_flags (number 1 (below 64))
+  done (attributes_of flags)
+
 abbrev pub connect_flags : Connect → ℕ
 connect_flags c = bit 1 c.special + bit 2 c.operations + bit 4 c.auditor + bit 8 c.revoked
 
@@ -111,13 +116,13 @@ user categories before = do
   default_group ← the (λ u. u.default_group) (group_name any)
   owner ← the (λ u. u.owner) (id any)
   full_name ← the (λ u. u.name) (text 1 (at_most 20) itself printable any)
-  flags ← the (λ u. attribute_flags u.attributes) (number 1 (below 64))
+  attributes ← the (λ u. u.attributes) attributes
   level ← the (λ u. u.level) (number 1 any)
   set ← the (λ u. u.categories) (defined categories)
   label ← the (λ u. u.label) label
   classes ← the (λ u. u.classes) (listed 1 any (λ earlier. id (is_new earlier)))
   connects ← the (λ u. u.connects) (listed 2 (within most_connections most_connections_in_all (connections before)) connection)
-  done (record { id = name; default_group = default_group; owner = owner; name = full_name; attributes = attributes_of flags; classes = classes; level = level; categories = set; label = label; connects = connects })
+  done (record { id = name; default_group = default_group; owner = owner; name = full_name; attributes = attributes; classes = classes; level = level; categories = set; label = label; connects = connects })
 
 -- ---- profiles
 -- The first qualifier of a data set's name has an ID's spelling. SECDATA has SECLEVEL and CATEGORY alone, and a name in

@@ -4,3 +4,4 @@ pub mod Fields
 pub mod Description
 pub mod Facts
 pub mod Image
+pub mod Kept

@@ -11,6 +11,7 @@ ghost use Rattle.database_image.specs.Fields.{filled, is_blank, front, text_in, 
 ghost use Rattle.database_image.specs.Description.{audit_rank, audit_levels, flag_rank, port_rank, log_rank, log_options};
 
 use crate::faults::ReadFault;
+use crate::left::Left;
 use access_levels::{GroupAuthority, Id, Level, PortClass, Who};
 use byteorder::{BigEndian, ByteOrder};
 use racf_profiles::LogOption;
@@ -18,54 +19,31 @@ use racf_profiles::LogOption;
 /// The bytes of an identifier's field.
 const FIELD: usize = 8;
 
-/// Nothing, unless the field that the bytes begin with isn't lawful.
-pub fn require(lawful: bool, bytes: &[u8]) -> Result<(), ReadFault>
-    ensures ok { OnOk result (lawful ≡ true) }
-    ensures refused { IfErr result (λ fault. (lawful ≡ false) × (fault ≡ At (length bytes.now))) }
-{
-    if lawful {
-        Ok(())
-    } else {
-        Err(ReadFault::At(bytes.len()))
-    }
-}
-
-/// So many bytes, and those behind them.
-pub fn part_at(bytes: &[u8], width: usize) -> Result<(&[u8], &[u8]), ReadFault>
-    ensures parts { IfOk result (λ parts. (nat_lt (length bytes.now) width ≡ false) × (parts.0.now ≡ take width bytes.now) × (parts.1.now ≡ drop width bytes.now)) }
-    ensures short { IfErr result (λ fault. (nat_lt (length bytes.now) width ≡ true) × (fault ≡ At (length bytes.now))) }
-{
-    if bytes.len() < width {
-        return Err(ReadFault::At(bytes.len()));
-    }
-    Ok(bytes.split_at(width))
-}
-
 /// A number of one byte.
 #[tactic(auto, unfolding(crate::specs::Forms::spelled_at))]
-pub fn byte_at(bytes: &[u8]) -> Result<(u8, &[u8]), ReadFault>
-    ensures { Gives (λ x. (x.0, x.1.now)) result (spelled_at (number_spelling 1) bytes.now) }
+pub fn byte_at(left: &mut Left<'_>) -> Result<u8, ReadFault>
+    ensures { Gives (λ x. (x, left.new)) result (spelled_at (number_spelling 1) left.old) }
 {
-    let (field, rest) = part_at(bytes, 1)?;
-    Ok((field[0], rest))
+    let field = left.part(1)?;
+    Ok(field[0])
 }
 
 /// A number of two bytes.
 #[tactic(auto, unfolding(crate::specs::Forms::spelled_at))]
-pub fn short_at(bytes: &[u8]) -> Result<(u16, &[u8]), ReadFault>
-    ensures { Gives (λ x. (x.0, x.1.now)) result (spelled_at (number_spelling 2) bytes.now) }
+pub fn short_at(left: &mut Left<'_>) -> Result<u16, ReadFault>
+    ensures { Gives (λ x. (x, left.new)) result (spelled_at (number_spelling 2) left.old) }
 {
-    let (field, rest) = part_at(bytes, 2)?;
-    Ok((BigEndian::read_u16(field), rest))
+    let field = left.part(2)?;
+    Ok(BigEndian::read_u16(field))
 }
 
 /// A number of four bytes.
 #[tactic(auto, unfolding(crate::specs::Forms::spelled_at))]
-pub fn word_at(bytes: &[u8]) -> Result<(u32, &[u8]), ReadFault>
-    ensures { Gives (λ x. (x.0, x.1.now)) result (spelled_at (number_spelling 4) bytes.now) }
+pub fn word_at(left: &mut Left<'_>) -> Result<u32, ReadFault>
+    ensures { Gives (λ x. (x, left.new)) result (spelled_at (number_spelling 4) left.old) }
 {
-    let (field, rest) = part_at(bytes, 4)?;
-    Ok((BigEndian::read_u32(field), rest))
+    let field = left.part(4)?;
+    Ok(BigEndian::read_u32(field))
 }
 
 /// The bytes of an identifier's field: its spelling, and blanks behind it.
@@ -111,13 +89,14 @@ fn text_in(field: &[u8]) -> Option<&[u8]>
 
 /// Any identifier.
 #[tactic(auto, unfolding(crate::specs::Forms::spelled_at))]
-pub fn id_at(bytes: &[u8]) -> Result<(Id, &[u8]), ReadFault>
-    ensures { Gives (λ x. (x.0, x.1.now)) result (spelled_at (filled_spelling itself id_text) bytes.now) }
+pub fn id_at(left: &mut Left<'_>) -> Result<Id, ReadFault>
+    ensures { Gives (λ x. (x, left.new)) result (spelled_at (filled_spelling itself id_text) left.old) }
 {
-    let (field, rest) = part_at(bytes, FIELD)?;
+    let begin = left.len();
+    let field = left.part(FIELD)?;
     match id_in(field) {
-        Some(id) => Ok((id, rest)),
-        None => Err(ReadFault::At(bytes.len())),
+        Some(id) => Ok(id),
+        None => Err(ReadFault::At(begin)),
     }
 }
 
@@ -132,13 +111,14 @@ fn id_in(field: &[u8]) -> Option<Id>
 
 /// The name of a group.
 #[tactic(auto, unfolding(crate::specs::Forms::spelled_at))]
-pub fn group_at(bytes: &[u8]) -> Result<(Id, &[u8]), ReadFault>
-    ensures { Gives (λ x. (x.0, x.1.now)) result (spelled_at (filled_spelling itself group_text) bytes.now) }
+pub fn group_at(left: &mut Left<'_>) -> Result<Id, ReadFault>
+    ensures { Gives (λ x. (x, left.new)) result (spelled_at (filled_spelling itself group_text) left.old) }
 {
-    let (field, rest) = part_at(bytes, FIELD)?;
+    let begin = left.len();
+    let field = left.part(FIELD)?;
     match group_in(field) {
-        Some(id) => Ok((id, rest)),
-        None => Err(ReadFault::At(bytes.len())),
+        Some(id) => Ok(id),
+        None => Err(ReadFault::At(begin)),
     }
 }
 
@@ -153,13 +133,14 @@ fn group_in(field: &[u8]) -> Option<Id>
 
 /// An identifier that may be left out.
 #[tactic(auto, unfolding(crate::specs::Forms::spelled_at))]
-pub fn label_at(bytes: &[u8]) -> Result<(Option<Id>, &[u8]), ReadFault>
-    ensures { Gives (λ x. (x.0, x.1.now)) result (spelled_at (filled_spelling text_or_none (unless_blank id_text)) bytes.now) }
+pub fn label_at(left: &mut Left<'_>) -> Result<Option<Id>, ReadFault>
+    ensures { Gives (λ x. (x, left.new)) result (spelled_at (filled_spelling text_or_none (unless_blank id_text)) left.old) }
 {
-    let (field, rest) = part_at(bytes, FIELD)?;
+    let begin = left.len();
+    let field = left.part(FIELD)?;
     match label_in(field) {
-        Some(label) => Ok((label, rest)),
-        None => Err(ReadFault::At(bytes.len())),
+        Some(label) => Ok(label),
+        None => Err(ReadFault::At(begin)),
     }
 }
 
@@ -177,13 +158,14 @@ fn label_in(field: &[u8]) -> Option<Option<Id>>
 
 /// The name of a group that may be left out.
 #[tactic(auto, unfolding(crate::specs::Forms::spelled_at))]
-pub fn superior_at(bytes: &[u8]) -> Result<(Option<Id>, &[u8]), ReadFault>
-    ensures { Gives (λ x. (x.0, x.1.now)) result (spelled_at (filled_spelling text_or_none (unless_blank group_text)) bytes.now) }
+pub fn superior_at(left: &mut Left<'_>) -> Result<Option<Id>, ReadFault>
+    ensures { Gives (λ x. (x, left.new)) result (spelled_at (filled_spelling text_or_none (unless_blank group_text)) left.old) }
 {
-    let (field, rest) = part_at(bytes, FIELD)?;
+    let begin = left.len();
+    let field = left.part(FIELD)?;
     match superior_in(field) {
-        Some(superior) => Ok((superior, rest)),
-        None => Err(ReadFault::At(bytes.len())),
+        Some(superior) => Ok(superior),
+        None => Err(ReadFault::At(begin)),
     }
 }
 
@@ -201,13 +183,14 @@ fn superior_in(field: &[u8]) -> Option<Option<Id>>
 
 /// Whom an entry speaks of.
 #[tactic(auto, unfolding(crate::specs::Forms::spelled_at))]
-pub fn who_at(bytes: &[u8]) -> Result<(Who, &[u8]), ReadFault>
-    ensures { Gives (λ x. (x.0, x.1.now)) result (spelled_at (filled_spelling who_text who_of) bytes.now) }
+pub fn who_at(left: &mut Left<'_>) -> Result<Who, ReadFault>
+    ensures { Gives (λ x. (x, left.new)) result (spelled_at (filled_spelling who_text who_of) left.old) }
 {
-    let (field, rest) = part_at(bytes, FIELD)?;
+    let begin = left.len();
+    let field = left.part(FIELD)?;
     match who_in(field) {
-        Some(who) => Ok((who, rest)),
-        None => Err(ReadFault::At(bytes.len())),
+        Some(who) => Ok(who),
+        None => Err(ReadFault::At(begin)),
     }
 }
 
@@ -235,13 +218,14 @@ pub fn who_text(who: &Who) -> &[u8]
 
 /// An access level, by its rank.
 #[tactic(auto, unfolding(crate::specs::Forms::spelled_at))]
-pub fn level_at(bytes: &[u8]) -> Result<(Level, &[u8]), ReadFault>
-    ensures { Gives (λ x. (x.0, x.1.now)) result (spelled_at (rank_spelling level_rank levels) bytes.now) }
+pub fn level_at(left: &mut Left<'_>) -> Result<Level, ReadFault>
+    ensures { Gives (λ x. (x, left.new)) result (spelled_at (rank_spelling level_rank levels) left.old) }
 {
-    let (field, rest) = part_at(bytes, 1)?;
+    let begin = left.len();
+    let field = left.part(1)?;
     match level_of_rank(field[0]) {
-        Some(level) => Ok((level, rest)),
-        None => Err(ReadFault::At(bytes.len())),
+        Some(level) => Ok(level),
+        None => Err(ReadFault::At(begin)),
     }
 }
 
@@ -253,13 +237,14 @@ fn level_of_rank(rank: u8) -> Option<Level>
 
 /// From which level on accesses are logged, if any are.
 #[tactic(auto, unfolding(crate::specs::Forms::spelled_at))]
-pub fn audit_at(bytes: &[u8]) -> Result<(Option<Level>, &[u8]), ReadFault>
-    ensures { Gives (λ x. (x.0, x.1.now)) result (spelled_at (rank_spelling audit_rank audit_levels) bytes.now) }
+pub fn audit_at(left: &mut Left<'_>) -> Result<Option<Level>, ReadFault>
+    ensures { Gives (λ x. (x, left.new)) result (spelled_at (rank_spelling audit_rank audit_levels) left.old) }
 {
-    let (field, rest) = part_at(bytes, 1)?;
+    let begin = left.len();
+    let field = left.part(1)?;
     match audit_of_rank(field[0]) {
-        Some(level) => Ok((level, rest)),
-        None => Err(ReadFault::At(bytes.len())),
+        Some(level) => Ok(level),
+        None => Err(ReadFault::At(begin)),
     }
 }
 
@@ -274,26 +259,28 @@ fn audit_of_rank(rank: u8) -> Option<Option<Level>>
 
 /// Yes or no.
 #[tactic(auto, unfolding(crate::specs::Forms::spelled_at))]
-pub fn flag_at(bytes: &[u8]) -> Result<(bool, &[u8]), ReadFault>
-    ensures { Gives (λ x. (x.0, x.1.now)) result (spelled_at (rank_spelling flag_rank (false ∷ true ∷ [])) bytes.now) }
+pub fn flag_at(left: &mut Left<'_>) -> Result<bool, ReadFault>
+    ensures { Gives (λ x. (x, left.new)) result (spelled_at (rank_spelling flag_rank (false ∷ true ∷ [])) left.old) }
 {
-    let (field, rest) = part_at(bytes, 1)?;
+    let begin = left.len();
+    let field = left.part(1)?;
     match field[0] {
-        0 => Ok((false, rest)),
-        1 => Ok((true, rest)),
-        _ => Err(ReadFault::At(bytes.len())),
+        0 => Ok(false),
+        1 => Ok(true),
+        _ => Err(ReadFault::At(begin)),
     }
 }
 
 /// What a user may do in a group, by its rank.
 #[tactic(auto, unfolding(crate::specs::Forms::spelled_at))]
-pub fn authority_at(bytes: &[u8]) -> Result<(GroupAuthority, &[u8]), ReadFault>
-    ensures { Gives (λ x. (x.0, x.1.now)) result (spelled_at (rank_spelling authority_rank authorities) bytes.now) }
+pub fn authority_at(left: &mut Left<'_>) -> Result<GroupAuthority, ReadFault>
+    ensures { Gives (λ x. (x, left.new)) result (spelled_at (rank_spelling authority_rank authorities) left.old) }
 {
-    let (field, rest) = part_at(bytes, 1)?;
+    let begin = left.len();
+    let field = left.part(1)?;
     match authority_of_rank(field[0]) {
-        Some(authority) => Ok((authority, rest)),
-        None => Err(ReadFault::At(bytes.len())),
+        Some(authority) => Ok(authority),
+        None => Err(ReadFault::At(begin)),
     }
 }
 
@@ -305,13 +292,14 @@ fn authority_of_rank(rank: u8) -> Option<GroupAuthority>
 
 /// A class of ports of entry, by its number.
 #[tactic(auto, unfolding(crate::specs::Forms::spelled_at))]
-pub fn port_at(bytes: &[u8]) -> Result<(PortClass, &[u8]), ReadFault>
-    ensures { Gives (λ x. (x.0, x.1.now)) result (spelled_at (rank_spelling port_rank port_classes) bytes.now) }
+pub fn port_at(left: &mut Left<'_>) -> Result<PortClass, ReadFault>
+    ensures { Gives (λ x. (x, left.new)) result (spelled_at (rank_spelling port_rank port_classes) left.old) }
 {
-    let (field, rest) = part_at(bytes, 1)?;
+    let begin = left.len();
+    let field = left.part(1)?;
     match port_of_rank(field[0]) {
-        Some(class) => Ok((class, rest)),
-        None => Err(ReadFault::At(bytes.len())),
+        Some(class) => Ok(class),
+        None => Err(ReadFault::At(begin)),
     }
 }
 
@@ -335,13 +323,14 @@ pub fn port_rank(class: PortClass) -> u8
 
 /// Which accesses to a class are logged whatever their profiles say, by its number.
 #[tactic(auto, unfolding(crate::specs::Forms::spelled_at))]
-pub fn log_at(bytes: &[u8]) -> Result<(LogOption, &[u8]), ReadFault>
-    ensures { Gives (λ x. (x.0, x.1.now)) result (spelled_at (rank_spelling log_rank log_options) bytes.now) }
+pub fn log_at(left: &mut Left<'_>) -> Result<LogOption, ReadFault>
+    ensures { Gives (λ x. (x, left.new)) result (spelled_at (rank_spelling log_rank log_options) left.old) }
 {
-    let (field, rest) = part_at(bytes, 1)?;
+    let begin = left.len();
+    let field = left.part(1)?;
     match log_of_rank(field[0]) {
-        Some(log) => Ok((log, rest)),
-        None => Err(ReadFault::At(bytes.len())),
+        Some(log) => Ok(log),
+        None => Err(ReadFault::At(begin)),
     }
 }
 

@@ -146,9 +146,11 @@ comes_behind (profile ∷ other ∷ profiles) name = comes_behind (other ∷ pro
 abbrev pub spelled_text : Spelled → List ℕ
 spelled_text name = name.text
 
-abbrev pub pattern : (class : List ℕ) → List Profile → Form Spelled
-pattern class earlier = text 2 (λ count. nat_le 1 count && nat_le count (longest (kind_in class))) spelled_text (λ t. result_ok (pattern_of (kind_in class) t))
-    (λ name. option_map_or (λ facts. is_name_in facts name) (facts_of class) false && comes_behind earlier name)
+abbrev pub is_pattern_at : (class : List ℕ) → (before : List Profile) → Spelled → Bool
+is_pattern_at class earlier name = option_map_or (λ facts. is_name_in facts name && comes_behind earlier name) (facts_of class) false
+
+abbrev pub pattern : (class : List ℕ) → (before : List Profile) → Form Spelled
+pattern class earlier = text 2 (λ count. nat_le 1 count && nat_le count (longest (kind_in class))) spelled_text (λ t. result_ok (pattern_of (kind_in class) t)) (is_pattern_at class earlier)
 
 -- Successes or failures are logged from a level on, or not at all.
 abbrev pub audit_rank : Option Level → ℕ

@@ -2,9 +2,12 @@
 #![tactic(auto)]
 
 mod categories;
+mod entries;
 mod faults;
 mod fields;
+mod members;
 mod names;
+mod profiles;
 mod left;
 mod users;
 

@@ -63,7 +63,8 @@ fn new_ids_from(alloc: Global, count: u32, left: &mut Left<'_>) -> Result<Vec<Id
     let mut names = Names::new(alloc);
     let mut items = Vec::new(alloc);
     for _ in 0..count {
-        items.push(new_id_at(&mut names, left)?)?;
+        let name = new_id_at(&mut names, left)?;
+        items.push(name)?;
     }
     Ok(items)
 }
@@ -170,14 +171,14 @@ fn users_from(alloc: Global, categories: usize, count: u32, left: &mut Left<'_>)
 
 /// A user behind others, who have so many connections.
 #[tactic(auto, unfolding(crate::specs::Description::user))]
-fn next_user(alloc: Global, categories: usize, before: &[User], names: &mut Names, connections: usize, left: &mut Left<'_>) -> Result<User, ReadFault>
+fn next_user(alloc: Global, categories: usize, before: &[User], names: &mut Names, held: usize, left: &mut Left<'_>) -> Result<User, ReadFault>
     requires categories { categories ≤ 256 }
     requires names { names.old ≡ map (λ (user : User). user.id) before.now }
-    requires connections { connections ≡ connections before.now }
-    requires few { connections ≤ most_connections_in_all }
+    requires held { held ≡ connections before.now }
+    requires few { held ≤ most_connections_in_all }
     ensures reads { Gives (λ x. (x, left.new)) result ((user categories before.now).reading left.old) }
     ensures noted { IfOk result (λ x. names.new ≡ names.old ++ x.id ∷ []) }
-    ensures few { IfOk result (λ x. connections + length x.connects ≤ most_connections_in_all) }
+    ensures few { IfOk result (λ x. held + length x.connects ≤ most_connections_in_all) }
 {
     let _before = before;
     let id = new_id_at(names, left)?;
@@ -189,7 +190,7 @@ fn next_user(alloc: Global, categories: usize, before: &[User], names: &mut Name
     let set = defined_at(categories, left)?;
     let label = label_at(left)?;
     let classes = classes_at(alloc, left)?;
-    let connects = connects_at(alloc, connections, left)?;
+    let connects = connects_at(alloc, held, left)?;
     Ok(User { id, default_group, owner, name, attributes, classes, level, categories: set, label, connects })
 }
 

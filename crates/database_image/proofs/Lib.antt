@@ -1,3 +1,5 @@
 mod WorkedRows
 mod NameLaws
 mod Loops
+mod Behind
+mod Sets

@@ -146,11 +146,18 @@ comes_behind (profile ∷ other ∷ profiles) name = comes_behind (other ∷ pro
 abbrev pub spelled_text : Spelled → List ℕ
 spelled_text name = name.text
 
-abbrev pub is_pattern_at : (class : List ℕ) → (before : List Profile) → Spelled → Bool
+unfoldable pub is_pattern_at : (class : List ℕ) → (before : List Profile) → Spelled → Bool
 is_pattern_at class earlier name = option_map_or (λ facts. is_name_in facts name && comes_behind earlier name) (facts_of class) false
 
+-- The name that a text spells in a class, and the name of a member in a profile.
+unfoldable pub pattern_in : (class text : List ℕ) → Option Spelled
+pattern_in class text = result_ok (pattern_of (kind_in class) text)
+
+unfoldable pub member_in : (profile text : List ℕ) → Option Spelled
+member_in profile text = result_ok (member_of (kind_in profile) text)
+
 abbrev pub pattern : (class : List ℕ) → (before : List Profile) → Form Spelled
-pattern class earlier = text 2 (λ count. nat_le 1 count && nat_le count (longest (kind_in class))) spelled_text (λ t. result_ok (pattern_of (kind_in class) t)) (is_pattern_at class earlier)
+pattern class earlier = text 2 (λ count. nat_le 1 count && nat_le count (longest (kind_in class))) spelled_text (pattern_in class) (is_pattern_at class earlier)
 
 -- Successes or failures are logged from a level on, or not at all.
 abbrev pub audit_rank : Option Level → ℕ
@@ -224,7 +231,7 @@ is_new_member before name = is_new (map member_name before) name
 
 abbrev pub access_member : (profile : List ℕ) → List Member → Form Member
 access_member profile before = do
-  resources ← the resources_of (text 2 (λ count. nat_le 1 count && nat_le count (longest (kind_in profile))) spelled_text (λ t. result_ok (member_of (kind_in profile) t)) (λ name. is_new_member before name.text))
+  resources ← the resources_of (text 2 (λ count. nat_le 1 count && nat_le count (longest (kind_in profile))) spelled_text (member_in profile) (λ name. is_new_member before name.text))
   level ← the level_of_member (ranked level_rank levels)
   done (members.Access resources level)
 

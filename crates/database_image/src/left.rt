@@ -37,6 +37,7 @@ impl<'a> Left<'a> {
     /// The next so many bytes. Behind a fault nothing was taken.
     pub fn part(&mut self, width: usize) -> Result<&'a [u8], ReadFault>
         ensures part { IfOk result (λ part. (nat_lt (length self.old) width ≡ false) × (part.now ≡ take width self.old) × (self.new ≡ drop width self.old)) }
+        ensures width { IfOk result (λ part. length part.now ≡ width) }
         ensures short { IfErr result (λ fault. (nat_lt (length self.old) width ≡ true) × (fault ≡ At (length self.old))) }
     {
         if self.bytes.len() < width {

@@ -2,6 +2,7 @@
 #![tactic(auto)]
 
 mod categories;
+mod classes;
 mod entries;
 mod faults;
 mod fields;

@@ -9,7 +9,7 @@ ghost use Rattle.racf_profiles.specs.declared.profiles.Member.{Member};
 ghost use Rattle.database_image.specs.Reading.{Gives};
 ghost use Rattle.database_image.specs.Forms.{spelled_at, items_from, listed};
 ghost use Rattle.database_image.specs.Fields.{at_most, id, is_new, text_spelling};
-ghost use Rattle.database_image.specs.Description.{text, spelled_text, is_kind_in, is_new_member, access_member, level_member, category_member, member_of_kind, member};
+ghost use Rattle.database_image.specs.Description.{text, spelled_text, member_in, is_kind_in, is_new_member, access_member, level_member, category_member, member_of_kind, member};
 
 use crate::faults::ReadFault;
 use crate::fields::{byte_at, id_at, level_at, short_at};
@@ -89,7 +89,7 @@ fn access_member(profile: &[u8], before: &[Member], names: &mut Names, left: &mu
 
 /// The name of resources in a profile of that name, which wasn't noted.
 fn resources_at(profile: &[u8], names: &mut Names, left: &mut Left<'_>) -> Result<MemberName, ReadFault>
-    ensures reads { Gives (λ x. (x, left.new)) result ((text 2 (λ count. nat_le 1 count && nat_le count (longest (kind_in profile.now))) spelled_text (λ t. result_ok (member_of (kind_in profile.now) t)) (λ name. is_new names.old name.text)).reading left.old) }
+    ensures reads { Gives (λ x. (x, left.new)) result ((text 2 (λ count. nat_le 1 count && nat_le count (longest (kind_in profile.now))) spelled_text (member_in profile.now) (λ name. is_new names.old name.text)).reading left.old) }
     ensures noted { IfOk result (λ x. names.new ≡ names.old ++ x.text ∷ []) }
 {
     let begin = left.len();
@@ -103,9 +103,9 @@ fn resources_at(profile: &[u8], names: &mut Names, left: &mut Left<'_>) -> Resul
 }
 
 /// The name of a member, of so many bytes.
-#[tactic(auto, unfolding(crate::specs::Forms::spelled_at))]
+#[tactic(auto, unfolding(crate::specs::Forms::spelled_at, crate::specs::Description::member_in))]
 fn member_name_at(profile: &[u8], count: usize, left: &mut Left<'_>) -> Result<MemberName, ReadFault>
-    ensures { Gives (λ x. (x, left.new)) result (spelled_at (text_spelling spelled_text (λ t. result_ok (member_of (kind_in profile.now) t)) count) left.old) }
+    ensures { Gives (λ x. (x, left.new)) result (spelled_at (text_spelling spelled_text (member_in profile.now) count) left.old) }
 {
     let begin = left.len();
     let text = left.part(count)?;

@@ -1,5 +1,5 @@
 //! Profiles, read.
-ghost use Rattle.std.specs.Prelude.{◌≡◌, ◌≤◌, ◌+◌, ◌++◌, ◌∷◌, [], length, map, IfOk};
+ghost use Rattle.std.specs.Prelude.{◌≡◌, ◌≤◌, ◌+◌, ◌++◌, ◌∷◌, [], length, IfOk, nat_le, ◌&&◌};
 ghost use Rattle.std.specs.List.{sum_by};
 ghost use Rattle.std.specs.Option.{option_map_or};
 ghost use Rattle.std.specs.Result.{result_ok};
@@ -11,9 +11,9 @@ ghost use Rattle.racf_profiles.specs.LawfulProfiles.{kind_in};
 ghost use Rattle.racf_profiles.specs.declared.profiles.Profile.{Profile};
 ghost use Rattle.racf_profiles.specs.declared.fixed_classes.ClassFacts.{ClassFacts};
 ghost use Rattle.database_image.specs.Reading.{Gives};
-ghost use Rattle.database_image.specs.Forms.{spelled_at, items_from};
+ghost use Rattle.database_image.specs.Forms.{spelled_at, items_from, number};
 ghost use Rattle.database_image.specs.Fields.{text_spelling};
-ghost use Rattle.database_image.specs.Description.{pattern, spelled_text, is_named_by, is_name_in, comes_behind, is_pattern_at, profile};
+ghost use Rattle.database_image.specs.Description.{pattern, pattern_in, spelled_text, is_named_by, is_name_in, comes_behind, is_pattern_at, profile};
 
 use crate::categories::defined_at;
 use crate::entries::{cond_entries_at, entries_at};
@@ -95,13 +95,22 @@ fn next_profile(
 fn pattern_at(class: Id, before: &[Profile], left: &mut Left<'_>) -> Result<Pattern, ReadFault>
     ensures { Gives (λ x. (x, left.new)) result ((pattern class before.now).reading left.old) }
 {
-    let begin = left.len();
-    let count = short_at(left)?;
-    require(1 <= count && count <= longest(kind_in(class)), begin)?;
+    let count = name_length_at(class, left)?;
     let begin = left.len();
     let name = name_at(class, usize::from(count), left)?;
     require(is_pattern_at(class, before, &name), begin)?;
     Ok(name)
+}
+
+/// The length of a name in the class.
+fn name_length_at(class: Id, left: &mut Left<'_>) -> Result<u16, ReadFault>
+    ensures { Gives (λ x. (x, left.new)) result ((number 2 (λ count. nat_le 1 count && nat_le count (longest (kind_in class)))).reading left.old) }
+{
+    let begin = left.len();
+    let count = short_at(left)?;
+    let most = longest(kind_in(class));
+    require(1 <= count && count <= most, begin)?;
+    Ok(count)
 }
 
 /// The most bytes of a name.
@@ -115,9 +124,9 @@ pub fn longest(kind: NameKind) -> u16
 }
 
 /// A name in the class, of so many bytes.
-#[tactic(auto, unfolding(crate::specs::Forms::spelled_at))]
+#[tactic(auto, unfolding(crate::specs::Forms::spelled_at, crate::specs::Description::pattern_in))]
 fn name_at(class: Id, count: usize, left: &mut Left<'_>) -> Result<Pattern, ReadFault>
-    ensures { Gives (λ x. (x, left.new)) result (spelled_at (text_spelling spelled_text (λ t. result_ok (pattern_of (kind_in class) t)) count) left.old) }
+    ensures { Gives (λ x. (x, left.new)) result (spelled_at (text_spelling spelled_text (pattern_in class) count) left.old) }
 {
     let begin = left.len();
     let text = left.part(count)?;
@@ -128,6 +137,7 @@ fn name_at(class: Id, count: usize, left: &mut Left<'_>) -> Result<Pattern, Read
 }
 
 /// Whether a profile of the class may have the name, behind others.
+#[tactic(auto, unfolding(crate::specs::Description::is_pattern_at))]
 fn is_pattern_at(class: Id, before: &[Profile], name: &Pattern) -> bool
     ensures { result ≡ is_pattern_at class before.now name.now }
 {
@@ -161,8 +171,8 @@ fn is_named_by(names: NameForm, text: &[u8]) -> bool
 fn comes_behind(before: &[Profile], name: &Pattern) -> bool
     ensures { result ≡ comes_behind before.now name.now }
 {
-    match before {
-        [] => true,
-        [.., last] => last.name.before(name),
+    match before.last() {
+        Some(last) => last.name.before(name),
+        None => true,
     }
 }

@@ -3,3 +3,6 @@ mod NameLaws
 mod Loops
 mod Behind
 mod Sets
+mod Exact
+mod Spellings
+mod Described

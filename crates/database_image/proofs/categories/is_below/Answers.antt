@@ -1,4 +1,4 @@
-use Rattle.std.proofs.Common.{◌≡◌, sym, ◌∙◌, arith}
+use Rattle.std.proofs.Common.{sym, ◌∙◌, arith}
 use Rattle.database_image.proofs.Sets.{not-below, is-below}
 use Rattle.database_image.proofs.categories.is_below.Goals as goal
 

@@ -1,4 +1,4 @@
-use Rattle.std.proofs.Common.{◌≡◌, ◌-◌, ◌≤◌, [], map, length}
+use Rattle.std.proofs.Common.{◌≡◌, ◌-◌, [], map}
 use Rattle.database_image.specs.Forms.{items_from}
 use Rattle.database_image.specs.Description.{member}
 use Rattle.racf_profiles.specs.LawfulProfiles.{member_name}

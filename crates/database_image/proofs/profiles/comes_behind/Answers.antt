@@ -1,4 +1,4 @@
-use Rattle.std.proofs.Common.{◌≡◌, sym, ◌∙◌}
+use Rattle.std.proofs.Common.{sym, ◌∙◌}
 use Rattle.database_image.proofs.Behind.{last-behind}
 use Rattle.database_image.proofs.profiles.comes_behind.Goals as goal
 

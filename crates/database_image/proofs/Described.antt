@@ -1,5 +1,5 @@
 -- The forms of the image are exact.
-use Rattle.std.proofs.Common.{◌≡◌, ℕ, zero, suc, ◌+◌, ◌*◌, ◌/◌, ◌%◌, ◌^◌, ◌<◌, Bool, true, false, List, [], ◌∷◌, length, map, Option, Some, None, refl, sym, ap, ◌∙◌, arith, ltb-true}
+use Rattle.std.proofs.Common.{◌≡◌, ℕ, zero, suc, ◌+◌, ◌*◌, ◌/◌, ◌%◌, ◌^◌, ◌<◌, Bool, true, false, List, [], ◌∷◌, ◌++◌, length, map, Option, Some, None, refl, sym, ap, ◌∙◌, arith, ltb-true}
 use Rattle.std.specs.Prelude.{nat_lt, nat_le, ◌&&◌, ◌==◌, IsTrue, bytes_eq}
 use Rattle.std.specs.List.{list_any, sum_by}
 use Rattle.access_levels.specs.Level.{level_rank, levels, authority_rank, authorities, port_classes}
@@ -93,12 +93,8 @@ rest-below n = omega arith
 flag : (n value : ℕ) → bit value (is_set n value) ≡ value * (n / value % 2)
 flag n value = bit-is value (n / value % 2) (rest-below (n / value))
 
-true-of : (b : Bool) → IsTrue b → b ≡ true
-true-of true h = refl
-true-of false h = absurd h
-
 lt-of : (n limit : ℕ) → IsTrue (nat_lt n limit) → n < limit
-lt-of n limit h = ltb-true n limit (true-of (nat_lt n limit) h)
+lt-of n limit h = ltb-true n limit h
 
 flags-3 : (n : ℕ) → n < 8 → bit 1 (is_set n 1) + bit 2 (is_set n 2) + bit 4 (is_set n 4) ≡ n
 flags-3 n h = rw (flag n 1, flag n 2, flag n 4) omega (arith, h)
@@ -268,11 +264,11 @@ exact-member_of_kind names profile before (suc (suc zero)) = (level_member_ befo
 exact-member_of_kind names profile before (suc (suc (suc n))) = (category_member_ names before).exact
 
 kind-pinned : (names : List (List ℕ)) (class profile : List ℕ) (before : List Member) (kind : ℕ) (x : Member) → IsTrue (is_kind_in class profile kind) → (member_of_kind names profile before kind).Fits x → member_kind x ≡ kind
-kind-pinned names class profile before zero x f h = absurd f
+kind-pinned names class profile before zero x f h = let e : false ≡ true = f in absurd cc
 kind-pinned names class profile before (suc zero) x f h = ap member_kind h.1.1
 kind-pinned names class profile before (suc (suc zero)) x f h = ap member_kind h.1.1
 kind-pinned names class profile before (suc (suc (suc zero))) x f h = ap member_kind h.1
-kind-pinned names class profile before (suc (suc (suc (suc n)))) x f h = absurd f
+kind-pinned names class profile before (suc (suc (suc (suc n)))) x f h = let e : false ≡ true = f in absurd cc
 
 pub exact-member : (names : List (List ℕ)) (class profile : List ℕ) (before : List Member) → IsExact (member names class profile before)
 unfolding member
@@ -339,8 +335,8 @@ unfolding profile
 steady-profile names class entries before x = refl
 
 both-true : (a b : Bool) → IsTrue (a && b) → IsTrue a
-both-true true b h = tt
-both-true false b h = absurd h
+both-true true b h = refl
+both-true false b h = absurd cc
 
 class-below : (name : List ℕ) (flags : ℕ) → IsTrue (are_class_flags name flags) → IsTrue (nat_lt flags 8)
 class-below name flags h = both-true (nat_lt flags 8) _ (both-true _ _ h)
@@ -368,7 +364,7 @@ unfolding user
 steady-user categories before x = refl
 
 steady-class : (names : List (List ℕ)) → IsSteady (class names)
-unfolding class
+unfolding class profile
 steady-class names before x = refl
 
 abbrev whole_options : Exact Options

@@ -6,11 +6,8 @@ use Rattle.std.specs.List.{flat_map}
 use Rattle.std.proofs.lemmas.Bool.{cases_lt, ltb-false}
 use Rattle.std.proofs.lemmas.List.{take_at, drop_at, take-append-drop, length-append, length-take, get_or-drop, get_or-take, get_or_past, append-nil}
 use Rattle.byteorder.specs.Endian.{big_bytes}
-use Rattle.database_image.specs.Reading.{Reading, ◌>>=◌, where_lawful}
+use Rattle.database_image.specs.Reading.{AreBytes, Reading, ◌>>=◌, where_lawful}
 use Rattle.database_image.specs.Forms.{Form, Spelling, IsSpelled, valued, spelled_at, field, number, Part, the, followed, done, items_from, ItemsFit, listed}
-
-abbrev pub AreBytes : List ℕ → Type 0
-AreBytes bytes = (i : ℕ) → get_or bytes i 0 < 256
 
 pub AreBytes-drop : (n : ℕ) (bytes : List ℕ) → AreBytes bytes → AreBytes (drop n bytes)
 AreBytes-drop n bytes h i = rw get_or-drop (h (n + i))
@@ -70,7 +67,7 @@ spelled_again s x rest h =
 
 lawful_again : {A : Type 0} (b : Bool) (bytes : List ℕ) (y : A) → IsTrue b → where_lawful b bytes y ≡ Ok y
 lawful_again true bytes y h = refl
-lawful_again false bytes y h = absurd h
+lawful_again false bytes y h = absurd cc
 
 pub exact-field : {A : Type 0} (s : Spelling A) (is_lawful : A → Bool) → IsUnique s → IsExact (field s is_lawful)
 exact-field {A = A} s is_lawful unique = record {
@@ -82,7 +79,7 @@ exact-field {A = A} s is_lawful unique = record {
       let same : s.spelled b.0.0 ≡ take s.width bytes = unique (take s.width bytes) b.0.0 (AreBytes-take s.width bytes fits) len p.1 in
       let made : Takes (field s is_lawful) bytes b.0.0 b.0.1 = record {
         parts = rw (same, ← p.2) (sym (take-append-drop s.width bytes));
-        fits = (record { whole = rw same len; back = rw same p.1 }, subst IsTrue (sym l.0) tt);
+        fits = (record { whole = rw same len; back = rw same p.1 }, l.0);
         behind = rw (← p.2) (AreBytes-drop s.width bytes fits);
       } in
       subst (λ (y : A × List ℕ). Takes (field s is_lawful) bytes y.0 y.1) l.1 made;
@@ -180,7 +177,8 @@ exact-listed {A = A} width is_lawful item counts exact steady = record {
       let o = takes_items item exact steady b.0.0 [] b.0.1 all rest f.behind b.2 in
       let count : b.0.0 ≡ length all = sym o.counted ∙ ap length (sym o.whole) in
       record {
-        parts = f.parts ∙ ap (λ (t : List ℕ). big_bytes width b.0.0 ++ t) o.parts ∙ sym (append_assoc (big_bytes width b.0.0) (written item o.items) rest) ∙ rw (count, o.whole) refl;
+        parts = subst (λ (xs : List A). bytes ≡ (big_bytes width (length all) ++ written item xs) ++ rest) (sym o.whole) (subst (λ (n : ℕ). bytes ≡ (big_bytes width n ++ written item o.items) ++ rest) count
+            (f.parts ∙ ap (λ (t : List ℕ). big_bytes width b.0.0 ++ t) o.parts ∙ sym (append_assoc (big_bytes width b.0.0) (written item o.items) rest)));
         fits = (subst (number width is_lawful).Fits count f.fits, subst (ItemsFit item []) (sym o.whole) o.fit);
         behind = o.behind;
       };

@@ -6,3 +6,4 @@ mod Sets
 mod Exact
 mod Spellings
 mod Described
+mod Images

@@ -6,6 +6,7 @@ use Rattle.std.proofs.Math.Nat.{div-div-eq-div-mul, div-one, pow-succ'}
 use Rattle.byteorder.specs.Numbers.{little_from-cons}
 use Rattle.std.specs.List.{find, list_all}
 use Rattle.std.specs.Result.{result_ok}
+use Rattle.std.proofs.lemmas.Bool.{eqb-true}
 use Rattle.std.proofs.lemmas.Slice.Eq.{bytes_eq-Decides}
 use Rattle.byteorder.specs.Endian.{big_bytes, big_number, little_bytes, little_number, little_from}
 use Rattle.access_levels.specs.Spelling.{id_of, group_of}
@@ -19,7 +20,8 @@ use Rattle.racf_profiles.specs.LawfulUsers.{is_printable}
 use Rattle.database_image.specs.Forms.{Spelling, number_spelling}
 use Rattle.database_image.specs.Fields.{filled, front, text_in, of_text, filled_spelling, id_text, group_text, itself, text_or_none, unless_blank, who_text, who_of, rank_spelling, set_spelling, text_spelling}
 use Rattle.database_image.specs.Description.{printable, pattern_in, member_in, spelled_text}
-use Rattle.database_image.proofs.Exact.{AreBytes, IsUnique}
+use Rattle.database_image.specs.Reading.{AreBytes}
+use Rattle.database_image.proofs.Exact.{IsUnique}
 
 -- ---- numbers
 
@@ -40,7 +42,7 @@ unique-1 (a ∷ b ∷ bytes) n fits len e = absurd (omega (arith, len))
 two_bytes : (a b n : ℕ) → a < 256 → b < 256 → big_number 2 (a ∷ b ∷ []) ≡ n → big_bytes 2 n ≡ a ∷ b ∷ []
 two_bytes a b n h k e =
     let high : n / 256 % 256 ≡ a = omega (arith, h, k, e) in
-    let low : n / 1 % 256 ≡ b = omega (arith, h, k, e) in
+    let low : n % 256 ≡ b = omega (arith, h, k, e) in
     rw (high, low) refl
 
 pub unique-2 : IsUnique (number_spelling 2)
@@ -54,7 +56,7 @@ four_bytes a b c d n h i j k e =
     let w : n / 16777216 % 256 ≡ a = omega (arith, h, i, j, k, e) in
     let x : n / 65536 % 256 ≡ b = omega (arith, h, i, j, k, e) in
     let y : n / 256 % 256 ≡ c = omega (arith, h, i, j, k, e) in
-    let z : n / 1 % 256 ≡ d = omega (arith, h, i, j, k, e) in
+    let z : n % 256 ≡ d = omega (arith, h, i, j, k, e) in
     rw (w, x, y, z) refl
 
 pub unique-4 : IsUnique (number_spelling 4)
@@ -112,15 +114,16 @@ who-own t x e = who_case (bytes_eq t (codes "*")) t x e refl
 
 -- ---- ranks
 
+found_at : {A : Type 0} (test : A → Bool) (v x : A) (is : Bool) (rest : Option A) → test v ≡ is → (rest ≡ Some x → test x ≡ true) → cond is (Some v) rest ≡ Some x → test x ≡ true
+found_at test v x true rest h later e = ap test (sym (some_is _ _ e)) ∙ h
+found_at test v x false rest h later e = later e
+
 found : {A : Type 0} (test : A → Bool) (values : List A) (x : A) → find test values ≡ Some x → test x ≡ true
 found test [] x e = absurd cc
-found test (v ∷ values) x e = found_at (test v) refl e where
-  found_at : (is : Bool) → test v ≡ is → cond is (Some v) (find test values) ≡ Some x → test x ≡ true
-  found_at true h k = ap test (sym (some_is _ _ k)) ∙ h
-  found_at false h k = found test values x k
+found test (v ∷ values) x e = found_at test v x (test v) (find test values) refl (found test values x) e
 
 same_number : (a b : ℕ) → (a == b) ≡ true → a ≡ b
-same_number a b h = eqb-eq a b h
+same_number a b h = eqb-true a b h
 
 pub unique-rank : {A : Type 0} (rank : A → ℕ) (values : List A) → IsUnique (rank_spelling rank values)
 unique-rank rank values [] x fits len e = absurd (omega (arith, len))

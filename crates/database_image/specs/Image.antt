@@ -40,6 +40,11 @@ rows_of bytes = first_pass bytes >>= second_pass
 abbrev pub first_fault : (bytes : List ℕ) → Option ℕ
 first_fault bytes = result_err (rows_of bytes)
 
+-- What an image asks of rows: each field is lawful where it stands, and each fact between fields holds.
+pub record IsStored (rows : Rows) : Type 0 where
+  pub fields : image.Fits rows
+  pub between : first_broken (facts rows) ≡ None
+
 -- ---- what a function answered
 
 -- It is the place of the first fault, unless memory ran out.

@@ -1,8 +1,12 @@
 -- Reading, one field behind another: what was read with the bytes behind it, or the first fault. A fault is told by how
 -- many bytes are left where the field begins that has no lawful value.
-use Rattle.std.specs.Prelude.{◌≡◌, ℕ, Bool, List, length, Result, Ok, Err, if◌then◌else◌}
+use Rattle.std.specs.Prelude.{◌≡◌, ℕ, ◌<◌, Bool, List, get_or, length, Result, Ok, Err, if◌then◌else◌}
 use Rattle.database_image.specs.declared.faults.ReadFault.{ReadFault}
 use Rattle.database_image.specs.declared.faults.ReadFault.TheVariants as faults
+
+-- The numbers of a list of bytes are bytes.
+abbrev pub AreBytes : List ℕ → Type 0
+AreBytes bytes = (i : ℕ) → get_or bytes i 0 < 256
 
 abbrev pub Reading : Type 0 → Type 0
 Reading A = Result (A × List ℕ) ℕ

@@ -6,10 +6,14 @@ mod classes;
 mod entries;
 mod faults;
 mod fields;
+pub mod laws;
 mod members;
 mod names;
 mod profiles;
+mod putting;
 mod left;
 mod users;
+mod writing;
 
 pub use faults::ImageFault;
+pub use writing::write;

@@ -1,5 +1,6 @@
 -- The forms of the image are exact.
 use Rattle.std.proofs.Common.{◌≡◌, ℕ, zero, suc, ◌+◌, ◌*◌, ◌/◌, ◌%◌, ◌^◌, ◌<◌, Bool, true, false, List, [], ◌∷◌, ◌++◌, length, map, Option, Some, None, refl, sym, ap, ◌∙◌, arith, ltb-true}
+use Rattle.std.proofs.lemmas.Bool.{ne_eqb}
 use Rattle.std.specs.Prelude.{nat_lt, nat_le, ◌&&◌, ◌==◌, IsTrue, bytes_eq}
 use Rattle.std.specs.List.{list_any, sum_by}
 use Rattle.access_levels.specs.Level.{level_rank, levels, authority_rank, authorities, port_classes}
@@ -263,12 +264,15 @@ exact-member_of_kind names profile before (suc zero) = (access_member_ profile b
 exact-member_of_kind names profile before (suc (suc zero)) = (level_member_ before).exact
 exact-member_of_kind names profile before (suc (suc (suc n))) = (category_member_ names before).exact
 
+kind-far : (class profile : List ℕ) (kind : ℕ) → 3 < kind → is_kind_in class profile kind ≡ false
+kind-far class profile kind h = rw (ne_eqb kind 1 (λ e. omega (arith, e, h)), ne_eqb kind 2 (λ e. omega (arith, e, h)), ne_eqb kind 3 (λ e. omega (arith, e, h))) refl
+
 kind-pinned : (names : List (List ℕ)) (class profile : List ℕ) (before : List Member) (kind : ℕ) (x : Member) → IsTrue (is_kind_in class profile kind) → (member_of_kind names profile before kind).Fits x → member_kind x ≡ kind
 kind-pinned names class profile before zero x f h = let e : false ≡ true = f in absurd cc
 kind-pinned names class profile before (suc zero) x f h = ap member_kind h.1.1
 kind-pinned names class profile before (suc (suc zero)) x f h = ap member_kind h.1.1
 kind-pinned names class profile before (suc (suc (suc zero))) x f h = ap member_kind h.1
-kind-pinned names class profile before (suc (suc (suc (suc n)))) x f h = let e : false ≡ true = f in absurd cc
+kind-pinned names class profile before (suc (suc (suc (suc n)))) x f h = let e : false ≡ true = sym (kind-far class profile (suc (suc (suc (suc n)))) (omega arith)) ∙ f in absurd cc
 
 pub exact-member : (names : List (List ℕ)) (class profile : List ℕ) (before : List Member) → IsExact (member names class profile before)
 unfolding member

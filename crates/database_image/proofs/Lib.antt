@@ -7,3 +7,4 @@ mod Exact
 mod Spellings
 mod Described
 mod Images
+mod Appended

@@ -1,7 +1,9 @@
 -- The bits of a set, in its bytes.
-use Rattle.std.proofs.Common.{◌≡◌, ℕ, zero, suc, ◌+◌, ◌-◌, ◌*◌, ◌/◌, ◌%◌, ◌^◌, ◌<◌, ◌≤◌, Bool, true, false, List, length, get_or, refl, sym, ap, subst, ◌∙◌, arith, ⊎_elim, eq-eqb, le-ltb, lt-ltb, pow-suc}
+use Rattle.std.proofs.Common.{◌≡◌, ℕ, zero, suc, ◌+◌, ◌-◌, ◌*◌, ◌/◌, ◌%◌, ◌^◌, ◌<◌, ◌≤◌, Bool, true, false, List, [], ◌∷◌, ◌++◌, length, get_or, append_assoc, refl, sym, ap, subst, ◌∙◌, arith, ⊎_elim, eq-eqb, le-ltb, lt-ltb, pow-suc}
 use Rattle.std.specs.Prelude.{slice_index, nat_lt, ◌==◌, ◌&&◌, ◌||◌}
-use Rattle.std.specs.Int.{bit_at}
+use Rattle.std.specs.Int.{bit_at, byte_at, bytes_low_first}
+use Rattle.std.proofs.Math.Nat.{div-div-eq-div-mul, div-one}
+use Rattle.std.proofs.lemmas.Nat.{mod-pow-add, pow-add}
 use Rattle.std.proofs.lemmas.Bool.{cases_lt, cases_eq, ne_eqb}
 use Rattle.std.proofs.lemmas.Bool.Decides.{nat_tests}
 use Rattle.std.proofs.lemmas.Nat.Bits.{bit_at-zero, bit_at-lt, bit_at_cat_low, bit_at_cat_high, bit_at_above, same_from_bits}
@@ -120,3 +122,36 @@ pub is-below : (set count : ℕ) → count ≤ 256 → set < 2 ^ 256 → ((m : �
 is-below set count few h none =
     let e : count + (256 - count) ≡ 256 = omega (arith, few) in
     lt-ltb set (2 ^ count) (all-below (256 - count) set count (subst (λ j. set < 2 ^ j) (sym e) h) (λ m a b. none m a (omega (arith, b, e))))
+
+-- ---- the bytes of a set, one behind another
+
+byte_at-pow : (k x : ℕ) → byte_at k x ≡ x / 256 ^ k % 256
+byte_at-pow zero x = ap (λ (y : ℕ). y % 256) (sym (div-one x))
+byte_at-pow (suc k) x = refl
+
+pub one_more : (out : List ℕ) (set place : ℕ) → place < 32 → (out ++ set / 256 ^ place % 256 ∷ []) ++ bytes_low_first (place + 1) (32 - (place + 1)) set ≡ out ++ bytes_low_first place (32 - place) set
+one_more out set place h =
+    let left : 32 - place ≡ suc (32 - (place + 1)) = omega (arith, h) in
+    let next : suc place ≡ place + 1 = omega arith in
+    append_assoc out (set / 256 ^ place % 256 ∷ []) (bytes_low_first (place + 1) (32 - (place + 1)) set)
+    ∙ ap (λ (b : ℕ). out ++ b ∷ bytes_low_first (place + 1) (32 - (place + 1)) set) (sym (byte_at-pow place set))
+    ∙ ap (λ (i : ℕ). out ++ byte_at place set ∷ bytes_low_first i (32 - (place + 1)) set) (sym next)
+    ∙ ap (λ (n : ℕ). out ++ bytes_low_first place n set) (sym left)
+
+-- One bit more of a byte.
+bit_more : (x n : ℕ) → x % 2 ^ (n + 1) ≡ bit_at x n * 2 ^ n + x % 2 ^ n
+bit_more x n = let e : n + 1 ≡ 1 + n = omega arith in ap (λ (j : ℕ). x % 2 ^ j) e ∙ mod-pow-add x 1 n
+
+powers : (place : ℕ) → 256 ^ place ≡ 2 ^ (8 * place)
+powers zero = refl
+powers (suc place) =
+    let e : 8 * suc place ≡ 8 * place + 8 = omega arith in
+    pow-suc 256 place ∙ ap (λ (p : ℕ). p * 256) (powers place) ∙ sym (pow-add 2 (8 * place) 8) ∙ ap (λ (j : ℕ). 2 ^ j) (sym e)
+
+bit-of-byte : (set place n : ℕ) → bit_at (set / 256 ^ place) n ≡ bit_at set (8 * place + n)
+bit-of-byte set place n = ap (λ (x : ℕ). x % 2) (div-div-eq-div-mul set (256 ^ place) (2 ^ n) ∙ ap (λ (p : ℕ). set / (p * 2 ^ n)) (powers place) ∙ ap (λ (p : ℕ). set / p) (sym (pow-add 2 (8 * place) n)))
+
+pub byte-grown : (byte more set place n : ℕ) → byte ≡ set / 256 ^ place % 2 ^ n → more ≡ bit_at set (8 * place + n) * 2 ^ n → byte + more ≡ set / 256 ^ place % 2 ^ (n + 1)
+byte-grown byte more set place n h k =
+    let sum : byte + more ≡ bit_at set (8 * place + n) * 2 ^ n + set / 256 ^ place % 2 ^ n = rw (h, k) (omega arith) in
+    sum ∙ ap (λ (b : ℕ). b * 2 ^ n + set / 256 ^ place % 2 ^ n) (sym (bit-of-byte set place n)) ∙ sym (bit_more (set / 256 ^ place) n)

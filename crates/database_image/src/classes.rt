@@ -15,7 +15,7 @@ ghost use Rattle.database_image.specs.Description.{within, are_class_flags, is_c
 use crate::faults::ReadFault;
 use crate::fields::{byte_at, id_at, is_set, log_at, short_at, word_at};
 use crate::left::{Left, require};
-use crate::profiles::profiles_from;
+use crate::profiles::{entries_in, profiles_from};
 use crate::users::{groups_at, options_at, users_at};
 use access_levels::Id;
 use racf_profiles::{ClassRow, ClassRows, FixedClass, Profiles, Rows, class_facts};
@@ -59,11 +59,18 @@ fn classes_from(alloc: Global, categories: &[Id], count: u32, left: &mut Left<'_
     let mut items = Vec::new(alloc);
     for _ in 0..count {
         let class = next_class(alloc, categories, &items, profiles, entries, left)?;
-        profiles += class.profiles.items.len();
+        profiles += profiles_of(&class);
         entries += entries_of(&class);
         items.push(class)?;
     }
     Ok(items)
+}
+
+/// How many profiles a class has.
+fn profiles_of(class: &ClassRow) -> usize
+    ensures { result ≡ length class.now.profiles }
+{
+    class.profiles.items.len()
 }
 
 /// How many entries the profiles of a class have.
@@ -73,7 +80,7 @@ fn entries_of(class: &ClassRow) -> usize
 {
     let mut entries = 0;
     for profile in &class.profiles.items {
-        entries += profile.standard.items.len() + profile.conditional.items.len();
+        entries += entries_in(profile);
     }
     entries
 }

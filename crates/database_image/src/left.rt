@@ -6,6 +6,7 @@ use crate::faults::ReadFault;
 use std::marker::Model;
 
 /// What is left of an image.
+#[derive(Drop)]
 pub struct Left<'a> {
     /// The bytes behind those that were read.
     bytes: &'a [u8],

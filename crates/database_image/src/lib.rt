@@ -11,9 +11,11 @@ mod members;
 mod names;
 mod profiles;
 mod putting;
+mod reading;
 mod left;
 mod users;
 mod writing;
 
 pub use faults::ImageFault;
+pub use reading::read_fields;
 pub use writing::write;

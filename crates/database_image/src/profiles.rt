@@ -38,10 +38,17 @@ pub fn profiles_from(alloc: Global, categories: &[Id], class: Id, earlier: usize
     let mut items = Vec::new(alloc);
     for _ in 0..count {
         let profile = next_profile(alloc, categories, class, earlier, &items, held, left)?;
-        held += profile.standard.items.len() + profile.conditional.items.len();
+        held += entries_in(&profile);
         items.push(profile)?;
     }
     Ok(items)
+}
+
+/// How many entries a profile has.
+pub fn entries_in(profile: &Profile) -> usize
+    ensures { result ≡ entries_in profile.now }
+{
+    profile.standard.items.len() + profile.conditional.items.len()
 }
 
 /// A profile of a class behind others; all before have so many entries.

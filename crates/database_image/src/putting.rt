@@ -1,6 +1,8 @@
 //! Single fields, written.
 ghost use Rattle.std.specs.Prelude.{◌≡◌, ◌≤◌, ◌<◌, ◌+◌, ◌*◌, ◌^◌, ◌/◌, ◌%◌, ◌++◌, ◌∷◌, [], OnOk};
+ghost use Rattle.std.specs.Int.{bit_at};
 ghost use Rattle.byteorder.specs.Endian.{big_bytes, little_bytes};
+ghost use Rattle.access_levels.specs.Level.{level_rank};
 ghost use Rattle.database_image.specs.Fields.{filled, bit, text_or_none, who_text};
 ghost use Rattle.database_image.specs.Description.{audit_rank, flag_rank, log_rank};
 
@@ -69,7 +71,7 @@ pub fn bit(value: u8, set: bool) -> u8
 }
 
 /// The rank of a level from which on accesses are logged, 0 where none are.
-pub fn audit_rank(level: Option<Level>) -> u8
+fn audit_rank(level: Option<Level>) -> u8
     ensures { result ≡ audit_rank level }
 {
     match level {
@@ -92,7 +94,7 @@ pub fn log_rank(log: LogOption) -> u8
 }
 
 /// 1 for yes, 0 for no.
-pub fn flag_rank(flag: bool) -> u8
+fn flag_rank(flag: bool) -> u8
     ensures { result ≡ flag_rank flag }
 {
     if flag { 1 } else { 0 }
@@ -115,9 +117,46 @@ fn set_byte(set: &Categories, place: u8) -> u8
 {
     let mut byte = 0;
     for n in 0..8u8 {
-        if set.has(8 * place + n) {
-            byte += 1 << n;
-        }
+        byte += bit_of(set, 8 * place + n, n);
     }
     byte
+}
+
+/// The value that a number of the set has at that place of a byte.
+fn bit_of(set: &Categories, number: u8, place: u8) -> u8
+    requires { place < 8 }
+    ensures { result ≡ bit_at set.now number * 2 ^ place }
+{
+    if set.has(number) { 1 << place } else { 0 }
+}
+
+/// A security level, which may be any byte.
+pub fn put_level(out: &mut Vec<u8>, level: u8) -> Result<(), AllocError>
+    ensures { OnOk result (out.new.items ≡ out.old.items ++ big_bytes 1 level) }
+{
+    put_byte(out, usize::from(level))
+}
+
+/// An access level.
+pub fn put_rank(out: &mut Vec<u8>, level: Level) -> Result<(), AllocError>
+    ensures { OnOk result (out.new.items ≡ out.old.items ++ level_rank level ∷ []) }
+{
+    out.push(level.rank())?;
+    Ok(())
+}
+
+/// Yes or no.
+pub fn put_flag(out: &mut Vec<u8>, flag: bool) -> Result<(), AllocError>
+    ensures { OnOk result (out.new.items ≡ out.old.items ++ flag_rank flag ∷ []) }
+{
+    out.push(flag_rank(flag))?;
+    Ok(())
+}
+
+/// From which level on accesses are logged, if any are.
+pub fn put_audit(out: &mut Vec<u8>, level: Option<Level>) -> Result<(), AllocError>
+    ensures { OnOk result (out.new.items ≡ out.old.items ++ audit_rank level ∷ []) }
+{
+    out.push(audit_rank(level))?;
+    Ok(())
 }

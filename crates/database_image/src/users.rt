@@ -5,7 +5,7 @@ ghost use Rattle.racf_profiles.specs.declared.groups.Group.{Group};
 ghost use Rattle.racf_profiles.specs.declared.users.User.{User};
 ghost use Rattle.racf_profiles.specs.declared.users.Connect.{Connect as Connection};
 ghost use Rattle.racf_profiles.specs.Limits.{most_categories, most_groups, most_users, most_connections, most_connections_in_all};
-ghost use Rattle.racf_profiles.specs.Names.{connections};
+ghost use Rattle.racf_profiles.specs.Names.{connected_to, connections};
 ghost use Rattle.racf_profiles.specs.LawfulUsers.{is_printable};
 ghost use Rattle.database_image.specs.Reading.{Gives};
 ghost use Rattle.database_image.specs.Forms.{spelled_at, items_from, listed, number};
@@ -31,7 +31,8 @@ const MOST_CONNECTIONS_IN_ALL: usize = 200_000;
 /// The options.
 #[tactic(auto, unfolding(crate::specs::Description::options))]
 pub fn options_at(alloc: Global, left: &mut Left<'_>) -> Result<Options, ReadFault>
-    ensures { Gives (λ x. (x, left.new)) result (options.reading left.old) }
+    ensures reads { Gives (λ x. (x, left.new)) result (options.reading left.old) }
+    ensures few { IfOk result (λ x. length x.categories ≤ most_categories) }
 {
     let begin = left.len();
     let flags = byte_at(left)?;
@@ -47,7 +48,8 @@ pub fn options_at(alloc: Global, left: &mut Left<'_>) -> Result<Options, ReadFau
 
 /// The names of the categories.
 fn category_names_at(alloc: Global, left: &mut Left<'_>) -> Result<CategoryNames, ReadFault>
-    ensures { Gives (λ x. (x, left.new)) result ((listed 2 (at_most most_categories) (λ before. id (is_new before))).reading left.old) }
+    ensures reads { Gives (λ x. (x, left.new)) result ((listed 2 (at_most most_categories) (λ before. id (is_new before))).reading left.old) }
+    ensures few { IfOk result (λ x. length x ≤ most_categories) }
 {
     let begin = left.len();
     let count = short_at(left)?;
@@ -58,7 +60,8 @@ fn category_names_at(alloc: Global, left: &mut Left<'_>) -> Result<CategoryNames
 
 /// So many identifiers, no two of them equal.
 fn new_ids_from(alloc: Global, count: u32, left: &mut Left<'_>) -> Result<Vec<Id>, ReadFault>
-    ensures { Gives (λ x. (x.items, left.new)) result (items_from (λ before. id (is_new before)) count [] left.old) }
+    ensures reads { Gives (λ x. (x.items, left.new)) result (items_from (λ before. id (is_new before)) count [] left.old) }
+    ensures count { IfOk result (λ x. length x.items ≡ count) }
 {
     let mut names = Names::new(alloc);
     let mut items = Vec::new(alloc);
@@ -163,10 +166,17 @@ fn users_from(alloc: Global, categories: usize, count: u32, left: &mut Left<'_>)
     let mut items = Vec::new(alloc);
     for _ in 0..count {
         let user = next_user(alloc, categories, &items, &mut names, connections, left)?;
-        connections += user.connects.items.len();
+        connections += connections_of(&user);
         items.push(user)?;
     }
     Ok(items)
+}
+
+/// How many connections a user has.
+fn connections_of(user: &User) -> usize
+    ensures { result ≡ connected_to user.now }
+{
+    user.connects.items.len()
 }
 
 /// A user behind others, who have so many connections.

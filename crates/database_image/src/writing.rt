@@ -1,17 +1,18 @@
 //! Rows, written as their image.
-ghost use Rattle.std.specs.Prelude.{◌≡◌, ◌≤◌, ◌++◌, ◌∷◌, [], List, ℕ, OnOk, IfOk};
+ghost use Rattle.std.specs.Prelude.{◌≡◌, ◌≤◌, ◌++◌, ◌∷◌, [], List, ℕ, length, OnOk, IfOk};
 ghost use Rattle.std.specs.List.{flat_map};
 ghost use Rattle.byteorder.specs.Endian.{big_bytes};
 ghost use Rattle.racf_profiles.specs.declared.users.User.{User};
 ghost use Rattle.database_image.specs.Forms.{listed};
 ghost use Rattle.database_image.specs.Fields.{filled, any, at_most};
-ghost use Rattle.database_image.specs.Description.{options, group, connection, user, entry, cond_entry, member, profile, class, option_flags, attribute_flags, connect_flags, class_flags};
+ghost use Rattle.database_image.specs.Description.{options, group, connection, user, entry, cond_entry, member, profile, class, option_flags, attributes, attribute_flags, connect_flags, class_flags};
 ghost use Rattle.database_image.specs.Image.{image_of};
 
 use crate::fields::port_rank;
-use crate::putting::{audit_rank, bit, flag_rank, log_rank, put_byte, put_id, put_id_or_none, put_set, put_short, put_who, put_word};
-use access_levels::{Attributes, CondEntry, Entry, Id};
-use racf_profiles::{ClassRow, Connect, Group, Member, NoMemory, Options, Profile, Rows, User};
+use crate::putting::{bit, log_rank, put_audit, put_flag, put_level, put_rank, put_byte, put_id, put_id_or_none, put_set, put_short, put_who, put_word};
+use access_levels::{Attributes, CondEntry, Entry, Id, Text};
+use generic_names::Pattern;
+use racf_profiles::{ClassRow, Classes, CondEntries, Connect, Connects, Entries, Group, Member, Members, NoMemory, Options, Profile, Rows, User};
 use std::alloc::Global;
 
 /// The image of rows.
@@ -36,12 +37,14 @@ pub fn write(alloc: Global, rows: &Rows) -> Result<Vec<u8>, NoMemory>
 
 /// The options.
 #[tactic(auto, unfolding(crate::specs::Description::options))]
-fn put_options(out: &mut Vec<u8>, options: &Options) -> Result<(), NoMemory>
-    ensures { OnOk result (out.new.items ≡ out.old.items ++ options.bytes options.now) }
+fn put_options(out: &mut Vec<u8>, row: &Options) -> Result<(), NoMemory>
+    ensures { OnOk result (out.new.items ≡ out.old.items ++ options.bytes row.now) }
 {
-    out.push(bit(1, options.grplist) + bit(2, options.protectall) + bit(4, options.mls))?;
-    put_short(out, options.categories.items.len())?;
-    put_ids(out, &options.categories.items)
+    let flags = bit(1, row.grplist) + bit(2, row.protectall) + bit(4, row.mls);
+    put_byte(out, usize::from(flags))?;
+    put_short(out, row.categories.items.len())?;
+    put_ids(out, &row.categories.items)?;
+    Ok(())
 }
 
 /// Identifiers.
@@ -71,7 +74,8 @@ fn put_group(out: &mut Vec<u8>, row: &Group) -> Result<(), NoMemory>
 {
     put_id(out, &row.id)?;
     put_id_or_none(out, &row.superior)?;
-    put_id(out, &row.owner)
+    put_id(out, &row.owner)?;
+    Ok(())
 }
 
 /// Users.
@@ -92,16 +96,49 @@ fn put_user(out: &mut Vec<u8>, row: &User) -> Result<(), NoMemory>
     put_id(out, &row.id)?;
     put_id(out, &row.default_group)?;
     put_id(out, &row.owner)?;
-    put_byte(out, row.name.bytes().len())?;
-    out.extend_from_slice(row.name.bytes())?;
-    out.push(attribute_flags(&row.attributes))?;
-    out.push(row.level)?;
+    put_name(out, &row.name)?;
+    put_attributes(out, &row.attributes)?;
+    put_level(out, row.level)?;
     put_set(out, &row.categories)?;
     put_id_or_none(out, &row.label)?;
-    put_byte(out, row.classes.items.len())?;
-    put_ids(out, &row.classes.items)?;
-    put_short(out, row.connects.items.len())?;
-    put_connects(out, &row.connects.items)
+    put_user_classes(out, &row.classes)?;
+    put_user_connects(out, &row.connects)?;
+    Ok(())
+}
+
+/// A user's name.
+fn put_name(out: &mut Vec<u8>, name: &Text) -> Result<(), NoMemory>
+    ensures { OnOk result (out.new.items ≡ out.old.items ++ (big_bytes 1 (length name.now) ++ name.now)) }
+{
+    put_byte(out, name.bytes().len())?;
+    out.extend_from_slice(name.bytes())?;
+    Ok(())
+}
+
+/// A user's attributes.
+fn put_attributes(out: &mut Vec<u8>, row: &Attributes) -> Result<(), NoMemory>
+    ensures { OnOk result (out.new.items ≡ out.old.items ++ attributes.bytes row.now) }
+{
+    put_byte(out, usize::from(attribute_flags(row)))?;
+    Ok(())
+}
+
+/// The classes in which a user may define profiles.
+fn put_user_classes(out: &mut Vec<u8>, classes: &Classes) -> Result<(), NoMemory>
+    ensures { OnOk result (out.new.items ≡ out.old.items ++ (big_bytes 1 (length classes.now) ++ flat_map filled classes.now)) }
+{
+    put_byte(out, classes.items.len())?;
+    put_ids(out, &classes.items)?;
+    Ok(())
+}
+
+/// A user's connections.
+fn put_user_connects(out: &mut Vec<u8>, connects: &Connects) -> Result<(), NoMemory>
+    ensures { OnOk result (out.new.items ≡ out.old.items ++ (big_bytes 2 (length connects.now) ++ flat_map (connection []).bytes connects.now)) }
+{
+    put_short(out, connects.items.len())?;
+    put_connects(out, &connects.items)?;
+    Ok(())
 }
 
 /// A user's attributes as one number.
@@ -156,7 +193,8 @@ fn put_class(out: &mut Vec<u8>, row: &ClassRow) -> Result<(), NoMemory>
     out.push(bit(1, row.active) + bit(2, row.listed) + bit(4, row.global))?;
     out.push(log_rank(row.log))?;
     put_word(out, row.profiles.items.len())?;
-    put_profiles(out, &row.profiles.items)
+    put_profiles(out, &row.profiles.items)?;
+    Ok(())
 }
 
 /// Profiles.
@@ -174,24 +212,57 @@ fn put_profiles(out: &mut Vec<u8>, profiles: &[Profile]) -> Result<(), NoMemory>
 fn put_profile(out: &mut Vec<u8>, row: &Profile) -> Result<(), NoMemory>
     ensures { OnOk result ((names : List (List ℕ)) (class : List ℕ) (entries : ℕ) → out.new.items ≡ out.old.items ++ (profile names class entries []).bytes row.now) }
 {
-    put_short(out, row.name.text().len())?;
-    out.extend_from_slice(row.name.text())?;
+    put_pattern(out, &row.name)?;
     put_id(out, &row.owner)?;
-    out.push(row.uacc.rank())?;
-    out.push(flag_rank(row.warning))?;
-    out.push(audit_rank(row.audit.success))?;
-    out.push(audit_rank(row.audit.failures))?;
-    out.push(audit_rank(row.global_audit.success))?;
-    out.push(audit_rank(row.global_audit.failures))?;
-    out.push(row.level)?;
+    put_rank(out, row.uacc)?;
+    put_flag(out, row.warning)?;
+    put_audit(out, row.audit.success)?;
+    put_audit(out, row.audit.failures)?;
+    put_audit(out, row.global_audit.success)?;
+    put_audit(out, row.global_audit.failures)?;
+    put_level(out, row.level)?;
     put_set(out, &row.categories)?;
     put_id_or_none(out, &row.label)?;
-    put_short(out, row.standard.items.len())?;
-    put_entries(out, &row.standard.items)?;
-    put_short(out, row.conditional.items.len())?;
-    put_cond_entries(out, &row.conditional.items)?;
-    put_short(out, row.members.items.len())?;
-    put_members(out, &row.members.items)
+    put_standard(out, &row.standard)?;
+    put_conditional(out, &row.conditional)?;
+    put_profile_members(out, &row.members)?;
+    Ok(())
+}
+
+/// A profile's name.
+fn put_pattern(out: &mut Vec<u8>, name: &Pattern) -> Result<(), NoMemory>
+    ensures { OnOk result (out.new.items ≡ out.old.items ++ (big_bytes 2 (length name.now.text) ++ name.now.text)) }
+{
+    put_short(out, name.text().len())?;
+    out.extend_from_slice(name.text())?;
+    Ok(())
+}
+
+/// A standard access list.
+fn put_standard(out: &mut Vec<u8>, entries: &Entries) -> Result<(), NoMemory>
+    ensures { OnOk result (out.new.items ≡ out.old.items ++ (big_bytes 2 (length entries.now) ++ flat_map (entry []).bytes entries.now)) }
+{
+    put_short(out, entries.items.len())?;
+    put_entries(out, &entries.items)?;
+    Ok(())
+}
+
+/// A conditional access list.
+fn put_conditional(out: &mut Vec<u8>, entries: &CondEntries) -> Result<(), NoMemory>
+    ensures { OnOk result (out.new.items ≡ out.old.items ++ (big_bytes 2 (length entries.now) ++ flat_map (cond_entry []).bytes entries.now)) }
+{
+    put_short(out, entries.items.len())?;
+    put_cond_entries(out, &entries.items)?;
+    Ok(())
+}
+
+/// A profile's members.
+fn put_profile_members(out: &mut Vec<u8>, members: &Members) -> Result<(), NoMemory>
+    ensures { OnOk result ((names : List (List ℕ)) (class profile : List ℕ) → out.new.items ≡ out.old.items ++ (big_bytes 2 (length members.now) ++ flat_map (member names class profile []).bytes members.now)) }
+{
+    put_short(out, members.items.len())?;
+    put_members(out, &members.items)?;
+    Ok(())
 }
 
 /// Entries.
@@ -267,7 +338,8 @@ fn put_member(out: &mut Vec<u8>, row: &Member) -> Result<(), NoMemory>
         }
         Member::Category(name) => {
             out.push(3)?;
-            put_id(out, name)
+            put_id(out, name)?;
+            Ok(())
         }
     }
 }

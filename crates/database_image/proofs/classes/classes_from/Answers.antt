@@ -15,9 +15,9 @@ returns-in_err-class c =
 
 pub loop-preserved : goal.loop-preserved
 loop-preserved c = record {
-  profiles = rw c.in_ok-push.ensures.items (omega (arith, sum_by_push (λ (class : ClassRow). length class.profiles) c.loop.items.items c.in_ok-class.class, c.loop.invariant.profiles));
-  few_profiles = c.in_ok-class.ensures.few_profiles;
-  entries = rw c.in_ok-push.ensures.items (omega (arith, sum_by_push (λ (class : ClassRow). sum_by entries_in class.profiles) c.loop.items.items c.in_ok-class.class, c.loop.invariant.entries, c.entries_of.ensures));
-  few_entries = omega (arith, c.in_ok-class.ensures.few_entries, c.entries_of.ensures);
+  profiles = rw c.in_ok-push.ensures.items (omega (arith, sum_by_push (λ (class : ClassRow). length class.profiles) c.loop.items.items c.in_ok-class.class, c.loop.invariant.profiles, c.profiles_of-profiles.ensures));
+  few_profiles = omega (arith, c.in_ok-class.ensures.few_profiles, c.profiles_of-profiles.ensures);
+  entries = rw c.in_ok-push.ensures.items (omega (arith, sum_by_push (λ (class : ClassRow). sum_by entries_in class.profiles) c.loop.items.items c.in_ok-class.class, c.loop.invariant.entries, c.entries_of-entries.ensures));
+  few_entries = omega (arith, c.in_ok-class.ensures.few_entries, c.entries_of-entries.ensures);
   read = rw c.in_ok-push.ensures.items (goes_on (class c.args.categories.now) c.args.count c.loop.counter c.loop.items.items c.loop.left c.in_ok-class.class c.next_class.new.left _ c.loop-test.true (rw (← c.deref.ensures.value) c.in_ok-class.ensures.reads) c.loop.invariant.read);
 }

@@ -14,8 +14,8 @@ returns-in_err-profile-clause-reads c =
 
 pub loop-preserved : goal.loop-preserved
 loop-preserved c = record {
-  held = rw c.in_ok-push.ensures.items (omega (arith, sum_by_push entries_in c.loop.items.items c.in_ok-profile.profile, c.loop.invariant.held));
-  few = omega (arith, c.in_ok-profile.ensures.few);
+  held = rw c.in_ok-push.ensures.items (omega (arith, sum_by_push entries_in c.loop.items.items c.in_ok-profile.profile, c.loop.invariant.held, c.entries_in-held.ensures));
+  few = omega (arith, c.in_ok-profile.ensures.few, c.entries_in-held.ensures);
   counted = rw c.in_ok-push.ensures.items (omega (arith, length-append c.loop.items.items (c.in_ok-profile.profile ∷ []), c.loop.invariant.counted));
   within = omega (arith, c.loop-test.true);
   read = rw c.in_ok-push.ensures.items (goes_on (profile c.args.categories.now c.args.class c.args.earlier) c.args.count c.loop.counter c.loop.items.items c.loop.left c.in_ok-profile.profile c.next_profile.new.left _ c.loop-test.true (rw (← c.deref.ensures.value) c.in_ok-profile.ensures.reads) c.loop.invariant.read);

@@ -16,7 +16,7 @@ returns-in_err-user c =
 pub loop-preserved : goal.loop-preserved
 loop-preserved c = record {
   noted = rw c.in_ok-push.ensures.items (c.in_ok-user.ensures.noted ∙ ap (λ (names : List (List ℕ)). names ++ c.in_ok-user.user.id ∷ []) c.loop.invariant.noted ∙ sym (map-append (λ (user : User). user.id) c.loop.items.items (c.in_ok-user.user ∷ [])));
-  counted = rw c.in_ok-push.ensures.items (omega (arith, sum_by_push connected_to c.loop.items.items c.in_ok-user.user, c.loop.invariant.counted));
-  few = c.in_ok-user.ensures.few;
+  counted = rw c.in_ok-push.ensures.items (omega (arith, sum_by_push connected_to c.loop.items.items c.in_ok-user.user, c.loop.invariant.counted, c.connections_of-connections.ensures));
+  few = omega (arith, c.in_ok-user.ensures.few, c.connections_of-connections.ensures);
   read = rw c.in_ok-push.ensures.items (goes_on (user c.args.categories) c.args.count c.loop.counter c.loop.items.items c.loop.left c.in_ok-user.user c.next_user.new.left _ c.loop-test.true (rw (← c.deref.ensures.value) c.in_ok-user.ensures.reads) c.loop.invariant.read);
 }

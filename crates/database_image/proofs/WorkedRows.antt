@@ -31,3 +31,38 @@ new-written = refl
 new-read : rows_of (with_user (first_user (codes "SYS1    ") 7 0) ++ classes) ≡ Ok new_database
 unfolding spelled_at rows_of first_pass second_pass image options group user connection class profile
 new-read = refl
+
+-- ---- faults of the first pass
+
+abbrev whole : List ℕ
+whole = with_user (first_user (codes "SYS1    ") 7 0) ++ classes
+
+empty : first_fault [] ≡ Some 0
+unfolding spelled_at rows_of first_pass second_pass image options group user connection class profile
+empty = refl
+
+unused-flag : first_fault (8 ∷ zeros 6) ≡ Some 0
+unfolding spelled_at rows_of first_pass second_pass image options group user connection class profile
+unused-flag = refl
+
+byte-behind : first_fault (whole ++ 0 ∷ []) ≡ Some 313
+unfolding spelled_at rows_of first_pass second_pass image options group user connection class profile
+byte-behind = refl
+
+turned-count : first_fault (zeros 3 ++ 1 ∷ zeros 3) ≡ Some 3
+unfolding spelled_at rows_of first_pass second_pass image options group user connection class profile
+turned-count = refl
+
+-- ---- and of the second, which comes behind the first
+
+other-default : first_fault (with_user (first_user (codes "SYS2    ") 7 0) ++ classes) ≡ Some 43
+unfolding spelled_at rows_of first_pass second_pass image options group user connection class profile
+other-default = refl
+
+nobody-special : first_fault (with_user (first_user (codes "SYS1    ") 23 0) ++ classes) ≡ Some 31
+unfolding spelled_at rows_of first_pass second_pass image options group user connection class profile
+nobody-special = refl
+
+first-pass-first : first_fault (with_user (first_user (codes "SYS2    ") 71 0) ++ classes) ≡ Some 60
+unfolding spelled_at rows_of first_pass second_pass image options group user connection class profile
+first-pass-first = refl

@@ -1,16 +1,14 @@
 -- The forms of the image are exact.
-use Rattle.std.proofs.Common.{◌≡◌, ℕ, zero, suc, ◌+◌, ◌*◌, ◌/◌, ◌%◌, ◌^◌, ◌<◌, Bool, true, false, List, [], ◌∷◌, ◌++◌, length, map, Option, Some, None, refl, sym, ap, ◌∙◌, arith, ltb-true}
+use Rattle.std.proofs.Common.{◌≡◌, ℕ, zero, suc, ◌+◌, ◌*◌, ◌/◌, ◌%◌, ◌^◌, ◌<◌, Bool, true, false, List, [], ◌∷◌, ◌++◌, length, map, Option, refl, sym, ap, ◌∙◌, arith, ltb-true}
 use Rattle.std.proofs.lemmas.Bool.{ne_eqb}
 use Rattle.std.specs.Prelude.{nat_lt, nat_le, ◌&&◌, ◌==◌, IsTrue, bytes_eq}
 use Rattle.std.specs.List.{list_any, sum_by}
 use Rattle.access_levels.specs.Level.{level_rank, levels, authority_rank, authorities, port_classes}
-use Rattle.access_levels.specs.declared.levels.Level.{Level}
 use Rattle.access_levels.specs.declared.entries.Who.{Who}
 use Rattle.access_levels.specs.declared.entries.Attributes.{Attributes}
 use Rattle.access_levels.specs.declared.entries.Entry.{Entry}
 use Rattle.access_levels.specs.declared.entries.CondEntry.{CondEntry}
 use Rattle.generic_names.specs.Faults.{longest}
-use Rattle.generic_names.specs.Spelled.{Spelled}
 use Rattle.racf_profiles.specs.declared.users.User.{User}
 use Rattle.racf_profiles.specs.declared.users.Connect.{Connect}
 use Rattle.racf_profiles.specs.declared.groups.Group.{Group}
@@ -25,9 +23,9 @@ use Rattle.racf_profiles.specs.Names.{connections}
 use Rattle.racf_profiles.specs.Counts.{profile_count, entry_count, entries_in}
 use Rattle.racf_profiles.specs.Limits.{most_users, most_groups, most_connections, most_connections_in_all, most_class_profiles, most_profiles, most_list_entries, most_entries_in_all, most_members, most_categories}
 use Rattle.racf_profiles.specs.LawfulProfiles.{kind_in, member_name}
-use Rattle.database_image.specs.Forms.{Form, Spelling, Part, the, followed, done, field, number, number_spelling, listed}
+use Rattle.database_image.specs.Forms.{Form, Spelling, the, followed, done, field, number, number_spelling, listed}
 use Rattle.database_image.specs.Fields.{any, below, at_most, id_text, group_text, itself, text_or_none, unless_blank, who_text, who_of, filled_spelling, rank_spelling, set_spelling, text_spelling, bit, is_set, is_new}
-use Rattle.database_image.specs.Description.{within, text, option_flags, options, is_superior_of, group, attribute_flags, attributes_of, attributes, connect_flags, connection, printable, user, spelled_text, pattern_in, member_in, is_pattern_at, audit_rank, audit_levels, flag_rank, entry, entry_key, port_rank, cond_key, cond_entry, cond_entry_key, member_kind, is_kind_in, resources_of, level_of_member, number_of_member, is_new_member, member_of_kind, member, profile, class_flags, are_class_flags, is_class_at, log_rank, log_options, class, image}
+use Rattle.database_image.specs.Description.{within, option_flags, options, is_superior_of, group, attribute_flags, attributes_of, attributes, connect_flags, connection, printable, user, spelled_text, pattern_in, member_in, is_pattern_at, audit_rank, audit_levels, flag_rank, entry, entry_key, port_rank, cond_key, cond_entry, cond_entry_key, member_kind, is_kind_in, resources_of, level_of_member, number_of_member, is_new_member, member_of_kind, member, profile, class_flags, are_class_flags, is_class_at, log_rank, log_options, class, image}
 use Rattle.database_image.proofs.Exact.{IsExact, IsUnique, IsSteady, exact-field, exact-followed, exact-done, exact-listed}
 use Rattle.database_image.proofs.Spellings.{IsTextOf, unique-1, unique-2, unique-4, unique-filled, unique-rank, unique-set, unique-text, id-own, group-own, blank-own, who-own, printable-own, pattern-own, member-own}
 
@@ -116,9 +114,9 @@ options_ =
     (λ k x f h. ap (λ (o : Options). o.categories) h))
     (λ k x f h. ap (λ (o : Options). option_flags o) h.1 ∙ flags-3 k (lt-of k 8 f.1))
 
-pub exact-options : IsExact (options )
+pub exact-options : IsExact (options)
 unfolding options
-exact-options  = (options_ ).exact
+exact-options = (options_).exact
 
 -- ---- group
 
@@ -144,9 +142,9 @@ attributes_ =
     done_ (attributes_of flags))
     (λ k x f h. ap (attribute_flags) h ∙ flags-6 k (lt-of k 64 f.1))
 
-pub exact-attributes : IsExact (attributes )
+pub exact-attributes : IsExact (attributes)
 unfolding attributes
-exact-attributes  = (attributes_ ).exact
+exact-attributes = (attributes_).exact
 
 -- ---- connection
 
@@ -388,7 +386,6 @@ image_ =
     (λ k x f h. ap (λ (r : Rows). r.groups) h.1.1))
     (λ k x f h. ap (λ (r : Rows). r.options) h.1.1.1)
 
-pub exact-image : IsExact (image )
+pub exact-image : IsExact (image)
 unfolding image
-exact-image  = (image_ ).exact
-
+exact-image = (image_).exact

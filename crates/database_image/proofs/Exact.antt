@@ -1,13 +1,13 @@
 -- A form is exact: what is read is lawful and was written so, and what is lawful is read again from how it is written. Each
 -- way to make a form of others keeps this.
-use Rattle.std.proofs.Common.{◌≡◌, ℕ, zero, suc, ◌+◌, ◌-◌, ◌<◌, ◌≤◌, Bool, true, false, cond, ltb, le-ltb, List, [], ◌∷◌, ◌++◌, length, get_or, take, drop, Option, Some, None, Result, Ok, Err, refl, sym, ap, subst, ◌∙◌, append_assoc, arith, inl, inr}
+use Rattle.std.proofs.Common.{◌≡◌, ℕ, zero, suc, ◌+◌, ◌≤◌, Bool, true, false, cond, le-ltb, List, [], ◌∷◌, ◌++◌, length, take, drop, Option, Some, None, Result, Ok, Err, refl, sym, ap, subst, ◌∙◌, append_assoc, arith, inl, inr}
 use Rattle.std.specs.Prelude.{IsTrue, nat_lt}
 use Rattle.std.specs.List.{flat_map}
 use Rattle.std.proofs.lemmas.Bool.{cases_lt, ltb-false}
 use Rattle.std.proofs.lemmas.List.{take_at, drop_at, take-append-drop, length-append, length-take, get_or-drop, get_or-take, get_or_past, append-nil}
 use Rattle.byteorder.specs.Endian.{big_bytes}
 use Rattle.database_image.specs.Reading.{AreBytes, Reading, ◌>>=◌, where_lawful}
-use Rattle.database_image.specs.Forms.{Form, Spelling, IsSpelled, valued, spelled_at, field, number, Part, the, followed, done, items_from, ItemsFit, listed}
+use Rattle.database_image.specs.Forms.{Form, Spelling, IsSpelled, valued, spelled_at, field, number, Part, followed, done, items_from, ItemsFit, listed}
 
 pub AreBytes-drop : (n : ℕ) (bytes : List ℕ) → AreBytes bytes → AreBytes (drop n bytes)
 AreBytes-drop n bytes h i = rw get_or-drop (h (n + i))

@@ -1,8 +1,8 @@
 -- Images are read as the rows that they are written for.
-use Rattle.std.proofs.Common.{◌≡◌, ℕ, ◌-◌, List, [], ◌∷◌, ◌++◌, length, Option, Some, None, Result, Ok, Err, refl, sym, ap, subst, ◌∙◌}
+use Rattle.std.proofs.Common.{◌≡◌, ℕ, List, [], ◌∷◌, Option, Some, None, Result, Ok, Err, refl, sym, ap, subst, ◌∙◌}
 use Rattle.std.proofs.lemmas.List.{append-nil}
 use Rattle.racf_profiles.specs.declared.rows.Rows.{Rows}
-use Rattle.database_image.specs.Reading.{AreBytes, Reading, ◌>>=◌}
+use Rattle.database_image.specs.Reading.{AreBytes, ◌>>=◌}
 use Rattle.database_image.specs.Description.{image}
 use Rattle.database_image.specs.Facts.{facts, first_broken}
 use Rattle.database_image.specs.Image.{image_of, unless_more, from_beginning, first_pass, unless_broken, second_pass, rows_of, IsStored}

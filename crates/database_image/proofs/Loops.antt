@@ -1,8 +1,8 @@
 -- Items read one behind another, as loops do.
-use Rattle.std.proofs.Common.{◌≡◌, ℕ, zero, suc, ◌+◌, ◌-◌, ◌<◌, ◌≤◌, List, [], ◌∷◌, ◌++◌, Result, Ok, Err, refl, sym, ap, ◌∙◌, arith}
+use Rattle.std.proofs.Common.{◌≡◌, ℕ, suc, ◌+◌, ◌-◌, ◌<◌, ◌≤◌, List, [], ◌∷◌, ◌++◌, Ok, Err, refl, sym, ◌∙◌, arith}
 use Rattle.database_image.specs.declared.faults.ReadFault.{ReadFault}
 use Rattle.database_image.specs.declared.faults.ReadFault.TheVariants as faults
-use Rattle.database_image.specs.Reading.{Reading, ◌>>=◌, Fails}
+use Rattle.database_image.specs.Reading.{Reading, Fails}
 use Rattle.database_image.specs.Forms.{Form, items_from}
 
 pub goes_on : {A : Type 0} (item : List A → Form A) (count i : ℕ) (before : List A) (left : List ℕ) (x : A) (after : List ℕ) (total : Reading (List A)) → i < count → (item before).reading left ≡ Ok (x, after)

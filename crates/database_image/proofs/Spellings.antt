@@ -1,5 +1,5 @@
 -- Each spelling of a field has one value, and each value one spelling.
-use Rattle.std.proofs.Common.{◌≡◌, ℕ, zero, suc, ◌+◌, ◌-◌, ◌*◌, ◌/◌, ◌%◌, ◌^◌, ◌<◌, ◌≤◌, Bool, true, false, cond, List, [], ◌∷◌, ◌++◌, length, get_or, Option, Some, None, Result, Ok, Err, is_ok, bytes_eq, refl, sym, ap, subst, ◌∙◌, arith}
+use Rattle.std.proofs.Common.{◌≡◌, ℕ, zero, suc, ◌+◌, ◌*◌, ◌/◌, ◌%◌, ◌^◌, ◌<◌, Bool, true, false, cond, List, [], ◌∷◌, length, Option, Some, None, is_ok, bytes_eq, refl, sym, ap, ◌∙◌, arith}
 use Rattle.std.specs.Prelude.{◌==◌, codes, option_map}
 use Rattle.std.specs.Int.{byte_at, bytes_low_first}
 use Rattle.std.proofs.Math.Nat.{div-div-eq-div-mul, div-one, pow-succ'}
@@ -8,17 +8,17 @@ use Rattle.std.specs.List.{find, list_all}
 use Rattle.std.specs.Result.{result_ok}
 use Rattle.std.proofs.lemmas.Bool.{eqb-true}
 use Rattle.std.proofs.lemmas.Slice.Eq.{bytes_eq-Decides}
-use Rattle.byteorder.specs.Endian.{big_bytes, big_number, little_bytes, little_number, little_from}
+use Rattle.byteorder.specs.Endian.{big_bytes, big_number, little_from}
 use Rattle.access_levels.specs.Spelling.{id_of, group_of}
 use Rattle.access_levels.specs.declared.entries.Who.{Who}
 use Rattle.access_levels.specs.declared.entries.Who.TheVariants.{Star, Named}
 use Rattle.generic_names.specs.Spelled.{Spelled}
-use Rattle.generic_names.specs.Faults.{pattern_of, member_of, unless}
+use Rattle.generic_names.specs.Faults.{unless}
 use Rattle.generic_names.specs.declared.fault.NameFault.{NameFault}
 use Rattle.racf_profiles.specs.LawfulProfiles.{kind_in}
 use Rattle.racf_profiles.specs.LawfulUsers.{is_printable}
-use Rattle.database_image.specs.Forms.{Spelling, number_spelling}
-use Rattle.database_image.specs.Fields.{filled, front, text_in, of_text, filled_spelling, id_text, group_text, itself, text_or_none, unless_blank, who_text, who_of, rank_spelling, set_spelling, text_spelling}
+use Rattle.database_image.specs.Forms.{number_spelling}
+use Rattle.database_image.specs.Fields.{filled, front, of_text, filled_spelling, id_text, group_text, itself, text_or_none, unless_blank, who_text, who_of, rank_spelling, set_spelling, text_spelling}
 use Rattle.database_image.specs.Description.{printable, pattern_in, member_in, spelled_text}
 use Rattle.database_image.specs.Reading.{AreBytes}
 use Rattle.database_image.proofs.Exact.{IsUnique}

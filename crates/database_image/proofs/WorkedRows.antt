@@ -4,7 +4,7 @@ use Rattle.std.specs.Prelude.{codes}
 use Rattle.racf_profiles.specs.NewDatabase.{new_database}
 use Rattle.database_image.specs.Description.{options, group, connection, user, profile, class, image}
 use Rattle.database_image.specs.Forms.{spelled_at}
-use Rattle.database_image.specs.Image.{image_of, first_pass, second_pass, rows_of}
+use Rattle.database_image.specs.Image.{image_of, first_pass, second_pass, rows_of, first_fault}
 
 abbrev zeros : ℕ → List ℕ
 zeros count = replicate count 0

@@ -23,6 +23,7 @@ use std::alloc::Global;
 
 /// The most profiles of a class, and of all.
 const MOST_CLASS_PROFILES: u32 = 50_000;
+
 const MOST_PROFILES: usize = 100_000;
 
 /// The rows of an image.
@@ -34,7 +35,12 @@ pub fn rows_at(alloc: Global, left: &mut Left<'_>) -> Result<Rows, ReadFault>
     let groups = groups_at(alloc, left)?;
     let users = users_at(alloc, options.categories.items.len(), left)?;
     let classes = classes_at(alloc, options.categories.items.as_slice(), left)?;
-    Ok(Rows { users, groups, classes, options })
+    Ok(Rows {
+        users,
+        groups,
+        classes,
+        options,
+    })
 }
 
 /// The classes.
@@ -50,7 +56,12 @@ fn classes_at(alloc: Global, categories: &[Id], left: &mut Left<'_>) -> Result<C
 }
 
 /// So many classes.
-fn classes_from(alloc: Global, categories: &[Id], count: u32, left: &mut Left<'_>) -> Result<Vec<ClassRow>, ReadFault>
+fn classes_from(
+    alloc: Global,
+    categories: &[Id],
+    count: u32,
+    left: &mut Left<'_>,
+) -> Result<Vec<ClassRow>, ReadFault>
     requires categories { length categories.now ≤ 256 }
     ensures { Gives (λ x. (x.items, left.new)) result (items_from (class categories.now) count [] left.old) }
 {
@@ -177,7 +188,10 @@ fn profiles_at(
 {
     let begin = left.len();
     let count = word_at(left)?;
-    require(count <= MOST_CLASS_PROFILES && before + count as usize <= MOST_PROFILES, begin)?;
+    require(
+        count <= MOST_CLASS_PROFILES && before + count as usize <= MOST_PROFILES,
+        begin,
+    )?;
     let items = profiles_from(alloc, categories, class, entries, count, left)?;
     Ok(Profiles { items })
 }

@@ -17,6 +17,7 @@ use std::alloc::{AllocError, Global};
 
 /// The most entries of an access list, and of all.
 const MOST_LIST_ENTRIES: u16 = 1_000;
+
 const MOST_ENTRIES_IN_ALL: usize = 1_000_000;
 
 /// A standard access list, where there are so many entries before.
@@ -31,7 +32,11 @@ pub fn entries_at(alloc: Global, before: usize, left: &mut Left<'_>) -> Result<E
 }
 
 /// A conditional access list, where there are so many entries before.
-pub fn cond_entries_at(alloc: Global, before: usize, left: &mut Left<'_>) -> Result<CondEntries, ReadFault>
+pub fn cond_entries_at(
+    alloc: Global,
+    before: usize,
+    left: &mut Left<'_>,
+) -> Result<CondEntries, ReadFault>
     requires { before ≤ most_entries_in_all }
     ensures reads { Gives (λ x. (x, left.new)) result ((listed 2 (within most_list_entries most_entries_in_all before) cond_entry).reading left.old) }
     ensures few { IfOk result (λ x. before + length x ≤ most_entries_in_all) }
@@ -49,7 +54,10 @@ fn entry_count_at(before: usize, left: &mut Left<'_>) -> Result<u32, ReadFault>
 {
     let begin = left.len();
     let count = short_at(left)?;
-    require(count <= MOST_LIST_ENTRIES && before + usize::from(count) <= MOST_ENTRIES_IN_ALL, begin)?;
+    require(
+        count <= MOST_LIST_ENTRIES && before + usize::from(count) <= MOST_ENTRIES_IN_ALL,
+        begin,
+    )?;
     Ok(u32::from(count))
 }
 
@@ -93,7 +101,11 @@ fn new_who_at(names: &mut Names, left: &mut Left<'_>) -> Result<Who, ReadFault>
 }
 
 /// So many conditional entries.
-fn cond_entries_from(alloc: Global, count: u32, left: &mut Left<'_>) -> Result<Vec<CondEntry>, ReadFault>
+fn cond_entries_from(
+    alloc: Global,
+    count: u32,
+    left: &mut Left<'_>,
+) -> Result<Vec<CondEntry>, ReadFault>
     ensures reads { Gives (λ x. (x.items, left.new)) result (items_from cond_entry count [] left.old) }
     ensures count { IfOk result (λ x. length x.items ≡ count) }
 {
@@ -108,7 +120,12 @@ fn cond_entries_from(alloc: Global, count: u32, left: &mut Left<'_>) -> Result<V
 
 /// A conditional entry behind others.
 #[tactic(auto, unfolding(crate::specs::Description::cond_entry))]
-fn next_cond_entry(alloc: Global, before: &[CondEntry], names: &mut Names, left: &mut Left<'_>) -> Result<CondEntry, ReadFault>
+fn next_cond_entry(
+    alloc: Global,
+    before: &[CondEntry],
+    names: &mut Names,
+    left: &mut Left<'_>,
+) -> Result<CondEntry, ReadFault>
     requires { names.old ≡ map cond_entry_key before.now }
     ensures reads { Gives (λ x. (x, left.new)) result ((cond_entry before.now).reading left.old) }
     ensures noted { IfOk result (λ x. names.new ≡ names.old ++ cond_entry_key x ∷ []) }
@@ -118,11 +135,21 @@ fn next_cond_entry(alloc: Global, before: &[CondEntry], names: &mut Names, left:
     let name = id_at(left)?;
     let who = new_who_under(alloc, class, name, names, left)?;
     let level = level_at(left)?;
-    Ok(CondEntry { condition: Condition { class, name }, who, level })
+    Ok(CondEntry {
+        condition: Condition { class, name },
+        who,
+        level,
+    })
 }
 
 /// Whom an entry speaks of under this condition, who weren't noted under it.
-fn new_who_under(alloc: Global, class: PortClass, port: Id, names: &mut Names, left: &mut Left<'_>) -> Result<Who, ReadFault>
+fn new_who_under(
+    alloc: Global,
+    class: PortClass,
+    port: Id,
+    names: &mut Names,
+    left: &mut Left<'_>,
+) -> Result<Who, ReadFault>
     ensures reads { Gives (λ x. (x, left.new)) result ((who (λ who. is_new names.old (cond_key class port who))).reading left.old) }
     ensures noted { IfOk result (λ x. names.new ≡ names.old ++ cond_key class port x ∷ []) }
 {

@@ -232,7 +232,10 @@ pub fn level_at(left: &mut Left<'_>) -> Result<Level, ReadFault>
 fn level_of_rank(rank: u8) -> Option<Level>
     ensures { result ≡ find (λ level. level_rank level == rank) levels }
 {
-    Level::ALL.iter().copied().find(|level| level.rank() == rank)
+    Level::ALL
+        .iter()
+        .copied()
+        .find(|level| level.rank() == rank)
 }
 
 /// From which level on accesses are logged, if any are.
@@ -287,7 +290,10 @@ pub fn authority_at(left: &mut Left<'_>) -> Result<GroupAuthority, ReadFault>
 fn authority_of_rank(rank: u8) -> Option<GroupAuthority>
     ensures { result ≡ find (λ authority. authority_rank authority == rank) authorities }
 {
-    GroupAuthority::ALL.iter().copied().find(|authority| authority.rank() == rank)
+    GroupAuthority::ALL
+        .iter()
+        .copied()
+        .find(|authority| authority.rank() == rank)
 }
 
 /// A class of ports of entry, by its number.
@@ -306,7 +312,10 @@ pub fn port_at(left: &mut Left<'_>) -> Result<PortClass, ReadFault>
 fn port_of_rank(rank: u8) -> Option<PortClass>
     ensures { result ≡ find (λ class. port_rank class == rank) port_classes }
 {
-    PortClass::ALL.iter().copied().find(|class| port_rank(*class) == rank)
+    PortClass::ALL
+        .iter()
+        .copied()
+        .find(|class| port_rank(*class) == rank)
 }
 
 /// The number of a class of ports of entry.

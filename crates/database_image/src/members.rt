@@ -25,18 +25,38 @@ use std::alloc::Global;
 const MOST_MEMBERS: u16 = 1_000;
 
 /// The members of a profile of this class and name.
-pub fn members_at(alloc: Global, categories: &[Id], class: Id, profile: &Pattern, left: &mut Left<'_>) -> Result<Members, ReadFault>
+pub fn members_at(
+    alloc: Global,
+    categories: &[Id],
+    class: Id,
+    profile: &Pattern,
+    left: &mut Left<'_>,
+) -> Result<Members, ReadFault>
     ensures { Gives (λ x. (x, left.new)) result ((listed 2 (at_most most_members) (member categories.now class profile.now.text)).reading left.old) }
 {
     let begin = left.len();
     let count = short_at(left)?;
     require(count <= MOST_MEMBERS, begin)?;
-    let items = members_from(alloc, categories, class, profile.text(), u32::from(count), left)?;
+    let items = members_from(
+        alloc,
+        categories,
+        class,
+        profile.text(),
+        u32::from(count),
+        left,
+    )?;
     Ok(Members { items })
 }
 
 /// So many members.
-fn members_from(alloc: Global, categories: &[Id], class: Id, profile: &[u8], count: u32, left: &mut Left<'_>) -> Result<Vec<Member>, ReadFault>
+fn members_from(
+    alloc: Global,
+    categories: &[Id],
+    class: Id,
+    profile: &[u8],
+    count: u32,
+    left: &mut Left<'_>,
+) -> Result<Vec<Member>, ReadFault>
     ensures { Gives (λ x. (x.items, left.new)) result (items_from (member categories.now class profile.now) count [] left.old) }
 {
     let mut names = Names::new(alloc);
@@ -50,7 +70,14 @@ fn members_from(alloc: Global, categories: &[Id], class: Id, profile: &[u8], cou
 
 /// A member behind others.
 #[tactic(auto, unfolding(crate::specs::Description::member))]
-fn next_member(categories: &[Id], class: Id, profile: &[u8], before: &[Member], names: &mut Names, left: &mut Left<'_>) -> Result<Member, ReadFault>
+fn next_member(
+    categories: &[Id],
+    class: Id,
+    profile: &[u8],
+    before: &[Member],
+    names: &mut Names,
+    left: &mut Left<'_>,
+) -> Result<Member, ReadFault>
     requires { names.old ≡ map member_name before.now }
     ensures reads { Gives (λ x. (x, left.new)) result ((member categories.now class profile.now before.now).reading left.old) }
     ensures noted { IfOk result (λ x. names.new ≡ names.old ++ member_name x ∷ []) }
@@ -76,7 +103,12 @@ fn is_kind_in(class: Id, profile: &[u8], kind: u8) -> bool
 }
 
 /// Resources, and the access that everyone has to them.
-fn access_member(profile: &[u8], before: &[Member], names: &mut Names, left: &mut Left<'_>) -> Result<Member, ReadFault>
+fn access_member(
+    profile: &[u8],
+    before: &[Member],
+    names: &mut Names,
+    left: &mut Left<'_>,
+) -> Result<Member, ReadFault>
     requires { names.old ≡ map member_name before.now }
     ensures reads { Gives (λ x. (x, left.new)) result ((access_member profile.now before.now).reading left.old) }
     ensures noted { IfOk result (λ x. names.new ≡ names.old ++ member_name x ∷ []) }
@@ -88,13 +120,20 @@ fn access_member(profile: &[u8], before: &[Member], names: &mut Names, left: &mu
 }
 
 /// The name of resources in a profile of that name, which wasn't noted.
-fn resources_at(profile: &[u8], names: &mut Names, left: &mut Left<'_>) -> Result<MemberName, ReadFault>
+fn resources_at(
+    profile: &[u8],
+    names: &mut Names,
+    left: &mut Left<'_>,
+) -> Result<MemberName, ReadFault>
     ensures reads { Gives (λ x. (x, left.new)) result ((text 2 (λ count. nat_le 1 count && nat_le count (longest (kind_in profile.now))) spelled_text (member_in profile.now) (λ name. is_new names.old name.text)).reading left.old) }
     ensures noted { IfOk result (λ x. names.new ≡ names.old ++ x.text ∷ []) }
 {
     let begin = left.len();
     let count = short_at(left)?;
-    require(1 <= count && count <= longest(kind_of_class(profile)), begin)?;
+    require(
+        1 <= count && count <= longest(kind_of_class(profile)),
+        begin,
+    )?;
     let begin = left.len();
     let name = member_name_at(profile, usize::from(count), left)?;
     let new = names.note(name.text())?;
@@ -104,7 +143,11 @@ fn resources_at(profile: &[u8], names: &mut Names, left: &mut Left<'_>) -> Resul
 
 /// The name of a member, of so many bytes.
 #[tactic(auto, unfolding(crate::specs::Forms::spelled_at, crate::specs::Description::member_in))]
-fn member_name_at(profile: &[u8], count: usize, left: &mut Left<'_>) -> Result<MemberName, ReadFault>
+fn member_name_at(
+    profile: &[u8],
+    count: usize,
+    left: &mut Left<'_>,
+) -> Result<MemberName, ReadFault>
     ensures { Gives (λ x. (x, left.new)) result (spelled_at (text_spelling spelled_text (member_in profile.now) count) left.old) }
 {
     let begin = left.len();
@@ -116,7 +159,11 @@ fn member_name_at(profile: &[u8], count: usize, left: &mut Left<'_>) -> Result<M
 }
 
 /// A security level and its number.
-fn level_member(before: &[Member], names: &mut Names, left: &mut Left<'_>) -> Result<Member, ReadFault>
+fn level_member(
+    before: &[Member],
+    names: &mut Names,
+    left: &mut Left<'_>,
+) -> Result<Member, ReadFault>
     requires { names.old ≡ map member_name before.now }
     ensures reads { Gives (λ x. (x, left.new)) result ((level_member before.now).reading left.old) }
     ensures noted { IfOk result (λ x. names.new ≡ names.old ++ member_name x ∷ []) }
@@ -133,7 +180,12 @@ fn level_member(before: &[Member], names: &mut Names, left: &mut Left<'_>) -> Re
 }
 
 /// A category, one of those ever defined.
-fn category_member(categories: &[Id], before: &[Member], names: &mut Names, left: &mut Left<'_>) -> Result<Member, ReadFault>
+fn category_member(
+    categories: &[Id],
+    before: &[Member],
+    names: &mut Names,
+    left: &mut Left<'_>,
+) -> Result<Member, ReadFault>
     requires { names.old ≡ map member_name before.now }
     ensures reads { Gives (λ x. (x, left.new)) result ((category_member categories.now before.now).reading left.old) }
     ensures noted { IfOk result (λ x. names.new ≡ names.old ++ member_name x ∷ []) }

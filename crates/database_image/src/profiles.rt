@@ -27,7 +27,14 @@ use racf_profiles::{AuditRule, ClassFacts, NameForm, Profile, class_facts, kind_
 use std::alloc::Global;
 
 /// So many profiles of a class; the profiles of the classes before have so many entries.
-pub fn profiles_from(alloc: Global, categories: &[Id], class: Id, earlier: usize, count: u32, left: &mut Left<'_>) -> Result<Vec<Profile>, ReadFault>
+pub fn profiles_from(
+    alloc: Global,
+    categories: &[Id],
+    class: Id,
+    earlier: usize,
+    count: u32,
+    left: &mut Left<'_>,
+) -> Result<Vec<Profile>, ReadFault>
     requires categories { length categories.now ≤ 256 }
     requires few { earlier ≤ most_entries_in_all }
     ensures reads { Gives (λ x. (x.items, left.new)) result (items_from (profile categories.now class earlier) count [] left.old) }
@@ -93,7 +100,10 @@ fn next_profile(
         categories: set,
         label,
         audit: AuditRule { success, failures },
-        global_audit: AuditRule { success: global_success, failures: global_failures },
+        global_audit: AuditRule {
+            success: global_success,
+            failures: global_failures,
+        },
         members,
     })
 }
@@ -168,7 +178,8 @@ fn is_named_by(names: NameForm, text: &[u8]) -> bool
     match names {
         NameForm::DataSet => Id::read(first_qualifier(text)).is_ok(),
         NameForm::General => true,
-        NameForm::LevelOrCategory => text == b"SECLEVEL".as_slice() || text == b"CATEGORY".as_slice(),
+        NameForm::LevelOrCategory => text == b"SECLEVEL".as_slice()
+            || text == b"CATEGORY".as_slice(),
         NameForm::Identifier => Id::read(text).is_ok(),
         NameForm::Class => Id::read(text).is_ok(),
     }

@@ -14,18 +14,26 @@ ghost use Rattle.database_image.specs.Description.{within, text, printable, is_s
 
 use crate::categories::defined_at;
 use crate::faults::ReadFault;
-use crate::fields::{authority_at, byte_at, group_at, id_at, is_set, label_at, short_at, superior_at, word_at};
+use crate::fields::{
+    authority_at, byte_at, group_at, id_at, is_set, label_at, short_at, superior_at, word_at,
+};
 use crate::left::{Left, require};
 use crate::names::Names;
 use access_levels::{Attributes, Id, Text};
-use racf_profiles::{CategoryNames, Classes, Connect, Connects, Group, Groups, Options, User, Users, sys1};
+use racf_profiles::{
+    CategoryNames, Classes, Connect, Connects, Group, Groups, Options, User, Users, sys1,
+};
 use std::alloc::Global;
 
 /// The most categories that are ever defined, groups, users, and connections of a user and of all.
 const MOST_CATEGORIES: u16 = 256;
+
 const MOST_GROUPS: u32 = 8_000;
+
 const MOST_USERS: u32 = 20_000;
+
 const MOST_CONNECTIONS: u16 = 300;
+
 const MOST_CONNECTIONS_IN_ALL: usize = 200_000;
 
 /// The options.
@@ -119,7 +127,11 @@ fn next_group(before: &[Group], names: &mut Names, left: &mut Left<'_>) -> Resul
     let id = new_group_at(names, left)?;
     let superior = superior_of(id, left)?;
     let owner = id_at(left)?;
-    Ok(Group { id, superior, owner })
+    Ok(Group {
+        id,
+        superior,
+        owner,
+    })
 }
 
 /// The superior group of the group of that name.
@@ -157,7 +169,12 @@ pub fn users_at(alloc: Global, categories: usize, left: &mut Left<'_>) -> Result
 }
 
 /// So many users.
-fn users_from(alloc: Global, categories: usize, count: u32, left: &mut Left<'_>) -> Result<Vec<User>, ReadFault>
+fn users_from(
+    alloc: Global,
+    categories: usize,
+    count: u32,
+    left: &mut Left<'_>,
+) -> Result<Vec<User>, ReadFault>
     requires { categories ≤ 256 }
     ensures { Gives (λ x. (x.items, left.new)) result (items_from (user categories) count [] left.old) }
 {
@@ -181,7 +198,14 @@ fn connections_of(user: &User) -> usize
 
 /// A user behind others, who have so many connections.
 #[tactic(auto, unfolding(crate::specs::Description::user))]
-fn next_user(alloc: Global, categories: usize, before: &[User], names: &mut Names, held: usize, left: &mut Left<'_>) -> Result<User, ReadFault>
+fn next_user(
+    alloc: Global,
+    categories: usize,
+    before: &[User],
+    names: &mut Names,
+    held: usize,
+    left: &mut Left<'_>,
+) -> Result<User, ReadFault>
     requires categories { categories ≤ 256 }
     requires names { names.old ≡ map (λ (user : User). user.id) before.now }
     requires held { held ≡ connections before.now }
@@ -201,7 +225,18 @@ fn next_user(alloc: Global, categories: usize, before: &[User], names: &mut Name
     let label = label_at(left)?;
     let classes = classes_at(alloc, left)?;
     let connects = connects_at(alloc, held, left)?;
-    Ok(User { id, default_group, owner, name, attributes, classes, level, categories: set, label, connects })
+    Ok(User {
+        id,
+        default_group,
+        owner,
+        name,
+        attributes,
+        classes,
+        level,
+        categories: set,
+        label,
+        connects,
+    })
 }
 
 /// A user's name.
@@ -266,7 +301,10 @@ fn connects_at(alloc: Global, before: usize, left: &mut Left<'_>) -> Result<Conn
 {
     let begin = left.len();
     let count = short_at(left)?;
-    require(count <= MOST_CONNECTIONS && before + usize::from(count) <= MOST_CONNECTIONS_IN_ALL, begin)?;
+    require(
+        count <= MOST_CONNECTIONS && before + usize::from(count) <= MOST_CONNECTIONS_IN_ALL,
+        begin,
+    )?;
     let items = connects_from(alloc, u32::from(count), left)?;
     Ok(Connects { items })
 }
@@ -287,7 +325,11 @@ fn connects_from(alloc: Global, count: u32, left: &mut Left<'_>) -> Result<Vec<C
 
 /// A connection behind others.
 #[tactic(auto, unfolding(crate::specs::Description::connection))]
-fn next_connection(before: &[Connect], names: &mut Names, left: &mut Left<'_>) -> Result<Connect, ReadFault>
+fn next_connection(
+    before: &[Connect],
+    names: &mut Names,
+    left: &mut Left<'_>,
+) -> Result<Connect, ReadFault>
     requires { names.old ≡ map (λ (connection : Connection). connection.group) before.now }
     ensures reads { Gives (λ x. (x, left.new)) result ((connection before.now).reading left.old) }
     ensures noted { IfOk result (λ x. names.new ≡ names.old ++ x.group ∷ []) }

@@ -9,10 +9,16 @@ ghost use Rattle.database_image.specs.Description.{options, group, connection, u
 ghost use Rattle.database_image.specs.Image.{image_of};
 
 use crate::fields::port_rank;
-use crate::putting::{bit, log_rank, put_audit, put_flag, put_level, put_rank, put_byte, put_id, put_id_or_none, put_set, put_short, put_who, put_word};
+use crate::putting::{
+    bit, log_rank, put_audit, put_byte, put_flag, put_id, put_id_or_none, put_level, put_rank,
+    put_set, put_short, put_who, put_word,
+};
 use access_levels::{Attributes, CondEntry, Entry, Id, Text};
 use generic_names::Pattern;
-use racf_profiles::{ClassRow, Classes, CondEntries, Connect, Connects, Entries, Group, Member, Members, NoMemory, Options, Profile, Rows, User};
+use racf_profiles::{
+    ClassRow, Classes, CondEntries, Connect, Connects, Entries, Group, Member, Members, NoMemory,
+    Options, Profile, Rows, User,
+};
 use std::alloc::Global;
 
 /// The image of rows.
@@ -170,7 +176,9 @@ fn put_connect(out: &mut Vec<u8>, row: &Connect) -> Result<(), NoMemory>
 {
     put_id(out, &row.group)?;
     out.push(row.authority.rank())?;
-    out.push(bit(1, row.special) + bit(2, row.operations) + bit(4, row.auditor) + bit(8, row.revoked))?;
+    out.push(
+        bit(1, row.special) + bit(2, row.operations) + bit(4, row.auditor) + bit(8, row.revoked),
+    )?;
     Ok(())
 }
 

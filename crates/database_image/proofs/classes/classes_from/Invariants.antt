@@ -1,4 +1,4 @@
-use Rattle.std.proofs.Common.{◌≡◌, ◌-◌, ◌≤◌, [], length}
+use Rattle.std.proofs.Common.{◌≡◌, ◌-◌, ◌≤◌, []}
 use Rattle.racf_profiles.specs.Counts.{profile_count, entry_count}
 use Rattle.racf_profiles.specs.Limits.{most_profiles, most_entries_in_all}
 use Rattle.database_image.specs.Forms.{items_from}

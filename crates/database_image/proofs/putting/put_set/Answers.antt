@@ -1,5 +1,4 @@
-use Rattle.std.proofs.Common.{◌≡◌, ◌∷◌, ◌++◌, ◌-◌, ◌+◌, [], ℕ, suc, List, sym, ap, ◌∙◌, append_assoc, arith}
-use Rattle.std.specs.Int.{byte_at, bytes_low_first}
+use Rattle.std.proofs.Common.{◌∙◌}
 use Rattle.database_image.proofs.Sets.{one_more}
 use Rattle.database_image.proofs.putting.put_set.Goals as goal
 

@@ -1,4 +1,3 @@
-use Rattle.std.proofs.Common.{◌≡◌}
 use Rattle.database_image.proofs.Sets.{byte-grown}
 use Rattle.database_image.proofs.putting.set_byte.Goals as goal
 

@@ -1,9 +1,9 @@
-use Rattle.std.proofs.Common.{◌≡◌, ◌∷◌, ◌++◌, [], ℕ, List, map, sym, ap, ◌∙◌, arith}
+use Rattle.std.proofs.Common.{◌∷◌, ◌++◌, [], ℕ, List, sym, ap, ◌∙◌, arith}
 use Rattle.std.proofs.lemmas.Result.{err_from_is_err_and}
 use Rattle.std.proofs.lemmas.List.{map-append}
 use Rattle.std.proofs.lemmas.List.Sums.{sum_by_push}
 use Rattle.racf_profiles.specs.declared.users.User.{User}
-use Rattle.racf_profiles.specs.Names.{connected_to, connections}
+use Rattle.racf_profiles.specs.Names.{connected_to}
 use Rattle.database_image.specs.Description.{user}
 use Rattle.database_image.proofs.Loops.{goes_on, ends}
 use Rattle.database_image.proofs.users.users_from.Goals as goal

@@ -1,4 +1,4 @@
-use Rattle.std.proofs.Common.{◌≡◌, ◌++◌, ℕ, List, [], take}
+use Rattle.std.proofs.Common.{◌≡◌, ◌++◌, [], take}
 use Rattle.std.specs.List.{flat_map}
 use Rattle.database_image.specs.Description.{cond_entry}
 use Rattle.database_image.proofs.writing.put_cond_entries.Given as goal

@@ -1,4 +1,4 @@
-use Rattle.std.proofs.Common.{◌≡◌, ◌∷◌, ◌++◌, [], ℕ, List, length}
+use Rattle.std.proofs.Common.{◌≡◌, ◌++◌, [], ℕ, List, length}
 use Rattle.std.specs.List.{flat_map}
 use Rattle.byteorder.specs.Endian.{big_bytes, little_bytes}
 use Rattle.database_image.specs.Fields.{filled, text_or_none}

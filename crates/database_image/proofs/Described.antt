@@ -143,7 +143,6 @@ attributes_ =
     (λ k x f h. ap (attribute_flags) h ∙ flags-6 k (lt-of k 64 f.1))
 
 pub exact-attributes : IsExact (attributes)
-unfolding attributes
 exact-attributes = (attributes_).exact
 
 -- ---- connection

@@ -1,5 +1,5 @@
 -- Images, worked out: that of a new database as another program wrote it, and bytes with a fault in a field or between two.
-use Rattle.std.proofs.Common.{◌≡◌, ℕ, List, [], ◌∷◌, ◌++◌, replicate, Ok, refl}
+use Rattle.std.proofs.Common.{◌≡◌, ℕ, List, [], ◌∷◌, ◌++◌, replicate, Some, Ok, refl}
 use Rattle.std.specs.Prelude.{codes}
 use Rattle.racf_profiles.specs.NewDatabase.{new_database}
 use Rattle.database_image.specs.Description.{options, group, connection, user, profile, class, image}

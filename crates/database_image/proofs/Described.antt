@@ -1,0 +1,390 @@
+-- The forms of the image are exact.
+use Rattle.std.proofs.Common.{◌≡◌, ℕ, zero, suc, ◌+◌, ◌*◌, ◌/◌, ◌%◌, ◌^◌, ◌<◌, Bool, true, false, List, [], ◌∷◌, ◌++◌, length, map, Option, refl, sym, ap, ◌∙◌, arith, ltb-true}
+use Rattle.std.proofs.lemmas.Bool.{ne_eqb}
+use Rattle.std.specs.Prelude.{nat_lt, nat_le, ◌&&◌, ◌==◌, IsTrue, bytes_eq}
+use Rattle.std.specs.List.{list_any, sum_by}
+use Rattle.access_levels.specs.Level.{level_rank, levels, authority_rank, authorities, port_classes}
+use Rattle.access_levels.specs.declared.entries.Who.{Who}
+use Rattle.access_levels.specs.declared.entries.Attributes.{Attributes}
+use Rattle.access_levels.specs.declared.entries.Entry.{Entry}
+use Rattle.access_levels.specs.declared.entries.CondEntry.{CondEntry}
+use Rattle.generic_names.specs.Faults.{longest}
+use Rattle.racf_profiles.specs.declared.users.User.{User}
+use Rattle.racf_profiles.specs.declared.users.Connect.{Connect}
+use Rattle.racf_profiles.specs.declared.groups.Group.{Group}
+use Rattle.racf_profiles.specs.declared.options.Options.{Options}
+use Rattle.racf_profiles.specs.declared.profiles.Profile.{Profile}
+use Rattle.racf_profiles.specs.declared.profiles.Member.{Member}
+use Rattle.racf_profiles.specs.declared.profiles.Member.TheVariants as members
+use Rattle.racf_profiles.specs.declared.class_rows.ClassRow.{ClassRow}
+use Rattle.racf_profiles.specs.declared.rows.Rows.{Rows}
+use Rattle.racf_profiles.specs.ClassTable.{fixed_classes}
+use Rattle.racf_profiles.specs.Names.{connections}
+use Rattle.racf_profiles.specs.Counts.{profile_count, entry_count, entries_in}
+use Rattle.racf_profiles.specs.Limits.{most_users, most_groups, most_connections, most_connections_in_all, most_class_profiles, most_profiles, most_list_entries, most_entries_in_all, most_members, most_categories}
+use Rattle.racf_profiles.specs.LawfulProfiles.{kind_in, member_name}
+use Rattle.database_image.specs.Forms.{Form, Spelling, the, followed, done, field, number, number_spelling, listed}
+use Rattle.database_image.specs.Fields.{any, below, at_most, id_text, group_text, itself, text_or_none, unless_blank, who_text, who_of, filled_spelling, rank_spelling, set_spelling, text_spelling, bit, is_set, is_new}
+use Rattle.database_image.specs.Description.{within, option_flags, options, is_superior_of, group, attribute_flags, attributes_of, attributes, connect_flags, connection, printable, user, spelled_text, pattern_in, member_in, is_pattern_at, audit_rank, audit_levels, flag_rank, entry, entry_key, port_rank, cond_key, cond_entry, cond_entry_key, member_kind, is_kind_in, resources_of, level_of_member, number_of_member, is_new_member, member_of_kind, member, profile, class_flags, are_class_flags, is_class_at, log_rank, log_options, class, image}
+use Rattle.database_image.proofs.Exact.{IsExact, IsUnique, IsSteady, exact-field, exact-followed, exact-done, exact-listed}
+use Rattle.database_image.proofs.Spellings.{IsTextOf, unique-1, unique-2, unique-4, unique-filled, unique-rank, unique-set, unique-text, id-own, group-own, blank-own, who-own, printable-own, pattern-own, member-own}
+
+-- A form, and that it is exact.
+record Exact (A : Type 0) : Type 1 where
+  form : Form A
+  exact : IsExact form
+
+abbrev then_ : {A K : Type 0} (of : A → K) (first : Exact K) (rest : K → Exact A) → ((k : K) (x : A) → first.form.Fits k → (rest k).form.Fits x → of x ≡ k) → Exact A
+then_ of first rest pins = record { form = followed (the of first.form) (λ k. (rest k).form); exact = exact-followed (the of first.form) (λ k. (rest k).form) first.exact (λ k. (rest k).exact) pins }
+
+abbrev done_ : {A : Type 0} → A → Exact A
+done_ x = record { form = done x; exact = exact-done x }
+
+abbrev field_ : {A : Type 0} (spelling : Spelling A) (is_lawful : A → Bool) → IsUnique spelling → Exact A
+field_ spelling is_lawful unique = record { form = field spelling is_lawful; exact = exact-field spelling is_lawful unique }
+
+abbrev byte_ : (ℕ → Bool) → Exact ℕ
+byte_ is_lawful = field_ (number_spelling 1) is_lawful unique-1
+
+abbrev short_ : (ℕ → Bool) → Exact ℕ
+short_ is_lawful = field_ (number_spelling 2) is_lawful unique-2
+
+abbrev id_ : (List ℕ → Bool) → Exact (List ℕ)
+id_ is_lawful = field_ (filled_spelling itself id_text) is_lawful (unique-filled itself id_text id-own)
+
+abbrev group_name_ : (List ℕ → Bool) → Exact (List ℕ)
+group_name_ is_lawful = field_ (filled_spelling itself group_text) is_lawful (unique-filled itself group_text group-own)
+
+abbrev label_ : Exact (Option (List ℕ))
+label_ = field_ (filled_spelling text_or_none (unless_blank id_text)) any (unique-filled text_or_none (unless_blank id_text) (blank-own id_text id-own))
+
+abbrev superior_ : (Option (List ℕ) → Bool) → Exact (Option (List ℕ))
+superior_ is_lawful = field_ (filled_spelling text_or_none (unless_blank group_text)) is_lawful (unique-filled text_or_none (unless_blank group_text) (blank-own group_text group-own))
+
+abbrev who_ : (Who → Bool) → Exact Who
+who_ is_lawful = field_ (filled_spelling who_text who_of) is_lawful (unique-filled who_text who_of who-own)
+
+abbrev ranked_ : {A : Type 0} (rank : A → ℕ) (values : List A) → Exact A
+ranked_ rank values = field_ (rank_spelling rank values) any (unique-rank rank values)
+
+abbrev set_ : (ℕ → Bool) → Exact ℕ
+set_ is_lawful = field_ set_spelling is_lawful unique-set
+
+abbrev text_ : {A : Type 0} (count : Exact ℕ) (spelled : A → List ℕ) (value : List ℕ → Option A) (is_lawful : A → Bool) → IsTextOf spelled value → Exact A
+text_ count spelled value is_lawful own = then_ (λ x. length (spelled x)) count (λ n. field_ (text_spelling spelled value n) is_lawful (unique-text spelled value n own)) (λ n x f h. h.0.whole)
+
+abbrev listed_ : {A : Type 0} (width : ℕ) (is_lawful : ℕ → Bool) (item : List A → Form A) → IsUnique (number_spelling width) → ((before : List A) → IsExact (item before)) → IsSteady item → Exact (List A)
+listed_ width is_lawful item unique exact steady = record { form = listed width is_lawful item; exact = exact-listed width is_lawful item (exact-field (number_spelling width) is_lawful unique) exact steady }
+
+abbrev ids_ : (width : ℕ) (is_lawful : ℕ → Bool) → IsUnique (number_spelling width) → Exact (List (List ℕ))
+ids_ width is_lawful unique = listed_ width is_lawful (λ before. (id_ (is_new before)).form) unique (λ before. (id_ (is_new before)).exact) (λ before x. refl)
+
+-- ---- flags
+
+bit-is : (value m : ℕ) → m < 2 → bit value (m == 1) ≡ value * m
+bit-is value zero h = omega arith
+bit-is value (suc zero) h = omega arith
+bit-is value (suc (suc m)) h = absurd (omega arith)
+
+rest-below : (n : ℕ) → n % 2 < 2
+rest-below n = omega arith
+
+flag : (n value : ℕ) → bit value (is_set n value) ≡ value * (n / value % 2)
+flag n value = bit-is value (n / value % 2) (rest-below (n / value))
+
+lt-of : (n limit : ℕ) → IsTrue (nat_lt n limit) → n < limit
+lt-of n limit h = ltb-true n limit h
+
+flags-3 : (n : ℕ) → n < 8 → bit 1 (is_set n 1) + bit 2 (is_set n 2) + bit 4 (is_set n 4) ≡ n
+flags-3 n h = rw (flag n 1, flag n 2, flag n 4) omega (arith, h)
+
+flags-4 : (n : ℕ) → n < 16 → bit 1 (is_set n 1) + bit 2 (is_set n 2) + bit 4 (is_set n 4) + bit 8 (is_set n 8) ≡ n
+flags-4 n h = rw (flag n 1, flag n 2, flag n 4, flag n 8) omega (arith, h)
+
+flags-6 : (n : ℕ) → n < 64 → bit 1 (is_set n 1) + bit 2 (is_set n 2) + bit 4 (is_set n 4) + bit 8 (is_set n 8) + bit 16 (is_set n 16) + bit 32 (is_set n 32) ≡ n
+flags-6 n h = rw (flag n 1, flag n 2, flag n 4, flag n 8, flag n 16, flag n 32) omega (arith, h)
+
+-- ---- options
+
+abbrev options_ : Exact Options
+options_ =
+    then_ (λ (o : Options). option_flags o) (byte_ (below 8)) (λ flags.
+    then_ (λ (o : Options). o.categories) (ids_ 2 (at_most most_categories) unique-2) (λ names.
+    done_ (record { grplist = is_set flags 1; protectall = is_set flags 2; mls = is_set flags 4; categories = names }))
+    (λ k x f h. ap (λ (o : Options). o.categories) h))
+    (λ k x f h. ap (λ (o : Options). option_flags o) h.1 ∙ flags-3 k (lt-of k 8 f.1))
+
+pub exact-options : IsExact (options)
+unfolding options
+exact-options = (options_).exact
+
+-- ---- group
+
+abbrev group_ : (before : List Group) → Exact Group
+group_ before =
+    then_ (λ (g : Group). g.id) (group_name_ (is_new (map (λ (g : Group). g.id) before))) (λ name.
+    then_ (λ (g : Group). g.superior) (superior_ (is_superior_of name)) (λ superior.
+    then_ (λ (g : Group). g.owner) (id_ any) (λ owner.
+    done_ (record { id = name; superior = superior; owner = owner }))
+    (λ k x f h. ap (λ (g : Group). g.owner) h))
+    (λ k x f h. ap (λ (g : Group). g.superior) h.1))
+    (λ k x f h. ap (λ (g : Group). g.id) h.1.1)
+
+pub exact-group : (before : List Group) → IsExact (group before)
+unfolding group
+exact-group before = (group_ before).exact
+
+-- ---- attributes
+
+abbrev attributes_ : Exact Attributes
+attributes_ =
+    then_ (attribute_flags) (byte_ (below 64)) (λ flags.
+    done_ (attributes_of flags))
+    (λ k x f h. ap (attribute_flags) h ∙ flags-6 k (lt-of k 64 f.1))
+
+pub exact-attributes : IsExact (attributes)
+exact-attributes = (attributes_).exact
+
+-- ---- connection
+
+abbrev connection_ : (before : List Connect) → Exact Connect
+connection_ before =
+    then_ (λ (c : Connect). c.group) (group_name_ (is_new (map (λ (c : Connect). c.group) before))) (λ name.
+    then_ (λ (c : Connect). c.authority) (ranked_ authority_rank authorities) (λ authority.
+    then_ (λ (c : Connect). connect_flags c) (byte_ (below 16)) (λ flags.
+    done_ (record { group = name; authority = authority; special = is_set flags 1; operations = is_set flags 2; auditor = is_set flags 4; revoked = is_set flags 8 }))
+    (λ k x f h. ap (λ (c : Connect). connect_flags c) h ∙ flags-4 k (lt-of k 16 f.1)))
+    (λ k x f h. ap (λ (c : Connect). c.authority) h.1))
+    (λ k x f h. ap (λ (c : Connect). c.group) h.1.1)
+
+pub exact-connection : (before : List Connect) → IsExact (connection before)
+unfolding connection
+exact-connection before = (connection_ before).exact
+
+steady-group : IsSteady group
+unfolding group
+steady-group before x = refl
+
+steady-connection : IsSteady connection
+unfolding connection
+steady-connection before x = refl
+
+-- ---- user
+
+abbrev user_ : (categories : ℕ) (before : List User) → Exact User
+user_ categories before =
+    then_ (λ (u : User). u.id) (id_ (is_new (map (λ (u : User). u.id) before))) (λ name.
+    then_ (λ (u : User). u.default_group) (group_name_ any) (λ default_group.
+    then_ (λ (u : User). u.owner) (id_ any) (λ owner.
+    then_ (λ (u : User). u.name) (text_ (byte_ (at_most 20)) itself printable any printable-own) (λ full_name.
+    then_ (λ (u : User). u.attributes) (attributes_) (λ attributes.
+    then_ (λ (u : User). u.level) (byte_ any) (λ level.
+    then_ (λ (u : User). u.categories) (set_ (below (2 ^ categories))) (λ set.
+    then_ (λ (u : User). u.label) (label_) (λ label.
+    then_ (λ (u : User). u.classes) (ids_ 1 any unique-1) (λ classes.
+    then_ (λ (u : User). u.connects) (listed_ 2 (within most_connections most_connections_in_all (connections before)) connection unique-2 exact-connection steady-connection) (λ connects.
+    done_ (record { id = name; default_group = default_group; owner = owner; name = full_name; attributes = attributes; classes = classes; level = level; categories = set; label = label; connects = connects }))
+    (λ k x f h. ap (λ (u : User). u.connects) h))
+    (λ k x f h. ap (λ (u : User). u.classes) h.1))
+    (λ k x f h. ap (λ (u : User). u.label) h.1.1))
+    (λ k x f h. ap (λ (u : User). u.categories) h.1.1.1))
+    (λ k x f h. ap (λ (u : User). u.level) h.1.1.1.1))
+    (λ k x f h. ap (λ (u : User). u.attributes) h.1.1.1.1.1))
+    (λ k x f h. ap (λ (u : User). u.name) h.1.1.1.1.1.1))
+    (λ k x f h. ap (λ (u : User). u.owner) h.1.1.1.1.1.1.1))
+    (λ k x f h. ap (λ (u : User). u.default_group) h.1.1.1.1.1.1.1.1))
+    (λ k x f h. ap (λ (u : User). u.id) h.1.1.1.1.1.1.1.1.1)
+
+pub exact-user : (categories : ℕ) (before : List User) → IsExact (user categories before)
+unfolding user
+exact-user categories before = (user_ categories before).exact
+
+-- ---- entry
+
+abbrev entry_ : (before : List Entry) → Exact Entry
+entry_ before =
+    then_ (λ (e : Entry). e.who) (who_ (λ who. is_new (map entry_key before) (who_text who))) (λ who.
+    then_ (λ (e : Entry). e.level) (ranked_ level_rank levels) (λ level.
+    done_ (record { who = who; level = level }))
+    (λ k x f h. ap (λ (e : Entry). e.level) h))
+    (λ k x f h. ap (λ (e : Entry). e.who) h.1)
+
+pub exact-entry : (before : List Entry) → IsExact (entry before)
+unfolding entry
+exact-entry before = (entry_ before).exact
+
+-- ---- cond_entry
+
+abbrev cond_entry_ : (before : List CondEntry) → Exact CondEntry
+cond_entry_ before =
+    then_ (λ (e : CondEntry). e.condition.class) (ranked_ port_rank port_classes) (λ class.
+    then_ (λ (e : CondEntry). e.condition.name) (id_ any) (λ port.
+    then_ (λ (e : CondEntry). e.who) (who_ (λ who. is_new (map cond_entry_key before) (cond_key class port who))) (λ who.
+    then_ (λ (e : CondEntry). e.level) (ranked_ level_rank levels) (λ level.
+    done_ (record { condition = record { class = class; name = port }; who = who; level = level }))
+    (λ k x f h. ap (λ (e : CondEntry). e.level) h))
+    (λ k x f h. ap (λ (e : CondEntry). e.who) h.1))
+    (λ k x f h. ap (λ (e : CondEntry). e.condition.name) h.1.1))
+    (λ k x f h. ap (λ (e : CondEntry). e.condition.class) h.1.1.1)
+
+pub exact-cond_entry : (before : List CondEntry) → IsExact (cond_entry before)
+unfolding cond_entry
+exact-cond_entry before = (cond_entry_ before).exact
+
+-- ---- members
+
+abbrev access_member_ : (profile : List ℕ) (before : List Member) → Exact Member
+access_member_ profile before =
+    then_ (resources_of) (text_ (short_ (λ count. nat_le 1 count && nat_le count (longest (kind_in profile)))) spelled_text (member_in profile) (λ name. is_new_member before name.text) (member-own profile)) (λ resources.
+    then_ (level_of_member) (ranked_ level_rank levels) (λ level.
+    done_ (members.Access resources level))
+    (λ k x f h. ap (level_of_member) h))
+    (λ k x f h. ap (resources_of) h.1)
+
+abbrev level_member_ : (before : List Member) → Exact Member
+level_member_ before =
+    then_ (member_name) (id_ (is_new_member before)) (λ name.
+    then_ (number_of_member) (byte_ (λ n. nat_le 1 n && nat_le n 254)) (λ number.
+    done_ (members.SecurityLevel name number))
+    (λ k x f h. ap (number_of_member) h))
+    (λ k x f h. ap (member_name) h.1)
+
+abbrev category_member_ : (names : List (List ℕ)) (before : List Member) → Exact Member
+category_member_ names before =
+    then_ (member_name) (id_ (λ name. is_new_member before name && list_any (λ other. bytes_eq other name) names)) (λ name.
+    done_ (members.Category name))
+    (λ k x f h. ap (member_name) h)
+
+exact-member_of_kind : (names : List (List ℕ)) (profile : List ℕ) (before : List Member) (kind : ℕ) → IsExact (member_of_kind names profile before kind)
+exact-member_of_kind names profile before zero = (category_member_ names before).exact
+exact-member_of_kind names profile before (suc zero) = (access_member_ profile before).exact
+exact-member_of_kind names profile before (suc (suc zero)) = (level_member_ before).exact
+exact-member_of_kind names profile before (suc (suc (suc n))) = (category_member_ names before).exact
+
+kind-far : (class profile : List ℕ) (kind : ℕ) → 3 < kind → is_kind_in class profile kind ≡ false
+kind-far class profile kind h = rw (ne_eqb kind 1 (λ e. omega (arith, e, h)), ne_eqb kind 2 (λ e. omega (arith, e, h)), ne_eqb kind 3 (λ e. omega (arith, e, h))) refl
+
+kind-pinned : (names : List (List ℕ)) (class profile : List ℕ) (before : List Member) (kind : ℕ) (x : Member) → IsTrue (is_kind_in class profile kind) → (member_of_kind names profile before kind).Fits x → member_kind x ≡ kind
+kind-pinned names class profile before zero x f h = let e : false ≡ true = f in absurd cc
+kind-pinned names class profile before (suc zero) x f h = ap member_kind h.1.1
+kind-pinned names class profile before (suc (suc zero)) x f h = ap member_kind h.1.1
+kind-pinned names class profile before (suc (suc (suc zero))) x f h = ap member_kind h.1
+kind-pinned names class profile before (suc (suc (suc (suc n)))) x f h = let e : false ≡ true = sym (kind-far class profile (suc (suc (suc (suc n)))) (omega arith)) ∙ f in absurd cc
+
+pub exact-member : (names : List (List ℕ)) (class profile : List ℕ) (before : List Member) → IsExact (member names class profile before)
+unfolding member
+exact-member names class profile before = exact-followed (the member_kind (number 1 (is_kind_in class profile))) (member_of_kind names profile before) (byte_ (is_kind_in class profile)).exact (exact-member_of_kind names profile before) (λ k x f h. kind-pinned names class profile before k x f.1 h)
+
+steady-entry : IsSteady entry
+unfolding entry
+steady-entry before x = refl
+
+steady-cond_entry : IsSteady cond_entry
+unfolding cond_entry
+steady-cond_entry before x = refl
+
+steady-kind : (names : List (List ℕ)) (profile : List ℕ) (before : List Member) (kind : ℕ) (x : Member) → (member_of_kind names profile before kind).bytes x ≡ (member_of_kind names profile [] kind).bytes x
+steady-kind names profile before zero x = refl
+steady-kind names profile before (suc zero) x = refl
+steady-kind names profile before (suc (suc zero)) x = refl
+steady-kind names profile before (suc (suc (suc n))) x = refl
+
+steady-member : (names : List (List ℕ)) (class profile : List ℕ) → IsSteady (member names class profile)
+unfolding member
+steady-member names class profile before x = ap (λ (bytes : List ℕ). (number 1 (is_kind_in class profile)).bytes (member_kind x) ++ bytes) (steady-kind names profile before (member_kind x) x)
+
+-- ---- profile
+
+abbrev profile_ : (names : List (List ℕ)) (class : List ℕ) (entries : ℕ) (before : List Profile) → Exact Profile
+profile_ names class entries before =
+    then_ (λ (p : Profile). p.name) (text_ (short_ (λ count. nat_le 1 count && nat_le count (longest (kind_in class)))) spelled_text (pattern_in class) (is_pattern_at class before) (pattern-own class)) (λ name.
+    then_ (λ (p : Profile). p.owner) (id_ any) (λ owner.
+    then_ (λ (p : Profile). p.uacc) (ranked_ level_rank levels) (λ uacc.
+    then_ (λ (p : Profile). p.warning) (ranked_ flag_rank (false ∷ true ∷ [])) (λ warning.
+    then_ (λ (p : Profile). p.audit.success) (ranked_ audit_rank audit_levels) (λ success.
+    then_ (λ (p : Profile). p.audit.failures) (ranked_ audit_rank audit_levels) (λ failures.
+    then_ (λ (p : Profile). p.global_audit.success) (ranked_ audit_rank audit_levels) (λ global_success.
+    then_ (λ (p : Profile). p.global_audit.failures) (ranked_ audit_rank audit_levels) (λ global_failures.
+    then_ (λ (p : Profile). p.level) (byte_ any) (λ level.
+    then_ (λ (p : Profile). p.categories) (set_ (below (2 ^ length names))) (λ set.
+    then_ (λ (p : Profile). p.label) (label_) (λ label.
+    then_ (λ (p : Profile). p.standard) (listed_ 2 (within most_list_entries most_entries_in_all (entries + sum_by entries_in before)) entry unique-2 exact-entry steady-entry) (λ standard.
+    then_ (λ (p : Profile). p.conditional) (listed_ 2 (within most_list_entries most_entries_in_all (entries + sum_by entries_in before + length standard)) cond_entry unique-2 exact-cond_entry steady-cond_entry) (λ conditional.
+    then_ (λ (p : Profile). p.members) (listed_ 2 (at_most most_members) (member names class name.text) unique-2 (exact-member names class name.text) (steady-member names class name.text)) (λ members.
+    done_ (record { name = name; owner = owner; uacc = uacc; warning = warning; standard = standard; conditional = conditional; level = level; categories = set; label = label; audit = record { success = success; failures = failures }; global_audit = record { success = global_success; failures = global_failures }; members = members }))
+    (λ k x f h. ap (λ (p : Profile). p.members) h))
+    (λ k x f h. ap (λ (p : Profile). p.conditional) h.1))
+    (λ k x f h. ap (λ (p : Profile). p.standard) h.1.1))
+    (λ k x f h. ap (λ (p : Profile). p.label) h.1.1.1))
+    (λ k x f h. ap (λ (p : Profile). p.categories) h.1.1.1.1))
+    (λ k x f h. ap (λ (p : Profile). p.level) h.1.1.1.1.1))
+    (λ k x f h. ap (λ (p : Profile). p.global_audit.failures) h.1.1.1.1.1.1))
+    (λ k x f h. ap (λ (p : Profile). p.global_audit.success) h.1.1.1.1.1.1.1))
+    (λ k x f h. ap (λ (p : Profile). p.audit.failures) h.1.1.1.1.1.1.1.1))
+    (λ k x f h. ap (λ (p : Profile). p.audit.success) h.1.1.1.1.1.1.1.1.1))
+    (λ k x f h. ap (λ (p : Profile). p.warning) h.1.1.1.1.1.1.1.1.1.1))
+    (λ k x f h. ap (λ (p : Profile). p.uacc) h.1.1.1.1.1.1.1.1.1.1.1))
+    (λ k x f h. ap (λ (p : Profile). p.owner) h.1.1.1.1.1.1.1.1.1.1.1.1))
+    (λ k x f h. ap (λ (p : Profile). p.name) h.1.1.1.1.1.1.1.1.1.1.1.1.1)
+
+pub exact-profile : (names : List (List ℕ)) (class : List ℕ) (entries : ℕ) (before : List Profile) → IsExact (profile names class entries before)
+unfolding profile
+exact-profile names class entries before = (profile_ names class entries before).exact
+
+steady-profile : (names : List (List ℕ)) (class : List ℕ) (entries : ℕ) → IsSteady (profile names class entries)
+unfolding profile
+steady-profile names class entries before x = refl
+
+both-true : (a b : Bool) → IsTrue (a && b) → IsTrue a
+both-true true b h = refl
+both-true false b h = absurd cc
+
+class-below : (name : List ℕ) (flags : ℕ) → IsTrue (are_class_flags name flags) → IsTrue (nat_lt flags 8)
+class-below name flags h = both-true (nat_lt flags 8) _ (both-true _ _ h)
+
+-- ---- class
+
+abbrev class_ : (names : List (List ℕ)) (before : List ClassRow) → Exact ClassRow
+class_ names before =
+    then_ (λ (c : ClassRow). c.name) (id_ (is_class_at (length before))) (λ name.
+    then_ (λ (c : ClassRow). class_flags c) (byte_ (are_class_flags name)) (λ flags.
+    then_ (λ (c : ClassRow). c.log) (ranked_ log_rank log_options) (λ log.
+    then_ (λ (c : ClassRow). c.profiles) (listed_ 4 (within most_class_profiles most_profiles (profile_count before)) (profile names name (entry_count before)) unique-4 (exact-profile names name (entry_count before)) (steady-profile names name (entry_count before))) (λ profiles.
+    done_ (record { name = name; active = is_set flags 1; listed = is_set flags 2; global = is_set flags 4; log = log; profiles = profiles }))
+    (λ k x f h. ap (λ (c : ClassRow). c.profiles) h))
+    (λ k x f h. ap (λ (c : ClassRow). c.log) h.1))
+    (λ k x f h. ap (λ (c : ClassRow). class_flags c) h.1.1 ∙ flags-3 k (lt-of k 8 (class-below name k f.1))))
+    (λ k x f h. ap (λ (c : ClassRow). c.name) h.1.1.1)
+
+pub exact-class : (names : List (List ℕ)) (before : List ClassRow) → IsExact (class names before)
+unfolding class
+exact-class names before = (class_ names before).exact
+
+steady-user : (categories : ℕ) → IsSteady (user categories)
+unfolding user
+steady-user categories before x = refl
+
+steady-class : (names : List (List ℕ)) → IsSteady (class names)
+unfolding class profile
+steady-class names before x = refl
+
+abbrev whole_options : Exact Options
+whole_options = record { form = options; exact = exact-options }
+
+-- ---- image
+
+abbrev image_ : Exact Rows
+image_ =
+    then_ (λ (r : Rows). r.options) (whole_options) (λ options.
+    then_ (λ (r : Rows). r.groups) (listed_ 4 (at_most most_groups) group unique-4 exact-group steady-group) (λ groups.
+    then_ (λ (r : Rows). r.users) (listed_ 4 (at_most most_users) (user (length options.categories)) unique-4 (exact-user (length options.categories)) (steady-user (length options.categories))) (λ users.
+    then_ (λ (r : Rows). r.classes) (listed_ 2 (λ count. count == length fixed_classes) (class options.categories) unique-2 (exact-class options.categories) (steady-class options.categories)) (λ classes.
+    done_ (record { users = users; groups = groups; classes = classes; options = options }))
+    (λ k x f h. ap (λ (r : Rows). r.classes) h))
+    (λ k x f h. ap (λ (r : Rows). r.users) h.1))
+    (λ k x f h. ap (λ (r : Rows). r.groups) h.1.1))
+    (λ k x f h. ap (λ (r : Rows). r.options) h.1.1.1)
+
+pub exact-image : IsExact (image)
+unfolding image
+exact-image = (image_).exact

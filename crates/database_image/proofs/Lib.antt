@@ -1,0 +1,10 @@
+mod WorkedRows
+mod NameLaws
+mod Loops
+mod Behind
+mod Sets
+mod Exact
+mod Spellings
+mod Described
+mod Images
+mod Appended

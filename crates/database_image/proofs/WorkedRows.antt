@@ -1,0 +1,68 @@
+-- Images, worked out: that of a new database as another program wrote it, and bytes with a fault in a field or between two.
+use Rattle.std.proofs.Common.{◌≡◌, ℕ, List, [], ◌∷◌, ◌++◌, replicate, Some, Ok, refl}
+use Rattle.std.specs.Prelude.{codes}
+use Rattle.racf_profiles.specs.NewDatabase.{new_database}
+use Rattle.database_image.specs.Description.{options, group, connection, user, profile, class, image}
+use Rattle.database_image.specs.Forms.{spelled_at}
+use Rattle.database_image.specs.Image.{image_of, first_pass, second_pass, rows_of, first_fault}
+
+abbrev zeros : ℕ → List ℕ
+zeros count = replicate count 0
+
+-- A class that isn't active and has no profiles.
+abbrev idle : List ℕ → List ℕ
+idle name = name ++ zeros 6
+
+abbrev classes : List ℕ
+classes = 0 ∷ 14 ∷ codes "DATASET " ++ 1 ∷ zeros 5 ++ idle (codes "FACILITY") ++ idle (codes "TERMINAL") ++ idle (codes "CONSOLE ") ++ idle (codes "JESINPUT") ++ idle (codes "APPCPORT") ++ idle (codes "APPL    ")
+    ++ idle (codes "OPERCMDS") ++ idle (codes "SURROGAT") ++ idle (codes "TAPEVOL ") ++ idle (codes "DASDVOL ") ++ idle (codes "SECDATA ") ++ idle (codes "SECLABEL") ++ idle (codes "GLOBAL  ")
+
+-- IBMUSER with this default group, these flags and this flag byte of his connection.
+abbrev first_user : (default : List ℕ) → (flags connection : ℕ) → List ℕ
+first_user default flags connection = codes "IBMUSER " ++ default ++ codes "SYS1    " ++ 0 ∷ flags ∷ zeros 33 ++ codes "        " ++ 0 ∷ 0 ∷ 1 ∷ codes "SYS1    " ++ 3 ∷ connection ∷ []
+
+abbrev with_user : List ℕ → List ℕ
+with_user user = zeros 6 ++ 1 ∷ codes "SYS1            IBMUSER " ++ 0 ∷ 0 ∷ 0 ∷ 1 ∷ user
+
+new-written : image_of new_database ≡ with_user (first_user (codes "SYS1    ") 7 0) ++ classes
+unfolding image_of image options group user connection class profile
+new-written = refl
+
+new-read : rows_of (with_user (first_user (codes "SYS1    ") 7 0) ++ classes) ≡ Ok new_database
+unfolding spelled_at rows_of first_pass second_pass image options group user connection class profile
+new-read = refl
+
+-- ---- faults of the first pass
+
+abbrev whole : List ℕ
+whole = with_user (first_user (codes "SYS1    ") 7 0) ++ classes
+
+empty : first_fault [] ≡ Some 0
+unfolding spelled_at rows_of first_pass second_pass image options group user connection class profile
+empty = refl
+
+unused-flag : first_fault (8 ∷ zeros 6) ≡ Some 0
+unfolding spelled_at rows_of first_pass second_pass image options group user connection class profile
+unused-flag = refl
+
+byte-behind : first_fault (whole ++ 0 ∷ []) ≡ Some 313
+unfolding spelled_at rows_of first_pass second_pass image options group user connection class profile
+byte-behind = refl
+
+turned-count : first_fault (zeros 3 ++ 1 ∷ zeros 3) ≡ Some 3
+unfolding spelled_at rows_of first_pass second_pass image options group user connection class profile
+turned-count = refl
+
+-- ---- and of the second, which comes behind the first
+
+other-default : first_fault (with_user (first_user (codes "SYS2    ") 7 0) ++ classes) ≡ Some 43
+unfolding spelled_at rows_of first_pass second_pass image options group user connection class profile
+other-default = refl
+
+nobody-special : first_fault (with_user (first_user (codes "SYS1    ") 23 0) ++ classes) ≡ Some 31
+unfolding spelled_at rows_of first_pass second_pass image options group user connection class profile
+nobody-special = refl
+
+first-pass-first : first_fault (with_user (first_user (codes "SYS2    ") 71 0) ++ classes) ≡ Some 60
+unfolding spelled_at rows_of first_pass second_pass image options group user connection class profile
+first-pass-first = refl

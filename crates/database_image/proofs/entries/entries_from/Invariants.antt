@@ -1,0 +1,12 @@
+use Rattle.std.proofs.Common.{◌≡◌, ◌-◌, ◌≤◌, [], map, length}
+use Rattle.database_image.specs.Forms.{items_from}
+use Rattle.database_image.specs.Description.{entry, entry_key}
+use Rattle.database_image.proofs.entries.entries_from.Given as goal
+
+abbrev pub invariant-loop : goal.invariant-loop
+invariant-loop l = record {
+  noted : l.names ≡ map entry_key l.items.items;
+  counted : length l.items.items ≡ l.counter;
+  within : l.counter ≤ l.count;
+  read : items_from entry (l.count - l.counter) l.items.items l.left ≡ items_from entry l.count [] l.fn.left;
+}

@@ -1,0 +1,62 @@
+-- The image of rows, and what bytes are the image of.
+use Rattle.std.specs.Prelude.{◌≡◌, ℕ, ◌-◌, List, [], ◌∷◌, length, Option, Some, None, Result, Ok, Err}
+use Rattle.std.specs.Result.{result_err}
+use Rattle.racf_profiles.specs.declared.rows.Rows.{Rows}
+use Rattle.database_image.specs.declared.faults.ImageFault.{ImageFault}
+use Rattle.database_image.specs.declared.faults.ImageFault.TheVariants as faults
+use Rattle.database_image.specs.Reading.{◌>>=◌}
+use Rattle.database_image.specs.Description.{image}
+use Rattle.database_image.specs.Facts.{facts, first_broken}
+
+-- The image of rows. Listed copies aren't in it.
+unfoldable pub image_of : Rows → List ℕ
+image_of rows = image.bytes rows
+
+-- Nothing stands behind the last field.
+abbrev pub unless_more : Rows → (behind : List ℕ) → Result Rows ℕ
+unless_more rows [] = Ok rows
+unless_more rows (byte ∷ behind) = Err (length (byte ∷ behind))
+
+-- The first pass tests each field by itself. A fault's place is told from the image's beginning.
+abbrev pub from_beginning : (bytes : List ℕ) → Result Rows ℕ → Result Rows ℕ
+from_beginning bytes (Ok rows) = Ok rows
+from_beginning bytes (Err left) = Err (length bytes - left)
+
+unfoldable pub first_pass : (bytes : List ℕ) → Result Rows ℕ
+first_pass bytes = from_beginning bytes (image.reading bytes >>= λ read. unless_more read.0 read.1)
+
+-- The second pass tests the facts between fields.
+abbrev pub unless_broken : Rows → Option ℕ → Result Rows ℕ
+unless_broken rows None = Ok rows
+unless_broken rows (Some place) = Err place
+
+unfoldable pub second_pass : Rows → Result Rows ℕ
+second_pass rows = unless_broken rows (first_broken (facts rows))
+
+-- The rows that bytes are the image of, or the place of the first field without a lawful value.
+unfoldable pub rows_of : (bytes : List ℕ) → Result Rows ℕ
+rows_of bytes = first_pass bytes >>= second_pass
+
+abbrev pub first_fault : (bytes : List ℕ) → Option ℕ
+first_fault bytes = result_err (rows_of bytes)
+
+-- What an image asks of rows: each field is lawful where it stands, and each fact between fields holds.
+pub record IsStored (rows : Rows) : Type 0 where
+  pub fields : image.Fits rows
+  pub between : first_broken (facts rows) ≡ None
+
+-- ---- what a function answered
+
+-- It is the place of the first fault, unless memory ran out.
+abbrev pub IsFirstFault : (bytes : List ℕ) → ImageFault → Type 0
+IsFirstFault bytes faults.NoMemory = Unit {0}
+IsFirstFault bytes (faults.BadField place) = first_fault bytes ≡ Some place
+
+-- It is what there is to be read, unless memory ran out.
+abbrev pub Tells : ImageFault → Result Rows ℕ → Type 0
+Tells faults.NoMemory read = Unit {0}
+Tells (faults.BadField place) read = read ≡ Err place
+
+abbrev pub Reads : Result Rows ImageFault → Result Rows ℕ → Type 0
+Reads (Ok rows) read = read ≡ Ok rows
+Reads (Err fault) read = Tells fault read

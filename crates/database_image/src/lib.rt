@@ -1,0 +1,35 @@
+//! The image of a database: its rows as bytes, and back.
+//!
+//! An image is what a disk keeps of the rows of a database: numbers, identifiers, names and lists of them, one behind another.
+//! [`write`] gives the image of rows, and [`read_fields`] the rows of an image, each field of which it tests by itself, or the
+//! place of the first that has no lawful value. What the fields are, and what is lawful in each, stands once, in `Description`
+//! of `specs/`; the laws say that what is written is read as the same rows, and what is read is written as the same bytes.
+//! Rows and names are those of `racf_profiles`, `access_levels` and `generic_names`; disks, and which image on them counts,
+//! are no matter of this crate.
+//!
+//! ```
+//! let rows = Rows::new_database(alloc)?;
+//! let image = write(alloc, &rows)?;           // 313 bytes
+//! let again = read_fields(alloc, &image)?;    // the same rows
+//! let fault = read_fields(alloc, &[8]);       // Err(ImageFault::BadField(0)): there is no such option
+//! ```
+#![tactic(auto)]
+
+mod categories;
+mod classes;
+mod entries;
+mod faults;
+mod fields;
+pub mod laws;
+mod left;
+mod members;
+mod names;
+mod profiles;
+mod putting;
+mod reading;
+mod users;
+mod writing;
+
+pub use faults::ImageFault;
+pub use reading::read_fields;
+pub use writing::write;

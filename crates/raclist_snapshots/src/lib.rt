@@ -1,0 +1,13 @@
+//! Snapshots.
+#![tactic(auto)]
+
+mod caller;
+mod held;
+mod note;
+mod publisher;
+mod shown;
+
+pub use caller::Caller;
+pub use note::Note;
+pub use publisher::Publisher;
+pub use shown::{Fresh, Opens, Shown, Slot};

@@ -22,14 +22,13 @@ pub record Holding : Type 0 where
 pub record IsHeld (base : Position) (events : List Event) (next : Option ℕ) (holding : Holding) : Type 0 where
   pub goes_on : is_ended events ≡ false
   pub legal : AreLegal base (entries_of (events ++ Added holding.entry ∷ []))
-  pub image : holding.image ≡ image_at base (events ++ Added holding.entry ∷ [])
-  pub next : next ≡ Some (length events + 1)
+  pub image_is : holding.image ≡ image_at base (events ++ Added holding.entry ∷ [])
+  pub next_is : next ≡ Some (length events + 1)
 
--- A publisher has the right to the next event until the last is there, maybe that to the one behind it, and maybe an
--- image for the next note.
+-- What is published is legal. A publisher has the right to the next event until the last is there, and maybe an image
+-- for the next note.
 pub record IsPublishing (base : Position) (events : List Event) (turn next : Option ℕ) (spare : Option Imaged) (held : Option Holding) : Type 0 where
   pub legal : AreLegal base (entries_of events)
   pub turn_is : turn ≡ (if is_ended events then None else Some (length events))
-  pub next_is : IfSome next (λ place. place ≡ length events + 1)
   pub spare_is : IfSome spare (λ image. image ≡ image_at base events)
   pub held_is : IfSome held (IsHeld base events next)

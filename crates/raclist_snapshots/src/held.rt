@@ -56,6 +56,13 @@ impl<J: Naming> Held<J> {
         })
     }
 
+    /// The number of the image.
+    pub(crate) fn number(&self) -> u64
+        ensures { result ≡ self.now.image.generation }
+    {
+        self.image.generation()
+    }
+
     /// One more owner of the slot.
     pub(crate) fn slot(&self) -> Result<Arc<OnceLock<Note<J>>, Global>, NoMemory> {
         Arc::try_clone(&self.slot)

@@ -1,5 +1,5 @@
 //! What is told, kept and published: an image, with the history that it is the image of.
-ghost use Rattle.std.specs.Prelude.{◌≡◌, ◌⊎◌, ◌+◌, ◌<◌, ◌^◌, ◌++◌, ◌∷◌, [], length, IfOk, MatchBool, false};
+ghost use Rattle.std.specs.Prelude.{◌≡◌, ◌⊎◌, ◌+◌, ◌<◌, ◌^◌, ◌++◌, ◌∷◌, [], length, IfOk, MatchBool, true, false};
 ghost use Rattle.std.specs.Arc.{arc_value};
 ghost use Rattle.command_history.specs.declared.events.Event.TheVariants.{Added, Ended};
 ghost use Rattle.command_history.specs.Events.{ends_last, is_ended, Extends};
@@ -90,6 +90,14 @@ impl<J: Naming> Note<J> {
         self.front.is_behind(&other.front)
     }
 
+    /// Who has the final mark has all: what the other stands on is a beginning of it.
+    pub(crate) fn covers(&self, other: &Note<J>)
+        requires { is_ended self.now ≡ true }
+        ensures { Extends other.now self.now }
+    {
+        let _more = self.is_behind(other);
+    }
+
     /// Takes another note's place, if that stands on more. It asks no file and takes no memory.
     pub(crate) fn learn(&mut self, other: Note<J>)
         ensures one { (self.new ≡ self.old) ⊎ (self.new ≡ other) }
@@ -120,6 +128,7 @@ impl<J: Naming> Note<J> {
     }
 
     /// Adds the final mark, which nobody else can do.
+    #[tactic(auto, using(command_history::proofs::Leading::reached_ended))]
     pub(crate) fn end(&mut self, book: &Book<J>, turn: Turn<J>, halted: bool)
         requires turn { turn ≡ length self.old }
         requires room { length self.old < 2 ^ 63 }

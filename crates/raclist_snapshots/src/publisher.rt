@@ -82,7 +82,6 @@ impl<J: Naming, T: Absorb<O> + Drop, O: Opens<Note<J>>, R: Wait + Drop> Publishe
     /// Takes all memory that publishing an entry takes, and that of the next note, whether it comes before the publish
     /// or behind it. The entry is legal behind those that are published, and the image is that of the state it leads to.
     /// Where this is refused, nothing has changed.
-    #[tactic(auto, using(crate::proofs::Rooms::has_room))]
     pub fn hold(
         &mut self,
         alloc: Global,
@@ -96,6 +95,7 @@ impl<J: Naming, T: Absorb<O> + Drop, O: Opens<Note<J>>, R: Wait + Drop> Publishe
         ensures held { OnOk result (self.new ≡ record self.old { held = Some entry.now; told = false }) }
         ensures same { OnErr result (self.new ≡ self.old) }
     {
+        self.is_legal();
         let place = self.note.front().len() + 1;
         let spare = self.note.shared()?;
         let held = Held::new(alloc, image, entry)?;
@@ -104,10 +104,10 @@ impl<J: Naming, T: Absorb<O> + Drop, O: Opens<Note<J>>, R: Wait + Drop> Publishe
             return Err(AllocError);
         }
         // Nobody else asks for turns, and this place is asked for once: so this is never refused.
-        self.next = self.book.turn(self.note.front(), place);
-        if self.next.is_none() {
+        let Some(next) = self.book.turn(self.note.front(), place) else {
             return Err(AllocError);
-        }
+        };
+        self.next = Some(next);
         self.spare = Some(spare);
         self.held = Some(held);
         Ok(())
@@ -115,11 +115,11 @@ impl<J: Naming, T: Absorb<O> + Drop, O: Opens<Note<J>>, R: Wait + Drop> Publishe
 
     /// Publishes what is held, once its command counts: callers that look from now on find it. It takes no memory and
     /// can't be refused. It waits for the entries that are under way.
-    #[tactic(auto, using(crate::proofs::Rooms::has_room))]
     pub fn publish(&mut self, entry: &Accepted)
         requires held { self.old.held ≡ Some entry.now }
         ensures { self.new ≡ record { events = self.old.events ++ Added entry.now ∷ []; held = None; told = false } }
     {
+        self.is_legal();
         let (Some(held), Some(turn)) = (self.held.take(), self.turn.take()) else {
             return;
         };
@@ -171,11 +171,11 @@ impl<J: Naming, T: Absorb<O> + Drop, O: Opens<Note<J>>, R: Wait + Drop> Publishe
 
     /// Puts the final mark behind the history, unless it is there. Nothing is published behind it, and what is held is
     /// let go. It takes no memory and can't be refused.
-    #[tactic(auto, using(crate::proofs::Rooms::has_room, crate::proofs::Marks::kept_ended))]
     pub fn finish(&mut self, halted: bool)
         requires mark { MarkIs halted self.old.events }
         ensures { self.new ≡ record self.old { events = ended_with halted self.old.events; held = None } }
     {
+        self.is_legal();
         self.held = None;
         if let Some(turn) = self.turn.take() {
             self.note.end(&self.book, turn, halted);
@@ -235,7 +235,7 @@ impl<J: Naming, T: Absorb<O> + Drop, O: Opens<Note<J>>, R: Wait + Drop> Publishe
     pub fn is_legal(&self)
         ensures legal { AreLegal J.base (entries_of self.now.events) }
         ensures last { ends_last self.now.events ≡ true }
-        ensures room { length self.now.events < 2 ^ 63 }
+        ensures room { length self.now.events + 1 < 2 ^ 63 }
     {
         let _count = self.note.front().len();
     }

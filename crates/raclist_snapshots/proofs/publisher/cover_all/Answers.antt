@@ -1,4 +1,4 @@
-use Rattle.std.proofs.Common.{◌≡◌, List, length, take, ap, sym, ◌∙◌, subst, arith}
+use Rattle.std.proofs.Common.{subst, arith}
 use Rattle.std.proofs.lemmas.List.{take_all}
 use Rattle.std.proofs.lemmas.List.Elements.{All-more}
 use Rattle.std.specs.List.{All}
@@ -16,5 +16,4 @@ loop-caller-preserved g c =
 pub returns : goal.returns
 returns g c =
     let P : Seeing → Type 0 = λ caller. Extends caller.events c.args.note.now in
-    let end : c.loop-caller.caller-index ≡ length c.args.callers.now = omega arith in
-    subst (All P) (ap (λ n. take n c.args.callers.now) end ∙ take_all c.args.callers.now) c.loop-caller.invariant
+    subst (All P) (take_all c.loop-caller.caller-index c.args.callers.now (omega arith)) c.loop-caller.invariant

@@ -1,0 +1,11 @@
+use Rattle.std.proofs.Common.{map}
+use Rattle.std.specs.Option.{option_map}
+use Rattle.std.specs.Arc.{arc_value}
+use Rattle.raclist_snapshots.proofs.Marks.{kept_ended}
+use Rattle.raclist_snapshots.proofs.publisher.Publisher.finish.Goals as goal
+
+-- the mark is there, and the turn is used
+pub invariant_of-self : goal.invariant_of-self
+invariant_of-self g c =
+    rw (c.end.ensures, c.take.ensures.after)
+    (kept_ended g.J.Naming.base c.self.inside.note c.args.halted c.self.inside.next (option_map (λ s. arc_value s) c.self.inside.spare) c.self.invariant.legal c.self.invariant.spare_is)

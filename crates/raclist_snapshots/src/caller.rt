@@ -49,8 +49,8 @@ impl<J: Naming> Caller<J> {
         ensures learned { self.new.learned ≡ self.old.learned }
     {
         let known = self.note.image().generation();
-        if let Some(note) = newer(&mut self.reader, known) {
-            self.note.learn(note);
+        if let Some(found) = newer(&mut self.reader, known) {
+            self.note.learn(found);
         }
     }
 

@@ -3,7 +3,7 @@ ghost use Rattle.std.specs.Prelude.{◌≡◌, ◌+◌, ◌<◌, ◌^◌, ◌++�
 ghost use Rattle.std.specs.List.{All};
 ghost use Rattle.std.specs.Arc.{arc_value};
 ghost use Rattle.command_history.specs.declared.events.Event.TheVariants.{Added};
-ghost use Rattle.command_history.specs.Events.{ends_last, entries_of, is_ended, Extends};
+ghost use Rattle.command_history.specs.Events.{ends_last, entries_of, is_ended, mark_of, Extends};
 ghost use Rattle.command_history.specs.Reached.{reached, AreLegal};
 ghost use Rattle.raclist_snapshots.specs.Publishing.{ended_with, MarkIs};
 
@@ -97,7 +97,7 @@ impl<J: Naming, T: Absorb<O> + Drop, O: Opens<Note<J>>, R: Wait + Drop> Publishe
     {
         self.is_legal();
         let place = self.note.front().len() + 1;
-        let spare = self.note.shared()?;
+        let owner = self.note.shared()?;
         let held = Held::new(alloc, image, entry)?;
         let fresh = O::open(held.number(), Some(held.slot()?));
         if self.writer.append(fresh).is_err() {
@@ -108,7 +108,7 @@ impl<J: Naming, T: Absorb<O> + Drop, O: Opens<Note<J>>, R: Wait + Drop> Publishe
             return Err(AllocError);
         };
         self.next = Some(next);
-        self.spare = Some(spare);
+        self.spare = Some(owner);
         self.held = Some(held);
         Ok(())
     }
@@ -171,9 +171,11 @@ impl<J: Naming, T: Absorb<O> + Drop, O: Opens<Note<J>>, R: Wait + Drop> Publishe
 
     /// Puts the final mark behind the history, unless it is there. Nothing is published behind it, and what is held is
     /// let go. It takes no memory and can't be refused.
+    #[tactic(auto, using(crate::proofs::Marks::mark_ended))]
     pub fn finish(&mut self, halted: bool)
         requires mark { MarkIs halted self.old.events }
-        ensures { self.new ≡ record self.old { events = ended_with halted self.old.events; held = None } }
+        ensures ended { self.new ≡ record self.old { events = ended_with halted self.old.events; held = None } }
+        ensures mark { mark_of self.new.events ≡ Some halted }
     {
         self.is_legal();
         self.held = None;

@@ -2,6 +2,7 @@
 //! `tests/refusals` runs them with allocations refused.
 ghost use Rattle.std.specs.Prelude.{◌≡◌, ◌<◌, [], false, None};
 ghost use Rattle.std.specs.Arc.{arc_value};
+ghost use Rattle.racf_desk.specs.Made.{is_fresh};
 ghost use Rattle.racf_desk.specs.Position.{first_position};
 ghost use Rattle.published_desk.specs.Standing.{AreTogether};
 
@@ -39,6 +40,64 @@ fn whoever_is_told_of_the_end_keeps_the_image(rt: HostRuntime) -> Result<(), Fai
     };
     let _ = desk.into_disks();
     ended
+}
+
+#[test]
+fn published_behind_a_command(rt: HostRuntime) -> Result<(), Fail> {
+    println!(rt; "FROM HERE")?;
+    let made = match new_desk(rt.alloc()) {
+        Ok(desk) => is_published_at(&rt, rt.alloc(), desk)?,
+        Err(_) => false,
+    };
+    let told = if made { "MADE" } else { "NO MEMORY" };
+    println!(rt; "{told}")?;
+    Ok(())
+}
+
+/// Whether a command at this new desk is published.
+fn is_published_at<R: Wait + Abort>(
+    rt: &R,
+    alloc: Global,
+    desk: Desk<NeverDisk>,
+) -> Result<bool, Fail>
+    requires { desk ≡ is_fresh first_position desk.store }
+{
+    let mut desk = desk;
+    let made = match Arc::try_clone(desk.image()) {
+        Ok(image) => is_published::<Brand, _>(rt, alloc, Opened::new(), image, &mut desk),
+        Err(_) => Ok(false),
+    };
+    let _ = desk.into_disks();
+    made
+}
+
+/// What a command leads to is published, told and seen, or memory is wanting, and a caller sees what it saw.
+fn is_published<J: Naming, R: Wait + Abort>(
+    rt: &R,
+    alloc: Global,
+    opened: Opened,
+    image: Arc<Image, Global>,
+    desk: &mut Desk<NeverDisk>,
+) -> Result<bool, Fail>
+    requires book { opened ≡ J.book }
+    requires base { J.base ≡ first_position }
+    requires image { arc_value image ≡ first_position.image }
+    requires desk { AreTogether J.base desk.old (record { events = []; held = None; told = false }) }
+{
+    let (mut publisher, mut callers) = match snapshots::<J, R>(rt, alloc, opened, image, 1) {
+        Ok(made) => made,
+        Err(_) => return Ok(false),
+    };
+    let given = give(alloc, desk, &mut publisher, b"ADDUSER JOE")?;
+    let number = publisher.generation();
+    assert!(rt; number == if given == Given::Published { 1 } else { 0 });
+    let told = publisher.tell();
+    assert!(rt; told.is_ok());
+    if let Some(caller) = callers.as_mut_slice().first_mut() {
+        caller.enter();
+        assert!(rt; caller.generation() == number);
+    }
+    Ok(given == Given::Published)
 }
 
 /// Two callers of a desk at which commands are given.

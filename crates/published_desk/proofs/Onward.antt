@@ -26,6 +26,6 @@ pub onward : GoesOn → (base position : Position) (events : List Event) (entry 
     → AreLegal base (entries_of (events ++ Added entry ∷ [])) × (installed position made ≡ reached base (events ++ Added entry ∷ []))
 onward law base position events entry made id group text there legal judged issuer same =
     let at : made_of_outcome (reached base events).image (outcome (reached base events) id group text) ≡ Ok made =
-        subst (λ (p : Position). made_of_outcome p.image (outcome p id group text) ≡ Ok made) there judged in
+    subst (λ (p : Position). made_of_outcome p.image (outcome p id group text) ≡ Ok made) there judged in
     let both = law base events entry made id group text legal at issuer same in
     (both.0, ap (λ (p : Position). installed p made) there ∙ sym both.1)

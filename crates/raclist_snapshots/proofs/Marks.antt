@@ -70,6 +70,6 @@ pub kept_added : (base : Position) (events : List Event) (next after : Option �
     → IsPublishing base (events ++ Added entry ∷ []) next after (Some holding.image) None
 kept_added base events next after holding held entry is =
     let turn : next ≡ (if is_ended (events ++ Added holding.entry ∷ []) then None else Some (length (events ++ Added holding.entry ∷ []))) =
-        rw (goes_push events holding.entry held.goes_on, length-append events (Added holding.entry ∷ [])) held.next_is in
+    rw (goes_push events holding.entry held.goes_on, length-append events (Added holding.entry ∷ [])) held.next_is in
     subst (λ (one : Accepted). IsPublishing base (events ++ Added one ∷ []) next after (Some holding.image) None) is
     (record { legal = held.legal; turn_is = turn; spare_is = held.image_is; held_is = tt })

@@ -37,9 +37,9 @@ few_from base [] legal = inl refl
 few_from base (entry ∷ entries) legal =
     let first = numbered base legal.0 legal.2 in
     inr (⊎_elim
-      (λ none. rw none (omega arith))
-      (λ rest. omega arith)
-      (few_from (position_behind base legal.0) entries legal.3))
+    (λ none. rw none (omega arith))
+    (λ rest. omega arith)
+    (few_from (position_behind base legal.0) entries legal.3))
 
 few : (base : Position) (entries : List Accepted) → AreLegal base entries → length entries ≤ 2 ^ 62
 few base entries legal = ⊎_elim (λ none. rw none (omega arith)) (λ some. omega arith) (few_from base entries legal)

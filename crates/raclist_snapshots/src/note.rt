@@ -6,8 +6,8 @@ ghost use Rattle.command_history.specs.Events.{ends_last, is_ended, Extends};
 ghost use Rattle.command_history.specs.Reached.{reached};
 
 use command_history::{Accepted, Book, Front, Naming, Turn};
-use raclist_image::Image;
 use racf_profiles::NoMemory;
+use raclist_image::Image;
 use std::alloc::Global;
 use std::marker::Model;
 use std::sync::Arc;

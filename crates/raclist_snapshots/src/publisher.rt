@@ -41,7 +41,8 @@ pub struct Publisher<J: Naming, T: Absorb<O> + Drop, O: Opens<Note<J>>, R: Wait 
     held: Option<Held<J>>,
 }
 
-impl<J: Naming, T: Absorb<O> + Drop, O: Opens<Note<J>>, R: Wait + Drop> Model for Publisher<J, T, O, R> {
+impl<J: Naming, T: Absorb<O> + Drop, O: Opens<Note<J>>, R: Wait + Drop> Model
+    for Publisher<J, T, O, R> {
     ghost use Rattle.std.specs.Option.{option_map, is_none};
     ghost use Rattle.std.specs.Arc.{arc_value};
     ghost use Rattle.raclist_snapshots.specs.Publishing.{Publishing};
@@ -248,8 +249,7 @@ fn cover_all<J: Naming>(note: &Note<J>, callers: &[Caller<J>])
     requires { is_ended note.now ≡ true }
     ensures { All (λ caller. Extends caller.events note.now) callers.now }
 {
-    for caller in callers
-    {
+    for caller in callers {
         note.covers(caller.note());
     }
 }

@@ -23,7 +23,13 @@ pub fn snapshots<'a, J: Naming, Q: Wait>(
     opened: Opened,
     image: Arc<Image, Global>,
     callers: u32,
-) -> Result<(Publisher<J, Shown<Note<J>>, Fresh<Note<J>>, &'a Q>, Vec<Caller<J>>), NoMemory>
+) -> Result<
+    (
+        Publisher<J, Shown<Note<J>>, Fresh<Note<J>>, &'a Q>,
+        Vec<Caller<J>>,
+    ),
+    NoMemory,
+>
     requires book { opened ≡ J.book }
     requires base { arc_value image ≡ J.base.image }
     requires some { 0 < callers }
@@ -57,8 +63,7 @@ fn seated<J: Naming, Q: Wait + Drop>(
     ensures count { IfOk result (λ made. length made.items ≡ callers) }
 {
     let mut made = Vec::with_capacity(alloc, callers as usize)?;
-    for count in 0..callers
-    {
+    for count in 0..callers {
         made.push(Caller::new(writer.handle()?, note.again()?))?;
     }
     Ok(made)

@@ -155,7 +155,12 @@ fn see<J: Naming + Send + Sync, R: Threads + Abort + Sync>(
 )
     requires { 0 < threads }
 {
-    for_each_mut(rt, callers, threads, &|_, caller: &mut Caller<J>| caller.enter());
+    for_each_mut(
+        rt,
+        callers,
+        threads,
+        &|_, caller: &mut Caller<J>| caller.enter(),
+    );
     for caller in callers.iter() {
         assert_eq!(rt; caller.generation(), number);
     }

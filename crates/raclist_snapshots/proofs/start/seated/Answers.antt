@@ -10,7 +10,7 @@ loop-count-preserved g c =
     let items : c.push.new.self.items ≡ c.loop-count.made.items ++ c.new.result ∷ [] = c.in_ok-push.ensures.items in
     let made : P c.new.result = search rules in
     let count : length c.push.new.self.items ≡ c.loop-count.count + 1 =
-        omega (arith, ap length items, length-append c.loop-count.made.items (c.new.result ∷ []), c.loop-count.invariant.count) in
+    omega (arith, ap length items, length-append c.loop-count.made.items (c.new.result ∷ []), c.loop-count.invariant.count) in
     record {
       callers = subst (All P) (sym items) (All-push P c.loop-count.made.items c.new.result c.loop-count.invariant.callers made);
       count = count;

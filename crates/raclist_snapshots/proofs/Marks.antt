@@ -21,7 +21,7 @@ goes_push [] entry goes = refl
 goes_push (Added first ∷ events) entry goes = goes_push events entry goes
 goes_push (Ended h ∷ events) entry goes = absurd (cc goes)
 
-mark_push : (events : List Event) (halted : Bool) → is_ended events ≡ false → mark_of (events ++ Ended halted ∷ []) ≡ Some halted
+pub mark_push : (events : List Event) (halted : Bool) → is_ended events ≡ false → mark_of (events ++ Ended halted ∷ []) ≡ Some halted
 mark_push [] halted goes = refl
 mark_push (Added entry ∷ events) halted goes = mark_push events halted goes
 mark_push (Ended h ∷ events) halted goes = absurd (cc goes)

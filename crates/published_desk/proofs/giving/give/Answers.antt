@@ -27,14 +27,14 @@ pub returns : goal.returns
 returns g c =
     let made = made_in c.in-Ok.ready in
     let leads = (onward c.what_a_desk_makes_goes_on.ensures g.J.Naming.base c.args.desk.now.position c.args.publisher.now.events c.in-Ok-entry_of.entry made _ _ _
-        c.requires.position c.is_legal.ensures.legal c.in-Ok.ensures.accepted c.in-Ok-entry_of.ensures.issuer c.in-Ok-entry_of.ensures.text).1 in
+    c.requires.position c.is_legal.ensures.legal c.in-Ok.ensures.accepted c.in-Ok-entry_of.ensures.issuer c.in-Ok-entry_of.ensures.text).1 in
     let events : c.publish.new.self.events ≡ c.args.publisher.now.events ++ Added c.in-Ok-entry_of.entry ∷ [] =
-        ap (λ (p : Publishing). p.events) c.publish.ensures
-        ∙ ap (λ (p : Publishing). p.events ++ Added c.in-Ok-entry_of.entry ∷ []) c.in-Ok-hold.ensures.held in
+    ap (λ (p : Publishing). p.events) c.publish.ensures
+    ∙ ap (λ (p : Publishing). p.events ++ Added c.in-Ok-entry_of.entry ∷ []) c.in-Ok-hold.ensures.held in
     let stood : c.commit.new.self.position ≡ c.args.desk.now.position =
-        ap (λ (d : DeskOn NeverDisk). d.position) c.in-Ok-commit.ensures.committed ∙ ap (λ (d : DeskOn NeverDisk). d.position) c.in-Ok.ensures.made in
+    ap (λ (d : DeskOn NeverDisk). d.position) c.in-Ok-commit.ensures.committed ∙ ap (λ (d : DeskOn NeverDisk). d.position) c.in-Ok.ensures.made in
     let stands : c.install.new.self.position ≡ installed c.args.desk.now.position made =
-        ap (λ (d : DeskOn NeverDisk). d.position) c.install.ensures.installed ∙ ap (λ (p : Position). installed p made) stood in
+    ap (λ (d : DeskOn NeverDisk). d.position) c.install.ensures.installed ∙ ap (λ (p : Position). installed p made) stood in
     record {
       position = stands ∙ (leads ∙ ap (reached g.J.Naming.base) (sym events));
       settled = ap (λ (d : DeskOn NeverDisk). d.committed) c.install.ensures.installed;

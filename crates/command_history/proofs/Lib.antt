@@ -1,3 +1,4 @@
 pub mod Extensions
 pub mod Leading
 mod Steps
+mod Texts

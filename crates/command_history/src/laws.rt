@@ -4,6 +4,7 @@ ghost use mathlib.Core.List.{IsPrefix};
 ghost use Rattle.command_parser.specs.Canonical.{canonical, IsWritten};
 ghost use Rattle.journal_records.specs.declared.record.CommandRecord.{CommandRecord};
 ghost use Rattle.racf_desk.specs.History.{IsLegal};
+ghost use Rattle.racf_desk.specs.Made.{Made, made_of_outcome, installed};
 ghost use Rattle.racf_desk.specs.Outcome.{outcome};
 ghost use Rattle.racf_desk.specs.Position.{Position, position_behind};
 ghost use Rattle.command_history.specs.declared.events.Accepted.{Accepted};
@@ -12,6 +13,8 @@ ghost use Rattle.command_history.specs.declared.events.Event.TheVariants.{Added,
 ghost use Rattle.command_history.specs.Events.{all_of, ends_last, entries_of, is_ended, mark_of, Extends};
 ghost use Rattle.command_history.specs.Reached.{reached, record_of, records_of, AreLegal};
 
+use command_grammar::laws::{canonical_text_is_read_again, what_is_read_is_lawful};
+use command_parser::laws::{one_command_is_spelled, operands_are_the_tables};
 use journal_records::laws::canonical_texts_are_of_commands;
 
 /// How lists of events extend each other: a list is extended by each event that is added, one after another, and lists
@@ -72,4 +75,22 @@ pub fn an_entry_has_the_record_of_its_command()
         entry.issuer ≡ given.issuer → entry.text ≡ canonical given.command → record_of entry ≡ Some given }
 {
     canonical_texts_are_of_commands();
+}
+
+/// What a desk makes of a command goes on from where the events lead: an entry with its issuer and its text is legal
+/// behind them, and leads to where the command is installed.
+pub fn what_a_desk_makes_goes_on()
+    ensures { (base : Position) (events : List Event) (entry : Accepted) (made : Made)
+        (id : List ℕ) (group : Option (List ℕ)) (text : List ℕ) →
+        AreLegal base (entries_of events) →
+        made_of_outcome (reached base events).image (outcome (reached base events) id group text) ≡ Ok made →
+        entry.issuer ≡ made.issuer → entry.text ≡ made.text →
+        AreLegal base (entries_of (events ++ Added entry ∷ []))
+        × (reached base (events ++ Added entry ∷ []) ≡ installed (reached base events) made) }
+{
+    an_entry_has_the_record_of_its_command();
+    one_command_is_spelled();
+    operands_are_the_tables();
+    what_is_read_is_lawful();
+    canonical_text_is_read_again();
 }

@@ -13,9 +13,8 @@ ghost use Rattle.command_history.specs.declared.events.Event.TheVariants.{Added,
 ghost use Rattle.command_history.specs.Events.{all_of, ends_last, entries_of, is_ended, mark_of, Extends};
 ghost use Rattle.command_history.specs.Reached.{reached, record_of, records_of, AreLegal};
 
-use command_grammar::laws::{canonical_text_is_read_again, what_is_read_is_lawful};
-use command_parser::laws::{one_command_is_spelled, operands_are_the_tables};
 use journal_records::laws::canonical_texts_are_of_commands;
+use racf_desk::laws::accepted_commands_are_written;
 
 /// How lists of events extend each other: a list is extended by each event that is added, one after another, and lists
 /// that extend each other are one. A list in which nothing stands behind the final mark extends each of its beginnings.
@@ -89,8 +88,5 @@ pub fn what_a_desk_makes_goes_on()
         × (reached base (events ++ Added entry ∷ []) ≡ installed (reached base events) made) }
 {
     an_entry_has_the_record_of_its_command();
-    one_command_is_spelled();
-    operands_are_the_tables();
-    what_is_read_is_lawful();
-    canonical_text_is_read_again();
+    accepted_commands_are_written();
 }

@@ -608,15 +608,15 @@ fn under_d(number: u32) -> [u8; 9] {
     [b'D', b'.', b'E', b'0', a, b, c, d, e]
 }
 
-/// A change makes anew the bucket of the name's first qualifier, or the one of generic first qualifiers; a bucket of 64
+/// A change makes anew the bucket of the name's first qualifier, or the one of generic first qualifiers; a bucket of 16
 /// that takes one more becomes two.
 #[test]
 fn makes_one_bucket_anew(rt: HostRuntime) {
     let mut index = few_names(&rt);
-    for number in 0..66u32 {
+    for number in 0..18u32 {
         let placed = match number {
-            64 => 65 * 9,
-            65 => 34 * 9,
+            16 => 17 * 9,
+            17 => 10 * 9,
             _ => (number as usize + 1) * 9,
         };
         index = place(&rt, &index, &under_d(number), placed);

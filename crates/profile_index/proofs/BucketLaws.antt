@@ -37,15 +37,15 @@ module _ {A : Type 0} where
   mapped-some f (y ∷ xs) (suc i) b h = mapped-some f xs i b h
 
   -- the halves of a full list
-  pub front-half : (xs ys front : List A) → ys ≡ xs → front ≡ drop 0 (take 32 ys) → length xs ≡ 64 → (front ≡ take 32 xs) × (length front ≡ 32)
+  pub front-half : (xs ys front : List A) → ys ≡ xs → front ≡ drop 0 (take 8 ys) → length xs ≡ 16 → (front ≡ take 8 xs) × (length front ≡ 8)
   front-half xs ys front same is full =
-      let all = is ∙ ap (λ l. take 32 l) same in
-      (all, ap length all ∙ length-take-le 32 xs (omega arith))
+      let all = is ∙ ap (λ l. take 8 l) same in
+      (all, ap length all ∙ length-take-le 8 xs (omega arith))
 
-  pub back-half : (xs ys back : List A) → ys ≡ xs → back ≡ drop 32 (take 64 ys) → length xs ≡ 64 → (back ≡ drop 32 xs) × (length back ≡ 32)
+  pub back-half : (xs ys back : List A) → ys ≡ xs → back ≡ drop 8 (take 16 ys) → length xs ≡ 16 → (back ≡ drop 8 xs) × (length back ≡ 8)
   back-half xs ys back same is full =
-      let all = is ∙ ap (λ l. drop 32 (take 64 l)) same ∙ ap (λ l. drop 32 l) (take_all 64 xs (omega arith)) in
-      (all, ap length all ∙ omega (arith, length-drop 32 xs))
+      let all = is ∙ ap (λ l. drop 8 (take 16 l)) same ∙ ap (λ l. drop 8 l) (take_all 16 xs (omega arith)) in
+      (all, ap length all ∙ omega (arith, length-drop 8 xs))
 
   pub set-split : (xs : List A) (i : ℕ) (x : A) → i < length xs → take i xs ++ x ∷ drop (i + 1) xs ≡ set xs i x
   set-split xs i x h =

@@ -12,13 +12,13 @@ module _ {T : Type 0} where
   abbrev pub names_length : List (Entry T) → ℕ
   names_length entries = sum_by (λ e. length e.name.text) entries
 
--- a bucket counts its entries, of which there is one at least, and 64 at most
+-- a bucket counts its entries, of which there is one at least, and 16 at most
 pub record IsBucket {A : Type 0} (entries : List A) (count : ℕ) : Type 0 where
   pub counted : count ≡ length entries
   pub some : 0 < count
-  pub most : count ≤ 64
+  pub most : count ≤ 16
 
 -- The most bytes of names that lie in the buckets which one change makes anew: those of a full one, and of the new
 -- name.
 abbrev pub most_placed : ℕ
-most_placed = 15990
+most_placed = 4182

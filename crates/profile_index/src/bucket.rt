@@ -16,12 +16,12 @@ use std::marker::Model;
 use std::sync::Arc;
 
 /// The most entries of a bucket.
-const MOST: usize = 64;
+const MOST: usize = 16;
 
 /// The entries of a bucket that is packed, so that the next ones that come in don't split it.
-const PACKED: usize = 48;
+const PACKED: usize = 12;
 
-/// Up to 64 entries that stand together, shared by versions of an index. Their names have one first qualifier, or first
+/// Up to 16 entries that stand together, shared by versions of an index. Their names have one first qualifier, or first
 /// qualifiers that are generic; where there are more of them, they stand in several buckets. That is how buckets are
 /// cut, and no search rests on it.
 #[derive(Drop)]
@@ -49,7 +49,7 @@ impl<T: Drop> Bucket<T> {
     /// A bucket of these entries.
     fn holding(alloc: Global, rows: BucketRows<T>) -> Result<Bucket<T>, AllocError>
         requires some { 0 < length rows }
-        requires most { length rows ≤ 64 }
+        requires most { length rows ≤ 16 }
         ensures { IfOk result (λ bucket. bucket ≡ rows) }
     {
         let len = rows.entries().len();
@@ -63,7 +63,7 @@ impl<T: Drop> Bucket<T> {
     fn rows(&self) -> &BucketRows<T>
         ensures rows { result.now ≡ self.now }
         ensures some { 0 < length self.now }
-        ensures most { length self.now ≤ 64 }
+        ensures most { length self.now ≤ 16 }
     {
         &self.rows
     }
@@ -90,7 +90,7 @@ impl<T: Drop> Bucket<T> {
         entry: Arc<Entry<T>>,
     ) -> Result<Bucket<T>, AllocError>
         requires place { place ≤ length self.now }
-        requires few { length self.now < 64 }
+        requires few { length self.now < 16 }
         ensures { IfOk result (λ bucket. bucket ≡ insert self.now place (arc_value entry)) }
     {
         let rows = self.rows().with_entry(alloc, place, place, entry)?;
@@ -105,7 +105,7 @@ impl<T: Drop> Bucket<T> {
         entry: Arc<Entry<T>>,
     ) -> Result<(Bucket<T>, Bucket<T>), AllocError>
         requires place { place ≤ length self.now }
-        requires full { length self.now ≡ 64 }
+        requires full { length self.now ≡ 16 }
         ensures { IfOk result (λ halves. halves.0 ++ halves.1 ≡ insert self.now place (arc_value entry)) }
     {
         let half = MOST / 2;
@@ -299,7 +299,7 @@ fn is_lower(key: &[u8], other: &[u8]) -> bool
 fn run_of<T>(entries: &[Arc<Entry<T>>]) -> usize
     requires { 0 < length entries.now }
     ensures some { 0 < result }
-    ensures most { result ≤ 64 }
+    ensures most { result ≤ 16 }
     ensures within { result ≤ length entries.now }
 {
     let most = entries.len().min(PACKED);

@@ -184,7 +184,7 @@ fn key_bytes<T>(entries: &[Arc<Entry<T>>]) -> usize {
 
 /// How many bytes the names of these entries have.
 pub(crate) fn names_length<T>(entries: &[Arc<Entry<T>>]) -> usize
-    requires { length entries.now ≤ 64 }
+    requires { length entries.now ≤ 16 }
     ensures length { result ≡ names_length (map arc_value entries.now) }
     ensures most { result ≤ 246 * length entries.now }
 {

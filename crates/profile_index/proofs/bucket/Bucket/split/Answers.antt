@@ -45,8 +45,8 @@ returns-then-place-half g c =
     let back = back-half xs c.rows-2.result.now c.in_ok-part-2.field-0 c.rows-2.ensures.rows c.in_ok-part-2.ensures c.requires.full in
     ap (λ l. l ++ c.in_ok-back.back) c.in_ok-grown.ensures
     ∙ ap (λ l. insert l place new ++ c.in_ok-back.back) (c.in_ok-front.ensures ∙ front.0)
-    ∙ ap (λ l. insert (take 32 xs) place new ++ l) (c.in_ok-back.ensures ∙ back.0)
-    ∙ insert-front xs 32 place new (omega arith) (omega (arith, c.requires.full))
+    ∙ ap (λ l. insert (take 8 xs) place new ++ l) (c.in_ok-back.ensures ∙ back.0)
+    ∙ insert-front xs 8 place new (omega arith) (omega (arith, c.requires.full))
 
 pub returns : goal.returns
 returns g c =
@@ -56,6 +56,6 @@ returns g c =
     let front = front-half xs c.rows.result.now c.in_ok-part.field-0 c.rows.ensures.rows c.in_ok-part.ensures c.requires.full in
     let back = back-half xs c.rows-2.result.now c.in_ok-part-2.field-0 c.rows-2.ensures.rows c.in_ok-part-2.ensures c.requires.full in
     ap (λ l. c.in_ok-front.front ++ l) c.in_ok-back-2.ensures
-    ∙ ap (λ l. l ++ insert c.in_ok-back.back (place - 32) new) (c.in_ok-front.ensures ∙ front.0)
-    ∙ ap (λ l. take 32 xs ++ insert l (place - 32) new) (c.in_ok-back.ensures ∙ back.0)
-    ∙ insert-back xs 32 place new (omega arith) (omega (arith, c.requires.full))
+    ∙ ap (λ l. l ++ insert c.in_ok-back.back (place - 8) new) (c.in_ok-front.ensures ∙ front.0)
+    ∙ ap (λ l. take 8 xs ++ insert l (place - 8) new) (c.in_ok-back.ensures ∙ back.0)
+    ∙ insert-back xs 8 place new (omega arith) (omega (arith, c.requires.full))

@@ -9,5 +9,5 @@ returns-clause-placed g c =
     let whole = ap length c.in_ok-front.ensures in
     let sum = length-append c.in_ok-front.front c.in_ok-front.back in
     let around = length-around xs c.args.place c.args.place (arc_value c.args.item) c.requires.place in
-    let most : length xs ≤ 64 = omega (arith, c.self.invariant.most, c.self.invariant.counted, ap length c.self.view_is) in
+    let most : length xs ≤ 16 = omega (arith, c.self.invariant.most, c.self.invariant.counted, ap length c.self.view_is) in
     omega (arith, c.two-2.ensures.placed, c.names_length.ensures, c.names_length-2.ensures, whole, sum, around, most)

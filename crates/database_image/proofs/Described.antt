@@ -26,22 +26,31 @@ use Rattle.racf_profiles.specs.LawfulProfiles.{kind_in, member_name}
 use Rattle.database_image.specs.Forms.{Form, Spelling, the, followed, done, field, number, number_spelling, listed}
 use Rattle.database_image.specs.Fields.{any, below, at_most, id_text, group_text, itself, text_or_none, unless_blank, who_text, who_of, filled_spelling, rank_spelling, set_spelling, text_spelling, bit, is_set, is_new}
 use Rattle.database_image.specs.Description.{within, option_flags, options, is_superior_of, group, attribute_flags, attributes_of, attributes, connect_flags, connection, printable, user, spelled_text, pattern_in, member_in, is_pattern_at, audit_rank, audit_levels, flag_rank, entry, entry_key, port_rank, cond_key, cond_entry, cond_entry_key, member_kind, is_kind_in, resources_of, level_of_member, number_of_member, is_new_member, member_of_kind, member, profile, class_flags, are_class_flags, is_class_at, log_rank, log_options, class, image}
+use Rattle.database_image.specs.Facts.{group_width, connect_width, user_width, member_width, profile_width, class_width, classes_place}
+use Rattle.database_image.proofs.Wide.{IsWide, wide-field, wide-followed, wide-done, wide-listed, same_width}
 use Rattle.database_image.proofs.Exact.{IsExact, IsUnique, IsSteady, exact-field, exact-followed, exact-done, exact-listed}
 use Rattle.database_image.proofs.Spellings.{IsTextOf, unique-1, unique-2, unique-4, unique-filled, unique-rank, unique-set, unique-text, id-own, group-own, blank-own, who-own, printable-own, pattern-own, member-own}
 
--- A form, and that it is exact.
+-- A form, that it is exact, and how many bytes its values have.
 record Exact (A : Type 0) : Type 1 where
   form : Form A
   exact : IsExact form
+  width : A → ℕ
+  wide : IsWide form width
 
 abbrev then_ : {A K : Type 0} (of : A → K) (first : Exact K) (rest : K → Exact A) → ((k : K) (x : A) → first.form.Fits k → (rest k).form.Fits x → of x ≡ k) → Exact A
-then_ of first rest pins = record { form = followed (the of first.form) (λ k. (rest k).form); exact = exact-followed (the of first.form) (λ k. (rest k).form) first.exact (λ k. (rest k).exact) pins }
+then_ of first rest pins = record {
+  form = followed (the of first.form) (λ k. (rest k).form);
+  exact = exact-followed (the of first.form) (λ k. (rest k).form) first.exact (λ k. (rest k).exact) pins;
+  width = λ x. first.width (of x) + (rest (of x)).width x;
+  wide = wide-followed (the of first.form) (λ k. (rest k).form) first.width (λ k. (rest k).width) first.wide (λ k. (rest k).wide);
+}
 
 abbrev done_ : {A : Type 0} → A → Exact A
-done_ x = record { form = done x; exact = exact-done x }
+done_ x = record { form = done x; exact = exact-done x; width = λ y. 0; wide = wide-done x }
 
 abbrev field_ : {A : Type 0} (spelling : Spelling A) (is_lawful : A → Bool) → IsUnique spelling → Exact A
-field_ spelling is_lawful unique = record { form = field spelling is_lawful; exact = exact-field spelling is_lawful unique }
+field_ spelling is_lawful unique = record { form = field spelling is_lawful; exact = exact-field spelling is_lawful unique; width = λ x. spelling.width; wide = wide-field spelling is_lawful }
 
 abbrev byte_ : (ℕ → Bool) → Exact ℕ
 byte_ is_lawful = field_ (number_spelling 1) is_lawful unique-1
@@ -73,11 +82,16 @@ set_ is_lawful = field_ set_spelling is_lawful unique-set
 abbrev text_ : {A : Type 0} (count : Exact ℕ) (spelled : A → List ℕ) (value : List ℕ → Option A) (is_lawful : A → Bool) → IsTextOf spelled value → Exact A
 text_ count spelled value is_lawful own = then_ (λ x. length (spelled x)) count (λ n. field_ (text_spelling spelled value n) is_lawful (unique-text spelled value n own)) (λ n x f h. h.0.whole)
 
-abbrev listed_ : {A : Type 0} (width : ℕ) (is_lawful : ℕ → Bool) (item : List A → Form A) → IsUnique (number_spelling width) → ((before : List A) → IsExact (item before)) → IsSteady item → Exact (List A)
-listed_ width is_lawful item unique exact steady = record { form = listed width is_lawful item; exact = exact-listed width is_lawful item (exact-field (number_spelling width) is_lawful unique) exact steady }
+abbrev listed_ : {A : Type 0} (width : ℕ) (is_lawful : ℕ → Bool) (item : List A → Form A) → IsUnique (number_spelling width) → ((before : List A) → IsExact (item before)) → IsSteady item → (item_width : A → ℕ) → ((before : List A) → IsWide (item before) item_width) → Exact (List A)
+listed_ width is_lawful item unique exact steady item_width wide = record {
+  form = listed width is_lawful item;
+  exact = exact-listed width is_lawful item (exact-field (number_spelling width) is_lawful unique) exact steady;
+  width = λ items. width + sum_by item_width items;
+  wide = wide-listed width is_lawful item item_width steady wide;
+}
 
 abbrev ids_ : (width : ℕ) (is_lawful : ℕ → Bool) → IsUnique (number_spelling width) → Exact (List (List ℕ))
-ids_ width is_lawful unique = listed_ width is_lawful (λ before. (id_ (is_new before)).form) unique (λ before. (id_ (is_new before)).exact) (λ before x. refl)
+ids_ width is_lawful unique = listed_ width is_lawful (λ before. (id_ (is_new before)).form) unique (λ before. (id_ (is_new before)).exact) (λ before x. refl) (λ x. 8) (λ before. (id_ (is_new before)).wide)
 
 -- ---- flags
 
@@ -118,6 +132,10 @@ pub exact-options : IsExact (options)
 unfolding options
 exact-options = (options_).exact
 
+wide-options : IsWide options (λ o. 3 + 8 * length o.categories)
+unfolding options
+wide-options o f = let k : length (options.bytes o) ≡ (options_).width o = (options_).wide o f in omega (arith, k, same_width 8 o.categories)
+
 -- ---- group
 
 abbrev group_ : (before : List Group) → Exact Group
@@ -133,6 +151,10 @@ group_ before =
 pub exact-group : (before : List Group) → IsExact (group before)
 unfolding group
 exact-group before = (group_ before).exact
+
+wide-group : (before : List Group) → IsWide (group before) group_width
+unfolding group
+wide-group before x f = let k : length ((group before).bytes x) ≡ (group_ before).width x = (group_ before).wide x f in omega (arith, k)
 
 -- ---- attributes
 
@@ -161,6 +183,10 @@ pub exact-connection : (before : List Connect) → IsExact (connection before)
 unfolding connection
 exact-connection before = (connection_ before).exact
 
+wide-connection : (before : List Connect) → IsWide (connection before) connect_width
+unfolding connection
+wide-connection before x f = let k : length ((connection before).bytes x) ≡ (connection_ before).width x = (connection_ before).wide x f in omega (arith, k)
+
 steady-group : IsSteady group
 unfolding group
 steady-group before x = refl
@@ -182,7 +208,7 @@ user_ categories before =
     then_ (λ (u : User). u.categories) (set_ (below (2 ^ categories))) (λ set.
     then_ (λ (u : User). u.label) (label_) (λ label.
     then_ (λ (u : User). u.classes) (ids_ 1 any unique-1) (λ classes.
-    then_ (λ (u : User). u.connects) (listed_ 2 (within most_connections most_connections_in_all (connections before)) connection unique-2 exact-connection steady-connection) (λ connects.
+    then_ (λ (u : User). u.connects) (listed_ 2 (within most_connections most_connections_in_all (connections before)) connection unique-2 exact-connection steady-connection connect_width wide-connection) (λ connects.
     done_ (record { id = name; default_group = default_group; owner = owner; name = full_name; attributes = attributes; classes = classes; level = level; categories = set; label = label; connects = connects }))
     (λ k x f h. ap (λ (u : User). u.connects) h))
     (λ k x f h. ap (λ (u : User). u.classes) h.1))
@@ -199,6 +225,10 @@ pub exact-user : (categories : ℕ) (before : List User) → IsExact (user categ
 unfolding user
 exact-user categories before = (user_ categories before).exact
 
+wide-user : (categories : ℕ) (before : List User) → IsWide (user categories before) user_width
+unfolding user
+wide-user categories before x f = let k : length ((user categories before).bytes x) ≡ (user_ categories before).width x = (user_ categories before).wide x f in omega (arith, k, same_width 8 x.classes, same_width 10 x.connects)
+
 -- ---- entry
 
 abbrev entry_ : (before : List Entry) → Exact Entry
@@ -212,6 +242,10 @@ entry_ before =
 pub exact-entry : (before : List Entry) → IsExact (entry before)
 unfolding entry
 exact-entry before = (entry_ before).exact
+
+wide-entry : (before : List Entry) → IsWide (entry before) (λ x. 9)
+unfolding entry
+wide-entry before x f = let k : length ((entry before).bytes x) ≡ (entry_ before).width x = (entry_ before).wide x f in omega (arith, k)
 
 -- ---- cond_entry
 
@@ -230,6 +264,10 @@ cond_entry_ before =
 pub exact-cond_entry : (before : List CondEntry) → IsExact (cond_entry before)
 unfolding cond_entry
 exact-cond_entry before = (cond_entry_ before).exact
+
+wide-cond_entry : (before : List CondEntry) → IsWide (cond_entry before) (λ x. 18)
+unfolding cond_entry
+wide-cond_entry before x f = let k : length ((cond_entry before).bytes x) ≡ (cond_entry_ before).width x = (cond_entry_ before).wide x f in omega (arith, k)
 
 -- ---- members
 
@@ -275,6 +313,18 @@ pub exact-member : (names : List (List ℕ)) (class profile : List ℕ) (before 
 unfolding member
 exact-member names class profile before = exact-followed (the member_kind (number 1 (is_kind_in class profile))) (member_of_kind names profile before) (byte_ (is_kind_in class profile)).exact (exact-member_of_kind names profile before) (λ k x f h. kind-pinned names class profile before k x f.1 h)
 
+behind-kind : (names : List (List ℕ)) (profile : List ℕ) (before : List Member) (x : Member) → (member_of_kind names profile before (member_kind x)).Fits x → suc (length ((member_of_kind names profile before (member_kind x)).bytes x)) ≡ member_width x
+behind-kind names profile before (members.Access resources level) f =
+    let k = (access_member_ profile before).wide (members.Access resources level) f in omega (arith, k)
+behind-kind names profile before (members.SecurityLevel name number) f =
+    let k = (level_member_ before).wide (members.SecurityLevel name number) f in omega (arith, k)
+behind-kind names profile before (members.Category name) f =
+    let k = (category_member_ names before).wide (members.Category name) f in omega (arith, k)
+
+wide-member : (names : List (List ℕ)) (class profile : List ℕ) (before : List Member) → IsWide (member names class profile before) member_width
+unfolding member
+wide-member names class profile before x f = behind-kind names profile before x f.1
+
 steady-entry : IsSteady entry
 unfolding entry
 steady-entry before x = refl
@@ -308,9 +358,9 @@ profile_ names class entries before =
     then_ (λ (p : Profile). p.level) (byte_ any) (λ level.
     then_ (λ (p : Profile). p.categories) (set_ (below (2 ^ length names))) (λ set.
     then_ (λ (p : Profile). p.label) (label_) (λ label.
-    then_ (λ (p : Profile). p.standard) (listed_ 2 (within most_list_entries most_entries_in_all (entries + sum_by entries_in before)) entry unique-2 exact-entry steady-entry) (λ standard.
-    then_ (λ (p : Profile). p.conditional) (listed_ 2 (within most_list_entries most_entries_in_all (entries + sum_by entries_in before + length standard)) cond_entry unique-2 exact-cond_entry steady-cond_entry) (λ conditional.
-    then_ (λ (p : Profile). p.members) (listed_ 2 (at_most most_members) (member names class name.text) unique-2 (exact-member names class name.text) (steady-member names class name.text)) (λ members.
+    then_ (λ (p : Profile). p.standard) (listed_ 2 (within most_list_entries most_entries_in_all (entries + sum_by entries_in before)) entry unique-2 exact-entry steady-entry (λ x. 9) wide-entry) (λ standard.
+    then_ (λ (p : Profile). p.conditional) (listed_ 2 (within most_list_entries most_entries_in_all (entries + sum_by entries_in before + length standard)) cond_entry unique-2 exact-cond_entry steady-cond_entry (λ x. 18) wide-cond_entry) (λ conditional.
+    then_ (λ (p : Profile). p.members) (listed_ 2 (at_most most_members) (member names class name.text) unique-2 (exact-member names class name.text) (steady-member names class name.text) member_width (wide-member names class name.text)) (λ members.
     done_ (record { name = name; owner = owner; uacc = uacc; warning = warning; standard = standard; conditional = conditional; level = level; categories = set; label = label; audit = record { success = success; failures = failures }; global_audit = record { success = global_success; failures = global_failures }; members = members }))
     (λ k x f h. ap (λ (p : Profile). p.members) h))
     (λ k x f h. ap (λ (p : Profile). p.conditional) h.1))
@@ -331,6 +381,12 @@ pub exact-profile : (names : List (List ℕ)) (class : List ℕ) (entries : ℕ)
 unfolding profile
 exact-profile names class entries before = (profile_ names class entries before).exact
 
+wide-profile : (names : List (List ℕ)) (class : List ℕ) (entries : ℕ) (before : List Profile) → IsWide (profile names class entries before) profile_width
+unfolding profile
+wide-profile names class entries before x f =
+    let k : length ((profile names class entries before).bytes x) ≡ (profile_ names class entries before).width x = (profile_ names class entries before).wide x f in
+    omega (arith, k, same_width 9 x.standard, same_width 18 x.conditional)
+
 steady-profile : (names : List (List ℕ)) (class : List ℕ) (entries : ℕ) → IsSteady (profile names class entries)
 unfolding profile
 steady-profile names class entries before x = refl
@@ -349,7 +405,7 @@ class_ names before =
     then_ (λ (c : ClassRow). c.name) (id_ (is_class_at (length before))) (λ name.
     then_ (λ (c : ClassRow). class_flags c) (byte_ (are_class_flags name)) (λ flags.
     then_ (λ (c : ClassRow). c.log) (ranked_ log_rank log_options) (λ log.
-    then_ (λ (c : ClassRow). c.profiles) (listed_ 4 (within most_class_profiles most_profiles (profile_count before)) (profile names name (entry_count before)) unique-4 (exact-profile names name (entry_count before)) (steady-profile names name (entry_count before))) (λ profiles.
+    then_ (λ (c : ClassRow). c.profiles) (listed_ 4 (within most_class_profiles most_profiles (profile_count before)) (profile names name (entry_count before)) unique-4 (exact-profile names name (entry_count before)) (steady-profile names name (entry_count before)) profile_width (wide-profile names name (entry_count before))) (λ profiles.
     done_ (record { name = name; active = is_set flags 1; listed = is_set flags 2; global = is_set flags 4; log = log; profiles = profiles }))
     (λ k x f h. ap (λ (c : ClassRow). c.profiles) h))
     (λ k x f h. ap (λ (c : ClassRow). c.log) h.1))
@@ -360,6 +416,10 @@ pub exact-class : (names : List (List ℕ)) (before : List ClassRow) → IsExact
 unfolding class
 exact-class names before = (class_ names before).exact
 
+wide-class : (names : List (List ℕ)) (before : List ClassRow) → IsWide (class names before) class_width
+unfolding class
+wide-class names before x f = let k : length ((class names before).bytes x) ≡ (class_ names before).width x = (class_ names before).wide x f in omega (arith, k)
+
 steady-user : (categories : ℕ) → IsSteady (user categories)
 unfolding user
 steady-user categories before x = refl
@@ -369,16 +429,16 @@ unfolding class profile
 steady-class names before x = refl
 
 abbrev whole_options : Exact Options
-whole_options = record { form = options; exact = exact-options }
+whole_options = record { form = options; exact = exact-options; width = λ o. 3 + 8 * length o.categories; wide = wide-options }
 
 -- ---- image
 
 abbrev image_ : Exact Rows
 image_ =
     then_ (λ (r : Rows). r.options) (whole_options) (λ options.
-    then_ (λ (r : Rows). r.groups) (listed_ 4 (at_most most_groups) group unique-4 exact-group steady-group) (λ groups.
-    then_ (λ (r : Rows). r.users) (listed_ 4 (at_most most_users) (user (length options.categories)) unique-4 (exact-user (length options.categories)) (steady-user (length options.categories))) (λ users.
-    then_ (λ (r : Rows). r.classes) (listed_ 2 (λ count. count == length fixed_classes) (class options.categories) unique-2 (exact-class options.categories) (steady-class options.categories)) (λ classes.
+    then_ (λ (r : Rows). r.groups) (listed_ 4 (at_most most_groups) group unique-4 exact-group steady-group group_width wide-group) (λ groups.
+    then_ (λ (r : Rows). r.users) (listed_ 4 (at_most most_users) (user (length options.categories)) unique-4 (exact-user (length options.categories)) (steady-user (length options.categories)) user_width (wide-user (length options.categories))) (λ users.
+    then_ (λ (r : Rows). r.classes) (listed_ 2 (λ count. count == length fixed_classes) (class options.categories) unique-2 (exact-class options.categories) (steady-class options.categories) class_width (wide-class options.categories)) (λ classes.
     done_ (record { users = users; groups = groups; classes = classes; options = options }))
     (λ k x f h. ap (λ (r : Rows). r.classes) h))
     (λ k x f h. ap (λ (r : Rows). r.users) h.1))
@@ -388,3 +448,8 @@ image_ =
 pub exact-image : IsExact (image)
 unfolding image
 exact-image = (image_).exact
+
+-- The whole image has as many bytes as the widths of its parts say.
+pub wide-image : (rows : Rows) → image.Fits rows → length (image.bytes rows) ≡ classes_place rows + sum_by class_width rows.classes
+unfolding image
+wide-image rows f = let k : length (image.bytes rows) ≡ (image_).width rows = (image_).wide rows f in omega (arith, k, same_width 24 rows.groups)

@@ -1,13 +1,17 @@
 -- Images are read as the rows that they are written for.
-use Rattle.std.proofs.Common.{◌≡◌, ℕ, List, [], ◌∷◌, Option, Some, None, Result, Ok, Err, refl, sym, ap, subst, ◌∙◌}
+use Rattle.std.proofs.Common.{◌≡◌, ℕ, ◌+◌, List, [], ◌∷◌, length, Option, Some, None, Result, Ok, Err, refl, sym, ap, subst, ◌∙◌}
+use Rattle.std.specs.List.{sum_by}
 use Rattle.std.proofs.lemmas.List.{append-nil}
 use Rattle.racf_profiles.specs.declared.rows.Rows.{Rows}
 use Rattle.database_image.specs.Reading.{AreBytes, ◌>>=◌}
 use Rattle.database_image.specs.Description.{image}
-use Rattle.database_image.specs.Facts.{facts, first_broken}
-use Rattle.database_image.specs.Image.{image_of, unless_more, from_beginning, first_pass, unless_broken, second_pass, rows_of, IsStored}
+use Rattle.database_image.specs.Facts.{facts, first_broken, classes_place, class_width}
+use Rattle.database_image.specs.Image.{image_of, unless_more, from_beginning, first_pass, unless_broken, second_pass, rows_of, IsStored, Tells, Reads}
+use Rattle.std.specs.Prelude.{IfOk}
+use Rattle.database_image.specs.declared.faults.ImageFault.{ImageFault}
+use Rattle.database_image.specs.declared.faults.ImageFault.TheVariants as faults
 use Rattle.database_image.proofs.Exact.{Takes, bind_ok}
-use Rattle.database_image.proofs.Described.{exact-image}
+use Rattle.database_image.proofs.Described.{exact-image, wide-image}
 
 told_ok : (bytes : List ℕ) (r : Result Rows ℕ) (rows : Rows) → from_beginning bytes r ≡ Ok rows → r ≡ Ok rows
 told_ok bytes (Ok x) rows e = e
@@ -48,3 +52,22 @@ found bytes rows fits e =
 pub only : (rows : Rows) → IsStored rows → rows_of (image_of rows) ≡ Ok rows
 unfolding rows_of second_pass
 only rows h = rw (fields_only rows h.fields, h.between) refl
+
+-- An image has as many bytes as the widths of its parts say.
+pub image-width : (rows : Rows) → image.Fits rows → length (image_of rows) ≡ classes_place rows + sum_by class_width rows.classes
+unfolding image_of
+image-width rows h = wide-image rows h
+
+-- ---- both passes, one behind the other
+pub behind-first : (bytes : List ℕ) (rows : Rows) → first_pass bytes ≡ Ok rows → rows_of bytes ≡ second_pass rows
+unfolding rows_of
+behind-first bytes rows h = ap (λ r. r >>= second_pass) h
+
+pub first-refused : (bytes : List ℕ) (fault : ImageFault) → Tells fault (first_pass bytes) → Tells fault (rows_of bytes)
+unfolding rows_of
+first-refused bytes faults.NoMemory h = tt
+first-refused bytes (faults.BadField place) h = ap (λ r. r >>= second_pass) h
+
+pub found_in : (result : Result Rows ImageFault) (bytes : List ℕ) → AreBytes bytes → Reads result (rows_of bytes) → IfOk result (λ rows. IsStored rows × (bytes ≡ image_of rows))
+found_in (Ok rows) bytes fits h = found bytes rows fits h
+found_in (Err fault) bytes fits h = tt

@@ -4,7 +4,17 @@ mod Loops
 mod Behind
 mod Sets
 mod Exact
+mod Wide
+mod Climbs
+mod Maps
+mod Told
+mod Fitting
+mod BetweenLaws
 mod Spellings
 mod Described
 mod Images
 mod Appended
+mod StoredGroups
+mod StoredUsers
+mod StoredClasses
+mod Stored

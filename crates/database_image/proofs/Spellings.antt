@@ -72,7 +72,7 @@ unique-4 (a ∷ b ∷ c ∷ d ∷ f ∷ bytes) n fits len e = absurd (omega (ari
 abbrev pub IsTextOf : {A : Type 0} → (A → List ℕ) → (List ℕ → Option A) → Type 0
 IsTextOf {A = A} text value = (t : List ℕ) (x : A) → value t ≡ Some x → text x ≡ t
 
-whole_text : (whole : Bool) (bytes : List ℕ) {A : Type 0} (value : List ℕ → Option A) (x : A) → of_text value (cond whole (Some (front bytes)) None) ≡ Some x → (whole ≡ true) × (value (front bytes) ≡ Some x)
+pub whole_text : (whole : Bool) (bytes : List ℕ) {A : Type 0} (value : List ℕ → Option A) (x : A) → of_text value (cond whole (Some (front bytes)) None) ≡ Some x → (whole ≡ true) × (value (front bytes) ≡ Some x)
 whole_text true bytes value x e = (refl, e)
 whole_text false bytes value x e = absurd cc
 

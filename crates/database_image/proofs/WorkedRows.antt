@@ -1,8 +1,8 @@
 -- Images, worked out: that of a new database as another program wrote it, and bytes with a fault in a field or between two.
-use Rattle.std.proofs.Common.{◌≡◌, ℕ, List, [], ◌∷◌, ◌++◌, replicate, Some, Ok, refl}
+use Rattle.std.proofs.Common.{◌≡◌, ℕ, List, [], ◌∷◌, ◌++◌, replicate, take, Some, Ok, refl}
 use Rattle.std.specs.Prelude.{codes}
 use Rattle.racf_profiles.specs.NewDatabase.{new_database}
-use Rattle.database_image.specs.Description.{options, group, connection, user, profile, class, image}
+use Rattle.database_image.specs.Description.{options, group, connection, user, profile, class, image, pattern_in, is_pattern_at}
 use Rattle.database_image.specs.Forms.{spelled_at}
 use Rattle.database_image.specs.Image.{image_of, first_pass, second_pass, rows_of, first_fault}
 
@@ -66,3 +66,36 @@ nobody-special = refl
 first-pass-first : first_fault (with_user (first_user (codes "SYS2    ") 71 0) ++ classes) ≡ Some 60
 unfolding spelled_at rows_of first_pass second_pass image options group user connection class profile
 first-pass-first = refl
+
+-- Two groups, of which this is the second.
+abbrev with_group : (second user : List ℕ) → List ℕ
+with_group second user = zeros 6 ++ 2 ∷ codes "SYS1            IBMUSER " ++ second ++ 0 ∷ 0 ∷ 0 ∷ 1 ∷ user
+
+-- IBMUSER with these bytes of his classes and his connections.
+abbrev user_with : (lists : List ℕ) → List ℕ
+user_with lists = codes "IBMUSER SYS1    SYS1    " ++ 0 ∷ 7 ∷ zeros 33 ++ codes "        " ++ lists
+
+no-superior : first_fault (with_group (codes "A       B       IBMUSER ") (first_user (codes "SYS1    ") 7 0) ++ classes) ≡ Some 39
+unfolding spelled_at rows_of first_pass second_pass image options group user connection class profile
+no-superior = refl
+
+below-itself : first_fault (with_group (codes "A       A       IBMUSER ") (first_user (codes "SYS1    ") 7 0) ++ classes) ≡ Some 39
+unfolding spelled_at rows_of first_pass second_pass image options group user connection class profile
+below-itself = refl
+
+name-of-a-group : first_fault (with_group (codes "IBMUSER SYS1    IBMUSER ") (first_user (codes "SYS1    ") 7 0) ++ classes) ≡ Some 59
+unfolding spelled_at rows_of first_pass second_pass image options group user connection class profile
+name-of-a-group = refl
+
+no-such-class : first_fault (with_user (user_with (1 ∷ codes "DATASET " ++ 0 ∷ 1 ∷ codes "SYS1    " ++ 3 ∷ 0 ∷ [])) ++ classes) ≡ Some 103
+unfolding spelled_at rows_of first_pass second_pass image options group user connection class profile
+no-such-class = refl
+
+no-such-group : first_fault (with_user (user_with (0 ∷ 0 ∷ 2 ∷ codes "SYS1    " ++ 3 ∷ 0 ∷ codes "B       " ++ 0 ∷ 0 ∷ [])) ++ classes) ≡ Some 115
+unfolding spelled_at rows_of first_pass second_pass image options group user connection class profile
+no-such-group = refl
+
+-- A profile of GLOBAL that has the name of no class: the image of a new database but for its last count, and the profile.
+unknown-class : first_fault (take 312 whole ++ 1 ∷ 0 ∷ 4 ∷ codes "NONEIBMUSER " ++ 1 ∷ zeros 38 ++ codes "        " ++ zeros 6) ≡ Some 315
+unfolding spelled_at rows_of first_pass second_pass image options group user connection class profile pattern_in is_pattern_at
+unknown-class = refl

@@ -101,12 +101,15 @@ users_place rows = groups_place rows + 24 * length rows.groups
 abbrev pub classes_place : Rows → ℕ
 classes_place rows = users_place rows + 6 + sum_by user_width rows.users
 
-abbrev pub facts : Rows → List Fact
-facts rows =
-    told_of_each group_width (group_facts rows) (groups_place rows) rows.groups
-    ++ (told (users_place rows) (list_any is_special_user rows.users) ∷ [])
+-- all behind those of the groups: some user who isn't revoked has SPECIAL, and the facts of users and classes
+abbrev pub later_facts : Rows → List Fact
+later_facts rows =
+    (told (users_place rows) (list_any is_special_user rows.users) ∷ [])
     ++ told_of_each user_width (user_facts rows) (users_place rows + 4) rows.users
     ++ told_of_each class_width (class_facts rows) (classes_place rows) rows.classes
+
+abbrev pub facts : Rows → List Fact
+facts rows = told_of_each group_width (group_facts rows) (groups_place rows) rows.groups ++ later_facts rows
 
 -- The place of the first that doesn't hold.
 abbrev pub first_broken : List Fact → Option ℕ

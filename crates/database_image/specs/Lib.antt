@@ -5,3 +5,4 @@ pub mod Description
 pub mod Facts
 pub mod Image
 pub mod Kept
+pub mod Ways

@@ -1,6 +1,7 @@
 //! Laws of the definitions. The functions do nothing: their contracts are what is proved.
 ghost use Rattle.std.specs.Prelude.{◌≡◌, List, ℕ, Ok};
 ghost use Rattle.racf_profiles.specs.declared.rows.Rows.{Rows};
+ghost use Rattle.racf_profiles.specs.Lawful.{AreLawful};
 ghost use Rattle.database_image.specs.Reading.{AreBytes};
 ghost use Rattle.database_image.specs.Description.{image};
 ghost use Rattle.database_image.specs.Image.{image_of, first_pass, rows_of, IsStored};
@@ -17,4 +18,10 @@ pub fn fields_are_of_rows()
 pub fn images_are_of_rows()
     ensures found { (bytes : List ℕ) (rows : Rows) → AreBytes bytes → rows_of bytes ≡ Ok rows → IsStored rows × (bytes ≡ image_of rows) }
     ensures only { (rows : Rows) → IsStored rows → rows_of (image_of rows) ≡ Ok rows }
+{}
+
+/// What an image may hold is lawful, so that a database may be made of what `read` gives. No image holds listed copies, and
+/// none of what is lawful speaks of them.
+pub fn stored_rows_are_lawful()
+    ensures lawful { (rows : Rows) → IsStored rows → AreLawful rows }
 {}

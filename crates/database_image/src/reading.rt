@@ -1,14 +1,50 @@
 //! An image, read field by field.
 ghost use Rattle.std.specs.Prelude.{◌≡◌, ◌-◌, length, IfOk};
 ghost use Rattle.database_image.specs.Description.{image};
-ghost use Rattle.database_image.specs.Image.{image_of, first_pass, Reads};
+ghost use Rattle.database_image.specs.Image.{image_of, first_pass, second_pass, rows_of, IsStored, Reads};
 
+use crate::between::first_broken;
 use crate::classes::rows_at;
 use crate::faults::{ImageFault, ReadFault};
 use crate::laws;
 use crate::left::Left;
 use racf_profiles::Rows;
 use std::alloc::Global;
+
+/// The rows of an image. Each field was tested by itself, and then each fact between fields.
+///
+/// # Errors
+///
+/// `BadField` at the first field that has no lawful value, or at the first byte behind the last field; where there is none,
+/// at the first field whose fact doesn't hold. `NoMemory` where there was no room for the rows or for what the facts are
+/// looked up in.
+pub fn read(alloc: Global, bytes: &[u8]) -> Result<Rows, ImageFault>
+    // What is read is what the definition finds, and a fault is its first.
+    ensures exact { Reads result (rows_of bytes.now) }
+
+    // What is read is what an image may hold, and is written again as these bytes.
+    ensures found { IfOk result (λ rows. IsStored rows × (bytes.now ≡ image_of rows)) }
+{
+    laws::images_are_of_rows();
+    match read_fields(alloc, bytes) {
+        Ok(rows) => unless_broken(alloc, rows, bytes.len()),
+        Err(fault) => Err(fault),
+    }
+}
+
+/// The rows, unless a fact between their fields doesn't hold. Their image has so many bytes.
+#[tactic(auto, unfolding(crate::specs::Image::second_pass))]
+fn unless_broken(alloc: Global, rows: Rows, size: usize) -> Result<Rows, ImageFault>
+    requires fields { image.Fits rows }
+    requires size { size ≡ length (image_of rows) }
+    ensures { Reads result (second_pass rows) }
+{
+    match first_broken(alloc, &rows) {
+        Ok(None) => Ok(rows),
+        Ok(Some(place)) => Err(ImageFault::BadField(place as u64)),
+        Err(_) => Err(ImageFault::NoMemory),
+    }
+}
 
 /// The rows of an image, each field of which was tested by itself. The facts between fields are not.
 ///

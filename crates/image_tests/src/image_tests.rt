@@ -2,9 +2,9 @@
 
 mod rows;
 
-use database_image::{ImageFault, read_fields, write};
+use database_image::{ImageFault, read, read_fields, write};
 use racf_profiles::Rows;
-use rows::IMAGES;
+use rows::{FACTS, IMAGES};
 use std::alloc::{AllocError, Global};
 use std::test::Fail;
 
@@ -47,9 +47,18 @@ fn is_written_again(alloc: Global, rows: &Rows, image: &[u8]) -> bool {
     }
 }
 
+/// The rows of an image by both passes, or by the first alone.
+fn read_by(both: bool, alloc: Global, image: &[u8]) -> Result<Rows, ImageFault> {
+    if both {
+        read(alloc, image)
+    } else {
+        read_fields(alloc, image)
+    }
+}
+
 /// Whether an image is read with this fault, or written again as it stands.
-fn is_read(alloc: Global, image: &[u8], place: Option<u64>) -> bool {
-    match read_fields(alloc, image) {
+fn is_read(both: bool, alloc: Global, image: &[u8], place: Option<u64>) -> bool {
+    match read_by(both, alloc, image) {
         Ok(rows) => place.is_none() && is_written_again(alloc, &rows, image),
         Err(ImageFault::BadField(found)) => place == Some(found),
         Err(ImageFault::NoMemory) => false,
@@ -57,22 +66,22 @@ fn is_read(alloc: Global, image: &[u8], place: Option<u64>) -> bool {
 }
 
 /// Whether a row of the table is right.
-fn is_right(alloc: Global, row: &[u8]) -> bool {
+fn is_right(both: bool, alloc: Global, row: &[u8]) -> bool {
     let mut parts = row.split(|byte| *byte == b' ');
     let (Some(place), Some(digits)) = (parts.next(), parts.next()) else {
         return false;
     };
     match bytes_of(alloc, digits) {
-        Ok(image) => is_read(alloc, &image, place_of(place)),
+        Ok(image) => is_read(both, alloc, &image, place_of(place)),
         Err(_) => false,
     }
 }
 
-/// How many rows of the table are wrong.
-fn count_wrong(alloc: Global) -> u32 {
+/// How many rows of a table are wrong.
+fn count_wrong(both: bool, alloc: Global, rows: &[u8]) -> u32 {
     let mut count = 0u32;
-    for row in IMAGES.split(|byte| *byte == b'\n') {
-        if !is_right(alloc, row) {
+    for row in rows.split(|byte| *byte == b'\n') {
+        if !is_right(both, alloc, row) {
             count = count.wrapping_add(1);
         }
     }
@@ -81,7 +90,12 @@ fn count_wrong(alloc: Global) -> u32 {
 
 #[test]
 fn images_of_another_program(rt: HostRuntime) {
-    assert_eq!(rt; count_wrong(rt.alloc()), 0);
+    assert_eq!(rt; count_wrong(false, rt.alloc(), IMAGES), 0);
+}
+
+#[test]
+fn facts_between_fields(rt: HostRuntime) {
+    assert_eq!(rt; count_wrong(true, rt.alloc(), FACTS), 0);
 }
 
 /// How many bytes the image of a new database has, if it is read as what it was written for.
@@ -92,7 +106,7 @@ fn length_of_new(alloc: Global) -> Option<usize> {
     let Ok(image) = write(alloc, &rows) else {
         return None;
     };
-    if is_read(alloc, &image, None) {
+    if is_read(true, alloc, &image, None) {
         Some(image.len())
     } else {
         None

@@ -1,4 +1,4 @@
 pub mod Extensions
 pub mod Leading
+mod Makings
 mod Steps
-mod Texts

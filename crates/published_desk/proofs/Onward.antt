@@ -1,5 +1,5 @@
 -- What a desk makes goes on from what is published.
-use Rattle.std.proofs.Common.{◌≡◌, ℕ, List, [], ◌∷◌, ◌++◌, Option, Ok, true, false, refl, ap, sym, subst, ◌∙◌}
+use Rattle.std.proofs.Common.{◌≡◌, ℕ, Bool, List, [], ◌∷◌, ◌++◌, Option, None, Ok, IfSome, true, false, refl, ap, sym, subst, ◌∙◌}
 use Rattle.raclist_image.specs.Imaged.{Imaged}
 use Rattle.racf_desk.specs.Position.{Position}
 use Rattle.racf_desk.specs.Outcome.{outcome}
@@ -7,7 +7,8 @@ use Rattle.racf_desk.specs.Made.{Made, made_of_outcome, installed}
 use Rattle.command_history.specs.declared.events.Accepted.{Accepted}
 use Rattle.command_history.specs.declared.events.Event.{Event}
 use Rattle.command_history.specs.declared.events.Event.TheVariants.{Added, Ended}
-use Rattle.command_history.specs.Events.{entries_of, is_ended}
+use Rattle.command_history.specs.Events.{entries_of, is_ended, mark_of}
+use Rattle.raclist_snapshots.specs.Publishing.{MarkIs}
 use Rattle.command_history.specs.Reached.{reached, AreLegal}
 
 abbrev pub GoesOn : Type 0
@@ -35,3 +36,12 @@ pub goes_push : (events : List Event) (entry : Accepted) → is_ended events ≡
 goes_push [] entry goes = refl
 goes_push (Added first ∷ events) entry goes = goes_push events entry goes
 goes_push (Ended halted ∷ events) entry goes = absurd (cc goes)
+
+-- a history that goes on has no final mark that could say otherwise
+unmarked : (events : List Event) → is_ended events ≡ false → mark_of events ≡ None
+unmarked [] goes = refl
+unmarked (Added entry ∷ events) goes = unmarked events goes
+unmarked (Ended halted ∷ events) goes = absurd (cc goes)
+
+pub mark_any : (halted : Bool) (events : List Event) → is_ended events ≡ false → MarkIs halted events
+mark_any halted events goes = subst (λ (m : Option Bool). IfSome m (λ marked. marked ≡ halted)) (sym (unmarked events goes)) tt

@@ -1,5 +1,5 @@
 -- How a desk and its publisher stand between two commands.
-use Rattle.std.specs.Prelude.{◌≡◌, false, None}
+use Rattle.std.specs.Prelude.{◌≡◌, [], false, None}
 use Rattle.racf_desk.specs.Position.{Position}
 use Rattle.racf_desk.specs.Made.{DeskOn}
 use Rattle.command_history.specs.Events.{is_ended}
@@ -12,3 +12,7 @@ pub record AreTogether {D : Type 0} (base : Position) (desk : DeskOn D) (publish
   pub settled : desk.committed ≡ false
   pub free : publisher.held ≡ None
   pub goes_on : is_ended publisher.events ≡ false
+
+-- Of a history that was just opened nothing is published.
+abbrev pub nothing_published : Publishing
+nothing_published = record { events = []; held = None; told = false }

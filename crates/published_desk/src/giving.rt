@@ -1,15 +1,16 @@
 //! A command that is given, and published where it is accepted.
-ghost use Rattle.std.specs.Prelude.{◌≡◌, OnOk, IfOk};
+ghost use Rattle.std.specs.Prelude.{◌≡◌, true, OnOk, OnErr, IfOk};
 ghost use Rattle.racf_desk.specs.Made.{is_fresh};
 ghost use Rattle.racf_desk.specs.Position.{first_position};
-ghost use Rattle.published_desk.specs.Standing.{AreTogether};
+ghost use Rattle.raclist_snapshots.specs.Publishing.{ended_with};
+ghost use Rattle.published_desk.specs.Standing.{AreTogether, nothing_published};
 
 use access_levels::Text;
 use command_history::laws::what_a_desk_makes_goes_on;
 use command_history::{Accepted, Naming};
 use left_right::Absorb;
 use racf_desk::{Desk, Ready};
-use racf_outside::{NeverDisk, Two};
+use racf_outside::{Disk, NeverDisk, Two};
 use racf_profiles::{NoMemory, ibmuser};
 use raclist_snapshots::{Note, Opens, Publisher};
 use std::alloc::{AllocError, Global};
@@ -24,15 +25,19 @@ pub enum Given {
     Refused,
 }
 
-/// A desk over a new database.
+/// A desk over a new database. It stands where a history begins that was just opened.
 pub fn new_desk(alloc: Global) -> Result<Desk<NeverDisk>, NoMemory>
-    ensures { IfOk result (λ desk. desk ≡ is_fresh first_position desk.store) }
+    ensures fresh { IfOk result (λ desk. desk ≡ is_fresh first_position desk.store) }
+    ensures together { IfOk result (λ desk. AreTogether first_position desk nothing_published) }
 {
     let nothing_is_kept = Two {
         first: NeverDisk,
         second: NeverDisk,
     };
-    Desk::format(alloc, nothing_is_kept).map_err(|_| AllocError)
+    match Desk::format(alloc, nothing_is_kept) {
+        Ok(desk) => Ok(desk),
+        Err(_) => Err(AllocError),
+    }
 }
 
 /// The entry of what a desk made.
@@ -48,14 +53,18 @@ fn entry_of(alloc: Global, ready: &Ready) -> Result<Accepted, NoMemory>
 }
 
 /// Gives a command of IBMUSER's. At `Err` a disk failed, and the history has ended.
-pub fn give<J: Naming, T: Absorb<O> + Drop, O: Opens<Note<J>>, R: Wait + Drop>(
+pub fn give<D: Disk, J: Naming, T: Absorb<O> + Drop, O: Opens<Note<J>>, R: Wait + Drop>(
     alloc: Global,
-    desk: &mut Desk<NeverDisk>,
+    desk: &mut Desk<D>,
     publisher: &mut Publisher<J, T, O, R>,
     text: &[u8],
 ) -> Result<Given, NoMemory>
     requires { AreTogether J.base desk.old publisher.old }
-    ensures { OnOk result (AreTogether J.base desk.new publisher.new) }
+    // What was refused has changed nothing of how they stand, and what was accepted stands in both.
+    ensures together { OnOk result (AreTogether J.base desk.new publisher.new) }
+
+    // Where a disk failed the history ends as it was: the command is not in it, now or later.
+    ensures ended { OnErr result (publisher.new.events ≡ ended_with true publisher.old.events) }
 {
     what_a_desk_makes_goes_on();
     publisher.is_legal();

@@ -4,7 +4,7 @@ ghost use Rattle.std.specs.Prelude.{◌≡◌, ◌<◌, [], false, None};
 ghost use Rattle.std.specs.Arc.{arc_value};
 ghost use Rattle.racf_desk.specs.Made.{is_fresh};
 ghost use Rattle.racf_desk.specs.Position.{first_position};
-ghost use Rattle.published_desk.specs.Standing.{AreTogether};
+ghost use Rattle.published_desk.specs.Standing.{AreTogether, nothing_published};
 
 use command_history::{Naming, Opened};
 use left_right::Absorb;
@@ -60,7 +60,8 @@ fn is_published_at<R: Wait + Abort>(
     alloc: Global,
     desk: Desk<NeverDisk>,
 ) -> Result<bool, Fail>
-    requires { desk ≡ is_fresh first_position desk.store }
+    requires fresh { desk ≡ is_fresh first_position desk.store }
+    requires together { AreTogether first_position desk nothing_published }
 {
     let mut desk = desk;
     let made = match Arc::try_clone(desk.image()) {
@@ -82,7 +83,7 @@ fn is_published<J: Naming, R: Wait + Abort>(
     requires book { opened ≡ J.book }
     requires base { J.base ≡ first_position }
     requires image { arc_value image ≡ first_position.image }
-    requires desk { AreTogether J.base desk.old (record { events = []; held = None; told = false }) }
+    requires desk { AreTogether J.base desk.old nothing_published }
 {
     let (mut publisher, mut callers) = match snapshots::<J, R>(rt, alloc, opened, image, 1) {
         Ok(made) => made,
@@ -111,7 +112,7 @@ fn goes_on<J: Naming + Send + Sync, R: Threads + Wait + Abort + Sync>(
     requires book { opened ≡ J.book }
     requires base { J.base ≡ first_position }
     requires image { arc_value image ≡ first_position.image }
-    requires desk { AreTogether J.base desk.old (record { events = []; held = None; told = false }) }
+    requires desk { AreTogether J.base desk.old nothing_published }
 {
     let (mut publisher, mut callers) = match snapshots::<J, R>(rt, alloc, opened, image, 2) {
         Ok(made) => made,

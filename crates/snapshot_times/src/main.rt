@@ -6,9 +6,8 @@
 
 ghost use Rattle.std.specs.Prelude.{◌≡◌, ◌<◌, [], false, None, IfSome};
 ghost use Rattle.std.specs.Arc.{arc_value};
-ghost use Rattle.racf_desk.specs.Made.{is_fresh};
 ghost use Rattle.racf_desk.specs.Position.{first_position};
-ghost use Rattle.published_desk.specs.Standing.{AreTogether};
+ghost use Rattle.published_desk.specs.Standing.{AreTogether, nothing_published};
 
 use anyhow::{Result, anyhow};
 use command_history::{Naming, Opened};
@@ -128,7 +127,7 @@ fn work<J: Naming + Send + Sync, R: Threads + Wait + Clock + Sync>(
     requires base { J.base ≡ first_position }
     requires image { arc_value image ≡ first_position.image }
     requires some { 0 < row.callers }
-    requires desk { AreTogether J.base desk.old (record { events = []; held = None; told = false }) }
+    requires desk { AreTogether J.base desk.old nothing_published }
 {
     let Ok((mut publisher, made)) = snapshots::<J, R>(rt, alloc, opened, image, row.callers) else {
         return None;

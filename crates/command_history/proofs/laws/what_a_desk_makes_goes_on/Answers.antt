@@ -1,4 +1,4 @@
-use Rattle.command_history.proofs.Texts.{goes_on}
+use Rattle.command_history.proofs.Makings.{goes_on}
 use Rattle.command_history.specs.Reached.{reached}
 use Rattle.command_history.proofs.laws.what_a_desk_makes_goes_on.Goals as goal
 

@@ -1,12 +1,11 @@
-use Rattle.std.proofs.Common.{◌≡◌, [], ◌∷◌, ◌++◌, false, ap, sym, ◌∙◌, subst}
-use Rattle.racf_outside.specs.declared.never_disk.NeverDisk.{NeverDisk}
+use Rattle.std.proofs.Common.{◌≡◌, [], ◌∷◌, ◌++◌, true, false, ap, sym, ◌∙◌, subst}
 use Rattle.racf_desk.specs.Position.{Position}
 use Rattle.racf_desk.specs.Made.{DeskOn, made_in, installed}
 use Rattle.command_history.specs.declared.events.Event.TheVariants.{Added}
 use Rattle.command_history.specs.Events.{is_ended}
 use Rattle.command_history.specs.Reached.{reached}
-use Rattle.raclist_snapshots.specs.Publishing.{Publishing}
-use Rattle.published_desk.proofs.Onward.{onward, goes_push}
+use Rattle.raclist_snapshots.specs.Publishing.{Publishing, MarkIs}
+use Rattle.published_desk.proofs.Onward.{onward, goes_push, mark_any}
 use Rattle.published_desk.proofs.giving.give.Goals as goal
 
 -- what the desk made goes on from what is published
@@ -22,6 +21,13 @@ hold-requires-clause-image g c =
     (onward c.what_a_desk_makes_goes_on.ensures g.J.Naming.base c.args.desk.now.position c.args.publisher.now.events c.in-Ok-entry_of.entry (made_in c.in-Ok.ready) _ _ _
     c.requires.position c.is_legal.ensures.legal c.in-Ok.ensures.accepted c.in-Ok-entry_of.ensures.issuer c.in-Ok-entry_of.ensures.text).1
 
+-- the history goes on until then
+pub finish-requires : goal.finish-requires
+finish-requires g c =
+    record {
+      mark = subst (MarkIs true) (ap (λ (p : Publishing). p.events) (sym c.in-Ok-hold.ensures.held)) (mark_any true c.args.publisher.now.events c.requires.goes_on);
+    }
+
 -- and both stand behind it
 pub returns : goal.returns
 returns g c =
@@ -32,12 +38,15 @@ returns g c =
     ap (λ (p : Publishing). p.events) c.publish.ensures
     ∙ ap (λ (p : Publishing). p.events ++ Added c.in-Ok-entry_of.entry ∷ []) c.in-Ok-hold.ensures.held in
     let stood : c.commit.new.self.position ≡ c.args.desk.now.position =
-    ap (λ (d : DeskOn NeverDisk). d.position) c.in-Ok-commit.ensures.committed ∙ ap (λ (d : DeskOn NeverDisk). d.position) c.in-Ok.ensures.made in
+    ap (λ (d : DeskOn _). d.position) c.in-Ok-commit.ensures.committed ∙ ap (λ (d : DeskOn _). d.position) c.in-Ok.ensures.made in
     let stands : c.install.new.self.position ≡ installed c.args.desk.now.position made =
-    ap (λ (d : DeskOn NeverDisk). d.position) c.install.ensures.installed ∙ ap (λ (p : Position). installed p made) stood in
+    ap (λ (d : DeskOn _). d.position) c.install.ensures.installed ∙ ap (λ (p : Position). installed p made) stood in
     record {
-      position = stands ∙ (leads ∙ ap (reached g.J.Naming.base) (sym events));
-      settled = ap (λ (d : DeskOn NeverDisk). d.committed) c.install.ensures.installed;
-      free = ap (λ (p : Publishing). p.held) c.publish.ensures;
-      goes_on = rw events (goes_push c.args.publisher.now.events c.in-Ok-entry_of.entry c.requires.goes_on);
+      together = record {
+        position = stands ∙ (leads ∙ ap (reached g.J.Naming.base) (sym events));
+        settled = ap (λ (d : DeskOn _). d.committed) c.install.ensures.installed;
+        free = ap (λ (p : Publishing). p.held) c.publish.ensures;
+        goes_on = rw events (goes_push c.args.publisher.now.events c.in-Ok-entry_of.entry c.requires.goes_on);
+      };
+      ended = tt;
     }

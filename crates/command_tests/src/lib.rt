@@ -15,4 +15,6 @@ mod record_tests;
 #[cfg(test)]
 mod security_tests;
 #[cfg(test)]
+mod text_tests;
+#[cfg(test)]
 mod value_tests;

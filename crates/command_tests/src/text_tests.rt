@@ -1,3 +1,5 @@
+//! The longest text of a command, the fields that a command shows, and its issuer.
+
 use access_levels::Id;
 use command_parser::{AddUser, CommandFields, Issuer, ParseFault, Syntax, parse, print};
 use std::alloc::Global;

@@ -1,0 +1,55 @@
+-- An office that is closed.
+use Rattle.std.proofs.Common.{◌≡◌, Bool, true, false, List, [], ◌∷◌, ◌++◌, Option, refl, sym, ◌∙◌, ap, subst, if◌then◌else◌}
+use Rattle.std.specs.List.{All}
+use Rattle.racf_outside.specs.Disk.{History}
+use Rattle.racf_checkpoint.specs.Stored.{StoreOn}
+use Rattle.racf_desk.specs.Durable.{LeavesIt}
+use Rattle.racf_desk.specs.Position.{Position}
+use Rattle.command_history.specs.declared.events.Accepted.{Accepted}
+use Rattle.command_history.specs.declared.events.Event.{Event}
+use Rattle.command_history.specs.declared.events.Event.TheVariants.{Added, Ended}
+use Rattle.command_history.specs.Events.{all_of, ends_last, entries_of, is_ended, Extends}
+use Rattle.command_history.specs.Reached.{reached}
+use Rattle.command_history.proofs.Extensions.{all_is}
+use Rattle.raclist_snapshots.specs.Publishing.{Seeing, ended_with, MarkIs}
+use Rattle.racroute.specs.Disks.{IsInDoubt, StandAt}
+use Rattle.racroute.proofs.Marks.{ended_mark, entries_ended}
+use Rattle.racroute.proofs.Telling.{reached_with}
+
+ends_push : (events : List Event) (halted : Bool) → is_ended events ≡ false → ends_last (events ++ Ended halted ∷ []) ≡ true
+ends_push [] halted goes = refl
+ends_push (Added entry ∷ events) halted goes = ends_push events halted goes
+ends_push (Ended h ∷ events) halted goes = absurd (cc goes)
+
+ends_with : (halted : Bool) (events : List Event) → ends_last events ≡ true → ends_last (ended_with halted events) ≡ true
+ends_with halted events last = by (is_ended events) refl
+  where
+    by : (b : Bool) → is_ended events ≡ b → ends_last (if b then events else (events ++ Ended halted ∷ [])) ≡ true
+    by true is = last
+    by false is = ends_push events halted is
+
+-- With the mark the history is the entries that are kept, and the mark.
+pub whole : (halted : Bool) (events : List Event) (history : List Accepted) → ends_last events ≡ true → MarkIs halted events → history ≡ entries_of events
+    → all_of history halted ≡ ended_with halted events
+whole halted events history last mark is =
+    ap (λ (l : List Accepted). all_of l halted) (is ∙ sym (entries_ended halted events))
+    ∙ sym (all_is (ended_with halted events) halted (ends_with halted events last) (ended_mark halted events mark))
+
+-- where it leads
+pub led : (base : Position) (halted : Bool) (events : List Event) (history : List Accepted) → all_of history halted ≡ ended_with halted events
+    → reached base (all_of history halted) ≡ reached base events
+led base halted events history is = ap (reached base) is ∙ reached_with base halted events
+
+-- what every caller has seen begins it
+pub all_begin : (halted : Bool) (events settled : List Event) (history : List Accepted) (callers : List Seeing) → all_of history halted ≡ ended_with halted events
+    → settled ≡ ended_with halted events → All (λ (caller : Seeing). Extends caller.events settled) callers
+    → All (λ (caller : Seeing). Extends caller.events (all_of history halted)) callers
+all_begin halted events settled history callers is end all =
+    subst (λ (l : List Event). All (λ (caller : Seeing). Extends caller.events l) callers) (end ∙ sym is) all
+
+-- what its disks keep
+pub stand : {D : Type 0} (tells : D → Option History) (store : StoreOn D) (one other : D) (halted : Bool) (position behind : Position)
+    → one ≡ store.journal.disk → other ≡ store.second → behind ≡ position → (halted ≡ false → LeavesIt tells store position)
+    → (halted ≡ true → IsInDoubt (tells store.journal.disk) (tells store.second) position) → StandAt halted (tells one) (tells other) behind
+stand tells store one other true position behind first second is rest doubt = rw (first, second, is) (doubt refl)
+stand tells store one other false position behind first second is rest doubt = rw (first, second, is) (rest refl)

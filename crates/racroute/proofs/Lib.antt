@@ -1,0 +1,7 @@
+mod Marks
+mod Disks
+mod Serving
+mod Telling
+mod Replying
+mod Closing
+mod Says

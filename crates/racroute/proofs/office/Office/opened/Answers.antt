@@ -1,0 +1,14 @@
+use Rattle.std.proofs.Common.{ap, sym, ◌∙◌}
+use Rattle.racf_desk.specs.Made.{number_at}
+use Rattle.racroute.proofs.Serving.{opened_kept}
+use Rattle.racroute.proofs.office.Office.opened.Goals as goal
+
+pub invariant_of-result : goal.invariant_of-result
+invariant_of-result g c = (
+  c.requires.settled,
+  c.requires.free,
+  c.number.ensures ∙ ap number_at c.requires.position,
+  opened_kept g.D.Disk.tells g.D.Disk.faults g.J.Naming.base g.J.Naming.faults _ _ _ _ _
+      c.requires.events c.requires.position c.requires.runs c.requires.faults c.new.ensures.items c.requires.books.0 c.requires.books.1
+      (c.requires.books.2 ∙ sym c.decks.ensures.decks),
+)

@@ -1,0 +1,48 @@
+-- How an office is kept, and its shares.
+use Rattle.std.specs.Prelude.{ℕ, ◌≡◌, ◌≤◌, Bool, true, false, List, length, Option, Ok, if◌then◌else◌}
+use Rattle.racf_outside.specs.Causes.{Rose}
+use Rattle.racf_outside.specs.Disk.{History}
+use Rattle.racf_desk.specs.declared.answers.Ready.{Ready}
+use Rattle.racf_desk.specs.Made.{made_in, made_of_outcome}
+use Rattle.racf_desk.specs.Position.{Position}
+use Rattle.command_history.specs.declared.events.Accepted.{Accepted}
+use Rattle.command_history.specs.declared.events.Event.{Event}
+use Rattle.command_history.specs.Events.{entries_of, is_ended}
+use Rattle.command_history.specs.Reached.{reached, AreLegal}
+use Rattle.raclist_snapshots.specs.Publishing.{MarkIs}
+use Rattle.racroute.specs.Core.{Core}
+use Rattle.racroute.specs.Disks.{IsInDoubt}
+use Rattle.racroute.specs.Replies.{Given, outcome_behind}
+
+-- how many disk faults there were: one, where a disk failed a command, since no command is taken behind it
+abbrev pub fault_count : (halted : Bool) → ℕ
+fault_count halted = if halted then 1 else 0
+
+-- The database is where the history leads, and the entries that are kept are those of the history. The ledgers count what
+-- there is: `commands`, `faults` and `out` are their totals. The final mark is there where a disk failed a command, and
+-- else only where no pass is out. `first` faults of the first disk had been counted when the office was opened.
+pub record IsOffice {D : Type 0} (tells : D → Option History) (counted : D → ℕ) (base : Position) (first : ℕ) (core : Core D) (history : List Accepted)
+    (commands faults out : ℕ) : Type 0 where
+  pub position : core.position ≡ reached base core.events
+  pub legal : AreLegal base (entries_of core.events)
+  pub entries_are : history ≡ entries_of core.events
+  pub commands_are : commands ≡ length history
+  pub faults_are : faults ≡ fault_count core.halted
+  pub passes_are : out ≡ core.passes
+  pub mark : MarkIs core.halted core.events
+  pub halted : core.halted ≡ true → is_ended core.events ≡ true
+  pub ended : is_ended core.events ≡ true → core.halted ≡ false → core.passes ≡ 0
+  pub no_fewer : first ≤ counted core.store.journal.disk
+  pub rose : core.halted ≡ true → Rose first (counted core.store.journal.disk)
+  pub doubt : core.halted ≡ true → IsInDoubt (tells core.store.journal.disk) (tells core.store.second) core.position
+
+-- It was made of a command that is given where these events lead.
+pub record IsMade (base : Position) (events : List Event) (ready : Ready) : Type 0 where
+  pub given : Given
+  pub made : made_of_outcome (reached base events).image (outcome_behind base events given) ≡ Ok (made_in ready)
+
+-- The entry of what was made, with this deck's number.
+pub record IsMadeEntry (deck : ℕ) (ready : Ready) (entry : Accepted) : Type 0 where
+  pub deck_is : entry.deck ≡ deck
+  pub issuer_is : entry.issuer ≡ ready.issuer
+  pub text_is : entry.text ≡ ready.text

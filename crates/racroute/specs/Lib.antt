@@ -1,0 +1,4 @@
+pub mod Core
+pub mod Replies
+pub mod Disks
+pub mod Kept

@@ -1,0 +1,6 @@
+//! No code, but tests: two decks and four callers of one history, in turn, over disks that keep nothing and
+//! over one that fails, and where memory is wanting.
+#![tactic(auto)]
+
+#[cfg(test)]
+mod tests;

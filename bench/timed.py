@@ -1,5 +1,5 @@
 """The built program on a stream at a new database, and the seconds that it takes."""
-import os, subprocess, sys, time
+import os, resource, shutil, subprocess, sys, time
 
 top = os.path.dirname(os.path.dirname(os.path.realpath(__file__)))
 sys.path.append(os.path.join(top, "tools"))
@@ -39,3 +39,33 @@ def seconds(lines, runs=3, ends=(0,)):
         with open(path, "w") as stream:
             stream.writelines(line + "\n" for line in lines)
         return script(path, folder, runs, ends)
+
+
+class Standing:
+    """A database in memory that these lines made, which each run takes up as it stood then."""
+
+    def __init__(self, folder, lines):
+        self.folder = folder
+        databases.init(program, folder)
+        self.write(lines)
+        run(["script", "stream", "out"], folder)
+        for name in databases.DISKS:
+            self.take(name, name + ".kept")
+
+    def write(self, lines):
+        with open(os.path.join(self.folder, "stream"), "w") as stream:
+            stream.writelines(line + "\n" for line in lines)
+
+    def take(self, name, other):
+        if os.path.exists(os.path.join(self.folder, name)):
+            shutil.copyfile(os.path.join(self.folder, name), os.path.join(self.folder, other))
+
+    def seconds(self, lines):
+        """The processor's seconds of one run over these lines. Nothing waits there, and what else the machine does is not in it."""
+        for name in databases.DISKS:
+            self.take(name + ".kept", name)
+        self.write(lines)
+        before = resource.getrusage(resource.RUSAGE_CHILDREN)
+        run(["script", "stream", "out"], self.folder)
+        after = resource.getrusage(resource.RUSAGE_CHILDREN)
+        return after.ru_utime - before.ru_utime + after.ru_stime - before.ru_stime

@@ -57,6 +57,18 @@ impl Database {
         })
     }
 
+    /// The database of lawful rows that are in tables already.
+    pub fn of(tables: RowTables) -> Database
+        requires { AreLawful tables.rows }
+        ensures rows { result.rows ≡ tables.rows }
+        ensures nothing_prepared { result.prepared ≡ None }
+    {
+        Database {
+            tables,
+            prepared: None,
+        }
+    }
+
     /// Whether the rows allow the command. It takes no memory. A command takes a look-up for each name in it.
     /// DELGROUP also looks at every group, where a user may be connected at every user, and where a data set profile
     /// may have its name, as DELUSER does, at every data set profile. PERMIT compares each ID with those before it

@@ -47,7 +47,7 @@ pub struct Office<
     /// Where they are published.
     publisher: Publisher<J, T, O, R>,
     /// Those that were accepted.
-    history: Vec<Accepted>,
+    past: Vec<Accepted>,
     /// How many they are.
     commands: Book<S>,
     /// How many commands met a disk fault: one at most.
@@ -96,7 +96,7 @@ impl<
           halted = o.desk.halted;
           passes = o.passes;
           decks = o.rest;
-        }) o.history.items o.commands.total o.faults.total o.out.total };
+        }) o.past.items o.commands.total o.faults.total o.out.total };
 }
 
 /// What was done, when an office is closed.
@@ -143,7 +143,7 @@ impl<
             first: desk.number(),
             desk,
             publisher,
-            history: Vec::new(alloc),
+            past: Vec::new(alloc),
             commands,
             faults,
             out,
@@ -178,21 +178,15 @@ impl<
                 Err(_) => return (Reply::NoMemory, None),
             }
         }
-        let ready = match self.desk.judge(alloc, issuer, group, text) {
-            Ok(ready) => ready,
+        let made = match self.desk.judge(alloc, issuer, group, text) {
+            Ok(made) => made,
             Err(reply) => return told(&mut self.publisher, reply),
         };
-        let entry = match hold(
-            alloc,
-            &mut self.publisher,
-            &mut self.history,
-            pass.deck,
-            &ready,
-        ) {
+        let entry = match hold(alloc, &mut self.publisher, &mut self.past, pass.deck, &made) {
             Ok(entry) => entry,
             Err(_) => return (Reply::NoMemory, None),
         };
-        match self.desk.commit(&ready) {
+        match self.desk.commit(&made) {
             Ok(()) => {}
             Err(_) => {
                 self.faults.add(&mut pass.faults, 1);
@@ -204,8 +198,8 @@ impl<
             }
         }
         self.publisher.publish(&entry);
-        let number = self.desk.install(ready);
-        self.history.push_reserved(entry);
+        let number = self.desk.install(made);
+        self.past.push_reserved(entry);
         self.commands.add(&mut pass.commands, 1);
         match self.publisher.tell() {
             Ok(note) => return (Reply::Accepted(number), Some(note)),
@@ -346,7 +340,7 @@ impl<
         let Office {
             desk,
             mut publisher,
-            history,
+            past,
             mut commands,
             mut faults,
             out: _,
@@ -364,7 +358,7 @@ impl<
         Closed {
             disks: desk.into_disks(),
             first,
-            accepted: history,
+            accepted: past,
             halted,
         }
     }

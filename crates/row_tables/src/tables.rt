@@ -8,6 +8,7 @@ ghost use Rattle.racf_profiles.specs.Tree.{IsTree};
 ghost use Rattle.racf_profiles.specs.LawfulUsers.{AreUsers};
 ghost use Rattle.racf_profiles.specs.LawfulProfiles.{AreClasses};
 ghost use Rattle.racf_profiles.specs.Limits.{most_connections_in_all, most_profiles, most_entries_in_all, most_categories};
+ghost use Rattle.row_tables.specs.Tables.{rows_of};
 ghost use Rattle.row_tables.specs.Applying.{HasRoom, HasRoomFor, HasAtLeast, adds};
 
 use crate::user_table::UserTable;
@@ -63,6 +64,19 @@ impl RowTables {
             classes,
             options,
         })
+    }
+
+    /// The tables of these users, groups, classes and options.
+    pub fn of(users: UserTable, tree: Tree, classes: ClassTables, options: Options) -> RowTables
+        requires { length options.categories ≤ most_categories }
+        ensures { result.rows ≡ rows_of users.users tree.groups classes.classes options }
+    {
+        RowTables {
+            users,
+            tree,
+            classes,
+            options,
+        }
     }
 
     /// The users.

@@ -10,23 +10,23 @@ pub returns-clause-callers : goal.returns-clause-callers
 returns-clause-callers g c =
     let o = c.self.inside in
     let halted = c.halted-halted.result in
-    let all = whole halted o.publisher.events o.history.items c.is_legal.ensures.last (rw c.halted-halted.ensures c.self.invariant.3.mark) c.self.invariant.3.entries_are in
-    all_begin halted o.publisher.events c.settle.new.self.events o.history.items c.args.callers.now all (ap (λ (p : Publishing). p.events) c.settle.ensures.ended) c.settle.ensures.callers
+    let all = whole halted o.publisher.events o.past.items c.is_legal.ensures.last (rw c.halted-halted.ensures c.self.invariant.3.mark) c.self.invariant.3.entries_are in
+    all_begin halted o.publisher.events c.settle.new.self.events o.past.items c.args.callers.now all (ap (λ (p : Publishing). p.events) c.settle.ensures.ended) c.settle.ensures.callers
 
 pub returns-clause-history : goal.returns-clause-history
 returns-clause-history g c =
     let o = c.self.inside in
     let halted = c.halted-halted.result in
-    whole halted o.publisher.events o.history.items c.is_legal.ensures.last (rw c.halted-halted.ensures c.self.invariant.3.mark) c.self.invariant.3.entries_are
+    whole halted o.publisher.events o.past.items c.is_legal.ensures.last (rw c.halted-halted.ensures c.self.invariant.3.mark) c.self.invariant.3.entries_are
     ∙ (ap (λ h. ended_with h o.publisher.events) c.halted-halted.ensures ∙ ap (λ (k : Core g.row.D.Denot). ended_with k.halted k.events) c.self.view_is)
 
 pub returns-clause-disks : goal.returns-clause-disks
 returns-clause-disks g c =
     let o = c.self.inside in
     let halted = c.halted-halted.result in
-    let all = whole halted o.publisher.events o.history.items c.is_legal.ensures.last (rw c.halted-halted.ensures c.self.invariant.3.mark) c.self.invariant.3.entries_are in
-    stand g.D.Disk.tells o.desk.store c.into_disks.result.first c.into_disks.result.second halted o.desk.position (reached g.J.Naming.base (all_of o.history.items halted))
+    let all = whole halted o.publisher.events o.past.items c.is_legal.ensures.last (rw c.halted-halted.ensures c.self.invariant.3.mark) c.self.invariant.3.entries_are in
+    stand g.D.Disk.tells o.desk.store c.into_disks.result.first c.into_disks.result.second halted o.desk.position (reached g.J.Naming.base (all_of o.past.items halted))
     c.into_disks.ensures.first c.into_disks.ensures.second
-    (led g.J.Naming.base halted o.publisher.events o.history.items all ∙ sym c.self.invariant.3.position)
+    (led g.J.Naming.base halted o.publisher.events o.past.items all ∙ sym c.self.invariant.3.position)
     (λ h. c.is_at_rest.ensures (sym c.halted-halted.ensures ∙ h))
     (λ h. c.self.invariant.3.doubt (sym c.halted-halted.ensures ∙ h))

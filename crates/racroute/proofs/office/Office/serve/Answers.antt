@@ -28,7 +28,7 @@ returns-in-Ok-clause-says g c =
     let back : Passing = record { deck = i.deck; commands = i.commands.amount; faults = i.faults.amount } in
     let later = c.tell_final.new.self.events in
     subst (λ (l : List Event). SaysHalted base c.number-number.result l later c.args.pass.now back) (ap (λ (k : Core D). k.events) c.self.view_is)
-    (says_halted g.D.Disk.tells g.D.Disk.faults base g.J.Naming.faults core o.history.items o.commands.total o.faults.total o.out.total c.self.invariant.3
+    (says_halted g.D.Disk.tells g.D.Disk.faults base g.J.Naming.faults core o.past.items o.commands.total o.faults.total o.out.total c.self.invariant.3
     c.number-number.result later c.args.pass.now back (sym c.halted.ensures ∙ c.if-halted.true) c.number-number.ensures
     (ap (λ (p : Publishing). p.events) c.in-Ok.ensures.ended) c.pass.view_is)
 
@@ -38,8 +38,8 @@ hold-requires-clause-made g c =
     let D = g.row.D.Denot in
     let o = c.self.inside in
     let core : Core D = record { events = o.publisher.events; position = o.desk.position; store = o.desk.store; halted = o.desk.halted; passes = o.passes; decks = o.rest } in
-    is_made g.D.Disk.tells g.D.Disk.faults g.J.Naming.base g.J.Naming.faults core o.history.items o.commands.total o.faults.total o.out.total c.self.invariant.3
-    (given_by c.args.issuer c.args.group c.args.text.now) c.in-Ok-judge.ready c.in-Ok-judge.ensures.accepted
+    is_made g.D.Disk.tells g.D.Disk.faults g.J.Naming.base g.J.Naming.faults core o.past.items o.commands.total o.faults.total o.out.total c.self.invariant.3
+    (given_by c.args.issuer c.args.group c.args.text.now) c.in-Ok-judge.made c.in-Ok-judge.ensures.accepted
 
 -- a history that goes on has no mark
 pub tell_final-requires-in-Err-commit : goal.tell_final-requires-in-Err-commit
@@ -47,7 +47,7 @@ tell_final-requires-in-Err-commit g c =
     let D = g.row.D.Denot in
     let o = c.self.inside in
     let core : Core D = record { events = o.publisher.events; position = o.desk.position; store = o.desk.store; halted = o.desk.halted; passes = o.passes; decks = o.rest } in
-    let goes = goes_on g.D.Disk.tells g.D.Disk.faults g.J.Naming.base g.J.Naming.faults core o.history.items o.commands.total o.faults.total o.out.total c.self.invariant.3
+    let goes = goes_on g.D.Disk.tells g.D.Disk.faults g.J.Naming.base g.J.Naming.faults core o.past.items o.commands.total o.faults.total o.out.total c.self.invariant.3
     c.pass.inside.out.amount (sym c.halted.ensures ∙ c.if-halted.false) c.pass.invariant.3 c.audit.ensures.bound in
     record { mark = subst (λ (l : List Event). MarkIs true l) (sym (ap (λ (p : Publishing). p.events) c.in-Ok-hold.ensures.held)) (mark_any true o.publisher.events goes) }
 
@@ -64,7 +64,7 @@ invariant_of-self-in-Ok-tell_final g c =
     let later = c.tell_final-in-Err-commit.new.self in
     let now : Core D = record { events = later.events; position = desk.position; store = desk.store; halted = desk.halted; passes = o.passes; decks = o.rest } in
     let runs : o.desk.halted ≡ false = sym c.halted.ensures ∙ c.if-halted.false in
-    let goes = goes_on tells counted base g.J.Naming.faults core o.history.items o.commands.total o.faults.total o.out.total c.self.invariant.3
+    let goes = goes_on tells counted base g.J.Naming.faults core o.past.items o.commands.total o.faults.total o.out.total c.self.invariant.3
     c.pass.inside.out.amount runs c.pass.invariant.3 c.audit.ensures.bound in
     let made = c.in-Ok-judge.ensures.made in
     let halted = c.in-Err-commit.ensures.halted in
@@ -72,14 +72,14 @@ invariant_of-self-in-Ok-tell_final g c =
     let stood : judged ≡ o.desk.position = ap (λ (d : DeskOn D). d.position) made in
     let left : desk.position ≡ judged = ap (λ (d : DeskOn D). d.position) halted in
     let given : Given = given_by c.args.issuer c.args.group c.args.text.now in
-    let accepted = subst (λ (p : Position). made_of_outcome p.image (outcome p given.issuer given.group given.text) ≡ Ok (made_in c.in-Ok-judge.ready)) (sym stood) c.in-Ok-judge.ensures.accepted in
+    let accepted = subst (λ (p : Position). made_of_outcome p.image (outcome p given.issuer given.group given.text) ≡ Ok (made_in c.in-Ok-judge.made)) (sym stood) c.in-Ok-judge.ensures.accepted in
     let doubt = subst (λ (p : Position). IsInDoubt (tells desk.store.journal.disk) (tells desk.store.second) p) (sym left)
-    (in_doubt tells c.judge.new.self.store desk.store judged given c.in-Ok-judge.ready accepted c.in-Err-commit.ensures.moments c.in-Err-commit.ensures.second) in
+    (in_doubt tells c.judge.new.self.store desk.store judged given c.in-Ok-judge.made accepted c.in-Err-commit.ensures.moments c.in-Err-commit.ensures.second) in
     let stored : c.judge.new.self.store ≡ o.desk.store = ap (λ (d : DeskOn D). d.store) made in (
       ap (λ (d : DeskOn D). d.committed) halted ∙ (ap (λ (d : DeskOn D). d.committed) made ∙ c.self.invariant.0),
       ap (λ (p : Publishing). p.held) c.in-Ok-tell_final.ensures.ended,
       c.self.invariant.2,
-      failed_kept tells counted base g.J.Naming.faults core now o.history.items c.hold.new.history.items o.commands.total o.faults.total o.out.total
+      failed_kept tells counted base g.J.Naming.faults core now o.past.items c.hold.new.history.items o.commands.total o.faults.total o.out.total
           o.commands.total c.add.new.self.total c.audit.new.self.total c.self.invariant.3 goes runs
           (ap (λ (p : Publishing). p.events) c.in-Ok-tell_final.ensures.ended ∙ ap (λ (p : Publishing). ended_with true p.events) c.in-Ok-hold.ensures.held)
           (left ∙ stood) (ap (λ (d : DeskOn D). d.halted) halted) refl
@@ -99,14 +99,14 @@ returns-in-Ok-tell_final-clause-says g c =
     let i = c.pass.inside in
     let back : Passing = record { deck = i.deck; commands = i.commands.amount; faults = c.add.new.share.amount } in
     let later = c.tell_final-in-Err-commit.new.self.events in
-    let goes = goes_on tells counted base g.J.Naming.faults core o.history.items o.commands.total o.faults.total o.out.total c.self.invariant.3
+    let goes = goes_on tells counted base g.J.Naming.faults core o.past.items o.commands.total o.faults.total o.out.total c.self.invariant.3
     c.pass.inside.out.amount (sym c.halted.ensures ∙ c.if-halted.false) c.pass.invariant.3 c.audit.ensures.bound in
     let given : Given = given_by c.args.issuer c.args.group c.args.text.now in
     let left : c.commit.new.self.position ≡ o.desk.position =
     ap (λ (d : DeskOn D). d.position) c.in-Err-commit.ensures.halted ∙ ap (λ (d : DeskOn D). d.position) c.in-Ok-judge.ensures.made in
     subst (λ (l : List Event). SaysFailed base given c.number-number-in-Err-commit.result l later c.args.pass.now back) (ap (λ (k : Core D). k.events) c.self.view_is)
-    (says_failed tells counted base g.J.Naming.faults core o.history.items o.commands.total o.faults.total o.out.total c.self.invariant.3
-    given c.in-Ok-judge.ready c.number-number-in-Err-commit.result later c.args.pass.now back c.in-Ok-judge.ensures.accepted goes
+    (says_failed tells counted base g.J.Naming.faults core o.past.items o.commands.total o.faults.total o.out.total c.self.invariant.3
+    given c.in-Ok-judge.made c.number-number-in-Err-commit.result later c.args.pass.now back c.in-Ok-judge.ensures.accepted goes
     (c.number-number-in-Err-commit.ensures ∙ ap number_at left)
     (ap (λ (p : Publishing). p.events) c.in-Ok-tell_final.ensures.ended ∙ ap (λ (p : Publishing). ended_with true p.events) c.in-Ok-hold.ensures.held)
     (ap (λ (n : ℕ). let p : Passing = record { deck = i.deck; commands = i.commands.amount; faults = n } in p) c.add.ensures.amount
@@ -125,10 +125,10 @@ invariant_of-self-in-Ok-tell g c =
     let later = c.tell.new.self in
     let now : Core D = record { events = later.events; position = desk.position; store = desk.store; halted = desk.halted; passes = o.passes; decks = o.rest } in
     let runs : o.desk.halted ≡ false = sym c.halted.ensures ∙ c.if-halted.false in
-    let goes = goes_on tells counted base g.J.Naming.faults core o.history.items o.commands.total o.faults.total o.out.total c.self.invariant.3
+    let goes = goes_on tells counted base g.J.Naming.faults core o.past.items o.commands.total o.faults.total o.out.total c.self.invariant.3
     c.pass.inside.out.amount runs c.pass.invariant.3 c.audit.ensures.bound in
     let entry = c.in-Ok-hold.entry in
-    let made = made_in c.in-Ok-judge.ready in
+    let made = made_in c.in-Ok-judge.made in
     let installed_is = c.install-number.ensures.installed in
     let left : c.commit.new.self.position ≡ o.desk.position =
     ap (λ (d : DeskOn D). d.position) c.in-Ok-commit.ensures.committed ∙ ap (λ (d : DeskOn D). d.position) c.in-Ok-judge.ensures.made in
@@ -137,7 +137,7 @@ invariant_of-self-in-Ok-tell g c =
       ap (λ (d : DeskOn D). d.committed) installed_is,
       ap (λ (p : Publishing). p.held) c.in-Ok-tell.ensures.told ∙ ap (λ (p : Publishing). p.held) c.publish.ensures,
       c.self.invariant.2,
-      accepted_kept tells counted base g.J.Naming.faults core now o.history.items c.push_reserved.new.self.items o.commands.total o.faults.total o.out.total
+      accepted_kept tells counted base g.J.Naming.faults core now o.past.items c.push_reserved.new.self.items o.commands.total o.faults.total o.out.total
           c.add-2.new.self.total o.faults.total c.audit.new.self.total entry made c.self.invariant.3 goes runs
           c.in-Ok-hold.ensures.legal c.in-Ok-hold.ensures.leads
           (ap (λ (p : Publishing). p.events) c.in-Ok-tell.ensures.told
@@ -161,13 +161,13 @@ returns-in-Ok-tell-clause-says g c =
     let i = c.pass.inside in
     let back : Passing = record { deck = i.deck; commands = c.add-2.new.share.amount; faults = i.faults.amount } in
     let later = c.tell.new.self.events in
-    let goes = goes_on tells counted base g.J.Naming.faults core o.history.items o.commands.total o.faults.total o.out.total c.self.invariant.3
+    let goes = goes_on tells counted base g.J.Naming.faults core o.past.items o.commands.total o.faults.total o.out.total c.self.invariant.3
     c.pass.inside.out.amount (sym c.halted.ensures ∙ c.if-halted.false) c.pass.invariant.3 c.audit.ensures.bound in
     let given : Given = given_by c.args.issuer c.args.group c.args.text.now in
     let entry = c.in-Ok-hold.entry in
-    let ready = c.in-Ok-judge.ready in
+    let ready = c.in-Ok-judge.made in
     subst (λ (l : List Event). SaysAccepted base given c.install-number.result l later c.args.pass.now back) (ap (λ (k : Core D). k.events) c.self.view_is)
-    (says_accepted tells counted base g.J.Naming.faults core o.history.items o.commands.total o.faults.total o.out.total c.self.invariant.3
+    (says_accepted tells counted base g.J.Naming.faults core o.past.items o.commands.total o.faults.total o.out.total c.self.invariant.3
     given ready c.install-number.result entry later c.args.pass.now back
     c.accepted_commands_are_written.ensures c.an_entry_has_the_record_of_its_command.ensures c.in-Ok-judge.ensures.accepted goes
     (subst (λ (deck : ℕ). IsMadeEntry deck ready entry) (ap (λ (p : Passing). p.deck) c.pass.view_is) c.in-Ok-hold.ensures.entry)

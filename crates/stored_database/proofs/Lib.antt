@@ -1,0 +1,4 @@
+mod Front
+mod Users
+mod Profiles
+mod Classes

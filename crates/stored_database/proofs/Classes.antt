@@ -5,7 +5,6 @@ use Rattle.std.specs.List.{find, AllByRecursion, IsDistinct, sum_by}
 use Rattle.std.proofs.lemmas.Map.Keys.{IsDistinct-head, IsDistinct-tail, IsDistinct-cons}
 use Rattle.std.proofs.lemmas.Bool.{and_parts, not-true}
 use Rattle.std.proofs.lemmas.List.Sums.{sum_by-append, sum_by-cons}
-use Rattle.std.proofs.lemmas.List.{append-nil}
 use Rattle.racf_profiles.specs.declared.class_rows.ClassRow.{ClassRow}
 use Rattle.racf_profiles.specs.ClassTable.{class_name, fixed_classes, is_dataset}
 use Rattle.racf_profiles.specs.NewDatabase.{new_classes}
@@ -95,12 +94,12 @@ apart-from : (name : List ℕ) (names : List (List ℕ)) → differs name names 
 apart-from name [] h = tt
 apart-from name (other ∷ names) h = let parts = and_parts (not (bytes_eq name other)) (differs name names) h in (not-true (bytes_eq name other) parts.0, apart-from name names parts.1)
 
+none-distinct : IsDistinct bytes_eq []
+unfolding IsDistinct
+none-distinct = tt
+
 distinct-from : (names : List (List ℕ)) → all_differ names ≡ true → IsDistinct bytes_eq names
-distinct-from [] h = none_distinct
-  where
-    none_distinct : IsDistinct bytes_eq []
-    unfolding IsDistinct
-    none_distinct = tt
+distinct-from [] h = none-distinct
 distinct-from (name ∷ names) h =
     let parts = and_parts (differs name names) (all_differ names) h in IsDistinct-cons bytes_eq name names (apart-from name names parts.0) (distinct-from names parts.1)
 
@@ -146,7 +145,5 @@ module _ (all : List ClassRow) (lawful : AreClasses all) (front items : List Cla
   so_far-next now put = put ∙ ap (at_class c.name (λ r. c)) so_far ∙ next-filled c rest front (new_classes is_dataset) named distinct
 
 -- in the end
-pub all-are : (all front : List ClassRow) → AreClasses all → front ++ [] ≡ all → (classes : List ClassRow) → classes ≡ filled front (new_classes is_dataset) → classes ≡ all
-all-are all front lawful whole classes so_far =
-    let is : front ≡ all = sym (append-nil front) ∙ whole in
-    so_far ∙ ap (λ cs. filled cs (new_classes is_dataset)) is ∙ all-filled all (new_classes is_dataset) lawful.fixed
+pub all-are : (all front : List ClassRow) → AreClasses all → front ≡ all → (classes : List ClassRow) → classes ≡ filled front (new_classes is_dataset) → classes ≡ all
+all-are all front lawful is classes so_far = so_far ∙ ap (λ cs. filled cs (new_classes is_dataset)) is ∙ all-filled all (new_classes is_dataset) lawful.fixed

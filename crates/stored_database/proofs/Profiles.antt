@@ -1,6 +1,6 @@
 -- A class's profiles put one behind another.
-use Rattle.std.proofs.Common.{◌≡◌, ℕ, suc, ◌+◌, ◌<◌, ◌≤◌, Bool, true, false, cond, List, [], ◌∷◌, ◌++◌, length, Option, Some, None, bytes_eq, refl, sym, ap, subst, ◌∙◌, append_assoc, length-append, arith, true≢false}
-use Rattle.std.specs.Prelude.{IsSomeAnd}
+use Rattle.std.proofs.Common.{◌≡◌, ℕ, suc, ◌+◌, ◌<◌, ◌≤◌, Bool, true, false, cond, List, [], ◌∷◌, ◌++◌, length, Option, Some, None, is_some, IsSome, bytes_eq, refl, sym, ap, subst, ◌∙◌, append_assoc, length-append, arith, true≢false}
+use Rattle.std.specs.Prelude.{IsSomeAnd, OnOk, Result, Ok, Err}
 use Rattle.std.specs.List.{find, AllByRecursion, sum_by}
 use Rattle.std.proofs.lemmas.List.Sums.{sum_by-cons}
 use Rattle.generic_names.specs.declared.kind.NameKind.{NameKind}
@@ -11,13 +11,14 @@ use Rattle.racf_profiles.specs.declared.profiles.Profile.{Profile}
 use Rattle.racf_profiles.specs.declared.class_rows.ClassRow.{ClassRow}
 use Rattle.racf_profiles.specs.Lookup.{is_class, is_profile}
 use Rattle.racf_profiles.specs.Counts.{profile_count, entry_count, entries_in}
-use Rattle.racf_profiles.specs.Edits.{put_profile, at_class, is_in_order, AreNamed}
+use Rattle.racf_profiles.specs.Edits.{put_profile, with_profile, with_flags, with_listed, at_class, is_in_order, AreNamed}
 use Rattle.racf_profiles.specs.LawfulProfiles.{AreProfiles, kind_in}
 use Rattle.racf_profiles.specs.Limits.{most_profiles, most_class_profiles, most_entries_in_all}
 use Rattle.racf_profiles.proofs.OrderedProfiles.{same_spelled, ordered-tail, rest-behind}
-use Rattle.class_profiles.specs.Classes.{ClassList, room_in}
-use Rattle.group_tree.proofs.Rows.{value_of, holds_of}
-use Rattle.stored_database.specs.Filling.{HasNoProfiles, AreBefore, CanComeLast, with_last, with_profiles}
+use Rattle.class_profiles.specs.Classes.{ClassList, IsRoomFor, room_in}
+use Rattle.group_tree.proofs.Rows.{value_of, holds_of, same}
+use Rattle.racf_profiles.proofs.States.{find-passes}
+use Rattle.stored_database.specs.Filling.{HasNoProfiles, AreBefore, CanComeLast, with_last, with_profiles, with_all_flags}
 use Rattle.stored_database.proofs.Front.{of_next, of_front, one-further}
 
 -- ---- changes of one class
@@ -42,6 +43,15 @@ module _ (name : List ℕ) where
       by true here rest = let is : c ≡ row = cc in ap (λ r. r ∷ cs) (subst (λ (r : ClassRow). f r ≡ g r) (sym is) same)
       by false here rest = ap (λ rs. c ∷ rs) (rest here)
 
+  -- a change that leaves the class that is found leaves all
+  pub at_class-kept : (f : ClassRow → ClassRow) (row : ClassRow) (cs : List ClassRow) → find (is_class name) cs ≡ Some row → f row ≡ row → at_class name f cs ≡ cs
+  at_class-kept f row [] found kept = refl
+  at_class-kept f row (c ∷ cs) found kept = by (is_class name c) found (λ rest. at_class-kept f row cs rest kept)
+    where
+      by : (b : Bool) → cond b (Some c) (find (is_class name) cs) ≡ Some row → (find (is_class name) cs ≡ Some row → at_class name f cs ≡ cs) → cond b (f c ∷ cs) (c ∷ at_class name f cs) ≡ c ∷ cs
+      by true here rest = let is : c ≡ row = cc in ap (λ r. r ∷ cs) (subst (λ (r : ClassRow). f r ≡ r) (sym is) kept)
+      by false here rest = ap (λ rs. c ∷ rs) (rest here)
+
   -- the class is found again
   pub found-again : (f : ClassRow → ClassRow) → ((r : ClassRow) → (f r).name ≡ r.name) → (row : ClassRow) (cs : List ClassRow) → find (is_class name) cs ≡ Some row → find (is_class name) (at_class name f cs) ≡ Some (f row)
   found-again f keeps row [] found = cc
@@ -62,6 +72,12 @@ module _ (name : List ℕ) where
       by : (b : Bool) → sum_by weight (at_class name f cs) ≡ sum_by weight cs → sum_by weight (cond b (f c ∷ cs) (c ∷ at_class name f cs)) ≡ sum_by weight (c ∷ cs)
       by true rest = let now : sum_by weight (f c ∷ cs) ≡ sum_by weight (c ∷ cs) = omega (arith, keeps c, sum_by-cons weight (f c) cs, sum_by-cons weight c cs) in now
       by false rest = let now : sum_by weight (c ∷ at_class name f cs) ≡ sum_by weight (c ∷ cs) = omega (arith, rest, sum_by-cons weight c (at_class name f cs), sum_by-cons weight c cs) in now
+
+-- a class without profiles is as it was with none of them
+pub none-yet : (class : List ℕ) (old : List ClassRow) → HasNoProfiles class old → old ≡ at_class class (with_profiles []) old
+none-yet class old empty =
+    let found = value_of (find (is_class class) old) (λ (r : ClassRow). r.profiles ≡ []) empty in
+    sym (at_class-kept class (with_profiles []) found.0 old found.1 (ap (λ ps. with_profiles ps found.0) (sym found.2)))
 
 -- ---- one profile behind all others
 module _ (not_both : NotBoth) (kind : NameKind) (p : Profile) (is : p.name.kind ≡ kind) where
@@ -90,6 +106,19 @@ front-before passed_on (q ∷ qs) p rest ordered = (
   front-before passed_on qs p rest (ordered-tail q (qs ++ p ∷ rest) ordered),
 )
 
+-- a profile that can come last
+module _ (not_both : NotBoth) (list : ClassList) (class : List ℕ) (p : Profile) (can : CanComeLast list class p) where
+  pub the_class : (row : ClassRow) × (find (is_class class) list.classes ≡ Some row) × AreBefore p row
+  the_class = value_of (find (is_class class) list.classes) (AreBefore p) can.there
+
+  pub put-there : IsRoomFor list class the_class.0
+  put-there = record { room = can.room; few_in_class = the_class.2.few; few = can.few }
+
+  pub put-classes : AreProfiles (kind_in class) the_class.0.profiles → at_class class (with_profile p) list.classes ≡ at_class class (with_last p) list.classes
+  put-classes lawful =
+      at_class-same class (with_profile p) (with_last p) the_class.0 list.classes the_class.1
+      (ap (λ ps. with_profiles ps the_class.0) (put-last not_both (kind_in class) p can.kind the_class.0.profiles lawful.named the_class.2.first))
+
 -- the profiles of a class, which are the front of all, and the next
 module _ (passed_on : PassedOn) (class : List ℕ) (all : List Profile) (lawful : AreProfiles (kind_in class) all) (old : List ClassRow) (empty : HasNoProfiles class old)
     (tables : ClassList) (front items : List Profile) (p : Profile) (rest : List Profile) (is : items ≡ p ∷ rest) (whole : front ++ items ≡ all) (so_far : tables.classes ≡ at_class class (with_profiles front) old) where
@@ -100,7 +129,7 @@ module _ (passed_on : PassedOn) (class : List ℕ) (all : List Profile) (lawful 
   there =
       let found = value_of (find (is_class class) old) (λ (r : ClassRow). r.profiles ≡ []) empty in
       holds_of (find (is_class class) tables.classes) (AreBefore p) (with_profiles front found.0)
-      (ap (find (is_class class)) so_far ∙ found-again class (with_profiles front) (λ r. refl) found.0 old found.1.0)
+      (ap (find (is_class class)) so_far ∙ found-again class (with_profiles front) (λ r. refl) found.0 old found.1)
       (record {
           first = front-before passed_on front p rest (ap is_in_order split ∙ lawful.ordered);
           few = let parts : length front + length (p ∷ rest) ≡ length all = sym (length-append front (p ∷ rest)) ∙ ap length split in omega (arith, parts, lawful.few);
@@ -133,3 +162,40 @@ module _ (passed_on : PassedOn) (class : List ℕ) (all : List Profile) (lawful 
 
   pub so_far-next : (now : List ClassRow) → now ≡ at_class class (with_last p) tables.classes → now ≡ at_class class (with_profiles (front ++ p ∷ [])) old
   so_far-next now put = put ∙ ap (at_class class (with_last p)) so_far ∙ at_class-twice class (with_last p) (with_profiles front) (λ r. refl) old
+
+-- ---- a class made ready, and filled
+module _ (class : ClassRow) (old : List ClassRow) (empty : HasNoProfiles class.name old) where
+  the_empty : (row : ClassRow) × (find (is_class class.name) old ≡ Some row) × (row.profiles ≡ [])
+  the_empty = value_of (find (is_class class.name) old) (λ (r : ClassRow). r.profiles ≡ []) empty
+
+  pub flags-both : (flagged now : List ClassRow) → flagged ≡ at_class class.name (with_flags class.active class.global class.log) old → now ≡ at_class class.name (with_listed class.listed) flagged
+      → now ≡ at_class class.name (with_all_flags class) old
+  flags-both flagged now first second =
+      second ∙ ap (at_class class.name (with_listed class.listed)) first
+      ∙ at_class-twice class.name (with_listed class.listed) (with_flags class.active class.global class.log) (λ r. refl) old
+
+  pub is-there : (now : List ClassRow) → now ≡ at_class class.name (with_all_flags class) old → IsSome (find (is_class class.name) now)
+  is-there now is = ap is_some (ap (find (is_class class.name)) is ∙ found-again class.name (with_all_flags class) (λ r. refl) the_empty.0 old the_empty.1)
+
+  module _ (ready : List ClassRow) (is : ready ≡ at_class class.name (with_all_flags class) old) where
+    pub still-empty : HasNoProfiles class.name ready
+    still-empty =
+        holds_of (find (is_class class.name) ready) (λ (r : ClassRow). r.profiles ≡ []) (with_all_flags class the_empty.0)
+        (ap (find (is_class class.name)) is ∙ found-again class.name (with_all_flags class) (λ r. refl) the_empty.0 old the_empty.1) the_empty.2
+
+    pub profiles-kept : profile_count ready ≡ profile_count old
+    profiles-kept = ap profile_count is ∙ weight-kept class.name (λ (r : ClassRow). length r.profiles) (with_all_flags class) (λ r. refl) old
+
+    pub entries-kept : entry_count ready ≡ entry_count old
+    entries-kept = ap entry_count is ∙ weight-kept class.name (λ (r : ClassRow). sum_by entries_in r.profiles) (with_all_flags class) (λ r. refl) old
+
+    pub is-put : (now : List ClassRow) → now ≡ at_class class.name (with_profiles class.profiles) ready → now ≡ at_class class.name (λ r. class) old
+    is-put now put =
+        put ∙ ap (at_class class.name (with_profiles class.profiles)) is ∙ at_class-twice class.name (with_profiles class.profiles) (with_all_flags class) (λ r. refl) old
+        ∙ at_class-same class.name (λ r. with_profiles class.profiles (with_all_flags class r)) (λ r. class) the_empty.0 old the_empty.1
+        (ap (λ n. with_profiles class.profiles (with_all_flags class (record the_empty.0 { name = n }))) (same the_empty.0.name class.name (find-passes (is_class class.name) the_empty.0 old the_empty.1)))
+
+-- what follows where there was memory
+pub on-ok : {A E : Type 0} {P Q : Type 0} (r : Result A E) → (P → Q) → OnOk r P → OnOk r Q
+on-ok (Ok x) follows holds = follows holds
+on-ok (Err e) follows holds = tt

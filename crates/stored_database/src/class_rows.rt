@@ -11,7 +11,7 @@ ghost use Rattle.stored_database.specs.Filling.{HasNoProfiles, CanComeLast, with
 use access_levels::Id;
 use class_profiles::{ClassTables, laws};
 use generic_names::laws::order_is_total;
-use racf_profiles::{ClassRow, NoMemory, Profile};
+use racf_profiles::{ClassRow, NoMemory, Profile, Profiles};
 use std::alloc::Global;
 
 /// The tables of these classes.
@@ -36,31 +36,40 @@ fn put_class(tables: &mut ClassTables, class: ClassRow) -> Result<(), NoMemory>
     requires few_entries { entry_count tables.old.classes + sum_by entries_in class.profiles ≤ most_entries_in_all }
     ensures { OnOk result (tables.new.classes ≡ at_class class.name (λ _. class) tables.old.classes) }
 {
-    set_class(tables, &class);
-    tables.reserve(class.name, class.profiles.items.len())?;
-    put_profiles(tables, class.name, class.profiles.items);
+    make_ready(tables, &class)?;
+    put_profiles(tables, class.name, class.profiles);
     Ok(())
 }
 
-/// Sets what a class's row says of the class, but for its profiles.
-fn set_class(tables: &mut ClassTables, class: &ClassRow)
-    ensures { tables.new.classes ≡ at_class class.now.name (with_all_flags class.now) tables.old.classes }
+/// Sets what a class's row says of the class, but for its profiles, and makes room for these.
+fn make_ready(tables: &mut ClassTables, class: &ClassRow) -> Result<(), NoMemory>
+    requires { HasNoProfiles class.now.name tables.old.classes }
+    ensures classes { tables.new.classes ≡ at_class class.now.name (with_all_flags class.now) tables.old.classes }
+    ensures room { OnOk result (length class.now.profiles ≤ room_in class.now.name tables.new) }
 {
     tables.set_flags(class.name, class.active, class.global, class.log);
     tables.set_listed(class.name, class.listed);
+    tables.reserve(class.name, count_of(&class.profiles))
+}
+
+/// How many profiles there are.
+fn count_of(profiles: &Profiles) -> usize
+    ensures { result ≡ length profiles.now }
+{
+    profiles.items.len()
 }
 
 /// Puts the profiles of a class, which has none, in their order.
-fn put_profiles(tables: &mut ClassTables, class: Id, profiles: Vec<Profile>)
+fn put_profiles(tables: &mut ClassTables, class: Id, profiles: Profiles)
     requires empty { HasNoProfiles class tables.old.classes }
-    requires lawful { AreProfiles (kind_in class) profiles.items }
-    requires room { length profiles.items ≤ room_in class tables.old }
-    requires few_profiles { profile_count tables.old.classes + length profiles.items ≤ most_profiles }
-    requires few_entries { entry_count tables.old.classes + sum_by entries_in profiles.items ≤ most_entries_in_all }
-    ensures { tables.new.classes ≡ at_class class (with_profiles profiles.items) tables.old.classes }
+    requires lawful { AreProfiles (kind_in class) profiles }
+    requires room { length profiles ≤ room_in class tables.old }
+    requires few_profiles { profile_count tables.old.classes + length profiles ≤ most_profiles }
+    requires few_entries { entry_count tables.old.classes + sum_by entries_in profiles ≤ most_entries_in_all }
+    ensures { tables.new.classes ≡ at_class class (with_profiles profiles) tables.old.classes }
 {
     order_is_total();
-    for profile in profiles {
+    for profile in profiles.items {
         put_last(tables, class, profile);
     }
 }
@@ -74,6 +83,7 @@ fn put_last(tables: &mut ClassTables, class: Id, profile: Profile)
     ensures entries { entry_count tables.new.classes ≤ entry_count tables.old.classes + entries_in profile }
 {
     order_is_total();
+    laws::found_is_lawful();
     laws::counts_are_enough();
     laws::puts_are_counted();
     let _count = tables.count();

@@ -11,7 +11,7 @@ use Rattle.stored_database.proofs.class_rows.put_profiles.Given as goal
 -- the class has the profiles so far, and there is room for those that are left
 abbrev pub invariant-loop-profile : goal.invariant-loop-profile
 invariant-loop-profile l = record {
-  whole : l.yielded ++ into_iter_items l.profile-iterator ≡ l.fn.profiles.items;
+  whole : l.yielded ++ into_iter_items l.profile-iterator ≡ l.fn.profiles;
   so_far : l.tables.classes ≡ at_class l.class (with_profiles l.yielded) l.fn.tables.classes;
   room : length (into_iter_items l.profile-iterator) ≤ room_in l.class l.tables;
   few : profile_count l.tables.classes + length (into_iter_items l.profile-iterator) ≤ most_profiles;

@@ -1,5 +1,5 @@
 -- Classes without profiles, filled one behind another.
-use Rattle.std.proofs.Common.{◌≡◌, ℕ, ◌+◌, ◌≤◌, Bool, true, false, cond, not, ◌&&◌, List, [], ◌∷◌, ◌++◌, map, length, Option, Some, bytes_eq, refl, sym, ap, subst, ◌∙◌, append_assoc, arith}
+use Rattle.std.proofs.Common.{◌≡◌, ℕ, ◌+◌, ◌≤◌, Bool, true, false, cond, not, ◌&&◌, List, [], ◌∷◌, ◌++◌, map, length, Some, bytes_eq, refl, sym, ap, subst, ◌∙◌, arith}
 use Rattle.std.specs.Prelude.{IsSomeAnd}
 use Rattle.std.specs.List.{find, AllByRecursion, IsDistinct, sum_by}
 use Rattle.std.proofs.lemmas.Map.Keys.{IsDistinct-head, IsDistinct-tail, IsDistinct-cons}
@@ -15,7 +15,7 @@ use Rattle.racf_profiles.specs.LawfulProfiles.{AreClasses, AreProfiles, kind_in}
 use Rattle.racf_profiles.specs.Limits.{most_profiles, most_entries_in_all}
 use Rattle.group_tree.proofs.Rows.{itself}
 use Rattle.stored_database.specs.Filling.{HasNoProfiles}
-use Rattle.stored_database.proofs.Front.{among, of_next, one-further}
+use Rattle.stored_database.proofs.Front.{among, of_next}
 
 abbrev name_of : ClassRow → List ℕ
 name_of class = class.name

@@ -1,3 +1,4 @@
+mod WorkedRows
 mod Front
 mod Users
 mod Profiles

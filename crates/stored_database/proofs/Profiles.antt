@@ -1,5 +1,5 @@
 -- A class's profiles put one behind another.
-use Rattle.std.proofs.Common.{◌≡◌, ℕ, suc, ◌+◌, ◌<◌, ◌≤◌, Bool, true, false, cond, List, [], ◌∷◌, ◌++◌, length, Option, Some, None, is_some, IsSome, bytes_eq, refl, sym, ap, subst, ◌∙◌, append_assoc, length-append, arith, true≢false}
+use Rattle.std.proofs.Common.{◌≡◌, ℕ, suc, ◌+◌, ◌≤◌, Bool, true, false, cond, List, [], ◌∷◌, ◌++◌, length, Some, is_some, IsSome, bytes_eq, refl, sym, ap, subst, ◌∙◌, length-append, arith}
 use Rattle.std.specs.Prelude.{IsSomeAnd, OnOk, Result, Ok, Err}
 use Rattle.std.specs.List.{find, AllByRecursion, sum_by}
 use Rattle.std.proofs.lemmas.List.Sums.{sum_by-cons}
@@ -13,13 +13,13 @@ use Rattle.racf_profiles.specs.Lookup.{is_class, is_profile}
 use Rattle.racf_profiles.specs.Counts.{profile_count, entry_count, entries_in}
 use Rattle.racf_profiles.specs.Edits.{put_profile, with_profile, with_flags, with_listed, at_class, is_in_order, AreNamed}
 use Rattle.racf_profiles.specs.LawfulProfiles.{AreProfiles, kind_in}
-use Rattle.racf_profiles.specs.Limits.{most_profiles, most_class_profiles, most_entries_in_all}
+use Rattle.racf_profiles.specs.Limits.{most_profiles, most_entries_in_all}
 use Rattle.racf_profiles.proofs.OrderedProfiles.{same_spelled, ordered-tail, rest-behind}
 use Rattle.class_profiles.specs.Classes.{ClassList, IsRoomFor, room_in}
 use Rattle.group_tree.proofs.Rows.{value_of, holds_of, same}
 use Rattle.racf_profiles.proofs.States.{find-passes}
 use Rattle.stored_database.specs.Filling.{HasNoProfiles, AreBefore, CanComeLast, with_last, with_profiles, with_all_flags}
-use Rattle.stored_database.proofs.Front.{of_next, of_front, one-further}
+use Rattle.stored_database.proofs.Front.{of_next}
 
 -- ---- changes of one class
 module _ (name : List ℕ) where
@@ -131,9 +131,9 @@ module _ (passed_on : PassedOn) (class : List ℕ) (all : List Profile) (lawful 
       holds_of (find (is_class class) tables.classes) (AreBefore p) (with_profiles front found.0)
       (ap (find (is_class class)) so_far ∙ found-again class (with_profiles front) (λ r. refl) found.0 old found.1)
       (record {
-          first = front-before passed_on front p rest (ap is_in_order split ∙ lawful.ordered);
-          few = let parts : length front + length (p ∷ rest) ≡ length all = sym (length-append front (p ∷ rest)) ∙ ap length split in omega (arith, parts, lawful.few);
-        })
+        first = front-before passed_on front p rest (ap is_in_order split ∙ lawful.ordered);
+        few = let parts : length front + length (p ∷ rest) ≡ length all = sym (length-append front (p ∷ rest)) ∙ ap length split in omega (arith, parts, lawful.few);
+      })
 
   module _ (room : length items ≤ room_in class tables) (few : profile_count tables.classes + length items ≤ most_profiles) (few_entries : entry_count tables.classes + sum_by entries_in items ≤ most_entries_in_all) where
     count : length items ≡ suc (length rest)

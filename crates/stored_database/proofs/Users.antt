@@ -1,13 +1,13 @@
 -- Users put one behind another.
 use Rattle.std.proofs.Common.{◌≡◌, ℕ, suc, ◌+◌, ◌≤◌, false, cond, List, [], ◌∷◌, ◌++◌, map, length, Some, None, bytes_eq, refl, sym, ap, subst, ◌∙◌, length-append, arith}
-use Rattle.std.specs.List.{find, IsDistinct, sum_by}
+use Rattle.std.specs.List.{find, IsDistinct}
 use Rattle.std.proofs.lemmas.Map.Keys.{IsDistinct-head, IsDistinct-tail}
 use Rattle.std.proofs.lemmas.List.Sums.{sum_by-append, sum_by-cons}
 use Rattle.racf_profiles.specs.declared.users.User.{User}
 use Rattle.racf_profiles.specs.Lookup.{is_user}
 use Rattle.racf_profiles.specs.Edits.{put_row}
 use Rattle.racf_profiles.specs.Names.{connections, connected_to}
-use Rattle.racf_profiles.specs.Limits.{most_users, most_connections_in_all}
+use Rattle.racf_profiles.specs.Limits.{most_connections_in_all}
 use Rattle.racf_profiles.specs.LawfulUsers.{AreUsers}
 use Rattle.racf_profiles.proofs.Places.{put-absent}
 use Rattle.row_tables.specs.UserList.{UserList, CanPut}

@@ -1,10 +1,10 @@
 //! Why no database was made.
 
-use std::alloc::AllocError;
-use thiserror::Error;
-
 ghost use Rattle.std.specs.Prelude.{◌≡◌};
 ghost use Rattle.stored_database.specs.declared.faults.RowsFault.TheVariants.{NoMemory};
+
+use std::alloc::AllocError;
+use thiserror::Error;
 
 /// Why no database was made.
 #[derive(Clone, Copy, Debug, PartialEq, Eq, Error)]

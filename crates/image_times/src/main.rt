@@ -1,10 +1,10 @@
-//! Makes databases of an image, or images of a database, so that a script can measure what one costs. Standard input is the
-//! image, and the words are one of these and a number:
+//! Makes databases of an image, or images of a database, so that a script can measure what one costs. Standard input is
+//! the image, and the words are one of these and a number:
 //! - `read times`: makes a database of the image so many times, and drops it;
 //! - `write times`: copies the rows of the image's database so many times, and writes their image.
 //!
-//! Either prints how many bytes the image has and how many users, or that a field of it has no lawful value, and where. For
-//! this the database is made once, and its rows are copied once, also where the number is 0.
+//! Either prints how many bytes the image has and how many users, or that a field of it has no lawful value, and where.
+//! For this the database is made once, and its rows are copied once, also where the number is 0.
 #![tactic(auto)]
 
 use anyhow::{Context, Result, anyhow};

@@ -31,8 +31,8 @@ pub record AreBefore (profile : Profile) (class : ClassRow) : Type 0 where
   pub first : AllByRecursion (λ (other : Profile). before other.name profile.name ≡ true) class.profiles
   pub few : length class.profiles < most_class_profiles
 
--- A profile can be put behind the others of its class: its name is of the class's kind, there is room, and the limits over
--- all are kept.
+-- A profile can be put behind the others of its class: its name is of the class's kind, there is room, and the limits
+-- over all are kept.
 pub record CanComeLast (list : ClassList) (class : List ℕ) (profile : Profile) : Type 0 where
   pub there : IsSomeAnd (find (is_class class) list.classes) (AreBefore profile)
   pub kind : profile.name.kind ≡ kind_in class

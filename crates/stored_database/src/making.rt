@@ -15,8 +15,8 @@ use std::alloc::Global;
 ///
 /// # Errors
 ///
-/// `BadRow` at the first unlawful field, in the order in which `database_image` tests them; `NoMemory` where there was no
-/// room for the rows or for their tables.
+/// `BadRow` at the first unlawful field, in the order in which `database_image` tests them; `NoMemory` where there was
+/// no room for the rows or for their tables.
 pub fn of_image(alloc: Global, bytes: &[u8]) -> Result<Database, RowsFault>
     // The database has the rows that there are to be read, and a fault is their first.
     ensures exact { Makes result (rows_of bytes.now) }
@@ -31,8 +31,8 @@ pub fn of_image(alloc: Global, bytes: &[u8]) -> Result<Database, RowsFault>
 ///
 /// # Errors
 ///
-/// `BadRow` at the first unlawful field of their image; `NoMemory` where there was no room for the image, for the rows or for
-/// their tables.
+/// `BadRow` at the first unlawful field of their image; `NoMemory` where there was no room for the image, for the rows
+/// or for their tables.
 pub fn of_rows(alloc: Global, rows: &Rows) -> Result<Database, RowsFault>
     // The database has the rows that are read of their image, and a fault is its first.
     ensures exact { Makes result (rows_of (image_of rows.now)) }

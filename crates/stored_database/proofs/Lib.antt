@@ -1,0 +1,5 @@
+mod WorkedRows
+mod Front
+mod Users
+mod Profiles
+mod Classes

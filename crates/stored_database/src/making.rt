@@ -1,0 +1,61 @@
+//! Databases of images and of rows.
+ghost use Rattle.std.specs.Prelude.{◌≡◌, IfErr, IfOk, None};
+ghost use Rattle.racf_profiles.specs.Lawful.{AreLawful};
+ghost use Rattle.database_image.specs.Image.{image_of, rows_of, IsStored};
+ghost use Rattle.stored_database.specs.Making.{Makes, Reads};
+
+use crate::faults::RowsFault;
+use crate::tables::tables_of;
+use database_image::{ImageFault, laws, read, write};
+use racf_database::Database;
+use racf_profiles::Rows;
+use std::alloc::Global;
+
+/// The database of an image: each field of it was tested by itself, and then each fact between fields.
+///
+/// # Errors
+///
+/// `BadRow` at the first unlawful field, in the order in which `database_image` tests them; `NoMemory` where there was
+/// no room for the rows or for their tables.
+pub fn of_image(alloc: Global, bytes: &[u8]) -> Result<Database, RowsFault>
+    // The database has the rows that there are to be read, and a fault is their first.
+    ensures exact { Makes result (rows_of bytes.now) }
+    ensures nothing_prepared { IfOk result (λ database. database.prepared ≡ None) }
+{
+    let rows = lawful_rows(alloc, bytes)?;
+    let tables = tables_of(alloc, rows)?;
+    Ok(Database::of(tables))
+}
+
+/// The database of rows, judged as their image is.
+///
+/// # Errors
+///
+/// `BadRow` at the first unlawful field of their image; `NoMemory` where there was no room for the image, for the rows
+/// or for their tables.
+pub fn of_rows(alloc: Global, rows: &Rows) -> Result<Database, RowsFault>
+    // The database has the rows that are read of their image, and a fault is its first.
+    ensures exact { Makes result (rows_of (image_of rows.now)) }
+
+    // Rows that an image may hold are the database's, and nothing but want of memory is told of them.
+    ensures stored { IsStored rows.now → IfOk result (λ database. database.rows ≡ rows.now) }
+    ensures refused { IsStored rows.now → IfErr result (λ fault. fault ≡ RowsFault.NoMemory) }
+    ensures nothing_prepared { IfOk result (λ database. database.prepared ≡ None) }
+{
+    laws::images_are_of_rows();
+    let image = write(alloc, rows)?;
+    of_image(alloc, &image)
+}
+
+/// The rows of an image, which are lawful.
+fn lawful_rows(alloc: Global, bytes: &[u8]) -> Result<Rows, RowsFault>
+    ensures exact { Reads result (rows_of bytes.now) }
+    ensures lawful { IfOk result AreLawful }
+{
+    laws::stored_rows_are_lawful();
+    match read(alloc, bytes) {
+        Ok(rows) => Ok(rows),
+        Err(ImageFault::BadField(place)) => Err(RowsFault::BadRow(place)),
+        Err(ImageFault::NoMemory) => Err(RowsFault::NoMemory),
+    }
+}

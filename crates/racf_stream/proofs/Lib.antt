@@ -3,7 +3,7 @@ mod JoinRows
 pub mod Folds
 pub mod CutLaws
 pub mod Walk
-pub mod Stopping
+pub mod Stops
 pub mod MarkLaws
 pub mod Settled
 pub mod CommandLaws

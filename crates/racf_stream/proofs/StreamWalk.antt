@@ -20,7 +20,7 @@ use Rattle.racf_stream.specs.Processing.{Ends, Works, stop_status, unless_failed
 use Rattle.racf_stream.proofs.Faults.{step_is, fault_of_next}
 use Rattle.racf_stream.proofs.FrontLaws.{no_items}
 use Rattle.racf_stream.proofs.Walk.{Walk, Walk-none, Walk-items}
-use Rattle.racf_stream.proofs.Stopping as stopping
+use Rattle.racf_stream.proofs.Stops as stops
 
 -- a run so far, with the fault that the state tells
 abbrev pub StreamWalk : (base : Position) → (source : Option (List ℕ)) → Reader → State → (before now : Option (List ℕ)) → (gathered : List ℕ) → Type 0
@@ -64,15 +64,15 @@ module _ (base : Position) (P : State → Type 0) (source : Option (List ℕ)) (
 
   -- what is gathered couldn't be written
   pub cut : (status : Status) → IsCutShort gathered now then → status ≡ unless_failed s.halted WriteFault → Ran m P status source new.left before then
-  cut = stopping.cut m P source old new s before now then gathered w p
+  cut = stops.cut m P source old new s before now then gathered w p
 
   -- no item came
   pub stopped : (why : Stop) (status : Status) → NextsStatement (Err why) old new → new.passed ≤ 2 ^ 28 → Ends why s.halted s.has_refused status gathered now then → Ran m P status source new.left before then
-  stopped = stopping.stopped m P source old new s before now then gathered w p no_items
+  stopped = stops.stopped m P source old new s before now then gathered w p no_items
 
   -- an item was not answered
   pub unanswered : (status : Status) → Ends stop.NoMemory s.halted s.has_refused status gathered now then → Ran m P status source new.left before then
-  unanswered = stopping.unanswered m P source old new s before now then gathered w p
+  unanswered = stops.unanswered m P source old new s before now then gathered w p
 
 -- likewise where the stream is known to be as it was
 pub unanswered_at : {D : Type 0} (base : Position) (source : Option (List ℕ)) (old : Reader) (left : Option (List ℕ)) (s t : StreamOn D) (before now then : Option (List ℕ)) (gathered more : List ℕ) (status : Status)

@@ -22,7 +22,7 @@ use Rattle.racf_stream.specs.NextStatement.{TakesStatements}
 use Rattle.racf_stream.specs.Processing.{Ends}
 use Rattle.racf_stream.specs.Runs.{Machine, after, output, Ran}
 use Rattle.racf_stream.proofs.Walk.{Walk, Walk-none, Walk-items, Walk-settles, none_read}
-use Rattle.racf_stream.proofs.Stopping as stopping
+use Rattle.racf_stream.proofs.Stops as stops
 use Rattle.racf_workers.specs.Lines.{asked, request_lines, IsRead, NextsRequest}
 use Rattle.racf_workers.specs.RequestFile.{Turn, FileState, file_state, new_file, turn_of, outcome_at, answered, behind, step, text_at, request_machine, Moves, IsRight, Course, Stands, Answers}
 use Rattle.racf_workers.specs.Answering.{Between, Gathers, AnswersAt, AnswersNext, Skips, LeavesUnanswered}
@@ -159,7 +159,7 @@ module _ (base : Position) (before seen last : List Event) (source : Option (Lis
       record {
         fronts = w.fronts;
         ran =
-            stopping.stopped (request_machine base before w.fronts) (Stands base status last) source old new (state_at state w.turns seen []) sunk now then gathered w.walk
+            stops.stopped (request_machine base before w.fronts) (Stands base status last) source old new (state_at state w.turns seen []) sunk now then gathered w.walk
             (record { course = w.course; later = later; exact = λ _ _. sym same }) no_lines why status h limit ends;
       }
 
@@ -169,7 +169,7 @@ module _ (base : Position) (before seen last : List Event) (source : Option (Lis
       record {
         fronts = w.fronts;
         ran =
-            stopping.cut (request_machine base before w.fronts) (Stands base WriteFault last) source old new (state_at state w.turns seen []) sunk now then gathered w.walk
+            stops.cut (request_machine base before w.fronts) (Stands base WriteFault last) source old new (state_at state w.turns seen []) sunk now then gathered w.walk
             (record { course = w.course; later = later; exact = λ _ h. absurd (h refl) }) WriteFault short refl;
       }
 
@@ -179,7 +179,7 @@ module _ (base : Position) (before seen last : List Event) (source : Option (Lis
       record {
         fronts = w.fronts;
         ran =
-            stopping.unanswered (request_machine base before w.fronts) (Stands base status last) source old new (state_at state w.turns seen []) sunk now then gathered w.walk
+            stops.unanswered (request_machine base before w.fronts) (Stands base status last) source old new (state_at state w.turns seen []) sunk now then gathered w.walk
             (record { course = w.course; later = later; exact = by ends }) status ends;
       }
     where

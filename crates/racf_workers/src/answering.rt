@@ -155,7 +155,9 @@ fn decides(told: &Result<RequestLine, LineRefusal>, acees: &AceeTable) -> bool
 {
     match told {
         Ok(RequestLine::Verify(name, _)) => acees.refusal(*name).is_none(),
-        Ok(RequestLine::Auth(name, _) | RequestLine::Fastauth(name, _)) => acees.get(*name).is_some(),
+        Ok(RequestLine::Auth(name, _) | RequestLine::Fastauth(name, _)) => acees
+            .get(*name)
+            .is_some(),
         Ok(RequestLine::Delete(_) | RequestLine::After(_) | RequestLine::Skip) | Err(_) => false,
     }
 }

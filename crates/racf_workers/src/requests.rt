@@ -131,7 +131,13 @@ fn run<
             Ok(()) => {}
             Err(Unanswered::WriteFault) => return Status::WriteFault,
             Err(Unanswered::NoMemory) => {
-                return end_run(Stop::NoMemory, false, state.has_refused(), &mut replies, sink);
+                return end_run(
+                    Stop::NoMemory,
+                    false,
+                    state.has_refused(),
+                    &mut replies,
+                    sink,
+                );
             }
         }
         gate.answered(worker, number);

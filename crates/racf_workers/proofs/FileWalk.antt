@@ -26,7 +26,6 @@ use Rattle.racf_stream.proofs.Stops as stops
 use Rattle.racf_workers.specs.Lines.{asked, request_lines, IsRead, NextsRequest}
 use Rattle.racf_workers.specs.RequestFile.{Turn, FileState, file_state, new_file, turn_of, outcome_at, answered, behind, step, text_at, request_machine, Moves, IsRight, Course, Stands, Answers}
 use Rattle.racf_workers.specs.Answering.{Between, Gathers, AnswersAt, AnswersNext, Skips, LeavesUnanswered}
-use Rattle.racf_workers.specs.declared.answering.Unanswered.TheVariants as unanswered
 use Rattle.racf_workers.proofs.LineLaws.{no_lines}
 use Rattle.racf_workers.proofs.Lengthened.{with_more, after_more, output_more, turns_after}
 
@@ -148,19 +147,20 @@ pub passes_more : (told : Option (Result RequestLine LineRefusal)) (old new : Re
 passes_more told old new nexts = let some = nexts.2.some in let counted = nexts.2.counted in omega (arith, some, counted)
 
 -- ---- the stops
-same_events : (events : List Event) → Extends events events
+pub same_events : (events : List Event) → Extends events events
 same_events events = record { prefix = ([], append-nil events); whole = λ ended. refl }
 
 module _ (base : Position) (before seen last : List Event) (source : Option (List ℕ)) (old new : Reader) (state : Between) (sunk now then : Option (List ℕ)) (gathered : List ℕ) (w : FileWalk base before seen source old state sunk now gathered) where
   -- no line came
-  pub stopped : last ≡ seen → (why : Stop) (status : Status) → NextsRequest (Err why) old new → new.passed ≤ 2 ^ 28 → Ends why false state.has_refused status gathered now then → Answers base before last status source new.left sunk then
-  stopped same why status h limit ends =
+  pub stopped : (refused : Bool) → refused ≡ state.has_refused → last ≡ seen → (why : Stop) (status : Status) → NextsRequest (Err why) old new → new.passed ≤ 2 ^ 28 → Ends why false refused status gathered now then → Answers base before last status source new.left sunk then
+  stopped refused is same why status h limit ends =
       let later : Extends seen last = subst (λ (e : List Event). Extends seen e) (sym same) (same_events seen) in
       record {
         fronts = w.fronts;
         ran =
             stops.stopped (request_machine base before w.fronts) (Stands base status last) source old new (state_at state w.turns seen []) sunk now then gathered w.walk
-            (record { course = w.course; later = later; exact = λ _ _. sym same }) no_lines why status h limit ends;
+            (record { course = w.course; later = later; exact = λ _ _. sym same }) no_lines why status h limit
+            (subst (λ (r : Bool). Ends why false r status gathered now then) is ends);
       }
 
   -- what is gathered couldn't be written
@@ -174,8 +174,8 @@ module _ (base : Position) (before seen last : List Event) (source : Option (Lis
       }
 
   -- memory ran out before the line was answered
-  pub unanswered : Extends seen last → (status : Status) → Ends stop.NoMemory false state.has_refused status gathered now then → Answers base before last status source new.left sunk then
-  unanswered later status ends =
+  unanswered_by : Extends seen last → (status : Status) → Ends stop.NoMemory false state.has_refused status gathered now then → Answers base before last status source new.left sunk then
+  unanswered_by later status ends =
       record {
         fronts = w.fronts;
         ran =
@@ -186,6 +186,14 @@ module _ (base : Position) (before seen last : List Event) (source : Option (Lis
       by : Ends stop.NoMemory false state.has_refused status gathered now then → status ≢ NoMemory → status ≢ WriteFault → seen ≡ last
       by (inl h) not_memory not_write = absurd (not_memory h.0)
       by (inr h) not_memory not_write = absurd (not_write h.0)
+
+-- likewise where it is known that nothing has changed, but that what is gathered may have been written before a wait
+pub unanswered : (base : Position) (before seen last : List Event) (source : Option (List ℕ)) (old new : Reader) (s t : Between) (sunk now mid then : Option (List ℕ)) (gathered more : List ℕ) (refused : Bool) (status : Status)
+    → FileWalk base before seen source old s sunk now gathered → (t ≡ s) × Settles gathered more now mid → Extends seen last → refused ≡ t.has_refused → Ends stop.NoMemory false refused status more mid then
+    → Answers base before last status source new.left sunk then
+unanswered base before seen last source old new s t sunk now mid then gathered more refused status w same later is ends =
+    unanswered_by base before seen last source old new s sunk mid then more (settles base before seen source old s sunk now mid gathered more w same.1) later status
+    (subst (λ (r : Bool). Ends stop.NoMemory false r status more mid then) (is ∙ ap (λ (x : Between). x.has_refused) same.0) ends)
 
 -- nothing was read
 pub none_answered : (base : Position) (seen : List Event) (source left sunk : Option (List ℕ)) → Answers base seen seen NoMemory source left sunk sunk

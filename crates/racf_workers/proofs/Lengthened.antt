@@ -8,7 +8,7 @@ use Rattle.request_files.specs.declared.acees.NamedAcee.{NamedAcee}
 use Rattle.racf_stream.specs.Runs.{after, output}
 use Rattle.racf_workers.specs.RequestFile.{Turn, FileState, file_state, turn_of, answered, step, text_at, request_machine}
 
-pub with_more : List (List Event) → FileState → FileState
+unfoldable pub with_more : List (List Event) → FileState → FileState
 with_more more s = record s { fronts = s.fronts ++ more }
 
 module _ (base : Position) (before : List Event) (all more : List (List Event)) where

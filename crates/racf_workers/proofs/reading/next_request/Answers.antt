@@ -18,6 +18,6 @@ pub returns-in-Err-ReadFault-clause-nexts : goal.returns-in-Err-ReadFault-clause
 returns-in-Err-ReadFault-clause-nexts g c =
     from_read_fault c.next.result _ _ c.next.follows.holds-at-none.0 (c.in-Err-ReadFault.is ∙ ap Err c.in-Err-ReadFault.field-0-is)
 
-pub returns-clause-nexts : goal.returns-clause-nexts
-returns-clause-nexts g c =
+pub returns-in-Err-InputTooLong-clause-nexts : goal.returns-in-Err-InputTooLong-clause-nexts
+returns-in-Err-InputTooLong-clause-nexts g c =
     from_too_much c.next.result _ _ c.next.follows.holds-at-none.0 (c.in-Err-InputTooLong.is ∙ ap Err c.in-Err-InputTooLong.field-0-is)

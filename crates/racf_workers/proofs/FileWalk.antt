@@ -1,31 +1,29 @@
 -- A request file so far: at which fronts its lines were answered, and what a stop leaves.
-use Rattle.std.proofs.Common.{◌≡◌, ◌≢◌, ℕ, ◌+◌, ◌≤◌, ◌<◌, ◌^◌, Bool, true, false, List, [], ◌∷◌, ◌++◌, length, None, Some, Ok, Err, inl, inr, refl, sym, ◌∙◌, ap, subst, arith, append-nil, length-append}
-use Rattle.std.specs.Prelude.{Option, Result, ◌||◌}
+use Rattle.std.proofs.Common.{◌≡◌, ◌≢◌, ℕ, ◌+◌, ◌≤◌, ◌<◌, ◌^◌, Bool, false, List, [], ◌∷◌, ◌++◌, length, None, Some, Ok, Err, inl, inr, refl, sym, ◌∙◌, ap, subst, arith, append-nil, length-append}
+use Rattle.std.specs.Prelude.{Option, Result, IfSome}
 use Rattle.std.specs.Option.{option_to_list}
-use Rattle.std.specs.Io.KnownBytes.{append_known}
 use Rattle.racf_outside.specs.Lines as text
 use Rattle.racf_outside.specs.Reader.{Reader, at_start}
 use Rattle.racf_desk.specs.Position.{Position}
 use Rattle.command_history.specs.declared.events.Event.{Event}
 use Rattle.command_history.specs.Events.{Extends}
-use Rattle.command_history.proofs.Extensions.{extends_trans}
 use Rattle.request_files.specs.declared.acees.NamedAcee.{NamedAcee}
 use Rattle.request_files.specs.declared.line.RequestLine.{RequestLine}
 use Rattle.request_files.specs.declared.line.LineRefusal.{LineRefusal}
-use Rattle.request_files.specs.Seen.{line_read}
 use Rattle.racf_stream.specs.declared.stopping.Stop.{Stop}
 use Rattle.racf_stream.specs.declared.stopping.Stop.TheVariants as stop
 use Rattle.racf_stream.specs.declared.status.Status.{Status}
-use Rattle.racf_stream.specs.declared.status.Status.TheVariants.{WriteFault, NoMemory}
+use Rattle.racf_stream.specs.declared.status.Status.TheVariants.{WriteFault, NoMemory, InputTooLong}
 use Rattle.racf_stream.specs.Gathering.{Settles, IsCutShort}
 use Rattle.racf_stream.specs.NextStatement.{TakesStatements}
 use Rattle.racf_stream.specs.Processing.{Ends}
-use Rattle.racf_stream.specs.Runs.{Machine, after, output, Ran}
+use Rattle.racf_stream.specs.Runs.{longest_input}
 use Rattle.racf_stream.proofs.Walk.{Walk, Walk-none, Walk-items, Walk-settles, none_read}
 use Rattle.racf_stream.proofs.Stops as stops
+use Rattle.racf_stream.proofs.ScriptLaws.{ran_too_long}
 use Rattle.racf_workers.specs.Lines.{asked, request_lines, IsRead, NextsRequest}
-use Rattle.racf_workers.specs.RequestFile.{Turn, FileState, file_state, new_file, turn_of, outcome_at, answered, behind, step, text_at, request_machine, Moves, IsRight, Course, Stands, Answers}
-use Rattle.racf_workers.specs.Answering.{Between, Gathers, AnswersAt, AnswersNext, Skips, LeavesUnanswered}
+use Rattle.racf_workers.specs.RequestFile.{Turn, FileState, file_state, new_file, turn_of, outcome_at, answered, step, text_at, request_machine, IsRight, Course, Stands, Answers}
+use Rattle.racf_workers.specs.Answering.{Between, Gathers, AnswersAt, AnswersNext, Skips}
 use Rattle.racf_workers.proofs.LineLaws.{no_lines}
 use Rattle.racf_workers.proofs.Lengthened.{with_more, after_more, output_more, turns_after}
 
@@ -202,3 +200,10 @@ none_answered base seen source left sunk =
       fronts = [];
       ran = none_read (request_machine base seen []) (Stands base NoMemory seen) source left sunk (record { course = tt; later = same_events seen; exact = λ _ _. refl });
     }
+
+-- a line doesn't end within the longest input
+pub too_long : (base : Position) (before after : List Event) (status : Status) (source known left sunk now : Option (List ℕ)) → Answers base before after status source left sunk now → source ≡ known → status ≡ InputTooLong → IfSome known (λ bytes. longest_input < length bytes)
+too_long base before after status source known left sunk now a same is =
+    let P : Option (List ℕ) → Type 0 = λ given. IfSome given (λ bytes. longest_input < length bytes) in
+    let long : P source = ran_too_long (request_machine base before a.fronts) (Stands base status after) status source left sunk now a.ran is in
+    subst P same long

@@ -1,5 +1,5 @@
 -- A schedule that is longer changes nothing of the lines before: as many fronts as there were lines are used.
-use Rattle.std.proofs.Common.{◌≡◌, ℕ, ◌+◌, ◌≤◌, Bool, ◌++◌, List, [], ◌∷◌, length, refl, sym, ◌∙◌, ap, arith, length-append}
+use Rattle.std.proofs.Common.{◌≡◌, ◌+◌, ◌≤◌, Bool, ◌++◌, List, [], ◌∷◌, length, refl, ap, arith, length-append}
 use Rattle.std.specs.Prelude.{◌||◌}
 use Rattle.racf_outside.specs.Lines as text
 use Rattle.racf_desk.specs.Position.{Position}

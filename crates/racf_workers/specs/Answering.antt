@@ -1,5 +1,5 @@
 -- The steps in which the lines of a request file are answered.
-use Rattle.std.specs.Prelude.{◌≡◌, ◌++◌, ◌||◌, ℕ, Bool, List, Option, Some, None, Result, Ok, Err}
+use Rattle.std.specs.Prelude.{◌≡◌, ◌++◌, ◌||◌, ℕ, Bool, List, Option, Some, None, Result}
 use Rattle.racf_outside.specs.Causes.{Rose}
 use Rattle.racf_desk.specs.Position.{Position}
 use Rattle.command_history.specs.declared.events.Event.{Event}

@@ -10,14 +10,14 @@ use Rattle.racf_checkpoint.specs.Stored.{Beside}
 use Rattle.racf_desk.specs.Durable.{LeavesIt, WasPossible, StaysPossible}
 use Rattle.racf_desk.specs.Made.{DeskOn}
 use Rattle.racf_desk.specs.Position.{Position}
-use Rattle.racf_run.specs.declared.status.Status.{Status}
-use Rattle.racf_run.specs.Durable.{StandsForFront}
+use Rattle.racf_stream.specs.declared.status.Status.{Status}
+use Rattle.racf_stream.specs.Durable.{StandsForFront}
 use Rattle.racf_run.specs.Racf.{Files, RanTo, RunsOnShelf, EndsAt, EndsOn, StoodFor, StandsAlong, StaysAlongFrom}
-use Rattle.racf_run.specs.Runs.{Ran}
-use Rattle.racf_run.specs.Script.{stream, fault_at, fault_of, StandsAt}
-use Rattle.racf_run.specs.Stream.{State, number_of, new_stream}
-use Rattle.racf_run.proofs.Moments.{beside_weaker}
-use Rattle.racf_run.proofs.ScriptLaws.{Ran-weaker, stands_new, position_new}
+use Rattle.racf_stream.specs.Runs.{Ran}
+use Rattle.racf_stream.specs.Script.{stream, fault_at, fault_of, StandsAt}
+use Rattle.racf_stream.specs.Stream.{State, number_of, new_stream}
+use Rattle.racf_stream.proofs.Moments.{beside_weaker}
+use Rattle.racf_stream.proofs.ScriptLaws.{Ran-weaker, stands_new, position_new}
 
 -- the desk at the start
 pub ends_new : {D : Type 0} (tells : D → Option History) (desk : DeskOn D) → desk.halted ≡ false → desk.committed ≡ false → (desk.halted ≡ false → LeavesIt tells desk.store desk.position) → EndsAt tells desk (new_stream desk.position)

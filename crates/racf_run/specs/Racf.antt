@@ -13,12 +13,12 @@ use Rattle.racf_desk.specs.Durable.{WasPossible, LeavesIt}
 use Rattle.racf_desk.specs.Made.{DeskOn}
 use Rattle.racf_desk.specs.Position.{Position}
 use Rattle.racf_desk.specs.Recovery.{standing, Refuses, StandsFor}
-use Rattle.racf_run.specs.declared.status.Status.{Status}
-use Rattle.racf_run.specs.declared.status.Status.TheVariants.{ReadFault, WriteFault, DiskFault, NotFormatted, Damaged, NoMemory}
-use Rattle.racf_run.specs.Durable.{StandsForFront}
-use Rattle.racf_run.specs.Runs.{Ran}
-use Rattle.racf_run.specs.Script.{stream, script_output, script_status, fault_at, StandsAt}
-use Rattle.racf_run.specs.Stream.{State, new_stream, number_of}
+use Rattle.racf_stream.specs.declared.status.Status.{Status}
+use Rattle.racf_stream.specs.declared.status.Status.TheVariants.{ReadFault, WriteFault, DiskFault, NotFormatted, Damaged, NoMemory}
+use Rattle.racf_stream.specs.Durable.{StandsForFront}
+use Rattle.racf_stream.specs.Runs.{Ran}
+use Rattle.racf_stream.specs.Script.{stream, script_output, script_status, fault_at, StandsAt}
+use Rattle.racf_stream.specs.Stream.{State, new_stream, number_of}
 use Rattle.racf_run.specs.Making.{MakeWords, make_text, WroteText}
 
 -- the names of an input and of an output

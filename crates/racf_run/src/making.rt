@@ -5,15 +5,13 @@ ghost use Rattle.racf_outside.specs.Causes.{Rose};
 ghost use Rattle.racf_generator.specs.MadeText.{made_text};
 ghost use Rattle.racf_run.specs.Making.{make_text, summary_text, most_users, WroteText};
 ghost use Rattle.racf_desk.specs.Position.{first_position};
-ghost use Rattle.racf_run.specs.Script.{script_output};
+ghost use Rattle.racf_stream.specs.Script.{script_output};
 
-use crate::replies::write_all;
-use crate::scripts::script;
-use crate::status::Status;
 use racf_desk::Desk;
 use racf_generator::laws::made_text_is_short;
 use racf_generator::{AnswerTally, MadeText, line_count};
 use racf_outside::{Failed, NeverDisk, Sink, Source, Two};
+use racf_stream::{Status, script, write_all};
 use std::alloc::{AllocError, Global};
 
 /// How many bytes of the text are written at once.

@@ -9,19 +9,18 @@ ghost use Rattle.racf_outside.specs.Shelf.{SameBytes};
 ghost use Rattle.racf_checkpoint.specs.Stored.{Beside};
 ghost use Rattle.racf_desk.specs.Position.{first_position};
 ghost use Rattle.racf_desk.specs.Recovery.{StandsFor};
-ghost use Rattle.racf_run.specs.Durable.{StaysAlong};
+ghost use Rattle.racf_stream.specs.Durable.{StaysAlong};
 ghost use Rattle.racf_run.specs.Racf.{script_files, is_init, opening_status, RunsOnShelf, MakesOnShelf, IsWholeOutput, OpensNone};
 ghost use Rattle.racf_run.specs.Racf.{OpensNoDatabase, OpensDatabase, EndsOn, EndsAt, StaysAlongFrom};
 ghost use Rattle.racf_run.specs.Making.{make_words, most_users};
-ghost use Rattle.racf_run.specs.Runs.{longest_input};
-ghost use Rattle.racf_run.specs.Script.{is_whole};
+ghost use Rattle.racf_stream.specs.Runs.{longest_input};
+ghost use Rattle.racf_stream.specs.Script.{is_whole};
 
 use crate::making::make;
-use crate::scripts::script;
-use crate::status::Status;
 use racf_checkpoint::StoreFault;
 use racf_desk::Desk;
 use racf_outside::{Disk, Failed, Shelf, Two};
+use racf_stream::{Status, script};
 use request_files::number_word;
 use std::alloc::Global;
 

@@ -1,5 +1,5 @@
 use Rattle.std.proofs.Common.{rules, inl, inr, refl}
-use Rattle.racf_run.proofs.Moments.{StaysAlong-none}
+use Rattle.racf_stream.proofs.Moments.{StaysAlong-none}
 use Rattle.racf_run.proofs.TopLaws.{ends_new, ran_to}
 use Rattle.racf_run.proofs.top.script_between.Goals as goal
 

@@ -1,7 +1,7 @@
 use Rattle.std.proofs.Common.{inr, sym, subst}
 use Rattle.racf_outside.specs.Crashes.{StaysIn}
 use Rattle.racf_checkpoint.specs.Stored.{Beside}
-use Rattle.racf_run.specs.Durable.{StandsForFront}
+use Rattle.racf_stream.specs.Durable.{StandsForFront}
 use Rattle.racf_run.proofs.TopLaws.{RunsOnShelf-weaker, ends_on, opening_along, script_along}
 use Rattle.racf_run.specs.Racf.{EndsAt, EndsOn}
 use Rattle.racf_run.proofs.top.script_on.Goals as goal

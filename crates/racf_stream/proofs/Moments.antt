@@ -1,0 +1,111 @@
+-- What every crash leaves along a stream: what stands for the position behind some front of its statements.
+use Rattle.std.proofs.Common.{◌≡◌, ℕ, ◌≤◌, Bool, true, false, List, [], ◌∷◌, ◌++◌, None, Some, inl, inr, refl, sym, ◌∙◌, ap, subst, arith}
+use Rattle.std.specs.Prelude.{Option, ◌⊎◌}
+use Rattle.std.specs.Option.{option_to_list}
+use Rattle.racf_outside.specs.Causes.{Rose}
+use Rattle.racf_outside.specs.Disk.{History}
+use Rattle.racf_outside.specs.Reader.{Reader, at_start}
+use Rattle.racf_outside.proofs.Rises.{Rose-later}
+use Rattle.racf_outside.proofs.Runs.{Leaves-weaker, StaysIn-none, StaysIn-joined, StaysIn-weaker}
+use Rattle.racf_checkpoint.specs.Stored.{StoreOn, Beside}
+use Rattle.racf_desk.specs.Durable.{LeavesIt, StaysEither}
+use Rattle.racf_desk.specs.Position.{Position}
+use Rattle.racf_desk.specs.Recovery.{StandsFor, StandsForEither}
+use Rattle.racf_stream.specs.declared.statement.Statement.{Statement}
+use Rattle.racf_stream.specs.Durable.{StreamOn, MovesBy, StandsForFront, StaysAlong}
+use Rattle.racf_stream.specs.NextStatement.{TakesStatements}
+use Rattle.racf_stream.specs.Runs.{output}
+use Rattle.racf_stream.specs.Script.{stream, statements, fault_at}
+use Rattle.racf_stream.specs.Stream.{State, number_of, new_stream, answer, step}
+use Rattle.racf_stream.proofs.Faults.{step_is}
+use Rattle.racf_stream.proofs.Walk.{Walk, Walk-none, Walk-items, Walk-first}
+use Rattle.racf_stream.proofs.StreamWalk.{StreamWalk}
+
+-- where the stream is, some front of the statements led
+stands_walked : (base : Position) (source : Option (List ℕ)) (reader : Reader) (s : State) (before now : Option (List ℕ)) (gathered : List ℕ) → Walk (stream None base) source reader s before now gathered
+    → (position : Position) → position ≡ s.position → (one other : List ℕ) → StandsFor position one other → StandsForFront base source one other
+stands_walked base source reader s before now gathered w position is one other stands =
+    record {
+      read = w.read;
+      more = reader.unread;
+      given = w.given;
+      done = w.done;
+      begins = Walk-first (stream None base) source reader s before now gathered w;
+      stands = subst (λ p. StandsFor p one other) (is ∙ ap (λ (x : State). x.position) w.state) stands;
+    }
+
+-- beside whatever a crash leaves of the second disk
+pub beside_weaker : (second : Option History) (P Q : List ℕ → List ℕ → Type 0) (one : List ℕ) → ((other : List ℕ) → P one other → Q one other) → Beside second P one → Beside second Q one
+beside_weaker second P Q one weaker p history told = Leaves-weaker (P one) (Q one) history.now weaker (p history told)
+
+new_position : (base : Position) → base ≡ (new_stream base).position
+unfolding new_stream
+new_position base = refl
+
+-- before the first statement
+pub StaysAlong-none : {D : Type 0} (tells : D → Option History) (base : Position) (source : Option (List ℕ)) (store : StoreOn D) → LeavesIt tells store base → StaysAlong tells base source store store
+StaysAlong-none tells base source store leaves =
+    let front : (one other : List ℕ) → StandsFor base one other → StandsForFront base source one other =
+    stands_walked base source (at_start source 0) (new_stream base) None None [] (Walk-none (stream None base) source None 0) base (new_position base) in
+    StaysIn-none (Beside (tells store.second) (StandsForFront base source)) (tells store.journal.disk)
+    (λ h told. Leaves-weaker (Beside (tells store.second) (StandsFor base)) (Beside (tells store.second) (StandsForFront base source)) h.now
+    (λ one. beside_weaker (tells store.second) (StandsFor base) (StandsForFront base source) one (front one)) (leaves h told))
+
+module _ {D : Type 0} (tells : D → Option History) (faults : D → ℕ) (base : Position) (source : Option (List ℕ)) (first : StoreOn D) (s t : StreamOn D) where
+  -- nothing was done to the disks
+  same_store : t.store ≡ s.store → StaysAlong tells base source first s.store → StaysAlong tells base source first t.store
+  same_store is along = subst (λ (store : StoreOn D). StaysAlong tells base source first store) (sym is) along
+
+  -- a command stands on them, or doesn't
+  one_more : (old new : Reader) (item : Statement) (bytes : List ℕ) (before now : Option (List ℕ)) (gathered : List ℕ)
+      → Walk (stream None base) source old s.state before now gathered → TakesStatements statements (item ∷ []) bytes old new → s.store.second ≡ first.second
+      → StaysEither tells s.store t.store s.state.position (answer None item s.state).state.position → StaysAlong tells base source first s.store → StaysAlong tells base source first t.store
+  one_more old new item bytes before now gathered w takes second either along =
+      let m = stream None base in
+      let next : State = step None item s.state in
+      let is : (answer None item s.state).state.position ≡ next.position = ap (λ (x : State). x.position) (sym (step_is None item s.state)) in
+      let behind : Walk m source new next before now (gathered ++ output m (item ∷ []) s.state) = Walk-items m (item ∷ []) bytes source old new s.state next before now gathered (gathered ++ output m (item ∷ []) s.state) w takes refl refl in
+      let front : (one other : List ℕ) → StandsForEither s.state.position (answer None item s.state).state.position one other → StandsForFront base source one other =
+      by_either s.state.position (answer None item s.state).state.position (stands_walked base source old s.state before now gathered w s.state.position refl) (stands_walked base source new next before now (gathered ++ output m (item ∷ []) s.state) behind (answer None item s.state).state.position is) in
+      StaysIn-joined along
+      (StaysIn-weaker (Beside (tells first.second) (StandsForFront base source)) either
+      (λ h told one p. beside_weaker (tells first.second) (StandsForEither s.state.position (answer None item s.state).state.position) (StandsForFront base source) one (front one)
+      (subst (λ (d : D). Beside (tells d) (StandsForEither s.state.position (answer None item s.state).state.position) one) second p)))
+    where
+      by_either : (p q : Position) → ((one other : List ℕ) → StandsFor p one other → StandsForFront base source one other) → ((one other : List ℕ) → StandsFor q one other → StandsForFront base source one other)
+          → (one other : List ℕ) → StandsForEither p q one other → StandsForFront base source one other
+      by_either p q l r one other (inl x) = l one other x
+      by_either p q l r one other (inr x) = r one other x
+
+  -- a statement, where there is one
+  pub moved : (old new : Reader) (given : Option Statement) (bytes : List ℕ) (before now : Option (List ℕ)) (gathered : List ℕ)
+      → StreamWalk base source old s.state before now gathered → TakesStatements statements (option_to_list given) bytes old new → s.store.second ≡ first.second
+      → MovesBy tells faults given s t → StaysAlong tells base source first s.store → StaysAlong tells base source first t.store
+  moved old new None bytes before now gathered w takes second is along = same_store (ap (λ (x : StreamOn D). x.store) is) along
+  moved old new (Some item) bytes before now gathered w takes second moves along = by moves.moments
+    where
+      by : (t.store ≡ s.store) ⊎ ((s.state.halted ≡ false) × StaysEither tells s.store t.store s.state.position (answer None item s.state).state.position) → StaysAlong tells base source first t.store
+      by (inl is) = same_store is along
+      by (inr either) =
+          one_more old new item bytes before now gathered
+          (subst (λ fault. Walk (stream fault base) source old s.state before now gathered) (ap (λ h. fault_at h (number_of s.state)) either.0) w) takes second either.1 along
+
+  pub same_second : (given : Option Statement) → MovesBy tells faults given s t → s.store.second ≡ first.second → t.store.second ≡ first.second
+  same_second None is second = ap (λ (x : StreamOn D). x.store.second) is ∙ second
+  same_second (Some item) moves second = moves.second ∙ second
+
+  pub no_fewer : (given : Option Statement) → MovesBy tells faults given s t → faults first.journal.disk ≤ faults s.store.journal.disk → faults first.journal.disk ≤ faults t.store.journal.disk
+  no_fewer None is h = subst (λ (x : StreamOn D). faults first.journal.disk ≤ faults x.store.journal.disk) (sym is) h
+  no_fewer (Some item) moves h = let more = moves.no_fewer in omega (arith, more, h)
+
+  pub halts : (given : Option Statement) → MovesBy tells faults given s t → faults first.journal.disk ≤ faults s.store.journal.disk
+      → (s.state.halted ≡ true → Rose (faults first.journal.disk) (faults s.store.journal.disk)) → t.state.halted ≡ true → Rose (faults first.journal.disk) (faults t.store.journal.disk)
+  halts None is h rose halted = subst (λ (x : StreamOn D). Rose (faults first.journal.disk) (faults x.store.journal.disk)) (sym is) (rose (ap (λ (x : StreamOn D). x.state.halted) (sym is) ∙ halted))
+  halts (Some item) moves h rose halted = by s.state.halted refl
+    where
+      by : (b : Bool) → s.state.halted ≡ b → Rose (faults first.journal.disk) (faults t.store.journal.disk)
+      by true was = let more = moves.no_fewer in rose_on (faults first.journal.disk) (faults s.store.journal.disk) (faults t.store.journal.disk) (rose was) more
+        where
+          rose_on : (a b c : ℕ) → Rose a b → b ≤ c → Rose a c
+          rose_on a b c r le = grind arith
+      by false was = Rose-later (faults first.journal.disk) (faults s.store.journal.disk) (faults t.store.journal.disk) h (moves.cause was halted)

@@ -1,0 +1,16 @@
+use Rattle.std.proofs.Common.{◌≤◌, ◌-◌, ◌^◌}
+use Rattle.racf_stream.specs.Gathering.{Settles}
+use Rattle.racf_stream.proofs.StatementLaws.{Taken}
+use Rattle.racf_stream.proofs.input.next_statement.Given as goal
+
+abbrev pub invariant-line : goal.invariant-line
+invariant-line g l =
+    record {
+      taken : Taken l.begun l.fn.lines l.lines;
+      faults : l.fn.lines.faults ≤ l.lines.faults;
+      settled : Settles l.fn.replies l.replies (g.O.Sink.taken l.fn.sink) (g.O.Sink.taken l.sink);
+      sink_faults : g.O.Sink.faults l.fn.sink ≤ g.O.Sink.faults l.sink;
+    }
+
+abbrev pub decreases-line : goal.decreases-line
+decreases-line g l = 2 ^ 28 - l.lines.passed

@@ -1,0 +1,97 @@
+use Rattle.std.proofs.Common.{◌≡◌, arith, refl}
+use Rattle.racf_stream.specs.Durable.{fault_in}
+use Rattle.racf_stream.specs.Script.{stream}
+use Rattle.racf_stream.specs.Stream.{State}
+use Rattle.racf_stream.proofs.Walk.{Walk-settles}
+use Rattle.racf_stream.proofs.StreamWalk.{begun, new_runs, passed_none, goes_on, cut, stopped, failed_status, unanswered_at}
+use Rattle.racf_stream.proofs.Moments.{StaysAlong-none, moved, same_second, no_fewer, halts}
+use Rattle.racf_stream.proofs.scripts.run.Goals as goal
+
+pub item-init : goal.item-init
+item-init g c =
+    let runs = new_runs c.args.stream.now.state.position c.args.stream.now.state c.requires.new in
+    record {
+      walk = begun c.args.stream.now.state.position c.args.lines.now c.args.stream.now.state _ c.new-replies.result c.requires.begins c.requires.new c.new-replies.ensures;
+      most = passed_none c.args.lines.now c.requires.begins;
+      along = StaysAlong-none g.D.Disk.tells c.args.stream.now.state.position c.args.lines.now.left c.args.stream.now.store (c.is_at_rest.ensures runs);
+      second = refl;
+      halted = λ halted. cc;
+      source_faults = omega arith;
+      sink_faults = omega arith;
+      disk_faults = omega arith;
+    }
+
+-- no item came
+pub returns-in-Ok-Err-clause-ran : goal.returns-in-Ok-Err-clause-ran
+returns-in-Ok-Err-clause-ran g c =
+    let base = c.args.stream.now.state.position in
+    stopped base (λ (s : State). c.item.stream.state ≡ s) c.args.lines.now.left c.item.lines c.next_statement.new.lines c.item.stream.state _ _ _ c.next_statement.new.replies
+    (Walk-settles (stream (fault_in c.item.stream) base) _ c.item.lines c.item.stream.state _ _ _ c.item.replies c.next_statement.new.replies c.item.invariant.walk c.in-Ok-Err.ensures.settled)
+    refl c.in-Ok-Err.stop c.end.result (rw c.in-Ok-Err.field-0-is at c.in-Ok-Err.ensures.item) c.in-Ok-Err.ensures.limit c.end.ensures.ended
+
+-- what is gathered couldn't be written
+pub returns-in-Err-clause-ran : goal.returns-in-Err-clause-ran
+returns-in-Err-clause-ran g c =
+    cut c.args.stream.now.state.position (λ (s : State). c.item.stream.state ≡ s) c.args.lines.now.left c.item.lines c.next_statement.new.lines c.item.stream.state _ _ _ c.item.replies
+    c.item.invariant.walk refl c.unless_failed.result c.in-Err.ensures.front
+    (failed_status c.unless_failed.result c.has_failed.result c.item.stream.state.halted c.unless_failed.ensures c.has_failed.ensures)
+
+-- memory ran out
+pub returns-in-Err-process_statement-clause-ran : goal.returns-in-Err-process_statement-clause-ran
+returns-in-Err-process_statement-clause-ran g c =
+    let base = c.args.stream.now.state.position in
+    unanswered_at base c.args.lines.now.left c.item.lines c.next_statement.new.lines.left c.item.stream c.process_statement.new.stream _ _ _ c.next_statement.new.replies c.process_statement.new.replies c.end-in-Err-process_statement.result
+    (Walk-settles (stream (fault_in c.item.stream) base) _ c.item.lines c.item.stream.state _ _ _ c.item.replies c.next_statement.new.replies c.item.invariant.walk c.in-Ok-Ok.ensures.settled)
+    (c.in-Err-process_statement.ensures.processes base) c.end-in-Err-process_statement.ensures.ended
+
+pub returns-in-Err-process_statement-clause-moments : goal.returns-in-Err-process_statement-clause-moments
+returns-in-Err-process_statement-clause-moments g c =
+    let base = c.args.stream.now.state.position in
+    let takes = rw c.in-Ok-Ok.field-0-is at c.in-Ok-Ok.ensures.item in
+    moved g.D.Disk.tells g.D.Disk.faults base c.args.lines.now.left c.args.stream.now.store c.item.stream c.process_statement.new.stream c.item.lines c.next_statement.new.lines c.in-Ok-Ok.item takes.0 _ _ c.next_statement.new.replies
+    (Walk-settles (stream (fault_in c.item.stream) base) _ c.item.lines c.item.stream.state _ _ _ c.item.replies c.next_statement.new.replies c.item.invariant.walk c.in-Ok-Ok.ensures.settled)
+    takes.1 c.item.invariant.second c.process_statement.ensures.moves c.item.invariant.along
+
+pub item-preserved : goal.item-preserved
+item-preserved g c =
+    let base = c.args.stream.now.state.position in
+    let first = c.args.stream.now.store in
+    let takes = rw c.in-Ok-Ok.field-0-is at c.in-Ok-Ok.ensures.item in
+    let old = c.item.stream in
+    let new = c.process_statement.new.stream in
+    let moves = c.process_statement.ensures.moves in
+    let before =
+    Walk-settles (stream (fault_in old) base) _ c.item.lines old.state _ _ _ c.item.replies c.next_statement.new.replies c.item.invariant.walk c.in-Ok-Ok.ensures.settled in
+    let worked =
+    goes_on base c.in-Ok-Ok.item takes.0 _ c.item.lines c.next_statement.new.lines old new _ _ c.next_statement.new.replies c.process_statement.new.replies before takes.1 (c.in-Ok.ensures.processes base) in
+    record {
+      walk = Walk-settles (stream (fault_in new) base) _ c.next_statement.new.lines new.state _ _ _ c.process_statement.new.replies c.acknowledge.new.replies worked c.in-Ok-acknowledge.ensures.settled;
+      most = c.in-Ok-Ok.ensures.limit;
+      along = moved g.D.Disk.tells g.D.Disk.faults base c.args.lines.now.left first old new c.item.lines c.next_statement.new.lines c.in-Ok-Ok.item takes.0 _ _ c.next_statement.new.replies before takes.1 c.item.invariant.second moves c.item.invariant.along;
+      second = same_second g.D.Disk.tells g.D.Disk.faults base c.args.lines.now.left first old new c.in-Ok-Ok.item moves c.item.invariant.second;
+      halted = halts g.D.Disk.tells g.D.Disk.faults base c.args.lines.now.left first old new c.in-Ok-Ok.item moves c.item.invariant.disk_faults c.item.invariant.halted;
+      source_faults = omega (arith, c.item.invariant.source_faults, c.next_statement.ensures.faults);
+      sink_faults = omega (arith, c.item.invariant.sink_faults, c.next_statement.ensures.cause.no_fewer, c.acknowledge.ensures.cause.no_fewer);
+      disk_faults = no_fewer g.D.Disk.tells g.D.Disk.faults base c.args.lines.now.left first old new c.in-Ok-Ok.item moves c.item.invariant.disk_faults;
+    }
+
+-- a reply couldn't be written
+pub returns-in-Err-acknowledge-clause-ran : goal.returns-in-Err-acknowledge-clause-ran
+returns-in-Err-acknowledge-clause-ran g c =
+    let base = c.args.stream.now.state.position in
+    let takes = rw c.in-Ok-Ok.field-0-is at c.in-Ok-Ok.ensures.item in
+    let new = c.process_statement.new.stream in
+    cut base (λ (s : State). new.state ≡ s) c.args.lines.now.left c.next_statement.new.lines c.next_statement.new.lines new.state _ _ _ c.process_statement.new.replies
+    (goes_on base c.in-Ok-Ok.item takes.0 _ c.item.lines c.next_statement.new.lines c.item.stream new _ _ c.next_statement.new.replies c.process_statement.new.replies
+    (Walk-settles (stream (fault_in c.item.stream) base) _ c.item.lines c.item.stream.state _ _ _ c.item.replies c.next_statement.new.replies c.item.invariant.walk c.in-Ok-Ok.ensures.settled)
+    takes.1 (c.in-Ok.ensures.processes base))
+    refl c.unless_failed-in-Err-acknowledge.result c.in-Err-acknowledge.ensures.front
+    (failed_status c.unless_failed-in-Err-acknowledge.result c.has_failed-in-Err-acknowledge.result new.state.halted c.unless_failed-in-Err-acknowledge.ensures c.has_failed-in-Err-acknowledge.ensures)
+
+pub returns-in-Err-acknowledge-clause-moments : goal.returns-in-Err-acknowledge-clause-moments
+returns-in-Err-acknowledge-clause-moments g c =
+    let base = c.args.stream.now.state.position in
+    let takes = rw c.in-Ok-Ok.field-0-is at c.in-Ok-Ok.ensures.item in
+    moved g.D.Disk.tells g.D.Disk.faults base c.args.lines.now.left c.args.stream.now.store c.item.stream c.process_statement.new.stream c.item.lines c.next_statement.new.lines c.in-Ok-Ok.item takes.0 _ _ c.next_statement.new.replies
+    (Walk-settles (stream (fault_in c.item.stream) base) _ c.item.lines c.item.stream.state _ _ _ c.item.replies c.next_statement.new.replies c.item.invariant.walk c.in-Ok-Ok.ensures.settled)
+    takes.1 c.item.invariant.second c.process_statement.ensures.moves c.item.invariant.along

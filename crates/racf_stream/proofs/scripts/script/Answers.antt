@@ -1,0 +1,57 @@
+use Rattle.std.proofs.Common.{◌≡◌, ℕ, List, sym, ap, subst}
+use Rattle.std.specs.Prelude.{Option}
+use Rattle.racf_outside.specs.Reader.{Reader}
+use Rattle.racf_desk.specs.Made.{DeskOn}
+use Rattle.racf_stream.specs.Durable.{StreamOn, StaysAlong}
+use Rattle.racf_stream.specs.Runs.{Ran}
+use Rattle.racf_stream.specs.Script.{stream, fault_of, StandsAt}
+use Rattle.racf_stream.specs.declared.status.Status.TheVariants.{NoMemory}
+use Rattle.racf_stream.proofs.Walk.{none_read}
+use Rattle.racf_stream.proofs.Moments.{StaysAlong-none}
+use Rattle.racf_stream.proofs.ScriptLaws.{begins_new, position_new, stands_new, ran_script, ran_whole, ran_too_long, along_as}
+use Rattle.racf_stream.proofs.scripts.script.Goals as goal
+
+-- there was no memory for the reader
+pub returns-in-Err-clause-ran : goal.returns-in-Err-clause-ran
+returns-in-Err-clause-ran g c = none_read (stream (fault_of c.args.desk) c.args.desk.position) (StandsAt c.args.desk) _ _ _ (stands_new c.args.desk c.requires.running c.requires.settled)
+
+pub returns-in-Err-clause-moments : goal.returns-in-Err-clause-moments
+returns-in-Err-clause-moments g c = StaysAlong-none g.D.Disk.tells c.args.desk.position (g.S.Source.left c.args.source) c.args.desk.store (c.is_at_rest.ensures c.requires.running)
+
+-- nor for the state of the stream
+pub returns-in-Err-new-clause-ran : goal.returns-in-Err-new-clause-ran
+returns-in-Err-new-clause-ran g c =
+    subst (λ (desk : DeskOn g.row.D.Denot). Ran (stream (fault_of desk) c.args.desk.position) (StandsAt desk) NoMemory (g.S.Source.left c.args.source) (g.S.Source.left c.into_source.result) (g.O.Sink.taken c.args.sink.now) (g.O.Sink.taken c.args.sink.now)) (sym c.in-Err-new.ensures.back)
+    (none_read (stream (fault_of c.args.desk) c.args.desk.position) (StandsAt c.args.desk) _ _ _ (stands_new c.args.desk c.requires.running c.requires.settled))
+
+pub returns-in-Err-new-clause-moments : goal.returns-in-Err-new-clause-moments
+returns-in-Err-new-clause-moments g c =
+    subst (λ (desk : DeskOn g.row.D.Denot). StaysAlong g.D.Disk.tells c.args.desk.position (g.S.Source.left c.args.source) c.args.desk.store desk.store) (sym c.in-Err-new.ensures.back)
+    (StaysAlong-none g.D.Disk.tells c.args.desk.position (g.S.Source.left c.args.source) c.args.desk.store (c.is_at_rest.ensures c.requires.running))
+
+pub run-status-requires-clause-new : goal.run-status-requires-clause-new
+run-status-requires-clause-new g c = begins_new c.args.desk.position c.in-Ok-new.stream.state (ap (λ (s : StreamOn g.row.D.Denot). s.state) c.in-Ok-new.ensures.state)
+
+-- the stream was run
+pub returns-in-Ok-new-clause-ran : goal.returns-in-Ok-new-clause-ran
+returns-in-Ok-new-clause-ran g c =
+    let source : c.in-Ok.lines.left ≡ g.S.Source.left c.args.source = ap (λ (r : Reader). r.left) c.in-Ok.ensures.start in
+    let at = position_new c.args.desk.position c.in-Ok-new.stream.state (ap (λ (s : StreamOn g.row.D.Denot). s.state) c.in-Ok-new.ensures.state) in
+    subst (λ (known : Option (List ℕ)). Ran (stream (fault_of c.into_desk.result) c.args.desk.position) (StandsAt c.into_desk.result) c.run-status.result known (g.S.Source.left c.into_source-in-Ok-new.result) (g.O.Sink.taken c.args.sink.now) (g.O.Sink.taken c.run-status.new.sink)) source
+    (subst (λ (known : Option (List ℕ)). Ran (stream (fault_of c.into_desk.result) c.args.desk.position) (StandsAt c.into_desk.result) c.run-status.result c.in-Ok.lines.left known (g.O.Sink.taken c.args.sink.now) (g.O.Sink.taken c.run-status.new.sink)) (sym c.into_source-in-Ok-new.ensures.left)
+    (ran_script c.into_desk.result c.in-Ok-new.stream c.run-status.new.stream c.args.desk.position c.run-status.result _ _ _ _ c.run-status.ensures.ran at c.into_desk.ensures.stands))
+
+pub returns-in-Ok-new-clause-whole : goal.returns-in-Ok-new-clause-whole
+returns-in-Ok-new-clause-whole g c = λ is. ran_whole c.into_desk.result c.args.desk.position c.run-status.result _ _ _ _ is (returns-in-Ok-new-clause-ran g c)
+
+pub returns-in-Ok-new-clause-too_long : goal.returns-in-Ok-new-clause-too_long
+returns-in-Ok-new-clause-too_long g c =
+    ran_too_long (stream (fault_of c.into_desk.result) c.args.desk.position) (StandsAt c.into_desk.result) c.run-status.result _ _ _ _ (returns-in-Ok-new-clause-ran g c)
+
+pub returns-in-Ok-new-clause-moments : goal.returns-in-Ok-new-clause-moments
+returns-in-Ok-new-clause-moments g c =
+    along_as g.D.Disk.tells c.in-Ok-new.stream.state.position c.args.desk.position c.in-Ok.lines.left (g.S.Source.left c.args.source) c.in-Ok-new.stream.store c.args.desk.store c.run-status.new.stream.store c.into_desk.result.store
+    (position_new c.args.desk.position c.in-Ok-new.stream.state (ap (λ (s : StreamOn g.row.D.Denot). s.state) c.in-Ok-new.ensures.state))
+    (ap (λ (r : Reader). r.left) c.in-Ok.ensures.start)
+    (ap (λ (s : StreamOn g.row.D.Denot). s.store) c.in-Ok-new.ensures.state)
+    (sym c.into_desk.ensures.stands.store) c.run-status.ensures.moments

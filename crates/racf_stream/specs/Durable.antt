@@ -1,0 +1,89 @@
+-- A stream whose desk stands on disks: what its statements do to them, and what every crash leaves.
+use Rattle.std.specs.Prelude.{◌≡◌, ◌⊎◌, ◌++◌, ◌≤◌, ℕ, Bool, true, false, Option, None, Some, List}
+use Rattle.std.specs.Io.KnownBytes.{prepend_known}
+use Rattle.racf_outside.specs.Causes.{Rose}
+use Rattle.racf_outside.specs.Crashes.{StaysIn}
+use Rattle.racf_outside.specs.Disk.{History}
+use Rattle.racf_checkpoint.specs.Stored.{StoreOn, Beside}
+use Rattle.racf_desk.specs.Durable.{StaysEither}
+use Rattle.racf_desk.specs.Made.{Made, DeskOn, installed}
+use Rattle.racf_desk.specs.Position.{Position}
+use Rattle.racf_desk.specs.Recovery.{StandsFor}
+use Rattle.request_files.specs.declared.acees.NamedAcee.{NamedAcee}
+use Rattle.request_files.specs.declared.issuer_line.NamedIssuer.{NamedIssuer}
+use Rattle.racf_stream.specs.declared.reply.Reply.TheVariants.{Accepted, DiskFault}
+use Rattle.racf_stream.specs.declared.statement.Statement.{Statement}
+use Rattle.racf_stream.specs.Replies.{reply_line}
+use Rattle.racf_stream.specs.Runs.{BeginsWith, after}
+use Rattle.racf_stream.specs.Script.{stream, statements, fault_at}
+use Rattle.racf_stream.specs.Stream.{State, Answer, number_of, new_stream, answer}
+
+-- The state of a stream, and the store that its desk stands on.
+pub record StreamOn (D : Type 0) : Type 0 where
+  pub state : State
+  pub store : StoreOn D
+
+abbrev pub stream_on : {D : Type 0} → DeskOn D → NamedIssuer → Bool → List NamedAcee → StreamOn D
+stream_on desk issuer has_refused acees =
+    record {
+      state = record { position = desk.position; issuer = issuer; has_refused = has_refused; acees = acees; halted = desk.halted };
+      store = desk.store;
+    }
+
+-- A desk stands where the stream does.
+pub record StandsIn {D : Type 0} (desk : DeskOn D) (s : StreamOn D) : Type 0 where
+  pub position : desk.position ≡ s.state.position
+  pub halted : desk.halted ≡ s.state.halted
+  pub settled : desk.committed ≡ false
+  pub store : desk.store ≡ s.store
+
+-- where a disk failed, as the state tells
+abbrev pub fault_in : {D : Type 0} → StreamOn D → Option ℕ
+fault_in s = fault_at s.state.halted (number_of s.state)
+
+-- What a call did is this answer: the state is its state, and its text was written.
+pub record DoesOn {D : Type 0} (answer : State → Answer) (s t : StreamOn D) (old new : List ℕ) : Type 0 where
+  pub left : t.state ≡ (answer s.state).state
+  pub wrote : new ≡ old ++ (answer s.state).text
+
+-- The desk is as it was.
+pub record Stays {D : Type 0} (s t : StreamOn D) : Type 0 where
+  pub store : t.store ≡ s.store
+  pub halted : t.state.halted ≡ s.state.halted
+
+-- What a statement does to the disks: nothing; or it is one at a desk that isn't halted, and at every moment a crash leaves
+-- what stands for the position before it, or for the one behind it where no disk fails. A disk is said to have failed only
+-- where its count rose.
+pub record Moves {D : Type 0} (tells : D → Option History) (faults : D → ℕ) (item : Statement) (s t : StreamOn D) : Type 0 where
+  pub moments : (t.store ≡ s.store)
+      ⊎ ((s.state.halted ≡ false) × StaysEither tells s.store t.store s.state.position (answer None item s.state).state.position)
+  pub second : t.store.second ≡ s.store.second
+  pub cause : s.state.halted ≡ false → t.state.halted ≡ true → Rose (faults s.store.journal.disk) (faults t.store.journal.disk)
+  pub no_fewer : faults s.store.journal.disk ≤ faults t.store.journal.disk
+
+-- What a statement does to them, where there is one.
+abbrev pub MovesBy : {D : Type 0} → (tells : D → Option History) → (faults : D → ℕ) → Option Statement → (s t : StreamOn D) → Type 0
+MovesBy tells faults None s t = t ≡ s
+MovesBy tells faults (Some item) s t = Moves tells faults item s t
+
+-- A command that was made is committed and installed, or a disk failed it; and that is told.
+pub record Settles {D : Type 0} (tells : D → Option History) (desk now : DeskOn D) (made : Made) (old new : List ℕ) : Type 0 where
+  pub done : ((now ≡ record { position = installed desk.position made; store = now.store; halted = false; made = None; committed = false }) × (new ≡ old ++ reply_line made.number Accepted))
+      ⊎ ((now ≡ record desk { store = now.store; halted = true }) × (new ≡ old ++ reply_line desk.position.image.generation DiskFault))
+  pub moments : StaysEither tells desk.store now.store desk.position (installed desk.position made)
+  pub second : now.store.second ≡ desk.store.second
+
+-- Two files stand for the position behind the first statements of an input, whichever these are.
+pub record StandsForFront (base : Position) (source : Option (List ℕ)) (first second : List ℕ) : Type 0 where
+  pub read : List ℕ
+  pub more : Option (List ℕ)
+  pub given : source ≡ prepend_known read more
+  pub done : List Statement
+  pub begins : BeginsWith statements read more done
+  pub stands : StandsFor (after (stream None base) done (new_stream base)).position first second
+
+-- At every moment of a stream from that input, from a base on, a crash leaves what stands for the position behind some
+-- front of its statements. The second disk stays as it is.
+abbrev pub StaysAlong : {D : Type 0} → (tells : D → Option History) → (base : Position) → (source : Option (List ℕ)) → (old new : StoreOn D) → Type 0
+StaysAlong tells base source old new =
+    StaysIn (Beside (tells old.second) (StandsForFront base source)) (tells old.journal.disk) (tells new.journal.disk)

@@ -1,0 +1,22 @@
+-- The text of each reply to a command or to the line of an issuer.
+use Rattle.std.specs.Prelude.{ℕ, List, ◌++◌, codes, decimal}
+use Rattle.racf_desk.specs.Words as words
+use Rattle.racf_stream.specs.declared.reply.Refusal.{Refusal}
+use Rattle.racf_stream.specs.declared.reply.Refusal.TheVariants as refusal
+use Rattle.racf_stream.specs.declared.reply.Reply.{Reply}
+use Rattle.racf_stream.specs.declared.reply.Reply.TheVariants.{Accepted, Refused, DiskFault, Halted}
+
+-- why a line was refused
+abbrev pub refusal_words : Refusal → List ℕ
+refusal_words (refusal.Command why) = words.refusal_words why
+refusal_words refusal.LineTooLong = codes "LINETOOLONG"
+
+abbrev pub reply_words : Reply → List ℕ
+reply_words Accepted = codes "ACCEPTED"
+reply_words DiskFault = codes "DISKFAULT"
+reply_words Halted = codes "HALTED"
+reply_words (Refused why) = codes "REFUSED " ++ refusal_words why
+
+-- A line is printed for each: the number, a blank, and the words.
+unfoldable pub reply_line : ℕ → Reply → List ℕ
+reply_line number reply = decimal number ++ codes " " ++ reply_words reply ++ codes "\n"

@@ -1,0 +1,56 @@
+-- The stream of the words `script IN OUT`: its statements, its output, and the status that it ends with.
+use Rattle.std.specs.Prelude.{◌≡◌, ℕ, Bool, true, false, Option, None, Some, List, if◌then◌else◌}
+use Rattle.racf_outside.specs.Lines.{lines, whole_lines}
+use Rattle.racf_desk.specs.Position.{Position}
+use Rattle.racf_desk.specs.Made.{DeskOn}
+use Rattle.racf_stream.specs.declared.statement.Statement.{Statement}
+use Rattle.racf_stream.specs.declared.status.Status.{Status}
+use Rattle.racf_stream.specs.declared.status.Status.TheVariants.{Done, Refusals}
+use Rattle.racf_stream.specs.Joining.{items_of, whole_items_of}
+use Rattle.racf_stream.specs.Stream.{State, new_stream, step, text}
+use Rattle.racf_stream.specs.Runs.{Input, Machine, after, output, status_of}
+
+-- the stream's statements are those of its lines
+unfoldable pub statements : Input Statement
+statements = record {
+  items = λ bytes. items_of (lines bytes);
+  whole_items = λ bytes. whole_items_of (whole_lines bytes);
+}
+
+-- The stream from a position on. No disk fails, or one fails the command that is accepted behind so many.
+abbrev pub stream : (fault : Option ℕ) → (base : Position) → Machine State Statement
+stream fault base = record {
+  input = statements;
+  start = new_stream base;
+  step = step fault;
+  text = text fault;
+  has_refused = λ s. s.has_refused;
+  has_failed = λ s. s.halted;
+}
+
+-- what is written for a whole input
+abbrev pub script_output : (fault : Option ℕ) → (base : Position) → List ℕ → List ℕ
+script_output fault base bytes = output (stream fault base) (statements.items bytes) (new_stream base)
+
+-- the status behind a whole input
+abbrev pub script_status : (fault : Option ℕ) → (base : Position) → List ℕ → Status
+script_status fault base bytes = status_of (stream fault base) (after (stream fault base) (statements.items bytes) (new_stream base))
+
+-- an input was read to its end, and no disk failed
+abbrev pub is_whole : Status → Bool
+is_whole Done = true
+is_whole Refusals = true
+is_whole others = false
+
+-- where a disk failed a command, as the state behind it tells: behind so many commands that were accepted
+abbrev pub fault_at : (halted : Bool) → (number : ℕ) → Option ℕ
+fault_at halted number = if halted then Some number else None
+
+abbrev pub fault_of : {D : Type 0} → DeskOn D → Option ℕ
+fault_of desk = fault_at desk.halted desk.position.image.generation
+
+-- The desk stands where the stream does, and is halted where a disk failed.
+pub record StandsAt {D : Type 0} (desk : DeskOn D) (s : State) : Type 0 where
+  pub position : desk.position ≡ s.position
+  pub halted : desk.halted ≡ s.halted
+  pub settled : desk.committed ≡ false

@@ -1,0 +1,79 @@
+//! The statements of an input, one after another.
+
+ghost use Rattle.std.specs.Prelude.{◌≤◌, ◌^◌, IfOk, OnOk, OnErr};
+ghost use Rattle.racf_outside.specs.Causes.{HasCause};
+ghost use Rattle.racf_stream.specs.Gathering.{Settles, IsCutShort};
+ghost use Rattle.racf_stream.specs.NextStatement.{NextsStatement};
+ghost use Rattle.racf_stream.specs.NextRole.{NextsRole, ReadsRole, ReadsEnd};
+
+use crate::joining::{Begun, LineRole, role_of};
+use crate::replies::{Replies, write_before_read};
+use crate::statement::Statement;
+use crate::stopping::Stop;
+use racf_outside::{Failed, Line, LineFault, Lines, Sink, Source};
+use std::alloc::Global;
+
+/// The next statement; `None` where the next line is skipped. The lines of a command are joined. What is gathered is
+/// written before the source is read; where that fails, no statement is looked for.
+pub(crate) fn next_statement<S: Source, O: Sink>(
+    alloc: Global,
+    lines: &mut Lines<S>,
+    replies: &mut Replies,
+    sink: &mut O,
+) -> Result<Result<Option<Statement>, Stop>, Failed>
+    ensures item { IfOk result (λ next. NextsStatement next lines.old lines.new) }
+    ensures faults { lines.old.faults ≤ lines.new.faults }
+    ensures limit { OnOk result (lines.new.passed ≤ 2 ^ 28) }
+    ensures settled { OnOk result (Settles replies.old replies.new (O.taken sink.old) (O.taken sink.new)) }
+    ensures front { OnErr result (IsCutShort replies.old (O.taken sink.old) (O.taken sink.new)) }
+    ensures cause { HasCause (O.faults sink.old) (O.faults sink.new) result }
+{
+    let mut begun = None;
+    'line: loop {
+        write_before_read(lines, replies, sink)?;
+        match next_role(alloc, lines, begun) {
+            Ok(LineRole::Whole(item)) => return Ok(Ok(item)),
+            Ok(LineRole::GoesOn(front)) => begun = Some(front),
+            Err(stop) => return Ok(Err(stop)),
+        }
+    }
+}
+
+/// What the next line is behind the front of a command, or anew; at the input's end the command that is begun.
+fn next_role<S: Source>(
+    alloc: Global,
+    lines: &mut Lines<S>,
+    begun: Option<Begun>,
+) -> Result<LineRole, Stop>
+    ensures role { NextsRole result begun lines.old lines.new }
+    ensures faults { lines.old.faults ≤ lines.new.faults }
+    ensures limit { lines.new.passed ≤ 2 ^ 28 }
+{
+    match lines.next() {
+        Ok(Line::Text(text)) => read_role(alloc, begun, text),
+        Ok(Line::TooLong) => Ok(LineRole::Whole(Some(Statement::LineTooLong))),
+        Ok(Line::End) => read_end(begun),
+        Err(LineFault::ReadFault) => Err(Stop::ReadFault),
+        Err(LineFault::InputTooLong) => Err(Stop::InputTooLong),
+    }
+}
+
+/// What a line of text is.
+fn read_role(alloc: Global, begun: Option<Begun>, text: &[u8]) -> Result<LineRole, Stop>
+    ensures { ReadsRole result begun text.now }
+{
+    match role_of(alloc, begun, text) {
+        Ok(role) => Ok(role),
+        Err(_) => Err(Stop::NoMemory),
+    }
+}
+
+/// What the input's end is.
+fn read_end(begun: Option<Begun>) -> Result<LineRole, Stop>
+    ensures { ReadsEnd result begun }
+{
+    match begun {
+        Some(begun) => Ok(LineRole::Whole(Some(begun.end()))),
+        None => Err(Stop::End),
+    }
+}

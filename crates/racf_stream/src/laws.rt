@@ -1,0 +1,87 @@
+//! Laws of the definitions, for a reader of an output. The functions do nothing: their contracts are what is proved.
+
+ghost use Rattle.std.specs.Prelude.{◌≡◌, ℕ, List, ◌∷◌, ◌++◌, true, false, map, Option, None, Some, Ok, unwrap_or};
+ghost use Rattle.std.specs.Result.{result_ok};
+ghost use Rattle.std.specs.List.{AllByRecursion, concat, flat_map, list_any};
+ghost use Rattle.decision.specs.Table.{decided, fast_decided};
+ghost use Rattle.decision.specs.Verify.{verified};
+ghost use Rattle.acee.specs.declared.acee.Acee.{Acee};
+ghost use Rattle.acee.specs.declared.request.VerifyRequest.{VerifyRequest};
+ghost use Rattle.request_files.specs.Acees.{acee_named, put_refusal};
+ghost use Rattle.request_files.specs.Grammar.{Access, Auth, Fastauth, Verify, read};
+ghost use Rattle.request_files.specs.Worked.{decision_text, verify_told};
+ghost use Rattle.racf_stream.specs.declared.statement.Statement.{Statement};
+ghost use Rattle.racf_stream.specs.declared.statement.Statement.TheVariants.{Command, Issuer, Request};
+ghost use Rattle.racf_stream.specs.Runs.{after};
+ghost use Rattle.racf_stream.specs.Runs.{whole_status};
+ghost use Rattle.racf_stream.specs.Replies.{reply_line};
+ghost use Rattle.racf_stream.specs.declared.reply.Reply.TheVariants.{Halted};
+ghost use Rattle.racf_stream.specs.Script.{statements, stream, script_output, script_status};
+ghost use Rattle.request_files.specs.IssuerLines.{issuer_of_line};
+ghost use Rattle.racf_stream.specs.Stream.{new_stream, number_of, step, answer_outcome, outcome_of};
+ghost use Rattle.racf_desk.specs.Position.{Position, position_after};
+ghost use Rattle.racf_stream.specs.Printed.{Turn, IsReached, input_turns, turns, printed, behind, PrintsItsLines, printed_lines, split_lines};
+ghost use Rattle.racf_stream.specs.Printed.{says_failed, says_refused};
+
+use command_parser::laws::{fields_of_a_text_are_lawful, one_command_is_spelled};
+use journal_records::laws::{canonical_texts_are_of_commands, fields_are_of_identifiers};
+
+/// The output of a whole input is what its statements print at their turns, in order. Whatever the input's bytes, each
+/// prints nothing, or one line, or the line of a decision and an AUDIT line behind it, so that the lines of the output are
+/// those that are printed at the turns. The state at a statement's turn is that behind the statements before it.
+pub fn an_item_prints_its_lines()
+    ensures whole { (fault : Option ℕ) (base : Position) (bytes : List ℕ) →
+        script_output fault base bytes ≡ concat (map printed (input_turns fault base bytes)) }
+    ensures line { (fault : Option ℕ) (base : Position) (bytes : List ℕ) → IsReached base → AllByRecursion PrintsItsLines (input_turns fault base bytes) }
+    ensures lines { (fault : Option ℕ) (base : Position) (bytes : List ℕ) → IsReached base →
+        split_lines (script_output fault base bytes) ≡ flat_map printed_lines (input_turns fault base bytes) }
+    ensures state { (fault : Option ℕ) (base : Position) (bytes : List ℕ) (done more : List Statement) (item : Statement) →
+        statements.items bytes ≡ done ++ item ∷ more →
+        let before = after (stream fault base) done (new_stream base) in
+        input_turns fault base bytes ≡ turns fault done (new_stream base) ++ record { fault = fault; item = item; before = before } ∷ turns fault more (step fault item before) }
+{
+    one_command_is_spelled();
+    fields_of_a_text_are_lawful();
+    canonical_texts_are_of_commands();
+    fields_are_of_identifiers();
+}
+
+/// What is printed for an AUTH or a FASTAUTH whose ACEE is in use is the decision that the table gives for that ACEE at the
+/// position of its turn, with the number of the commands before it, and its AUDIT line exactly where it is logged there;
+/// what is printed for a VERIFY that can put an ACEE is what `verified` gives there.
+pub fn requests_are_decided()
+    ensures auth { (turn : Turn) (line acee : List ℕ) (access : Access) (user : Acee) → turn.item ≡ Request line →
+        read line ≡ Ok (Auth acee access) → acee_named acee turn.before.acees ≡ Some user →
+        printed turn ≡ decision_text turn.before.position.image false access user
+        (decided turn.before.position.image.state (number_of turn.before) user access.class access.name access.asked) }
+    ensures fastauth { (turn : Turn) (line acee : List ℕ) (access : Access) (user : Acee) → turn.item ≡ Request line →
+        read line ≡ Ok (Fastauth acee access) → acee_named acee turn.before.acees ≡ Some user →
+        printed turn ≡ decision_text turn.before.position.image true access user
+        (fast_decided turn.before.position.image.state (number_of turn.before) user access.class access.name access.asked) }
+    ensures verify { (turn : Turn) (line acee : List ℕ) (asked : VerifyRequest) → turn.item ≡ Request line →
+        read line ≡ Ok (Verify acee asked) → put_refusal acee turn.before.acees ≡ None →
+        printed turn ≡ (verify_told turn.before.position.image turn.before.acees acee
+        (verified turn.before.position.image.state (number_of turn.before) asked)).text }
+{}
+
+/// A run over a whole input ends with the status of a failed disk exactly where a line of its output says DISKFAULT, and else
+/// with that of refusals exactly where one says REFUSED or NEVER.
+pub fn the_status_is_what_the_lines_say()
+    ensures { (fault : Option ℕ) (base : Position) (bytes : List ℕ) → script_status fault base bytes ≡
+        whole_status (list_any says_failed (map printed (input_turns fault base bytes))) (list_any says_refused (map printed (input_turns fault base bytes))) }
+{}
+
+/// Unless a disk has failed, a command has its outcome at the position of its turn, where the issuer of its turn gives it:
+/// that is printed, and, where no disk fails it, the position behind the turn is the one behind that outcome. Behind a disk
+/// that failed every command is told so, and the position stays. A line of an issuer who fits is the issuer of the next
+/// turns; one that doesn't fit changes no issuer.
+pub fn commands_are_judged()
+    ensures told { (turn : Turn) (text : List ℕ) → turn.item ≡ Command text → turn.before.halted ≡ false →
+        printed turn ≡ (answer_outcome turn.fault (outcome_of text turn.before) turn.before).text }
+    ensures moved { (turn : Turn) (text : List ℕ) → turn.item ≡ Command text → turn.before.halted ≡ false → (behind turn).halted ≡ false →
+        (behind turn).position ≡ position_after turn.before.position (outcome_of text turn.before) }
+    ensures halted { (turn : Turn) (text : List ℕ) → turn.item ≡ Command text → turn.before.halted ≡ true →
+        (printed turn ≡ reply_line (number_of turn.before) Halted) × (behind turn ≡ turn.before) }
+    ensures named { (turn : Turn) (line : List ℕ) → turn.item ≡ Issuer line →
+        (behind turn).issuer ≡ unwrap_or (result_ok (issuer_of_line line)) turn.before.issuer }
+{}

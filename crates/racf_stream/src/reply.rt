@@ -1,0 +1,71 @@
+//! The replies to commands and to issuers, and to lines that are too long, as they are printed.
+
+ghost use Rattle.std.specs.Prelude.{◌≡◌, ◌++◌, OnOk};
+ghost use Rattle.racf_stream.specs.Replies.{refusal_words, reply_words, reply_line};
+
+use itoa::Buffer;
+use racf_desk::Refusal as OfCommand;
+use std::alloc::AllocError;
+
+/// Why a line was refused.
+#[derive(Drop)]
+pub enum Refusal {
+    /// Why the command is refused at its position, or the place of the word by which a line names no issuer.
+    Command(OfCommand),
+    /// A line of more than 4,096 bytes.
+    LineTooLong,
+}
+
+/// What is printed for a line, after the number.
+#[derive(Drop)]
+pub enum Reply {
+    /// The command was worked, and stands on the disks.
+    Accepted,
+    /// A disk failed the command.
+    DiskFault,
+    /// A disk failed an earlier command.
+    Halted,
+    /// The line was refused, and changed nothing.
+    Refused(Refusal),
+}
+
+impl Refusal {
+    /// Writes the words at the end of `out`.
+    fn write(&self, out: &mut Vec<u8>) -> Result<(), AllocError>
+        ensures { OnOk result (out.new.items ≡ out.old.items ++ refusal_words self.now) }
+    {
+        match self {
+            Refusal::Command(why) => why.write(out),
+            Refusal::LineTooLong => out.extend_from_slice(b"LINETOOLONG"),
+        }
+    }
+}
+
+impl Reply {
+    /// Writes the line of a reply, with the number before it, at the end of `out`.
+    #[tactic(auto, unfolding(crate::specs::Replies::reply_line))]
+    pub(crate) fn write_line(&self, number: u64, out: &mut Vec<u8>) -> Result<(), AllocError>
+        ensures { OnOk result (out.new.items ≡ out.old.items ++ reply_line number self.now) }
+    {
+        let mut digits = Buffer::new();
+        out.extend_from_slice(digits.format(number).as_bytes())?;
+        out.extend_from_slice(b" ")?;
+        self.write(out)?;
+        out.extend_from_slice(b"\n")
+    }
+
+    /// Writes the words at the end of `out`.
+    fn write(&self, out: &mut Vec<u8>) -> Result<(), AllocError>
+        ensures { OnOk result (out.new.items ≡ out.old.items ++ reply_words self.now) }
+    {
+        match self {
+            Reply::Accepted => out.extend_from_slice(b"ACCEPTED"),
+            Reply::DiskFault => out.extend_from_slice(b"DISKFAULT"),
+            Reply::Halted => out.extend_from_slice(b"HALTED"),
+            Reply::Refused(refusal) => {
+                out.extend_from_slice(b"REFUSED ")?;
+                refusal.write(out)
+            }
+        }
+    }
+}

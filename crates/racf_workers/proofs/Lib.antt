@@ -1,0 +1,4 @@
+mod Rows
+pub mod LineLaws
+pub mod Lengthened
+pub mod FileWalk

@@ -1,0 +1,36 @@
+//! The lines of a request file, read one after another.
+
+ghost use Rattle.std.specs.Prelude.{◌≤◌, ◌^◌};
+ghost use Rattle.racf_outside.specs.Lines.{Text};
+ghost use Rattle.racf_workers.specs.Lines.{unskipped, IsRead, NextsRequest};
+
+use racf_outside::{Line, LineFault, Lines, Source};
+use racf_stream::{Stop, is_skipped};
+use request_files::{LineRefusal, RequestLine, read_line};
+
+/// What the next line asks for; `None` where it is skipped. It takes no memory.
+pub(crate) fn next_request<I: Source>(
+    lines: &mut Lines<I>,
+) -> Result<Option<Result<RequestLine, LineRefusal>>, Stop>
+    ensures nexts { NextsRequest result lines.old lines.new }
+    ensures faults { lines.old.faults ≤ lines.new.faults }
+    ensures limit { lines.new.passed ≤ 2 ^ 28 }
+{
+    match lines.next() {
+        Ok(Line::Text(text)) => Ok(read_unskipped(text)),
+        Ok(Line::TooLong) => Ok(Some(Err(LineRefusal::LineTooLong))),
+        Ok(Line::End) => Err(Stop::End),
+        Err(LineFault::ReadFault) => Err(Stop::ReadFault),
+        Err(LineFault::InputTooLong) => Err(Stop::InputTooLong),
+    }
+}
+
+/// What a line of text asks for, unless it is skipped.
+fn read_unskipped(text: &[u8]) -> Option<Result<RequestLine, LineRefusal>>
+    ensures { IsRead (unskipped (Text text.now)) result }
+{
+    if is_skipped(text) {
+        return None;
+    }
+    Some(read_line(text))
+}

@@ -1,0 +1,15 @@
+use Rattle.racf_desk.specs.Position.{first_position}
+use Rattle.worker_tests.proofs.tests.over.Given as goal
+
+-- the history that was just opened, and a ledger for each blank
+abbrev pub ghosts-begun-J-Naming : goal.ghosts-begun-J-Naming
+ghosts-begun-J-Naming g a = record { book = a.opened.0; base = first_position; faults = 0 }
+
+abbrev pub ghosts-begun-S-Ledger : goal.ghosts-begun-S-Ledger
+ghosts-begun-S-Ledger g a = record { name = a.blanks.0.name; parts = a.blanks.0.parts }
+
+abbrev pub ghosts-begun-F-Ledger : goal.ghosts-begun-F-Ledger
+ghosts-begun-F-Ledger g a = record { name = a.blanks.1.name; parts = a.blanks.1.parts }
+
+abbrev pub ghosts-begun-P-Ledger : goal.ghosts-begun-P-Ledger
+ghosts-begun-P-Ledger g a = record { name = a.blanks.2.name; parts = a.blanks.2.parts }

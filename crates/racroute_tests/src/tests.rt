@@ -6,8 +6,10 @@ ghost use Rattle.racf_desk.specs.Made.{is_fresh};
 ghost use Rattle.racf_desk.specs.Position.{first_position};
 
 mod courses;
+mod crowd;
 
-use self::courses::{Course, follow};
+use self::courses::{Course, Told, follow};
+use self::crowd::crowd;
 use command_history::{Naming, Opened};
 use left_right::Absorb;
 use racf_desk::Desk;
@@ -21,6 +23,7 @@ use std::process::Abort;
 use std::sync::ledger::{Blank, Ledger};
 use std::sync::{Arc, Wait};
 use std::test::*;
+use std::thread::Threads;
 
 #[test]
 fn each_command_is_seen_by_who_gave_it(rt: HostRuntime) -> Result<(), Fail> {
@@ -43,6 +46,12 @@ fn whoever_is_told_nothing_sees_each_command(rt: HostRuntime) -> Result<(), Fail
     Ok(())
 }
 
+#[test]
+fn each_reply_has_its_number_in_threads(rt: HostRuntime) -> Result<(), Fail> {
+    assert!(rt; over_nothing(&rt, rt.alloc(), Course::Crowd)?);
+    Ok(())
+}
+
 /// A new database takes three calls of its disk, and a command four: the eighth is of the second command.
 #[test]
 fn a_disk_fault_ends_the_history(rt: HostRuntime) -> Result<(), Fail> {
@@ -59,7 +68,11 @@ fn a_disk_fault_ends_the_history(rt: HostRuntime) -> Result<(), Fail> {
 }
 
 /// Whether there was memory for this course over disks that keep nothing.
-fn over_nothing<R: Wait + Abort>(rt: &R, alloc: Global, course: Course) -> Result<bool, Fail> {
+fn over_nothing<R: Wait + Threads + Abort + Sync>(
+    rt: &R,
+    alloc: Global,
+    course: Course,
+) -> Result<bool, Fail> {
     let nothing_is_kept = Two {
         first: NeverDisk,
         second: NeverDisk,
@@ -71,7 +84,7 @@ fn over_nothing<R: Wait + Abort>(rt: &R, alloc: Global, course: Course) -> Resul
 }
 
 /// The same over a new database, for a history and ledgers of its own.
-fn over<D: Disk + Drop, R: Wait + Abort>(
+fn over<D: Disk + Drop + Send, R: Wait + Threads + Abort + Sync>(
     rt: &R,
     alloc: Global,
     course: Course,
@@ -101,7 +114,14 @@ fn let_go<D: Disk + Drop>(desk: Desk<D>) -> Result<bool, Fail> {
 }
 
 /// Begins, takes the course, and closes.
-fn begun<J: Naming, S: Ledger, F: Ledger, P: Ledger, D: Disk + Drop, R: Wait + Abort>(
+fn begun<
+    J: Naming + Send + Sync,
+    S: Ledger + Send,
+    F: Ledger + Send,
+    P: Ledger + Send,
+    D: Disk + Drop + Send,
+    R: Wait + Threads + Abort + Sync,
+>(
     rt: &R,
     alloc: Global,
     course: Course,
@@ -133,17 +153,17 @@ fn begun<J: Naming, S: Ledger, F: Ledger, P: Ledger, D: Disk + Drop, R: Wait + A
     }
 }
 
-/// Takes the course, hands all passes in, and closes. Before that nothing is closed, and then nobody waits.
+/// Takes the course, hands all passes in, and closes. Before that nothing is closed.
 fn taken<
-    J: Naming,
-    T: Absorb<O> + Drop,
-    O: Opens<Note<J>>,
-    Q: Wait + Drop,
-    S: Ledger,
-    F: Ledger,
-    P: Ledger,
-    D: Disk + Drop,
-    R: Wait + Abort,
+    J: Naming + Send + Sync,
+    T: Absorb<O> + Drop + Send + Sync,
+    O: Opens<Note<J>> + Send,
+    Q: Wait + Drop + Send,
+    S: Ledger + Send,
+    F: Ledger + Send,
+    P: Ledger + Send,
+    D: Disk + Drop + Send,
+    R: Wait + Threads + Abort + Sync,
 >(
     rt: &R,
     alloc: Global,
@@ -158,29 +178,78 @@ fn taken<
     requires none { vec_len ends ≡ 0 }
     requires room { 2 ≤ vec_capacity ends }
 {
-    let StillOut {
-        racf,
-        callers,
-        ends,
-    } = match racf.close(callers, ends) {
+    match racf.close(callers, ends) {
         Ok(_) => unreachable!(),
-        Err(still) => still,
-    };
+        Err(
+            StillOut {
+                racf,
+                callers,
+                ends,
+            },
+        ) => ran(rt, alloc, course, racf, callers, passes, ends),
+    }
+}
+
+/// Takes the course, hands all passes in, and closes. Then nobody waits.
+fn ran<
+    J: Naming + Send + Sync,
+    T: Absorb<O> + Drop + Send + Sync,
+    O: Opens<Note<J>> + Send,
+    Q: Wait + Drop + Send,
+    S: Ledger + Send,
+    F: Ledger + Send,
+    P: Ledger + Send,
+    D: Disk + Drop + Send,
+    R: Wait + Threads + Abort + Sync,
+>(
+    rt: &R,
+    alloc: Global,
+    course: Course,
+    racf: Racf<J, T, O, Q, S, F, P, D>,
+    callers: Vec<Caller<J>>,
+    passes: Vec<DeckPass<S, F, P>>,
+    ends: Vec<DeckEnd<S, F>>,
+) -> Result<bool, Fail>
+    requires parts { S.parts ≡ 3 }
+    requires passes { vec_len passes ≡ 2 }
+    requires none { vec_len ends ≡ 0 }
+    requires room { 2 ≤ vec_capacity ends }
+{
     let mut callers = callers;
     let mut passes = passes;
-    let told = follow(
-        rt,
-        alloc,
-        course,
-        &racf,
-        callers.as_mut_slice(),
-        passes.as_mut_slice(),
-    );
+    let told = match course {
+        Course::Crowd => crowd(rt, alloc, &racf, &mut callers, &mut passes),
+        _ => follow(rt, alloc, course, &racf, &mut callers, &mut passes),
+    };
     let ends = handed_in(rt, &racf, passes, ends);
     let last = match callers.as_mut_slice().first_mut() {
         Some(caller) => racf.after(rt, caller, u64::MAX),
         None => Ok(()),
     };
+    closed(rt, racf, callers, ends, told, last)
+}
+
+/// Closes, behind a last wait: whether there was memory for all.
+fn closed<
+    J: Naming,
+    T: Absorb<O> + Drop,
+    O: Opens<Note<J>>,
+    Q: Wait + Drop,
+    S: Ledger,
+    F: Ledger,
+    P: Ledger,
+    D: Disk + Drop,
+>(
+    rt: &impl Abort,
+    racf: Racf<J, T, O, Q, S, F, P, D>,
+    callers: Vec<Caller<J>>,
+    ends: Vec<DeckEnd<S, F>>,
+    told: Result<Told, Fail>,
+    last: Result<(), AfterFault>,
+) -> Result<bool, Fail>
+    requires parts { S.parts ≡ 3 }
+    requires ends { vec_len ends ≡ 2 }
+{
     match racf.close(callers, ends) {
         Ok(
             Closed {

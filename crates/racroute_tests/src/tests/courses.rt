@@ -27,6 +27,8 @@ pub(super) enum Course {
     Untold,
     /// A disk fails the second command.
     Halts,
+    /// Two decks and four callers, each in a thread of its own.
+    Crowd,
 }
 
 /// What the decks of a run were told.
@@ -40,16 +42,19 @@ pub(super) struct Told {
     pub(super) first: Vec<u64>,
     /// Those of the second deck's.
     pub(super) second: Vec<u64>,
+    /// The canonical texts of a deck's accepted commands, in turn.
+    pub(super) rows: [&'static [u8]; 3],
 }
 
 impl Told {
     /// Nothing yet.
-    fn nothing(alloc: Global) -> Told {
+    pub(super) fn nothing(alloc: Global) -> Told {
         Told {
             made: false,
             halted: false,
             first: Vec::new(alloc),
             second: Vec::new(alloc),
+            rows: ROWS,
         }
     }
 
@@ -57,24 +62,21 @@ impl Told {
     pub(super) fn agrees(&self, rt: &impl Abort, accepted: &[Accepted], halted: bool) {
         assert_eq!(rt; accepted.len(), self.first.len() + self.second.len());
         assert!(rt; halted == self.halted);
-        assert!(rt; are_there(0, self.first.as_slice(), accepted));
-        assert!(rt; are_there(1, self.second.as_slice(), accepted));
+        assert!(rt; are_there(&self.rows, 0, self.first.as_slice(), accepted));
+        assert!(rt; are_there(&self.rows, 1, self.second.as_slice(), accepted));
     }
 }
 
 /// The canonical texts of three commands.
 const ROWS: [&[u8]; 3] = [b"ADDUSER JOE", b"ADDUSER BOB", b"ADDUSER CAT"];
 
-/// Whether a deck's commands, which are those of `ROWS`, stand at these numbers.
-fn are_there(deck: u32, numbers: &[u64], accepted: &[Accepted]) -> bool {
-    for (count, number) in numbers.iter().enumerate() {
+/// Whether a deck's commands, which are those of `rows` in turn, stand at these numbers.
+fn are_there(rows: &[&[u8]; 3], deck: u32, numbers: &[u64], accepted: &[Accepted]) -> bool {
+    for (number, row) in numbers.iter().zip(rows.iter().cycle()) {
         let Some(entry) = accepted.get((*number as usize).wrapping_sub(1)) else {
             return false;
         };
-        let is_right = ROWS
-            .get(count)
-            .is_some_and(|row| *row == entry.text.bytes());
-        if entry.deck != deck || !is_right {
+        if entry.deck != deck || *row != entry.text.bytes() {
             return false;
         }
     }
@@ -116,11 +118,12 @@ pub(super) fn follow<
         Course::Submits => submits(rt, alloc, racf, caller, pass, other),
         Course::Untold => untold(rt, alloc, racf, caller, pass, other),
         Course::Halts => halts(rt, alloc, racf, (caller, pass), (other, second)),
+        Course::Crowd => Err("threads".into()),
     }
 }
 
 /// The request to verify this user.
-fn request_of(user: Id) -> VerifyRequest {
+pub(super) fn request_of(user: Id) -> VerifyRequest {
     VerifyRequest {
         user,
         group: None,
@@ -178,17 +181,38 @@ fn submits<
         Reply::NoMemory => return Ok(told),
         _ => return Err("a refusal".into()),
     }
-    match racf.after(rt, other, 1) {
+    told.made = verifies(rt, alloc, racf, other, joe)?;
+    Ok(told)
+}
+
+/// A caller waits for the first command, and verifies the user that it added: whether there was memory.
+fn verifies<
+    J: Naming,
+    T: Absorb<O> + Drop,
+    O: Opens<Note<J>>,
+    Q: Wait + Drop,
+    S: Ledger,
+    F: Ledger,
+    P: Ledger,
+    D: Disk,
+    R: Wait,
+>(
+    rt: &R,
+    alloc: Global,
+    racf: &Racf<J, T, O, Q, S, F, P, D>,
+    caller: &mut Caller<J>,
+    user: Id,
+) -> Result<bool, Fail> {
+    match racf.after(rt, caller, 1) {
         Ok(()) => {}
-        Err(AfterFault::NoMemory) => return Ok(told),
+        Err(AfterFault::NoMemory) => return Ok(false),
         Err(AfterFault::Final(_)) => return Err("the first command".into()),
     }
-    match verify(alloc, other, &request_of(joe)) {
-        Ok(_) => told.made = true,
-        Err(VerifyFault::NoMemory) => {}
-        Err(_) => return Err("a user".into()),
+    match verify(alloc, caller, &request_of(user)) {
+        Ok(_) => Ok(true),
+        Err(VerifyFault::NoMemory) => Ok(false),
+        Err(_) => Err("a user".into()),
     }
-    Ok(told)
 }
 
 /// Three commands, behind each of which a caller asks whom nobody told of it: he sees the newest.

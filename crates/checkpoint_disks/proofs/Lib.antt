@@ -1,3 +1,7 @@
+mod Bodies
 mod Contents
+mod Counts
+mod HeadGates
+mod Places
 mod Scans
 mod Walks

@@ -12,14 +12,18 @@
 //! ```
 #![tactic(auto)]
 
+mod compacting;
 mod counting;
 mod fault;
 mod gates;
 mod heads;
+pub mod laws;
 mod layout;
 mod reading;
 mod scan;
+mod writing;
 
+pub use compacting::compact;
 pub use counting::{Side, read_pair, which};
 pub use fault::CheckpointFault;
 pub use reading::{Checkpoint, read_file};

@@ -1,12 +1,11 @@
 -- What a crash leaves while all behind a closed head gate is written.
-use Rattle.std.proofs.Common.{ℕ, ◌+◌, ◌-◌, ◌<◌, ◌≤◌, ◌≡◌, ◌∙◌, min, true, false, not, ◌&&◌, ◌||◌, ltb, List, [], ◌∷◌, ◌++◌, length, take, drop, get_or, refl, sym, ap, subst, arith, append_assoc, length-append}
+use Rattle.std.proofs.Common.{ℕ, ◌+◌, ◌<◌, ◌≤◌, ◌≡◌, ◌∙◌, false, not, ◌&&◌, ◌||◌, ltb, List, [], ◌++◌, length, take, drop, get_or, refl, sym, ap, subst, arith, append_assoc, length-append}
 use Rattle.std.proofs.lemmas.List.{take_at, take-take, take-append-le, take-append-drop, length-take}
 use Rattle.std.proofs.lemmas.Bool.{lt-ltb}
 use Rattle.racf_outside.specs.Crashes.{Leaves}
-use Rattle.racf_outside.specs.Moments.{Moment, IsImage, is_written, durable, written, cut_to, synced}
+use Rattle.racf_outside.specs.Moments.{Moment, is_written, durable, written, cut_to, synced}
 use Rattle.racf_outside.proofs.Images.{front_stays}
-use Rattle.checkpoint_disks.specs.Files.{magic, is_formatted, head_is_open}
-use Rattle.checkpoint_disks.specs.Compacting.{with_head, IsIdle, IsClosed, HoldsClosed, HoldsBody}
+use Rattle.checkpoint_disks.specs.Compacting.{with_head, IsClosed, HoldsClosed, HoldsBody}
 use Rattle.checkpoint_disks.proofs.HeadGates.{parts, closed_with, holds_with, not_open}
 
 -- The first nine bytes are these, and none of them is in doubt.

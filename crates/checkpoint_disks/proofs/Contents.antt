@@ -1,5 +1,5 @@
 -- What a file says, by the steps in which it is read.
-use Rattle.std.proofs.Common.{ℕ, ◌+◌, ◌-◌, ◌<◌, ◌≤◌, ◌≡◌, ◌∙◌, ◌⊎◌, inl, inr, true, ltb, ◌||◌, List, length, take, drop, Result, Ok, Err, refl, sym, ap, arith}
+use Rattle.std.proofs.Common.{ℕ, ◌-◌, ◌<◌, ◌≤◌, ◌≡◌, ◌∙◌, ◌⊎◌, inl, inr, ltb, List, length, take, drop, Ok, Err, sym, ap, arith}
 use Rattle.std.specs.Prelude.{bytes_eq}
 use Rattle.std.specs.List.{slice_range}
 use Rattle.std.proofs.lemmas.List.{take_rest}
@@ -7,11 +7,10 @@ use Rattle.std.proofs.lemmas.Bool.{lt-ltb, cond-true, or_left}
 use Rattle.racf_profiles.specs.declared.rows.Rows.{Rows}
 use Rattle.database_image.specs.Image.{rows_of}
 use Rattle.racf_journal.specs.Reading.{Reading, is_formatted, magic, reading, walk}
-use Rattle.racf_journal.specs.declared.fault.JournalFault.{JournalFault}
 use Rattle.checkpoint_disks.specs.declared.fault.CheckpointFault.{CheckpointFault}
 use Rattle.checkpoint_disks.specs.declared.fault.CheckpointFault.TheVariants.{NoMemory}
 use Rattle.checkpoint_disks.specs.declared.heads.Head.{Head}
-use Rattle.checkpoint_disks.specs.Files.{head_of, rows_read, records_read, CheckpointRead, contents}
+use Rattle.checkpoint_disks.specs.Files.{head_of, rows_read, records_read, contents}
 
 -- a journal that begins behind place 8
 pub reading_behind : (start : ℕ) (file : List ℕ) → 8 < start → reading start file ≡ walk 0 start (drop start file)

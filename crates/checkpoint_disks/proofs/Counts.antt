@@ -1,20 +1,18 @@
 -- What a new file says, alone and beside another.
-use Rattle.std.proofs.Common.{ℕ, ◌+◌, ◌-◌, ◌<◌, ◌≤◌, ◌^◌, ◌≡◌, ◌∙◌, ◌⊎◌, inl, inr, Bool, true, false, ltb, eqb, cond, ◌||◌, ◌&&◌, List, [], ◌∷◌, ◌++◌, length, take, drop, Result, Ok, Err, refl, sym, ap, subst, arith, length-append}
+use Rattle.std.proofs.Common.{ℕ, ◌+◌, ◌-◌, ◌<◌, ◌≤◌, ◌^◌, ◌≡◌, ◌∙◌, inl, inr, Bool, true, false, ltb, eqb, ◌||◌, List, [], ◌∷◌, ◌++◌, length, take, drop, Ok, refl, sym, ap, subst, arith, length-append}
 use Rattle.std.specs.List.{slice_range}
 use Rattle.std.proofs.lemmas.List.{take_at, drop_at, drop-drop}
-use Rattle.std.proofs.lemmas.Bool.{lt-ltb, le-ltb, ne_eqb, cond-true, cond-false}
+use Rattle.std.proofs.lemmas.Bool.{lt-ltb, le-ltb, ne_eqb, cond-false}
 use Rattle.std.proofs.Math.Nat.{mod-eq_of_lt}
 use Rattle.byteorder.specs.Endian.{big_bytes}
 use Rattle.byteorder.specs.Numbers.{big_from-bytes}
 use Rattle.racf_profiles.specs.declared.rows.Rows.{Rows}
-use Rattle.database_image.specs.Image.{image_of, rows_of, IsStored}
+use Rattle.database_image.specs.Image.{image_of, rows_of}
 use Rattle.racf_journal.specs.Reading.{reading, walk}
 use Rattle.checkpoint_disks.specs.declared.counting.Side.{Side}
 use Rattle.checkpoint_disks.specs.declared.counting.Side.TheVariants.{First, Second}
-use Rattle.checkpoint_disks.specs.declared.fault.CheckpointFault.{CheckpointFault}
-use Rattle.checkpoint_disks.specs.Files.{magic, is_formatted, head_is_open, number_at, epoch_of, head_of, rows_read, records_read, CheckpointRead, contents}
-use Rattle.checkpoint_disks.specs.Counting.{which, said}
-use Rattle.checkpoint_disks.specs.Compacting.{with_head, fields, new_body, new_file, new_checkpoint, IsClosed, IsOneOf, said_beside, CountsBeside, SaysEither}
+use Rattle.checkpoint_disks.specs.Files.{is_formatted, head_is_open, number_at, epoch_of, head_of, rows_read, records_read, CheckpointRead, contents}
+use Rattle.checkpoint_disks.specs.Compacting.{fields, new_body, new_file, new_checkpoint, IsOneOf, said_beside, CountsBeside, SaysEither}
 use Rattle.checkpoint_disks.proofs.Contents.{reading_behind, contents-whole}
 
 -- ---- the fields of a new file
@@ -41,29 +39,29 @@ module _ (epoch number : ℕ) (rows : Rows) where
   new = new_file epoch number rows
 
   new_length : length new ≡ 33 + (size + 1)
-  unfolding fields
+  unfolding fields new_body
   new_length = omega (arith, length-append image (0 ∷ []))
 
   epoch_is : epoch < 2 ^ 64 → epoch_of new ≡ epoch
-  unfolding fields
+  unfolding fields new_body
   epoch_is fits = cond-false (ltb (length new) 17) _ _ (le-ltb (length new) 17 (omega (arith, new_length))) ∙ big_from-bytes 8 epoch (big_bytes 8 number ++ (big_bytes 8 size ++ (image ++ 0 ∷ []))) ∙ mod-eq_of_lt fits
 
   number_is : number < 2 ^ 64 → number_at 17 new ≡ number
-  unfolding fields
+  unfolding fields new_body
   number_is fits = big_from-bytes 8 number (big_bytes 8 size ++ (image ++ 0 ∷ [])) ∙ mod-eq_of_lt fits
 
   size_is : size < 2 ^ 64 → number_at 25 new ≡ size
-  unfolding fields
+  unfolding fields new_body
   size_is fits = big_from-bytes 8 size (image ++ 0 ∷ []) ∙ mod-eq_of_lt fits
 
   image_is : slice_range new 33 (33 + size) ≡ image
-  unfolding fields
+  unfolding fields new_body
   image_is =
       let e : (33 + size) - 33 ≡ size = omega arith in
       ap (λ n. take n (drop 33 new)) e ∙ take_at image (0 ∷ []) size refl
 
   end_is : drop (33 + size) new ≡ 0 ∷ []
-  unfolding fields
+  unfolding fields new_body
   end_is = sym (drop-drop size 33 new) ∙ drop_at image (0 ∷ []) size refl
 
   module _ (stored : rows_of image ≡ Ok rows) (positive : 0 < epoch) (epoch_fits : epoch < 2 ^ 64) (number_fits : number ≤ 2 ^ 62) (size_fits : size < 2 ^ 64) where

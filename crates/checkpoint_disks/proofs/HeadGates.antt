@@ -1,10 +1,10 @@
 -- What a crash leaves while the head gate is closed, and while it is opened.
-use Rattle.std.proofs.Common.{ℕ, ◌+◌, ◌<◌, ◌≤◌, ◌≡◌, ◌≢◌, ◌∙◌, ◌⊎◌, inl, inr, true, false, ◌-◌, min, eqb, List, [], ◌∷◌, ◌++◌, length, take, drop, get_or, refl, sym, ap, subst, arith}
+use Rattle.std.proofs.Common.{ℕ, ◌≤◌, ◌≡◌, ◌∙◌, inl, inr, true, false, ◌-◌, min, eqb, List, [], ◌∷◌, ◌++◌, length, take, drop, get_or, refl, sym, ap, subst, arith}
 use Rattle.std.proofs.lemmas.List.{drop_more, take-append-drop, get_or-take, get_or-drop, get_or_past}
 use Rattle.std.proofs.lemmas.Bool.{eqb-true, ne_eqb, cases_eq, cases_lt, false≢true}
 use Rattle.std.proofs.lemmas.Slice.Eq.{bytes_eq-Decides}
 use Rattle.racf_outside.specs.Crashes.{Leaves}
-use Rattle.racf_outside.specs.Moments.{Moment, IsImage, durable, written, synced}
+use Rattle.racf_outside.specs.Moments.{Moment, durable, written, synced}
 use Rattle.racf_outside.proofs.Images.{durable-leaves}
 use Rattle.checkpoint_disks.specs.Files.{magic, is_formatted, head_is_open}
 use Rattle.checkpoint_disks.specs.Compacting.{with_head, IsIdle, IsClosed, HoldsClosed, HoldsBody, IsClosing, IsOpening}
@@ -78,9 +78,11 @@ closes before m idle same opened =
     subst (λ (b : List ℕ). Closes b m) (sym file ∙ same) (subst (Closes (with_head 1 (drop 9 m.bytes))) (sym (idle.durable ∙ ap durable file)) (closes_here (drop 9 m.bytes)))
 
 -- a disk that is left as it is
+pub left_alone : (P : List ℕ → Type 0) (before : List ℕ) (m : Moment) → IsIdle m → m.bytes ≡ before → P before → Leaves P m
+left_alone P before m idle same p = subst (Leaves P) (sym (idle.durable ∙ ap durable same)) (durable-leaves P before p)
+
 pub idle_leaves : (before : List ℕ) (m : Moment) → IsIdle m → m.bytes ≡ before → Leaves (IsClosing before) m
-idle_leaves before m idle same =
-    subst (Leaves (IsClosing before)) (sym (idle.durable ∙ ap durable same)) (durable-leaves (IsClosing before) before (inl refl))
+idle_leaves before m idle same = left_alone (IsClosing before) before m idle same (inl refl)
 
 -- ---- opening it
 pub record Opens (body : List ℕ) (m : Moment) : Type 0 where

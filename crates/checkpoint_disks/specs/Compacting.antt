@@ -1,5 +1,5 @@
 -- What writing a checkpoint makes of the disk that doesn't count, at its end and at every moment before.
-use Rattle.std.specs.Prelude.{ℕ, ◌+◌, ◌<◌, ◌≤◌, ◌≡◌, ◌⊎◌, Bool, true, false, List, [], ◌∷◌, ◌++◌, length, drop, Result, Ok}
+use Rattle.std.specs.Prelude.{ℕ, ◌+◌, ◌<◌, ◌≤◌, ◌≡◌, ◌⊎◌, true, false, List, [], ◌∷◌, ◌++◌, length, drop, Result, Ok}
 use Rattle.byteorder.specs.Endian.{big_bytes}
 use Rattle.racf_profiles.specs.declared.rows.Rows.{Rows}
 use Rattle.database_image.specs.Image.{image_of}
@@ -22,7 +22,7 @@ fields epoch number size = big_bytes 8 epoch ++ (big_bytes 8 number ++ big_bytes
 
 -- what stands from place 9 on in the file of a new checkpoint: the fields, the image, and the closed gate of a journal
 -- without records
-abbrev pub new_body : (epoch number : ℕ) → Rows → List ℕ
+unfoldable pub new_body : (epoch number : ℕ) → Rows → List ℕ
 new_body epoch number rows = fields epoch number (length (image_of rows)) ++ (image_of rows ++ 0 ∷ [])
 
 -- that file, whose head gate is open

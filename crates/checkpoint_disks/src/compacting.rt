@@ -14,7 +14,7 @@ ghost use Rattle.checkpoint_disks.specs.declared.fault.CheckpointFault.TheVarian
 use crate::fault::CheckpointFault;
 use crate::laws::a_new_file_says_its_checkpoint;
 use crate::layout::CLOSED;
-use crate::writing::{close_head, open_head, write_body};
+use crate::writing::write_behind;
 use racf_outside::Disk;
 use racf_profiles::{NoMemory, Rows};
 use std::alloc::Global;
@@ -52,9 +52,7 @@ pub fn compact<D: Disk>(
     a_new_file_says_its_checkpoint();
     let image = image_and_gate(alloc, rows)?;
     let fields = fields_of(alloc, epoch, number, image.len() as u64 - 1)?;
-    close_head(idle)?;
-    write_body(idle, &fields, &image)?;
-    open_head(idle)?;
+    write_behind(idle, &fields, &image)?;
     Ok(())
 }
 
@@ -70,7 +68,8 @@ fn image_and_gate(alloc: Global, rows: &Rows) -> Result<Vec<u8>, NoMemory>
 /// The fields in front of an image of that size.
 #[tactic(auto, unfolding(crate::specs::Compacting::fields))]
 fn fields_of(alloc: Global, epoch: u64, number: u64, size: u64) -> Result<Vec<u8>, NoMemory>
-    ensures { IfOk result (λ bytes. bytes.items ≡ fields epoch number size) }
+    ensures bytes { IfOk result (λ bytes. bytes.items ≡ fields epoch number size) }
+    ensures size { IfOk result (λ bytes. length bytes.items ≡ 24) }
 {
     let mut bytes = Vec::new(alloc);
     put_number(&mut bytes, epoch)?;

@@ -6,14 +6,31 @@ ghost use Rattle.racf_outside.specs.Crashes.{StaysIn};
 ghost use Rattle.racf_outside.specs.Disk.{Now};
 ghost use Rattle.racf_outside.specs.Moments.{durable};
 ghost use Rattle.checkpoint_disks.specs.Files.{head_is_open};
-ghost use Rattle.checkpoint_disks.specs.Compacting.{IsIdle, IsClosed, HoldsClosed, HoldsBody, IsClosing, IsOpening, with_head};
+ghost use Rattle.checkpoint_disks.specs.Compacting.{IsIdle, IsClosed, HoldsClosed, HoldsBody, IsClosing, IsOpening, IsOneOf, with_head};
 
 use crate::layout::{CLOSED, EPOCH, HEAD, IMAGE, OPEN};
 use racf_outside::{Disk, Failed};
 
+/// Makes these bytes all that stands behind the head gate, and opens that. The gate is closed before anything behind it
+/// changes, and opened only once all behind it is kept.
+pub(crate) fn write_behind<D: Disk>(disk: &mut D, fields: &[u8], rest: &[u8]) -> Result<(), Failed>
+    requires idle { Now (D.tells disk.old) IsIdle }
+    requires fields { length fields.now ≡ 24 }
+    requires room { length rest.now < 2 ^ 63 }
+    ensures done { OnOk result (Now (D.tells disk.new) (λ m. m ≡ durable (with_head 1 (fields.now ++ rest.now)))) }
+    ensures files { (before : List ℕ) → Now (D.tells disk.old) (λ m. m.bytes ≡ before)
+        → StaysIn (IsOneOf before (with_head 1 (fields.now ++ rest.now))) (D.tells disk.old) (D.tells disk.new) }
+    ensures cause { HasCause (D.faults disk.old) (D.faults disk.new) result }
+{
+    close_head(disk)?;
+    write_body(disk, fields, rest)?;
+    open_head(disk)?;
+    Ok(())
+}
+
 /// Closes the head gate, only where it is open: behind a gate that is closed a crash within the write could open whatever
 /// stands there.
-pub(crate) fn close_head<D: Disk>(disk: &mut D) -> Result<(), Failed>
+fn close_head<D: Disk>(disk: &mut D) -> Result<(), Failed>
     requires idle { Now (D.tells disk.old) IsIdle }
     ensures done { OnOk result (Now (D.tells disk.new) HoldsClosed) }
     ensures moments { (before : List ℕ) → Now (D.tells disk.old) (λ m. m.bytes ≡ before) → StaysIn (IsClosing before) (D.tells disk.old) (D.tells disk.new) }
@@ -47,7 +64,7 @@ fn is_open(gate: &[u8]) -> bool
 }
 
 /// Writes all from place 9 on behind a head gate that is closed.
-pub(crate) fn write_body<D: Disk>(disk: &mut D, fields: &[u8], rest: &[u8]) -> Result<(), Failed>
+fn write_body<D: Disk>(disk: &mut D, fields: &[u8], rest: &[u8]) -> Result<(), Failed>
     requires closed { Now (D.tells disk.old) HoldsClosed }
     requires fields { length fields.now ≡ 24 }
     requires room { length rest.now < 2 ^ 63 }
@@ -63,7 +80,7 @@ pub(crate) fn write_body<D: Disk>(disk: &mut D, fields: &[u8], rest: &[u8]) -> R
 }
 
 /// Opens the head gate.
-pub(crate) fn open_head<D: Disk>(disk: &mut D) -> Result<(), Failed>
+fn open_head<D: Disk>(disk: &mut D) -> Result<(), Failed>
     requires closed { Now (D.tells disk.old) HoldsClosed }
     ensures done { OnOk result ((body : List ℕ) → Now (D.tells disk.old) (HoldsBody body) → Now (D.tells disk.new) (λ m. m ≡ durable (with_head 1 body))) }
     ensures moments { (body : List ℕ) → Now (D.tells disk.old) (HoldsBody body) → StaysIn (IsOpening body) (D.tells disk.old) (D.tells disk.new) }

@@ -1,6 +1,6 @@
 -- A record more, the damage in its place, or the end.
 use Rattle.std.proofs.Common.{◌≡◌, ◌∙◌, [], ◌∷◌, ◌++◌, true, false, sym, ap, inr, rules}
-use Rattle.racf_journal.specs.Reading.{is_open, walk}
+use Rattle.racf_journal.specs.Reading.{is_open}
 use Rattle.checkpoint_disks.specs.Files.{records_read}
 use Rattle.checkpoint_disks.proofs.Scans.{scanned_damage, scanned_split, scanned_lawful, scanned_to, scanned_end}
 use Rattle.checkpoint_disks.proofs.scan.scan.Goals as goal

@@ -1,9 +1,8 @@
 -- The moments of a write of the head gate and its sync, where the gate was open.
-use Rattle.std.proofs.Common.{◌≡◌, ◌∙◌, [], ◌∷◌, true, false, Some, refl, sym}
+use Rattle.std.proofs.Common.{◌≡◌, ◌∙◌, [], ◌∷◌, Some, refl, sym}
 use Rattle.racf_outside.specs.Disk.{History}
 use Rattle.racf_outside.specs.Moments.{written, synced}
 use Rattle.racf_outside.proofs.Runs.{starts, same_told, ok, err, ends, now}
-use Rattle.checkpoint_disks.specs.Files.{head_is_open}
 use Rattle.checkpoint_disks.specs.Compacting.{IsClosing, HoldsClosed}
 use Rattle.checkpoint_disks.proofs.HeadGates.{closes, idle_leaves, anything}
 use Rattle.checkpoint_disks.proofs.writing.close_head.Goals as goal

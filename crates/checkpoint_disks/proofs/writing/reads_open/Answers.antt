@@ -1,5 +1,5 @@
 -- What was read is the head gate.
-use Rattle.std.proofs.Common.{◌≡◌, ◌∙◌, length, refl, rules}
+use Rattle.std.proofs.Common.{◌≡◌, ◌∙◌, length, rules}
 use Rattle.checkpoint_disks.proofs.HeadGates.{gate_read}
 use Rattle.checkpoint_disks.proofs.writing.reads_open.Goals as goal
 

@@ -2,9 +2,9 @@
 use Rattle.std.proofs.Common.{◌≡◌, ◌≤◌, ◌+◌, ◌++◌, length, Some}
 use Rattle.racf_outside.specs.Disk.{History}
 use Rattle.racf_outside.specs.Moments.{written, cut_to, synced}
-use Rattle.racf_outside.proofs.Runs.{Runs, starts, ok, err, ends, now}
+use Rattle.racf_outside.proofs.Runs.{starts, ok, err, ends, now}
 use Rattle.checkpoint_disks.specs.Compacting.{IsClosed, HoldsBody}
-use Rattle.checkpoint_disks.proofs.Bodies.{Writes, writes}
+use Rattle.checkpoint_disks.proofs.Bodies.{writes}
 use Rattle.checkpoint_disks.proofs.writing.write_body.Goals as goal
 
 pub write_at-requires-2 : goal.write_at-requires-2

@@ -39,29 +39,29 @@ module _ (epoch number : ℕ) (rows : Rows) where
   new = new_file epoch number rows
 
   new_length : length new ≡ 33 + (size + 1)
-  unfolding fields new_body
+  unfolding fields new_body number_at epoch_of
   new_length = omega (arith, length-append image (0 ∷ []))
 
   epoch_is : epoch < 2 ^ 64 → epoch_of new ≡ epoch
-  unfolding fields new_body
+  unfolding fields new_body number_at epoch_of
   epoch_is fits = cond-false (ltb (length new) 17) _ _ (le-ltb (length new) 17 (omega (arith, new_length))) ∙ big_from-bytes 8 epoch (big_bytes 8 number ++ (big_bytes 8 size ++ (image ++ 0 ∷ []))) ∙ mod-eq_of_lt fits
 
   number_is : number < 2 ^ 64 → number_at 17 new ≡ number
-  unfolding fields new_body
+  unfolding fields new_body number_at epoch_of
   number_is fits = big_from-bytes 8 number (big_bytes 8 size ++ (image ++ 0 ∷ [])) ∙ mod-eq_of_lt fits
 
   size_is : size < 2 ^ 64 → number_at 25 new ≡ size
-  unfolding fields new_body
+  unfolding fields new_body number_at epoch_of
   size_is fits = big_from-bytes 8 size (image ++ 0 ∷ []) ∙ mod-eq_of_lt fits
 
   image_is : slice_range new 33 (33 + size) ≡ image
-  unfolding fields new_body
+  unfolding fields new_body number_at epoch_of
   image_is =
       let e : (33 + size) - 33 ≡ size = omega arith in
       ap (λ n. take n (drop 33 new)) e ∙ take_at image (0 ∷ []) size refl
 
   end_is : drop (33 + size) new ≡ 0 ∷ []
-  unfolding fields new_body
+  unfolding fields new_body number_at epoch_of
   end_is = sym (drop-drop size 33 new) ∙ drop_at image (0 ∷ []) size refl
 
   module _ (stored : rows_of image ≡ Ok rows) (positive : 0 < epoch) (epoch_fits : epoch < 2 ^ 64) (number_fits : number ≤ 2 ^ 62) (size_fits : size < 2 ^ 64) where

@@ -23,11 +23,11 @@ abbrev pub head_is_open : (file : List ℕ) → Bool
 head_is_open file = get_or file 8 0 == 1
 
 -- the number in the eight bytes at a place, the highest first
-abbrev pub number_at : (place : ℕ) → (file : List ℕ) → ℕ
+unfoldable pub number_at : (place : ℕ) → (file : List ℕ) → ℕ
 number_at place file = big_number 8 (drop place file)
 
 -- the epoch, at place 9: 0 where the file ends within it
-abbrev pub epoch_of : (file : List ℕ) → ℕ
+unfoldable pub epoch_of : (file : List ℕ) → ℕ
 epoch_of file = if nat_lt (length file) 17 then 0 else number_at 9 file
 
 -- The fields in front of the image: the epoch, which isn't 0; the number at place 17, which is at most 2^62; the image's

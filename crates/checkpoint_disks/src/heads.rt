@@ -33,6 +33,7 @@ pub(crate) fn head_is_open(bytes: &[u8]) -> bool
 }
 
 /// The epoch, 0 where the file ends within it.
+#[tactic(auto, unfolding(crate::specs::Files::epoch_of))]
 pub(crate) fn epoch_of(bytes: &[u8]) -> u64
     ensures { result ≡ epoch_of bytes.now }
 {
@@ -43,6 +44,7 @@ pub(crate) fn epoch_of(bytes: &[u8]) -> u64
 }
 
 /// The number in the eight bytes at a place.
+#[tactic(auto, unfolding(crate::specs::Files::number_at))]
 fn number_at(bytes: &[u8], place: usize) -> u64
     requires { place + 8 ≤ length bytes.now }
     ensures { result ≡ number_at place bytes.now }

@@ -2,7 +2,7 @@
 use Rattle.std.proofs.Common.{ℕ, ◌+◌, ◌-◌, ◌<◌, ◌≤◌, ◌^◌, ◌≡◌, ◌∙◌, inl, inr, Bool, true, false, ltb, eqb, ◌||◌, List, [], ◌∷◌, ◌++◌, length, take, drop, Ok, refl, sym, ap, subst, arith, length-append}
 use Rattle.std.specs.List.{slice_range}
 use Rattle.std.proofs.lemmas.List.{take_at, drop_at, drop-drop}
-use Rattle.std.proofs.lemmas.Bool.{lt-ltb, le-ltb, ne_eqb, cond-false}
+use Rattle.std.proofs.lemmas.Bool.{lt-ltb, le-ltb, ne_eqb, cond-false, false≢true}
 use Rattle.std.proofs.Math.Nat.{mod-eq_of_lt}
 use Rattle.byteorder.specs.Endian.{big_bytes}
 use Rattle.byteorder.specs.Numbers.{big_from-bytes}
@@ -99,3 +99,9 @@ pub says_either : (side : Side) (live before made file : List ℕ) (epoch : ℕ)
 says_either side live before made file epoch checkpoint counts says (inl same) = inl (ap (λ f. said_beside side f live) same ∙ counts.says)
 says_either side live before made file epoch checkpoint counts says (inr (inl closed)) = inl (counts_alone side file live closed.formatted closed.closed counts.formatted counts.opened)
 says_either side live before made file epoch checkpoint counts says (inr (inr same)) = inr (ap (λ f. said_beside side f live) same ∙ says)
+
+-- a gate that was closed is open in the new file alone
+pub open_is_new : (before made file : List ℕ) → IsOneOf before made file → head_is_open before ≡ false → head_is_open file ≡ true → file ≡ made
+open_is_new before made file (inl same) closed opened = absurd (false≢true (sym closed ∙ ap head_is_open (sym same) ∙ opened))
+open_is_new before made file (inr (inl left)) closed opened = absurd (false≢true (sym left.closed ∙ opened))
+open_is_new before made file (inr (inr same)) closed opened = same

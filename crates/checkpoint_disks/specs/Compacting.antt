@@ -42,7 +42,8 @@ new_checkpoint epoch number rows = record {
 
 -- ---- one disk
 
--- A disk on which a checkpoint may be written: its file begins as it has to and has a head gate, and nothing is in doubt.
+-- A disk on which a checkpoint may be written: its file begins as it has to and has a head gate, and nothing is in
+-- doubt.
 pub record IsIdle (moment : Moment) : Type 0 where
   pub formatted : is_formatted moment.bytes ≡ true
   pub gate : 9 ≤ length moment.bytes
@@ -67,7 +68,8 @@ pub record HoldsBody (body : List ℕ) (moment : Moment) : Type 0 where
 abbrev pub IsClosing : (before file : List ℕ) → Type 0
 IsClosing before file = (file ≡ before) ⊎ IsClosed file
 
--- What a crash leaves while the head gate is opened: a file that is closed, or the one with these bytes whose gate is open.
+-- What a crash leaves while the head gate is opened: a file that is closed, or the one with these bytes whose gate is
+-- open.
 abbrev pub IsOpening : (body file : List ℕ) → Type 0
 IsOpening body file = IsClosed file ⊎ (file ≡ with_head 1 body)
 

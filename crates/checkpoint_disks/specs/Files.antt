@@ -30,8 +30,9 @@ number_at place file = big_number 8 (drop place file)
 unfoldable pub epoch_of : (file : List ℕ) → ℕ
 epoch_of file = if nat_lt (length file) 17 then 0 else number_at 9 file
 
--- The fields in front of the image: the epoch, which isn't 0; the number at place 17, which is at most 2^62; the image's
--- length at place 25, which doesn't reach past the file's end. The first that isn't whole or isn't so is the fault.
+-- The fields in front of the image: the epoch, which isn't 0; the number at place 17, which is at most 2^62; the
+-- image's length at place 25, which doesn't reach past the file's end. The first that isn't whole or isn't so is the
+-- fault.
 unfoldable pub head_of : (file : List ℕ) → Result Head CheckpointFault
 head_of file =
     if epoch_of file == 0 then Err (Damaged 9)
@@ -56,8 +57,8 @@ abbrev pub ◌>>=◌ : {A B : Type 0} → Result A CheckpointFault → (A → Re
 (Ok x) >>= f = f x
 (Err why) >>= f = Err why
 
--- A checkpoint as data: its epoch, its number, its rows, the place of its journal, the journal's records, and the place of
--- the closed gate behind them.
+-- A checkpoint as data: its epoch, its number, its rows, the place of its journal, the journal's records, and the place
+-- of the closed gate behind them.
 pub record CheckpointRead : Type 0 where
   pub epoch : ℕ
   pub number : ℕ

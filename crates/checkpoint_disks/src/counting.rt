@@ -1,7 +1,7 @@
 //! Which of two files counts.
 
-ghost use Rattle.std.specs.Prelude.{◌≡◌, Some, IfOk};
-ghost use Rattle.checkpoint_disks.specs.Files.{Answers};
+ghost use Rattle.std.specs.Prelude.{◌≡◌, nat_lt, Some, IfOk};
+ghost use Rattle.checkpoint_disks.specs.Files.{epoch_of, Answers};
 ghost use Rattle.checkpoint_disks.specs.Counting.{which, said, as_read};
 
 use crate::fault::CheckpointFault;
@@ -18,13 +18,13 @@ pub enum Side {
     Second,
 }
 
-/// Which of two files counts, by their bytes, if one does: of those with an open head gate the one of the greater epoch, on
-/// equal epochs the first.
+/// Which of two files counts, by their bytes, if one does: of those with an open head gate the one of the greater epoch,
+/// on equal epochs the first.
 pub fn which(first: &[u8], second: &[u8]) -> Option<Side>
     ensures { result ≡ which first.now second.now }
 {
     if head_is_open(first) {
-        if head_is_open(second) && epoch_of(first) < epoch_of(second) {
+        if head_is_open(second) && is_below(first, second) {
             return Some(Side::Second);
         }
         return Some(Side::First);
@@ -33,6 +33,13 @@ pub fn which(first: &[u8], second: &[u8]) -> Option<Side>
         return Some(Side::Second);
     }
     None
+}
+
+/// Whether the first file's epoch is below the second's.
+fn is_below(first: &[u8], second: &[u8]) -> bool
+    ensures { result ≡ nat_lt (epoch_of first.now) (epoch_of second.now) }
+{
+    epoch_of(first) < epoch_of(second)
 }
 
 /// The checkpoint that two files say, and on which side it stands.

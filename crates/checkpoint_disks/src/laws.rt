@@ -1,10 +1,10 @@
 //! Laws of what files say. The functions do nothing: their contracts are what is proved.
 
-ghost use Rattle.std.specs.Prelude.{ℕ, ◌+◌, ◌<◌, ◌≤◌, ◌≡◌, ◌^◌, List, Ok, length};
+ghost use Rattle.std.specs.Prelude.{ℕ, ◌<◌, ◌≤◌, ◌≡◌, ◌^◌, true, false, List, Ok, length};
 ghost use Rattle.racf_profiles.specs.declared.rows.Rows.{Rows};
 ghost use Rattle.database_image.specs.Image.{image_of, IsStored};
 ghost use Rattle.checkpoint_disks.specs.declared.counting.Side.{Side};
-ghost use Rattle.checkpoint_disks.specs.Files.{contents};
+ghost use Rattle.checkpoint_disks.specs.Files.{head_is_open, contents};
 ghost use Rattle.checkpoint_disks.specs.Compacting.{IsOneOf, CountsBeside, SaysEither, said_beside, new_file, new_checkpoint};
 
 use database_image::laws::images_are_of_rows;
@@ -29,3 +29,9 @@ pub fn what_is_left_says_either()
 {
     a_new_file_says_its_checkpoint();
 }
+
+/// Where the head gate was closed, a crash that leaves it open leaves the new file whole: the gate is written only once
+/// all behind it is kept.
+pub fn an_open_head_has_its_body()
+    ensures { (before made file : List ℕ) → IsOneOf before made file → head_is_open before ≡ false → head_is_open file ≡ true → file ≡ made }
+{}

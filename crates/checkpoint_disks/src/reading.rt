@@ -35,8 +35,8 @@ pub struct Checkpoint {
 ///
 /// # Errors
 ///
-/// `Damaged` at the first field that has no lawful value: a field in front of the image, then one within it, then an open
-/// gate without a whole record. `NoMemory` where there was no room for the rows and the records.
+/// `Damaged` at the first field that has no lawful value: a field in front of the image, then one within it, then an
+/// open gate without a whole record. `NoMemory` where there was no room for the rows and the records.
 pub fn read_file(alloc: Global, bytes: &[u8]) -> Result<Checkpoint, CheckpointFault>
     ensures { Answers as_read result (contents bytes.now) }
 {

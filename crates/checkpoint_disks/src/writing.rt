@@ -28,8 +28,8 @@ pub(crate) fn write_behind<D: Disk>(disk: &mut D, fields: &[u8], rest: &[u8]) ->
     Ok(())
 }
 
-/// Closes the head gate, only where it is open: behind a gate that is closed a crash within the write could open whatever
-/// stands there.
+/// Closes the head gate, only where it is open: a crash within the write of a gate that is closed could open it, whatever
+/// stands behind it.
 fn close_head<D: Disk>(disk: &mut D) -> Result<(), Failed>
     requires idle { Now (D.tells disk.old) IsIdle }
     ensures done { OnOk result (Now (D.tells disk.new) HoldsClosed) }

@@ -1,5 +1,5 @@
 -- What a new file says, alone and beside another.
-use Rattle.std.proofs.Common.{ℕ, ◌+◌, ◌-◌, ◌<◌, ◌≤◌, ◌^◌, ◌≡◌, ◌∙◌, inl, inr, Bool, true, false, ltb, eqb, ◌||◌, List, [], ◌∷◌, ◌++◌, length, take, drop, Ok, refl, sym, ap, subst, arith, length-append}
+use Rattle.std.proofs.Common.{ℕ, ◌+◌, ◌-◌, ◌<◌, ◌≤◌, ◌^◌, ◌≡◌, ◌∙◌, inl, inr, Bool, true, false, ltb, eqb, ◌||◌, List, [], ◌∷◌, ◌++◌, length, take, drop, Ok, refl, sym, ap, subst, arith, length-append, take-append-drop}
 use Rattle.std.specs.List.{slice_range}
 use Rattle.std.proofs.lemmas.List.{take_at, drop_at, drop-drop}
 use Rattle.std.proofs.lemmas.Bool.{lt-ltb, le-ltb, ne_eqb, cond-false, false≢true}
@@ -8,11 +8,12 @@ use Rattle.byteorder.specs.Endian.{big_bytes}
 use Rattle.byteorder.specs.Numbers.{big_from-bytes}
 use Rattle.racf_profiles.specs.declared.rows.Rows.{Rows}
 use Rattle.database_image.specs.Image.{image_of, rows_of}
-use Rattle.racf_journal.specs.Reading.{reading, walk}
+use Rattle.racf_journal.specs.Kept.{ReadsAs}
+use Rattle.racf_journal.specs.Reading.{Reading, reading, spelled, walk}
 use Rattle.checkpoint_disks.specs.declared.counting.Side.{Side}
 use Rattle.checkpoint_disks.specs.declared.counting.Side.TheVariants.{First, Second}
 use Rattle.checkpoint_disks.specs.Files.{is_formatted, head_is_open, number_at, epoch_of, head_of, rows_read, records_read, CheckpointRead, contents}
-use Rattle.checkpoint_disks.specs.Compacting.{fields, new_body, new_file, new_checkpoint, IsOneOf, said_beside, CountsBeside, SaysEither}
+use Rattle.checkpoint_disks.specs.Compacting.{with_head, fields, new_body, new_file, new_checkpoint, with_image, with_records, IsOneOf, said_beside, CountsBeside, SaysEither}
 use Rattle.checkpoint_disks.proofs.Contents.{reading_behind, contents-whole}
 
 -- ---- the fields of a new file
@@ -28,54 +29,79 @@ head_read file epoch number size e n s positive most long within =
     ∙ cond-false (ltb (length file) 25 || ltb (2 ^ 62) number) _ _ (neither _ _ (le-ltb (length file) 25 (omega arith)) (le-ltb (2 ^ 62) number most))
     ∙ cond-false (ltb (length file) 33 || ltb (length file - 33) size) _ _ (neither _ _ (le-ltb (length file) 33 long) (le-ltb (length file - 33) size within)))
 
-module _ (epoch number : ℕ) (rows : Rows) where
+-- a file of these fields and this image, whatever stands behind them
+module _ (epoch number : ℕ) (rows : Rows) (rest : List ℕ) where
   abbrev image : List ℕ
   image = image_of rows
 
   abbrev size : ℕ
   size = length image
 
-  abbrev new : List ℕ
-  new = new_file epoch number rows
+  abbrev whole : List ℕ
+  whole = with_head 1 (fields epoch number size ++ (image ++ rest))
 
-  new_length : length new ≡ 33 + (size + 1)
-  unfolding fields new_body number_at epoch_of
-  new_length = omega (arith, length-append image (0 ∷ []))
+  whole_length : length whole ≡ 33 + (size + length rest)
+  unfolding fields
+  whole_length = omega (arith, length-append image rest)
 
-  epoch_is : epoch < 2 ^ 64 → epoch_of new ≡ epoch
-  unfolding fields new_body number_at epoch_of
-  epoch_is fits = cond-false (ltb (length new) 17) _ _ (le-ltb (length new) 17 (omega (arith, new_length))) ∙ big_from-bytes 8 epoch (big_bytes 8 number ++ (big_bytes 8 size ++ (image ++ 0 ∷ []))) ∙ mod-eq_of_lt fits
+  pub epoch_is : epoch < 2 ^ 64 → epoch_of whole ≡ epoch
+  unfolding fields number_at epoch_of
+  epoch_is fits = cond-false (ltb (length whole) 17) _ _ (le-ltb (length whole) 17 (omega (arith, whole_length))) ∙ big_from-bytes 8 epoch (big_bytes 8 number ++ (big_bytes 8 size ++ (image ++ rest))) ∙ mod-eq_of_lt fits
 
-  number_is : number < 2 ^ 64 → number_at 17 new ≡ number
-  unfolding fields new_body number_at epoch_of
-  number_is fits = big_from-bytes 8 number (big_bytes 8 size ++ (image ++ 0 ∷ [])) ∙ mod-eq_of_lt fits
+  number_is : number < 2 ^ 64 → number_at 17 whole ≡ number
+  unfolding fields number_at
+  number_is fits = big_from-bytes 8 number (big_bytes 8 size ++ (image ++ rest)) ∙ mod-eq_of_lt fits
 
-  size_is : size < 2 ^ 64 → number_at 25 new ≡ size
-  unfolding fields new_body number_at epoch_of
-  size_is fits = big_from-bytes 8 size (image ++ 0 ∷ []) ∙ mod-eq_of_lt fits
+  size_is : size < 2 ^ 64 → number_at 25 whole ≡ size
+  unfolding fields number_at
+  size_is fits = big_from-bytes 8 size (image ++ rest) ∙ mod-eq_of_lt fits
 
-  image_is : slice_range new 33 (33 + size) ≡ image
-  unfolding fields new_body number_at epoch_of
+  image_is : slice_range whole 33 (33 + size) ≡ image
+  unfolding fields
   image_is =
       let e : (33 + size) - 33 ≡ size = omega arith in
-      ap (λ n. take n (drop 33 new)) e ∙ take_at image (0 ∷ []) size refl
+      ap (λ n. take n (drop 33 whole)) e ∙ take_at image rest size refl
 
-  end_is : drop (33 + size) new ≡ 0 ∷ []
-  unfolding fields new_body number_at epoch_of
-  end_is = sym (drop-drop size 33 new) ∙ drop_at image (0 ∷ []) size refl
+  pub end_is : drop (33 + size) whole ≡ rest
+  unfolding fields
+  end_is = sym (drop-drop size 33 whole) ∙ drop_at image rest size refl
 
   module _ (stored : rows_of image ≡ Ok rows) (positive : 0 < epoch) (epoch_fits : epoch < 2 ^ 64) (number_fits : number ≤ 2 ^ 62) (size_fits : size < 2 ^ 64) where
-    new_head : head_of new ≡ Ok (record { epoch = epoch; number = number; start = 33 + size })
-    new_head = head_read new epoch number size (epoch_is epoch_fits) (number_is (omega arith)) (size_is size_fits) positive number_fits (omega (arith, new_length)) (omega (arith, new_length))
+    whole_head : head_of whole ≡ Ok (record { epoch = epoch; number = number; start = 33 + size })
+    whole_head = head_read whole epoch number size (epoch_is epoch_fits) (number_is (omega arith)) (size_is size_fits) positive number_fits (omega (arith, whole_length)) (omega (arith, whole_length))
 
-    new_rows : rows_read (rows_of (slice_range new 33 (33 + size))) ≡ Ok rows
-    new_rows = ap (λ bytes. rows_read (rows_of bytes)) image_is ∙ ap rows_read stored
+    whole_rows : rows_read (rows_of (slice_range whole 33 (33 + size))) ≡ Ok rows
+    whole_rows = ap (λ bytes. rows_read (rows_of bytes)) image_is ∙ ap rows_read stored
 
-    new_records : records_read (reading (33 + size) new) ≡ Ok (record { records = []; gate = 33 + size })
-    new_records = ap records_read (reading_behind (33 + size) new (omega arith) ∙ ap (walk 0 (33 + size)) end_is)
+    pub whole_says : (found : Reading) → reading (33 + size) whole ≡ Ok found
+        → contents whole ≡ Ok (record { epoch = epoch; number = number; rows = rows; start = 33 + size; records = found.records; gate = found.gate })
+    whole_says found reads = contents-whole whole (record { epoch = epoch; number = number; start = 33 + size }) rows found whole_head whole_rows (ap records_read reads)
 
-    pub new_says : contents new ≡ Ok (new_checkpoint epoch number rows)
-    new_says = contents-whole new (record { epoch = epoch; number = number; start = 33 + size }) rows (record { records = []; gate = 33 + size }) new_head new_rows new_records
+-- records behind an image
+pub journal_says : (epoch number : ℕ) (rows : Rows) (records : List (List ℕ)) (file : List ℕ) → rows_of (image_of rows) ≡ Ok rows → 0 < epoch → epoch < 2 ^ 64 → number ≤ 2 ^ 62 → length (image_of rows) < 2 ^ 64
+    → ReadsAs (with_image epoch number rows) records file → contents file ≡ Ok (with_records epoch number rows records)
+unfolding fields
+journal_says epoch number rows records file stored positive epoch_fits number_fits size_fits reads =
+    let front : List ℕ = with_image epoch number rows in
+    let rest : List ℕ = drop (length front) file in
+    let size : length front ≡ 33 + length (image_of rows) = omega arith in
+    let split : file ≡ front ++ rest = sym (take-append-drop (length front) file) ∙ ap (λ (l : List ℕ). l ++ rest) reads.front_stays in
+    let found : Reading = record { records = records; gate = (33 + length (image_of rows)) + length (spelled records) } in
+    let read : reading (33 + length (image_of rows)) (front ++ rest) ≡ Ok found =
+    ap (λ n. reading n (front ++ rest)) (sym size) ∙ ap (reading (length front)) (sym split) ∙ reads.reads ∙ ap (λ n. Ok (record { records = records; gate = n + length (spelled records) })) size in
+    ap contents split ∙ whole_says epoch number rows rest stored positive epoch_fits number_fits size_fits found read
+
+-- a new file
+new_epoch : (epoch number : ℕ) (rows : Rows) → epoch < 2 ^ 64 → epoch_of (new_file epoch number rows) ≡ epoch
+unfolding new_body
+new_epoch epoch number rows fits = epoch_is epoch number rows (0 ∷ []) fits
+
+pub new_says : (epoch number : ℕ) (rows : Rows) → rows_of (image_of rows) ≡ Ok rows → 0 < epoch → epoch < 2 ^ 64 → number ≤ 2 ^ 62 → length (image_of rows) < 2 ^ 64 → contents (new_file epoch number rows) ≡ Ok (new_checkpoint epoch number rows)
+unfolding new_body
+new_says epoch number rows stored positive epoch_fits number_fits size_fits =
+    let start : ℕ = 33 + length (image_of rows) in
+    whole_says epoch number rows (0 ∷ []) stored positive epoch_fits number_fits size_fits (record { records = []; gate = start })
+    (reading_behind start (new_file epoch number rows) (omega arith) ∙ ap (walk 0 start) (end_is epoch number rows (0 ∷ [])))
 
 -- ---- beside another file
 -- an open file of a greater epoch counts
@@ -91,7 +117,7 @@ counts_alone Second file live f o g p = rw (f, g, o, p) refl
 pub new_says_beside : (side : Side) (live before : List ℕ) (epoch number : ℕ) (rows : Rows) → CountsBeside side before live epoch → rows_of (image_of rows) ≡ Ok rows → epoch < 2 ^ 64 → number ≤ 2 ^ 62 → length (image_of rows) < 2 ^ 64
     → said_beside side (new_file epoch number rows) live ≡ Ok (new_checkpoint epoch number rows)
 new_says_beside side live before epoch number rows counts stored fits most room =
-    let below : epoch_of live < epoch_of (new_file epoch number rows) = subst (λ n. epoch_of live < n) (sym (epoch_is epoch number rows fits)) counts.below in
+    let below : epoch_of live < epoch_of (new_file epoch number rows) = subst (λ n. epoch_of live < n) (sym (new_epoch epoch number rows fits)) counts.below in
     counts_above side (new_file epoch number rows) live refl refl counts.formatted counts.opened below
     ∙ new_says epoch number rows stored (omega (arith, counts.below)) fits most room
 

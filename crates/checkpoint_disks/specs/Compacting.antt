@@ -3,6 +3,7 @@ use Rattle.std.specs.Prelude.{ℕ, ◌+◌, ◌<◌, ◌≤◌, ◌≡◌, ◌�
 use Rattle.byteorder.specs.Endian.{big_bytes}
 use Rattle.racf_profiles.specs.declared.rows.Rows.{Rows}
 use Rattle.database_image.specs.Image.{image_of}
+use Rattle.racf_journal.specs.Reading.{spelled}
 use Rattle.racf_outside.specs.Moments.{Moment, durable}
 use Rattle.checkpoint_disks.specs.declared.counting.Side.{Side}
 use Rattle.checkpoint_disks.specs.declared.counting.Side.TheVariants.{First, Second}
@@ -38,6 +39,21 @@ new_checkpoint epoch number rows = record {
   start = 33 + length (image_of rows);
   records = [];
   gate = 33 + length (image_of rows);
+}
+
+-- what stands in front of its journal
+abbrev pub with_image : (epoch number : ℕ) → Rows → List ℕ
+with_image epoch number rows = with_head 1 (fields epoch number (length (image_of rows)) ++ image_of rows)
+
+-- what such a file says once these records stand in its journal
+abbrev pub with_records : (epoch number : ℕ) → Rows → (records : List (List ℕ)) → CheckpointRead
+with_records epoch number rows records = record {
+  epoch = epoch;
+  number = number;
+  rows = rows;
+  start = 33 + length (image_of rows);
+  records = records;
+  gate = (33 + length (image_of rows)) + length (spelled records);
 }
 
 -- ---- one disk

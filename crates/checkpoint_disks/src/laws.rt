@@ -3,9 +3,10 @@
 ghost use Rattle.std.specs.Prelude.{ℕ, ◌<◌, ◌≤◌, ◌≡◌, ◌^◌, true, false, List, Ok, length};
 ghost use Rattle.racf_profiles.specs.declared.rows.Rows.{Rows};
 ghost use Rattle.database_image.specs.Image.{image_of, IsStored};
+ghost use Rattle.racf_journal.specs.Kept.{ReadsAs};
 ghost use Rattle.checkpoint_disks.specs.declared.counting.Side.{Side};
 ghost use Rattle.checkpoint_disks.specs.Files.{head_is_open, contents};
-ghost use Rattle.checkpoint_disks.specs.Compacting.{IsOneOf, CountsBeside, SaysEither, said_beside, new_file, new_checkpoint};
+ghost use Rattle.checkpoint_disks.specs.Compacting.{IsOneOf, CountsBeside, SaysEither, said_beside, new_file, new_checkpoint, with_image, with_records};
 
 use database_image::laws::images_are_of_rows;
 
@@ -16,6 +17,14 @@ pub fn a_new_file_says_its_checkpoint()
     ensures beside { (side : Side) (live before : List ℕ) (epoch number : ℕ) (rows : Rows) → CountsBeside side before live epoch
         → IsStored rows → epoch < 2 ^ 64 → number ≤ 2 ^ 62 → length (image_of rows) < 2 ^ 64
         → said_beside side (new_file epoch number rows) live ≡ Ok (new_checkpoint epoch number rows) }
+{
+    images_are_of_rows();
+}
+
+/// Behind the fields and an image a journal's records are those of the checkpoint.
+pub fn records_are_read_behind_an_image()
+    ensures { (epoch number : ℕ) (rows : Rows) (records : List (List ℕ)) (file : List ℕ) → IsStored rows → 0 < epoch → epoch < 2 ^ 64 → number ≤ 2 ^ 62 → length (image_of rows) < 2 ^ 64
+        → ReadsAs (with_image epoch number rows) records file → contents file ≡ Ok (with_records epoch number rows records) }
 {
     images_are_of_rows();
 }

@@ -1,0 +1,68 @@
+-- How the moments of the steps join, and what they say of two disks.
+use Rattle.std.proofs.Common.{ℕ, ◌-◌, ◌<◌, ◌≡◌, ◌∙◌, inl, inr, List, [], ◌∷◌, ◌++◌, length, Option, Ok, refl, sym, ap, subst, arith, length-append}
+use Rattle.racf_profiles.specs.declared.rows.Rows.{Rows}
+use Rattle.database_image.specs.Image.{image_of}
+use Rattle.racf_outside.specs.Crashes.{Leaves, StaysIn}
+use Rattle.racf_outside.specs.Disk.{History, Now}
+use Rattle.racf_outside.specs.Moments.{durable}
+use Rattle.racf_outside.proofs.Images.{durable-leaves}
+use Rattle.racf_outside.proofs.Runs.{StaysIn-none, StaysIn-weaker}
+use Rattle.checkpoint_disks.specs.declared.counting.Side.{Side}
+use Rattle.checkpoint_disks.specs.Files.{CheckpointRead}
+use Rattle.checkpoint_disks.specs.Compacting.{with_head, fields, new_body, IsIdle, IsClosed, IsClosing, IsOpening, IsOneOf, said_beside, CountsBeside, SaysEither}
+use Rattle.checkpoint_disks.proofs.HeadGates.{left_alone}
+use Rattle.checkpoint_disks.proofs.Counts.{says_either}
+
+-- ---- the files
+pub closing_is : (before made : List ℕ) (a b : Option History) → StaysIn (IsClosing before) a b → StaysIn (IsOneOf before made) a b
+closing_is before made a b s = StaysIn-weaker (IsOneOf before made) s (λ h told file left. one_of before made file left)
+  where
+    one_of : (before made file : List ℕ) → IsClosing before file → IsOneOf before made file
+    one_of before made file (inl same) = inl same
+    one_of before made file (inr closed) = inr (inl closed)
+
+pub closed_is : (before made : List ℕ) (a b : Option History) → StaysIn IsClosed a b → StaysIn (IsOneOf before made) a b
+closed_is before made a b s = StaysIn-weaker (IsOneOf before made) s (λ h told file closed. inr (inl closed))
+
+pub opening_is : (before body : List ℕ) (a b : Option History) → StaysIn (IsOpening body) a b → StaysIn (IsOneOf before (with_head 1 body)) a b
+opening_is before body a b s = StaysIn-weaker (IsOneOf before (with_head 1 body)) s (λ h told file left. one_of before body file left)
+  where
+    one_of : (before body file : List ℕ) → IsOpening body file → IsOneOf before (with_head 1 body) file
+    one_of before body file (inl closed) = inr (inl closed)
+    one_of before body file (inr same) = inr (inr same)
+
+-- the bytes of a new file
+pub new_body_is : (epoch number size : ℕ) (rows : Rows) (head rest : List ℕ) → head ≡ fields epoch number size → rest ≡ image_of rows ++ 0 ∷ [] → size ≡ length rest - 1 → head ++ rest ≡ new_body epoch number rows
+unfolding new_body
+new_body_is epoch number size rows head rest front back of =
+    let n : size ≡ length (image_of rows) = omega (arith, ap length back, length-append (image_of rows) (0 ∷ [])) in
+    ap (λ (l : List ℕ). l ++ rest) (front ∙ ap (fields epoch number) n) ∙ ap (λ (l : List ℕ). fields epoch number (length (image_of rows)) ++ l) back
+
+pub image_fits : (rows : Rows) (rest : List ℕ) (most : ℕ) → rest ≡ image_of rows ++ 0 ∷ [] → length rest < most → length (image_of rows) < most
+image_fits rows rest most back fits = omega (arith, ap length back, length-append (image_of rows) (0 ∷ []))
+
+pub files_are : (before body made : List ℕ) (a b : Option History) → body ≡ made → StaysIn (IsOneOf before (with_head 1 body)) a b → StaysIn (IsOneOf before (with_head 1 made)) a b
+files_are before body made a b same s = subst (λ (l : List ℕ). StaysIn (IsOneOf before (with_head 1 l)) a b) same s
+
+pub done_is : (body made : List ℕ) (b : Option History) → body ≡ made → Now b (λ m. m ≡ durable (with_head 1 body)) → Now b (λ m. m ≡ durable (with_head 1 made))
+done_is body made b same done h e = done h e ∙ ap (λ (l : List ℕ). durable (with_head 1 l)) same
+
+-- nothing was done
+pub files_alone : (before made : List ℕ) (a : Option History) → Now a IsIdle → Now a (λ m. m.bytes ≡ before) → StaysIn (IsOneOf before made) a a
+files_alone before made a idle holds = StaysIn-none (IsOneOf before made) a (λ h e. left_alone (IsOneOf before made) before h.now (idle h e) (holds h e) (inl refl))
+
+-- ---- beside the other
+pub says_alone : (side : Side) (live before : List ℕ) (epoch : ℕ) (checkpoint : CheckpointRead) (a : Option History) → CountsBeside side before live epoch → Now a IsIdle → Now a (λ m. m.bytes ≡ before)
+    → StaysIn (SaysEither side live checkpoint) a a
+says_alone side live before epoch checkpoint a counts idle holds =
+    StaysIn-none (SaysEither side live checkpoint) a (λ h e. left_alone (SaysEither side live checkpoint) before h.now (idle h e) (holds h e) (inl counts.says))
+
+pub says_then : (side : Side) (live before made : List ℕ) (epoch : ℕ) (checkpoint : CheckpointRead) (a b : Option History) → CountsBeside side before live epoch → said_beside side made live ≡ Ok checkpoint
+    → StaysIn (IsOneOf before made) a b → StaysIn (SaysEither side live checkpoint) a b
+says_then side live before made epoch checkpoint a b counts says s =
+    StaysIn-weaker (SaysEither side live checkpoint) s (λ h told file left. says_either side live before made file epoch checkpoint counts says left)
+
+pub said_then : (side : Side) (live made : List ℕ) (checkpoint : CheckpointRead) (b : Option History) → said_beside side made live ≡ Ok checkpoint → Now b (λ m. m ≡ durable made)
+    → Now b (Leaves (λ file. said_beside side file live ≡ Ok checkpoint))
+said_then side live made checkpoint b says done h e =
+    subst (Leaves (λ file. said_beside side file live ≡ Ok checkpoint)) (sym (done h e)) (durable-leaves (λ file. said_beside side file live ≡ Ok checkpoint) made says)

@@ -1,0 +1,9 @@
+mod Bodies
+mod Compacts
+mod Contents
+mod Counts
+mod HeadGates
+mod Places
+mod Scans
+mod Walks
+mod WorkedRows

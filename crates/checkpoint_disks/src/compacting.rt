@@ -1,0 +1,86 @@
+//! A new checkpoint, on the disk that doesn't count.
+
+ghost use Rattle.std.specs.Prelude.{ℕ, ◌+◌, ◌<◌, ◌≤◌, ◌≡◌, ◌≢◌, ◌^◌, ◌⊎◌, ◌++◌, ◌∷◌, [], List, Ok, length, IfOk, IfErr, OnOk};
+ghost use Rattle.byteorder.specs.Endian.{big_bytes};
+ghost use Rattle.racf_outside.specs.Causes.{Rose};
+ghost use Rattle.racf_outside.specs.Crashes.{Leaves, StaysIn};
+ghost use Rattle.racf_outside.specs.Disk.{Now};
+ghost use Rattle.racf_outside.specs.Moments.{durable};
+ghost use Rattle.database_image.specs.Image.{image_of, IsStored};
+ghost use Rattle.checkpoint_disks.specs.Compacting.{IsIdle, IsOneOf, CountsBeside, SaysEither, said_beside, fields, new_file, new_checkpoint};
+ghost use Rattle.checkpoint_disks.specs.declared.counting.Side.{Side};
+ghost use Rattle.checkpoint_disks.specs.declared.fault.CheckpointFault.TheVariants as fault;
+
+use crate::fault::CheckpointFault;
+use crate::laws::a_new_file_says_its_checkpoint;
+use crate::layout::CLOSED;
+use crate::writing::write_behind;
+use racf_outside::Disk;
+use racf_profiles::{NoMemory, Rows};
+use std::alloc::Global;
+
+/// Writes a checkpoint of rows on the disk whose file doesn't count: with an epoch above that of the other file it counts
+/// from then on. At every moment a crash leaves the file as it was, one whose head gate is closed, or the new one; so
+/// that beside the other file it says what that says, or the new checkpoint. After `Ok` it leaves the new one.
+///
+/// # Errors
+///
+/// `NoMemory` before anything was written; `DiskFault` where the disk failed.
+pub fn compact<D: Disk>(
+    alloc: Global,
+    idle: &mut D,
+    epoch: u64,
+    number: u64,
+    rows: &Rows,
+) -> Result<(), CheckpointFault>
+    requires idle { Now (D.tells idle.old) IsIdle }
+    requires stored { IsStored rows.now }
+    requires number { number ≤ 2 ^ 62 }
+
+    ensures done { OnOk result (Now (D.tells idle.new) (λ m. m ≡ durable (new_file epoch number rows.now))) }
+    ensures counts { OnOk result ((side : Side) (live before : List ℕ) → CountsBeside side before live epoch
+        → Now (D.tells idle.new) (Leaves (λ file. said_beside side file live ≡ Ok (new_checkpoint epoch number rows.now)))) }
+    ensures files { (before : List ℕ) → Now (D.tells idle.old) (λ m. m.bytes ≡ before)
+        → StaysIn (IsOneOf before (new_file epoch number rows.now)) (D.tells idle.old) (D.tells idle.new) }
+    ensures moments { (side : Side) (live before : List ℕ) → CountsBeside side before live epoch → Now (D.tells idle.old) (λ m. m.bytes ≡ before)
+        → StaysIn (SaysEither side live (new_checkpoint epoch number rows.now)) (D.tells idle.old) (D.tells idle.new) }
+
+    ensures fault { IfErr result (λ why. (why ≡ fault.DiskFault) ⊎ ((why ≡ fault.NoMemory) × (idle.new ≡ idle.old))) }
+    ensures cause { IfErr result (λ why. why ≡ fault.DiskFault → Rose (D.faults idle.old) (D.faults idle.new)) }
+    ensures no_fewer { D.faults idle.old ≤ D.faults idle.new }
+{
+    a_new_file_says_its_checkpoint();
+    let image = image_and_gate(alloc, rows)?;
+    let fields = fields_of(alloc, epoch, number, image.len() as u64 - 1)?;
+    write_behind(idle, &fields, &image)?;
+    Ok(())
+}
+
+/// The image of rows, and the closed gate of a journal behind it.
+fn image_and_gate(alloc: Global, rows: &Rows) -> Result<Vec<u8>, NoMemory>
+    ensures { IfOk result (λ bytes. bytes.items ≡ image_of rows.now ++ 0 ∷ []) }
+{
+    let mut bytes = database_image::write(alloc, rows)?;
+    bytes.push(CLOSED)?;
+    Ok(bytes)
+}
+
+/// The fields in front of an image of that size.
+#[tactic(auto, unfolding(crate::specs::Compacting::fields))]
+fn fields_of(alloc: Global, epoch: u64, number: u64, size: u64) -> Result<Vec<u8>, NoMemory>
+    ensures bytes { IfOk result (λ bytes. bytes.items ≡ fields epoch number size) }
+    ensures size { IfOk result (λ bytes. length bytes.items ≡ 24) }
+{
+    let mut bytes = Vec::new(alloc);
+    put_number(&mut bytes, epoch)?;
+    put_number(&mut bytes, number)?;
+    put_number(&mut bytes, size)?;
+    Ok(bytes)
+}
+
+/// A number of eight bytes.
+fn put_number(bytes: &mut Vec<u8>, number: u64) -> Result<(), NoMemory>
+    ensures { OnOk result (bytes.new.items ≡ bytes.old.items ++ big_bytes 8 number) }
+{
+    bytes.extend_from_slice(&number.to_be_bytes())
+}

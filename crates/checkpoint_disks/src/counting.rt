@@ -1,0 +1,69 @@
+//! Which of two files counts.
+
+ghost use Rattle.std.specs.Prelude.{◌≡◌, nat_lt, Some, IfOk};
+ghost use Rattle.checkpoint_disks.specs.Files.{epoch_of, Answers};
+ghost use Rattle.checkpoint_disks.specs.Counting.{which, said, as_read};
+
+use crate::fault::CheckpointFault;
+use crate::heads::{epoch_of, head_is_open, is_formatted};
+use crate::reading::{Checkpoint, read_file};
+use std::alloc::Global;
+
+/// One of two disks.
+#[derive(Clone, Copy, Debug, PartialEq, Eq)]
+pub enum Side {
+    /// The first.
+    First,
+    /// The second.
+    Second,
+}
+
+/// Which of two files counts, by their bytes, if one does: of those with an open head gate the one of the greater epoch,
+/// on equal epochs the first.
+pub fn which(first: &[u8], second: &[u8]) -> Option<Side>
+    ensures { result ≡ which first.now second.now }
+{
+    if head_is_open(first) {
+        if head_is_open(second) && is_below(first, second) {
+            return Some(Side::Second);
+        }
+        return Some(Side::First);
+    }
+    if head_is_open(second) {
+        return Some(Side::Second);
+    }
+    None
+}
+
+/// Whether the first file's epoch is below the second's.
+fn is_below(first: &[u8], second: &[u8]) -> bool
+    ensures { result ≡ nat_lt (epoch_of first.now) (epoch_of second.now) }
+{
+    epoch_of(first) < epoch_of(second)
+}
+
+/// The checkpoint that two files say, and on which side it stands.
+///
+/// # Errors
+///
+/// `NotFormatted` where a file doesn't begin as it has to, or none counts; else what [`read_file`] answers.
+pub fn read_pair(
+    alloc: Global,
+    first: &[u8],
+    second: &[u8],
+) -> Result<(Side, Checkpoint), CheckpointFault>
+    ensures said { Answers (λ read. as_read read.1) result (said first.now second.now) }
+    ensures side { IfOk result (λ read. which first.now second.now ≡ Some read.0) }
+{
+    if !is_formatted(first) || !is_formatted(second) {
+        return Err(CheckpointFault::NotFormatted);
+    }
+    let Some(side) = which(first, second) else {
+        return Err(CheckpointFault::NotFormatted);
+    };
+    let file = match side {
+        Side::First => first,
+        Side::Second => second,
+    };
+    Ok((side, read_file(alloc, file)?))
+}

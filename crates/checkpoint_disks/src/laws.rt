@@ -1,0 +1,46 @@
+//! Laws of what files say. The functions do nothing: their contracts are what is proved.
+
+ghost use Rattle.std.specs.Prelude.{ℕ, ◌<◌, ◌≤◌, ◌≡◌, ◌^◌, true, false, List, Ok, length};
+ghost use Rattle.racf_profiles.specs.declared.rows.Rows.{Rows};
+ghost use Rattle.database_image.specs.Image.{image_of, IsStored};
+ghost use Rattle.racf_journal.specs.Kept.{ReadsAs};
+ghost use Rattle.checkpoint_disks.specs.declared.counting.Side.{Side};
+ghost use Rattle.checkpoint_disks.specs.Files.{head_is_open, contents};
+ghost use Rattle.checkpoint_disks.specs.Compacting.{IsOneOf, CountsBeside, SaysEither, said_beside, new_file, new_checkpoint, with_image, with_records};
+
+use database_image::laws::images_are_of_rows;
+
+/// The file of a new checkpoint says it, and beside a file of a lower epoch it counts.
+pub fn a_new_file_says_its_checkpoint()
+    ensures alone { (epoch number : ℕ) (rows : Rows) → IsStored rows → 0 < epoch → epoch < 2 ^ 64 → number ≤ 2 ^ 62 → length (image_of rows) < 2 ^ 64
+        → contents (new_file epoch number rows) ≡ Ok (new_checkpoint epoch number rows) }
+    ensures beside { (side : Side) (live before : List ℕ) (epoch number : ℕ) (rows : Rows) → CountsBeside side before live epoch
+        → IsStored rows → epoch < 2 ^ 64 → number ≤ 2 ^ 62 → length (image_of rows) < 2 ^ 64
+        → said_beside side (new_file epoch number rows) live ≡ Ok (new_checkpoint epoch number rows) }
+{
+    images_are_of_rows();
+}
+
+/// Behind the fields and an image a journal's records are those of the checkpoint.
+pub fn records_are_read_behind_an_image()
+    ensures { (epoch number : ℕ) (rows : Rows) (records : List (List ℕ)) (file : List ℕ) → IsStored rows → 0 < epoch → epoch < 2 ^ 64 → number ≤ 2 ^ 62 → length (image_of rows) < 2 ^ 64
+        → ReadsAs (with_image epoch number rows) records file → contents file ≡ Ok (with_records epoch number rows records) }
+{
+    images_are_of_rows();
+}
+
+/// What a crash leaves of the disk that doesn't count says, beside a file that counted, what that one says, or the new
+/// checkpoint.
+pub fn what_is_left_says_either()
+    ensures { (side : Side) (live before file : List ℕ) (epoch number : ℕ) (rows : Rows) → CountsBeside side before live epoch
+        → IsStored rows → epoch < 2 ^ 64 → number ≤ 2 ^ 62 → length (image_of rows) < 2 ^ 64
+        → IsOneOf before (new_file epoch number rows) file → SaysEither side live (new_checkpoint epoch number rows) file }
+{
+    a_new_file_says_its_checkpoint();
+}
+
+/// Where the head gate was closed, a crash that leaves it open leaves the new file whole: the gate is written only once
+/// all behind it is kept.
+pub fn an_open_head_has_its_body()
+    ensures { (before made file : List ℕ) → IsOneOf before made file → head_is_open before ≡ false → head_is_open file ≡ true → file ≡ made }
+{}

@@ -1,0 +1,29 @@
+//! A checkpoint on a pair of disks: the rows of a database, their number, and the records since.
+//!
+//! Each of the two files has room for a checkpoint, and one of them counts. [`which`] tells which, by the bytes of both,
+//! and [`read_file`] reads a [`Checkpoint`] of a file's bytes, or its first fault; [`read_pair`] is both. [`compact`]
+//! writes new rows on the disk that doesn't count: at every moment a crash leaves a pair that says what it said, or the
+//! new rows. Disks are those of `racf_outside`, the image of the rows is that of `database_image`, and the records behind
+//! it are a journal of `racf_journal`.
+//!
+//! ```
+//! let (side, checkpoint) = read_pair(alloc, &first, &second)?;        // the bytes of both files
+//! compact(alloc, &mut idle, checkpoint.epoch + 1, number, &rows)?;    // `idle` is the other disk
+//! ```
+#![tactic(auto)]
+
+mod compacting;
+mod counting;
+mod fault;
+mod gates;
+mod heads;
+pub mod laws;
+mod layout;
+mod reading;
+mod scan;
+mod writing;
+
+pub use compacting::compact;
+pub use counting::{Side, read_pair, which};
+pub use fault::CheckpointFault;
+pub use reading::{Checkpoint, read_file};

@@ -26,8 +26,11 @@ mod status;
 mod stopping;
 mod stream;
 
+pub use input::next_statement;
+pub use issuer::{first_issuer, issuer_refusal};
 pub use replies::{Replies, write_all, write_before_read};
+pub use reply::{LONGEST_LINE, Refusal, Reply};
 pub use scripts::script;
-pub use statement::is_skipped;
+pub use statement::{Kind, LineText, Statement, is_skipped};
 pub use status::Status;
-pub use stopping::{Stop, end_run};
+pub use stopping::{Stop, end_run, unless_failed};

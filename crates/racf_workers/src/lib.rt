@@ -13,9 +13,13 @@
 
 mod answering;
 mod between;
+mod decks;
 mod gate;
+mod issuing;
 mod reading;
 mod requests;
+mod telling;
 
+pub use decks::give_commands;
 pub use gate::{Gate, Idle};
 pub use requests::answer_requests;

@@ -1,5 +1,5 @@
 -- A deck so far: what its commands met, and what a stop leaves.
-use Rattle.std.proofs.Common.{◌≡◌, ◌≢◌, ◌⊎◌, ℕ, ◌+◌, ◌≤◌, ◌<◌, ◌^◌, Bool, true, false, List, [], ◌∷◌, ◌++◌, length, None, Some, Ok, Err, inl, inr, refl, sym, ◌∙◌, ap, subst, arith, append_assoc, append-nil}
+use Rattle.std.proofs.Common.{◌≡◌, ◌≢◌, ℕ, ◌≤◌, ◌<◌, ◌^◌, Bool, true, false, List, [], ◌∷◌, ◌++◌, length, None, Some, Ok, Err, inl, inr, refl, sym, ◌∙◌, ap, subst, append_assoc, append-nil}
 use Rattle.std.specs.Prelude.{Option, Result, IfSome, ◌||◌}
 use Rattle.std.specs.Option.{option_to_list}
 use Rattle.racf_outside.specs.Reader.{Reader, at_start}
@@ -28,7 +28,7 @@ use Rattle.racf_stream.proofs.FrontLaws.{no_items}
 use Rattle.racf_stream.proofs.Walk.{Walk, Walk-none, Walk-items, Walk-settles, none_read}
 use Rattle.racf_stream.proofs.Stops as stops
 use Rattle.racf_stream.proofs.ScriptLaws.{ran_too_long}
-use Rattle.racf_workers.specs.Deck.{Met, Turn, DeckState, new_deck, told_line, counted, is_failure, turn_of, behind_command, behind_issuer, issuer_text, refused_line, step, text_at, deck_machine, IsRight, Course, Stands, Gives}
+use Rattle.racf_workers.specs.Deck.{Met, Turn, DeckState, told_line, counted, is_failure, turn_of, behind_command, behind_issuer, issuer_text, refused_line, step, text_at, deck_machine, IsRight, Course, Stands, Gives}
 use Rattle.racf_workers.specs.Giving.{Issuing, new_issuing, Apart, turn_at, told_of, Commands, Leaves, refused_of, named_of, NamesIssuer, WorksNext, Keeps}
 use Rattle.racf_workers.proofs.DeckLaws.{failure_ends, marked_ends, stays_marked}
 use Rattle.racf_workers.proofs.FileWalk.{same_events}
@@ -101,15 +101,15 @@ module _ (base : Position) (before seen : List Event) (first pass : Passing) (so
         turns = turns;
         walk =
             λ rest.
-              let start = state_at s pass seen w.turns (met ∷ rest) in
-              Walk-items (deck_machine base before first ((w.schedule ++ met ∷ []) ++ rest)) (given ∷ []) bytes source old new start (state_at t back front turns rest) sunk now gathered more
-              (subst (λ (all : List Met). Walk (deck_machine base before first all) source old start sunk now gathered) (sym (append_assoc w.schedule (met ∷ []) rest)) (w.walk (met ∷ rest)))
-              takes
-              (ap (λ (x : Issuing). state_at x back front turns rest) c.state
-              ∙ ap (λ (p : Passing). state_at (told_of met.reply s) p front turns rest) c.back_is
-              ∙ ap (λ (e : List Event). state_at (told_of met.reply s) (counted met.reply pass) e turns rest) c.front_is
-              ∙ sym (step_is start))
-              (c.text_is ∙ ap (λ bs. gathered ++ bs) (sym (append-nil (told_line met.reply))) ∙ ap (λ bs. gathered ++ (bs ++ [])) (sym (text_is start)));
+            let start = state_at s pass seen w.turns (met ∷ rest) in
+            Walk-items (deck_machine base before first ((w.schedule ++ met ∷ []) ++ rest)) (given ∷ []) bytes source old new start (state_at t back front turns rest) sunk now gathered more
+            (subst (λ (all : List Met). Walk (deck_machine base before first all) source old start sunk now gathered) (sym (append_assoc w.schedule (met ∷ []) rest)) (w.walk (met ∷ rest)))
+            takes
+            (ap (λ (x : Issuing). state_at x back front turns rest) c.state
+            ∙ ap (λ (p : Passing). state_at (told_of met.reply s) p front turns rest) c.back_is
+            ∙ ap (λ (e : List Event). state_at (told_of met.reply s) (counted met.reply pass) e turns rest) c.front_is
+            ∙ sym (step_is start))
+            (c.text_is ∙ ap (λ bs. gathered ++ bs) (sym (append-nil (told_line met.reply))) ∙ ap (λ bs. gathered ++ (bs ++ [])) (sym (text_is start)));
         course = course_more w.turns turn w.course c.right;
         failed = failed_now s t turn front w.failed later c.right c.front_is c.state;
       }
@@ -128,9 +128,9 @@ module _ (base : Position) (before seen : List Event) (first pass : Passing) (so
         turns = w.turns;
         walk =
             λ rest.
-              let all = w.schedule ++ rest in
-              Walk-items (deck_machine base before first all) items bytes source old new (state_at s pass seen w.turns rest) (state_at left pass seen w.turns rest) sunk now gathered (gathered ++ text)
-              (w.walk rest) takes (steps all w.turns rest) (ap (λ bs. gathered ++ bs) (prints all w.turns rest));
+            let all = w.schedule ++ rest in
+            Walk-items (deck_machine base before first all) items bytes source old new (state_at s pass seen w.turns rest) (state_at left pass seen w.turns rest) sunk now gathered (gathered ++ text)
+            (w.walk rest) takes (steps all w.turns rest) (ap (λ bs. gathered ++ bs) (prints all w.turns rest));
         course = w.course;
         failed = λ h. w.failed (sym same ∙ h);
       } in

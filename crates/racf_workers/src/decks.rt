@@ -203,11 +203,7 @@ fn gather<
 }
 
 /// Writes what is gathered where a command was accepted, so that its reply doesn't wait.
-fn acknowledge<K: Sink>(
-    accepted: bool,
-    replies: &mut Replies,
-    sink: &mut K,
-) -> Result<(), Failed>
+fn acknowledge<K: Sink>(accepted: bool, replies: &mut Replies, sink: &mut K) -> Result<(), Failed>
     ensures settled { OnOk result (Settles replies.old replies.new (K.taken sink.old) (K.taken sink.new)) }
     ensures front { OnErr result (IsCutShort replies.old (K.taken sink.old) (K.taken sink.new)) }
     ensures cause { HasCause (K.faults sink.old) (K.faults sink.new) result }

@@ -50,8 +50,8 @@ returns-in-Err-work-clause-gives g c =
 pub returns-in-Err-work-clause-disk_fault : goal.returns-in-Err-work-clause-disk_fault
 returns-in-Err-work-clause-disk_fault g c =
     λ is.
-      stays_marked c.item.caller.events c.work.new.caller.events c.work.ensures.later
-      (c.item.invariant.walk.failed (ap (λ (x : Issuing). x.has_failed) (sym c.in-Err-work.ensures.kept.state_is) ∙ c.end-in-Err-work.ensures.disk_fault is))
+    stays_marked c.item.caller.events c.work.new.caller.events c.work.ensures.later
+    (c.item.invariant.walk.failed (ap (λ (x : Issuing). x.has_failed) (sym c.in-Err-work.ensures.kept.state_is) ∙ c.end-in-Err-work.ensures.disk_fault is))
 
 pub item-preserved : goal.item-preserved
 item-preserved g c =

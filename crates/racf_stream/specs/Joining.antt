@@ -40,7 +40,8 @@ joined_by (Some front) before text = GoesOn (marked (before ++ front.text) front
 abbrev pub joined : List ℕ → List ℕ → LineRole
 joined before text = joined_by (going_on text) before text
 
--- What a line is that begins anew: nothing, where it is skipped; a request or an issuer; or a command, or the front of one.
+-- What a line is that begins anew: nothing, where it is skipped; a request or an issuer; or a command, or the front
+-- of one.
 abbrev pub fresh_role : Kind → Line → LineRole
 fresh_role kind TooLong = Whole (Some LineTooLong)
 fresh_role kind (Text text) =

@@ -45,8 +45,8 @@ impl Refusal {
 }
 
 impl Reply {
-    /// Writes the line of a reply, with the number before it, at the end of `out`. One that refuses nothing needs no more
-    /// room than [`LONGEST_LINE`].
+    /// Writes the line of a reply, with the number before it, at the end of `out`. One that refuses nothing needs no
+    /// more room than [`LONGEST_LINE`].
     #[tactic(auto, unfolding(crate::specs::Replies::reply_line))]
     pub fn write_line(&self, number: u64, out: &mut Vec<u8>) -> Result<(), AllocError>
         ensures line { OnOk result (out.new.items ≡ out.old.items ++ reply_line number self.now) }

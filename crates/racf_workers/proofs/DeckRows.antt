@@ -1,5 +1,5 @@
 -- Worked rows of decks, computed on the definitions.
-use Rattle.std.proofs.Common.{◌≡◌, ◌≢◌, ℕ, Bool, true, false, List, [], ◌∷◌, ◌++◌, refl}
+use Rattle.std.proofs.Common.{◌≡◌, ℕ, Bool, true, false, List, [], ◌∷◌, refl}
 use Rattle.std.specs.Prelude.{codes}
 use Rattle.std.specs.Fmt.{digits}
 use Rattle.command_words.specs.LineWords.{words_at}
@@ -16,8 +16,7 @@ use Rattle.racf_stream.specs.Replies.{reply_line}
 use Rattle.racf_stream.specs.Runs.{after, output}
 use Rattle.racf_stream.specs.Script.{deck_statements, statements_of}
 use Rattle.racf_stream.specs.Statements.{request_of}
-use Rattle.racf_workers.specs.Deck.{Met, DeckState, new_deck, step, text_at, deck_machine, Course}
-use Rattle.racf_workers.proofs.FileWalk.{same_events}
+use Rattle.racf_workers.specs.Deck.{Met, DeckState, new_deck, step, text_at, deck_machine}
 
 abbrev passing : ℕ → ℕ → Passing
 passing commands faults = record { deck = 0; commands = commands; faults = faults }

@@ -142,8 +142,8 @@ text_at base (item.Request text) s = told_line (turn_of text s).met.reply
 text_at base (item.Issuer text) s = issuer_text base s.seen (issuer_of_line text)
 text_at base item.LineTooLong s = refused_line base s.seen refusal.LineTooLong
 
--- A deck whose commands meet this, one after another, given by somebody who had seen so much, with a pass that had counted
--- so much.
+-- A deck whose commands meet this, one after another, given by somebody who had seen so much, with a pass that had
+-- counted so much.
 abbrev pub deck_machine : (base : Position) → (seen : List Event) → (pass : Passing) → (schedule : List Met) → Machine DeckState Statement
 deck_machine base seen pass schedule = record {
   input = deck_statements;
@@ -156,8 +156,8 @@ deck_machine base seen pass schedule = record {
 
 -- ---- what the commands met
 
--- A command met the history behind some list that extends what had been seen: that the reply says so much of it, and the
--- pass counts it.
+-- A command met the history behind some list that extends what had been seen: that the reply says so much of it, and
+-- the pass counts it.
 pub record IsRight (base : Position) (turn : Turn) : Type 0 where
   pub later : Extends turn.seen turn.met.before
   pub says : Says base turn.given turn.met.reply turn.met.before turn.met.behind turn.pass (counted turn.met.reply turn.pass)
@@ -179,8 +179,8 @@ pub record Stands (base : Position) (status : Status) (now : List Event) (pass :
   pub later : Extends s.seen now
   pub exact : status ≢ NoMemory → status ≢ WriteFault → s.seen ≡ now
 
--- The output of a deck is what its commands were told, each behind some list of the history that extends what its caller
--- had seen then, and what its other lines print.
+-- The output of a deck is what its commands were told, each behind some list of the history that extends what its
+-- caller had seen then, and what its other lines print.
 pub record Gives (base : Position) (before after : List Event) (pass back : Passing) (status : Status) (source left sunk now : Option (List ℕ)) : Type 0 where
   pub schedule : List Met
   pub ran : Ran (deck_machine base before pass schedule) (Stands base status after back) status source left sunk now

@@ -22,13 +22,13 @@ use std::alloc::{AllocError, Global};
 use std::sync::Wait;
 use std::sync::ledger::Ledger;
 
-/// Gives the commands of a deck, and writes what each is told to the sink. The status tells how it ended; the source is
-/// given back with what it has left. A line that names an issuer stands alone; blank lines and comments are skipped; every
-/// other line begins a command, whose lines are joined. A command's reply has the number that it was given with; a refused
-/// line that gives no command prints the number that was told last. The replies are gathered, and written behind each
-/// command that is accepted, before the source is read again and before the end; the room of each is there before its
-/// command is given. Where a disk fails, every further command is told so. The gate is asked as worker `worker`, and counts
-/// the lines of one command as one.
+/// Gives the commands of a deck, and writes what each is told to the sink. The status tells how it ended; the source
+/// is given back with what it has left. A line that names an issuer stands alone; blank lines and comments are
+/// skipped; every other line begins a command, whose lines are joined. A command's reply has the number that
+/// `Racf::submit` answered; a refused line that gives no command prints the number that was told last. The replies
+/// are gathered, and written behind each command that is accepted, before the source is read again and before the
+/// end; the room of each is there before its command is given. Where a disk fails, every further command is told so.
+/// The gate is asked as worker `worker`, and counts the lines of one command as one.
 pub fn give_commands<
     J: Naming,
     T: Absorb<O> + Drop,
@@ -137,8 +137,8 @@ fn run<
     }
 }
 
-/// Works a statement, where there is one, and gathers its text; it tells whether a command was accepted. Where memory is
-/// short, nothing was accepted, and nothing more is gathered.
+/// Works a statement, where there is one, and gathers its text; it tells whether a command was accepted. Where memory
+/// is short, nothing was accepted, and nothing more is gathered.
 fn work<
     J: Naming,
     T: Absorb<O> + Drop,

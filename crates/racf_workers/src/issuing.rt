@@ -66,8 +66,8 @@ impl Issuing {
         self.has_failed
     }
 
-    /// Works a statement, and writes its text at the end of `out`; it tells whether a command was accepted. Where memory is
-    /// short, nothing was accepted, and nothing has changed but for what is written there.
+    /// Works a statement, and writes its text at the end of `out`; it tells whether a command was accepted. Where
+    /// memory is short, nothing was accepted, and nothing has changed but for what is written there.
     pub(crate) fn work<
         J: Naming,
         T: Absorb<O> + Drop,
@@ -101,8 +101,8 @@ impl Issuing {
         }
     }
 
-    /// Gives a command, and writes what it is told at the end of `out`. The room for that is there before the command is
-    /// given, unless it is refused.
+    /// Gives a command, and writes what it is told at the end of `out`. The room for that is there before the command
+    /// is given, unless it is refused.
     fn command<
         J: Naming,
         T: Absorb<O> + Drop,

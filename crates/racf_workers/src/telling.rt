@@ -28,8 +28,8 @@ pub(crate) fn is_failure(reply: &Reply) -> bool
     matches!(reply, Reply::Halted(_) | Reply::DiskFault(_))
 }
 
-/// Writes the line of a reply at the end of `out`, with the number that the reply tells. The room is there, unless it is a
-/// refusal; where memory was wanting for the command, there is none to write.
+/// Writes the line of a reply at the end of `out`, with the number that the reply tells. The room is there, unless it
+/// is a refusal; where memory was wanting for the command, there is none to write.
 pub(crate) fn write_reply(reply: Reply, out: &mut Vec<u8>) -> Result<(), AllocError>
     requires room { vec_len out.old + longest_line ≤ vec_capacity out.old }
     ensures line { OnOk result (out.new.items ≡ out.old.items ++ told_line reply) }

@@ -1,12 +1,12 @@
 -- The run of the stream: how it begins, how a statement goes on with it, and what stands at each of its stops.
-use Rattle.std.proofs.Common.{◌≡◌, ℕ, ◌≤◌, ◌^◌, Bool, false, List, [], ◌∷◌, None, Some, Err, inl, inr, refl, sym, ◌∙◌, ap, subst, arith}
+use Rattle.std.proofs.Common.{◌≡◌, ℕ, ◌≤◌, ◌^◌, Bool, false, List, [], ◌∷◌, None, Some, Err, refl, sym, ◌∙◌, ap, subst, arith}
 use Rattle.std.specs.Prelude.{Option}
 use Rattle.std.specs.Option.{option_to_list}
-use Rattle.std.specs.Io.KnownBytes.{append_known}
 use Rattle.racf_outside.specs.Reader.{Reader, at_start}
 use Rattle.racf_desk.specs.Position.{Position}
 use Rattle.racf_stream.specs.declared.stopping.Stop.{Stop}
 use Rattle.racf_stream.specs.declared.stopping.Stop.TheVariants as stop
+use Rattle.racf_stream.specs.declared.statement.Kind.TheVariants as kind
 use Rattle.racf_stream.specs.declared.statement.Statement.{Statement}
 use Rattle.racf_stream.specs.declared.status.Status.{Status}
 use Rattle.racf_stream.specs.declared.status.Status.TheVariants.{WriteFault}
@@ -16,7 +16,7 @@ use Rattle.racf_stream.specs.Gathering.{IsCutShort}
 use Rattle.racf_stream.specs.NextStatement.{TakesStatements, NextsStatement}
 use Rattle.racf_stream.specs.Stream.{State, number_of, new_stream}
 use Rattle.racf_stream.specs.Script.{stream, statements, fault_at}
-use Rattle.racf_stream.specs.Processing.{Ends, Works, stop_status, unless_failed}
+use Rattle.racf_stream.specs.Processing.{Ends, Works, unless_failed}
 use Rattle.racf_stream.proofs.Faults.{step_is, fault_of_next}
 use Rattle.racf_stream.proofs.FrontLaws.{no_items}
 use Rattle.racf_stream.proofs.Walk.{Walk, Walk-none, Walk-items}
@@ -67,8 +67,8 @@ module _ (base : Position) (P : State → Type 0) (source : Option (List ℕ)) (
   cut = stops.cut m P source old new s before now then gathered w p
 
   -- no item came
-  pub stopped : (why : Stop) (status : Status) → NextsStatement (Err why) old new → new.passed ≤ 2 ^ 28 → Ends why s.halted s.has_refused status gathered now then → Ran m P status source new.left before then
-  stopped = stops.stopped m P source old new s before now then gathered w p no_items
+  pub stopped : (why : Stop) (status : Status) → NextsStatement kind.Stream (Err why) old new → new.passed ≤ 2 ^ 28 → Ends why s.halted s.has_refused status gathered now then → Ran m P status source new.left before then
+  stopped = stops.stopped m P source old new s before now then gathered w p (no_items kind.Stream)
 
   -- an item was not answered
   pub unanswered : (status : Status) → Ends stop.NoMemory s.halted s.has_refused status gathered now then → Ran m P status source new.left before then

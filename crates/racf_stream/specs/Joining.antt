@@ -4,6 +4,7 @@ use Rattle.std.specs.Prelude.{ℕ, ◌==◌, List, [], ◌∷◌, ◌++◌, Opti
 use Rattle.std.specs.List.{list_all}
 use Rattle.std.specs.Option.{option_to_list}
 use Rattle.racf_outside.specs.Lines.{Line, Text, TooLong}
+use Rattle.racf_stream.specs.declared.statement.Kind.{Kind}
 use Rattle.racf_stream.specs.declared.statement.Statement.{Statement}
 use Rattle.racf_stream.specs.declared.statement.Statement.TheVariants.{Command, LineTooLong}
 use Rattle.racf_stream.specs.declared.mark.Mark.{Mark}
@@ -11,7 +12,7 @@ use Rattle.racf_stream.specs.declared.mark.Mark.TheVariants.{Hyphen, Plus}
 use Rattle.racf_stream.specs.declared.joining.LineRole.{LineRole}
 use Rattle.racf_stream.specs.declared.joining.LineRole.TheVariants.{Whole, GoesOn}
 use Rattle.racf_stream.specs.Fronts.{Front, marked, behind}
-use Rattle.racf_stream.specs.Statements.{is_skipped, is_request, request_of}
+use Rattle.racf_stream.specs.Statements.{is_skipped, stands_alone, request_of}
 use Rattle.command_words.specs.Bytes.{is_blank_byte}
 use Rattle.command_words.specs.FrontWords.{past}
 use Rattle.command_words.specs.declared.front_words.Parting.TheVariants as parting
@@ -39,19 +40,20 @@ joined_by (Some front) before text = GoesOn (marked (before ++ front.text) front
 abbrev pub joined : List ℕ → List ℕ → LineRole
 joined before text = joined_by (going_on text) before text
 
--- What a line is that begins anew: nothing, where it is skipped; a request; or a command, or the front of one.
-abbrev pub fresh_role : Line → LineRole
-fresh_role TooLong = Whole (Some LineTooLong)
-fresh_role (Text text) =
+-- What a line is that begins anew: nothing, where it is skipped; a request or an issuer; or a command, or the front
+-- of one.
+abbrev pub fresh_role : Kind → Line → LineRole
+fresh_role kind TooLong = Whole (Some LineTooLong)
+fresh_role kind (Text text) =
     if is_skipped text then Whole None
-    else if is_request text then Whole (Some (request_of text))
+    else if stands_alone kind text then Whole (Some (request_of text))
     else joined [] text
 
 -- What a line is behind the front of a command. A line that is too long takes the whole command with it.
-abbrev pub role_of : Option Front → Line → LineRole
-role_of None line = fresh_role line
-role_of (Some front) TooLong = Whole (Some LineTooLong)
-role_of (Some front) (Text text) = joined front.text (added front.mark text)
+abbrev pub role_of : Kind → Option Front → Line → LineRole
+role_of kind None line = fresh_role kind line
+role_of kind (Some front) TooLong = Whole (Some LineTooLong)
+role_of kind (Some front) (Text text) = joined front.text (added front.mark text)
 
 -- the statement that ends with a line, and the front of the command that goes on
 abbrev pub ending : LineRole → Option Statement
@@ -63,10 +65,10 @@ going (Whole item) = None
 going (GoesOn front) = Some front
 
 -- The statements of lines behind a front; `last` says what becomes of the front of a command behind the last line.
-abbrev pub items_behind : (Option Front → List Statement) → Option Front → List Line → List Statement
-items_behind last begun [] = last begun
-items_behind last begun (line ∷ lines) =
-    option_to_list (ending (role_of begun line)) ++ items_behind last (going (role_of begun line)) lines
+abbrev pub items_behind : Kind → (Option Front → List Statement) → Option Front → List Line → List Statement
+items_behind kind last begun [] = last begun
+items_behind kind last begun (line ∷ lines) =
+    option_to_list (ending (role_of kind begun line)) ++ items_behind kind last (going (role_of kind begun line)) lines
 
 -- Where the input ends, it ends a command. Where more may come, a command that is still being joined isn't begun.
 abbrev pub last_command : Option Front → List Statement
@@ -77,9 +79,9 @@ abbrev pub not_begun : Option Front → List Statement
 not_begun front = []
 
 -- the statements of the lines of a whole input
-abbrev pub items_of : List Line → List Statement
-items_of lines = items_behind last_command None lines
+abbrev pub items_of : Kind → List Line → List Statement
+items_of kind lines = items_behind kind last_command None lines
 
 -- the statements that end within lines behind which more may come
-abbrev pub whole_items_of : List Line → List Statement
-whole_items_of lines = items_behind not_begun None lines
+abbrev pub whole_items_of : Kind → List Line → List Statement
+whole_items_of kind lines = items_behind kind not_begun None lines

@@ -5,6 +5,7 @@ use Rattle.racf_outside.specs.Next.{TakesLine, TakesEnd, TakesFront, TakesTooMuc
 use Rattle.racf_outside.specs.Reader.{Reader}
 use Rattle.racf_stream.specs.declared.joining.LineRole.{LineRole}
 use Rattle.racf_stream.specs.declared.joining.LineRole.TheVariants.{Whole}
+use Rattle.racf_stream.specs.declared.statement.Kind.{Kind}
 use Rattle.racf_stream.specs.declared.stopping.Stop.{Stop}
 use Rattle.racf_stream.specs.declared.stopping.Stop.TheVariants.{End, ReadFault, InputTooLong, NoMemory}
 use Rattle.racf_stream.specs.Fronts.{Front}
@@ -19,26 +20,26 @@ pub record EndsCommand (begun : Option Front) (role : LineRole) (old new : Reade
   pub at_end : TakesEnd old new
 
 -- A line was taken, and has that role.
-pub record GivesRole (begun : Option Front) (role : LineRole) (old new : Reader) : Type 0 where
+pub record GivesRole (kind : Kind) (begun : Option Front) (role : LineRole) (old new : Reader) : Type 0 where
   pub raw : List ℕ
   pub line : TakesLine raw old new
-  pub is_role : role_of begun (line_of raw) ≡ role
+  pub is_role : role_of kind begun (line_of raw) ≡ role
 
 -- What the next line is behind what is begun, or why no line comes.
-abbrev pub NextsRole : Result LineRole Stop → Option Front → Reader → Reader → Type 0
-NextsRole (Ok role) begun old new = GivesRole begun role old new ⊎ EndsCommand begun role old new
-NextsRole (Err End) begun old new = (begun ≡ None) × TakesEnd old new
-NextsRole (Err ReadFault) begun old new = (raw : List ℕ) × TakesFront raw old new
-NextsRole (Err InputTooLong) begun old new = (raw : List ℕ) × (next : ℕ) × TakesTooMuch raw next old new
-NextsRole (Err NoMemory) begun old new = Unit {0}
+abbrev pub NextsRole : Kind → Result LineRole Stop → Option Front → Reader → Reader → Type 0
+NextsRole kind (Ok role) begun old new = GivesRole kind begun role old new ⊎ EndsCommand begun role old new
+NextsRole kind (Err End) begun old new = (begun ≡ None) × TakesEnd old new
+NextsRole kind (Err ReadFault) begun old new = (raw : List ℕ) × TakesFront raw old new
+NextsRole kind (Err InputTooLong) begun old new = (raw : List ℕ) × (next : ℕ) × TakesTooMuch raw next old new
+NextsRole kind (Err NoMemory) begun old new = Unit {0}
 
 -- The role of a line of text, unless memory ran out.
-abbrev pub ReadsRole : Result LineRole Stop → Option Front → List ℕ → Type 0
-ReadsRole (Ok role) begun text = role ≡ role_of begun (Text text)
-ReadsRole (Err End) begun text = ⊥
-ReadsRole (Err ReadFault) begun text = ⊥
-ReadsRole (Err InputTooLong) begun text = ⊥
-ReadsRole (Err NoMemory) begun text = Unit {0}
+abbrev pub ReadsRole : Kind → Result LineRole Stop → Option Front → List ℕ → Type 0
+ReadsRole kind (Ok role) begun text = role ≡ role_of kind begun (Text text)
+ReadsRole kind (Err End) begun text = ⊥
+ReadsRole kind (Err ReadFault) begun text = ⊥
+ReadsRole kind (Err InputTooLong) begun text = ⊥
+ReadsRole kind (Err NoMemory) begun text = Unit {0}
 
 -- The command that the end of the input ends, where one is begun: this takes no memory.
 abbrev pub ReadsEnd : Result LineRole Stop → Option Front → Type 0

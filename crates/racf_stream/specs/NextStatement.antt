@@ -5,11 +5,12 @@ use Rattle.std.specs.Io.KnownBytes.{prepend_known, IsAtEnd}
 use Rattle.racf_outside.specs.Causes.{Rose}
 use Rattle.racf_outside.specs.Reader.{Reader}
 use Rattle.racf_outside.specs.Next.{TakesEnd}
+use Rattle.racf_stream.specs.declared.statement.Kind.{Kind}
 use Rattle.racf_stream.specs.declared.statement.Statement.{Statement}
 use Rattle.racf_stream.specs.declared.stopping.Stop.{Stop}
 use Rattle.racf_stream.specs.declared.stopping.Stop.TheVariants.{End, ReadFault, InputTooLong, NoMemory}
 use Rattle.racf_stream.specs.Runs.{Input}
-use Rattle.racf_stream.specs.Script.{statements}
+use Rattle.racf_stream.specs.Script.{statements_of}
 
 -- The bytes are exactly these statements: whatever comes next, the statements go on with those of what comes.
 pub record IsWalked {I : Type 0} (input : Input I) (bytes : List ℕ) (items : List I) : Type 0 where
@@ -53,6 +54,6 @@ Stops input InputTooLong old new = (bytes : List ℕ) × (next : ℕ) × TakesTo
 Stops input NoMemory old new = Unit {0}
 
 -- What the next statement is, or that the next line is skipped, or why no statement comes.
-abbrev pub NextsStatement : Result (Option Statement) Stop → Reader → Reader → Type 0
-NextsStatement (Ok item) old new = (bytes : List ℕ) × TakesStatements statements (option_to_list item) bytes old new
-NextsStatement (Err stop) old new = Stops statements stop old new
+abbrev pub NextsStatement : Kind → Result (Option Statement) Stop → Reader → Reader → Type 0
+NextsStatement kind (Ok item) old new = (bytes : List ℕ) × TakesStatements (statements_of kind) (option_to_list item) bytes old new
+NextsStatement kind (Err stop) old new = Stops (statements_of kind) stop old new

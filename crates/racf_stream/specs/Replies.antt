@@ -1,5 +1,5 @@
 -- The text of each reply to a command or to the line of an issuer.
-use Rattle.std.specs.Prelude.{ℕ, List, ◌++◌, codes, decimal}
+use Rattle.std.specs.Prelude.{ℕ, Bool, true, false, List, ◌++◌, codes, decimal}
 use Rattle.racf_desk.specs.Words as words
 use Rattle.racf_stream.specs.declared.reply.Refusal.{Refusal}
 use Rattle.racf_stream.specs.declared.reply.Refusal.TheVariants as refusal
@@ -16,6 +16,19 @@ reply_words Accepted = codes "ACCEPTED"
 reply_words DiskFault = codes "DISKFAULT"
 reply_words Halted = codes "HALTED"
 reply_words (Refused why) = codes "REFUSED " ++ refusal_words why
+
+abbrev pub is_refused : Reply → Bool
+is_refused Accepted = false
+is_refused DiskFault = false
+is_refused Halted = false
+is_refused (Refused why) = true
+
+-- The longest of the words that refuse nothing, and of their lines: twenty digits, a blank, the words and a line feed.
+abbrev pub longest_words : ℕ
+longest_words = 9
+
+abbrev pub longest_line : ℕ
+longest_line = 31
 
 -- A line is printed for each: the number, a blank, and the words.
 unfoldable pub reply_line : ℕ → Reply → List ℕ

@@ -3,6 +3,8 @@ use Rattle.std.specs.Prelude.{◌≡◌, ℕ, Bool, true, false, Option, None, S
 use Rattle.racf_outside.specs.Lines.{lines, whole_lines}
 use Rattle.racf_desk.specs.Position.{Position}
 use Rattle.racf_desk.specs.Made.{DeskOn}
+use Rattle.racf_stream.specs.declared.statement.Kind.{Kind}
+use Rattle.racf_stream.specs.declared.statement.Kind.TheVariants as kind
 use Rattle.racf_stream.specs.declared.statement.Statement.{Statement}
 use Rattle.racf_stream.specs.declared.status.Status.{Status}
 use Rattle.racf_stream.specs.declared.status.Status.TheVariants.{Done, Refusals}
@@ -10,12 +12,20 @@ use Rattle.racf_stream.specs.Joining.{items_of, whole_items_of}
 use Rattle.racf_stream.specs.Stream.{State, new_stream, step, text}
 use Rattle.racf_stream.specs.Runs.{Input, Machine, after, output, status_of}
 
--- the stream's statements are those of its lines
-unfoldable pub statements : Input Statement
-statements = record {
-  items = λ bytes. items_of (lines bytes);
-  whole_items = λ bytes. whole_items_of (whole_lines bytes);
+-- the statements of an input of this kind are those of its lines
+unfoldable pub statements_of : Kind → Input Statement
+statements_of kind = record {
+  items = λ bytes. items_of kind (lines bytes);
+  whole_items = λ bytes. whole_items_of kind (whole_lines bytes);
 }
+
+-- those of a stream
+abbrev pub statements : Input Statement
+statements = statements_of kind.Stream
+
+-- those of a deck
+abbrev pub deck_statements : Input Statement
+deck_statements = statements_of kind.Deck
 
 -- The stream from a position on. No disk fails, or one fails the command that is accepted behind so many.
 abbrev pub stream : (fault : Option ℕ) → (base : Position) → Machine State Statement

@@ -8,20 +8,21 @@ ghost use Rattle.racf_stream.specs.NextRole.{NextsRole, ReadsRole, ReadsEnd};
 
 use crate::joining::{Begun, LineRole, role_of};
 use crate::replies::{Replies, write_before_read};
-use crate::statement::Statement;
+use crate::statement::{Kind, Statement};
 use crate::stopping::Stop;
 use racf_outside::{Failed, Line, LineFault, Lines, Sink, Source};
 use std::alloc::Global;
 
 /// The next statement; `None` where the next line is skipped. The lines of a command are joined. What is gathered is
 /// written before the source is read; where that fails, no statement is looked for.
-pub(crate) fn next_statement<S: Source, O: Sink>(
+pub fn next_statement<S: Source, O: Sink>(
+    kind: Kind,
     alloc: Global,
     lines: &mut Lines<S>,
     replies: &mut Replies,
     sink: &mut O,
 ) -> Result<Result<Option<Statement>, Stop>, Failed>
-    ensures item { IfOk result (λ next. NextsStatement next lines.old lines.new) }
+    ensures item { IfOk result (λ next. NextsStatement kind next lines.old lines.new) }
     ensures faults { lines.old.faults ≤ lines.new.faults }
     ensures limit { OnOk result (lines.new.passed ≤ 2 ^ 28) }
     ensures settled { OnOk result (Settles replies.old replies.new (O.taken sink.old) (O.taken sink.new)) }
@@ -31,7 +32,7 @@ pub(crate) fn next_statement<S: Source, O: Sink>(
     let mut begun = None;
     'line: loop {
         write_before_read(lines, replies, sink)?;
-        match next_role(alloc, lines, begun) {
+        match next_role(kind, alloc, lines, begun) {
             Ok(LineRole::Whole(item)) => return Ok(Ok(item)),
             Ok(LineRole::GoesOn(front)) => begun = Some(front),
             Err(stop) => return Ok(Err(stop)),
@@ -41,16 +42,17 @@ pub(crate) fn next_statement<S: Source, O: Sink>(
 
 /// What the next line is behind the front of a command, or anew; at the input's end the command that is begun.
 fn next_role<S: Source>(
+    kind: Kind,
     alloc: Global,
     lines: &mut Lines<S>,
     begun: Option<Begun>,
 ) -> Result<LineRole, Stop>
-    ensures role { NextsRole result begun lines.old lines.new }
+    ensures role { NextsRole kind result begun lines.old lines.new }
     ensures faults { lines.old.faults ≤ lines.new.faults }
     ensures limit { lines.new.passed ≤ 2 ^ 28 }
 {
     match lines.next() {
-        Ok(Line::Text(text)) => read_role(alloc, begun, text),
+        Ok(Line::Text(text)) => read_role(kind, alloc, begun, text),
         Ok(Line::TooLong) => Ok(LineRole::Whole(Some(Statement::LineTooLong))),
         Ok(Line::End) => read_end(begun),
         Err(LineFault::ReadFault) => Err(Stop::ReadFault),
@@ -59,10 +61,10 @@ fn next_role<S: Source>(
 }
 
 /// What a line of text is.
-fn read_role(alloc: Global, begun: Option<Begun>, text: &[u8]) -> Result<LineRole, Stop>
-    ensures { ReadsRole result begun text.now }
+fn read_role(kind: Kind, alloc: Global, begun: Option<Begun>, text: &[u8]) -> Result<LineRole, Stop>
+    ensures { ReadsRole kind result begun text.now }
 {
-    match role_of(alloc, begun, text) {
+    match role_of(alloc, kind, begun, text) {
         Ok(role) => Ok(role),
         Err(_) => Err(Stop::NoMemory),
     }

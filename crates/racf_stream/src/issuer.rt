@@ -10,7 +10,7 @@ use racf_profiles::ibmuser;
 use request_files::{LineRefusal, NamedIssuer};
 
 /// The issuer before a line names one.
-pub(crate) fn first_issuer() -> NamedIssuer
+pub fn first_issuer() -> NamedIssuer
     ensures { result ≡ first_issuer }
 {
     NamedIssuer {
@@ -20,7 +20,7 @@ pub(crate) fn first_issuer() -> NamedIssuer
 }
 
 /// Why a line that should name an issuer is refused.
-pub(crate) fn issuer_refusal(why: &LineRefusal) -> Refusal
+pub fn issuer_refusal(why: &LineRefusal) -> Refusal
     ensures { result ≡ issuer_refusal why.now }
 {
     match why {

@@ -7,7 +7,7 @@ ghost use Rattle.racf_stream.specs.Fronts.{Front};
 ghost use Rattle.racf_stream.specs.Joining.{going_on, added, joined, fresh_role, role_of};
 
 use crate::mark::Mark;
-use crate::statement::{LineText, Statement, is_request, is_skipped};
+use crate::statement::{Kind, LineText, Statement, is_skipped, stands_alone};
 use command_words::{Parting, is_blank};
 use std::alloc::{AllocError, Global};
 use std::marker::Model;
@@ -42,25 +42,26 @@ pub enum LineRole {
 /// What a line of text is behind the front of a command, or anew. Takes memory for a command's text.
 pub(crate) fn role_of(
     alloc: Global,
+    kind: Kind,
     begun: Option<Begun>,
     text: &[u8],
 ) -> Result<LineRole, AllocError>
-    ensures { IfOk result (λ role. role ≡ role_of begun (Text text.now)) }
+    ensures { IfOk result (λ role. role ≡ role_of kind begun (Text text.now)) }
 {
     match begun {
-        None => fresh_role(alloc, text),
+        None => fresh_role(alloc, kind, text),
         Some(begun) => begun.join(text),
     }
 }
 
 /// What a line of text is that begins anew.
-fn fresh_role(alloc: Global, text: &[u8]) -> Result<LineRole, AllocError>
-    ensures { IfOk result (λ role. role ≡ fresh_role (Text text.now)) }
+fn fresh_role(alloc: Global, kind: Kind, text: &[u8]) -> Result<LineRole, AllocError>
+    ensures { IfOk result (λ role. role ≡ fresh_role kind (Text text.now)) }
 {
     if is_skipped(text) {
         return Ok(LineRole::Whole(None));
     }
-    if is_request(text) {
+    if stands_alone(kind, text) {
         return Ok(LineRole::Whole(Some(Statement::request(alloc, text)?)));
     }
     joined(Vec::new(alloc), text)
@@ -85,11 +86,10 @@ fn joined(before: Vec<u8>, text: &[u8]) -> Result<LineRole, AllocError>
 
 impl Begun {
     ghost use Rattle.racf_stream.specs.declared.statement.Statement.TheVariants.{Command};
-    ghost use Rattle.std.specs.Prelude.{Some};
 
     /// What a line of text is behind this front.
     fn join(self, text: &[u8]) -> Result<LineRole, AllocError>
-        ensures { IfOk result (λ role. role ≡ role_of (Some self) (Text text.now)) }
+        ensures { IfOk result (λ role. role ≡ joined self.text (added self.mark text.now)) }
     {
         let Begun { text: before, mark } = self;
         joined(before, added(mark, text))

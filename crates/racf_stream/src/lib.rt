@@ -3,8 +3,9 @@
 //! The principal function is [`script`], which answers with a [`Status`]. Commands are given at the desk of `racf_desk`,
 //! requests are answered by `request_files` on the desk's image. `laws` is for a reader of an output.
 //!
-//! Others that read lines and print answers gather them in [`Replies`], whose room for each is lent before the line is
-//! worked, and end by [`end_run`]. What such a run means is a machine of `specs/Runs`, with an input of its own.
+//! Others that read lines and print answers gather them in [`Replies`], whose room for each is lent before the line
+//! is worked, and end by [`end_run`]. [`next_statement`] reads the statements of a stream or of a deck, by its
+//! [`Kind`]. What such a run means is a machine of `specs/Runs`, with an input of its own.
 //!
 //! ```text
 //! let desk = Desk::open(alloc, disks)?;
@@ -26,8 +27,11 @@ mod status;
 mod stopping;
 mod stream;
 
+pub use input::next_statement;
+pub use issuer::{first_issuer, issuer_refusal};
 pub use replies::{Replies, write_all, write_before_read};
+pub use reply::{LONGEST_LINE, Refusal, Reply};
 pub use scripts::script;
-pub use statement::is_skipped;
+pub use statement::{Kind, LineText, Statement, is_skipped};
 pub use status::Status;
-pub use stopping::{Stop, end_run};
+pub use stopping::{Stop, end_run, unless_failed};

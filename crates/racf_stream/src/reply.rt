@@ -1,11 +1,14 @@
 //! The replies to commands and to issuers, and to lines that are too long, as they are printed.
 
-ghost use Rattle.std.specs.Prelude.{◌≡◌, ◌++◌, OnOk};
-ghost use Rattle.racf_stream.specs.Replies.{refusal_words, reply_words, reply_line};
+ghost use Rattle.std.specs.Prelude.{◌≡◌, ◌+◌, ◌≤◌, ◌++◌, false, IsOk, OnOk, vec_len, vec_capacity};
+ghost use Rattle.racf_stream.specs.Replies.{is_refused, longest_line, longest_words, refusal_words, reply_words, reply_line};
 
 use itoa::Buffer;
 use racf_desk::Refusal as OfCommand;
 use std::alloc::AllocError;
+
+/// How many bytes the line of a reply has at most that refuses nothing.
+pub const LONGEST_LINE: usize = 31;
 
 /// Why a line was refused.
 #[derive(Drop)]
@@ -42,10 +45,12 @@ impl Refusal {
 }
 
 impl Reply {
-    /// Writes the line of a reply, with the number before it, at the end of `out`.
+    /// Writes the line of a reply, with the number before it, at the end of `out`. One that refuses nothing needs no
+    /// more room than [`LONGEST_LINE`].
     #[tactic(auto, unfolding(crate::specs::Replies::reply_line))]
-    pub(crate) fn write_line(&self, number: u64, out: &mut Vec<u8>) -> Result<(), AllocError>
-        ensures { OnOk result (out.new.items ≡ out.old.items ++ reply_line number self.now) }
+    pub fn write_line(&self, number: u64, out: &mut Vec<u8>) -> Result<(), AllocError>
+        ensures line { OnOk result (out.new.items ≡ out.old.items ++ reply_line number self.now) }
+        ensures succeeds { is_refused self.now ≡ false → vec_len out.old + longest_line ≤ vec_capacity out.old → IsOk result }
     {
         let mut digits = Buffer::new();
         out.extend_from_slice(digits.format(number).as_bytes())?;
@@ -56,7 +61,10 @@ impl Reply {
 
     /// Writes the words at the end of `out`.
     fn write(&self, out: &mut Vec<u8>) -> Result<(), AllocError>
-        ensures { OnOk result (out.new.items ≡ out.old.items ++ reply_words self.now) }
+        ensures words { OnOk result (out.new.items ≡ out.old.items ++ reply_words self.now) }
+        ensures succeeds { is_refused self.now ≡ false → vec_len out.old + longest_words ≤ vec_capacity out.old → IsOk result }
+        ensures grows { is_refused self.now ≡ false → vec_len out.new ≤ vec_len out.old + longest_words }
+        ensures capacity { is_refused self.now ≡ false → vec_capacity out.old ≤ vec_capacity out.new }
     {
         match self {
             Reply::Accepted => out.extend_from_slice(b"ACCEPTED"),

@@ -15,7 +15,7 @@ ghost use Rattle.racf_stream.specs.Stream.{answer, new_stream};
 
 use crate::input::next_statement;
 use crate::replies::Replies;
-use crate::statement::Statement;
+use crate::statement::{Kind, Statement};
 use crate::status::Status;
 use crate::stopping::{Stop, end_run, unless_failed};
 use crate::stream::Stream;
@@ -103,7 +103,7 @@ fn run<S: Source, O: Sink, D: Disk>(
     stream.is_at_rest();
     let mut replies = Replies::new(alloc);
     'item: loop {
-        let item = match next_statement(alloc, lines, &mut replies, sink) {
+        let item = match next_statement(Kind::Stream, alloc, lines, &mut replies, sink) {
             Ok(Ok(item)) => item,
             Ok(Err(stop)) => return end(stop, stream, &mut replies, sink),
             Err(Failed) => return unless_failed(stream.has_failed(), Status::WriteFault),

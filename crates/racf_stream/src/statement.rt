@@ -3,11 +3,20 @@
 ghost use Rattle.std.specs.Prelude.{◌≡◌, IfOk};
 ghost use Rattle.std.specs.List.{list_all};
 ghost use Rattle.command_words.specs.Bytes.{is_blank_byte};
-ghost use Rattle.racf_stream.specs.Statements.{is_skipped, is_request, is_issuer};
+ghost use Rattle.racf_stream.specs.Statements.{is_skipped, is_request, is_issuer, stands_alone};
 
 use command_words::{Parting, is_blank, is_spelled};
 use std::alloc::{AllocError, Global};
 use std::marker::Model;
+
+/// What the lines of an input are.
+#[derive(Clone, Copy)]
+pub enum Kind {
+    /// Those of a stream: commands, requests and issuers.
+    Stream,
+    /// Those of a deck: commands and issuers.
+    Deck,
+}
 
 /// What a line says: the text of a command, its lines joined, or the line of a request as it stands.
 #[derive(Drop)]
@@ -48,7 +57,7 @@ impl LineText {
     }
 
     /// Its bytes.
-    pub(crate) fn as_slice(&self) -> &[u8]
+    pub fn as_slice(&self) -> &[u8]
         ensures { result.now ≡ self.now }
     {
         self.bytes.as_slice()
@@ -85,9 +94,19 @@ fn is_blank_line(text: &[u8]) -> bool
     text.iter().all(|byte| is_blank(*byte))
 }
 
+/// A line that is a statement by itself, and never goes on in the next line.
+pub(crate) fn stands_alone(kind: Kind, text: &[u8]) -> bool
+    ensures { result ≡ stands_alone kind text.now }
+{
+    match kind {
+        Kind::Stream => is_request(text),
+        Kind::Deck => is_issuer(text),
+    }
+}
+
 /// The line of a request or of the issuer: its first word, folded to upper case, says so.
 #[tactic(auto, unfolding(crate::specs::Statements::is_request))]
-pub(crate) fn is_request(text: &[u8]) -> bool
+fn is_request(text: &[u8]) -> bool
     ensures { result ≡ is_request text.now }
 {
     let word = Parting::Line.first_word(text);

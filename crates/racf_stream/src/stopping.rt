@@ -56,7 +56,7 @@ fn stop_status(stop: Stop, failed: bool, refused: bool) -> Status
 }
 
 /// This status, unless a disk failed, which counts for more.
-pub(crate) fn unless_failed(failed: bool, status: Status) -> Status
+pub fn unless_failed(failed: bool, status: Status) -> Status
     ensures { result ≡ unless_failed failed status }
 {
     if failed { Status::DiskFault } else { status }

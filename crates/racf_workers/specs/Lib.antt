@@ -1,3 +1,5 @@
 pub mod Lines
 pub mod RequestFile
 pub mod Answering
+pub mod Deck
+pub mod Giving

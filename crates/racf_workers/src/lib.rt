@@ -6,16 +6,24 @@
 //! `request_files`; what a stop leaves is said by the definitions of `racf_stream`. A [`Gate`] is asked before each line
 //! and behind it, so that a run can take a course that is known; [`Idle`] lets everything pass.
 //!
+//! [`give_commands`] gives the commands of a deck, with a pass. The room of each reply is there before its command is
+//! given, so that none is lost behind a command that was accepted.
+//!
 //! ```text
 //! let (status, source) = answer_requests(rt, alloc, &racf, &mut caller, source, &mut sink, &Idle, 0);
+//! let (status, source) = give_commands(rt, alloc, &racf, &mut caller, &mut pass, source, &mut sink, &Idle, 1);
 //! ```
 #![tactic(auto)]
 
 mod answering;
 mod between;
+mod decks;
 mod gate;
+mod issuing;
 mod reading;
 mod requests;
+mod telling;
 
+pub use decks::give_commands;
 pub use gate::{Gate, Idle};
 pub use requests::answer_requests;

@@ -7,7 +7,7 @@ use Rattle.racf_stream.proofs.input.next_statement.Goals as goal
 pub line-init : goal.line-init
 line-init g c =
     record {
-      taken = Taken-none c.args.lines.now;
+      taken = Taken-none c.args.kind c.args.lines.now;
       faults = omega arith;
       settled = Settles-none c.args.replies.now _;
       sink_faults = omega arith;
@@ -15,7 +15,7 @@ line-init g c =
 
 pub returns-in-Ok-Whole-clause-item : goal.returns-in-Ok-Whole-clause-item
 returns-in-Ok-Whole-clause-item g c =
-    ends_item c.next_role.result c.line.begun c.in-Ok-Whole.item _ c.line.lines c.next_role.new.lines
+    ends_item c.args.kind c.next_role.result c.line.begun c.in-Ok-Whole.item _ c.line.lines c.next_role.new.lines
     c.line.invariant.taken c.next_role.ensures.role (c.in-Ok-Whole.is ∙ ap Ok c.in-Ok-Whole.field-0-is)
 
 pub returns-in-Ok-Whole-clause-settled : goal.returns-in-Ok-Whole-clause-settled
@@ -26,7 +26,7 @@ pub line-preserved : goal.line-preserved
 line-preserved g c =
     record {
       taken =
-          goes_on c.next_role.result c.line.begun c.in-Ok-GoesOn.front _ c.line.lines c.next_role.new.lines
+          goes_on c.args.kind c.next_role.result c.line.begun c.in-Ok-GoesOn.front _ c.line.lines c.next_role.new.lines
           c.line.invariant.taken c.next_role.ensures.role (c.in-Ok-GoesOn.is ∙ ap Ok c.in-Ok-GoesOn.field-0-is);
       faults = omega (arith, c.line.invariant.faults, c.next_role.ensures.faults);
       settled = Settles-then c.args.replies.now c.line.replies c.write_before_read.new.replies _ _ _ c.line.invariant.settled c.in_ok-write_before_read.ensures.settled;
@@ -35,12 +35,12 @@ line-preserved g c =
 
 pub line-smaller : goal.line-smaller
 line-smaller g c =
-    let more = passes_more c.next_role.result c.line.begun c.in-Ok-GoesOn.front c.line.lines c.next_role.new.lines c.next_role.ensures.role (c.in-Ok-GoesOn.is ∙ ap Ok c.in-Ok-GoesOn.field-0-is) in
+    let more = passes_more c.args.kind c.next_role.result c.line.begun c.in-Ok-GoesOn.front c.line.lines c.next_role.new.lines c.next_role.ensures.role (c.in-Ok-GoesOn.is ∙ ap Ok c.in-Ok-GoesOn.field-0-is) in
     omega (arith, more, c.next_role.ensures.limit)
 
 pub returns-in-Err-clause-item : goal.returns-in-Err-clause-item
 returns-in-Err-clause-item g c =
-    stops c.next_role.result c.in-Err.stop c.line.begun _ c.line.lines c.next_role.new.lines
+    stops c.args.kind c.next_role.result c.in-Err.stop c.line.begun _ c.line.lines c.next_role.new.lines
     c.line.invariant.taken c.line.invariant.faults c.next_role.ensures.role c.in-Err.is
 
 pub returns-in-Err-clause-settled : goal.returns-in-Err-clause-settled

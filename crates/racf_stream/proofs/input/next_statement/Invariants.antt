@@ -6,7 +6,7 @@ use Rattle.racf_stream.proofs.input.next_statement.Given as goal
 abbrev pub invariant-line : goal.invariant-line
 invariant-line g l =
     record {
-      taken : Taken l.begun l.fn.lines l.lines;
+      taken : Taken l.fn.kind l.begun l.fn.lines l.lines;
       faults : l.fn.lines.faults ≤ l.lines.faults;
       settled : Settles l.fn.replies l.replies (g.O.Sink.taken l.fn.sink) (g.O.Sink.taken l.sink);
       sink_faults : g.O.Sink.faults l.fn.sink ≤ g.O.Sink.faults l.sink;

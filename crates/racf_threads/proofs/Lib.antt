@@ -1,0 +1,4 @@
+mod Seats
+mod Statuses
+mod Gathers
+mod Works

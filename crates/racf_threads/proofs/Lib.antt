@@ -1,0 +1,4 @@
+pub mod Gave
+mod Entries
+mod Turns
+pub mod Own

@@ -2,3 +2,4 @@ pub mod Gave
 mod Entries
 mod Turns
 pub mod Own
+mod WorkedRows

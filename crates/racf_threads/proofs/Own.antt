@@ -1,21 +1,20 @@
 -- In a run in which as many commands were accepted as there are entries, the entries of each deck are exactly those of its
 -- accepted commands.
-use Rattle.std.proofs.Common.{◌≡◌, ℕ, suc, ◌+◌, ◌≤◌, Bool, true, Some, List, [], ◌∷◌, length, refl, sym, ◌∙◌, ap, subst, arith}
+use Rattle.std.proofs.Common.{◌≡◌, ℕ, suc, ◌≤◌, Bool, List, [], ◌∷◌, length, refl, sym, ◌∙◌, ap, subst, arith}
 use Rattle.std.specs.Prelude.{Option}
 use Rattle.std.specs.List.{sum_by}
 use Rattle.std.proofs.lemmas.List.Sums.{sum_by-cons}
 use Rattle.racf_desk.specs.Position.{Position}
 use Rattle.command_history.specs.declared.events.Accepted.{Accepted}
 use Rattle.command_history.specs.declared.events.Event.{Event}
-use Rattle.command_history.specs.Events.{entries_of, mark_of, all_of, Extends}
+use Rattle.command_history.specs.Events.{entries_of, all_of, Extends}
 use Rattle.command_history.proofs.Extensions.{extends_trans, entries_of_all}
 use Rattle.racroute.specs.Core.{Passing}
 use Rattle.racroute.specs.Kept.{fault_count}
 use Rattle.racf_stream.specs.declared.status.Status.{Status}
-use Rattle.racf_workers.specs.Deck.{DeckState, Gives}
 use Rattle.racf_workers.proofs.DeckLaws.{stays_marked}
-use Rattle.racf_threads.specs.Outputs.{entries_by, made_in, faults_in, new_pass, state_of, DeckRan}
-use Rattle.racf_threads.specs.Together.{Worked, HasStopped, AreDecks}
+use Rattle.racf_threads.specs.Outputs.{entries_by, made_in, state_of, DeckRan}
+use Rattle.racf_threads.specs.Together.{Worked, AreDecks}
 use Rattle.racf_threads.proofs.Entries.{IsWithin, within_later, count_from, count_all, count_split}
 use Rattle.racf_threads.proofs.Turns.{KeptAt, kept_behind}
 use Rattle.racf_threads.proofs.Gave.{DeckGave, DecksGave}

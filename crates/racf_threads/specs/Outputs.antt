@@ -54,7 +54,7 @@ new_pass deck = record { deck = deck; commands = 0; faults = 0 }
 -- what stands behind the lines of a deck whose output is so
 abbrev pub state_of : {base : Position} → {before after_it : List Event} → {pass back : Passing} → {status : Status} → {source left sunk now : Option (List ℕ)}
     → Gives base before after_it pass back status source left sunk now → DeckState
-state_of {base} {before} {_} {pass} gives = after (deck_machine base before pass gives.schedule) gives.ran.worked (new_deck before pass gives.schedule)
+state_of {base} {before} {pass} gives = after (deck_machine base before pass gives.schedule) gives.ran.worked (new_deck before pass gives.schedule)
 
 -- The worker of this deck, in a run whose history is `whole`. Its output is what its commands were told, each behind some
 -- list that extends what its caller had seen then, and what the caller saw is a beginning of the whole. The deck's

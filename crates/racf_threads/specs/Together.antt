@@ -1,5 +1,5 @@
 -- A run of decks and request files: one history, of which each output tells a part.
-use Rattle.std.specs.Prelude.{◌≡◌, ◌×◌, ℕ, suc, nat_lt, Bool, false, List, [], ◌∷◌, ◌++◌, map, Option, if◌then◌else◌}
+use Rattle.std.specs.Prelude.{◌≡◌, ℕ, suc, nat_lt, Bool, false, List, [], ◌∷◌, ◌++◌, map, Option, if◌then◌else◌}
 use Rattle.std.specs.List.{sum_by}
 use Rattle.racf_desk.specs.Position.{Position}
 use Rattle.command_history.specs.declared.events.Accepted.{Accepted}

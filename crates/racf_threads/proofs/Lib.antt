@@ -2,6 +2,10 @@ mod Seats
 mod Statuses
 mod Gathers
 mod Works
+mod Runs
+mod Idle
+mod Parts
+mod Captures
 pub mod Gave
 mod Entries
 mod Turns

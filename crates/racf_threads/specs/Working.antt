@@ -1,6 +1,7 @@
 -- The workers of a run, before they work and behind it.
-use Rattle.std.specs.Prelude.{◌≡◌, ℕ, List, [], ◌∷◌, Option, Some, None}
+use Rattle.std.specs.Prelude.{◌≡◌, ◌≢◌, ℕ, true, List, [], ◌∷◌, Option, Some, None}
 use Rattle.racf_desk.specs.Position.{Position}
+use Rattle.command_history.specs.Events.{mark_of}
 use Rattle.raclist_snapshots.specs.Publishing.{Seeing}
 use Rattle.racroute.specs.Core.{Passing}
 use Rattle.racf_stream.specs.declared.status.Status.{Status}
@@ -31,12 +32,13 @@ new_workers (pass ∷ passes) (given ∷ others) = new_worker (Some pass) given 
 
 -- `left`, `reads`, `taken` and `writes` are those of sources and sinks, as for a whole run.
 module _ {I K : Type 0} (left : I → Option (List ℕ)) (reads : I → ℕ) (taken : K → Option (List ℕ)) (writes : K → ℕ) (base : Position) where
-  -- A deck has worked its source, and its pass is handed in.
+  -- A deck has worked its source, and its pass is handed in. Where a disk failed it, its caller has the final mark.
   pub record Gave (pass : Passing) (given : I × K) (old new : Working I K) : Type 0 where
     pub back : I × K
     pub counted : Passing
     pub files_are : new.files ≡ Some back
     pub end_is : new.end ≡ Some counted
+    pub failed : new.status ≡ statuses.DiskFault → mark_of new.caller.events ≡ Some true
     pub gives : Gives base old.caller.events new.caller.events pass counted new.status (left given.0) (left back.0) (taken given.1) (taken back.1)
     pub stops : StopsFor new.status (left given.0) (reads given.0) (reads back.0) (writes given.1) (writes back.1)
 
@@ -45,6 +47,7 @@ module _ {I K : Type 0} (left : I → Option (List ℕ)) (reads : I → ℕ) (ta
     pub back : I × K
     pub files_are : new.files ≡ Some back
     pub end_is : new.end ≡ old.end
+    pub failed : new.status ≢ statuses.DiskFault
     pub answers : Answers base old.caller.events new.caller.events new.status (left given.0) (left back.0) (taken given.1) (taken back.1)
     pub stops : StopsFor new.status (left given.0) (reads given.0) (reads back.0) (writes given.1) (writes back.1)
 

@@ -1,6 +1,6 @@
 //! A run over one history, from its beginning to its end.
 
-ghost use Rattle.std.specs.Prelude.{◌≡◌, ◌≤◌, ◌<◌, ◌+◌, ◌×◌, ℕ, [], true, false, take, drop, length, map, vec_len, vec_capacity, slice_index_or};
+ghost use Rattle.std.specs.Prelude.{◌≡◌, ◌≤◌, ◌<◌, ◌+◌, [], true, false, take, drop, length, vec_len, vec_capacity};
 ghost use Rattle.std.specs.List.{All, AllZip, sum_by};
 ghost use Rattle.racf_outside.specs.Causes.{Rose};
 ghost use Rattle.racf_desk.specs.Made.{number_at};
@@ -12,7 +12,7 @@ ghost use Rattle.racroute.specs.Kept.{fault_count};
 ghost use Rattle.racf_threads.specs.Together.{RunsTogether};
 ghost use Rattle.racf_threads.specs.Working.{HasWorked};
 
-use crate::room::{Left, Room, gather, room};
+use crate::room::{Left, Room, gather};
 use crate::seating::seat;
 use crate::together::Ran;
 use crate::worker::Worker;
@@ -36,8 +36,8 @@ pub(crate) fn begun<
     S: Ledger + Send,
     F: Ledger + Send,
     P: Ledger + Send,
-    I: Source + Drop + Send,
-    K: Sink + Drop + Send,
+    I: Source + Send,
+    K: Sink + Send,
     D: Disk + Send,
     G: Gate + Sync,
     R: Wait + Threads + Sync,
@@ -66,24 +66,30 @@ pub(crate) fn begun<
     ensures first { result.first ≡ number_at J.base }
     ensures disks { StandAt result.halted (D.tells result.disks.first) (D.tells result.disks.second) (reached J.base (all_of result.accepted.items result.halted)) }
     ensures rose { result.halted ≡ true → Rose J.faults (D.faults result.disks.first) }
+    ensures disk_fault { result.status ≡ Status.DiskFault → result.halted ≡ true }
     ensures no_fewer { J.faults ≤ D.faults result.disks.first }
 {
-    let count = files.len();
-    let room = match room(alloc, count) {
-        Ok(room) => room,
-        Err(_) => return unbegun(alloc, desk, files),
-    };
+    let count = files.len() as u32;
     let image = match Arc::try_clone(desk.image()) {
         Ok(image) => image,
         Err(_) => return unbegun(alloc, desk, files),
     };
-    let (publisher, callers) = match snapshots::<J, R>(rt, alloc, opened, image, count as u32) {
+    let (publisher, callers) = match snapshots::<J, R>(rt, alloc, opened, image, count) {
         Ok(made) => made,
         Err(_) => return unbegun(alloc, desk, files),
     };
+    let room = match Room::new(alloc, files.len()) {
+        Ok(room) => room,
+        Err(_) => return unbegun(alloc, desk, files),
+    };
     match Racf::<J, _, _, _, S, F, P, D>::start(alloc, publisher, blanks, desk, decks) {
-        Ok((racf, passes)) => ran(rt, alloc, racf, callers, passes, files, room, gate),
-        Err(desk) => unbegun(alloc, desk, files),
+        Ok((racf, passes)) => ran(
+            rt, alloc, racf, callers, passes, decks, files, room, gate,
+        ),
+        Err(desk) => {
+            room.give_back();
+            unbegun(alloc, desk, files)
+        }
     }
 }
 
@@ -95,7 +101,7 @@ pub(crate) fn unbegun<I, K, D: Disk>(
 ) -> Ran<I, K, D>
     requires running { desk.halted ≡ false }
     requires settled { desk.committed ≡ false }
-    ensures outs { result.outs ≡ outs }
+    ensures outs { result.outs.items ≡ outs.items }
     ensures status { result.status ≡ Status.NoMemory }
     ensures none { (result.accepted.items ≡ []) × (result.halted ≡ false) }
     ensures first { result.first ≡ number_at desk.position }
@@ -122,8 +128,8 @@ fn ran<
     S: Ledger + Send,
     F: Ledger + Send,
     P: Ledger + Send,
-    I: Source + Drop + Send,
-    K: Sink + Drop + Send,
+    I: Source + Send,
+    K: Sink + Send,
     D: Disk + Send,
     G: Gate + Sync,
     R: Wait + Threads + Sync,
@@ -133,6 +139,7 @@ fn ran<
     racf: Racf<J, T, O, Q, S, F, P, D>,
     callers: Vec<Caller<J>>,
     passes: Vec<DeckPass<S, F, P>>,
+    decks: u32,
     files: Vec<(I, K)>,
     room: Room<J, S, F, P, I, K>,
     gate: &G,
@@ -140,18 +147,19 @@ fn ran<
     requires new { All (λ caller. caller ≡ record { events = []; learned = 0 }) callers.items }
     requires callers { vec_len callers ≡ vec_len files }
     requires some { 0 < vec_len files }
-    requires few { (vec_len passes ≤ vec_len files) × (vec_len files ≤ 20) }
-    requires passes { passes.items ≡ new_passes (vec_len passes) }
-    requires parts { S.parts ≡ vec_len passes + 1 }
+    requires few { (decks ≤ vec_len files) × (vec_len files ≤ 20) }
+    requires passes { passes.items ≡ new_passes decks }
+    requires parts { S.parts ≡ decks + 1 }
     requires workers { (room.workers.items ≡ []) × (vec_len files ≤ vec_capacity room.workers) }
     requires left { (room.left.callers.items ≡ []) × (vec_len files ≤ vec_capacity room.left.callers) }
     requires ends { (room.left.ends.items ≡ []) × (vec_len files ≤ vec_capacity room.left.ends) }
     requires outs { (room.left.outs.items ≡ []) × (vec_len files ≤ vec_capacity room.left.outs) }
-    ensures together { RunsTogether I.left I.faults K.taken K.faults J.base result.accepted.items result.halted result.status (take (vec_len passes) files.items) (drop (vec_len passes) files.items) result.outs.items }
+    ensures together { RunsTogether I.left I.faults K.taken K.faults J.base result.accepted.items result.halted result.status (take decks files.items) (drop decks files.items) result.outs.items }
     ensures legal { AreLegal J.base result.accepted.items }
     ensures first { result.first ≡ number_at J.base }
     ensures disks { StandAt result.halted (D.tells result.disks.first) (D.tells result.disks.second) (reached J.base (all_of result.accepted.items result.halted)) }
     ensures rose { result.halted ≡ true → Rose J.faults (D.faults result.disks.first) }
+    ensures disk_fault { result.status ≡ Status.DiskFault → result.halted ≡ true }
     ensures no_fewer { J.faults ≤ D.faults result.disks.first }
 {
     let Room { workers, left } = room;
@@ -188,8 +196,8 @@ fn side_by_side<
     S: Ledger + Send,
     F: Ledger + Send,
     P: Ledger + Send,
-    I: Source + Drop + Send,
-    K: Sink + Drop + Send,
+    I: Source + Send,
+    K: Sink + Send,
     D: Disk + Send,
     G: Gate + Sync,
     R: Wait + Threads + Sync,

@@ -8,13 +8,16 @@ ghost use Rattle.command_history.specs.Reached.{reached, AreLegal};
 ghost use Rattle.racroute.specs.Disks.{StandAt};
 ghost use Rattle.racf_threads.specs.Together.{RunsTogether, HasNoRoom};
 
-use command_history::Accepted;
+use crate::begin::{begun, unbegun};
+use command_history::{Accepted, Opened};
 use racf_desk::Desk;
 use racf_outside::{Disk, Sink, Source, Two};
 use racf_stream::Status;
 use racf_workers::Gate;
 use std::alloc::Global;
+use std::marker::Brand;
 use std::sync::Wait;
+use std::sync::ledger::Blank;
 use std::thread::Threads;
 
 /// What is left of a run.
@@ -69,17 +72,12 @@ pub fn run<
     ensures disk_fault { result.status ≡ Status.DiskFault → result.halted ≡ true }
     ensures no_fewer { D.faults desk.store.journal.disk ≤ D.faults result.disks.first }
 {
-    // NOTE FROM THE LEAD (14:45): `run_files` below is public too, since the call over a shelf uses it: it never loses a
-    // source or a sink, so it needs no `Drop`. `run` puts both lists into one (want of memory there: `HasNoRoom`) and
-    // calls it. Both have the clause `disk_fault`. Take this note out.
-    let _ = (rt, gate, requests);
-    Ran {
-        status: Status::NoMemory,
-        outs: decks,
-        first: desk.number(),
-        disks: desk.into_disks(),
-        accepted: Vec::new(alloc),
-        halted: false,
+    let count = decks.len() as u32;
+    let mut files = decks;
+    let mut requests = requests;
+    match files.append(&mut requests) {
+        Ok(()) => run_files(rt, alloc, desk, files, count, gate),
+        Err(_) => unbegun(alloc, desk, Vec::new(alloc)),
     }
 }
 
@@ -117,13 +115,16 @@ pub fn run_files<
     ensures disk_fault { result.status ≡ Status.DiskFault → result.halted ≡ true }
     ensures no_fewer { D.faults desk.store.journal.disk ≤ D.faults result.disks.first }
 {
-    let _ = (rt, gate, decks);
-    Ran {
-        status: Status::NoMemory,
-        outs: files,
-        first: desk.number(),
-        disks: desk.into_disks(),
-        accepted: Vec::new(alloc),
-        halted: false,
-    }
+    let parts = u64::from(decks) + 1;
+    let blanks = (Blank::new(parts), Blank::new(parts), Blank::new(parts));
+    begun::<Brand, Brand, Brand, Brand, I, K, D, G, R>(
+        rt,
+        alloc,
+        Opened::new(),
+        blanks,
+        desk,
+        decks,
+        files,
+        gate,
+    )
 }

@@ -1,6 +1,7 @@
 //! What one thread of a run has, and does.
 
-ghost use Rattle.std.specs.Prelude.{◌≡◌};
+ghost use Rattle.std.specs.Prelude.{◌≡◌, true, Some};
+ghost use Rattle.command_history.specs.Events.{mark_of};
 ghost use Rattle.racf_workers.specs.Deck.{Gives};
 ghost use Rattle.racf_threads.specs.Outputs.{StopsFor};
 
@@ -112,6 +113,7 @@ fn give<
     number: u32,
 ) -> (Status, I, DeckEnd<S, F>)
     ensures gives { Gives J.base caller.old.events caller.new.events pass result.2 result.0 (I.left source) (I.left result.1) (K.taken sink.old) (K.taken sink.new) }
+    ensures failed { result.0 ≡ Status.DiskFault → mark_of caller.new.events ≡ Some true }
     ensures stops { StopsFor result.0 (I.left source) (I.faults source) (I.faults result.1) (K.faults sink.old) (K.faults sink.new) }
 {
     let mut pass = pass;

@@ -17,7 +17,7 @@ returns-in-Some-take g c =
     c.self.inside.caller.events c.give-status.new.caller c.give-status.result.0
     (sym (ap (λ (w : Working g.row.I.Denot g.row.K.Denot). w.pass) is) ∙ (sym c.take-2.ensures.value ∙ c.in-Some-take.is))
     (sym (ap (λ (w : Working g.row.I.Denot g.row.K.Denot). w.files) is) ∙ (sym c.take.ensures.value ∙ c.in-Some.is))
-    (sym (ap (λ (w : Working g.row.I.Denot g.row.K.Denot). w.caller.events) is)) c.leave.ensures c.give-status.ensures.gives c.give-status.ensures.stops
+    (sym (ap (λ (w : Working g.row.I.Denot g.row.K.Denot). w.caller.events) is)) c.leave.ensures c.give-status.ensures.gives c.give-status.ensures.failed c.give-status.ensures.stops
 
 -- a request file
 pub returns-in-None : goal.returns-in-None
@@ -27,4 +27,14 @@ returns-in-None g c =
     c.self.inside.caller.events c.answer_requests-status.new.caller c.answer_requests-status.result.0
     (sym (ap (λ (w : Working g.row.I.Denot g.row.K.Denot). w.pass) is) ∙ (sym c.take-2.ensures.value ∙ c.in-None.is))
     (sym (ap (λ (w : Working g.row.I.Denot g.row.K.Denot). w.files) is) ∙ (sym c.take.ensures.value ∙ c.in-Some.is))
-    (sym (ap (λ (w : Working g.row.I.Denot g.row.K.Denot). w.caller.events) is)) (sym (ap (λ (w : Working g.row.I.Denot g.row.K.Denot). w.end) is)) c.leave-in-None.ensures c.answer_requests-status.ensures.answers ?
+    (sym (ap (λ (w : Working g.row.I.Denot g.row.K.Denot). w.caller.events) is)) (sym (ap (λ (w : Working g.row.I.Denot g.row.K.Denot). w.end) is)) c.leave-in-None.ensures c.answer_requests-status.ensures.answers c.answer_requests-status.ensures.no_other.2
+    (record {
+      usage = c.answer_requests-status.ensures.no_other.0;
+      formatted = c.answer_requests-status.ensures.no_other.1;
+      undamaged = c.answer_requests-status.ensures.undamaged;
+      read_fault = c.answer_requests-status.ensures.read_fault;
+      write_fault = c.answer_requests-status.ensures.write_fault;
+      too_long = c.answer_requests-status.ensures.too_long;
+      no_fewer_reads = c.answer_requests-status.ensures.source_faults;
+      no_fewer_writes = c.answer_requests-status.ensures.sink_faults;
+    })

@@ -1,0 +1,18 @@
+-- Workers side by side, as a call of `for_each_mut` leaves them.
+use Rattle.std.proofs.Common.{◌≡◌, ℕ, suc, ◌<◌, List, [], ◌∷◌, length, slice_index_or, subst, arith}
+use Rattle.std.specs.List.{AllZip}
+
+-- what a closure captures, four by four, as a lemma for `search`
+pub each_of_four : {A B C D : Type 0} → A → B → C → D → A × (B × (C × (D × Unit {0})))
+each_of_four a b c d = (a, (b, (c, (d, tt))))
+
+module _ {X : Type 0} (R : X → X → Type 0) where
+  -- the same at each place, as of the whole lists
+  pub at_each : (xs ys : List X) → length ys ≡ length xs → ((i : ℕ) (d : X) → i < length xs → R (slice_index_or xs i d) (slice_index_or ys i d)) → AllZip R xs ys
+  at_each [] [] same at = tt
+  at_each [] (y ∷ ys) same at = absurd (omega arith)
+  at_each (x ∷ xs) [] same at = absurd (omega arith)
+  at_each (x ∷ xs) (y ∷ ys) same at = (at 0 x (omega arith), at_each xs ys (omega arith) (λ i d h. at (suc i) d (omega arith)))
+
+  pub carried : (a b x y : X) → a ≡ x → b ≡ y → R a b → R x y
+  carried a b x y first second did = subst (λ z. R x z) second (subst (λ z. R z b) first did)

@@ -1,0 +1,13 @@
+mod Seats
+mod Statuses
+mod Gathers
+mod Works
+mod Runs
+mod Idle
+mod Parts
+mod Captures
+pub mod Gave
+mod Entries
+mod Turns
+pub mod Own
+mod WorkedRows

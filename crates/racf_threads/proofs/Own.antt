@@ -1,0 +1,112 @@
+-- In a run in which as many commands were accepted as there are entries, the entries of each deck are exactly those of its
+-- accepted commands.
+use Rattle.std.proofs.Common.{◌≡◌, ℕ, suc, ◌≤◌, Bool, List, [], ◌∷◌, length, refl, sym, ◌∙◌, ap, subst, arith}
+use Rattle.std.specs.Prelude.{Option}
+use Rattle.std.specs.List.{sum_by}
+use Rattle.std.proofs.lemmas.List.Sums.{sum_by-cons}
+use Rattle.racf_desk.specs.Position.{Position}
+use Rattle.command_history.specs.declared.events.Accepted.{Accepted}
+use Rattle.command_history.specs.declared.events.Event.{Event}
+use Rattle.command_history.specs.Events.{entries_of, all_of, Extends}
+use Rattle.command_history.proofs.Extensions.{extends_trans, entries_of_all}
+use Rattle.racroute.specs.Core.{Passing}
+use Rattle.racroute.specs.Kept.{fault_count}
+use Rattle.racf_stream.specs.declared.status.Status.{Status}
+use Rattle.racf_workers.proofs.DeckLaws.{stays_marked}
+use Rattle.racf_threads.specs.Outputs.{entries_by, made_in, state_of, DeckRan}
+use Rattle.racf_threads.specs.Together.{Worked, AreDecks}
+use Rattle.racf_threads.proofs.Entries.{IsWithin, within_later, count_from, count_all, count_split}
+use Rattle.racf_threads.proofs.Turns.{KeptAt, kept_behind}
+use Rattle.racf_threads.proofs.Gave.{DeckGave, DecksGave}
+
+-- ---- one deck
+
+module _ (base : Position) (whole : List Event) (deck : ℕ) (back : Passing) (status : Status) (source left sunk now : Option (List ℕ)) (gave : DeckGave base whole deck back status source left sunk now) where
+  at_end : KeptAt deck (state_of gave.gives)
+  at_end = kept_behind base deck gave.gives.schedule gave.gives.ran.worked gave.gives.ran.stands.course
+
+  -- what was seen behind the last command is a beginning of the whole
+  seen_before : Extends (state_of gave.gives).seen whole
+  seen_before = extends_trans (state_of gave.gives).seen gave.seen whole gave.gives.ran.stands.later gave.later
+
+  within_whole : IsWithin (made_in (state_of gave.gives).turns) (entries_by deck (entries_of whole))
+  within_whole =
+      within_later deck (made_in (state_of gave.gives).turns) (state_of gave.gives).seen whole at_end.within seen_before
+
+  commands_are : back.commands ≡ length (made_in (state_of gave.gives).turns)
+  commands_are = ap (λ (p : Passing). p.commands) (sym gave.gives.ran.stands.counts) ∙ at_end.commands
+
+  -- A deck was accepted no more commands than it has entries.
+  fits : back.commands ≤ length (entries_by deck (entries_of whole))
+  fits = subst (λ (n : ℕ). n ≤ length (entries_by deck (entries_of whole))) (sym commands_are) within_whole.fits
+
+  -- Where it has no more, they are those of its commands.
+  deck_ran : (faults : ℕ) → faults ≡ back.faults → length (entries_by deck (entries_of whole)) ≤ back.commands → DeckRan base whole deck faults status source left sunk now
+  deck_ran faults faults_are le =
+      record {
+        seen = gave.seen;
+        back = back;
+        gives = gave.gives;
+        later = gave.later;
+        own = within_whole.whole (subst (λ (n : ℕ). length (entries_by deck (entries_of whole)) ≤ n) commands_are le);
+        counted = sym at_end.failed ∙ (ap (λ (p : Passing). p.faults) gave.gives.ran.stands.counts ∙ sym faults_are);
+        failed = λ h. stays_marked (state_of gave.gives).seen whole seen_before (gave.gives.ran.stands.failed h);
+      }
+
+-- ---- all decks
+
+module _ {I K : Type 0} (left : I → Option (List ℕ)) (reads : I → ℕ) (taken : K → Option (List ℕ)) (writes : K → ℕ) (base : Position) where
+  module _ (whole : List Event) where
+    -- they were accepted no more commands than there are entries of these decks
+    all_fit : (deck : ℕ) (workers : List (Worked I K)) (backs : List Passing) → DecksGave left reads taken writes base whole deck workers backs
+        → sum_by (λ (b : Passing). b.commands) backs ≤ count_from deck (entries_of whole)
+    all_fit deck [] [] gave = omega arith
+    all_fit deck [] (back ∷ backs) gave = absurd gave
+    all_fit deck (w ∷ workers) [] gave = absurd gave
+    all_fit deck (w ∷ workers) (back ∷ backs) gave =
+        let first = fits base whole deck back w.status (left w.given.0) (left w.back.0) (taken w.given.1) (taken w.back.1) gave.0 in
+        let rest = all_fit (suc deck) workers backs gave.3 in
+        let split = count_split deck (entries_of whole) in
+        let sum = sum_by-cons (λ (b : Passing). b.commands) back backs in
+        omega arith
+
+    ran_from : (deck : ℕ) (workers : List (Worked I K)) (backs : List Passing) → DecksGave left reads taken writes base whole deck workers backs
+        → count_from deck (entries_of whole) ≤ sum_by (λ (b : Passing). b.commands) backs → AreDecks left reads taken writes base whole deck workers
+    ran_from deck [] [] gave le = tt
+    ran_from deck [] (back ∷ backs) gave le = absurd gave
+    ran_from deck (w ∷ workers) [] gave le = absurd gave
+    ran_from deck (w ∷ workers) (back ∷ backs) gave le =
+        let first = fits base whole deck back w.status (left w.given.0) (left w.back.0) (taken w.given.1) (taken w.back.1) gave.0 in
+        let rest = all_fit (suc deck) workers backs gave.3 in
+        let split = count_split deck (entries_of whole) in
+        let sum = sum_by-cons (λ (b : Passing). b.commands) back backs in
+        let own : length (entries_by deck (entries_of whole)) ≤ back.commands = omega arith in
+        let others : count_from (suc deck) (entries_of whole) ≤ sum_by (λ (b : Passing). b.commands) backs = omega arith in (
+          (deck_ran base whole deck back w.status (left w.given.0) (left w.back.0) (taken w.given.1) (taken w.back.1) gave.0 w.faults gave.2 own, gave.1),
+          ran_from (suc deck) workers backs gave.3 others,
+        )
+
+    faults_from : (deck : ℕ) (workers : List (Worked I K)) (backs : List Passing) → DecksGave left reads taken writes base whole deck workers backs
+        → sum_by (λ (w : Worked I K). w.faults) workers ≡ sum_by (λ (b : Passing). b.faults) backs
+    faults_from deck [] [] gave = refl
+    faults_from deck [] (back ∷ backs) gave = absurd gave
+    faults_from deck (w ∷ workers) [] gave = absurd gave
+    faults_from deck (w ∷ workers) (back ∷ backs) gave =
+        let rest = faults_from (suc deck) workers backs gave.3 in
+        let one = gave.2 in
+        let sum = sum_by-cons (λ (b : Passing). b.faults) back backs in
+        let sum_now = sum_by-cons (λ (v : Worked I K). v.faults) w workers in
+        omega arith
+
+  -- The decks of a run whose passes have counted as many accepted commands as there are entries.
+  pub decks_ran : (entries : List Accepted) (halted : Bool) (workers : List (Worked I K)) (backs : List Passing) → DecksGave left reads taken writes base (all_of entries halted) 0 workers backs
+      → sum_by (λ (b : Passing). b.commands) backs ≡ length entries → AreDecks left reads taken writes base (all_of entries halted) 0 workers
+  decks_ran entries halted workers backs gave counts =
+      let all = ap (count_from 0) (entries_of_all entries halted) ∙ count_all entries in
+      ran_from (all_of entries halted) 0 workers backs gave (omega arith)
+
+  -- As many of their commands were failed by a disk as their passes have counted.
+  pub faults_ran : (entries : List Accepted) (halted : Bool) (workers : List (Worked I K)) (backs : List Passing) → DecksGave left reads taken writes base (all_of entries halted) 0 workers backs
+      → sum_by (λ (b : Passing). b.faults) backs ≡ fault_count halted → sum_by (λ (w : Worked I K). w.faults) workers ≡ fault_count halted
+  faults_ran entries halted workers backs gave counts =
+      faults_from (all_of entries halted) 0 workers backs gave ∙ counts

@@ -1,0 +1,254 @@
+//! A run over one history, from its beginning to its end.
+
+ghost use Rattle.std.specs.Prelude.{◌≡◌, ◌≤◌, ◌<◌, ◌+◌, [], true, false, take, drop, length, vec_len, vec_capacity};
+ghost use Rattle.std.specs.List.{All, AllZip, sum_by};
+ghost use Rattle.racf_outside.specs.Causes.{Rose};
+ghost use Rattle.racf_desk.specs.Made.{number_at};
+ghost use Rattle.command_history.specs.Events.{all_of, Extends};
+ghost use Rattle.command_history.specs.Reached.{reached, AreLegal};
+ghost use Rattle.racroute.specs.Core.{new_passes};
+ghost use Rattle.racroute.specs.Disks.{StandAt};
+ghost use Rattle.racroute.specs.Kept.{fault_count};
+ghost use Rattle.racf_threads.specs.Together.{RunsTogether};
+ghost use Rattle.racf_threads.specs.Working.{HasWorked};
+
+use crate::room::{Left, Room, gather};
+use crate::seating::seat;
+use crate::together::Ran;
+use crate::worker::Worker;
+use command_history::{Naming, Opened};
+use left_right::Absorb;
+use racf_desk::Desk;
+use racf_outside::{Disk, Sink, Source};
+use racf_stream::Status;
+use racf_workers::Gate;
+use raclist_snapshots::{Caller, Note, Opens, snapshots};
+use racroute::{Closed, DeckEnd, DeckPass, Racf};
+use std::alloc::Global;
+use std::sync::ledger::{Blank, Ledger};
+use std::sync::{Arc, Wait};
+use std::thread::{Threads, for_each_mut};
+
+/// Works decks and request files over one history and its ledgers: the first of the files are decks, so many. All memory
+/// is taken before a line is read; where it is wanting, all is given back as it was.
+pub(crate) fn begun<
+    J: Naming + Send + Sync,
+    S: Ledger + Send,
+    F: Ledger + Send,
+    P: Ledger + Send,
+    I: Source + Send,
+    K: Sink + Send,
+    D: Disk + Send,
+    G: Gate + Sync,
+    R: Wait + Threads + Sync,
+>(
+    rt: &R,
+    alloc: Global,
+    opened: Opened,
+    blanks: (Blank, Blank, Blank),
+    desk: Desk<D>,
+    decks: u32,
+    files: Vec<(I, K)>,
+    gate: &G,
+) -> Ran<I, K, D>
+    requires book { opened ≡ J.book }
+    requires base { desk.position ≡ J.base }
+    requires faults { J.faults ≡ D.faults desk.store.journal.disk }
+    requires running { desk.halted ≡ false }
+    requires settled { desk.committed ≡ false }
+    requires some { 0 < vec_len files }
+    requires few { (decks ≤ vec_len files) × (vec_len files ≤ 20) }
+    requires commands { (blanks.0.name ≡ S.name) × (blanks.0.parts ≡ S.parts) × (S.parts ≡ decks + 1) }
+    requires failed { (blanks.1.name ≡ F.name) × (blanks.1.parts ≡ F.parts) × (F.parts ≡ decks + 1) }
+    requires out { (blanks.2.name ≡ P.name) × (blanks.2.parts ≡ P.parts) × (P.parts ≡ decks + 1) }
+    ensures together { RunsTogether I.left I.faults K.taken K.faults J.base result.accepted.items result.halted result.status (take decks files.items) (drop decks files.items) result.outs.items }
+    ensures legal { AreLegal J.base result.accepted.items }
+    ensures first { result.first ≡ number_at J.base }
+    ensures disks { StandAt result.halted (D.tells result.disks.first) (D.tells result.disks.second) (reached J.base (all_of result.accepted.items result.halted)) }
+    ensures rose { result.halted ≡ true → Rose J.faults (D.faults result.disks.first) }
+    ensures disk_fault { result.status ≡ Status.DiskFault → result.halted ≡ true }
+    ensures no_fewer { J.faults ≤ D.faults result.disks.first }
+{
+    let count = files.len() as u32;
+    let image = match Arc::try_clone(desk.image()) {
+        Ok(image) => image,
+        Err(_) => return unbegun(alloc, desk, files),
+    };
+    let (publisher, callers) = match snapshots::<J, R>(rt, alloc, opened, image, count) {
+        Ok(made) => made,
+        Err(_) => return unbegun(alloc, desk, files),
+    };
+    let room = match Room::new(alloc, files.len()) {
+        Ok(room) => room,
+        Err(_) => return unbegun(alloc, desk, files),
+    };
+    match Racf::<J, _, _, _, S, F, P, D>::start(alloc, publisher, blanks, desk, decks) {
+        Ok((racf, passes)) => ran(
+            rt, alloc, racf, callers, passes, decks, files, room, gate,
+        ),
+        Err(desk) => {
+            room.give_back();
+            unbegun(alloc, desk, files)
+        }
+    }
+}
+
+/// What is left of a run for which there was no memory: nothing was read, written or accepted.
+pub(crate) fn unbegun<I, K, D: Disk>(
+    alloc: Global,
+    desk: Desk<D>,
+    outs: Vec<(I, K)>,
+) -> Ran<I, K, D>
+    requires running { desk.halted ≡ false }
+    requires settled { desk.committed ≡ false }
+    ensures outs { result.outs.items ≡ outs.items }
+    ensures status { result.status ≡ Status.NoMemory }
+    ensures none { (result.accepted.items ≡ []) × (result.halted ≡ false) }
+    ensures first { result.first ≡ number_at desk.position }
+    ensures disks { StandAt false (D.tells result.disks.first) (D.tells result.disks.second) (reached desk.position (all_of [] false)) }
+    ensures faults { D.faults result.disks.first ≡ D.faults desk.store.journal.disk }
+{
+    desk.is_at_rest();
+    Ran {
+        status: Status::NoMemory,
+        outs,
+        first: desk.number(),
+        disks: desk.into_disks(),
+        accepted: Vec::new(alloc),
+        halted: false,
+    }
+}
+
+/// Works all to their ends, and closes.
+fn ran<
+    J: Naming + Send + Sync,
+    T: Absorb<O> + Drop + Send + Sync,
+    O: Opens<Note<J>> + Send,
+    Q: Wait + Drop + Send,
+    S: Ledger + Send,
+    F: Ledger + Send,
+    P: Ledger + Send,
+    I: Source + Send,
+    K: Sink + Send,
+    D: Disk + Send,
+    G: Gate + Sync,
+    R: Wait + Threads + Sync,
+>(
+    rt: &R,
+    alloc: Global,
+    racf: Racf<J, T, O, Q, S, F, P, D>,
+    callers: Vec<Caller<J>>,
+    passes: Vec<DeckPass<S, F, P>>,
+    decks: u32,
+    files: Vec<(I, K)>,
+    room: Room<J, S, F, P, I, K>,
+    gate: &G,
+) -> Ran<I, K, D>
+    requires new { All (λ caller. caller ≡ record { events = []; learned = 0 }) callers.items }
+    requires callers { vec_len callers ≡ vec_len files }
+    requires some { 0 < vec_len files }
+    requires few { (decks ≤ vec_len files) × (vec_len files ≤ 20) }
+    requires passes { passes.items ≡ new_passes decks }
+    requires parts { S.parts ≡ decks + 1 }
+    requires workers { (room.workers.items ≡ []) × (vec_len files ≤ vec_capacity room.workers) }
+    requires left { (room.left.callers.items ≡ []) × (vec_len files ≤ vec_capacity room.left.callers) }
+    requires ends { (room.left.ends.items ≡ []) × (vec_len files ≤ vec_capacity room.left.ends) }
+    requires outs { (room.left.outs.items ≡ []) × (vec_len files ≤ vec_capacity room.left.outs) }
+    ensures together { RunsTogether I.left I.faults K.taken K.faults J.base result.accepted.items result.halted result.status (take decks files.items) (drop decks files.items) result.outs.items }
+    ensures legal { AreLegal J.base result.accepted.items }
+    ensures first { result.first ≡ number_at J.base }
+    ensures disks { StandAt result.halted (D.tells result.disks.first) (D.tells result.disks.second) (reached J.base (all_of result.accepted.items result.halted)) }
+    ensures rose { result.halted ≡ true → Rose J.faults (D.faults result.disks.first) }
+    ensures disk_fault { result.status ≡ Status.DiskFault → result.halted ≡ true }
+    ensures no_fewer { J.faults ≤ D.faults result.disks.first }
+{
+    let Room { workers, left } = room;
+    let mut workers = seat(callers, passes, files, workers);
+    side_by_side(rt, alloc, &racf, workers.as_mut_slice(), gate);
+    let (left, status) = gather(workers, left);
+    let Left {
+        callers,
+        ends,
+        outs,
+    } = left;
+    let Closed {
+        disks,
+        first,
+        accepted,
+        halted,
+    } = closed(racf, callers, ends);
+    Ran {
+        status,
+        outs,
+        disks,
+        first,
+        accepted,
+        halted,
+    }
+}
+
+/// Each worker works in a thread of its own where one can be made; else one after another, decks first.
+fn side_by_side<
+    J: Naming + Send + Sync,
+    T: Absorb<O> + Drop + Send + Sync,
+    O: Opens<Note<J>> + Send,
+    Q: Wait + Drop + Send,
+    S: Ledger + Send,
+    F: Ledger + Send,
+    P: Ledger + Send,
+    I: Source + Send,
+    K: Sink + Send,
+    D: Disk + Send,
+    G: Gate + Sync,
+    R: Wait + Threads + Sync,
+>(
+    rt: &R,
+    alloc: Global,
+    racf: &Racf<J, T, O, Q, S, F, P, D>,
+    workers: &mut [Worker<J, S, F, P, I, K>],
+    gate: &G,
+)
+    requires { 0 < length workers.old }
+    ensures { AllZip (HasWorked I.left I.faults K.taken K.faults J.base) workers.old workers.new }
+{
+    let threads = workers.len();
+    for_each_mut(
+        rt,
+        workers,
+        threads,
+        &|_, worker: &mut Worker<J, S, F, P, I, K>|
+            ensures { HasWorked I.left I.faults K.taken K.faults J.base worker.entry.now worker.exit.now }
+        { worker.work(rt, alloc, racf, gate) },
+    );
+}
+
+/// Closes the office, when each deck's end is there.
+fn closed<
+    J: Naming,
+    T: Absorb<O> + Drop,
+    O: Opens<Note<J>>,
+    Q: Wait + Drop,
+    S: Ledger,
+    F: Ledger,
+    P: Ledger,
+    D: Disk,
+>(
+    racf: Racf<J, T, O, Q, S, F, P, D>,
+    callers: Vec<Caller<J>>,
+    ends: Vec<DeckEnd<S, F>>,
+) -> Closed<D>
+    requires { vec_len ends + 1 ≡ S.parts }
+    ensures callers { All (λ caller. Extends caller.events (all_of result.accepted.items result.halted)) callers.items }
+    ensures legal { AreLegal J.base result.accepted.items }
+    ensures commands { sum_by (λ e. e.commands) ends.items ≡ length result.accepted.items }
+    ensures faults { sum_by (λ e. e.faults) ends.items ≡ fault_count result.halted }
+    ensures first { result.first ≡ number_at J.base }
+    ensures disks { StandAt result.halted (D.tells result.disks.first) (D.tells result.disks.second) (reached J.base (all_of result.accepted.items result.halted)) }
+    ensures no_fewer { J.faults ≤ D.faults result.disks.first }
+    ensures rose { result.halted ≡ true → Rose J.faults (D.faults result.disks.first) }
+{
+    match racf.close(callers, ends) {
+        Ok(closed) => closed,
+        Err(_back) => unreachable!(),
+    }
+}

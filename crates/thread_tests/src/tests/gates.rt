@@ -7,15 +7,31 @@ use std::sync::{Condvar, Mutex, Wait};
 #[derive(Clone, Copy)]
 pub(super) struct Hold {
     /// Who is held.
-    pub(super) worker: u32,
+    worker: u32,
     /// Before which line.
-    pub(super) line: u64,
-    /// The other worker, and his line.
-    pub(super) until: (u32, u64),
+    line: u64,
+    /// The other worker.
+    other: u32,
+    /// His line.
+    awaited: u64,
+}
+
+impl Hold {
+    /// Holds a worker before a line, until another has answered a line of his.
+    pub(super) fn new(worker: u32, line: u64, other: u32, awaited: u64) -> Hold {
+        Hold {
+            worker,
+            line,
+            other,
+            awaited,
+        }
+    }
 }
 
 /// The numbers of the lines that each of four workers answered last.
+#[derive(Drop)]
 struct Answered {
+    /// By the workers' numbers.
     lines: [u64; 4],
 }
 
@@ -30,6 +46,7 @@ impl Answered {
 }
 
 /// The gate.
+#[derive(Drop)]
 pub(super) struct Holding<'a, R: Wait> {
     /// By what it waits.
     rt: &'a R,
@@ -62,7 +79,7 @@ impl<R: Wait> Gate for Holding<'_, R> {
         let Some(hold) = found else {
             return;
         };
-        let (other, awaited) = hold.until;
+        let (other, awaited) = (hold.other, hold.awaited);
         let answered = self.answered.lock(self.rt);
         let _answered = self
             .moved

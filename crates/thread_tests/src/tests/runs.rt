@@ -30,6 +30,19 @@ pub(super) struct Told {
     pub(super) outputs: Vec<Vec<u8>>,
 }
 
+impl Told {
+    /// Whether it ended so, with these outputs.
+    pub(super) fn is(&self, status: Status, outputs: &[&[u8]]) -> bool {
+        self.status == status
+            && self.outputs.len() == outputs.len()
+            && self
+                .outputs
+                .iter()
+                .zip(outputs)
+                .all(|(output, wanted)| output.as_slice() == *wanted)
+    }
+}
+
 /// A run over disks that keep nothing.
 pub(super) fn ran<G: Gate + Sync, R: Wait + Threads + Sync>(
     rt: &R,
@@ -88,7 +101,14 @@ fn over<G: Gate + Sync, D: Disk + Drop + Send, R: Wait + Threads + Sync>(
         let _ = desk.into_disks();
         return Err("memory".into());
     };
-    let Ran { status, outs, .. } = run(rt, alloc, desk, decks, requests, gate);
+    let Ran {
+        status,
+        outs,
+        disks: _,
+        first: _,
+        accepted: _,
+        halted: _,
+    } = run(rt, alloc, desk, decks, requests, gate);
     Ok(Told {
         status,
         outputs: outputs(alloc, outs)?,

@@ -18,3 +18,4 @@ mod StoredGroups
 mod StoredUsers
 mod StoredClasses
 mod Stored
+mod Judged

@@ -203,3 +203,44 @@ judged-done {A = A} x = record { wide = λ y h. refl; again = λ y h rest. ap (�
 
 abbrev pub done_ : {A : Type 0} → A → Judged A
 done_ x = record { form = done x; width = λ y. 0; Kept = λ y. y ≡ x; marks = λ begin y. []; is = judged-done x; decided = decided-done x }
+
+-- ---- lists
+module _ {A : Type 0} (item : List A → Form A) (width : A → ℕ) (Kept : A → Type 0) (marks : ℕ → A → List Fact) (steady : IsSteady item) (items_judged : (before : List A) → IsJudged (item before) width Kept marks) where
+  wide-items : (items : List A) → AllByRecursion Kept items → sum_by width items ≡ length (flat_map (item []).bytes items)
+  wide-items [] k = refl
+  wide-items (x ∷ items) k =
+      omega (arith, (items_judged []).wide x k.0, wide-items items k.1, length-append ((item []).bytes x) (flat_map (item []).bytes items), sum_by-cons width x items)
+
+  judged-items : (before items : List A) → AllByRecursion Kept items → (begin : ℕ)
+      → Judgement (ItemsFit item before items) (ItemsFaultAt item before items) (flat_map (item []).bytes items) (λ t. items_from item (length items) before t) begin (first_broken (told_of_each width marks begin items))
+  judged-items before [] k begin = inl tt
+  judged-items before (x ∷ items) k begin =
+      let here : List Fact = marks begin x in
+      let there : List Fact = told_of_each width marks (begin + width x) items in
+      let is = items_judged before in
+      let P : List ℕ → Option ℕ → Type 0 = λ bytes o. Judgement (ItemsFit item before (x ∷ items)) (ItemsFaultAt item before (x ∷ items)) bytes (λ t. items_from item (suc (length items)) before t) begin o in
+      let made : P ((item before).bytes x ++ flat_map (item []).bytes items) (option_or (first_broken here) (first_broken there)) =
+      both ((item before).Fits x) (ItemsFit item (before ++ x ∷ []) items) ((item before).FaultAt x) (ItemsFaultAt item (before ++ x ∷ []) items) ((item before).bytes x) (flat_map (item []).bytes items) (item before).reading x
+      (λ y. items_from item (length items) (before ++ y.0 ∷ []) y.1) (length ((item before).bytes x)) refl (is.again x) begin (begin + width x) (first_broken here) (first_broken there) (ap (λ n. begin + n) (is.wide x k.0)) (is.judged x k.0 begin)
+      (judged-items (before ++ x ∷ []) items k.1 (begin + width x)) in
+      let steady_made : P ((item []).bytes x ++ flat_map (item []).bytes items) (option_or (first_broken here) (first_broken there)) =
+      subst (λ (t : List ℕ). P (t ++ flat_map (item []).bytes items) (option_or (first_broken here) (first_broken there))) (steady before x) made in
+      subst (P (flat_map (item []).bytes (x ∷ items))) (sym (first-append here there)) steady_made
+
+  pub judged-listed : (bytes : ℕ) (is_lawful : ℕ → Bool) → IsUnique (number_spelling bytes) → ((before : List A) → IsExact (item before)) → IsJudged (number bytes is_lawful) (λ n. bytes) (λ n. Unit {0}) (λ begin n. told begin (has_room bytes n) ∷ [])
+      → IsJudged (listed bytes is_lawful item) (λ items. bytes + sum_by width items) (λ items. AllByRecursion Kept items) (λ begin items. told begin (has_room bytes (length items)) ∷ told_of_each width marks (begin + bytes) items)
+  judged-listed bytes is_lawful unique exact counts = record {
+    wide = λ items k. omega (arith, wide-items items k, length-append (big_bytes bytes (length items)) (flat_map (item []).bytes items), length-bytes_high_first bytes (length items));
+    again = λ items h rest. (exact-listed bytes is_lawful item (exact-field (number_spelling bytes) is_lawful unique) exact steady).again items rest h;
+    judged = λ items k begin.
+        let here : List Fact = told begin (has_room bytes (length items)) ∷ [] in
+        let there : List Fact = told_of_each width marks (begin + bytes) items in
+        subst (Judgement ((listed bytes is_lawful item).Fits items) ((listed bytes is_lawful item).FaultAt items) ((listed bytes is_lawful item).bytes items) (listed bytes is_lawful item).reading begin) (sym (first-append here there))
+        (both ((number bytes is_lawful).Fits (length items)) (ItemsFit item [] items) ((number bytes is_lawful).FaultAt (length items)) (ItemsFaultAt item [] items) (big_bytes bytes (length items)) (flat_map (item []).bytes items)
+        (number bytes is_lawful).reading (length items) (λ count. items_from item count.0 [] count.1) bytes (sym (length-bytes_high_first bytes (length items))) (counts.again (length items)) begin (begin + bytes)
+        (first_broken here) (first_broken there) refl (counts.judged (length items) tt begin) (judged-items [] items k (begin + bytes)));
+  }
+
+pub no-marks : {A : Type 0} (width : A → ℕ) (begin : ℕ) (items : List A) → told_of_each width (λ place x. []) begin items ≡ []
+no-marks width begin [] = refl
+no-marks width begin (x ∷ items) = no-marks width (begin + width x) items

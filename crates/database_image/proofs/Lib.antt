@@ -19,3 +19,5 @@ mod StoredUsers
 mod StoredClasses
 mod Stored
 mod Judged
+mod Honest
+mod JudgedRows

@@ -1,5 +1,5 @@
 -- What the fields of an image are read as: the value that was written, or nothing, where a type keeps the value.
-use Rattle.std.proofs.Common.{◌≡◌, ◌⊎◌, ℕ, zero, suc, ◌+◌, ◌-◌, ◌%◌, ◌^◌, ◌<◌, ◌≤◌, Bool, true, false, cond, List, [], ◌∷◌, ◌++◌, length, replicate, Option, Some, None, Result, Ok, Err, is_ok, bytes_eq, refl, sym, ap, subst, ◌∙◌, true≢false, arith, inl, inr, ltb-true, zero-add}
+use Rattle.std.proofs.Common.{◌≡◌, ◌⊎◌, ℕ, zero, suc, ◌+◌, ◌-◌, ◌/◌, ◌%◌, ◌^◌, ◌<◌, ◌≤◌, Bool, true, false, cond, List, [], ◌∷◌, ◌++◌, length, replicate, Option, Some, None, Result, Ok, Err, is_ok, bytes_eq, refl, sym, ap, subst, ◌∙◌, true≢false, arith, inl, inr, ltb-true, lt-ltb, lit<, zero-add}
 use Rattle.std.specs.Prelude.{◌==◌, not, nat_lt, codes, find, option_map, IsTrue}
 use Rattle.std.specs.List.{position_from, before_first, list_all}
 use Rattle.std.specs.Result.{result_ok}
@@ -10,7 +10,7 @@ use Rattle.std.proofs.lemmas.List.{length-append, length-replicate, append-nil, 
 use Rattle.std.proofs.lemmas.List.Sums.{take_while-cons}
 use Rattle.std.proofs.lemmas.Slice.Eq.{bytes_eq-Decides}
 use Rattle.byteorder.specs.Endian.{big_bytes, big_number, little_bytes, little_number}
-use Rattle.byteorder.specs.Numbers.{length-bytes_high_first, length-bytes_low_first, big_from-bytes, big_number-reads_back, little_number-reads_back}
+use Rattle.byteorder.specs.Numbers.{length-bytes_high_first, length-bytes_low_first, big_from-bytes, big_number-reads_back, little_from-bytes, little_number-reads_back}
 use Rattle.access_levels.specs.Spelling.{is_id_byte, id_of, group_of, unless_bad, bad_byte}
 use Rattle.access_levels.specs.Level.{level_rank, levels, authority_rank, authorities, port_classes}
 use Rattle.access_levels.specs.declared.ids.IdFault.{IdFault}
@@ -33,7 +33,7 @@ use Rattle.database_image.specs.Forms.{Form, Spelling, IsSpelled, spelled_at, va
 use Rattle.database_image.specs.Fields.{filled, is_blank, front, text_in, of_text, filled_spelling, itself, id_text, group_text, text_or_none, unless_blank, who_text, who_of, rank_spelling, set_spelling, text_spelling}
 use Rattle.database_image.specs.Description.{printable, audit_rank, audit_levels, flag_rank, port_rank, log_rank, log_options}
 use Rattle.database_image.specs.Facts.{told, first_broken}
-use Rattle.database_image.specs.Misleading.{has_room}
+use Rattle.database_image.specs.Misleading.{has_room, is_of_bytes}
 use Rattle.database_image.specs.Spelled.{IsId, IsIdOrNone, IsWho}
 use Rattle.database_image.proofs.Exact.{IsExact, IsUnique, exact-field, spelled_again}
 use Rattle.database_image.proofs.Judged.{IsJudged, Judged, FindsIn, IsWhole, Judgement, decided-field}
@@ -305,10 +305,30 @@ pub misleading-audit : MayMislead (rank_spelling audit_rank audit_levels) (λ le
 misleading-audit = record { wide = λ x k. refl; some = λ x k. omega arith; honest = λ x k. honest-audit x; unspelled = λ x k. unlogged x }
 
 -- ---- sets, and texts of their own length
-pub honest-set : (set : ℕ) → set < 2 ^ 256 → IsHonest set_spelling set
+honest-set : (set : ℕ) → set < 2 ^ 256 → IsHonest set_spelling set
 honest-set set h = record {
   whole = length-bytes_low_first 0 32 set;
   reads = inl (ap (λ (m : ℕ). Some m) (ap (little_number 32) (sym (append-nil (little_bytes 32 set))) ∙ little_number-reads_back 32 set [] h));
+}
+
+numbers-of : (set : ℕ) → is_of_bytes set ≡ true → set < 2 ^ 256
+numbers-of set h = ltb-true set (2 ^ 256) h
+
+the-set : (set : ℕ) → IsSpelled set_spelling set → set < 2 ^ 256
+the-set set h =
+    let back : little_number 32 (little_bytes 32 set) ≡ set = the-number _ _ h.back in
+    let small : little_number 32 (little_bytes 32 set) ≡ set / 256 ^ 0 % 256 ^ 32 = ap (little_number 32) (sym (append-nil (little_bytes 32 set))) ∙ little_from-bytes 32 0 set [] in
+    subst (λ (m : ℕ). m < 2 ^ 256) (sym small ∙ back) (mod-lt (set / 256 ^ 0) {m = 2 ^ 256} (lit< tt))
+
+other-set : (set : ℕ) → is_of_bytes set ≡ false → set < 2 ^ 256 → ⊥
+other-set set h lt = let no : true ≡ false = sym (lt-ltb set (2 ^ 256) lt) ∙ h in cc
+
+pub misleading-set : MayMislead set_spelling (λ set. Unit {0}) is_of_bytes
+misleading-set = record {
+  wide = λ set k. sym (length-bytes_low_first 0 32 set);
+  some = λ set k. omega arith;
+  honest = λ set k h. honest-set set (numbers-of set h);
+  unspelled = λ set k h s. other-set set h (the-set set s);
 }
 
 pub honest-printable : (width : ℕ) (name : List ℕ) → length name ≡ width → IsHonest (text_spelling itself printable width) name

@@ -35,14 +35,14 @@ use Rattle.database_image.specs.Forms.{Form, Spelling, the, followed, done, fiel
 use Rattle.database_image.specs.Fields.{any, below, at_most, id_text, group_text, itself, text_or_none, unless_blank, who_text, who_of, filled_spelling, rank_spelling, set_spelling, text_spelling, bit, is_set, is_new}
 use Rattle.database_image.specs.Description.{within, option_flags, options, is_superior_of, group, attribute_flags, attributes_of, attributes, connect_flags, connection, printable, user, spelled_text, pattern_in, member_in, is_pattern_at, audit_rank, audit_levels, flag_rank, entry, entry_key, port_rank, cond_key, cond_entry, cond_entry_key, member_kind, is_kind_in, resources_of, level_of_member, number_of_member, is_new_member, member_of_kind, member, profile, class_flags, are_class_flags, is_class_at, log_rank, log_options, class, image}
 use Rattle.database_image.specs.Facts.{Fact, told, told_of_each, first_broken, group_width, connect_width, user_width, member_width, profile_width, class_width, users_place, classes_place}
-use Rattle.database_image.specs.Misleading.{has_room, user_marks, member_marks, audit_marks, list_marks, profile_marks, class_marks, marks}
+use Rattle.database_image.specs.Misleading.{has_room, is_of_bytes, user_marks, member_marks, audit_marks, list_marks, profile_marks, class_marks, marks}
 use Rattle.database_image.specs.Spelled.{IsId, IsIdOrNone, IsWho, IsPatternName, IsMemberName, IsSpelledGroup, IsSpelledUser, IsSpelledMember, IsSpelledProfile, IsSpelledClass, AreSpelled}
 use Rattle.database_image.proofs.Wide.{same_width}
 use Rattle.database_image.proofs.Exact.{IsExact, IsUnique, IsSteady}
 use Rattle.database_image.proofs.Spellings.{unique-1, unique-2, unique-4, unique-filled, unique-rank, unique-set, unique-text, id-own, group-own, blank-own, who-own, printable-own, pattern-own, member-own}
 use Rattle.database_image.proofs.Described.{exact-id, exact-group, exact-connection, exact-user, exact-entry, exact-cond_entry, exact-member, exact-profile, exact-class, steady-group, steady-connection, steady-user, steady-entry, steady-cond_entry, steady-member, steady-profile, steady-class}
 use Rattle.database_image.proofs.Judged.{IsDecided, IsJudged, Judgement, Judged, judged-as, judged-followed, then_, done_, decided-field, decided-followed, decided-listed, judged-listed, no-marks}
-use Rattle.database_image.proofs.Honest.{IsHonest, MayMislead, judged-field, judged-marked, honest-number, misleading-count, honest-id, honest-group, honest-label, honest-superior, honest-who, honest-level, honest-authority, honest-port, honest-log, honest-flag, misleading-audit, honest-set, honest-printable}
+use Rattle.database_image.proofs.Honest.{IsHonest, MayMislead, judged-field, judged-marked, honest-number, misleading-count, honest-id, honest-group, honest-label, honest-superior, honest-who, honest-level, honest-authority, honest-port, honest-log, honest-flag, misleading-audit, misleading-set, honest-printable}
 
 -- ---- fields
 abbrev Always : {A : Type 0} → A → Type 0
@@ -91,7 +91,7 @@ abbrev audit_ : Judged (Option Level)
 audit_ = marked_ (rank_spelling audit_rank audit_levels) any Always is_logged_level (unique-rank audit_rank audit_levels) misleading-audit
 
 abbrev set_ : (ℕ → Bool) → Judged ℕ
-set_ is_lawful = field_ set_spelling is_lawful (λ n. n < 2 ^ 256) unique-set honest-set
+set_ is_lawful = marked_ set_spelling is_lawful Always is_of_bytes unique-set misleading-set
 
 -- ---- lists
 abbrev listed_ : {A : Type 0} (width : ℕ) (is_lawful : ℕ → Bool) (item : List A → Form A) (item_width : A → ℕ) (Kept : A → Type 0) (item_marks : ℕ → A → List Fact) → IsUnique (number_spelling width) → 0 < width → 0 < 256 ^ width
@@ -296,13 +296,14 @@ told-same a b holds xs ys e h = rw (e, h) refl
 user-marks-same : (begin : ℕ) (u : User) → user_marks begin u ≡ (user_ 0 []).marks begin u
 user-marks-same begin u =
     told-same _ (begin + 8 + 8 + 8) (has_room 1 (length u.name)) _ _ (omega arith)
+    (told-same _ (begin + 8 + 8 + 8 + (1 + length u.name) + 1 + 1) (is_of_bytes u.categories) _ _ (omega arith)
     (told-same _ (begin + 8 + 8 + 8 + (1 + length u.name) + 1 + 1 + 32 + 8) (has_room 1 (length u.classes)) _ _ (omega arith)
-    (told-same _ (begin + 8 + 8 + 8 + (1 + length u.name) + 1 + 1 + 32 + 8 + (1 + 8 * length u.classes)) (has_room 2 (length u.connects)) [] [] (omega arith) refl))
+    (told-same _ (begin + 8 + 8 + 8 + (1 + length u.name) + 1 + 1 + 32 + 8 + (1 + 8 * length u.classes)) (has_room 2 (length u.connects)) [] [] (omega arith) refl)))
 
 pub judged-user : (categories : ℕ) (before : List User) → IsJudged (user categories before) user_width IsSpelledUser user_marks
 unfolding user
 judged-user categories before = judged-as (user_ categories before).form (user_ categories before).width user_width (user_ categories before).Kept IsSpelledUser (user_ categories before).marks user_marks (user_ categories before).is
-    (λ u k. (k.id, (k.default_group, (k.owner, ((tt, refl), (kept-attributes u.attributes, (k.level, (k.categories, (k.label, (k.classes, (k.connects, refl)))))))))))
+    (λ u k. (k.id, (k.default_group, (k.owner, ((tt, refl), (kept-attributes u.attributes, (k.level, (tt, (k.label, (k.classes, (k.connects, refl)))))))))))
     (λ u. omega arith) user-marks-same
 
 pub decided-user : (categories : ℕ) (before : List User) → IsDecided (user categories before)
@@ -550,15 +551,16 @@ module _ (class : List ℕ) (begin : ℕ) (p : Profile) where
       (told-same _ (behind_name + 1) (is_logged_level p.audit.failures) _ _ (omega arith)
       (told-same _ (behind_name + 1 + 1) (is_logged_level p.global_audit.success) _ _ (omega arith)
       (told-same _ (behind_name + 1 + 1 + 1) (is_logged_level p.global_audit.failures) _ _ (omega arith)
+      (told-same _ (behind_name + 1 + 1 + 1 + 1 + 1) (is_of_bytes p.categories) _ _ (omega arith)
       (told-same _ lists (has_room 2 (length p.standard)) _ _ (omega arith)
       (told-same _ (lists + (2 + 9 * length p.standard)) (has_room 2 (length p.conditional)) _ _ (omega arith)
       (told-same _ members_at (has_room 2 (length p.members)) _ _ (omega arith)
-      (each-further member_width (member_marks (kind_in p.name.text)) _ (members_at + 2) p.members (omega arith)))))))))
+      (each-further member_width (member_marks (kind_in p.name.text)) _ (members_at + 2) p.members (omega arith))))))))))
 
 pub judged-profile : (names : List (List ℕ)) (class : List ℕ) (entries : ℕ) (before : List Profile) → IsJudged (profile names class entries before) profile_width IsSpelledProfile (profile_marks (kind_in class))
 unfolding profile
 judged-profile names class entries before = judged-as (profile_ names class entries before).form (profile_ names class entries before).width profile_width (profile_ names class entries before).Kept IsSpelledProfile (profile_ names class entries before).marks (profile_marks (kind_in class)) (profile_ names class entries before).is
-    (λ p k. (((pattern-sized p.name k.name).few, (refl, k.name)), (k.owner, (tt, (tt, (tt, (tt, (tt, (tt, (k.level, (k.categories, (k.label, (k.standard, (k.conditional, (k.members, refl)))))))))))))))
+    (λ p k. (((pattern-sized p.name k.name).few, (refl, k.name)), (k.owner, (tt, (tt, (tt, (tt, (tt, (tt, (k.level, (tt, (k.label, (k.standard, (k.conditional, (k.members, refl)))))))))))))))
     (λ p. omega arith) (profile-marks-same class)
 
 pub decided-profile : (names : List (List ℕ)) (class : List ℕ) (entries : ℕ) (before : List Profile) → IsDecided (profile names class entries before)

@@ -21,3 +21,4 @@ mod Stored
 mod Judged
 mod Honest
 mod JudgedRows
+mod Verdicts

@@ -50,6 +50,11 @@ pub record IsStored (rows : Rows) : Type 0 where
 abbrev pub FirstUnlawful : Rows → (place : ℕ) → Type 0
 FirstUnlawful rows place = image.FaultAt rows place ⊎ (image.Fits rows × (first_broken (facts rows) ≡ Some place))
 
+-- What bytes are read as says whether an image may hold the rows: they are read again, or the first fault is theirs.
+abbrev pub Judges : Rows → Result Rows ℕ → Type 0
+Judges rows (Ok copy) = (copy ≡ rows) × IsStored rows
+Judges rows (Err place) = FirstUnlawful rows place
+
 -- ---- what a function answered
 
 -- It is the first place at which the rows aren't lawful, unless memory ran out.

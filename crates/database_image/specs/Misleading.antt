@@ -16,10 +16,15 @@ use Rattle.database_image.specs.Facts.{Fact, told, told_of_each, user_width, mem
 abbrev pub has_room : (width count : ℕ) → Bool
 has_room width count = nat_lt count (256 ^ width)
 
--- of a user: how long the name is, and how many classes and connections there are
+-- A set is read as itself where it has the numbers 0 to 255 alone.
+abbrev pub is_of_bytes : (set : ℕ) → Bool
+is_of_bytes set = nat_lt set (2 ^ 256)
+
+-- of a user: how long the name is, the set of categories, and how many classes and connections there are
 abbrev pub user_marks : ℕ → User → List Fact
 user_marks place user =
     told (place + 24) (has_room 1 (length user.name))
+    ∷ told (place + 27 + length user.name) (is_of_bytes user.categories)
     ∷ told (place + 67 + length user.name) (has_room 1 (length user.classes))
     ∷ told (place + 68 + length user.name + 8 * length user.classes) (has_room 2 (length user.connects))
     ∷ []
@@ -30,8 +35,8 @@ member_marks kind place (Access resources level) = told (place + 3) (is_of_kind 
 member_marks kind place (SecurityLevel name number) = []
 member_marks kind place (Category name) = []
 
--- of a profile: whether its name is of its class's kind, whether each level of auditing is one of an access, and how many
--- entries and members there are
+-- of a profile: whether its name is of its class's kind, whether each level of auditing is one of an access, the set of
+-- categories, and how many entries and members there are
 abbrev pub audit_marks : ℕ → Profile → List Fact
 audit_marks place profile =
     told place (is_logged_level profile.audit.success)
@@ -51,7 +56,8 @@ abbrev pub profile_marks : NameKind → ℕ → Profile → List Fact
 profile_marks kind place profile =
     told (place + 2) (is_of_kind kind profile.name.kind)
     ∷ audit_marks (place + 12 + length profile.name.text) profile
-    ++ list_marks (place + 57 + length profile.name.text) profile
+    ++ told (place + 17 + length profile.name.text) (is_of_bytes profile.categories)
+    ∷ list_marks (place + 57 + length profile.name.text) profile
 
 -- of a class: how many profiles there are
 abbrev pub class_marks : ℕ → ClassRow → List Fact

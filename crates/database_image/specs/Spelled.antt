@@ -1,5 +1,5 @@
 -- What their types keep of rows: how identifiers and names are spelled, and how large numbers are.
-use Rattle.std.specs.Prelude.{◌≡◌, ℕ, ◌<◌, ◌^◌, List, Option, Some, None, Ok}
+use Rattle.std.specs.Prelude.{◌≡◌, ℕ, ◌<◌, List, Option, Some, None, Ok}
 use Rattle.std.specs.List.{AllByRecursion}
 use Rattle.access_levels.specs.Spelling.{id_of}
 use Rattle.access_levels.specs.declared.entries.Who.{Who}
@@ -48,7 +48,6 @@ pub record IsSpelledUser (user : User) : Type 0 where
   pub default_group : IsId user.default_group
   pub owner : IsId user.owner
   pub level : user.level < 256
-  pub categories : user.categories < 2 ^ 256
   pub label : IsIdOrNone user.label
   pub classes : AllByRecursion IsId user.classes
   pub connects : AllByRecursion (λ (connection : Connection). IsId connection.group) user.connects
@@ -62,7 +61,6 @@ pub record IsSpelledProfile (profile : Profile) : Type 0 where
   pub name : IsPatternName profile.name
   pub owner : IsId profile.owner
   pub level : profile.level < 256
-  pub categories : profile.categories < 2 ^ 256
   pub label : IsIdOrNone profile.label
   pub standard : AllByRecursion (λ (entry : Entry). IsWho entry.who) profile.standard
   pub conditional : AllByRecursion (λ (entry : CondEntry). IsId entry.condition.name × IsWho entry.who) profile.conditional

@@ -25,9 +25,11 @@ mod entries;
 mod faults;
 mod fields;
 mod index;
+mod judging;
 pub mod laws;
 mod left;
 mod members;
+mod misleading;
 mod names;
 mod profiles;
 mod putting;
@@ -37,5 +39,6 @@ mod widths;
 mod writing;
 
 pub use faults::ImageFault;
+pub use judging::stored_copy;
 pub use reading::{read, read_fields};
 pub use writing::write;

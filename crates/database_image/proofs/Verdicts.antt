@@ -1,0 +1,67 @@
+-- What is read of the bytes of rows, up to the first field that misleads, is told of the rows.
+use Rattle.std.proofs.Common.{◌≡◌, ◌⊎◌, ℕ, ◌+◌, ◌-◌, List, [], ◌∷◌, ◌++◌, length, take, Option, Some, None, Result, Ok, Err, refl, sym, ap, subst, ◌∙◌, arith, inl, inr, zero-add}
+use Rattle.std.specs.Prelude.{IfOk, IfErr}
+use Rattle.std.proofs.lemmas.List.{append-nil}
+use Rattle.racf_profiles.specs.declared.rows.Rows.{Rows}
+use Rattle.database_image.specs.declared.faults.ImageFault.{ImageFault}
+use Rattle.database_image.specs.declared.faults.ImageFault.TheVariants as faults
+use Rattle.database_image.specs.Reading.{◌>>=◌}
+use Rattle.database_image.specs.Description.{image}
+use Rattle.database_image.specs.Facts.{facts, first_broken}
+use Rattle.database_image.specs.Image.{image_of, unless_more, from_beginning, first_pass, unless_broken, second_pass, rows_of, IsStored, FirstUnlawful, IsFirst, Judges, Reads, Tells}
+use Rattle.database_image.specs.Misleading.{marks}
+use Rattle.database_image.specs.Spelled.{AreSpelled}
+use Rattle.database_image.proofs.Images.{fields_only, behind-first}
+use Rattle.database_image.proofs.Judged.{FindsIn, IsCut, IsWhole, Judgement}
+use Rattle.database_image.proofs.JudgedRows.{judged-rows}
+
+-- ---- a fault that the first pass finds
+from-place : (place left size : ℕ) → place + left ≡ size → size - left ≡ place
+from-place place left size h = omega (arith, h)
+
+found-first : (rows : Rows) (bytes : List ℕ) → FindsIn (image.FaultAt rows) bytes (image.reading bytes) → Judges rows (rows_of bytes)
+unfolding rows_of first_pass
+found-first rows bytes f =
+    let read : rows_of bytes ≡ Err f.place = ap (λ r. from_beginning bytes (r >>= λ x. unless_more x.0 x.1) >>= second_pass) f.reads ∙ ap (λ n. Err n) (from-place f.place f.left (length bytes) f.whole) in
+    subst (Judges rows) (sym read) (inl f.is)
+
+-- ---- rows each field of which is lawful
+fitting : (rows : Rows) → image.Fits rows → (o : Option ℕ) → first_broken (facts rows) ≡ o → Judges rows (unless_broken rows o)
+fitting rows fits None e = (refl, record { fields = fits; between = e })
+fitting rows fits (Some place) e = inr (fits, e)
+
+fitting-second : (rows : Rows) → image.Fits rows → Judges rows (second_pass rows)
+unfolding second_pass
+fitting-second rows fits = fitting rows fits (first_broken (facts rows)) refl
+
+whole-judged : (rows : Rows) → IsWhole (image.Fits rows) (image.FaultAt rows) (image.bytes rows) image.reading → Judges rows (rows_of (image.bytes rows))
+unfolding image_of
+whole-judged rows (inl fits) = subst (Judges rows) (sym (behind-first (image_of rows) rows (fields_only rows fits))) (fitting-second rows fits)
+whole-judged rows (inr found) = subst (λ (t : List ℕ). Judges rows (rows_of t)) (append-nil (image.bytes rows)) (found-first rows (image.bytes rows ++ []) (found []))
+
+-- The bytes that are to be read.
+abbrev pub until : Option ℕ → List ℕ → List ℕ
+until None bytes = bytes
+until (Some place) bytes = take place bytes
+
+judged-until : (rows : Rows) (o : Option ℕ) → Judgement (image.Fits rows) (image.FaultAt rows) (image.bytes rows) image.reading 0 o → Judges rows (rows_of (until o (image.bytes rows)))
+judged-until rows None h = whole-judged rows h
+judged-until rows (Some place) c =
+    let at : c.count ≡ place = sym (c.at ∙ zero-add c.count) in
+    subst (λ (n : ℕ). Judges rows (rows_of (take n (image.bytes rows)))) at (found-first rows (take c.count (image.bytes rows)) c.found)
+
+pub judged : (rows : Rows) → AreSpelled rows → Judges rows (rows_of (until (first_broken (marks rows)) (image_of rows)))
+unfolding image_of
+judged rows spelled = judged-until rows (first_broken (marks rows)) (judged-rows rows spelled)
+
+-- ---- what was answered
+pub copied : (rows : Rows) (read : Result Rows ℕ) (result : Result Rows ImageFault) → Judges rows read → Reads result read → IfOk result (λ copy. (copy ≡ rows) × IsStored rows)
+copied rows (Ok copy) (Ok other) j r = (let e : copy ≡ other = cc in sym e ∙ j.0, j.1)
+copied rows (Err place) (Ok other) j r = absurd cc
+copied rows read (Err fault) j r = tt
+
+pub first : (rows : Rows) (read : Result Rows ℕ) (result : Result Rows ImageFault) → Judges rows read → Reads result read → IfErr result (IsFirst rows)
+first rows read (Ok other) j r = tt
+first rows read (Err faults.NoMemory) j r = tt
+first rows (Ok copy) (Err (faults.BadField place)) j r = absurd cc
+first rows (Err at) (Err (faults.BadField place)) j r = let e : at ≡ place = cc in subst (FirstUnlawful rows) e j

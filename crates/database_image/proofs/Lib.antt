@@ -22,3 +22,4 @@ mod Judged
 mod Honest
 mod JudgedRows
 mod Verdicts
+mod WorkedFaults

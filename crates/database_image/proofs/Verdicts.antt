@@ -1,19 +1,22 @@
 -- What is read of the bytes of rows, up to the first field that misleads, is told of the rows.
 use Rattle.std.proofs.Common.{◌≡◌, ◌⊎◌, ℕ, ◌+◌, ◌-◌, List, [], ◌∷◌, ◌++◌, length, take, Option, Some, None, Result, Ok, Err, refl, sym, ap, subst, ◌∙◌, arith, inl, inr, zero-add}
 use Rattle.std.specs.Prelude.{IfOk, IfErr}
+use Rattle.std.specs.Option.{unwrap_or}
+use Rattle.std.specs.List.{sum_by}
 use Rattle.std.proofs.lemmas.List.{append-nil}
+use Rattle.std.proofs.Math.Seq.{take-length}
 use Rattle.racf_profiles.specs.declared.rows.Rows.{Rows}
 use Rattle.database_image.specs.declared.faults.ImageFault.{ImageFault}
 use Rattle.database_image.specs.declared.faults.ImageFault.TheVariants as faults
 use Rattle.database_image.specs.Reading.{◌>>=◌}
 use Rattle.database_image.specs.Description.{image}
-use Rattle.database_image.specs.Facts.{facts, first_broken}
+use Rattle.database_image.specs.Facts.{facts, first_broken, classes_place, class_width}
 use Rattle.database_image.specs.Image.{image_of, unless_more, from_beginning, first_pass, unless_broken, second_pass, rows_of, IsStored, FirstUnlawful, IsFirst, Judges, Reads, Tells}
 use Rattle.database_image.specs.Misleading.{marks}
 use Rattle.database_image.specs.Spelled.{AreSpelled}
 use Rattle.database_image.proofs.Images.{fields_only, behind-first}
 use Rattle.database_image.proofs.Judged.{FindsIn, IsCut, IsWhole, Judgement}
-use Rattle.database_image.proofs.JudgedRows.{judged-rows}
+use Rattle.database_image.proofs.JudgedRows.{judged-rows, wide-rows}
 
 -- ---- a fault that the first pass finds
 from-place : (place left size : ℕ) → place + left ≡ size → size - left ≡ place
@@ -39,13 +42,12 @@ unfolding image_of
 whole-judged rows (inl fits) = subst (Judges rows) (sym (behind-first (image_of rows) rows (fields_only rows fits))) (fitting-second rows fits)
 whole-judged rows (inr found) = subst (λ (t : List ℕ). Judges rows (rows_of t)) (append-nil (image.bytes rows)) (found-first rows (image.bytes rows ++ []) (found []))
 
--- The bytes that are to be read.
+-- The bytes that are to be read: those before the field that misleads.
 abbrev pub until : Option ℕ → List ℕ → List ℕ
-until None bytes = bytes
-until (Some place) bytes = take place bytes
+until o bytes = take (unwrap_or o (length bytes)) bytes
 
 judged-until : (rows : Rows) (o : Option ℕ) → Judgement (image.Fits rows) (image.FaultAt rows) (image.bytes rows) image.reading 0 o → Judges rows (rows_of (until o (image.bytes rows)))
-judged-until rows None h = whole-judged rows h
+judged-until rows None h = subst (λ (t : List ℕ). Judges rows (rows_of t)) (sym (take-length (image.bytes rows))) (whole-judged rows h)
 judged-until rows (Some place) c =
     let at : c.count ≡ place = sym (c.at ∙ zero-add c.count) in
     subst (λ (n : ℕ). Judges rows (rows_of (take n (image.bytes rows)))) at (found-first rows (take c.count (image.bytes rows)) c.found)
@@ -53,6 +55,10 @@ judged-until rows (Some place) c =
 pub judged : (rows : Rows) → AreSpelled rows → Judges rows (rows_of (until (first_broken (marks rows)) (image_of rows)))
 unfolding image_of
 judged rows spelled = judged-until rows (first_broken (marks rows)) (judged-rows rows spelled)
+
+pub wide : (rows : Rows) → AreSpelled rows → classes_place rows + sum_by class_width rows.classes ≡ length (image_of rows)
+unfolding image_of
+wide rows spelled = wide-rows rows spelled
 
 -- ---- what was answered
 pub copied : (rows : Rows) (read : Result Rows ℕ) (result : Result Rows ImageFault) → Judges rows read → Reads result read → IfOk result (λ copy. (copy ≡ rows) × IsStored rows)

@@ -33,9 +33,8 @@ fn telling_image(alloc: Global, rows: &Rows) -> Result<Vec<u8>, NoMemory>
     ensures { IfOk result (λ bytes. Judges rows.now (rows_of bytes.items)) }
 {
     let mut image = write(alloc, rows)?;
-    let _size = image.len();
-    if let Some(place) = first_misleading(rows) {
-        image.truncate(place);
-    }
+    let size = image.len();
+    let end = first_misleading(rows).unwrap_or(size);
+    image.truncate(end);
     Ok(image)
 }

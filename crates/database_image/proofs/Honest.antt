@@ -241,7 +241,7 @@ no-star text h = by (bytes_eq text (codes "*")) refl
     by false e = refl
     by true e = let star : IsId (codes "*") = subst IsId ((bytes_eq-Decides text (codes "*")).0 e) h in absurd cc
 
-named-who : (text : List ℕ) → IsId text → who_of text ≡ Some (Named text)
+pub named-who : (text : List ℕ) → IsId text → who_of text ≡ Some (Named text)
 named-who text h = rw (no-star text h, is-text text h) refl
 
 pub honest-who : (who : Who) → IsWho who → IsHonest (filled_spelling who_text who_of) who

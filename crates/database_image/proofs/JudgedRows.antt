@@ -210,7 +210,10 @@ options_ =
     then_ (λ (o : Options). o.categories) (ids_ 2 (at_most most_categories) unique-2 (omega arith) (omega arith)) (λ names.
     done_ (record { grplist = is_set flags 1; protectall = is_set flags 2; mls = is_set flags 4; categories = names })))
 
-flags-options : (o : Options) → o ≡ record { grplist = is_set (option_flags o) 1; protectall = is_set (option_flags o) 2; mls = is_set (option_flags o) 4; categories = o.categories }
+pub options-below : (o : Options) → option_flags o < 8
+options-below o = omega (arith, bit-digit 1 o.grplist, bit-digit 2 o.protectall, bit-digit 4 o.mls, small o.grplist, small o.protectall, small o.mls)
+
+pub flags-options : (o : Options) → o ≡ record { grplist = is_set (option_flags o) 1; protectall = is_set (option_flags o) 2; mls = is_set (option_flags o) 4; categories = o.categories }
 flags-options o = rw (three-1 o.grplist o.protectall o.mls, three-2 o.grplist o.protectall o.mls, three-4 o.grplist o.protectall o.mls) refl
 
 judged-options : IsJudged options (λ o. 3 + 8 * length o.categories) (λ o. AllByRecursion IsId o.categories) (λ begin o. told (begin + 1) (has_room 2 (length o.categories)) ∷ [])
@@ -245,7 +248,7 @@ attributes_ =
     then_ (attribute_flags) (byte_ (below 64)) (λ flags.
     done_ (attributes_of flags))
 
-flags-attributes : (a : Attributes) → a ≡ attributes_of (attribute_flags a)
+pub flags-attributes : (a : Attributes) → a ≡ attributes_of (attribute_flags a)
 flags-attributes a =
     rw (six-1 a.special a.operations a.auditor a.restricted a.revoked a.uaudit, six-2 a.special a.operations a.auditor a.restricted a.revoked a.uaudit, six-4 a.special a.operations a.auditor a.restricted a.revoked a.uaudit,
       six-8 a.special a.operations a.auditor a.restricted a.revoked a.uaudit, six-16 a.special a.operations a.auditor a.restricted a.revoked a.uaudit, six-32 a.special a.operations a.auditor a.restricted a.revoked a.uaudit) refl
@@ -260,7 +263,7 @@ connection_ before =
     then_ (λ (c : Connect). connect_flags c) (byte_ (below 16)) (λ flags.
     done_ (record { group = name; authority = authority; special = is_set flags 1; operations = is_set flags 2; auditor = is_set flags 4; revoked = is_set flags 8 }))))
 
-flags-connection : (c : Connect) → c ≡ record { group = c.group; authority = c.authority; special = is_set (connect_flags c) 1; operations = is_set (connect_flags c) 2; auditor = is_set (connect_flags c) 4; revoked = is_set (connect_flags c) 8 }
+pub flags-connection : (c : Connect) → c ≡ record { group = c.group; authority = c.authority; special = is_set (connect_flags c) 1; operations = is_set (connect_flags c) 2; auditor = is_set (connect_flags c) 4; revoked = is_set (connect_flags c) 8 }
 flags-connection c = rw (four-1 c.special c.operations c.auditor c.revoked, four-2 c.special c.operations c.auditor c.revoked, four-4 c.special c.operations c.auditor c.revoked, four-8 c.special c.operations c.auditor c.revoked) refl
 
 judged-connection : (before : List Connect) → IsJudged (connection before) (λ c. 10) (λ c. IsId c.group) (λ begin c. [])
@@ -568,7 +571,7 @@ unfolding profile
 decided-profile names class entries before = (profile_ names class entries before).decided
 
 -- ---- classes
-flags-class : (c : ClassRow) → c ≡ record { name = c.name; active = is_set (class_flags c) 1; listed = is_set (class_flags c) 2; global = is_set (class_flags c) 4; log = c.log; profiles = c.profiles }
+pub flags-class : (c : ClassRow) → c ≡ record { name = c.name; active = is_set (class_flags c) 1; listed = is_set (class_flags c) 2; global = is_set (class_flags c) 4; log = c.log; profiles = c.profiles }
 flags-class c = rw (three-1 c.active c.listed c.global, three-2 c.active c.listed c.global, three-4 c.active c.listed c.global) refl
 
 abbrev class_ : (names : List (List ℕ)) (before : List ClassRow) → Judged ClassRow

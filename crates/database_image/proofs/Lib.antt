@@ -23,3 +23,5 @@ mod Honest
 mod JudgedRows
 mod Verdicts
 mod WorkedFaults
+mod FitFields
+mod FitGroups

@@ -1,6 +1,7 @@
 -- First unlawful fields of rows, worked out: rows that no image has, and one fault of each pass.
-use Rattle.std.proofs.Common.{◌≡◌, ℕ, ◌++◌, List, [], ◌∷◌, length, replicate, Option, Some, None, Result, Ok, Err, refl, sym, ap, subst, ◌∙◌, arith, inl, inr}
+use Rattle.std.proofs.Common.{◌≡◌, ℕ, ◌++◌, List, [], ◌∷◌, length, drop, replicate, Option, Some, None, Result, Ok, Err, refl, sym, ap, subst, ◌∙◌, arith, inl, inr}
 use Rattle.std.specs.Prelude.{false, codes}
+use Rattle.std.specs.List.{AllByRecursion}
 use Rattle.std.proofs.lemmas.List.{length-replicate}
 use Rattle.byteorder.specs.Endian.{big_bytes, big_number}
 use Rattle.access_levels.specs.declared.levels.Level.{Level}
@@ -17,7 +18,7 @@ use Rattle.racf_profiles.specs.NewDatabase.{new_database, ibmuser, no_options}
 use Rattle.database_image.specs.Forms.{IsSpelled, number_spelling, spelled_at}
 use Rattle.database_image.specs.Description.{options, group, connection, user, profile, class, image, pattern_in, is_pattern_at}
 use Rattle.database_image.specs.Image.{image_of, first_pass, second_pass, rows_of, FirstUnlawful, Judges}
-use Rattle.database_image.specs.Spelled.{AreSpelled, IsSpelledProfile}
+use Rattle.database_image.specs.Spelled.{AreSpelled, IsSpelledUser, IsSpelledProfile, IsSpelledClass}
 use Rattle.database_image.proofs.Verdicts.{judged}
 
 -- ---- 65,541 categories: their count is written as 5
@@ -37,7 +38,7 @@ not-spelled n e h =
 
 too-many : (names : List (List ℕ)) → length names ≡ 65541 → FirstUnlawful (with_categories names) 1
 unfolding image options
-too-many names e = inl (inl (inr ((record { whole = refl; back = refl }, refl), (0, (inl ((λ h. not-spelled (length names) e h.0), refl), refl)))))
+too-many names e = inl (inl (inr ((record { whole = refl; back = refl }, refl), (0, inl (inl ((λ h. not-spelled (length names) e h.0), refl)), refl))))
 
 many-categories : FirstUnlawful (with_categories many) 1
 many-categories = too-many many (length-replicate 65541 (codes "A"))
@@ -49,19 +50,22 @@ with_user user = record new_database { users = user ∷ [] }
 abbrev long_name : User
 long_name = record ibmuser { name = replicate 300 65 }
 
-spelled-user : (name : List ℕ) → AreSpelled (with_user (record ibmuser { name = name }))
-spelled-user name = record {
+-- the classes behind FACILITY
+others : AllByRecursion IsSpelledClass (drop 2 new_database.classes)
+others = (record { name = refl; profiles = tt }, (record { name = refl; profiles = tt }, (record { name = refl; profiles = tt }, (record { name = refl; profiles = tt }, (record { name = refl; profiles = tt }, (record { name = refl; profiles = tt },
+            (record { name = refl; profiles = tt }, (record { name = refl; profiles = tt }, (record { name = refl; profiles = tt }, (record { name = refl; profiles = tt }, (record { name = refl; profiles = tt }, (record { name = refl; profiles = tt }, tt))))))))))))
+
+spelled-user : (user : User) → IsSpelledUser user → AreSpelled (with_user user)
+spelled-user user h = record {
   categories = tt;
   groups = (record { id = refl; superior = tt; owner = refl }, tt);
-  users = (record { id = refl; default_group = refl; owner = refl; level = omega arith; label = tt; classes = tt; connects = (refl, tt) }, tt);
-  classes = (record { name = refl; profiles = tt }, (record { name = refl; profiles = tt }, (record { name = refl; profiles = tt }, (record { name = refl; profiles = tt }, (record { name = refl; profiles = tt },
-        (record { name = refl; profiles = tt }, (record { name = refl; profiles = tt }, (record { name = refl; profiles = tt }, (record { name = refl; profiles = tt }, (record { name = refl; profiles = tt },
-        (record { name = refl; profiles = tt }, (record { name = refl; profiles = tt }, (record { name = refl; profiles = tt }, (record { name = refl; profiles = tt }, tt))))))))))))));
+  users = (h, tt);
+  classes = (record { name = refl; profiles = tt }, (record { name = refl; profiles = tt }, others));
 }
 
 long-name : FirstUnlawful (with_user long_name) 59
 unfolding image_of spelled_at rows_of first_pass second_pass image options group user connection class profile
-long-name = judged (with_user long_name) (spelled-user (replicate 300 65))
+long-name = judged (with_user long_name) (spelled-user long_name (record { id = refl; default_group = refl; owner = refl; level = omega arith; label = tt; classes = tt; connects = (refl, tt) }))
 
 -- ---- a fault of the second pass alone: no group has the name of the default group
 abbrev other_default : User
@@ -69,11 +73,11 @@ other_default = record ibmuser { default_group = codes "SYS2" }
 
 no-default : FirstUnlawful (with_user other_default) 43
 unfolding image_of spelled_at rows_of first_pass second_pass image options group user connection class profile
-no-default = judged (with_user other_default) (record (spelled-user []) { users = (record { id = refl; default_group = refl; owner = refl; level = omega arith; label = tt; classes = tt; connects = (refl, tt) }, tt) })
+no-default = judged (with_user other_default) (spelled-user other_default (record { id = refl; default_group = refl; owner = refl; level = omega arith; label = tt; classes = tt; connects = (refl, tt) }))
 
 -- ---- a profile of FACILITY
 abbrev with_profile : Profile → Rows
-with_profile profile = record new_database { classes = at_class (codes "FACILITY") (λ (row : ClassRow). record row { profiles = profile ∷ [] }) new_database.classes }
+with_profile row = record new_database { classes = at_class (codes "FACILITY") (λ (class_row : ClassRow). record class_row { profiles = row ∷ [] }) new_database.classes }
 
 abbrev plain : (kind : NameKind) → (text : List ℕ) → (success : Option Level) → Profile
 plain kind text success = record {
@@ -91,10 +95,13 @@ plain kind text success = record {
   members = [];
 }
 
-spelled-profile : (profile : Profile) → IsSpelledProfile profile → AreSpelled (with_profile profile)
-spelled-profile profile h = record (spelled-user []) { classes = (record { name = refl; profiles = tt }, (record { name = refl; profiles = (h, tt) }, (record { name = refl; profiles = tt }, (record { name = refl; profiles = tt }, (record { name = refl; profiles = tt },
-        (record { name = refl; profiles = tt }, (record { name = refl; profiles = tt }, (record { name = refl; profiles = tt }, (record { name = refl; profiles = tt }, (record { name = refl; profiles = tt },
-        (record { name = refl; profiles = tt }, (record { name = refl; profiles = tt }, (record { name = refl; profiles = tt }, (record { name = refl; profiles = tt }, tt)))))))))))))) }
+spelled-profile : (row : Profile) → IsSpelledProfile row → AreSpelled (with_profile row)
+spelled-profile row h = record {
+  categories = tt;
+  groups = (record { id = refl; superior = tt; owner = refl }, tt);
+  users = (record { id = refl; default_group = refl; owner = refl; level = omega arith; label = tt; classes = tt; connects = (refl, tt) }, tt);
+  classes = (record { name = refl; profiles = tt }, (record { name = refl; profiles = (h, tt) }, others));
+}
 
 -- its name is kept with the kind of DATASET's names, and would be read with its own class's
 other-kind : FirstUnlawful (with_profile (plain DataSet (codes "A.B") None)) 147

@@ -3,3 +3,4 @@ mod Front
 mod Users
 mod Profiles
 mod Classes
+mod Faults

@@ -1,4 +1,4 @@
-use Rattle.std.proofs.Common.{rules, ◌≡◌, ℕ, ◌<◌, ◌^◌, List, length, sym, ap, subst, ◌∙◌, arith}
+use Rattle.std.proofs.Common.{rules, ◌≡◌, ℕ, List, length, sym, subst, arith}
 use Rattle.std.specs.Option.{unwrap_or}
 use Rattle.database_image.specs.Facts.{first_broken}
 use Rattle.database_image.specs.Image.{image_of, rows_of, Judges}

@@ -1,4 +1,4 @@
-use Rattle.std.proofs.Common.{rules, ◌≡◌, ℕ, ◌+◌, List, [], ◌∷◌, ◌++◌, length, sym, ap, ◌∙◌}
+use Rattle.std.proofs.Common.{rules, ◌≡◌, ◌+◌, List, [], ◌∷◌, ◌++◌, length, ◌∙◌}
 use Rattle.racf_profiles.specs.LawfulProfiles.{is_of_kind}
 use Rattle.database_image.specs.Facts.{Fact, told, first_broken}
 use Rattle.database_image.specs.Misleading.{is_of_bytes, audit_marks, list_marks}

@@ -234,7 +234,7 @@ honest-superior None h = honest-filled text_or_none (unless_blank group_text) No
 honest-superior (Some text) h = honest-filled text_or_none (unless_blank group_text) (Some text) (filled-id text h) (along _ _ _ (unless-blank-id group_text text h) (mapped (group_text text) text (either-text (is_ok (group_of text)) text)))
 
 -- no identifier is a star
-no-star : (text : List ℕ) → IsId text → bytes_eq text (codes "*") ≡ false
+pub no-star : (text : List ℕ) → IsId text → bytes_eq text (codes "*") ≡ false
 no-star text h = by (bytes_eq text (codes "*")) refl
   where
     by : (b : Bool) → bytes_eq text (codes "*") ≡ b → b ≡ false

@@ -248,6 +248,11 @@ attributes_ =
     then_ (attribute_flags) (byte_ (below 64)) (λ flags.
     done_ (attributes_of flags))
 
+pub attributes-below : (a : Attributes) → attribute_flags a < 64
+attributes-below a =
+    omega (arith, bit-digit 1 a.special, bit-digit 2 a.operations, bit-digit 4 a.auditor, bit-digit 8 a.restricted, bit-digit 16 a.revoked, bit-digit 32 a.uaudit,
+      small a.special, small a.operations, small a.auditor, small a.restricted, small a.revoked, small a.uaudit)
+
 pub flags-attributes : (a : Attributes) → a ≡ attributes_of (attribute_flags a)
 flags-attributes a =
     rw (six-1 a.special a.operations a.auditor a.restricted a.revoked a.uaudit, six-2 a.special a.operations a.auditor a.restricted a.revoked a.uaudit, six-4 a.special a.operations a.auditor a.restricted a.revoked a.uaudit,
@@ -262,6 +267,9 @@ connection_ before =
     then_ (λ (c : Connect). c.authority) (ranked_ authority_rank authorities honest-authority) (λ authority.
     then_ (λ (c : Connect). connect_flags c) (byte_ (below 16)) (λ flags.
     done_ (record { group = name; authority = authority; special = is_set flags 1; operations = is_set flags 2; auditor = is_set flags 4; revoked = is_set flags 8 }))))
+
+pub connection-below : (c : Connect) → connect_flags c < 16
+connection-below c = omega (arith, bit-digit 1 c.special, bit-digit 2 c.operations, bit-digit 4 c.auditor, bit-digit 8 c.revoked, small c.special, small c.operations, small c.auditor, small c.revoked)
 
 pub flags-connection : (c : Connect) → c ≡ record { group = c.group; authority = c.authority; special = is_set (connect_flags c) 1; operations = is_set (connect_flags c) 2; auditor = is_set (connect_flags c) 4; revoked = is_set (connect_flags c) 8 }
 flags-connection c = rw (four-1 c.special c.operations c.auditor c.revoked, four-2 c.special c.operations c.auditor c.revoked, four-4 c.special c.operations c.auditor c.revoked, four-8 c.special c.operations c.auditor c.revoked) refl
@@ -350,10 +358,10 @@ unfolding cond_entry
 decided-cond_entry before = (cond_entry_ before).decided
 
 -- ---- names
-abbrev faulted : (empty long : Bool) → Option NameFault → Option NameFault
+abbrev pub faulted : (empty long : Bool) → Option NameFault → Option NameFault
 faulted empty long rest = cond empty (Some Empty) (cond long (Some TooLong) rest)
 
-spelled-size : (empty long : Bool) (rest : Option NameFault) (name x : Spelled) → unless (faulted empty long rest) name ≡ Ok x → (empty ≡ false) × (long ≡ false)
+pub spelled-size : (empty long : Bool) (rest : Option NameFault) (name x : Spelled) → unless (faulted empty long rest) name ≡ Ok x → (empty ≡ false) × (long ≡ false)
 spelled-size true long rest name x h = absurd cc
 spelled-size false true rest name x h = absurd cc
 spelled-size false false rest name x h = (refl, refl)
@@ -364,7 +372,7 @@ not-empty n h = grind (arith, nat_tests)
 at-most : (n limit : ℕ) → nat_lt limit n ≡ false → n ≤ limit
 at-most n limit h = grind (arith, nat_tests)
 
-longest-at-most : (kind : NameKind) → longest kind ≤ 246
+pub longest-at-most : (kind : NameKind) → longest kind ≤ 246
 longest-at-most DataSet = omega arith
 longest-at-most General = omega arith
 
@@ -383,7 +391,7 @@ pattern-sized name h = sized name.kind name.text _ _ name h
 pub member-sized : (name : Spelled) → IsMemberName name → HasSize name.text
 member-sized name h = sized name.kind name.text _ _ name h
 
-same-kind : (kind other : NameKind) → is_of_kind kind other ≡ true → other ≡ kind
+pub same-kind : (kind other : NameKind) → is_of_kind kind other ≡ true → other ≡ kind
 same-kind DataSet DataSet h = refl
 same-kind General General h = refl
 same-kind DataSet General h = absurd cc
@@ -399,7 +407,7 @@ unless-name : (fault : Option NameFault) (name x : Spelled) → result_ok (unles
 unless-name None name x e = cc
 unless-name (Some fault) name x e = absurd cc
 
-pattern-read : (class : List ℕ) (name : Spelled) → IsPatternName name → name.kind ≡ kind_in class → pattern_in class name.text ≡ Some name
+pub pattern-read : (class : List ℕ) (name : Spelled) → IsPatternName name → name.kind ≡ kind_in class → pattern_in class name.text ≡ Some name
 unfolding pattern_in
 pattern-read class name h e = ap (λ k. result_ok (pattern_of k name.text)) (sym e) ∙ ap result_ok h
 
@@ -407,7 +415,7 @@ pattern-kind : (class : List ℕ) (name : Spelled) → pattern_in class name.tex
 unfolding pattern_in
 pattern-kind class name h = ap (λ (n : Spelled). n.kind) (unless-name _ (record { kind = kind_in class; text = name.text }) name h)
 
-member-read : (profile : List ℕ) (name : Spelled) → IsMemberName name → name.kind ≡ kind_in profile → member_in profile name.text ≡ Some name
+pub member-read : (profile : List ℕ) (name : Spelled) → IsMemberName name → name.kind ≡ kind_in profile → member_in profile name.text ≡ Some name
 unfolding member_in
 member-read profile name h e = ap (λ k. result_ok (member_of k name.text)) (sym e) ∙ ap result_ok h
 
@@ -571,6 +579,15 @@ unfolding profile
 decided-profile names class entries before = (profile_ names class entries before).decided
 
 -- ---- classes
+pub class-below : (c : ClassRow) → class_flags c < 8
+class-below c = omega (arith, bit-digit 1 c.active, bit-digit 2 c.listed, bit-digit 4 c.global, small c.active, small c.listed, small c.global)
+
+pub class-set-1 : (c : ClassRow) → is_set (class_flags c) 1 ≡ c.active
+class-set-1 c = three-1 c.active c.listed c.global
+
+pub class-set-2 : (c : ClassRow) → is_set (class_flags c) 2 ≡ c.listed
+class-set-2 c = three-2 c.active c.listed c.global
+
 pub flags-class : (c : ClassRow) → c ≡ record { name = c.name; active = is_set (class_flags c) 1; listed = is_set (class_flags c) 2; global = is_set (class_flags c) 4; log = c.log; profiles = c.profiles }
 flags-class c = rw (three-1 c.active c.listed c.global, three-2 c.active c.listed c.global, three-4 c.active c.listed c.global) refl
 

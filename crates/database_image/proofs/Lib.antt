@@ -25,3 +25,5 @@ mod Verdicts
 mod WorkedFaults
 mod FitFields
 mod FitGroups
+mod FitUsers
+mod FitProfiles

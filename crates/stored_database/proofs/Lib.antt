@@ -3,4 +3,4 @@ mod Front
 mod Users
 mod Profiles
 mod Classes
-mod Faults
+mod Told

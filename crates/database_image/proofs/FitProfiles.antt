@@ -22,6 +22,7 @@ use Rattle.generic_names.specs.declared.fault.NameFault.{NameFault}
 use Rattle.generic_names.specs.Spelled.{Spelled}
 use Rattle.generic_names.specs.Faults.{longest, unless}
 use Rattle.generic_names.specs.Covers.{is_generic}
+use Rattle.generic_names.specs.Laws.{IsPattern}
 use Rattle.generic_names.specs.Before.{before as is_before}
 use Rattle.racf_profiles.specs.declared.options.Options.{Options}
 use Rattle.racf_profiles.specs.declared.profiles.Profile.{Profile}
@@ -48,7 +49,7 @@ use Rattle.database_image.specs.Spelled.{IsId, IsWho, IsPatternName, IsMemberNam
 use Rattle.database_image.proofs.Honest.{IsFilled, filled-id, no-star}
 use Rattle.database_image.proofs.JudgedRows.{same-kind, pattern-read, member-read, spelled-size, longest-at-most}
 use Rattle.database_image.proofs.FitFields.{spelled-number, at-most, spelled-set, spelled-id, spelled-label, spelled-who, spelled-level, spelled-port, spelled-flag, spelled-audit, items-fit, new-in}
-use Rattle.database_image.proofs.FitGroups.{all-both}
+use Rattle.database_image.proofs.FitGroups.{all-of, all-both}
 use Rattle.database_image.proofs.FitUsers.{set-below, all-pass}
 
 -- ---- entries of one list have keys of their own
@@ -171,3 +172,89 @@ module _ (categories : List (List ℕ)) (class profile_name : List ℕ) where
   member-at before (members.Category name) k new options h e =
       let two = and_parts (bytes_eq class (codes "SECDATA") && bytes_eq profile_name (codes "CATEGORY")) (list_any (λ other. bytes_eq other name) options.categories) h in
       ((spelled-number 1 3 (omega arith), let g = two.0 in rw g refl), ((spelled-id name k, and_from _ _ new (ap (list_any (λ other. bytes_eq other name)) e ∙ two.1)), refl))
+
+pub members-fit : (options : Options) (class profile_name : List ℕ) (ms : List Member) → AllByRecursion IsSpelledMember ms → IsDistinct bytes_eq (map member_name ms) → list_all (is_member_of options class profile_name) ms ≡ true → ItemsFit (member options.categories class profile_name) [] ms
+members-fit options class profile_name ms all distinct fitting =
+    items-fit (member options.categories class profile_name) (λ m. IsSpelledMember m × (is_member_of options class profile_name m ≡ true)) ms
+    (λ before m rest e k. member-at options.categories class profile_name before m k.0 (new-in member_name before m rest ms e distinct) options k.1 refl)
+    [] ms refl (all-both IsSpelledMember (λ m. is_member_of options class profile_name m ≡ true) ms all (all-pass (is_member_of options class profile_name) ms fitting))
+
+-- ---- the name of a profile
+class-id : (classes : List ClassRow) (q : List ℕ) → AllByRecursion IsSpelledClass classes → is_some (find (is_class q) classes) ≡ true → IsId q
+class-id [] q all h = absurd cc
+class-id (c ∷ classes) q all h = by (bytes_eq c.name q) refl (class-id classes q all.1) h
+  where
+    by : (b : Bool) → bytes_eq c.name q ≡ b → (is_some (find (is_class q) classes) ≡ true → IsId q) → is_some (cond b (Some c) (find (is_class q) classes)) ≡ true → IsId q
+    by true e more k = subst IsId (same c.name q e) all.0.name
+    by false e more k = more k
+
+ok-id : (text : List ℕ) → IsId text → is_ok (id_of text) ≡ true
+ok-id text h = ap is_ok h
+
+behind-order : (before : List Profile) (p : Profile) (rest : List Profile) → is_in_order (before ++ p ∷ rest) ≡ true → comes_behind before p.name ≡ true
+behind-order [] p rest h = refl
+behind-order (a ∷ []) p rest h = (and_parts (is_before a.name p.name) (is_in_order (p ∷ rest)) h).0
+behind-order (a ∷ b ∷ before) p rest h = behind-order (b ∷ before) p rest (and_parts (comes_first a.name (b ∷ (before ++ p ∷ rest))) (is_in_order (b ∷ (before ++ p ∷ rest))) h).1
+
+module _ (rows : Rows) (lawful : AreLawful rows) (spelled : AreSpelled rows) where
+  named-so : (form : NameForm) (text : List ℕ) → lawful_names.is_named_by form rows text ≡ true → is_named_by form text ≡ true
+  named-so names.DataSet text h = h
+  named-so names.General text h = h
+  named-so names.LevelOrCategory text h = h
+  named-so names.Identifier text h = h
+  named-so names.Class text h = ok-id text (class-id rows.classes text spelled.classes h)
+
+  placed : (class : List ℕ) (before : List Profile) (name : Spelled) → option_map_or (is_profile_name rows name) (facts_of class) false ≡ true → comes_behind before name ≡ true → is_pattern_at class before name ≡ true
+  unfolding is_pattern_at
+  placed class before name h k = by (facts_of class) h
+    where
+      by : (o : Option ClassFacts) → option_map_or (is_profile_name rows name) o false ≡ true → option_map_or (λ facts. is_name_in facts name && comes_behind before name) o false ≡ true
+      by None h = absurd cc
+      by (Some facts) h =
+          let parts = and_parts (lawful_names.is_named_by facts.names rows name.text) (not (is_generic name) || facts.generic) h in
+          and_from _ _ (and_from _ _ (named-so facts.names name.text parts.0) parts.1) k
+
+  -- ---- a profile of a class, where so many entries are in the classes before
+  module _ (class : List ℕ) (entries : ℕ) (all : List Profile) (are : AreProfiles (kind_in class) all) (few : entries + sum_by entries_in all ≤ 1000000) where
+    abbrev IsOne : Profile → Type 0
+    IsOne p = IsSpelledProfile p × (IsProfile rows class p × (p.name.kind ≡ kind_in class))
+
+    profile-fits : (before : List Profile) (p : Profile) (rest : List Profile) → before ++ p ∷ rest ≡ all → IsOne p → (profile rows.options.categories class entries before).Fits p
+    unfolding profile
+    profile-fits before p rest e k =
+        let s = k.0 in
+        let is = k.1.0 in
+        let kind : p.name.kind ≡ kind_in class = k.1.1 in
+        let size : (nat_le 1 (length p.name.text) && nat_le (length p.name.text) (longest (kind_in class))) ≡ true = subst (λ n. (nat_le 1 (length p.name.text) && nat_le (length p.name.text) (longest n)) ≡ true) kind (pattern-length p.name s.name) in
+        let small : length p.name.text < 65536 = longest-small (kind_in class) (length p.name.text) (and_parts (nat_le 1 (length p.name.text)) _ size).1 in
+        let behind : comes_behind before p.name ≡ true = behind-order before p rest (ap is_in_order e ∙ are.ordered) in
+        let audits = and_parts (is_audit p.audit) (is_audit p.global_audit) is.audit in
+        let audit = and_parts (is_logged_level p.audit.success) (is_logged_level p.audit.failures) audits.0 in
+        let global = and_parts (is_logged_level p.global_audit.success) (is_logged_level p.global_audit.failures) audits.1 in
+        let set = set-below p.categories (length rows.options.categories) lawful.categories.few is.categories in
+        let sum : sum_by entries_in all ≡ sum_by entries_in before + (entries_in p + sum_by entries_in rest) = ap (sum_by entries_in) (sym e) ∙ sum_by-append entries_in before (p ∷ rest) ∙ ap (λ n. sum_by entries_in before + n) (sum_by-cons entries_in p rest) in
+        let one : entries + sum_by entries_in before + length p.standard ≤ 1000000 = omega (arith, sum, few) in
+        let two : entries + sum_by entries_in before + length p.standard + length p.conditional ≤ 1000000 = omega (arith, sum, few) in
+        (((spelled-number 2 (length p.name.text) small, size), (record { whole = refl; back = pattern-read class p.name s.name kind }, placed class before p.name is.name behind)),
+          ((spelled-id p.owner s.owner, refl),
+            ((spelled-level p.uacc, refl),
+              ((spelled-flag p.warning, refl),
+                ((spelled-audit p.audit.success audit.0, refl),
+                  ((spelled-audit p.audit.failures audit.1, refl),
+                    ((spelled-audit p.global_audit.success global.0, refl),
+                      ((spelled-audit p.global_audit.failures global.1, refl),
+                        ((spelled-number 1 p.level s.level, refl),
+                          ((spelled-set p.categories set.0, set.1),
+                            ((spelled-label p.label s.label, refl),
+                              (((spelled-number 2 (length p.standard) (omega (arith, is.entries.few)), and_from _ _ (at-most (length p.standard) 1000 is.entries.few) (at-most (entries + sum_by entries_in before + length p.standard) 1000000 one)),
+                                  entries-fit p.standard s.standard is.entries.distinct),
+                                (((spelled-number 2 (length p.conditional) (omega (arith, is.entries.few_when)), and_from _ _ (at-most (length p.conditional) 1000 is.entries.few_when) (at-most (entries + sum_by entries_in before + length p.standard + length p.conditional) 1000000 two)),
+                                    conds-fit p.conditional s.conditional is.entries.distinct_when),
+                                  (((spelled-number 2 (length p.members) (omega (arith, is.members.few)), at-most (length p.members) 1000 is.members.few),
+                                      members-fit rows.options class p.name.text p.members s.members is.members.distinct is.members.fitting),
+                                    refl))))))))))))))
+
+    pub profiles-fit : AllByRecursion IsSpelledProfile all → AllByRecursion (IsProfile rows class) all → ItemsFit (profile rows.options.categories class entries) [] all
+    profiles-fit s is =
+        items-fit (profile rows.options.categories class entries) IsOne all profile-fits [] all refl
+        (all-both IsSpelledProfile (λ p. IsProfile rows class p × (p.name.kind ≡ kind_in class)) all s (all-both (IsProfile rows class) (λ p. p.name.kind ≡ kind_in class) all is (all-of (λ (p : Profile). IsPattern p.name × (p.name.kind ≡ kind_in class)) (λ p. p.name.kind ≡ kind_in class) (λ p h. h.1) all are.named)))

@@ -27,3 +27,4 @@ mod FitFields
 mod FitGroups
 mod FitUsers
 mod FitProfiles
+mod FitRows

@@ -16,7 +16,7 @@ use Rattle.database_image.specs.Misleading.{marks}
 use Rattle.database_image.specs.Spelled.{AreSpelled}
 use Rattle.database_image.proofs.Images.{fields_only, behind-first}
 use Rattle.database_image.proofs.Judged.{FindsIn, IsCut, IsWhole, Judgement}
-use Rattle.database_image.proofs.JudgedRows.{judged-rows, wide-rows}
+use Rattle.database_image.proofs.JudgedRows.{judged-rows, wide-rows, decided-image}
 
 -- ---- a fault that the first pass finds
 from-place : (place left size : ℕ) → place + left ≡ size → size - left ≡ place
@@ -71,3 +71,23 @@ first rows read (Ok other) j r = tt
 first rows read (Err faults.NoMemory) j r = tt
 first rows (Ok copy) (Err (faults.BadField place)) j r = absurd cc
 first rows (Err at) (Err (faults.BadField place)) j r = let e : at ≡ place = cc in subst (FirstUnlawful rows) e j
+
+-- ---- a first unlawful field is one, and no stored rows have one
+pub apart : (rows : Rows) (place : ℕ) → IsStored rows → FirstUnlawful rows place → ⊥
+apart rows place stored (inl fault) = decided-image.apart rows stored.fields place fault
+apart rows place stored (inr broken) = let e : None ≡ Some place = sym stored.between ∙ broken.1 in cc
+
+the-place : (m n : ℕ) → (let o : Option ℕ = Some m in o ≡ Some n) → m ≡ n
+the-place m n h = cc
+
+pub one : (rows : Rows) (place other : ℕ) → FirstUnlawful rows place → FirstUnlawful rows other → place ≡ other
+one rows place other (inl a) (inl b) = decided-image.one rows place other a b
+one rows place other (inl a) (inr b) = absurd (decided-image.apart rows b.0 place a)
+one rows place other (inr a) (inl b) = absurd (decided-image.apart rows a.0 other b)
+one rows place other (inr a) (inr b) = the-place place other (sym a.1 ∙ b.1)
+
+-- so nothing but want of memory is told of rows that an image may hold, as of lawful ones
+pub no-memory : (rows : Rows) (result : Result Rows ImageFault) → IsStored rows → IfErr result (IsFirst rows) → IfErr result (λ fault. fault ≡ faults.NoMemory)
+no-memory rows (Ok copy) stored h = tt
+no-memory rows (Err faults.NoMemory) stored h = refl
+no-memory rows (Err (faults.BadField place)) stored h = absurd (apart rows place stored h)

@@ -1,5 +1,7 @@
 //! Rows, judged by their image.
 ghost use Rattle.std.specs.Prelude.{◌≡◌, IfOk, IfErr};
+ghost use Rattle.racf_profiles.specs.Lawful.{AreLawful};
+ghost use Rattle.database_image.specs.Spelled.{AreSpelled};
 ghost use Rattle.database_image.specs.Image.{rows_of, IsStored, IsFirst, Judges};
 
 use crate::faults::ImageFault;
@@ -21,6 +23,9 @@ pub fn stored_copy(alloc: Global, rows: &Rows) -> Result<Rows, ImageFault>
 
     // A fault is the first of the rows.
     ensures first { IfErr result (IsFirst rows.now) }
+
+    // Nothing but want of memory is told of lawful rows.
+    ensures lawful { AreLawful rows.now → IfErr result (λ fault. fault ≡ ImageFault.NoMemory) }
 {
     match telling_image(alloc, rows) {
         Ok(image) => read(alloc, &image),
@@ -30,7 +35,8 @@ pub fn stored_copy(alloc: Global, rows: &Rows) -> Result<Rows, ImageFault>
 
 /// The image of rows, up to the first field that misleads: a field that doesn't end within its bytes has no lawful value.
 fn telling_image(alloc: Global, rows: &Rows) -> Result<Vec<u8>, NoMemory>
-    ensures { IfOk result (λ bytes. Judges rows.now (rows_of bytes.items)) }
+    ensures judges { IfOk result (λ bytes. Judges rows.now (rows_of bytes.items)) }
+    ensures spelled { IfOk result (λ bytes. AreSpelled rows.now) }
 {
     let mut image = write(alloc, rows)?;
     let size = image.len();

@@ -13,8 +13,8 @@ first_misleading-requires c =
     let size : c.len-size.result ≡ length (image_of rows) = search rules in
     omega (arith, w, size)
 
-pub returns : goal.returns
-returns c =
+pub returns-clause-judges : goal.returns-clause-judges
+returns-clause-judges c =
     let rows = c.args.rows.now in
     let end : c.unwrap_or-end.result ≡ unwrap_or (first_broken (marks rows)) (length (image_of rows)) = search rules in
     let bytes : c.truncate.new.self.items ≡ until (first_broken (marks rows)) (image_of rows) = search rules in

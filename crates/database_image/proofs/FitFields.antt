@@ -1,13 +1,13 @@
 -- Fields of lawful values fit, and so do lists of them.
-use Rattle.std.proofs.Common.{◌≡◌, ℕ, zero, suc, ◌+◌, ◌^◌, ◌<◌, ◌≤◌, Bool, true, false, cond, List, [], ◌∷◌, ◌++◌, length, map, Option, Some, None, Ok, is_ok, bytes_eq, refl, sym, ap, subst, ◌∙◌, append_assoc, true≢false, arith}
-use Rattle.std.specs.Prelude.{not, nat_le, nat_lt, ◌||◌, IsTrue}
+use Rattle.std.proofs.Common.{◌≡◌, ℕ, ◌^◌, ◌<◌, ◌≤◌, Bool, true, false, List, [], ◌∷◌, ◌++◌, map, Option, Some, None, Ok, bytes_eq, refl, sym, ap, subst, ◌∙◌, append_assoc, arith}
+use Rattle.std.specs.Prelude.{not, nat_le, nat_lt}
 use Rattle.std.specs.List.{AllByRecursion, IsDistinct, list_any}
 use Rattle.std.proofs.lemmas.Bool.Decides.{nat_tests}
 use Rattle.std.proofs.lemmas.List.{append-nil, map-append}
 use Rattle.std.proofs.lemmas.Map.Keys.{IsDistinct-head, IsDistinct-tail}
 use Rattle.byteorder.specs.Endian.{big_bytes, big_number, little_bytes, little_number}
 use Rattle.byteorder.specs.Numbers.{length-bytes_high_first, length-bytes_low_first, big_number-reads_back, little_number-reads_back}
-use Rattle.access_levels.specs.Spelling.{id_of, group_of}
+use Rattle.access_levels.specs.Spelling.{group_of}
 use Rattle.access_levels.specs.Level.{level_rank, levels, authority_rank, authorities, port_classes}
 use Rattle.access_levels.specs.declared.levels.Level.{Level}
 use Rattle.access_levels.specs.declared.levels.Level.TheVariants.{NoAccess, Execute, Read, Update, Control, Alter}
@@ -21,11 +21,11 @@ use Rattle.racf_profiles.specs.declared.class_rows.LogOption.{LogOption}
 use Rattle.racf_profiles.specs.declared.class_rows.LogOption.TheVariants as log
 use Rattle.racf_profiles.specs.LawfulProfiles.{is_logged_level}
 use Rattle.racf_profiles.proofs.Named.{turned}
-use Rattle.database_image.specs.Forms.{Form, Spelling, IsSpelled, number_spelling, number, ItemsFit}
+use Rattle.database_image.specs.Forms.{Form, IsSpelled, number_spelling, ItemsFit}
 use Rattle.database_image.specs.Fields.{of_text, filled_spelling, itself, id_text, group_text, text_or_none, unless_blank, who_text, who_of, rank_spelling, set_spelling, is_new, id}
 use Rattle.database_image.specs.Description.{audit_rank, audit_levels, flag_rank, port_rank, log_rank, log_options}
 use Rattle.database_image.specs.Spelled.{IsId, IsIdOrNone, IsWho}
-use Rattle.database_image.proofs.Honest.{filled-id, honest-who, named-who}
+use Rattle.database_image.proofs.Honest.{filled-id, named-who}
 
 -- ---- numbers
 pub spelled-number : (width n : ℕ) → n < 256 ^ width → IsSpelled (number_spelling width) n

@@ -1,6 +1,6 @@
 -- The options and groups of lawful rows fit, and their facts hold.
-use Rattle.std.proofs.Common.{◌≡◌, ℕ, zero, suc, ◌+◌, ◌^◌, ◌<◌, ◌≤◌, Bool, true, false, cond, List, [], ◌∷◌, ◌++◌, length, map, Option, Some, None, Ok, is_some, bytes_eq, refl, sym, ap, subst, ◌∙◌, append_assoc, ◌-◌, true≢false, arith}
-use Rattle.std.specs.Prelude.{not, ◌&&◌, IsSomeAnd, IsTrue, find}
+use Rattle.std.proofs.Common.{◌≡◌, ℕ, zero, suc, ◌+◌, ◌≤◌, Bool, true, false, cond, List, [], ◌∷◌, ◌++◌, length, map, Option, Some, None, Ok, is_some, bytes_eq, refl, sym, ap, subst, ◌∙◌, append_assoc, ◌-◌, arith}
+use Rattle.std.specs.Prelude.{not, IsSomeAnd}
 use Rattle.std.specs.List.{AllByRecursion, IsDistinct}
 use Rattle.std.specs.Option.{option_and_then, option_map_or}
 use Rattle.std.proofs.lemmas.Bool.{and_from, false_from_ne_true}
@@ -10,17 +10,15 @@ use Rattle.racf_profiles.specs.declared.groups.Group.{Group}
 use Rattle.racf_profiles.specs.declared.options.Options.{Options}
 use Rattle.racf_profiles.specs.declared.rows.Rows.{Rows}
 use Rattle.racf_profiles.specs.NewDatabase.{sys1}
-use Rattle.racf_profiles.specs.Lookup.{is_group, find_group, IsGroup}
-use Rattle.racf_profiles.specs.Scope.{IsUnder, IsWay, IsWithin}
-use Rattle.racf_profiles.specs.Tree.{IsTree}
+use Rattle.racf_profiles.specs.Lookup.{is_group, find_group}
+use Rattle.racf_profiles.specs.Scope.{IsUnder, IsWay}
 use Rattle.racf_profiles.specs.Lawful.{AreLawful, AreCategories}
 use Rattle.racf_profiles.proofs.Named.{same, itself}
 use Rattle.racf_profiles.proofs.States.{find-passes}
-use Rattle.database_image.specs.Fields.{is_new}
 use Rattle.database_image.specs.Description.{option_flags, options, is_superior_of, group}
 use Rattle.database_image.specs.Facts.{Fact, told, told_of_each, first_broken, group_facts, is_superior_in, leads_to}
 use Rattle.database_image.specs.Forms.{ItemsFit}
-use Rattle.database_image.specs.Spelled.{IsId, IsIdOrNone, IsSpelledGroup, AreSpelled}
+use Rattle.database_image.specs.Spelled.{IsId, IsSpelledGroup, AreSpelled}
 use Rattle.database_image.specs.Ways.{above, climbed}
 use Rattle.database_image.proofs.Climbs.{climbed-zero, climbed-suc, climbed-add, join, step_first, walk_of}
 use Rattle.database_image.proofs.Told.{none-first, one-holds}
@@ -176,9 +174,10 @@ module _ (rows : Rows) (lawful : AreLawful rows) (spelled : AreSpelled rows) whe
   group-fits : (before : List Group) (g : Group) (rest : List Group) → before ++ g ∷ rest ≡ groups → IsSpelledGroup g × (group_spelled g.id ≡ Ok g.id) → (group before).Fits g
   unfolding group
   group-fits before g rest e k =
-      let superior = superior-lawful g (found-in before g rest e) g.superior refl in
-      ((spelled-group g.id (record { id = k.0.id; group = k.1 }), new-in (λ (h : Group). h.id) before g rest groups e lawful.groups.distinct),
-        ((spelled-superior g.superior superior.1, superior.0), ((spelled-id g.owner k.0.owner, refl), refl)))
+      let superior = superior-lawful g (found-in before g rest e) g.superior refl in (
+        (spelled-group g.id (record { id = k.0.id; group = k.1 }), new-in (λ (h : Group). h.id) before g rest groups e lawful.groups.distinct),
+        ((spelled-superior g.superior superior.1, superior.0), ((spelled-id g.owner k.0.owner, refl), refl)),
+      )
 
   pub groups-fit : ItemsFit group [] groups
   groups-fit = items-fit group (λ h. IsSpelledGroup h × (group_spelled h.id ≡ Ok h.id)) groups group-fits [] groups refl (all-both IsSpelledGroup (λ h. group_spelled h.id ≡ Ok h.id) groups spelled.groups lawful.group_names)

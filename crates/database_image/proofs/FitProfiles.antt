@@ -1,6 +1,6 @@
 -- The profiles of lawful rows fit.
-use Rattle.std.proofs.Common.{◌≡◌, ℕ, zero, suc, ◌+◌, ◌^◌, ◌<◌, ◌≤◌, Bool, true, false, cond, List, [], ◌∷◌, ◌++◌, length, map, Option, Some, None, Ok, is_ok, is_some, bytes_eq, refl, sym, ap, subst, ◌∙◌, append_assoc, true≢false, arith, take, drop}
-use Rattle.std.specs.Prelude.{not, ◌&&◌, ◌||◌, ◌==◌, codes, nat_lt, nat_le, IsTrue, find}
+use Rattle.std.proofs.Common.{◌≡◌, ℕ, zero, suc, ◌+◌, ◌<◌, ◌≤◌, Bool, true, false, cond, List, [], ◌∷◌, ◌++◌, length, map, Option, Some, None, is_ok, is_some, bytes_eq, refl, sym, ap, subst, ◌∙◌, true≢false, arith, take, drop}
+use Rattle.std.specs.Prelude.{not, ◌&&◌, ◌||◌, ◌==◌, codes, nat_lt, nat_le, find}
 use Rattle.std.specs.List.{AllByRecursion, IsDistinct, list_any, list_all, sum_by}
 use Rattle.std.specs.Option.{option_map_or}
 use Rattle.std.proofs.lemmas.Bool.{and_parts, and_from, leb-true, false_from_ne_true}
@@ -9,7 +9,7 @@ use Rattle.std.proofs.lemmas.List.{take_at, drop_at}
 use Rattle.std.proofs.lemmas.List.Sums.{sum_by-append, sum_by-cons}
 use Rattle.std.proofs.lemmas.Map.Keys.{IsDistinct-head, IsDistinct-tail, IsDistinct-cons}
 use Rattle.access_levels.specs.Spelling.{id_of}
-use Rattle.access_levels.specs.Entries.{is_same_who, is_same_port}
+use Rattle.access_levels.specs.Entries.{is_same_who}
 use Rattle.access_levels.specs.Level.{port_class_name}
 use Rattle.access_levels.specs.declared.entries.Who.{Who}
 use Rattle.access_levels.specs.declared.entries.Who.TheVariants.{Star, Named}
@@ -18,9 +18,8 @@ use Rattle.access_levels.specs.declared.entries.CondEntry.{CondEntry}
 use Rattle.access_levels.specs.declared.entries.PortClass.{PortClass}
 use Rattle.access_levels.specs.declared.entries.PortClass.TheVariants.{Terminal, Console, Jesinput, Appcport}
 use Rattle.generic_names.specs.declared.kind.NameKind.{NameKind}
-use Rattle.generic_names.specs.declared.fault.NameFault.{NameFault}
 use Rattle.generic_names.specs.Spelled.{Spelled}
-use Rattle.generic_names.specs.Faults.{longest, unless}
+use Rattle.generic_names.specs.Faults.{longest}
 use Rattle.generic_names.specs.Covers.{is_generic}
 use Rattle.generic_names.specs.Laws.{IsPattern}
 use Rattle.generic_names.specs.Before.{before as is_before}
@@ -36,17 +35,16 @@ use Rattle.racf_profiles.specs.declared.rows.Rows.{Rows}
 use Rattle.racf_profiles.specs.ClassTable.{facts_of}
 use Rattle.racf_profiles.specs.Counts.{entries_in}
 use Rattle.racf_profiles.specs.Edits.{comes_first, is_in_order}
-use Rattle.racf_profiles.specs.Limits.{most_list_entries, most_entries_in_all, most_members}
-use Rattle.racf_profiles.specs.Lookup.{is_class, class_of}
+use Rattle.racf_profiles.specs.Lookup.{is_class}
 use Rattle.racf_profiles.specs.LawfulProfiles.{kind_in, is_profile_name, is_same_entry, is_logged_level, is_audit, is_of_kind, is_member_of, member_name, AreProfiles, IsProfile}
 use Rattle.racf_profiles.specs.LawfulProfiles as lawful_names
 use Rattle.racf_profiles.specs.Lawful.{AreLawful}
 use Rattle.racf_profiles.proofs.Named.{same, itself, turned}
-use Rattle.database_image.specs.Forms.{ItemsFit, IsSpelled}
+use Rattle.database_image.specs.Forms.{ItemsFit}
 use Rattle.database_image.specs.Fields.{is_new, filled, who_text, text_in}
-use Rattle.database_image.specs.Description.{is_named_by, is_name_in, comes_behind, is_pattern_at, entry, entry_key, port_rank, cond_key, cond_entry, cond_entry_key, member_kind, is_kind_in, member, member_of_kind, profile}
+use Rattle.database_image.specs.Description.{is_named_by, is_name_in, comes_behind, is_pattern_at, entry, entry_key, port_rank, cond_entry, cond_entry_key, member, profile}
 use Rattle.database_image.specs.Spelled.{IsId, IsWho, IsPatternName, IsMemberName, IsSpelledMember, IsSpelledProfile, IsSpelledClass, AreSpelled}
-use Rattle.database_image.proofs.Honest.{IsFilled, filled-id, no-star}
+use Rattle.database_image.proofs.Honest.{filled-id, no-star}
 use Rattle.database_image.proofs.JudgedRows.{same-kind, pattern-read, member-read, spelled-size, longest-at-most}
 use Rattle.database_image.proofs.FitFields.{spelled-number, at-most, spelled-set, spelled-id, spelled-label, spelled-who, spelled-level, spelled-port, spelled-flag, spelled-audit, items-fit, new-in}
 use Rattle.database_image.proofs.FitGroups.{all-of, all-both}
@@ -162,9 +160,10 @@ module _ (categories : List (List ℕ)) (class profile_name : List ℕ) where
       let both = and_parts (bytes_eq class (codes "GLOBAL")) (is_of_kind (kind_in profile_name) resources.kind) h in
       let kind : resources.kind ≡ kind_in profile_name = same-kind (kind_in profile_name) resources.kind both.1 in
       let size : (nat_le 1 (length resources.text) && nat_le (length resources.text) (longest (kind_in profile_name))) ≡ true = subst (λ n. (nat_le 1 (length resources.text) && nat_le (length resources.text) (longest n)) ≡ true) kind (member-length resources k) in
-      let small : length resources.text < 65536 = longest-small (kind_in profile_name) (length resources.text) (and_parts (nat_le 1 (length resources.text)) _ size).1 in
-      ((spelled-number 1 1 (omega arith), let g = both.0 in rw g refl),
-        (((spelled-number 2 (length resources.text) small, size), (record { whole = refl; back = member-read profile_name resources k kind }, new)), ((spelled-level level, refl), refl)))
+      let small : length resources.text < 65536 = longest-small (kind_in profile_name) (length resources.text) (and_parts (nat_le 1 (length resources.text)) _ size).1 in (
+        (spelled-number 1 1 (omega arith), let g = both.0 in rw g refl),
+        (((spelled-number 2 (length resources.text) small, size), (record { whole = refl; back = member-read profile_name resources k kind }, new)), ((spelled-level level, refl), refl)),
+      )
   member-at before (members.SecurityLevel name number) k new options h e =
       let three = and_parts (bytes_eq class (codes "SECDATA") && bytes_eq profile_name (codes "SECLEVEL") && nat_le 1 number) (nat_le number 254) h in
       let two = and_parts (bytes_eq class (codes "SECDATA") && bytes_eq profile_name (codes "SECLEVEL")) (nat_le 1 number) three.0 in
@@ -234,25 +233,58 @@ module _ (rows : Rows) (lawful : AreLawful rows) (spelled : AreSpelled rows) whe
         let set = set-below p.categories (length rows.options.categories) lawful.categories.few is.categories in
         let sum : sum_by entries_in all ≡ sum_by entries_in before + (entries_in p + sum_by entries_in rest) = ap (sum_by entries_in) (sym e) ∙ sum_by-append entries_in before (p ∷ rest) ∙ ap (λ n. sum_by entries_in before + n) (sum_by-cons entries_in p rest) in
         let one : entries + sum_by entries_in before + length p.standard ≤ 1000000 = omega (arith, sum, few) in
-        let two : entries + sum_by entries_in before + length p.standard + length p.conditional ≤ 1000000 = omega (arith, sum, few) in
-        (((spelled-number 2 (length p.name.text) small, size), (record { whole = refl; back = pattern-read class p.name s.name kind }, placed class before p.name is.name behind)),
-          ((spelled-id p.owner s.owner, refl),
-            ((spelled-level p.uacc, refl),
-              ((spelled-flag p.warning, refl),
-                ((spelled-audit p.audit.success audit.0, refl),
-                  ((spelled-audit p.audit.failures audit.1, refl),
-                    ((spelled-audit p.global_audit.success global.0, refl),
-                      ((spelled-audit p.global_audit.failures global.1, refl),
-                        ((spelled-number 1 p.level s.level, refl),
-                          ((spelled-set p.categories set.0, set.1),
-                            ((spelled-label p.label s.label, refl),
-                              (((spelled-number 2 (length p.standard) (omega (arith, is.entries.few)), and_from _ _ (at-most (length p.standard) 1000 is.entries.few) (at-most (entries + sum_by entries_in before + length p.standard) 1000000 one)),
-                                  entries-fit p.standard s.standard is.entries.distinct),
-                                (((spelled-number 2 (length p.conditional) (omega (arith, is.entries.few_when)), and_from _ _ (at-most (length p.conditional) 1000 is.entries.few_when) (at-most (entries + sum_by entries_in before + length p.standard + length p.conditional) 1000000 two)),
-                                    conds-fit p.conditional s.conditional is.entries.distinct_when),
-                                  (((spelled-number 2 (length p.members) (omega (arith, is.members.few)), at-most (length p.members) 1000 is.members.few),
-                                      members-fit rows.options class p.name.text p.members s.members is.members.distinct is.members.fitting),
-                                    refl))))))))))))))
+        let two : entries + sum_by entries_in before + length p.standard + length p.conditional ≤ 1000000 = omega (arith, sum, few) in (
+          ((spelled-number 2 (length p.name.text) small, size), (record { whole = refl; back = pattern-read class p.name s.name kind }, placed class before p.name is.name behind)),
+          (
+            (spelled-id p.owner s.owner, refl),
+            (
+              (spelled-level p.uacc, refl),
+              (
+                (spelled-flag p.warning, refl),
+                (
+                  (spelled-audit p.audit.success audit.0, refl),
+                  (
+                    (spelled-audit p.audit.failures audit.1, refl),
+                    (
+                      (spelled-audit p.global_audit.success global.0, refl),
+                      (
+                        (spelled-audit p.global_audit.failures global.1, refl),
+                        (
+                          (spelled-number 1 p.level s.level, refl),
+                          (
+                            (spelled-set p.categories set.0, set.1),
+                            (
+                              (spelled-label p.label s.label, refl),
+                              (
+                                (
+                                  (spelled-number 2 (length p.standard) (omega (arith, is.entries.few)), and_from _ _ (at-most (length p.standard) 1000 is.entries.few) (at-most (entries + sum_by entries_in before + length p.standard) 1000000 one)),
+                                  entries-fit p.standard s.standard is.entries.distinct,
+                                ),
+                                (
+                                  (
+                                    (spelled-number 2 (length p.conditional) (omega (arith, is.entries.few_when)), and_from _ _ (at-most (length p.conditional) 1000 is.entries.few_when) (at-most (entries + sum_by entries_in before + length p.standard + length p.conditional) 1000000 two)),
+                                    conds-fit p.conditional s.conditional is.entries.distinct_when,
+                                  ),
+                                  (
+                                    (
+                                      (spelled-number 2 (length p.members) (omega (arith, is.members.few)), at-most (length p.members) 1000 is.members.few),
+                                      members-fit rows.options class p.name.text p.members s.members is.members.distinct is.members.fitting,
+                                    ),
+                                    refl,
+                                  ),
+                                ),
+                              ),
+                            ),
+                          ),
+                        ),
+                      ),
+                    ),
+                  ),
+                ),
+              ),
+            ),
+          ),
+        )
 
     pub profiles-fit : AllByRecursion IsSpelledProfile all → AllByRecursion (IsProfile rows class) all → ItemsFit (profile rows.options.categories class entries) [] all
     profiles-fit s is =

@@ -1,17 +1,15 @@
 -- Lawful rows fit, and the facts between their fields hold: an image may hold them.
-use Rattle.std.proofs.Common.{◌≡◌, ℕ, zero, suc, ◌+◌, ◌^◌, ◌<◌, ◌≤◌, Bool, true, false, cond, List, [], ◌∷◌, ◌++◌, length, map, Option, Some, None, is_some, bytes_eq, refl, sym, ap, subst, ◌∙◌, append_assoc, arith, eq-eqb}
-use Rattle.std.specs.Prelude.{not, ◌&&◌, ◌||◌, ◌==◌, codes, nat_lt, nat_le, IsTrue, if◌then◌else◌}
-use Rattle.std.specs.List.{AllByRecursion, list_any, sum_by, slice_get}
+use Rattle.std.proofs.Common.{◌≡◌, ℕ, ◌+◌, ◌≤◌, Bool, true, false, List, [], ◌∷◌, ◌++◌, length, map, Some, None, is_some, bytes_eq, refl, sym, ap, subst, ◌∙◌, arith, eq-eqb}
+use Rattle.std.specs.Prelude.{not, ◌||◌, codes, if◌then◌else◌}
+use Rattle.std.specs.List.{list_any, sum_by, slice_get}
 use Rattle.std.specs.Option.{option_map_or, option_eq}
 use Rattle.std.proofs.lemmas.Bool.{and_parts, and_from}
 use Rattle.std.proofs.lemmas.List.{map-append, length-map}
 use Rattle.std.proofs.lemmas.List.Sums.{sum_by-append, sum_by-cons}
 use Rattle.generic_names.specs.Covers.{is_generic}
-use Rattle.racf_profiles.specs.declared.users.User.{User}
 use Rattle.racf_profiles.specs.declared.profiles.Profile.{Profile}
 use Rattle.racf_profiles.specs.declared.class_rows.ClassRow.{ClassRow}
 use Rattle.racf_profiles.specs.declared.fixed_classes.ClassFacts.{ClassFacts}
-use Rattle.racf_profiles.specs.declared.fixed_classes.FixedClass.{FixedClass}
 use Rattle.racf_profiles.specs.declared.rows.Rows.{Rows}
 use Rattle.racf_profiles.specs.ClassTable.{class_name, fixed_classes, facts_of}
 use Rattle.racf_profiles.specs.Counts.{profile_count, entry_count, entries_in}
@@ -21,9 +19,8 @@ use Rattle.racf_profiles.specs.LawfulProfiles.{kind_in, is_profile_name, AreProf
 use Rattle.racf_profiles.specs.Lawful.{AreLawful}
 use Rattle.racf_profiles.proofs.Named.{same, itself}
 use Rattle.database_image.specs.Forms.{ItemsFit}
-use Rattle.database_image.specs.Fields.{is_set}
 use Rattle.database_image.specs.Description.{class_flags, are_class_flags, is_class_at, class, image}
-use Rattle.database_image.specs.Facts.{Fact, told, told_of_each, first_broken, group_width, user_width, class_width, profile_width, group_facts, user_facts, class_facts, profile_facts, groups_place, users_place, classes_place, later_facts, facts}
+use Rattle.database_image.specs.Facts.{told_of_each, first_broken, group_width, user_width, class_width, profile_width, group_facts, user_facts, class_facts, profile_facts, groups_place, users_place, classes_place, later_facts, facts}
 use Rattle.database_image.specs.Image.{IsStored}
 use Rattle.database_image.specs.Spelled.{IsSpelledClass, AreSpelled}
 use Rattle.database_image.proofs.Told.{none-first, one-holds}
@@ -71,13 +68,22 @@ module _ (rows : Rows) (lawful : AreLawful rows) (spelled : AreSpelled rows) whe
       let count : profile_count rows.classes ≡ profile_count before + (length c.profiles + profile_count rest) = ap profile_count (sym e) ∙ sum_by-append (λ (d : ClassRow). length d.profiles) before (c ∷ rest) ∙ ap (λ n. profile_count before + n) (sum_by-cons (λ (d : ClassRow). length d.profiles) c rest) in
       let held : entry_count rows.classes ≡ entry_count before + (sum_by entries_in c.profiles + entry_count rest) = ap entry_count (sym e) ∙ sum_by-append (λ (d : ClassRow). sum_by entries_in d.profiles) before (c ∷ rest) ∙ ap (λ n. entry_count before + n) (sum_by-cons (λ (d : ClassRow). sum_by entries_in d.profiles) c rest) in
       let few_in_all : profile_count before + length c.profiles ≤ 100000 = omega (arith, count, lawful.few_profiles) in
-      let few_entries : entry_count before + sum_by entries_in c.profiles ≤ 1000000 = omega (arith, held, lawful.few_entries) in
-      ((spelled-id c.name s.name, class-named before c rest e),
-        ((spelled-number 1 (class_flags c) (omega (arith, class-below c)), flags-lawful c is),
-          ((spelled-log c.log, refl),
-            (((spelled-number 4 (length c.profiles) (omega (arith, are.few)), and_from _ _ (at-most (length c.profiles) 50000 are.few) (at-most (profile_count before + length c.profiles) 100000 few_in_all)),
-                profiles-fit rows lawful spelled c.name (entry_count before) c.profiles are few_entries s.profiles is.profiles),
-              flags-class c))))
+      let few_entries : entry_count before + sum_by entries_in c.profiles ≤ 1000000 = omega (arith, held, lawful.few_entries) in (
+        (spelled-id c.name s.name, class-named before c rest e),
+        (
+          (spelled-number 1 (class_flags c) (omega (arith, class-below c)), flags-lawful c is),
+          (
+            (spelled-log c.log, refl),
+            (
+              (
+                (spelled-number 4 (length c.profiles) (omega (arith, are.few)), and_from _ _ (at-most (length c.profiles) 50000 are.few) (at-most (profile_count before + length c.profiles) 100000 few_in_all)),
+                profiles-fit rows lawful spelled c.name (entry_count before) c.profiles are few_entries s.profiles is.profiles,
+              ),
+              flags-class c,
+            ),
+          ),
+        ),
+      )
 
   classes-fit : ItemsFit (class rows.options.categories) [] rows.classes
   classes-fit =

@@ -1,6 +1,6 @@
 -- The users of lawful rows fit, and their facts hold.
-use Rattle.std.proofs.Common.{◌≡◌, ℕ, zero, suc, ◌+◌, ◌*◌, ◌%◌, ◌^◌, ◌<◌, ◌≤◌, Bool, true, false, cond, List, [], ◌∷◌, ◌++◌, length, map, Option, Some, None, Ok, is_some, bytes_eq, refl, sym, ap, subst, ◌∙◌, append_assoc, true≢false, arith, lit<, ⊎_elim, lt-ltb, le-ltb}
-use Rattle.std.specs.Prelude.{not, ◌&&◌, ◌||◌, codes, nat_lt, nat_le, IsSome, IsTrue, find}
+use Rattle.std.proofs.Common.{◌≡◌, ℕ, ◌+◌, ◌*◌, ◌%◌, ◌^◌, ◌<◌, ◌≤◌, Bool, true, false, cond, List, [], ◌∷◌, ◌++◌, length, map, Some, None, is_some, bytes_eq, refl, sym, ap, subst, ◌∙◌, arith, lit<, ⊎_elim, lt-ltb, le-ltb}
+use Rattle.std.specs.Prelude.{not, ◌&&◌, ◌||◌, codes, nat_lt, nat_le, find}
 use Rattle.std.specs.List.{AllByRecursion, IsDistinct, list_any, list_all}
 use Rattle.std.specs.Set.{is_member as is_among}
 use Rattle.std.specs.Cmp.Lexicographic.{nat_list_eq_equiv}
@@ -9,24 +9,20 @@ use Rattle.std.proofs.lemmas.Bool.{and_parts, and_from, leb-true, or_left, or_ri
 use Rattle.std.proofs.lemmas.List.Sums.{sum_by-append, sum_by-cons}
 use Rattle.std.proofs.lemmas.Map.Made.{length-le_from_is_member}
 use Rattle.access_levels.specs.Category.{is_member}
-use Rattle.access_levels.specs.Spelling.{group_of as group_spelled}
 use Rattle.racf_profiles.specs.declared.users.User.{User}
 use Rattle.racf_profiles.specs.declared.users.Connect.{Connect}
 use Rattle.racf_profiles.specs.declared.class_rows.ClassRow.{ClassRow}
-use Rattle.racf_profiles.specs.declared.fixed_classes.FixedClass.{FixedClass}
 use Rattle.racf_profiles.specs.declared.rows.Rows.{Rows}
 use Rattle.racf_profiles.specs.ClassTable.{class_name, fixed_classes}
-use Rattle.racf_profiles.specs.Limits.{most_connections, most_connections_in_all}
 use Rattle.racf_profiles.specs.Lookup.{find_group, is_class, class_of}
 use Rattle.racf_profiles.specs.Names.{is_to, is_connected_to, is_class_word, connections, connected_to}
 use Rattle.racf_profiles.specs.LawfulUsers.{IsUser, is_clauth_class, is_printable}
 use Rattle.racf_profiles.specs.Lawful.{AreLawful}
-use Rattle.racf_profiles.proofs.Named.{same, itself, turned}
-use Rattle.database_image.specs.Forms.{ItemsFit, IsSpelled}
-use Rattle.database_image.specs.Fields.{text_spelling, itself as its_text}
+use Rattle.racf_profiles.proofs.Named.{same, turned}
+use Rattle.database_image.specs.Forms.{ItemsFit}
 use Rattle.database_image.specs.Description.{attribute_flags, connect_flags, connection, printable, user}
-use Rattle.database_image.specs.Facts.{Fact, told, told_of_each, first_broken, user_width, class_id_width, connect_width, class_id_facts, connect_facts, user_facts, is_there}
-use Rattle.database_image.specs.Spelled.{IsId, IsSpelledUser, AreSpelled}
+use Rattle.database_image.specs.Facts.{told, told_of_each, first_broken, user_width, class_id_width, connect_width, class_id_facts, connect_facts, user_facts, is_there}
+use Rattle.database_image.specs.Spelled.{IsSpelledUser, AreSpelled}
 use Rattle.database_image.proofs.Sets.{built, is-below, low-member}
 use Rattle.database_image.proofs.Told.{none-first, one-holds}
 use Rattle.database_image.proofs.JudgedRows.{flags-attributes, flags-connection, attributes-below, connection-below}
@@ -111,19 +107,40 @@ module _ (rows : Rows) (lawful : AreLawful rows) (spelled : AreSpelled rows) whe
       let few : length u.classes ≤ 15 = few-words u.classes is.classes_distinct is.classes_there in
       let sum : connections rows.users ≡ connections before + (length u.connects + connections rest) = ap connections (sym e) ∙ sum_by-append connected_to before (u ∷ rest) ∙ ap (λ n. connections before + n) (sum_by-cons connected_to u rest) in
       let in_all : connections before + length u.connects ≤ 200000 = omega (arith, sum, lawful.few_connections) in
-      let default = connected-there u.default_group u.connects is.connections.default is.connections.there in
-      ((spelled-id u.id s.id, new-in (λ (v : User). v.id) before u rest rows.users e lawful.users.distinct),
-        ((spelled-group u.default_group (there-spelled rows lawful spelled u.default_group default), refl),
-          ((spelled-id u.owner s.owner, refl),
-            (((spelled-number 1 (length u.name) (omega (arith, short)), name.0), (record { whole = refl; back = shown u.name name.1 }, refl)),
-              (((spelled-number 1 (attribute_flags u.attributes) (omega (arith, attributes-below u.attributes)), below-limit (attribute_flags u.attributes) 64 (attributes-below u.attributes)), flags-attributes u.attributes),
-                ((spelled-number 1 u.level s.level, refl),
-                  ((spelled-set u.categories set.0, set.1),
-                    ((spelled-label u.label s.label, refl),
-                      (((spelled-number 1 (length u.classes) (omega (arith, few)), refl), ids-fit u.classes s.classes is.classes_distinct),
-                        (((spelled-number 2 (length u.connects) (omega (arith, is.connections.few)), and_from _ _ (at-most (length u.connects) 300 is.connections.few) (at-most (connections before + length u.connects) 200000 in_all)),
-                            connects-fit u.connects is.connections.distinct is.connections.there),
-                          refl))))))))))
+      let default = connected-there u.default_group u.connects is.connections.default is.connections.there in (
+        (spelled-id u.id s.id, new-in (λ (v : User). v.id) before u rest rows.users e lawful.users.distinct),
+        (
+          (spelled-group u.default_group (there-spelled rows lawful spelled u.default_group default), refl),
+          (
+            (spelled-id u.owner s.owner, refl),
+            (
+              ((spelled-number 1 (length u.name) (omega (arith, short)), name.0), (record { whole = refl; back = shown u.name name.1 }, refl)),
+              (
+                ((spelled-number 1 (attribute_flags u.attributes) (omega (arith, attributes-below u.attributes)), below-limit (attribute_flags u.attributes) 64 (attributes-below u.attributes)), flags-attributes u.attributes),
+                (
+                  (spelled-number 1 u.level s.level, refl),
+                  (
+                    (spelled-set u.categories set.0, set.1),
+                    (
+                      (spelled-label u.label s.label, refl),
+                      (
+                        ((spelled-number 1 (length u.classes) (omega (arith, few)), refl), ids-fit u.classes s.classes is.classes_distinct),
+                        (
+                          (
+                            (spelled-number 2 (length u.connects) (omega (arith, is.connections.few)), and_from _ _ (at-most (length u.connects) 300 is.connections.few) (at-most (connections before + length u.connects) 200000 in_all)),
+                            connects-fit u.connects is.connections.distinct is.connections.there,
+                          ),
+                          refl,
+                        ),
+                      ),
+                    ),
+                  ),
+                ),
+              ),
+            ),
+          ),
+        ),
+      )
 
   pub users-fit : ItemsFit (user (length rows.options.categories)) [] rows.users
   users-fit = items-fit (user (length rows.options.categories)) (λ u. IsSpelledUser u × IsUser rows u) rows.users user-fits [] rows.users refl (all-both IsSpelledUser (IsUser rows) rows.users spelled.users lawful.each_user)

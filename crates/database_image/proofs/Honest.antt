@@ -1,8 +1,7 @@
 -- What the fields of an image are read as: the value that was written, or nothing, where a type keeps the value.
-use Rattle.std.proofs.Common.{◌≡◌, ◌⊎◌, ℕ, zero, suc, ◌+◌, ◌-◌, ◌/◌, ◌%◌, ◌^◌, ◌<◌, ◌≤◌, Bool, true, false, cond, List, [], ◌∷◌, ◌++◌, length, replicate, Option, Some, None, Result, Ok, Err, is_ok, bytes_eq, refl, sym, ap, subst, ◌∙◌, true≢false, arith, inl, inr, ltb-true, lt-ltb, lit<, zero-add}
-use Rattle.std.specs.Prelude.{◌==◌, not, nat_lt, codes, find, option_map, IsTrue}
+use Rattle.std.proofs.Common.{◌≡◌, ◌⊎◌, ℕ, zero, suc, ◌+◌, ◌-◌, ◌/◌, ◌%◌, ◌^◌, ◌<◌, Bool, true, false, cond, List, [], ◌∷◌, ◌++◌, length, replicate, Option, Some, None, Result, Err, is_ok, bytes_eq, refl, sym, ap, subst, ◌∙◌, true≢false, arith, inl, inr, ltb-true, lt-ltb, lit<, zero-add}
+use Rattle.std.specs.Prelude.{◌==◌, not, nat_lt, codes, option_map}
 use Rattle.std.specs.List.{position_from, before_first, list_all}
-use Rattle.std.specs.Result.{result_ok}
 use Rattle.std.proofs.Math.Nat.{mod-lt}
 use Rattle.std.proofs.lemmas.Bool.{le-ltb}
 use Rattle.std.proofs.lemmas.Bool.Decides.{nat_tests}
@@ -11,7 +10,7 @@ use Rattle.std.proofs.lemmas.List.Sums.{take_while-cons}
 use Rattle.std.proofs.lemmas.Slice.Eq.{bytes_eq-Decides}
 use Rattle.byteorder.specs.Endian.{big_bytes, big_number, little_bytes, little_number}
 use Rattle.byteorder.specs.Numbers.{length-bytes_high_first, length-bytes_low_first, big_from-bytes, big_number-reads_back, little_from-bytes, little_number-reads_back}
-use Rattle.access_levels.specs.Spelling.{is_id_byte, id_of, group_of, unless_bad, bad_byte}
+use Rattle.access_levels.specs.Spelling.{is_id_byte, group_of, unless_bad, bad_byte}
 use Rattle.access_levels.specs.Level.{level_rank, levels, authority_rank, authorities, port_classes}
 use Rattle.access_levels.specs.declared.ids.IdFault.{IdFault}
 use Rattle.access_levels.specs.declared.ids.IdFault.TheVariants.{Empty, TooLong}
@@ -29,14 +28,14 @@ use Rattle.racf_profiles.specs.declared.class_rows.LogOption.TheVariants as log
 use Rattle.racf_profiles.specs.LawfulProfiles.{is_logged_level}
 use Rattle.racf_profiles.specs.LawfulUsers.{is_printable}
 use Rattle.database_image.specs.Reading.{Reading, ◌>>=◌, where_lawful}
-use Rattle.database_image.specs.Forms.{Form, Spelling, IsSpelled, spelled_at, valued, field, number_spelling}
+use Rattle.database_image.specs.Forms.{Spelling, IsSpelled, spelled_at, field, number_spelling}
 use Rattle.database_image.specs.Fields.{filled, is_blank, front, text_in, of_text, filled_spelling, itself, id_text, group_text, text_or_none, unless_blank, who_text, who_of, rank_spelling, set_spelling, text_spelling}
 use Rattle.database_image.specs.Description.{printable, audit_rank, audit_levels, flag_rank, port_rank, log_rank, log_options}
 use Rattle.database_image.specs.Facts.{told, first_broken}
 use Rattle.database_image.specs.Misleading.{has_room, is_of_bytes}
 use Rattle.database_image.specs.Spelled.{IsId, IsIdOrNone, IsWho}
-use Rattle.database_image.proofs.Exact.{IsExact, IsUnique, exact-field, spelled_again}
-use Rattle.database_image.proofs.Judged.{IsJudged, Judged, FindsIn, IsWhole, Judgement, decided-field}
+use Rattle.database_image.proofs.Exact.{IsUnique, exact-field, spelled_again}
+use Rattle.database_image.proofs.Judged.{IsJudged, FindsIn, IsWhole, Judgement}
 
 -- ---- a field
 

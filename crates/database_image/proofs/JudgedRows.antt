@@ -1,6 +1,6 @@
 -- The forms of the image judge rows that their types keep.
-use Rattle.std.proofs.Common.{◌≡◌, ℕ, zero, suc, ◌+◌, ◌*◌, ◌/◌, ◌%◌, ◌^◌, ◌<◌, ◌≤◌, Bool, true, false, cond, List, [], ◌∷◌, ◌++◌, length, map, Option, Some, None, Ok, refl, sym, ap, subst, ◌∙◌, arith, inl, inr}
-use Rattle.std.specs.Prelude.{nat_lt, nat_le, ◌&&◌, ◌==◌, IsTrue, bytes_eq}
+use Rattle.std.proofs.Common.{◌≡◌, ℕ, zero, suc, ◌+◌, ◌*◌, ◌/◌, ◌%◌, ◌^◌, ◌<◌, ◌≤◌, Bool, true, false, cond, List, [], ◌∷◌, ◌++◌, length, map, Option, Some, None, Ok, refl, sym, ap, subst, ◌∙◌, arith, inl}
+use Rattle.std.specs.Prelude.{nat_lt, nat_le, ◌&&◌, ◌==◌, bytes_eq}
 use Rattle.std.specs.List.{AllByRecursion, list_any, sum_by}
 use Rattle.std.specs.Result.{result_ok}
 use Rattle.std.proofs.lemmas.Bool.Decides.{nat_tests}
@@ -31,11 +31,11 @@ use Rattle.racf_profiles.specs.Names.{connections}
 use Rattle.racf_profiles.specs.Counts.{profile_count, entry_count, entries_in}
 use Rattle.racf_profiles.specs.Limits.{most_users, most_groups, most_connections, most_connections_in_all, most_class_profiles, most_profiles, most_list_entries, most_entries_in_all, most_members, most_categories}
 use Rattle.racf_profiles.specs.LawfulProfiles.{kind_in, member_name, is_of_kind, is_logged_level}
-use Rattle.database_image.specs.Forms.{Form, Spelling, the, followed, done, field, number, number_spelling, listed, IsSpelled}
+use Rattle.database_image.specs.Forms.{Form, Spelling, the, field, number, number_spelling, listed}
 use Rattle.database_image.specs.Fields.{any, below, at_most, id_text, group_text, itself, text_or_none, unless_blank, who_text, who_of, filled_spelling, rank_spelling, set_spelling, text_spelling, bit, is_set, is_new}
-use Rattle.database_image.specs.Description.{within, option_flags, options, is_superior_of, group, attribute_flags, attributes_of, attributes, connect_flags, connection, printable, user, spelled_text, pattern_in, member_in, is_pattern_at, audit_rank, audit_levels, flag_rank, entry, entry_key, port_rank, cond_key, cond_entry, cond_entry_key, member_kind, is_kind_in, resources_of, level_of_member, number_of_member, is_new_member, member_of_kind, member, profile, class_flags, are_class_flags, is_class_at, log_rank, log_options, class, image}
-use Rattle.database_image.specs.Facts.{Fact, told, told_of_each, first_broken, group_width, connect_width, user_width, member_width, profile_width, class_width, users_place, classes_place}
-use Rattle.database_image.specs.Misleading.{has_room, is_of_bytes, user_marks, member_marks, audit_marks, list_marks, profile_marks, class_marks, marks}
+use Rattle.database_image.specs.Description.{within, option_flags, options, is_superior_of, group, attribute_flags, attributes_of, connect_flags, connection, printable, user, spelled_text, pattern_in, member_in, is_pattern_at, audit_rank, audit_levels, flag_rank, entry, entry_key, port_rank, cond_key, cond_entry, cond_entry_key, member_kind, is_kind_in, resources_of, level_of_member, number_of_member, is_new_member, member_of_kind, member, profile, class_flags, are_class_flags, is_class_at, log_rank, log_options, class, image}
+use Rattle.database_image.specs.Facts.{Fact, told, told_of_each, first_broken, user_width, member_width, profile_width, class_width, classes_place}
+use Rattle.database_image.specs.Misleading.{has_room, is_of_bytes, user_marks, member_marks, profile_marks, class_marks, marks}
 use Rattle.database_image.specs.Spelled.{IsId, IsIdOrNone, IsWho, IsPatternName, IsMemberName, IsSpelledGroup, IsSpelledUser, IsSpelledMember, IsSpelledProfile, IsSpelledClass, AreSpelled}
 use Rattle.database_image.proofs.Wide.{same_width}
 use Rattle.database_image.proofs.Exact.{IsExact, IsUnique, IsSteady}
@@ -50,14 +50,22 @@ Always x = Unit {0}
 
 abbrev field_ : {A : Type 0} (spelling : Spelling A) (is_lawful : A → Bool) (Kept : A → Type 0) → IsUnique spelling → ((x : A) → Kept x → IsHonest spelling x) → Judged A
 field_ spelling is_lawful Kept unique honest = record {
-  form = field spelling is_lawful; width = λ x. spelling.width; Kept = Kept; marks = λ begin x. [];
-  is = judged-field spelling is_lawful Kept unique honest; decided = decided-field spelling is_lawful;
+  form = field spelling is_lawful;
+  width = λ x. spelling.width;
+  Kept = Kept;
+  marks = λ begin x. [];
+  is = judged-field spelling is_lawful Kept unique honest;
+  decided = decided-field spelling is_lawful;
 }
 
 abbrev marked_ : {A : Type 0} (spelling : Spelling A) (is_lawful : A → Bool) (Kept : A → Type 0) (test : A → Bool) → IsUnique spelling → MayMislead spelling Kept test → Judged A
 marked_ spelling is_lawful Kept test unique may = record {
-  form = field spelling is_lawful; width = λ x. spelling.width; Kept = Kept; marks = λ begin x. told begin (test x) ∷ [];
-  is = judged-marked spelling is_lawful Kept test unique may; decided = decided-field spelling is_lawful;
+  form = field spelling is_lawful;
+  width = λ x. spelling.width;
+  Kept = Kept;
+  marks = λ begin x. told begin (test x) ∷ [];
+  is = judged-marked spelling is_lawful Kept test unique may;
+  decided = decided-field spelling is_lawful;
 }
 
 abbrev byte_ : (ℕ → Bool) → Judged ℕ
@@ -250,13 +258,32 @@ attributes_ =
 
 pub attributes-below : (a : Attributes) → attribute_flags a < 64
 attributes-below a =
-    omega (arith, bit-digit 1 a.special, bit-digit 2 a.operations, bit-digit 4 a.auditor, bit-digit 8 a.restricted, bit-digit 16 a.revoked, bit-digit 32 a.uaudit,
-      small a.special, small a.operations, small a.auditor, small a.restricted, small a.revoked, small a.uaudit)
+    omega (
+      arith,
+      bit-digit 1 a.special,
+      bit-digit 2 a.operations,
+      bit-digit 4 a.auditor,
+      bit-digit 8 a.restricted,
+      bit-digit 16 a.revoked,
+      bit-digit 32 a.uaudit,
+      small a.special,
+      small a.operations,
+      small a.auditor,
+      small a.restricted,
+      small a.revoked,
+      small a.uaudit,
+    )
 
 pub flags-attributes : (a : Attributes) → a ≡ attributes_of (attribute_flags a)
 flags-attributes a =
-    rw (six-1 a.special a.operations a.auditor a.restricted a.revoked a.uaudit, six-2 a.special a.operations a.auditor a.restricted a.revoked a.uaudit, six-4 a.special a.operations a.auditor a.restricted a.revoked a.uaudit,
-      six-8 a.special a.operations a.auditor a.restricted a.revoked a.uaudit, six-16 a.special a.operations a.auditor a.restricted a.revoked a.uaudit, six-32 a.special a.operations a.auditor a.restricted a.revoked a.uaudit) refl
+    rw (
+      six-1 a.special a.operations a.auditor a.restricted a.revoked a.uaudit,
+      six-2 a.special a.operations a.auditor a.restricted a.revoked a.uaudit,
+      six-4 a.special a.operations a.auditor a.restricted a.revoked a.uaudit,
+      six-8 a.special a.operations a.auditor a.restricted a.revoked a.uaudit,
+      six-16 a.special a.operations a.auditor a.restricted a.revoked a.uaudit,
+      six-32 a.special a.operations a.auditor a.restricted a.revoked a.uaudit,
+    ) refl
 
 kept-attributes : (a : Attributes) → (attributes_).Kept a
 kept-attributes a = (six-below a.special a.operations a.auditor a.restricted a.revoked a.uaudit, flags-attributes a)
@@ -540,7 +567,6 @@ profile_ names class entries before =
     then_ (λ (p : Profile). p.conditional) (plain_ 2 (within most_list_entries most_entries_in_all (entries + sum_by entries_in before + length standard)) cond_entry 18 IsKeptCond unique-2 (omega arith) (omega arith) exact-cond_entry steady-cond_entry judged-cond_entry decided-cond_entry) (λ conditional.
     then_ (λ (p : Profile). p.members) (listed_ 2 (at_most most_members) (member names class name.text) member_width IsSpelledMember (member_marks (kind_in name.text)) unique-2 (omega arith) (omega arith) (exact-member names class name.text) (steady-member names class name.text) (judged-member names class name.text) (decided-member names class name.text)) (λ members.
     done_ (record { name = name; owner = owner; uacc = uacc; warning = warning; standard = standard; conditional = conditional; level = level; categories = set; label = label; audit = record { success = success; failures = failures }; global_audit = record { success = global_success; failures = global_failures }; members = members })))))))))))))))
-
 
 each-further : {A : Type 0} (width : A → ℕ) (item_marks : ℕ → A → List Fact) (m n : ℕ) (items : List A) → m ≡ n → told_of_each width item_marks m items ≡ told_of_each width item_marks n items ++ []
 each-further width item_marks m n items e = ap (λ i. told_of_each width item_marks i items) e ∙ sym (append-nil (told_of_each width item_marks n items))

@@ -1,5 +1,5 @@
 -- What is read of the bytes of rows, up to the first field that misleads, is told of the rows.
-use Rattle.std.proofs.Common.{◌≡◌, ◌⊎◌, ℕ, ◌+◌, ◌-◌, List, [], ◌∷◌, ◌++◌, length, take, Option, Some, None, Result, Ok, Err, refl, sym, ap, subst, ◌∙◌, arith, inl, inr, zero-add}
+use Rattle.std.proofs.Common.{◌≡◌, ℕ, ◌+◌, ◌-◌, List, [], ◌++◌, length, take, Option, Some, None, Result, Ok, Err, refl, sym, ap, subst, ◌∙◌, arith, inl, inr, zero-add}
 use Rattle.std.specs.Prelude.{IfOk, IfErr}
 use Rattle.std.specs.Option.{unwrap_or}
 use Rattle.std.specs.List.{sum_by}
@@ -11,11 +11,11 @@ use Rattle.database_image.specs.declared.faults.ImageFault.TheVariants as faults
 use Rattle.database_image.specs.Reading.{◌>>=◌}
 use Rattle.database_image.specs.Description.{image}
 use Rattle.database_image.specs.Facts.{facts, first_broken, classes_place, class_width}
-use Rattle.database_image.specs.Image.{image_of, unless_more, from_beginning, first_pass, unless_broken, second_pass, rows_of, IsStored, FirstUnlawful, IsFirst, Judges, Reads, Tells}
+use Rattle.database_image.specs.Image.{image_of, unless_more, from_beginning, first_pass, unless_broken, second_pass, rows_of, IsStored, FirstUnlawful, IsFirst, Judges, Reads}
 use Rattle.database_image.specs.Misleading.{marks}
 use Rattle.database_image.specs.Spelled.{AreSpelled}
 use Rattle.database_image.proofs.Images.{fields_only, behind-first}
-use Rattle.database_image.proofs.Judged.{FindsIn, IsCut, IsWhole, Judgement}
+use Rattle.database_image.proofs.Judged.{FindsIn, IsWhole, Judgement}
 use Rattle.database_image.proofs.JudgedRows.{judged-rows, wide-rows, decided-image}
 
 -- ---- a fault that the first pass finds

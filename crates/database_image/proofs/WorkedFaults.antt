@@ -1,5 +1,5 @@
 -- First unlawful fields of rows, worked out: rows that no image has, and one fault of each pass.
-use Rattle.std.proofs.Common.{◌≡◌, ℕ, ◌++◌, List, [], ◌∷◌, length, drop, replicate, Option, Some, None, Result, Ok, Err, refl, sym, ap, subst, ◌∙◌, arith, inl, inr}
+use Rattle.std.proofs.Common.{◌≡◌, ℕ, List, [], ◌∷◌, length, drop, replicate, Option, Some, None, refl, sym, ap, ◌∙◌, arith, inl, inr}
 use Rattle.std.specs.Prelude.{false, codes}
 use Rattle.std.specs.List.{AllByRecursion}
 use Rattle.std.proofs.lemmas.List.{length-replicate}
@@ -9,7 +9,6 @@ use Rattle.access_levels.specs.declared.levels.Level.TheVariants.{NoAccess}
 use Rattle.generic_names.specs.declared.kind.NameKind.{NameKind}
 use Rattle.generic_names.specs.declared.kind.NameKind.TheVariants.{DataSet, General}
 use Rattle.racf_profiles.specs.declared.users.User.{User}
-use Rattle.racf_profiles.specs.declared.options.Options.{Options}
 use Rattle.racf_profiles.specs.declared.profiles.Profile.{Profile}
 use Rattle.racf_profiles.specs.declared.class_rows.ClassRow.{ClassRow}
 use Rattle.racf_profiles.specs.declared.rows.Rows.{Rows}
@@ -17,7 +16,7 @@ use Rattle.racf_profiles.specs.Edits.{at_class}
 use Rattle.racf_profiles.specs.NewDatabase.{new_database, ibmuser, no_options}
 use Rattle.database_image.specs.Forms.{IsSpelled, number_spelling, spelled_at}
 use Rattle.database_image.specs.Description.{options, group, connection, user, profile, class, image, pattern_in, is_pattern_at}
-use Rattle.database_image.specs.Image.{image_of, first_pass, second_pass, rows_of, FirstUnlawful, Judges}
+use Rattle.database_image.specs.Image.{image_of, first_pass, second_pass, rows_of, FirstUnlawful}
 use Rattle.database_image.specs.Spelled.{AreSpelled, IsSpelledUser, IsSpelledProfile, IsSpelledClass}
 use Rattle.database_image.proofs.Verdicts.{judged}
 
@@ -52,8 +51,25 @@ long_name = record ibmuser { name = replicate 300 65 }
 
 -- the classes behind FACILITY
 others : AllByRecursion IsSpelledClass (drop 2 new_database.classes)
-others = (record { name = refl; profiles = tt }, (record { name = refl; profiles = tt }, (record { name = refl; profiles = tt }, (record { name = refl; profiles = tt }, (record { name = refl; profiles = tt }, (record { name = refl; profiles = tt },
-            (record { name = refl; profiles = tt }, (record { name = refl; profiles = tt }, (record { name = refl; profiles = tt }, (record { name = refl; profiles = tt }, (record { name = refl; profiles = tt }, (record { name = refl; profiles = tt }, tt))))))))))))
+others = (
+  record { name = refl; profiles = tt },
+  (
+    record { name = refl; profiles = tt },
+    (
+      record { name = refl; profiles = tt },
+      (
+        record { name = refl; profiles = tt },
+        (
+          record { name = refl; profiles = tt },
+          (
+            record { name = refl; profiles = tt },
+            (record { name = refl; profiles = tt }, (record { name = refl; profiles = tt }, (record { name = refl; profiles = tt }, (record { name = refl; profiles = tt }, (record { name = refl; profiles = tt }, (record { name = refl; profiles = tt }, tt)))))),
+          ),
+        ),
+      ),
+    ),
+  ),
+)
 
 spelled-user : (user : User) → IsSpelledUser user → AreSpelled (with_user user)
 spelled-user user h = record {

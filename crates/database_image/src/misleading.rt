@@ -6,7 +6,7 @@ ghost use Rattle.racf_profiles.specs.LawfulProfiles.{is_of_kind, is_logged_level
 ghost use Rattle.database_image.specs.Facts.{told, told_of_each, first_broken, user_width, member_width, profile_width, class_width, classes_place};
 ghost use Rattle.database_image.specs.Misleading.{has_room, is_of_bytes, user_marks, member_marks, audit_marks, list_marks, profile_marks, class_marks, marks};
 
-use crate::widths::{member_width, profile_width, user_width, users_width, class_width};
+use crate::widths::{class_width, member_width, profile_width, user_width, users_width};
 use access_levels::{Categories, Level};
 use generic_names::NameKind;
 use racf_profiles::{ClassRow, Member, Profile, Rows, User, kind_in, kind_of_class};

@@ -43,9 +43,11 @@ pub fn of_rows(alloc: Global, rows: &Rows) -> Result<Database, RowsFault>
     // Rows that an image may hold are the database's, and nothing but want of memory is told of them.
     ensures stored { IsStored rows.now → IfOk result (λ database. database.rows ≡ rows.now) }
     ensures refused { IsStored rows.now → IfErr result (λ fault. fault ≡ RowsFault.NoMemory) }
+
+    // Nor of lawful rows, as those of every database are.
+    ensures lawful { AreLawful rows.now → IfErr result (λ fault. fault ≡ RowsFault.NoMemory) }
     ensures nothing_prepared { IfOk result (λ database. database.prepared ≡ None) }
 {
-    laws::first_fault_is_one();
     let copy = lawful_copy(alloc, rows)?;
     let tables = tables_of(alloc, copy)?;
     Ok(Database::of(tables))
@@ -54,10 +56,13 @@ pub fn of_rows(alloc: Global, rows: &Rows) -> Result<Database, RowsFault>
 /// A copy of rows, which are lawful.
 fn lawful_copy(alloc: Global, rows: &Rows) -> Result<Rows, RowsFault>
     ensures copy { IfOk result (λ copy. (copy ≡ rows.now) × IsStored rows.now) }
-    ensures lawful { IfOk result AreLawful }
+    ensures copy_lawful { IfOk result AreLawful }
     ensures first { IfErr result (IsFirst rows.now) }
+    ensures refused { IsStored rows.now → IfErr result (λ fault. fault ≡ RowsFault.NoMemory) }
+    ensures lawful { AreLawful rows.now → IfErr result (λ fault. fault ≡ RowsFault.NoMemory) }
 {
     laws::stored_rows_are_lawful();
+    laws::first_fault_is_one();
     match stored_copy(alloc, rows) {
         Ok(copy) => Ok(copy),
         Err(fault) => Err(fault_of(fault)),

@@ -1,11 +1,10 @@
 -- Faults of images, told of rows.
-use Rattle.std.proofs.Common.{◌≡◌, ℕ, Result, Ok, Err, refl}
+use Rattle.std.proofs.Common.{◌≡◌, ℕ, Result, refl}
 use Rattle.database_image.specs.Image.{IsStored, FirstUnlawful}
 use Rattle.racf_profiles.specs.declared.rows.Rows.{Rows}
 use Rattle.database_image.specs.declared.faults.ImageFault.{ImageFault}
 use Rattle.database_image.specs.declared.faults.ImageFault.TheVariants as images
 use Rattle.database_image.specs.Image as image
-use Rattle.stored_database.specs.declared.faults.RowsFault.{RowsFault}
 use Rattle.stored_database.specs.declared.faults.RowsFault.TheVariants as rows_faults
 use Rattle.stored_database.specs.Making.{Tells, IsFirst, fault_of}
 

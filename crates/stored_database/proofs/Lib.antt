@@ -3,4 +3,3 @@ mod Front
 mod Users
 mod Profiles
 mod Classes
-mod Told

@@ -61,6 +61,9 @@ short_ is_lawful = field_ (number_spelling 2) is_lawful unique-2
 abbrev id_ : (List ℕ → Bool) → Exact (List ℕ)
 id_ is_lawful = field_ (filled_spelling itself id_text) is_lawful (unique-filled itself id_text id-own)
 
+pub exact-id : (is_lawful : List ℕ → Bool) → IsExact (field (filled_spelling itself id_text) is_lawful)
+exact-id is_lawful = (id_ is_lawful).exact
+
 abbrev group_name_ : (List ℕ → Bool) → Exact (List ℕ)
 group_name_ is_lawful = field_ (filled_spelling itself group_text) is_lawful (unique-filled itself group_text group-own)
 
@@ -187,11 +190,11 @@ wide-connection : (before : List Connect) → IsWide (connection before) connect
 unfolding connection
 wide-connection before x f = let k : length ((connection before).bytes x) ≡ (connection_ before).width x = (connection_ before).wide x f in omega (arith, k)
 
-steady-group : IsSteady group
+pub steady-group : IsSteady group
 unfolding group
 steady-group before x = refl
 
-steady-connection : IsSteady connection
+pub steady-connection : IsSteady connection
 unfolding connection
 steady-connection before x = refl
 
@@ -325,11 +328,11 @@ wide-member : (names : List (List ℕ)) (class profile : List ℕ) (before : Lis
 unfolding member
 wide-member names class profile before x f = behind-kind names profile before x f.1
 
-steady-entry : IsSteady entry
+pub steady-entry : IsSteady entry
 unfolding entry
 steady-entry before x = refl
 
-steady-cond_entry : IsSteady cond_entry
+pub steady-cond_entry : IsSteady cond_entry
 unfolding cond_entry
 steady-cond_entry before x = refl
 
@@ -339,7 +342,7 @@ steady-kind names profile before (suc zero) x = refl
 steady-kind names profile before (suc (suc zero)) x = refl
 steady-kind names profile before (suc (suc (suc n))) x = refl
 
-steady-member : (names : List (List ℕ)) (class profile : List ℕ) → IsSteady (member names class profile)
+pub steady-member : (names : List (List ℕ)) (class profile : List ℕ) → IsSteady (member names class profile)
 unfolding member
 steady-member names class profile before x = ap (λ (bytes : List ℕ). (number 1 (is_kind_in class profile)).bytes (member_kind x) ++ bytes) (steady-kind names profile before (member_kind x) x)
 
@@ -387,7 +390,7 @@ wide-profile names class entries before x f =
     let k : length ((profile names class entries before).bytes x) ≡ (profile_ names class entries before).width x = (profile_ names class entries before).wide x f in
     omega (arith, k, same_width 9 x.standard, same_width 18 x.conditional)
 
-steady-profile : (names : List (List ℕ)) (class : List ℕ) (entries : ℕ) → IsSteady (profile names class entries)
+pub steady-profile : (names : List (List ℕ)) (class : List ℕ) (entries : ℕ) → IsSteady (profile names class entries)
 unfolding profile
 steady-profile names class entries before x = refl
 
@@ -420,11 +423,11 @@ wide-class : (names : List (List ℕ)) (before : List ClassRow) → IsWide (clas
 unfolding class
 wide-class names before x f = let k : length ((class names before).bytes x) ≡ (class_ names before).width x = (class_ names before).wide x f in omega (arith, k)
 
-steady-user : (categories : ℕ) → IsSteady (user categories)
+pub steady-user : (categories : ℕ) → IsSteady (user categories)
 unfolding user
 steady-user categories before x = refl
 
-steady-class : (names : List (List ℕ)) → IsSteady (class names)
+pub steady-class : (names : List (List ℕ)) → IsSteady (class names)
 unfolding class profile
 steady-class names before x = refl
 

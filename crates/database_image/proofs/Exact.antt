@@ -59,7 +59,7 @@ spelled_ok s bytes y e =
     let v = valued_ok (s.value (take s.width bytes)) bytes (drop s.width bytes) y t.1 in
     (ltb-false _ _ t.0, v.0, v.1)
 
-spelled_again : {A : Type 0} (s : Spelling A) (x : A) (rest : List ℕ) → IsSpelled s x → spelled_at s (s.spelled x ++ rest) ≡ Ok (x, rest)
+pub spelled_again : {A : Type 0} (s : Spelling A) (x : A) (rest : List ℕ) → IsSpelled s x → spelled_at s (s.spelled x ++ rest) ≡ Ok (x, rest)
 unfolding spelled_at
 spelled_again s x rest h =
     let long : nat_lt (length (s.spelled x ++ rest)) s.width ≡ false = le-ltb _ _ (omega (arith, length-append (s.spelled x) rest, h.whole)) in

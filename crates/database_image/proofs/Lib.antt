@@ -18,3 +18,13 @@ mod StoredGroups
 mod StoredUsers
 mod StoredClasses
 mod Stored
+mod Judged
+mod Honest
+mod JudgedRows
+mod Verdicts
+mod WorkedFaults
+mod FitFields
+mod FitGroups
+mod FitUsers
+mod FitProfiles
+mod FitRows

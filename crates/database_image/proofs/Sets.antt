@@ -155,3 +155,20 @@ pub byte-grown : (byte more set place n : ℕ) → byte ≡ set / 256 ^ place % 
 byte-grown byte more set place n h k =
     let sum : byte + more ≡ bit_at set (8 * place + n) * 2 ^ n + set / 256 ^ place % 2 ^ n = rw (h, k) (omega arith) in
     sum ∙ ap (λ (b : ℕ). b * 2 ^ n + set / 256 ^ place % 2 ^ n) (sym (bit-of-byte set place n)) ∙ sym (bit_more (set / 256 ^ place) n)
+
+-- ---- the numbers of a set below 256
+
+set-split : (set : ℕ) → set ≡ set / 2 ^ 256 * 2 ^ 256 + set % 2 ^ 256
+set-split set = omega arith
+
+pub low-member : (set n : ℕ) → n < 256 → is_member set n ≡ is_member (set % 2 ^ 256) n
+low-member set n h = ap (λ x. x == 1) (ap (λ (s : ℕ). bit_at s n) (set-split set) ∙ bit_at_cat_low (set / 2 ^ 256) 256 (set % 2 ^ 256) n h)
+
+not-same : (set : ℕ) → 2 ^ 256 ≤ set → set % 2 ^ 256 ≡ set → ⊥
+not-same set h e = absurd (omega (arith, h, e))
+
+pub made-same : (set : ℕ) → (set % 2 ^ 256 == set) ≡ nat_lt set (2 ^ 256)
+made-same set = ⊎_elim
+    (λ (low : set < 2 ^ 256). eq-eqb (set % 2 ^ 256) set (omega (arith, low)) ∙ sym (lt-ltb set (2 ^ 256) low))
+    (λ (high : 2 ^ 256 ≤ set). ne_eqb (set % 2 ^ 256) set (not-same set high) ∙ sym (le-ltb set (2 ^ 256) high))
+    (cases_lt set (2 ^ 256))

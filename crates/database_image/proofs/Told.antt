@@ -15,6 +15,9 @@ map-or (Some x) b = refl
 pub first-append : (xs ys : List Fact) → first_broken (xs ++ ys) ≡ option_or (first_broken xs) (first_broken ys)
 first-append xs ys = ap (option_map (λ (fact : Fact). fact.place)) (find-append (λ (fact : Fact). not fact.holds) xs ys) ∙ map-or (find (λ (fact : Fact). not fact.holds) xs) (find (λ (fact : Fact). not fact.holds) ys)
 
+pub or-append : (o p : Option ℕ) (xs ys : List Fact) → o ≡ first_broken xs → p ≡ first_broken ys → option_or o p ≡ first_broken (xs ++ ys)
+or-append o p xs ys h k = rw (h, k) (sym (first-append xs ys))
+
 pub none-first : (xs ys : List Fact) → first_broken xs ≡ None → first_broken (xs ++ ys) ≡ first_broken ys
 none-first xs ys h = first-append xs ys ∙ ap (λ o. option_or o (first_broken ys)) h
 

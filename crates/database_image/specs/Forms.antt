@@ -1,14 +1,16 @@
--- Forms: how values are written as bytes, which are lawful, and how they are read. A form is made of fields and lists, one
--- behind another, so that one description says all three.
-use Rattle.std.specs.Prelude.{◌≡◌, ℕ, zero, suc, Bool, nat_lt, List, [], ◌∷◌, ◌++◌, length, take, drop, Option, Some, None, Ok, Err, IsTrue, if◌then◌else◌}
+-- Forms: how values are written as bytes, which are lawful, where the first fault of the others is, and how they are read.
+-- A form is made of fields and lists, one behind another, so that one description says all four.
+use Rattle.std.specs.Prelude.{◌≡◌, ◌⊎◌, ℕ, zero, suc, ◌+◌, Bool, nat_lt, List, [], ◌∷◌, ◌++◌, length, take, drop, Option, Some, None, Ok, Err, IsTrue, if◌then◌else◌}
 use Rattle.std.specs.List.{flat_map}
 use Rattle.byteorder.specs.Endian.{big_bytes, big_number}
 use Rattle.database_image.specs.Reading.{Reading, ◌>>=◌, where_lawful}
 
--- The bytes of a value; whether it is lawful here; and what is read from bytes that begin with such a value.
+-- The bytes of a value; whether it is lawful here; at which place of its bytes the first field stands that isn't; and what
+-- is read from bytes that begin with such a value.
 pub record Form (A : Type 0) : Type 1 where
   pub bytes : A → List ℕ
   pub Fits : A → Type 0
+  pub FaultAt : A → (place : ℕ) → Type 0
   pub reading : List ℕ → Reading A
 
 -- ---- one field
@@ -40,6 +42,7 @@ abbrev pub field : {A : Type 0} → Spelling A → (A → Bool) → Form A
 field spelling is_lawful = record {
   bytes = spelling.spelled;
   Fits = λ x. IsSpelled spelling x × IsTrue (is_lawful x);
+  FaultAt = λ x place. ¬ (IsSpelled spelling x × IsTrue (is_lawful x)) × (place ≡ 0);
   reading = λ bytes. spelled_at spelling bytes >>= λ x. where_lawful (is_lawful x.0) bytes x;
 }
 
@@ -60,17 +63,22 @@ pub record Part (A K : Type 0) : Type 1 where
 abbrev pub the : {A K : Type 0} → (A → K) → Form K → Part A K
 the of form = record { of = of; form = form }
 
+-- The first fault of a part and the rest: that of the part; or the part fits, and behind its bytes comes that of the rest.
+abbrev pub FirstOf : (first : ℕ → Type 0) → (fits : Type 0) → (width : ℕ) → (rest : ℕ → Type 0) → (place : ℕ) → Type 0
+FirstOf first fits width rest place = first place ⊎ (fits × ((behind : ℕ) × rest behind × (place ≡ width + behind)))
+
 -- First that part, and then the rest, whose form it may determine.
 abbrev pub followed : {A K : Type 0} → Part A K → (K → Form A) → Form A
 followed part rest = record {
   bytes = λ x. part.form.bytes (part.of x) ++ (rest (part.of x)).bytes x;
   Fits = λ x. part.form.Fits (part.of x) × (rest (part.of x)).Fits x;
+  FaultAt = λ x place. FirstOf (part.form.FaultAt (part.of x)) (part.form.Fits (part.of x)) (length (part.form.bytes (part.of x))) ((rest (part.of x)).FaultAt x) place;
   reading = λ bytes. part.form.reading bytes >>= λ k. (rest k.0).reading k.1;
 }
 
 -- Nothing more: the value is this one.
 abbrev pub done : {A : Type 0} → A → Form A
-done x = record { bytes = λ y. []; Fits = λ y. y ≡ x; reading = λ bytes. Ok (x, bytes) }
+done x = record { bytes = λ y. []; Fits = λ y. y ≡ x; FaultAt = λ y place. ⊥; reading = λ bytes. Ok (x, bytes) }
 
 -- ---- lists
 
@@ -83,10 +91,15 @@ abbrev pub ItemsFit : {A : Type 0} → (List A → Form A) → (before items : L
 ItemsFit item before [] = Unit {0}
 ItemsFit item before (x ∷ items) = (item before).Fits x × ItemsFit item (before ++ x ∷ []) items
 
+abbrev pub ItemsFaultAt : {A : Type 0} → (List A → Form A) → (before items : List A) → (place : ℕ) → Type 0
+ItemsFaultAt item before [] place = ⊥
+ItemsFaultAt item before (x ∷ items) place = FirstOf ((item before).FaultAt x) ((item before).Fits x) (length ((item before).bytes x)) (ItemsFaultAt item (before ++ x ∷ []) items) place
+
 -- How many there are, a number of so many bytes, and the items.
 abbrev pub listed : {A : Type 0} → (width : ℕ) → (ℕ → Bool) → (List A → Form A) → Form (List A)
 listed width is_lawful item = record {
   bytes = λ items. big_bytes width (length items) ++ flat_map (item []).bytes items;
   Fits = λ items. (number width is_lawful).Fits (length items) × ItemsFit item [] items;
+  FaultAt = λ items place. FirstOf ((number width is_lawful).FaultAt (length items)) ((number width is_lawful).Fits (length items)) width (ItemsFaultAt item [] items) place;
   reading = λ bytes. (number width is_lawful).reading bytes >>= λ count. items_from item count.0 [] count.1;
 }

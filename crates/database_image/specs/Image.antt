@@ -1,5 +1,5 @@
 -- The image of rows, and what bytes are the image of.
-use Rattle.std.specs.Prelude.{◌≡◌, ℕ, ◌-◌, List, [], ◌∷◌, length, Option, Some, None, Result, Ok, Err}
+use Rattle.std.specs.Prelude.{◌≡◌, ◌⊎◌, ℕ, ◌-◌, List, [], ◌∷◌, length, Option, Some, None, Result, Ok, Err}
 use Rattle.std.specs.Result.{result_err}
 use Rattle.racf_profiles.specs.declared.rows.Rows.{Rows}
 use Rattle.database_image.specs.declared.faults.ImageFault.{ImageFault}
@@ -45,7 +45,22 @@ pub record IsStored (rows : Rows) : Type 0 where
   pub fields : image.Fits rows
   pub between : first_broken (facts rows) ≡ None
 
+-- The first field of rows that an image can't hold, by its place in their image: the first that isn't lawful where it
+-- stands, or where all are, the first whose fact about others doesn't hold.
+abbrev pub FirstUnlawful : Rows → (place : ℕ) → Type 0
+FirstUnlawful rows place = image.FaultAt rows place ⊎ (image.Fits rows × (first_broken (facts rows) ≡ Some place))
+
+-- What bytes are read as says whether an image may hold the rows: they are read again, or the first fault is theirs.
+abbrev pub Judges : Rows → Result Rows ℕ → Type 0
+Judges rows (Ok copy) = (copy ≡ rows) × IsStored rows
+Judges rows (Err place) = FirstUnlawful rows place
+
 -- ---- what a function answered
+
+-- It is the first place at which the rows aren't lawful, unless memory ran out.
+abbrev pub IsFirst : Rows → ImageFault → Type 0
+IsFirst rows faults.NoMemory = Unit {0}
+IsFirst rows (faults.BadField place) = FirstUnlawful rows place
 
 -- It is the place of the first fault, unless memory ran out.
 abbrev pub IsFirstFault : (bytes : List ℕ) → ImageFault → Type 0

@@ -6,3 +6,5 @@ pub mod Facts
 pub mod Image
 pub mod Kept
 pub mod Ways
+pub mod Misleading
+pub mod Spelled

@@ -4,7 +4,8 @@ ghost use Rattle.racf_profiles.specs.declared.rows.Rows.{Rows};
 ghost use Rattle.racf_profiles.specs.Lawful.{AreLawful};
 ghost use Rattle.database_image.specs.Reading.{AreBytes};
 ghost use Rattle.database_image.specs.Description.{image};
-ghost use Rattle.database_image.specs.Image.{image_of, first_pass, rows_of, IsStored};
+ghost use Rattle.database_image.specs.Image.{image_of, first_pass, rows_of, IsStored, FirstUnlawful};
+ghost use Rattle.database_image.specs.Spelled.{AreSpelled};
 
 /// What the first pass reads is lawful field by field, and the bytes are its image; and rows whose fields are lawful are
 /// read again from their image.
@@ -24,4 +25,15 @@ pub fn images_are_of_rows()
 /// none of what is lawful speaks of them.
 pub fn stored_rows_are_lawful()
     ensures lawful { (rows : Rows) → IsStored rows → AreLawful rows }
+{}
+
+/// Rows that an image may hold have no first unlawful field, and all others have one at most.
+pub fn first_fault_is_one()
+    ensures apart { (rows : Rows) (place : ℕ) → IsStored rows → FirstUnlawful rows place → ⊥ }
+    ensures one { (rows : Rows) (place other : ℕ) → FirstUnlawful rows place → FirstUnlawful rows other → place ≡ other }
+{}
+
+/// What is lawful, and spelled as its types keep it, an image may hold: so no rows of a database are refused.
+pub fn lawful_rows_are_stored()
+    ensures stored { (rows : Rows) → AreLawful rows → AreSpelled rows → IsStored rows }
 {}

@@ -4,6 +4,7 @@ ghost use Rattle.std.specs.Int.{bit_at};
 ghost use Rattle.byteorder.specs.Endian.{big_bytes, little_bytes};
 ghost use Rattle.access_levels.specs.Level.{level_rank};
 ghost use Rattle.database_image.specs.Fields.{filled, bit, text_or_none, who_text};
+ghost use Rattle.database_image.specs.Spelled.{IsId, IsIdOrNone, IsWho};
 ghost use Rattle.database_image.specs.Description.{audit_rank, flag_rank, log_rank};
 
 use crate::fields;
@@ -37,14 +38,16 @@ pub fn put_word(out: &mut Vec<u8>, n: usize) -> Result<(), AllocError>
 
 /// An identifier.
 pub fn put_id(out: &mut Vec<u8>, id: &Id) -> Result<(), AllocError>
-    ensures { OnOk result (out.new.items ≡ out.old.items ++ filled id.now) }
+    ensures bytes { OnOk result (out.new.items ≡ out.old.items ++ filled id.now) }
+    ensures spelled { OnOk result (IsId id.now) }
 {
     out.extend_from_slice(&fields::filled(id.text()))
 }
 
 /// An identifier, or blanks.
 pub fn put_id_or_none(out: &mut Vec<u8>, id: &Option<Id>) -> Result<(), AllocError>
-    ensures { OnOk result (out.new.items ≡ out.old.items ++ filled (text_or_none id.now)) }
+    ensures bytes { OnOk result (out.new.items ≡ out.old.items ++ filled (text_or_none id.now)) }
+    ensures spelled { OnOk result (IsIdOrNone id.now) }
 {
     match id {
         Some(id) => put_id(out, id),
@@ -54,7 +57,8 @@ pub fn put_id_or_none(out: &mut Vec<u8>, id: &Option<Id>) -> Result<(), AllocErr
 
 /// Whom an entry speaks of.
 pub fn put_who(out: &mut Vec<u8>, who: &Who) -> Result<(), AllocError>
-    ensures { OnOk result (out.new.items ≡ out.old.items ++ filled (who_text who.now)) }
+    ensures bytes { OnOk result (out.new.items ≡ out.old.items ++ filled (who_text who.now)) }
+    ensures spelled { OnOk result (IsWho who.now) }
 {
     match who {
         Who::Star => out.extend_from_slice(&fields::filled(b"*")),
@@ -132,7 +136,8 @@ fn bit_of(set: &Categories, number: u8, place: u8) -> u8
 
 /// A security level, which may be any byte.
 pub fn put_level(out: &mut Vec<u8>, level: u8) -> Result<(), AllocError>
-    ensures { OnOk result (out.new.items ≡ out.old.items ++ big_bytes 1 level) }
+    ensures bytes { OnOk result (out.new.items ≡ out.old.items ++ big_bytes 1 level) }
+    ensures small { OnOk result (level < 256) }
 {
     put_byte(out, usize::from(level))
 }

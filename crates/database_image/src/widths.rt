@@ -69,7 +69,7 @@ fn members_width(members: &[Member]) -> usize
 }
 
 /// The bytes of a member.
-fn member_width(member: &Member) -> usize
+pub fn member_width(member: &Member) -> usize
     requires { member_width member.now < 2 ^ 64 }
     ensures { result ≡ member_width member.now }
 {

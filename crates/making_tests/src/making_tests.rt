@@ -79,6 +79,41 @@ fn place_of_default(alloc: Global) -> Option<u64> {
     place_told(of_rows(alloc, &rows))
 }
 
+/// The place of the fault of a new database's rows with that many categories.
+fn place_of_categories(alloc: Global, count: usize) -> Option<u64> {
+    let Ok(mut rows) = Rows::new_database(alloc) else {
+        return None;
+    };
+    for _ in 0..count {
+        if rows.options.categories.items.push(ibmuser()).is_err() {
+            return None;
+        }
+    }
+    place_told(of_rows(alloc, &rows))
+}
+
+/// The place of the fault of a new database's rows, whose user has that many classes.
+fn place_of_classes(alloc: Global, count: usize) -> Option<u64> {
+    let Ok(mut rows) = Rows::new_database(alloc) else {
+        return None;
+    };
+    for user in rows.users.items.iter_mut() {
+        for _ in 0..count {
+            if user.classes.items.push(ibmuser()).is_err() {
+                return None;
+            }
+        }
+    }
+    place_told(of_rows(alloc, &rows))
+}
+
+/// Rows that no image has are judged by themselves: a count of 65,541 is written as 5, and one of 258 in one byte as 2.
+#[test]
+fn counts_without_room(rt: HostRuntime) {
+    assert_eq!(rt; place_of_categories(rt.alloc(), 65_541), Some(1));
+    assert_eq!(rt; place_of_classes(rt.alloc(), 258), Some(102));
+}
+
 #[test]
 fn faults(rt: HostRuntime) {
     assert_eq!(rt; place_told(of_image(rt.alloc(), &[])), Some(0));

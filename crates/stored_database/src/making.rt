@@ -1,12 +1,12 @@
 //! Databases of images and of rows.
 ghost use Rattle.std.specs.Prelude.{◌≡◌, IfErr, IfOk, None};
 ghost use Rattle.racf_profiles.specs.Lawful.{AreLawful};
-ghost use Rattle.database_image.specs.Image.{image_of, rows_of, IsStored};
-ghost use Rattle.stored_database.specs.Making.{Makes, Reads};
+ghost use Rattle.database_image.specs.Image.{rows_of, IsStored};
+ghost use Rattle.stored_database.specs.Making.{Makes, Reads, IsFirst, fault_of};
 
 use crate::faults::RowsFault;
 use crate::tables::tables_of;
-use database_image::{ImageFault, laws, read, write};
+use database_image::{ImageFault, laws, read, stored_copy};
 use racf_database::Database;
 use racf_profiles::Rows;
 use std::alloc::Global;
@@ -31,20 +31,42 @@ pub fn of_image(alloc: Global, bytes: &[u8]) -> Result<Database, RowsFault>
 ///
 /// # Errors
 ///
-/// `BadRow` at the first unlawful field of their image; `NoMemory` where there was no room for the image, for the rows
-/// or for their tables.
+/// `BadRow` at the first field of their image that isn't lawful, or, where each is, at the first whose fact about others
+/// doesn't hold; `NoMemory` where there was no room for the image, for the rows or for their tables.
 pub fn of_rows(alloc: Global, rows: &Rows) -> Result<Database, RowsFault>
-    // The database has the rows that are read of their image, and a fault is its first.
-    ensures exact { Makes result (rows_of (image_of rows.now)) }
+    // The database has the rows, and an image may hold them.
+    ensures made { IfOk result (λ database. (database.rows ≡ rows.now) × IsStored rows.now) }
+
+    // A fault is the first of the rows. Rows that an image may hold have none, and all others have but one.
+    ensures first { IfErr result (IsFirst rows.now) }
 
     // Rows that an image may hold are the database's, and nothing but want of memory is told of them.
     ensures stored { IsStored rows.now → IfOk result (λ database. database.rows ≡ rows.now) }
     ensures refused { IsStored rows.now → IfErr result (λ fault. fault ≡ RowsFault.NoMemory) }
+
+    // Nor of lawful rows, as those of every database are.
+    ensures lawful { AreLawful rows.now → IfErr result (λ fault. fault ≡ RowsFault.NoMemory) }
     ensures nothing_prepared { IfOk result (λ database. database.prepared ≡ None) }
 {
-    laws::images_are_of_rows();
-    let image = write(alloc, rows)?;
-    of_image(alloc, &image)
+    let copy = lawful_copy(alloc, rows)?;
+    let tables = tables_of(alloc, copy)?;
+    Ok(Database::of(tables))
+}
+
+/// A copy of rows, which are lawful.
+fn lawful_copy(alloc: Global, rows: &Rows) -> Result<Rows, RowsFault>
+    ensures copy { IfOk result (λ copy. (copy ≡ rows.now) × IsStored rows.now) }
+    ensures copy_lawful { IfOk result AreLawful }
+    ensures first { IfErr result (IsFirst rows.now) }
+    ensures refused { IsStored rows.now → IfErr result (λ fault. fault ≡ RowsFault.NoMemory) }
+    ensures lawful { AreLawful rows.now → IfErr result (λ fault. fault ≡ RowsFault.NoMemory) }
+{
+    laws::stored_rows_are_lawful();
+    laws::first_fault_is_one();
+    match stored_copy(alloc, rows) {
+        Ok(copy) => Ok(copy),
+        Err(fault) => Err(fault_of(fault)),
+    }
 }
 
 /// The rows of an image, which are lawful.
@@ -55,7 +77,16 @@ fn lawful_rows(alloc: Global, bytes: &[u8]) -> Result<Rows, RowsFault>
     laws::stored_rows_are_lawful();
     match read(alloc, bytes) {
         Ok(rows) => Ok(rows),
-        Err(ImageFault::BadField(place)) => Err(RowsFault::BadRow(place)),
-        Err(ImageFault::NoMemory) => Err(RowsFault::NoMemory),
+        Err(fault) => Err(fault_of(fault)),
+    }
+}
+
+/// The fault of an image, as it is told of its rows.
+fn fault_of(fault: ImageFault) -> RowsFault
+    ensures { result ≡ fault_of fault }
+{
+    match fault {
+        ImageFault::BadField(place) => RowsFault::BadRow(place),
+        ImageFault::NoMemory => RowsFault::NoMemory,
     }
 }

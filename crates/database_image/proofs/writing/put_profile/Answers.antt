@@ -7,13 +7,13 @@ use Rattle.database_image.specs.Description.{profile, entry, cond_entry, member,
 use Rattle.database_image.proofs.Appended.{then, last}
 use Rattle.database_image.proofs.writing.put_profile.Goals as goal
 
-pub returns : goal.returns
+pub returns-clause-bytes : goal.returns-clause-bytes
 unfolding profile
-returns c = λ names class entries.
+returns-clause-bytes c = λ names class entries.
     let x0 : List ℕ = big_bytes 2 (length c.args.row.now.name.text) ++ c.args.row.now.name.text in
-    let e0 : c.put_pattern.new.out.items ≡ c.args.out.now.items ++ x0 = c.in_ok-put_pattern.ensures in
+    let e0 : c.put_pattern.new.out.items ≡ c.args.out.now.items ++ x0 = c.in_ok-put_pattern.ensures.bytes in
     let x1 : List ℕ = filled c.args.row.now.owner in
-    let e1 : c.put_id.new.out.items ≡ c.put_pattern.new.out.items ++ x1 = c.in_ok-put_id.ensures in
+    let e1 : c.put_id.new.out.items ≡ c.put_pattern.new.out.items ++ x1 = c.in_ok-put_id.ensures.bytes in
     let x2 : List ℕ = level_rank c.args.row.now.uacc ∷ [] in
     let e2 : c.put_rank.new.out.items ≡ c.put_id.new.out.items ++ x2 = c.in_ok-put_rank.ensures in
     let x3 : List ℕ = flag_rank c.args.row.now.warning ∷ [] in
@@ -27,17 +27,17 @@ returns c = λ names class entries.
     let x7 : List ℕ = audit_rank c.args.row.now.global_audit.failures ∷ [] in
     let e7 : c.put_audit-4.new.out.items ≡ c.put_audit-3.new.out.items ++ x7 = c.in_ok-put_audit-4.ensures in
     let x8 : List ℕ = big_bytes 1 c.args.row.now.level in
-    let e8 : c.put_level.new.out.items ≡ c.put_audit-4.new.out.items ++ x8 = c.in_ok-put_level.ensures in
+    let e8 : c.put_level.new.out.items ≡ c.put_audit-4.new.out.items ++ x8 = c.in_ok-put_level.ensures.bytes in
     let x9 : List ℕ = little_bytes 32 c.args.row.now.categories in
     let e9 : c.put_set.new.out.items ≡ c.put_level.new.out.items ++ x9 = c.in_ok-put_set.ensures in
     let x10 : List ℕ = filled (text_or_none c.args.row.now.label) in
-    let e10 : c.put_id_or_none.new.out.items ≡ c.put_set.new.out.items ++ x10 = c.in_ok-put_id_or_none.ensures in
+    let e10 : c.put_id_or_none.new.out.items ≡ c.put_set.new.out.items ++ x10 = c.in_ok-put_id_or_none.ensures.bytes in
     let x11 : List ℕ = big_bytes 2 (length c.args.row.now.standard) ++ flat_map (entry []).bytes c.args.row.now.standard in
-    let e11 : c.put_standard.new.out.items ≡ c.put_id_or_none.new.out.items ++ x11 = c.in_ok-put_standard.ensures in
+    let e11 : c.put_standard.new.out.items ≡ c.put_id_or_none.new.out.items ++ x11 = c.in_ok-put_standard.ensures.bytes in
     let x12 : List ℕ = big_bytes 2 (length c.args.row.now.conditional) ++ flat_map (cond_entry []).bytes c.args.row.now.conditional in
-    let e12 : c.put_conditional.new.out.items ≡ c.put_standard.new.out.items ++ x12 = c.in_ok-put_conditional.ensures in
+    let e12 : c.put_conditional.new.out.items ≡ c.put_standard.new.out.items ++ x12 = c.in_ok-put_conditional.ensures.bytes in
     let x13 : List ℕ = big_bytes 2 (length c.args.row.now.members) ++ flat_map (member names class c.args.row.now.name.text []).bytes c.args.row.now.members in
-    let e13 : c.put_profile_members.new.out.items ≡ c.put_conditional.new.out.items ++ x13 = c.in_ok-put_profile_members.ensures names class c.args.row.now.name.text in
+    let e13 : c.put_profile_members.new.out.items ≡ c.put_conditional.new.out.items ++ x13 = c.in_ok-put_profile_members.ensures.bytes names class c.args.row.now.name.text in
     let r13 : List ℕ = x13 ++ [] in
     let t13 : c.put_profile_members.new.out.items ≡ c.put_conditional.new.out.items ++ r13 = last (c.put_conditional.new.out.items) (c.put_profile_members.new.out.items) x13 e13 in
     let r12 : List ℕ = x12 ++ r13 in

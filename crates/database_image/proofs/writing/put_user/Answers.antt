@@ -6,29 +6,29 @@ use Rattle.database_image.specs.Description.{user, attributes, connection}
 use Rattle.database_image.proofs.Appended.{then, last}
 use Rattle.database_image.proofs.writing.put_user.Goals as goal
 
-pub returns : goal.returns
+pub returns-clause-bytes : goal.returns-clause-bytes
 unfolding user
-returns c = λ n.
+returns-clause-bytes c = λ n.
     let x0 : List ℕ = filled c.args.row.now.id in
-    let e0 : c.put_id.new.out.items ≡ c.args.out.now.items ++ x0 = c.in_ok-put_id.ensures in
+    let e0 : c.put_id.new.out.items ≡ c.args.out.now.items ++ x0 = c.in_ok-put_id.ensures.bytes in
     let x1 : List ℕ = filled c.args.row.now.default_group in
-    let e1 : c.put_id-2.new.out.items ≡ c.put_id.new.out.items ++ x1 = c.in_ok-put_id-2.ensures in
+    let e1 : c.put_id-2.new.out.items ≡ c.put_id.new.out.items ++ x1 = c.in_ok-put_id-2.ensures.bytes in
     let x2 : List ℕ = filled c.args.row.now.owner in
-    let e2 : c.put_id-3.new.out.items ≡ c.put_id-2.new.out.items ++ x2 = c.in_ok-put_id-3.ensures in
+    let e2 : c.put_id-3.new.out.items ≡ c.put_id-2.new.out.items ++ x2 = c.in_ok-put_id-3.ensures.bytes in
     let x3 : List ℕ = big_bytes 1 (length c.args.row.now.name) ++ c.args.row.now.name in
     let e3 : c.put_name.new.out.items ≡ c.put_id-3.new.out.items ++ x3 = c.in_ok-put_name.ensures in
     let x4 : List ℕ = attributes.bytes c.args.row.now.attributes in
     let e4 : c.put_attributes.new.out.items ≡ c.put_name.new.out.items ++ x4 = c.in_ok-put_attributes.ensures in
     let x5 : List ℕ = big_bytes 1 c.args.row.now.level in
-    let e5 : c.put_level.new.out.items ≡ c.put_attributes.new.out.items ++ x5 = c.in_ok-put_level.ensures in
+    let e5 : c.put_level.new.out.items ≡ c.put_attributes.new.out.items ++ x5 = c.in_ok-put_level.ensures.bytes in
     let x6 : List ℕ = little_bytes 32 c.args.row.now.categories in
     let e6 : c.put_set.new.out.items ≡ c.put_level.new.out.items ++ x6 = c.in_ok-put_set.ensures in
     let x7 : List ℕ = filled (text_or_none c.args.row.now.label) in
-    let e7 : c.put_id_or_none.new.out.items ≡ c.put_set.new.out.items ++ x7 = c.in_ok-put_id_or_none.ensures in
+    let e7 : c.put_id_or_none.new.out.items ≡ c.put_set.new.out.items ++ x7 = c.in_ok-put_id_or_none.ensures.bytes in
     let x8 : List ℕ = big_bytes 1 (length c.args.row.now.classes) ++ flat_map filled c.args.row.now.classes in
-    let e8 : c.put_user_classes.new.out.items ≡ c.put_id_or_none.new.out.items ++ x8 = c.in_ok-put_user_classes.ensures in
+    let e8 : c.put_user_classes.new.out.items ≡ c.put_id_or_none.new.out.items ++ x8 = c.in_ok-put_user_classes.ensures.bytes in
     let x9 : List ℕ = big_bytes 2 (length c.args.row.now.connects) ++ flat_map (connection []).bytes c.args.row.now.connects in
-    let e9 : c.put_user_connects.new.out.items ≡ c.put_user_classes.new.out.items ++ x9 = c.in_ok-put_user_connects.ensures in
+    let e9 : c.put_user_connects.new.out.items ≡ c.put_user_classes.new.out.items ++ x9 = c.in_ok-put_user_connects.ensures.bytes in
     let r9 : List ℕ = x9 ++ [] in
     let t9 : c.put_user_connects.new.out.items ≡ c.put_user_classes.new.out.items ++ r9 = last (c.put_user_classes.new.out.items) (c.put_user_connects.new.out.items) x9 e9 in
     let r8 : List ℕ = x8 ++ r9 in

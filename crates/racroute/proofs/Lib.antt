@@ -5,3 +5,4 @@ mod Telling
 mod Replying
 mod Closing
 mod Says
+pub mod Crossing

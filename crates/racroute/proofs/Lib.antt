@@ -1,5 +1,7 @@
 mod Marks
 mod Disks
+mod Making
+mod Along
 mod Serving
 mod Telling
 mod Replying

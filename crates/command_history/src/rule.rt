@@ -98,6 +98,7 @@ pub trait Naming {
     ghost faults: { ℕ };
     // What the first disk of its desk told there, and what the second did.
     ghost first_disk: { Option History };
+
     ghost second_disk: { Option History };
 }
 

@@ -1,6 +1,6 @@
 -- What every crash leaves along a history: at each moment what stands for some beginning of it, or for the command that a
 -- disk failed.
-use Rattle.std.proofs.Common.{◌≡◌, ◌⊎◌, ℕ, Bool, true, false, List, [], ◌∷◌, ◌++◌, Option, Some, None, Ok, refl, sym, ◌∙◌, ap, subst, inl, inr}
+use Rattle.std.proofs.Common.{◌≡◌, ℕ, Bool, true, List, [], ◌∷◌, Option, Some, Ok, refl, sym, subst, inl, inr}
 use Rattle.racf_outside.specs.Disk.{History}
 use Rattle.racf_outside.proofs.Runs.{Leaves-weaker, StaysIn-none, StaysIn-joined, StaysIn-weaker}
 use Rattle.racf_checkpoint.specs.Stored.{StoreOn, Beside}
@@ -15,7 +15,7 @@ use Rattle.command_history.specs.declared.events.Event.TheVariants.{Added, Ended
 use Rattle.command_history.specs.Events.{is_ended, mark_of, Extends}
 use Rattle.command_history.specs.Reached.{reached}
 use Rattle.command_history.proofs.Extensions.{prefix_trans}
-use Rattle.racroute.specs.Disks.{StandForBeginning, StandForFailed, StandAlong, StaysAlong}
+use Rattle.racroute.specs.Disks.{StandForFailed, StandAlong, StaysAlong}
 use Rattle.racroute.specs.Replies.{Given}
 use Rattle.racroute.proofs.Replying.{extends_self}
 use Rattle.racroute.proofs.Making.{made_of}

@@ -1,7 +1,7 @@
 mod Marks
 mod Disks
 mod Making
-mod Along
+pub mod Along
 mod Serving
 mod Telling
 mod Replying

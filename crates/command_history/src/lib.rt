@@ -7,8 +7,8 @@
 //! what he knows has seen all, which [`Book::covers`] shows of each other front, and he alone can add the next event.
 //!
 //! Everything of one history has one type parameter, a [`Naming`]: whoever opens a history picks it in a proof, with
-//! the position where the history begins and the count of the disk's faults there. `reached` is the position behind a
-//! list of events; [`laws`] has what is true of these definitions.
+//! the position where the history begins, the count of the disk's faults there, and what the two disks told there.
+//! `reached` is the position behind a list of events; [`laws`] has what is true of these definitions.
 //!
 //! ```
 //! // J is the name that was picked for what is opened, as a `requires` of the caller says.

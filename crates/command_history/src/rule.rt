@@ -85,8 +85,9 @@ impl Plain<bool, Event, u64> for End {
 
 /// Which history it is. Whatever belongs together has one parameter of this kind, and who opens a history picks it.
 pub trait Naming {
-    ghost use Rattle.std.specs.Prelude.{ℕ};
+    ghost use Rattle.std.specs.Prelude.{ℕ, Option};
     ghost use Rattle.logbook.specs.Pages.{Book};
+    ghost use Rattle.racf_outside.specs.Disk.{History};
     ghost use Rattle.racf_desk.specs.Position.{Position};
 
     // The book of the history.
@@ -95,9 +96,14 @@ pub trait Naming {
     ghost base: { Position };
     // How many faults of the disk had been counted there.
     ghost faults: { ℕ };
+    // What the first disk of its desk told there, and what the second did.
+    ghost first_disk: { Option History };
+
+    ghost second_disk: { Option History };
 }
 
 impl Naming for Brand {
+    ghost use Rattle.std.specs.Prelude.{None};
     ghost use Rattle.racf_desk.specs.Position.{first_position};
 
     ghost book = { record { number = 0; log_name = 0; cells_name = 0 } };
@@ -105,4 +111,8 @@ impl Naming for Brand {
     ghost base = { first_position };
 
     ghost faults = { 0 };
+
+    ghost first_disk = { None };
+
+    ghost second_disk = { None };
 }

@@ -12,9 +12,10 @@ use Rattle.command_history.specs.Events.{all_of, ends_last, entries_of, is_ended
 use Rattle.command_history.specs.Reached.{reached}
 use Rattle.command_history.proofs.Extensions.{all_is}
 use Rattle.raclist_snapshots.specs.Publishing.{Seeing, ended_with, MarkIs}
-use Rattle.racroute.specs.Disks.{IsInDoubt, StandAt}
+use Rattle.racroute.specs.Disks.{IsInDoubt, StandAt, StaysAlong}
+use Rattle.racroute.proofs.Along.{stays_later}
 use Rattle.racroute.proofs.Marks.{ended_mark, entries_ended}
-use Rattle.racroute.proofs.Telling.{reached_with}
+use Rattle.racroute.proofs.Telling.{extends_ended, reached_with}
 
 ends_push : (events : List Event) (halted : Bool) → is_ended events ≡ false → ends_last (events ++ Ended halted ∷ []) ≡ true
 ends_push [] halted goes = refl
@@ -53,3 +54,12 @@ pub stand : {D : Type 0} (tells : D → Option History) (store : StoreOn D) (one
     → (halted ≡ true → IsInDoubt (tells store.journal.disk) (tells store.second) position) → StandAt halted (tells one) (tells other) behind
 stand tells store one other true position behind first second is rest doubt = rw (first, second, is) (doubt refl)
 stand tells store one other false position behind first second is rest doubt = rw (first, second, is) (rest refl)
+
+-- and what every crash left since the history began
+pub stayed : {D : Type 0} (tells : D → Option History) (base : Position) (second first : Option History) (halted : Bool) (events : List Event) (history : List Accepted)
+    (disk one : D) → all_of history halted ≡ ended_with halted events → one ≡ disk → StaysAlong base events second first (tells disk)
+    → StaysAlong base (all_of history halted) second first (tells one)
+stayed {D} tells base second first halted events history disk one is same along =
+    subst (λ (d : D). StaysAlong base (all_of history halted) second first (tells d)) (sym same)
+    (subst (λ (l : List Event). StaysAlong base l second first (tells disk)) (sym is)
+    (stays_later base second first events (ended_with halted events) (tells disk) (extends_ended halted events) along))

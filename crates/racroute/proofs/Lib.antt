@@ -1,5 +1,7 @@
 mod Marks
 mod Disks
+mod Making
+pub mod Along
 mod Serving
 mod Telling
 mod Replying

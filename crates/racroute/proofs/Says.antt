@@ -18,15 +18,16 @@ use Rattle.command_history.specs.Reached.{reached}
 use Rattle.raclist_snapshots.specs.Publishing.{ended_with, MarkIs}
 use Rattle.racroute.specs.Core.{Core, Passing, number_behind}
 use Rattle.racroute.specs.Disks.{IsInDoubt}
-use Rattle.racroute.specs.Kept.{IsMade, IsMadeEntry, IsOffice}
+use Rattle.racroute.specs.Kept.{DisksBefore, IsMade, IsMadeEntry, IsOffice}
 use Rattle.racroute.specs.Replies.{Given, SaysAccepted, SaysFailed, SaysHalted, SaysRefused}
+use Rattle.racroute.proofs.Making.{made_of}
 use Rattle.racroute.proofs.Marks.{mark_is, ended_more, ended_same}
 use Rattle.racroute.proofs.Disks.{stays_now}
-use Rattle.racroute.proofs.Serving.{AreWritten, AreRecorded, made_of, entry_is}
+use Rattle.racroute.proofs.Serving.{AreWritten, AreRecorded, entry_is}
 use Rattle.racroute.proofs.Telling.{reached_with}
 
-module _ {D : Type 0} (tells : D → Option History) (counted : D → ℕ) (base : Position) (first : ℕ) (core : Core D) (history : List Accepted) (commands faults out : ℕ)
-    (kept : IsOffice tells counted base first core history commands faults out) where
+module _ {D : Type 0} (tells : D → Option History) (counted : D → ℕ) (base : Position) (before : DisksBefore) (core : Core D) (history : List Accepted) (commands faults out : ℕ)
+    (kept : IsOffice tells counted base before core history commands faults out) where
   -- what was made goes on from the history
   pub is_made : (given : Given) (ready : Ready) → made_of_outcome core.position.image (outcome core.position given.issuer given.group given.text) ≡ Ok (made_in ready)
       → IsMade base core.events ready

@@ -1,37 +1,29 @@
 -- An office behind a command.
-use Rattle.std.proofs.Common.{◌≡◌, ℕ, ◌+◌, ◌≤◌, true, false, List, [], ◌∷◌, ◌++◌, length, Option, Some, Result, Ok, Err, refl, sym, ◌∙◌, ap, subst, arith, length-append, inl, inr}
+use Rattle.std.proofs.Common.{◌≡◌, ℕ, ◌+◌, ◌≤◌, true, false, List, [], ◌∷◌, ◌++◌, length, Option, Some, Ok, sym, ◌∙◌, ap, subst, arith, length-append, inl, inr}
 use Rattle.racf_outside.specs.Causes.{Rose}
 use Rattle.racf_outside.specs.Disk.{History}
-use Rattle.raclist_image.specs.Imaged.{Imaged}
 use Rattle.command_parser.specs.Canonical.{canonical, IsWritten}
 use Rattle.journal_records.specs.declared.record.CommandRecord.{CommandRecord}
 use Rattle.racf_desk.specs.declared.answers.Ready.{Ready}
-use Rattle.racf_desk.specs.declared.refusal.Refusal.{Refusal}
 use Rattle.racf_desk.specs.Outcome.{outcome}
-use Rattle.racf_desk.specs.Made.{Made, made_at, made_in, made_of_outcome, installed}
+use Rattle.racf_desk.specs.Durable.{LeavesIt, StaysEither}
+use Rattle.racf_desk.specs.Made.{Made, made_in, made_of_outcome, installed}
 use Rattle.racf_desk.specs.Position.{Position}
 use Rattle.command_history.specs.declared.events.Accepted.{Accepted}
 use Rattle.command_history.specs.declared.events.Event.{Event}
-use Rattle.command_history.specs.declared.events.Event.TheVariants.{Added}
-use Rattle.command_history.specs.Events.{entries_of, is_ended, mark_of}
+use Rattle.command_history.specs.declared.events.Event.TheVariants.{Added, Ended}
+use Rattle.command_history.specs.Events.{entries_of, is_ended, mark_of, Extends}
 use Rattle.command_history.specs.Reached.{reached, record_of, AreLegal}
+use Rattle.command_history.proofs.Extensions.{extends_push}
 use Rattle.command_history.proofs.Leading.{reached_ended, reached_none}
 use Rattle.raclist_snapshots.specs.Publishing.{ended_with}
 use Rattle.racroute.specs.Core.{Core}
 use Rattle.racroute.specs.Disks.{IsInDoubt}
-use Rattle.racroute.specs.Kept.{IsMadeEntry, IsOffice, fault_count}
+use Rattle.racroute.specs.Kept.{DisksBefore, IsMadeEntry, IsOffice, fault_count}
 use Rattle.racroute.specs.Replies.{Given, IsEntry}
+use Rattle.racroute.proofs.Along.{stays_accepted, stays_begun, stays_failed}
+use Rattle.racroute.proofs.Making.{IsMadeOf}
 use Rattle.racroute.proofs.Marks.{goes_push, mark_any, mark_from, ended_ends, ended_mark, ended_more, entries_ended, entries_added}
-
--- What was made of a command that is accepted is made of that command.
-pub record IsMadeOf (image : Imaged) (o : Result CommandRecord Refusal) (made : Made) : Type 0 where
-  pub command : CommandRecord
-  pub accepted : o ≡ Ok command
-  pub made_is : made_at image command ≡ made
-
-pub made_of : (image : Imaged) (o : Result CommandRecord Refusal) (made : Made) → made_of_outcome image o ≡ Ok made → IsMadeOf image o made
-made_of image (Ok command) made e = record { command = command; accepted = refl; made_is = cc e }
-made_of image (Err why) made e = absurd (cc e)
 
 abbrev pub AreWritten : Type 0
 AreWritten = (position : Position) (id : List ℕ) (group : Option (List ℕ)) (text : List ℕ) (given : CommandRecord) →
@@ -58,19 +50,23 @@ risen : (a b c : ℕ) → a ≤ b → Rose b c → Rose a c
 risen a b c le (inl lt) = inl (omega arith)
 risen a b c le (inr last) = inr last
 
-module _ {D : Type 0} (tells : D → Option History) (counted : D → ℕ) (base : Position) (first : ℕ) where
+module _ {D : Type 0} (tells : D → Option History) (counted : D → ℕ) (base : Position) (before : DisksBefore) where
   -- what an accepted command leaves
   pub accepted_kept : (core now : Core D) (history later : List Accepted) (commands faults out commands' faults' out' : ℕ) (entry : Accepted) (made : Made)
-      → IsOffice tells counted base first core history commands faults out
+      → IsOffice tells counted base before core history commands faults out
       → is_ended core.events ≡ false → core.halted ≡ false
       → AreLegal base (entries_of (core.events ++ Added entry ∷ []))
       → reached base (core.events ++ Added entry ∷ []) ≡ installed (reached base core.events) made
       → now.events ≡ core.events ++ Added entry ∷ [] → now.position ≡ installed core.position made → now.halted ≡ false → now.passes ≡ core.passes
       → counted core.store.journal.disk ≤ counted now.store.journal.disk
+      → StaysEither tells core.store now.store core.position (installed core.position made) → now.store.second ≡ core.store.second
       → later ≡ history ++ entry ∷ [] → commands' ≡ commands + 1 → faults' ≡ faults → out' ≡ out
-      → IsOffice tells counted base first now later commands' faults' out'
-  accepted_kept core now history later commands faults out commands' faults' out' entry made kept goes runs legal leads events position still passes fewer items more same outs =
+      → IsOffice tells counted base before now later commands' faults' out'
+  accepted_kept core now history later commands faults out commands' faults' out' entry made kept goes runs legal leads events position still passes fewer either second items more same outs =
       let goes' : is_ended now.events ≡ false = rw events (goes_push core.events entry goes) in
+      let extends : Extends core.events now.events = subst (Extends core.events) (sym events) (extends_push core.events (Added entry) goes) in
+      let there : reached base now.events ≡ installed core.position made =
+      ap (reached base) events ∙ (leads ∙ ap (λ (p : Position). installed p made) (sym kept.position)) in
       record {
         position = position ∙ (ap (λ (p : Position). installed p made) kept.position ∙ (sym leads ∙ ap (reached base) (sym events)));
         legal = rw events legal;
@@ -83,26 +79,34 @@ module _ {D : Type 0} (tells : D → Option History) (counted : D → ℕ) (base
         mark = mark_any now.halted now.events goes';
         halted = λ h. absurd (cc (h, still));
         ended = λ e. absurd (cc (e, goes'));
-        no_fewer = let before = kept.no_fewer in omega arith;
+        no_fewer = let had = kept.no_fewer in omega arith;
         rose = λ h. absurd (cc (h, still));
         doubt = λ h. absurd (cc (h, still));
+        moments = stays_accepted base before.second before.first tells core.store now.store core.position (installed core.position made)
+            core.events now.events extends either kept.second (sym kept.position) there kept.moments;
+        second = ap tells second ∙ kept.second;
       }
 
   -- what a command leaves that a disk failed
-  pub failed_kept : (core now : Core D) (history later : List Accepted) (commands faults out commands' faults' out' : ℕ)
-      → IsOffice tells counted base first core history commands faults out
+  pub failed_kept : (core now : Core D) (history later : List Accepted) (commands faults out commands' faults' out' : ℕ) (given : Given) (ready : Ready)
+      → IsOffice tells counted base before core history commands faults out
       → is_ended core.events ≡ false → core.halted ≡ false
       → now.events ≡ ended_with true core.events → now.position ≡ core.position → now.halted ≡ true → now.passes ≡ core.passes
       → counted core.store.journal.disk ≤ counted now.store.journal.disk
       → Rose (counted core.store.journal.disk) (counted now.store.journal.disk)
       → IsInDoubt (tells now.store.journal.disk) (tells now.store.second) now.position
+      → made_of_outcome core.position.image (outcome core.position given.issuer given.group given.text) ≡ Ok (made_in ready)
+      → StaysEither tells core.store now.store core.position (installed core.position (made_in ready)) → now.store.second ≡ core.store.second
       → later ≡ history → commands' ≡ commands → faults' ≡ faults + 1 → out' ≡ out
-      → IsOffice tells counted base first now later commands' faults' out'
-  failed_kept core now history later commands faults out commands' faults' out' kept goes runs events position halts passes fewer rose doubt items same more outs =
+      → IsOffice tells counted base before now later commands' faults' out'
+  failed_kept core now history later commands faults out commands' faults' out' given ready kept goes runs events position halts passes fewer rose doubt made either second items same more outs =
       let none : faults ≡ 0 = kept.faults_are ∙ ap fault_count runs in
       let marked : mark_of now.events ≡ Some now.halted = rw (events, halts) (ended_mark true core.events (mark_any true core.events goes)) in
+      let ends : now.events ≡ core.events ++ Ended true ∷ [] = events ∙ ended_more true core.events goes in
+      let extends : Extends core.events now.events = subst (Extends core.events) (sym ends) (extends_push core.events (Ended true) goes) in
+      let there : core.position ≡ reached base now.events = kept.position ∙ (sym (reached_ended base core.events true) ∙ ap (reached base) (sym ends)) in
       record {
-        position = position ∙ (kept.position ∙ (sym (reached_ended base core.events true) ∙ ap (reached base) (sym (ended_more true core.events goes) ∙ sym events)));
+        position = position ∙ there;
         legal = subst (AreLegal base) (sym (entries_ended true core.events) ∙ ap entries_of (sym events)) kept.legal;
         entries_are = items ∙ (kept.entries_are ∙ (sym (entries_ended true core.events) ∙ ap entries_of (sym events)));
         commands_are = same ∙ (kept.commands_are ∙ ap length (sym items));
@@ -111,20 +115,25 @@ module _ {D : Type 0} (tells : D → Option History) (counted : D → ℕ) (base
         mark = mark_from now.halted now.events marked;
         halted = λ _. rw events (ended_ends true core.events);
         ended = λ _ h. absurd (cc (h, halts));
-        no_fewer = let before = kept.no_fewer in omega arith;
-        rose = λ _. risen first (counted core.store.journal.disk) (counted now.store.journal.disk) kept.no_fewer rose;
+        no_fewer = let had = kept.no_fewer in omega arith;
+        rose = λ _. risen before.faults (counted core.store.journal.disk) (counted now.store.journal.disk) kept.no_fewer rose;
         doubt = λ _. doubt;
+        moments = stays_failed base before.second before.first tells core.store now.store core.position core.events now.events given ready
+            extends either kept.second (sym there) (marked ∙ ap Some halts) made kept.moments;
+        second = ap tells second ∙ kept.second;
       }
 
   -- an office in which nothing has happened
   pub opened_kept : (core : Core D) (history : List Accepted) (commands faults out : ℕ)
-      → core.events ≡ [] → core.position ≡ base → core.halted ≡ false → first ≤ counted core.store.journal.disk
+      → core.events ≡ [] → core.position ≡ base → core.halted ≡ false → before.faults ≤ counted core.store.journal.disk
+      → (before.first ≡ tells core.store.journal.disk) × (before.second ≡ tells core.store.second) → LeavesIt tells core.store core.position
       → history ≡ [] → commands ≡ 0 → faults ≡ 0 → out ≡ core.passes
-      → IsOffice tells counted base first core history commands faults out
-  opened_kept core history commands faults out events position runs fewer items none faultless outs =
+      → IsOffice tells counted base before core history commands faults out
+  opened_kept core history commands faults out events position runs fewer disks leaves items none faultless outs =
       let goes : is_ended core.events ≡ false = ap is_ended events in
+      let there : core.position ≡ reached base core.events = position ∙ (sym (reached_none base) ∙ ap (reached base) (sym events)) in
       record {
-        position = position ∙ (sym (reached_none base) ∙ ap (reached base) (sym events));
+        position = there;
         legal = subst (λ (l : List Event). AreLegal base (entries_of l)) (sym events) tt;
         entries_are = items ∙ ap entries_of (sym events);
         commands_are = none ∙ ap length (sym items);
@@ -136,4 +145,6 @@ module _ {D : Type 0} (tells : D → Option History) (counted : D → ℕ) (base
         no_fewer = fewer;
         rose = λ h. absurd (cc (h, runs));
         doubt = λ h. absurd (cc (h, runs));
+        moments = stays_begun base before.second before.first tells core.store core.position core.events leaves (sym there) disks.0 disks.1;
+        second = sym disks.1;
       }

@@ -15,7 +15,8 @@ use Rattle.racf_desk.specs.Made.{number_at}
 use Rattle.racroute.proofs.Replying.{extends_self}
 use Rattle.raclist_snapshots.specs.Publishing.{Publishing, ended_with}
 use Rattle.racroute.specs.Core.{Core, is_over, is_waited, number_behind, told}
-use Rattle.racroute.specs.Kept.{IsOffice}
+use Rattle.racroute.specs.Kept.{DisksBefore, IsOffice}
+use Rattle.racroute.proofs.Along.{stays_later}
 use Rattle.racroute.proofs.Marks.{mark_from, ended_ends, ended_mark, entries_ended}
 
 -- where the history led
@@ -26,15 +27,23 @@ reached_with base halted events = by (is_ended events)
     by true = refl
     by false = reached_ended base events halted
 
+-- it goes on with the mark
+pub extends_ended : (halted : Bool) (events : List Event) → Extends events (ended_with halted events)
+extends_ended halted events = by (is_ended events) refl
+  where
+    by : (b : Bool) → is_ended events ≡ b → Extends events (if b then events else (events ++ Ended halted ∷ []))
+    by true is = extends_self events
+    by false is = extends_push events (Ended halted) is
+
 none_out : (halted : Bool) (passes : ℕ) → (halted || nat_eq passes 0) ≡ true → halted ≡ false → passes ≡ 0
 none_out true passes over h = absurd (cc h)
 none_out false passes over h = grind (arith, nat_tests)
 
-module _ {D : Type 0} (tells : D → Option History) (counted : D → ℕ) (base : Position) (first : ℕ) where
+module _ {D : Type 0} (tells : D → Option History) (counted : D → ℕ) (base : Position) (before : DisksBefore) where
   -- finally, where nothing more is accepted
   pub over_kept : (core : Core D) (later : List Event) (history : List Accepted) (commands faults out : ℕ)
-      → IsOffice tells counted base first core history commands faults out → is_over core ≡ true → later ≡ ended_with core.halted core.events
-      → IsOffice tells counted base first (record core { events = later }) history commands faults out
+      → IsOffice tells counted base before core history commands faults out → is_over core ≡ true → later ≡ ended_with core.halted core.events
+      → IsOffice tells counted base before (record core { events = later }) history commands faults out
   over_kept core later history commands faults out kept over is =
       record {
         position = kept.position ∙ (sym (reached_with base core.halted core.events) ∙ ap (reached base) (sym is));
@@ -49,6 +58,9 @@ module _ {D : Type 0} (tells : D → Option History) (counted : D → ℕ) (base
         no_fewer = kept.no_fewer;
         rose = kept.rose;
         doubt = kept.doubt;
+        moments = stays_later base before.second before.first core.events later (tells core.store.journal.disk)
+            (subst (Extends core.events) (sym is) (extends_ended core.halted core.events)) kept.moments;
+        second = kept.second;
       }
 
 -- what is told where nothing more is accepted, and else
@@ -66,27 +78,20 @@ pub final_either : {X E : Type 0} (halted : Bool) (result : Result X E) (before 
 final_either halted (Ok x) before after ok err free = (ap (λ (p : Publishing). p.held) ok, inl (ap (λ (p : Publishing). p.events) ok))
 final_either halted (Err e) before after ok err free = (ap (λ (p : Publishing). p.held) err ∙ free, inr (ap (λ (p : Publishing). p.events) err))
 
-pub either_kept : {D : Type 0} (tells : D → Option History) (counted : D → ℕ) (base : Position) (first : ℕ)
+pub either_kept : {D : Type 0} (tells : D → Option History) (counted : D → ℕ) (base : Position) (before : DisksBefore)
     (core : Core D) (later : List Event) (history : List Accepted) (commands faults out : ℕ)
-    → IsOffice tells counted base first core history commands faults out → is_over core ≡ true
+    → IsOffice tells counted base before core history commands faults out → is_over core ≡ true
     → (later ≡ ended_with core.halted core.events) ⊎ (later ≡ core.events)
-    → IsOffice tells counted base first (record core { events = later }) history commands faults out
-either_kept tells counted base first core later history commands faults out kept over (inl is) =
-    over_kept tells counted base first core later history commands faults out kept over is
-either_kept {D} tells counted base first core later history commands faults out kept over (inr is) =
-    subst (λ (events : List Event). IsOffice tells counted base first (record core { events = events }) history commands faults out) (sym is) kept
+    → IsOffice tells counted base before (record core { events = later }) history commands faults out
+either_kept tells counted base before core later history commands faults out kept over (inl is) =
+    over_kept tells counted base before core later history commands faults out kept over is
+either_kept {D} tells counted base before core later history commands faults out kept over (inr is) =
+    subst (λ (events : List Event). IsOffice tells counted base before (record core { events = events }) history commands faults out) (sym is) kept
 
 -- whoever waited for more than there is does so in vain
 waited_over : (over : Bool) (reached number : ℕ) → (not over && nat_lt reached number) ≡ false → reached < number → over ≡ true
 waited_over true reached number waits less = refl
 waited_over false reached number waits less = absurd (grind (arith, nat_tests))
-
-extends_ended : (halted : Bool) (events : List Event) → Extends events (ended_with halted events)
-extends_ended halted events = by (is_ended events) refl
-  where
-    by : (b : Bool) → is_ended events ≡ b → Extends events (if b then events else (events ++ Ended halted ∷ []))
-    by true is = extends_self events
-    by false is = extends_push events (Ended halted) is
 
 -- a caller that is told so has seen the end
 pub final_after : {D : Type 0} (base : Position) (number reached' : ℕ) (core now : Core D) (seen note new : List Event)

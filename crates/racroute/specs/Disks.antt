@@ -1,12 +1,16 @@
 -- What the disks of an office keep.
-use Rattle.std.specs.Prelude.{ℕ, ◌≡◌, Bool, true, false, List, Option, Ok}
-use Rattle.racf_outside.specs.Crashes.{Leaves}
+use Rattle.std.specs.Prelude.{ℕ, ◌≡◌, ◌⊎◌, Bool, true, false, List, Option, Some, Ok}
+use mathlib.Core.List.{IsPrefix}
+use Rattle.racf_outside.specs.Crashes.{Leaves, StaysIn}
 use Rattle.racf_outside.specs.Disk.{History, Now}
 use Rattle.racf_checkpoint.specs.Stored.{Beside}
 use Rattle.journal_records.specs.declared.record.CommandRecord.{CommandRecord}
 use Rattle.racf_desk.specs.Outcome.{outcome}
 use Rattle.racf_desk.specs.Position.{Position, position_behind}
 use Rattle.racf_desk.specs.Recovery.{StandsFor, StandsForEither}
+use Rattle.command_history.specs.declared.events.Event.{Event}
+use Rattle.command_history.specs.Events.{mark_of}
+use Rattle.command_history.specs.Reached.{reached}
 
 -- A disk failed a command at this position. Whatever a crash now leaves of both disks stands for the position, or for the
 -- one behind that command, which the rules accept there.
@@ -22,3 +26,28 @@ pub record IsInDoubt (first second : Option History) (position : Position) : Typ
 abbrev pub StandAt : (halted : Bool) → (first second : Option History) → Position → Type 0
 StandAt false first second position = Now first (Leaves (Beside second (StandsFor position)))
 StandAt true first second position = IsInDoubt first second position
+
+-- Two files stand for where some beginning of a history leads.
+pub record StandForBeginning (base : Position) (events : List Event) (first second : List ℕ) : Type 0 where
+  pub beginning : List Event
+  pub begins : IsPrefix beginning events
+  pub stand : StandsFor (reached base beginning) first second
+
+-- The history has ended because a disk failed a command, which the rules accept where it leads: two files stand for the
+-- position behind that command.
+pub record StandForFailed (base : Position) (events : List Event) (first second : List ℕ) : Type 0 where
+  pub ended : mark_of events ≡ Some true
+  pub id : List ℕ
+  pub group : Option (List ℕ)
+  pub text : List ℕ
+  pub command : CommandRecord
+  pub accepted : outcome (reached base events) id group text ≡ Ok command
+  pub stand : StandsFor (position_behind (reached base events) command) first second
+
+-- Two files stand for some beginning of a history, or for one command more where a disk failed it.
+abbrev pub StandAlong : (base : Position) → List Event → (first second : List ℕ) → Type 0
+StandAlong base events first second = StandForBeginning base events first second ⊎ StandForFailed base events first second
+
+-- At every moment from where a history begins a crash leaves what stands along it. The second disk stays as it is.
+abbrev pub StaysAlong : (base : Position) → List Event → (second : Option History) → (old new : Option History) → Type 0
+StaysAlong base events second old new = StaysIn (Beside second (StandAlong base events)) old new

@@ -11,17 +11,26 @@ use Rattle.command_history.specs.Events.{entries_of, is_ended}
 use Rattle.command_history.specs.Reached.{reached, AreLegal}
 use Rattle.raclist_snapshots.specs.Publishing.{MarkIs}
 use Rattle.racroute.specs.Core.{Core}
-use Rattle.racroute.specs.Disks.{IsInDoubt}
+use Rattle.racroute.specs.Disks.{IsInDoubt, StaysAlong}
 use Rattle.racroute.specs.Replies.{Given, outcome_behind}
 
 -- how many disk faults there were: one, where a disk failed a command, since no command is taken behind it
 abbrev pub fault_count : (halted : Bool) → ℕ
 fault_count halted = if halted then 1 else 0
 
+-- The disks of an office where its history begins: how many faults of the first had been counted, and what each told.
+pub record DisksBefore : Type 0 where
+  pub faults : ℕ
+  pub first : Option History
+  pub second : Option History
+
+abbrev pub disks_before : ℕ → Option History → Option History → DisksBefore
+disks_before faults first second = record { faults = faults; first = first; second = second }
+
 -- The database is where the history leads, and the entries that are kept are those of the history. The ledgers count what
 -- there is: `commands`, `faults` and `out` are their totals. The final mark is there where a disk failed a command, and
--- else only where no pass is out. `first` faults of the first disk had been counted when the office was opened.
-pub record IsOffice {D : Type 0} (tells : D → Option History) (counted : D → ℕ) (base : Position) (first : ℕ) (core : Core D) (history : List Accepted)
+-- else only where no pass is out. At every moment since the history began a crash leaves what stands along it.
+pub record IsOffice {D : Type 0} (tells : D → Option History) (counted : D → ℕ) (base : Position) (before : DisksBefore) (core : Core D) (history : List Accepted)
     (commands faults out : ℕ) : Type 0 where
   pub position : core.position ≡ reached base core.events
   pub legal : AreLegal base (entries_of core.events)
@@ -32,9 +41,11 @@ pub record IsOffice {D : Type 0} (tells : D → Option History) (counted : D →
   pub mark : MarkIs core.halted core.events
   pub halted : core.halted ≡ true → is_ended core.events ≡ true
   pub ended : is_ended core.events ≡ true → core.halted ≡ false → core.passes ≡ 0
-  pub no_fewer : first ≤ counted core.store.journal.disk
-  pub rose : core.halted ≡ true → Rose first (counted core.store.journal.disk)
+  pub no_fewer : before.faults ≤ counted core.store.journal.disk
+  pub rose : core.halted ≡ true → Rose before.faults (counted core.store.journal.disk)
   pub doubt : core.halted ≡ true → IsInDoubt (tells core.store.journal.disk) (tells core.store.second) core.position
+  pub moments : StaysAlong base core.events before.second before.first (tells core.store.journal.disk)
+  pub second : tells core.store.second ≡ before.second
 
 -- It was made of a command that is given where these events lead.
 pub record IsMade (base : Position) (events : List Event) (ready : Ready) : Type 0 where

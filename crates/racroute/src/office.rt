@@ -8,7 +8,7 @@ ghost use Rattle.command_history.specs.Events.{all_of, Extends};
 ghost use Rattle.command_history.specs.Reached.{reached, AreLegal};
 ghost use Rattle.raclist_snapshots.specs.Publishing.{ended_with};
 ghost use Rattle.racroute.specs.Core.{is_over, is_waited, number_behind, told};
-ghost use Rattle.racroute.specs.Disks.{StandAt};
+ghost use Rattle.racroute.specs.Disks.{StandAt, StaysAlong};
 ghost use Rattle.racroute.specs.Kept.{fault_count};
 ghost use Rattle.racroute.specs.Replies.{given_by, IsAmiss, IsNoted, Learns, Leaves, Says};
 
@@ -75,7 +75,7 @@ impl<
     ghost use Rattle.std.specs.Prelude.{◌≡◌, ◌+◌, None, false};
     ghost use Rattle.racf_desk.specs.Made.{number_at};
     ghost use Rattle.racroute.specs.Core.{Core};
-    ghost use Rattle.racroute.specs.Kept.{IsOffice};
+    ghost use Rattle.racroute.specs.Kept.{disks_before, IsOffice};
 
     ghost Value = { Core D };
 
@@ -89,7 +89,7 @@ impl<
     } };
 
     ghost invariant = { λ o. (o.desk.committed ≡ false) × (o.publisher.held ≡ None) × (o.first ≡ number_at J.base)
-        × IsOffice D.tells D.faults J.base J.faults (record {
+        × IsOffice D.tells D.faults J.base (disks_before J.faults J.first_disk J.second_disk) (record {
           events = o.publisher.events;
           position = o.desk.position;
           store = o.desk.store;
@@ -135,9 +135,11 @@ impl<
         requires runs { desk.halted ≡ false }
         requires settled { desk.committed ≡ false }
         requires faults { J.faults ≤ D.faults desk.store.journal.disk }
+        requires disks { (J.first_disk ≡ D.tells desk.store.journal.disk) × (J.second_disk ≡ D.tells desk.store.second) }
         requires books { (books.0.total ≡ 0) × (books.1.total ≡ 0) × (books.2.total ≡ rest) }
         ensures { result ≡ record { events = []; position = J.base; store = desk.store; halted = false; passes = rest; decks = rest } }
     {
+        desk.is_at_rest();
         let (commands, faults, out) = books;
         Office {
             first: desk.number(),
@@ -334,6 +336,8 @@ impl<
         ensures faults { sum_by (λ e. e.faults) ends.items ≡ fault_count result.halted }
         ensures first { result.first ≡ number_at J.base }
         ensures disks { StandAt result.halted (D.tells result.disks.first) (D.tells result.disks.second) (reached J.base (all_of result.accepted.items result.halted)) }
+        ensures moments { StaysAlong J.base (all_of result.accepted.items result.halted) J.second_disk J.first_disk (D.tells result.disks.first) }
+        ensures second { D.tells result.disks.second ≡ J.second_disk }
         ensures no_fewer { J.faults ≤ D.faults result.disks.first }
         ensures rose { result.halted ≡ true → Rose J.faults (D.faults result.disks.first) }
     {

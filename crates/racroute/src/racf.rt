@@ -7,7 +7,7 @@ ghost use Rattle.command_history.specs.declared.events.Event.{Event};
 ghost use Rattle.command_history.specs.Events.{all_of, Extends};
 ghost use Rattle.command_history.specs.Reached.{reached, AreLegal};
 ghost use Rattle.racroute.specs.Core.{new_passes, number_behind};
-ghost use Rattle.racroute.specs.Disks.{StandAt};
+ghost use Rattle.racroute.specs.Disks.{StandAt, StaysAlong};
 ghost use Rattle.racroute.specs.Kept.{fault_count};
 ghost use Rattle.racroute.specs.Replies.{given_by, IsAmiss, Learns, Says};
 
@@ -89,6 +89,7 @@ impl<
         requires runs { desk.halted ≡ false }
         requires settled { desk.committed ≡ false }
         requires faults { J.faults ≤ D.faults desk.store.journal.disk }
+        requires disks { (J.first_disk ≡ D.tells desk.store.journal.disk) × (J.second_disk ≡ D.tells desk.store.second) }
         requires commands { (blanks.0.name ≡ S.name) × (blanks.0.parts ≡ S.parts) × (S.parts ≡ decks + 1) }
         requires failed { (blanks.1.name ≡ F.name) × (blanks.1.parts ≡ F.parts) × (F.parts ≡ decks + 1) }
         requires out { (blanks.2.name ≡ P.name) × (blanks.2.parts ≡ P.parts) × (P.parts ≡ decks + 1) }
@@ -193,6 +194,8 @@ impl<
         ensures faults { IfOk result (λ closed. sum_by (λ e. e.faults) ends.items ≡ fault_count closed.halted) }
         ensures first { IfOk result (λ closed. closed.first ≡ number_at J.base) }
         ensures disks { IfOk result (λ closed. StandAt closed.halted (D.tells closed.disks.first) (D.tells closed.disks.second) (reached J.base (all_of closed.accepted.items closed.halted))) }
+        ensures moments { IfOk result (λ closed. StaysAlong J.base (all_of closed.accepted.items closed.halted) J.second_disk J.first_disk (D.tells closed.disks.first)) }
+        ensures second { IfOk result (λ closed. D.tells closed.disks.second ≡ J.second_disk) }
         ensures no_fewer { IfOk result (λ closed. J.faults ≤ D.faults closed.disks.first) }
         ensures rose { IfOk result (λ closed. closed.halted ≡ true → Rose J.faults (D.faults closed.disks.first)) }
         ensures handed_back { IfErr result (λ back. (back.callers ≡ callers) × (back.ends ≡ ends)) }

@@ -133,6 +133,7 @@ fn begun<
     requires image { arc_value opened.1 ≡ first_position.image }
     requires base { J.base ≡ first_position }
     requires none { J.faults ≡ 0 }
+    requires disks { (J.first_disk ≡ D.tells desk.store.journal.disk) × (J.second_disk ≡ D.tells desk.store.second) }
     requires desk { desk ≡ is_fresh first_position desk.store }
     requires commands { (blanks.0.name ≡ S.name) × (blanks.0.parts ≡ S.parts) × (S.parts ≡ 3) }
     requires failed { (blanks.1.name ≡ F.name) × (blanks.1.parts ≡ F.parts) × (F.parts ≡ 3) }

@@ -3,7 +3,7 @@ use Rattle.command_history.specs.Events.{all_of}
 use Rattle.command_history.specs.Reached.{reached}
 use Rattle.raclist_snapshots.specs.Publishing.{Publishing, ended_with}
 use Rattle.racroute.specs.Core.{Core}
-use Rattle.racroute.proofs.Closing.{whole, led, all_begin, stand}
+use Rattle.racroute.proofs.Closing.{whole, led, all_begin, stand, stayed}
 use Rattle.racroute.proofs.office.Office.close.Goals as goal
 
 pub returns-clause-callers : goal.returns-clause-callers
@@ -30,3 +30,11 @@ returns-clause-disks g c =
     (led g.J.Naming.base halted o.publisher.events o.past.items all ∙ sym c.self.invariant.3.position)
     (λ h. c.is_at_rest.ensures (sym c.halted-halted.ensures ∙ h))
     (λ h. c.self.invariant.3.doubt (sym c.halted-halted.ensures ∙ h))
+
+pub returns-clause-moments : goal.returns-clause-moments
+returns-clause-moments g c =
+    let o = c.self.inside in
+    let halted = c.halted-halted.result in
+    let all = whole halted o.publisher.events o.past.items c.is_legal.ensures.last (rw c.halted-halted.ensures c.self.invariant.3.mark) c.self.invariant.3.entries_are in
+    stayed g.D.Disk.tells g.J.Naming.base g.J.Naming.second_disk g.J.Naming.first_disk halted o.publisher.events o.past.items
+    o.desk.store.journal.disk c.into_disks.result.first all c.into_disks.ensures.first c.self.invariant.3.moments

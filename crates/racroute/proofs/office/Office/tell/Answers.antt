@@ -1,5 +1,6 @@
 use Rattle.std.proofs.Common.{◌≡◌, true, sym, ◌∙◌, ap}
 use Rattle.racroute.specs.Core.{Core, is_over}
+use Rattle.racroute.specs.Kept.{disks_before}
 use Rattle.racroute.proofs.Telling.{final_either, either_kept}
 use Rattle.racroute.proofs.office.Office.tell.Goals as goal
 
@@ -14,6 +15,6 @@ invariant_of-self g c =
       c.self.invariant.0,
       told.0,
       c.self.invariant.2,
-      either_kept g.D.Disk.tells g.D.Disk.faults g.J.Naming.base g.J.Naming.faults core c.tell_final.new.self.events o.past.items o.commands.total o.faults.total o.out.total
+      either_kept g.D.Disk.tells g.D.Disk.faults g.J.Naming.base (disks_before g.J.Naming.faults g.J.Naming.first_disk g.J.Naming.second_disk) core c.tell_final.new.self.events o.past.items o.commands.total o.faults.total o.out.total
           c.self.invariant.3 over told.1,
     )

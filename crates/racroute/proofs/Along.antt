@@ -1,0 +1,109 @@
+-- What every crash leaves along a history: at each moment what stands for some beginning of it, or for the command that a
+-- disk failed.
+use Rattle.std.proofs.Common.{◌≡◌, ℕ, Bool, true, List, [], ◌∷◌, Option, Some, Ok, refl, sym, subst, inl, inr}
+use Rattle.racf_outside.specs.Disk.{History}
+use Rattle.racf_outside.proofs.Runs.{Leaves-weaker, StaysIn-none, StaysIn-joined, StaysIn-weaker}
+use Rattle.racf_checkpoint.specs.Stored.{StoreOn, Beside}
+use Rattle.racf_desk.specs.declared.answers.Ready.{Ready}
+use Rattle.racf_desk.specs.Durable.{LeavesIt, StaysEither}
+use Rattle.racf_desk.specs.Made.{Made, made_at, made_in, made_of_outcome, installed}
+use Rattle.racf_desk.specs.Outcome.{outcome}
+use Rattle.racf_desk.specs.Position.{Position}
+use Rattle.racf_desk.specs.Recovery.{StandsFor, StandsForEither}
+use Rattle.command_history.specs.declared.events.Event.{Event}
+use Rattle.command_history.specs.declared.events.Event.TheVariants.{Added, Ended}
+use Rattle.command_history.specs.Events.{is_ended, mark_of, Extends}
+use Rattle.command_history.specs.Reached.{reached}
+use Rattle.command_history.proofs.Extensions.{prefix_trans}
+use Rattle.racroute.specs.Disks.{StandForFailed, StandAlong, StaysAlong}
+use Rattle.racroute.specs.Replies.{Given}
+use Rattle.racroute.proofs.Replying.{extends_self}
+use Rattle.racroute.proofs.Making.{made_of}
+
+-- a history that has a mark has ended
+marked_ends : (events : List Event) (halted : Bool) → mark_of events ≡ Some halted → is_ended events ≡ true
+marked_ends [] halted is = absurd (cc is)
+marked_ends (Added entry ∷ events) halted is = marked_ends events halted is
+marked_ends (Ended h ∷ events) halted is = refl
+
+-- what stands along a history stands along each that extends it
+stand_later : (base : Position) (earlier later : List Event) → Extends earlier later → (one other : List ℕ) → StandAlong base earlier one other → StandAlong base later one other
+stand_later base earlier later extends one other (inl s) =
+    inl (record { beginning = s.beginning; begins = prefix_trans s.beginning earlier later s.begins extends.prefix; stand = s.stand })
+stand_later base earlier later extends one other (inr s) =
+    inr (subst (λ (l : List Event). StandForFailed base l one other) (sym (extends.whole (marked_ends earlier true s.ended))) s)
+
+-- what stands where a whole history leads stands along it
+stand_whole : (base : Position) (events : List Event) (position : Position) → reached base events ≡ position → (one other : List ℕ) → StandsFor position one other → StandAlong base events one other
+stand_whole base events position leads one other stand =
+    inl (record { beginning = events; begins = (extends_self events).prefix; stand = subst (λ (p : Position). StandsFor p one other) (sym leads) stand })
+
+-- beside whatever a crash leaves of the second disk
+beside_weaker : (second : Option History) (P Q : (first second : List ℕ) → Type 0) → ((one other : List ℕ) → P one other → Q one other) → (one : List ℕ) → Beside second P one → Beside second Q one
+beside_weaker second P Q weaker one p history told = Leaves-weaker (P one) (Q one) history.now (weaker one) (p history told)
+
+module _ (base : Position) (second first : Option History) where
+  -- a history that grows
+  pub stays_later : (earlier later : List Event) (now : Option History) → Extends earlier later → StaysAlong base earlier second first now → StaysAlong base later second first now
+  stays_later earlier later now extends along =
+      StaysIn-weaker (Beside second (StandAlong base later)) along
+      (λ h told. beside_weaker second (StandAlong base earlier) (StandAlong base later) (stand_later base earlier later extends))
+
+  -- a history that begins
+  pub stays_begun : {D : Type 0} (tells : D → Option History) (store : StoreOn D) (position : Position) (events : List Event) → LeavesIt tells store position → reached base events ≡ position
+      → first ≡ tells store.journal.disk → second ≡ tells store.second → StaysAlong base events second first (tells store.journal.disk)
+  stays_begun tells store position events leaves leads one other =
+      let P = StandsFor position in
+      let Q = StandAlong base events in
+      subst (λ (h : Option History). StaysAlong base events second h (tells store.journal.disk)) (sym one)
+      (subst (λ (h : Option History). StaysAlong base events h (tells store.journal.disk) (tells store.journal.disk)) (sym other)
+      (StaysIn-none (Beside (tells store.second) Q) (tells store.journal.disk)
+      (λ h told. Leaves-weaker (Beside (tells store.second) P) (Beside (tells store.second) Q) h.now
+      (beside_weaker (tells store.second) P Q (stand_whole base events position leads)) (leaves h told))))
+
+  -- a call that leaves the one or the other, where both stand along the history behind it
+  stays_either : {D : Type 0} (tells : D → Option History) (old now : StoreOn D) (position next : Position) (events later : List Event)
+      → Extends events later → StaysEither tells old now position next → tells old.second ≡ second
+      → ((one other : List ℕ) → StandsFor position one other → StandAlong base later one other)
+      → ((one other : List ℕ) → StandsFor next one other → StandAlong base later one other)
+      → StaysAlong base events second first (tells old.journal.disk) → StaysAlong base later second first (tells now.journal.disk)
+  stays_either tells old now position next events later extends either is here there along =
+      let P = StandsForEither position next in
+      let Q = StandAlong base later in
+      StaysIn-joined (stays_later events later (tells old.journal.disk) extends along)
+      (StaysIn-weaker (Beside second Q) either
+      (λ h told one p. beside_weaker second P Q both one (subst (λ (s : Option History). Beside s P one) is p)))
+    where
+      both : (one other : List ℕ) → StandsForEither position next one other → StandAlong base later one other
+      both one other (inl s) = here one other s
+      both one other (inr s) = there one other s
+
+  -- an accepted command
+  pub stays_accepted : {D : Type 0} (tells : D → Option History) (old now : StoreOn D) (position next : Position) (events later : List Event)
+      → Extends events later → StaysEither tells old now position next → tells old.second ≡ second → reached base events ≡ position → reached base later ≡ next
+      → StaysAlong base events second first (tells old.journal.disk) → StaysAlong base later second first (tells now.journal.disk)
+  stays_accepted tells old now position next events later extends either is leads leads' along =
+      stays_either tells old now position next events later extends either is
+      (λ one other stand. stand_later base events later extends one other (stand_whole base events position leads one other stand))
+      (stand_whole base later next leads') along
+
+  -- a command that a disk failed
+  pub stays_failed : {D : Type 0} (tells : D → Option History) (old now : StoreOn D) (position : Position) (events later : List Event) (given : Given) (ready : Ready)
+      → Extends events later → StaysEither tells old now position (installed position (made_in ready)) → tells old.second ≡ second → reached base later ≡ position
+      → mark_of later ≡ Some true → made_of_outcome position.image (outcome position given.issuer given.group given.text) ≡ Ok (made_in ready)
+      → StaysAlong base events second first (tells old.journal.disk) → StaysAlong base later second first (tells now.journal.disk)
+  stays_failed tells old now position events later given ready extends either is leads mark made along =
+      let m = made_of position.image (outcome position given.issuer given.group given.text) (made_in ready) made in
+      stays_either tells old now position (installed position (made_in ready)) events later extends either is
+      (stand_whole base later position leads)
+      (λ one other stand. inr (record {
+        ended = mark;
+        id = given.issuer;
+        group = given.group;
+        text = given.text;
+        command = m.command;
+        accepted = subst (λ (p : Position). outcome p given.issuer given.group given.text ≡ Ok m.command) (sym leads) m.accepted;
+        stand = subst (λ (p : Position). StandsFor (installed p (made_at p.image m.command)) one other) (sym leads)
+            (subst (λ (k : Made). StandsFor (installed position k) one other) (sym m.made_is) stand);
+      }))
+      along

@@ -1,6 +1,7 @@
 //! A run over one history, from its beginning to its end.
 
 ghost use Rattle.std.specs.Prelude.{◌≡◌, ◌≤◌, ◌<◌, ◌+◌, [], true, false, take, drop, length, vec_len, vec_capacity};
+ghost use Rattle.std.specs.Arc.{arc_value};
 ghost use Rattle.std.specs.List.{All, AllZip, sum_by};
 ghost use Rattle.racf_outside.specs.Causes.{Rose};
 ghost use Rattle.racf_desk.specs.Made.{number_at};
@@ -22,6 +23,7 @@ use racf_desk::Desk;
 use racf_outside::{Disk, Sink, Source};
 use racf_stream::Status;
 use racf_workers::Gate;
+use raclist_image::Image;
 use raclist_snapshots::{Caller, Note, Opens, snapshots};
 use racroute::{Closed, DeckEnd, DeckPass, Racf};
 use std::alloc::Global;
@@ -44,14 +46,15 @@ pub(crate) fn begun<
 >(
     rt: &R,
     alloc: Global,
-    opened: Opened,
+    opened: (Opened, Arc<Image, Global>),
     blanks: (Blank, Blank, Blank),
     desk: Desk<D>,
     decks: u32,
     files: Vec<(I, K)>,
     gate: &G,
 ) -> Ran<I, K, D>
-    requires book { opened ≡ J.book }
+    requires book { opened.0 ≡ J.book }
+    requires image { arc_value opened.1 ≡ J.base.image }
     requires base { desk.position ≡ J.base }
     requires faults { J.faults ≡ D.faults desk.store.journal.disk }
     requires running { desk.halted ≡ false }
@@ -70,10 +73,7 @@ pub(crate) fn begun<
     ensures no_fewer { J.faults ≤ D.faults result.disks.first }
 {
     let count = files.len() as u32;
-    let image = match Arc::try_clone(desk.image()) {
-        Ok(image) => image,
-        Err(_) => return unbegun(alloc, desk, files),
-    };
+    let (opened, image) = opened;
     let (publisher, callers) = match snapshots::<J, R>(rt, alloc, opened, image, count) {
         Ok(made) => made,
         Err(_) => return unbegun(alloc, desk, files),

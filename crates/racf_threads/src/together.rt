@@ -121,7 +121,7 @@ pub fn run_files<
     };
     let parts = u64::from(decks) + 1;
     let blanks = (Blank::new(parts), Blank::new(parts), Blank::new(parts));
-    begun::<Brand, Brand, Brand, Brand, I, K, D, G, R>(
+    match begun::<Brand, Brand, Brand, Brand, I, K, D, G, R>(
         rt,
         alloc,
         (Opened::new(), image),
@@ -130,5 +130,8 @@ pub fn run_files<
         decks,
         files,
         gate,
-    )
+    ) {
+        Ok(ran) => ran,
+        Err((desk, files)) => unbegun(alloc, desk, files),
+    }
 }

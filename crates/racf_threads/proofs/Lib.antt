@@ -5,6 +5,7 @@ mod Works
 mod Runs
 mod Idle
 mod Parts
+mod Rests
 mod Captures
 pub mod Gave
 mod Entries

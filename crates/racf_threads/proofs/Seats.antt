@@ -1,5 +1,5 @@
 -- The workers of a run, as they are seated one after another.
-use Rattle.std.proofs.Common.{◌≡◌, ◌<◌, List, [], ◌∷◌, ◌++◌, length, Some, None, refl, ap, arith, append_assoc}
+use Rattle.std.proofs.Common.{◌≡◌, suc, ◌<◌, List, [], ◌∷◌, ◌++◌, length, Some, None, refl, ap, arith, append_assoc}
 use Rattle.std.specs.Prelude.{Option, IsSome}
 use Rattle.std.specs.Option.{option_to_list}
 use Rattle.raclist_snapshots.specs.Publishing.{Seeing}
@@ -22,6 +22,12 @@ module _ {I K : Type 0} where
       → (workers ++ record { caller = caller; pass = pass; end = None; files = given; status = statuses.NoMemory } ∷ []) ++ new_workers passes files ≡ workers ++ new_workers all whole
   seated workers caller pass given all passes whole files new behind some after there =
       rw (new, after, behind, append_assoc) (ap (λ (l : List (Working I K)). workers ++ l) (first pass given passes files (rw behind at some) there))
+
+-- There is a seat for each.
+pub seats_count : {I K : Type 0} (passes : List Passing) (files : List (I × K)) → length (new_workers passes files) ≡ length files
+seats_count passes [] = refl
+seats_count [] (given ∷ files) = ap suc (seats_count [] files)
+seats_count (pass ∷ passes) (given ∷ files) = ap suc (seats_count passes files)
 
 pub one_item : {X : Type 0} (item : Option X) → IsSome item → length (option_to_list item) ≡ 1
 one_item None there = cc

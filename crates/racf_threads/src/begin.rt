@@ -1,6 +1,7 @@
 //! A run over one history, from its beginning to its end.
 
-ghost use Rattle.std.specs.Prelude.{◌≡◌, ◌≤◌, ◌<◌, ◌+◌, [], true, false, take, drop, length, vec_len, vec_capacity};
+ghost use Rattle.std.specs.Prelude.{◌≡◌, ◌≤◌, ◌<◌, ◌+◌, ℕ, IfOk, IfErr, [], true, false, take, drop, length, vec_len, vec_capacity};
+ghost use Rattle.std.specs.Arc.{arc_value};
 ghost use Rattle.std.specs.List.{All, AllZip, sum_by};
 ghost use Rattle.racf_outside.specs.Causes.{Rose};
 ghost use Rattle.racf_desk.specs.Made.{number_at};
@@ -22,6 +23,7 @@ use racf_desk::Desk;
 use racf_outside::{Disk, Sink, Source};
 use racf_stream::Status;
 use racf_workers::Gate;
+use raclist_image::Image;
 use raclist_snapshots::{Caller, Note, Opens, snapshots};
 use racroute::{Closed, DeckEnd, DeckPass, Racf};
 use std::alloc::Global;
@@ -30,7 +32,7 @@ use std::sync::{Arc, Wait};
 use std::thread::{Threads, for_each_mut};
 
 /// Works decks and request files over one history and its ledgers: the first of the files are decks, so many. All memory
-/// is taken before a line is read; where it is wanting, all is given back as it was.
+/// is taken before a line is read; where it is wanting, the desk and the files are handed back.
 pub(crate) fn begun<
     J: Naming + Send + Sync,
     S: Ledger + Send,
@@ -44,14 +46,15 @@ pub(crate) fn begun<
 >(
     rt: &R,
     alloc: Global,
-    opened: Opened,
+    opened: (Opened, Arc<Image, Global>),
     blanks: (Blank, Blank, Blank),
     desk: Desk<D>,
     decks: u32,
     files: Vec<(I, K)>,
     gate: &G,
-) -> Ran<I, K, D>
-    requires book { opened ≡ J.book }
+) -> Result<Ran<I, K, D>, (Desk<D>, Vec<(I, K)>)>
+    requires book { opened.0 ≡ J.book }
+    requires image { arc_value opened.1 ≡ J.base.image }
     requires base { desk.position ≡ J.base }
     requires faults { J.faults ≡ D.faults desk.store.journal.disk }
     requires running { desk.halted ≡ false }
@@ -61,60 +64,65 @@ pub(crate) fn begun<
     requires commands { (blanks.0.name ≡ S.name) × (blanks.0.parts ≡ S.parts) × (S.parts ≡ decks + 1) }
     requires failed { (blanks.1.name ≡ F.name) × (blanks.1.parts ≡ F.parts) × (F.parts ≡ decks + 1) }
     requires out { (blanks.2.name ≡ P.name) × (blanks.2.parts ≡ P.parts) × (P.parts ≡ decks + 1) }
-    ensures together { RunsTogether I.left I.faults K.taken K.faults J.base result.accepted.items result.halted result.status (take decks files.items) (drop decks files.items) result.outs.items }
-    ensures legal { AreLegal J.base result.accepted.items }
-    ensures first { result.first ≡ number_at J.base }
-    ensures disks { StandAt result.halted (D.tells result.disks.first) (D.tells result.disks.second) (reached J.base (all_of result.accepted.items result.halted)) }
-    ensures rose { result.halted ≡ true → Rose J.faults (D.faults result.disks.first) }
-    ensures disk_fault { result.status ≡ Status.DiskFault → result.halted ≡ true }
-    ensures no_fewer { J.faults ≤ D.faults result.disks.first }
+    ensures together { IfOk result (λ ran. RunsTogether I.left I.faults K.taken K.faults J.base ran.accepted.items ran.halted ran.status (take decks files.items) (drop decks files.items) ran.outs.items) }
+    ensures legal { IfOk result (λ ran. AreLegal J.base ran.accepted.items) }
+    ensures first { IfOk result (λ ran. ran.first ≡ number_at J.base) }
+    ensures disks { IfOk result (λ ran. StandAt ran.halted (D.tells ran.disks.first) (D.tells ran.disks.second) (reached J.base (all_of ran.accepted.items ran.halted))) }
+    ensures rose { IfOk result (λ ran. ran.halted ≡ true → Rose J.faults (D.faults ran.disks.first)) }
+    ensures disk_fault { IfOk result (λ ran. ran.status ≡ Status.DiskFault → ran.halted ≡ true) }
+    ensures no_fewer { IfOk result (λ ran. J.faults ≤ D.faults ran.disks.first) }
+    ensures desk { IfErr result (λ back. back.0 ≡ desk) }
+    ensures files { IfErr result (λ back. back.1 ≡ files) }
 {
     let count = files.len() as u32;
-    let image = match Arc::try_clone(desk.image()) {
-        Ok(image) => image,
-        Err(_) => return unbegun(alloc, desk, files),
-    };
+    let (opened, image) = opened;
     let (publisher, callers) = match snapshots::<J, R>(rt, alloc, opened, image, count) {
         Ok(made) => made,
-        Err(_) => return unbegun(alloc, desk, files),
+        Err(_) => return Err((desk, files)),
     };
     let room = match Room::new(alloc, files.len()) {
         Ok(room) => room,
-        Err(_) => return unbegun(alloc, desk, files),
+        Err(_) => return Err((desk, files)),
     };
     match Racf::<J, _, _, _, S, F, P, D>::start(alloc, publisher, blanks, desk, decks) {
-        Ok((racf, passes)) => ran(
+        Ok((racf, passes)) => Ok(ran(
             rt, alloc, racf, callers, passes, decks, files, room, gate,
-        ),
+        )),
         Err(desk) => {
             room.give_back();
-            unbegun(alloc, desk, files)
+            Err((desk, files))
         }
     }
 }
 
 /// What is left of a run for which there was no memory: nothing was read, written or accepted.
-pub(crate) fn unbegun<I, K, D: Disk>(
+pub(crate) fn unbegun<I: Source, K: Sink, D: Disk>(
     alloc: Global,
     desk: Desk<D>,
     outs: Vec<(I, K)>,
 ) -> Ran<I, K, D>
     requires running { desk.halted ≡ false }
     requires settled { desk.committed ≡ false }
+    ensures together { (decks : ℕ) → 0 < vec_len outs → RunsTogether I.left I.faults K.taken K.faults desk.position result.accepted.items result.halted result.status (take decks outs.items) (drop decks outs.items) result.outs.items }
     ensures outs { result.outs.items ≡ outs.items }
     ensures status { result.status ≡ Status.NoMemory }
-    ensures none { (result.accepted.items ≡ []) × (result.halted ≡ false) }
+    ensures none { result.accepted.items ≡ [] }
+    ensures runs_on { result.halted ≡ false }
+    ensures legal { AreLegal desk.position result.accepted.items }
     ensures first { result.first ≡ number_at desk.position }
-    ensures disks { StandAt false (D.tells result.disks.first) (D.tells result.disks.second) (reached desk.position (all_of [] false)) }
+    ensures disks { StandAt result.halted (D.tells result.disks.first) (D.tells result.disks.second) (reached desk.position (all_of result.accepted.items result.halted)) }
     ensures faults { D.faults result.disks.first ≡ D.faults desk.store.journal.disk }
 {
     desk.is_at_rest();
+    let first = desk.number();
+    let disks = desk.into_disks();
+    let accepted = Vec::new(alloc);
     Ran {
         status: Status::NoMemory,
         outs,
-        first: desk.number(),
-        disks: desk.into_disks(),
-        accepted: Vec::new(alloc),
+        disks,
+        first,
+        accepted,
         halted: false,
     }
 }

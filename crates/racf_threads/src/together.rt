@@ -16,8 +16,8 @@ use racf_stream::Status;
 use racf_workers::Gate;
 use std::alloc::Global;
 use std::marker::Brand;
-use std::sync::Wait;
 use std::sync::ledger::Blank;
+use std::sync::{Arc, Wait};
 use std::thread::Threads;
 
 /// What is left of a run.
@@ -115,16 +115,23 @@ pub fn run_files<
     ensures disk_fault { result.status ≡ Status.DiskFault → result.halted ≡ true }
     ensures no_fewer { D.faults desk.store.journal.disk ≤ D.faults result.disks.first }
 {
+    let image = match Arc::try_clone(desk.image()) {
+        Ok(image) => image,
+        Err(_) => return unbegun(alloc, desk, files),
+    };
     let parts = u64::from(decks) + 1;
     let blanks = (Blank::new(parts), Blank::new(parts), Blank::new(parts));
-    begun::<Brand, Brand, Brand, Brand, I, K, D, G, R>(
+    match begun::<Brand, Brand, Brand, Brand, I, K, D, G, R>(
         rt,
         alloc,
-        Opened::new(),
+        (Opened::new(), image),
         blanks,
         desk,
         decks,
         files,
         gate,
-    )
+    ) {
+        Ok(ran) => ran,
+        Err((desk, files)) => unbegun(alloc, desk, files),
+    }
 }

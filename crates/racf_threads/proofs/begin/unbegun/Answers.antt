@@ -1,0 +1,15 @@
+use Rattle.std.proofs.Common.{◌≡◌, ◌<◌, length, [], false, refl, arith, rules}
+use Rattle.racf_threads.proofs.Parts.{idle_over}
+use Rattle.racf_threads.proofs.Rests.{rests}
+use Rattle.racf_threads.proofs.begin.unbegun.Goals as goal
+
+pub returns-clause-together : goal.returns-clause-together
+returns-clause-together g c = λ decks some.
+    let outs = c.args.outs.ok.0 in
+    let there : 0 < length c.args.outs.items = omega (arith, outs, some) in
+    idle_over g.I.Source.left g.I.Source.faults g.K.Sink.taken g.K.Sink.faults c.args.desk.position decks c.args.outs.items c.args.outs.items _ c.new-accepted.result.items false there refl refl (search rules) refl
+
+pub returns-clause-disks : goal.returns-clause-disks
+returns-clause-disks g c =
+    let none : c.new-accepted.result.items ≡ [] = search rules in
+    rw none (rests g.D.Disk.tells c.args.desk.store c.into_disks-disks.result.first c.into_disks-disks.result.second c.args.desk.position c.into_disks-disks.ensures.first c.into_disks-disks.ensures.second (c.is_at_rest.ensures c.requires.running))

@@ -13,4 +13,4 @@
 
 mod together;
 
-pub use together::{Ran, run};
+pub use together::{Ran, run, run_files};

@@ -1,6 +1,6 @@
 //! A run, from its desk to its disks.
 
-ghost use Rattle.std.specs.Prelude.{◌≡◌, ◌≤◌, ◌<◌, ◌+◌, ◌⊎◌, true, false, vec_len};
+ghost use Rattle.std.specs.Prelude.{◌≡◌, ◌≤◌, ◌<◌, ◌+◌, ◌⊎◌, true, false, vec_len, take, drop};
 ghost use Rattle.racf_outside.specs.Causes.{Rose};
 ghost use Rattle.racf_desk.specs.Made.{number_at};
 ghost use Rattle.command_history.specs.Events.{all_of};
@@ -66,12 +66,61 @@ pub fn run<
     // What every crash leaves of the disks behind it.
     ensures disks { StandAt result.halted (D.tells result.disks.first) (D.tells result.disks.second) (reached desk.position (all_of result.accepted.items result.halted)) }
     ensures rose { result.halted ≡ true → Rose (D.faults desk.store.journal.disk) (D.faults result.disks.first) }
+    ensures disk_fault { result.status ≡ Status.DiskFault → result.halted ≡ true }
     ensures no_fewer { D.faults desk.store.journal.disk ≤ D.faults result.disks.first }
 {
+    // NOTE FROM THE LEAD (14:45): `run_files` below is public too, since the call over a shelf uses it: it never loses a
+    // source or a sink, so it needs no `Drop`. `run` puts both lists into one (want of memory there: `HasNoRoom`) and
+    // calls it. Both have the clause `disk_fault`. Take this note out.
     let _ = (rt, gate, requests);
     Ran {
         status: Status::NoMemory,
         outs: decks,
+        first: desk.number(),
+        disks: desk.into_disks(),
+        accepted: Vec::new(alloc),
+        halted: false,
+    }
+}
+
+/// The same over one list, in which the decks stand before the request files: sources with their sinks, which are given
+/// back in it, whatever comes.
+pub fn run_files<
+    I: Source + Send,
+    K: Sink + Send,
+    D: Disk + Send,
+    G: Gate + Sync,
+    R: Wait + Threads + Sync,
+>(
+    rt: &R,
+    alloc: Global,
+    desk: Desk<D>,
+    files: Vec<(I, K)>,
+    decks: u32,
+    gate: &G,
+) -> Ran<I, K, D>
+    requires running { desk.halted ≡ false }
+    requires settled { desk.committed ≡ false }
+    requires few_decks { decks ≤ 4 }
+    requires are_there { decks ≤ vec_len files }
+    requires few_requests { vec_len files ≤ decks + 16 }
+    requires some { 0 < vec_len files }
+
+    // One history, of which each output tells a part.
+    ensures together { RunsTogether I.left I.faults K.taken K.faults desk.position result.accepted.items result.halted result.status (take decks files.items) (drop decks files.items) result.outs.items }
+    ensures legal { AreLegal desk.position result.accepted.items }
+    ensures first { result.first ≡ number_at desk.position }
+
+    // What every crash leaves of the disks behind it.
+    ensures disks { StandAt result.halted (D.tells result.disks.first) (D.tells result.disks.second) (reached desk.position (all_of result.accepted.items result.halted)) }
+    ensures rose { result.halted ≡ true → Rose (D.faults desk.store.journal.disk) (D.faults result.disks.first) }
+    ensures disk_fault { result.status ≡ Status.DiskFault → result.halted ≡ true }
+    ensures no_fewer { D.faults desk.store.journal.disk ≤ D.faults result.disks.first }
+{
+    let _ = (rt, gate, decks);
+    Ran {
+        status: Status::NoMemory,
+        outs: files,
         first: desk.number(),
         disks: desk.into_disks(),
         accepted: Vec::new(alloc),

@@ -1,0 +1,3 @@
+//! A try.
+#![tactic(auto)]
+mod opening;

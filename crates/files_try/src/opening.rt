@@ -2,7 +2,7 @@
 
 ghost use Rattle.std.specs.Prelude.{ℕ, true, ◌≡◌, ◌≤◌, ◌+◌, ◌++◌, ◌∷◌, [], List, map, length, IfOk, OnOk, IfErr, OnErr, string_bytes, vec_len, vec_capacity, take};
 ghost use Rattle.racf_outside.specs.Causes.{Rose};
-ghost use Rattle.racf_outside.specs.Shelf.{SameBytes, SameOthers, SameOpen, Opens};
+ghost use Rattle.racf_outside.specs.Shelf.{SameBytes, SameOthers, SameOpen, Opens, Closes};
 ghost use Rattle.files_try.specs.Opening.{output_name, Opened, Returned, OpensNeither, IsNew, AreOpen, HasOpened, HasStopped, HasReturned, are_distinct};
 
 use racf_outside::{Failed, Shelf};
@@ -52,8 +52,8 @@ fn open_file<F: Shelf>(
     ensures unopened { IfErr result (λ why. OpensNeither F.source_gives F.sink_gives F.take_back_gives F.give_back_gives why name.now shelf.old shelf.new) }
     ensures new { IfOk result (IsNew F.In.left F.In.faults F.Out.taken F.Out.faults F.tells (F.input shelf.old name.now)) }
     ensures inputs { SameBytes (F.input shelf.old) (F.input shelf.new) }
-    ensures outputs { SameOthers output.now (F.output shelf.old) (F.output shelf.new) }
-    ensures open { OnOk result (Opens output.now (F.is_open shelf.old) (F.is_open shelf.new)) }
+    ensures outputs { SameOthers (output_name name.now) (F.output shelf.old) (F.output shelf.new) }
+    ensures open { OnOk result (Opens (output_name name.now) (F.is_open shelf.old) (F.is_open shelf.new)) }
     ensures not_open { OnErr result (SameOpen (F.is_open shelf.old) (F.is_open shelf.new)) }
     ensures source_faults { F.source_faults shelf.old ≤ F.source_faults shelf.new }
     ensures sink_faults { F.sink_faults shelf.old ≤ F.sink_faults shelf.new }
@@ -116,7 +116,24 @@ where
 {
     while let Some((source, sink)) = files.pop() {
         let place = files.len();
-        shelf.take_back(names[place].as_str(), source);
-        shelf.give_back(outputs[place].as_str(), sink);
+        return_file(
+            shelf,
+            names[place].as_str(),
+            outputs[place].as_str(),
+            source,
+            sink,
+        );
     }
+}
+
+/// Hands one file back under its name.
+fn return_file<F: Shelf>(shelf: &mut F, name: &str, output: &str, source: F::In, sink: F::Out)
+    requires output { output.now ≡ output_name name.now }
+    requires open { F.is_open shelf.old output.now ≡ true }
+    ensures returned { HasReturned F.source_gives F.sink_gives F.take_back_gives F.give_back_gives F.In.left F.In.faults F.Out.taken F.Out.faults
+        F.tells F.input F.output F.is_open F.source_faults F.sink_faults (name.now ∷ []) ((source, sink) ∷ []) shelf.old shelf.new }
+    ensures closed { Closes (output_name name.now) (F.is_open shelf.old) (F.is_open shelf.new) }
+{
+    shelf.take_back(name, source);
+    shelf.give_back(output, sink);
 }

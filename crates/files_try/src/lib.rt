@@ -1,3 +1,4 @@
 //! A try.
 #![tactic(auto)]
 mod opening;
+mod words;

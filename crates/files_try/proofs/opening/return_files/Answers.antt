@@ -1,4 +1,4 @@
-use Rattle.std.proofs.Common.{◌≡◌, ◌<◌, ◌≤◌, ◌+◌, ◌++◌, ◌∷◌, [], List, ℕ, Bool, true, map, get_or, length, string_bytes, take, drop, vec_len, refl, sym, ◌∙◌, ap, subst, arith, rules}
+use Rattle.std.proofs.Common.{◌≡◌, ◌<◌, ◌≤◌, ◌+◌, [], ℕ, true, map, get_or, length, string_bytes, take, drop, vec_len, sym, ◌∙◌, ap, subst, arith}
 use Rattle.std.proofs.lemmas.List.{length-map, length-take-le, take_all, take-append-drop}
 use Rattle.files_try.specs.Opening.{HasReturned, AreOpen, are_distinct, output_name}
 use Rattle.files_try.proofs.OpeningLaws.{output_at, name_in_front, popped, distinct_front, AreOpen-front, AreOpen-here, HasReturned-end, HasReturned-more}

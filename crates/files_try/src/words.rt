@@ -1,0 +1,79 @@
+//! The names of a run.
+
+ghost use Rattle.std.specs.Prelude.{◌≡◌, ◌&&◌, nat_le, ◌+◌, map, length, string_bytes, not, bytes_eq};
+ghost use Rattle.files_try.specs.Opening.{output_name, is_among, are_distinct};
+ghost use Rattle.files_try.specs.Words.{are_apart, are_run_words};
+
+/// The most decks of a run.
+const MOST_DECKS: u64 = 4;
+
+/// The most request files of a run.
+const MOST_REQUESTS: u64 = 16;
+
+/// What stands behind the name of an input in that of its output.
+const OUTPUT: &str = ".out";
+
+/// Whether so many decks, and the rest of these names, are of the form that a run has.
+pub(crate) fn are_run_words(decks: u64, names: &[String]) -> bool
+    ensures { result ≡ are_run_words decks (map string_bytes names.now) }
+{
+    let count = names.len() as u64;
+    1 <= decks
+        && decks <= MOST_DECKS
+        && decks <= count
+        && count <= decks + MOST_REQUESTS
+        && are_distinct(names)
+        && are_apart(names)
+}
+
+/// Whether no name stands twice.
+fn are_distinct(names: &[String]) -> bool
+    ensures { result ≡ are_distinct (map string_bytes names.now) }
+{
+    let mut rest = names;
+    while let [name, behind @ ..] = rest {
+        if is_among(name.as_str(), behind) {
+            return false;
+        }
+        rest = behind;
+    }
+    true
+}
+
+/// Whether the name is among these.
+fn is_among(name: &str, names: &[String]) -> bool
+    ensures { result ≡ is_among name.now (map string_bytes names.now) }
+{
+    names.iter().any(|other| name == other.as_str())
+}
+
+/// Whether none is the output of another.
+fn are_apart(names: &[String]) -> bool
+    ensures { result ≡ are_apart (map output_name (map string_bytes names.now)) (map string_bytes names.now) }
+{
+    for name in names {
+        if is_output_among(name.as_str(), names) {
+            return false;
+        }
+    }
+    true
+}
+
+/// Whether the output of this name is among these.
+fn is_output_among(name: &str, names: &[String]) -> bool
+    ensures { result ≡ is_among (output_name name.now) (map string_bytes names.now) }
+{
+    names
+        .iter()
+        .any(|other| is_output_of(name, other.as_str()))
+}
+
+/// Whether this name is that of the output of the other.
+fn is_output_of(name: &str, output: &str) -> bool
+    ensures { result ≡ bytes_eq (output_name name.now) output.now }
+{
+    match output.as_bytes().strip_suffix(OUTPUT.as_bytes()) {
+        Some(front) => front == name.as_bytes(),
+        None => false,
+    }
+}

@@ -1,2 +1,4 @@
+pub mod OpeningLaws
 mod Sent
 pub mod TopLaws
+pub mod WordLaws

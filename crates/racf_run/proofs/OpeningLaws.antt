@@ -140,6 +140,9 @@ OthersStay-joined xs ys a b c one other o none =
     let parts = or_false (is_among o (map output_name xs)) (is_among o (map output_name ys)) (sym (among_append o xs ys) ∙ none) in
     other o parts.1 ∙ one o parts.0
 
+pub OthersStay-front : {A : Type 0} (xs ys : List (List ℕ)) (old new : List ℕ → A) → OthersStay xs old new → OthersStay (xs ++ ys) old new
+OthersStay-front xs ys old new h other none = h other (or_false (is_among other (map output_name xs)) (is_among other (map output_name ys)) (sym (among_append other xs ys) ∙ none)).0
+
 -- ---- counts
 RoseFor-later : {A : Type 0} (faults : A → ℕ) (first before now : ℕ) (items : List A) → first ≤ before → RoseFor faults before now items → RoseFor faults first now items
 RoseFor-later faults first before now [] h r = tt

@@ -13,7 +13,7 @@ use crate::top::opening_status;
 use racf_desk::Desk;
 use racf_outside::{Disk, Shelf, Two};
 use racf_stream::Status;
-use racf_threads::run_files;
+use racf_threads::{Ran, run_files};
 use racf_workers::Gate;
 use std::alloc::Global;
 use std::sync::Wait;
@@ -34,10 +34,10 @@ where
     requires form { are_run_words asked.decks (map string_bytes asked.names.now) ≡ true }
     ensures runs { OpensNoDatabase (D.tells disks.first) (D.tells disks.second) result.0 shelf.old shelf.new
         ⊎ OpensDatabase (D.tells disks.first) (D.tells disks.second) (λ base. RunsFiles F.source_gives F.sink_gives F.take_back_gives F.give_back_gives F.tells F.output
-        (NamedRan (D.tells result.1.first) (D.tells result.1.second) base F.tells result.0 (record { decks = asked.decks; names = map string_bytes asked.names.now })
+        (NamedRan (D.tells result.1.first) (D.tells result.1.second) base F.tells result.0 (record { decks = asked.entry.decks; names = map string_bytes asked.entry.names.now })
         (F.input shelf.old) (F.output shelf.old) (F.output shelf.new))
         (StandAt false (D.tells result.1.first) (D.tells result.1.second) base)
-        result.0 (map string_bytes asked.names.now) shelf.old shelf.new) }
+        result.0 (map string_bytes asked.entry.names.now) shelf.old shelf.new) }
     ensures usage { result.0 ≢ Status.Usage }
     ensures read_fault { result.0 ≡ Status.ReadFault → Rose (F.source_faults shelf.old) (F.source_faults shelf.new) }
     ensures write_fault { result.0 ≡ Status.WriteFault → Rose (F.sink_faults shelf.old) (F.sink_faults shelf.new) }
@@ -70,10 +70,10 @@ where
     requires running { desk.halted ≡ false }
     requires settled { desk.committed ≡ false }
     ensures runs { RunsFiles F.source_gives F.sink_gives F.take_back_gives F.give_back_gives F.tells F.output
-        (NamedRan (D.tells result.1.first) (D.tells result.1.second) desk.position F.tells result.0 (record { decks = asked.decks; names = map string_bytes asked.names.now })
+        (NamedRan (D.tells result.1.first) (D.tells result.1.second) desk.position F.tells result.0 (record { decks = asked.entry.decks; names = map string_bytes asked.entry.names.now })
         (F.input shelf.old) (F.output shelf.old) (F.output shelf.new))
         (StandAt false (D.tells result.1.first) (D.tells result.1.second) desk.position)
-        result.0 (map string_bytes asked.names.now) shelf.old shelf.new }
+        result.0 (map string_bytes asked.entry.names.now) shelf.old shelf.new }
     ensures usage { result.0 ≢ Status.Usage }
     ensures read_fault { result.0 ≡ Status.ReadFault → Rose (F.source_faults shelf.old) (F.source_faults shelf.new) }
     ensures write_fault { result.0 ≡ Status.WriteFault → Rose (F.sink_faults shelf.old) (F.sink_faults shelf.new) }
@@ -95,9 +95,16 @@ where
         return_files(shelf, asked.names, &outputs, files);
         return (unopened_status(why), desk.into_disks());
     }
-    let ran = run_files(rt, alloc, desk, files, asked.decks, gate);
-    return_files(shelf, asked.names, &outputs, ran.outs);
-    (ran.status, ran.disks)
+    let Ran {
+        status,
+        outs,
+        disks,
+        first: _,
+        accepted: _,
+        halted: _,
+    } = run_files(rt, alloc, desk, files, asked.decks, gate);
+    return_files(shelf, asked.names, &outputs, outs);
+    (status, disks)
 }
 
 /// The status where a file couldn't be opened.

@@ -55,6 +55,7 @@ where
 }
 
 /// Works the files that the words name at a desk that was opened.
+#[tactic(none)]
 fn run_between<F: Shelf, D: Disk + Send, G: Gate + Sync, R: Wait + Threads + Sync>(
     rt: &R,
     alloc: Global,

@@ -1,2 +1,0 @@
-pub mod OpeningLaws
-pub mod WordLaws

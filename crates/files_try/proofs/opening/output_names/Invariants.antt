@@ -1,6 +1,0 @@
-use Rattle.std.proofs.Common.{◌≡◌, map, string_bytes, take}
-use Rattle.files_try.specs.Opening.{output_name}
-use Rattle.files_try.proofs.opening.output_names.Given as goal
-
-abbrev pub invariant-loop-name : goal.invariant-loop-name
-invariant-loop-name l = map string_bytes l.outputs.items ≡ map output_name (map string_bytes (take l.name-index l.names))

@@ -1,4 +1,0 @@
-//! A try.
-#![tactic(auto)]
-mod opening;
-mod words;

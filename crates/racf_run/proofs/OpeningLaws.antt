@@ -1,15 +1,15 @@
 -- Files that were opened one behind another, and handed back one before another.
-use Rattle.std.proofs.Common.{◌≡◌, ◌≢◌, ◌≤◌, ◌<◌, ◌+◌, ℕ, Bool, true, false, not, ◌&&◌, ◌||◌, List, [], ◌∷◌, ◌++◌, length, map, take, drop, get_or, bytes_eq, refl, sym, ◌∙◌, ap, subst, arith, inl, inr, ⊎_elim}
+use Rattle.std.proofs.Common.{suc, ◌≡◌, ◌≢◌, ◌≤◌, ◌<◌, ◌+◌, ℕ, Bool, true, false, not, ◌&&◌, ◌||◌, List, [], ◌∷◌, ◌++◌, length, map, take, drop, get_or, bytes_eq, refl, sym, ◌∙◌, ap, subst, arith, inl, inr, ⊎_elim}
 use Rattle.std.specs.Prelude.{Option, Result, codes, ◌⊎◌}
 use Rattle.std.proofs.lemmas.Bool.{false≢true}
-use Rattle.std.proofs.lemmas.List.{map-append, append_cancel_right, length-map, get_or-map, take_more, drop_more, drop_all, get_or-take, take-append-drop, same_from_push}
+use Rattle.std.proofs.lemmas.List.{map-append, append_cancel_right, length-map, get_or-map, take_more, drop_more, drop_all, take_at, length-append, get_or-take, take-append-drop, same_from_push}
 use Rattle.std.proofs.lemmas.List.Folds.{list_any-append}
 use Rattle.std.proofs.lemmas.Slice.Eq.{bytes_eq-Decides}
 use Rattle.racf_outside.specs.Causes.{Rose}
 use Rattle.racf_outside.specs.declared.streams.Failed.{Failed}
 use Rattle.racf_outside.specs.Shelf.{SameBytes, SameOthers, SameOpen, Opens, Closes}
 use Rattle.racf_outside.proofs.Rises.{Rose-later}
-use Rattle.racf_run.specs.Opening.{output_name, is_among, are_distinct, Opened, Returned, AreOpen, OthersStay, AreKept, AreNew, IsNew, RoseFor, OpensNeither, HasOpened, HasStopped, HasReturned}
+use Rattle.racf_run.specs.Opening.{output_name, is_among, are_distinct, Opened, Returned, AreOpen, OthersStay, AreKept, AreEmpty, AreNew, IsNew, RoseFor, OpensNeither, HasOpened, HasStopped, HasReturned, HasUndone}
 use Rattle.racf_run.specs.declared.opening.Unopened.{Unopened}
 use Rattle.racf_run.specs.declared.opening.Unopened.TheVariants.{Input, Output}
 
@@ -131,6 +131,13 @@ pub AreOpen-here : (is_open : List ℕ → Bool) (names : List (List ℕ)) (n : 
 AreOpen-here is_open names n name within is opened =
     AreOpen-last is_open (take n names) name (subst (AreOpen is_open) (take_more names n [] within ∙ ap (λ o. take n names ++ o ∷ []) (sym is)) opened)
 
+pub AreOpen-same : (names : List (List ℕ)) (old new : List ℕ → Bool) → SameOpen old new → AreOpen old names → AreOpen new names
+AreOpen-same [] old new same h = tt
+AreOpen-same (name ∷ names) old new same h = (same (output_name name) ∙ h.0, AreOpen-same names old new same h.1)
+
+pub front_of : {X : Type 0} (names front : List X) (name : X) (rest : List X) (n : ℕ) → names ≡ front ++ name ∷ rest → length front ≡ n → take n names ≡ front
+front_of names front name rest n is count = ap (take n) is ∙ take_at front (name ∷ rest) n count
+
 -- ---- other outputs
 pub OthersStay-head : {A : Type 0} (name : List ℕ) (names : List (List ℕ)) (old new : List ℕ → A) → ((other : List ℕ) → other ≢ output_name name → new other ≡ old other) → OthersStay (name ∷ names) old new
 OthersStay-head name names old new h other none = h other (differ other (output_name name) (or_false (bytes_eq other (output_name name)) (is_among other (map output_name names)) none).0)
@@ -140,8 +147,14 @@ OthersStay-joined xs ys a b c one other o none =
     let parts = or_false (is_among o (map output_name xs)) (is_among o (map output_name ys)) (sym (among_append o xs ys) ∙ none) in
     other o parts.1 ∙ one o parts.0
 
+pub OthersStay-chain : {A : Type 0} (names : List (List ℕ)) (a b c : List ℕ → A) → OthersStay names a b → OthersStay names b c → OthersStay names a c
+OthersStay-chain names a b c h k other none = k other none ∙ h other none
+
 pub OthersStay-front : {A : Type 0} (xs ys : List (List ℕ)) (old new : List ℕ → A) → OthersStay xs old new → OthersStay (xs ++ ys) old new
 OthersStay-front xs ys old new h other none = h other (or_false (is_among other (map output_name xs)) (is_among other (map output_name ys)) (sym (among_append other xs ys) ∙ none)).0
+
+pub OthersStay-more : {A : Type 0} (names front : List (List ℕ)) (name : List ℕ) (rest : List (List ℕ)) (old new : List ℕ → A) → names ≡ front ++ name ∷ rest → OthersStay front old new → OthersStay names old new
+OthersStay-more names front name rest old new is others = subst (λ (ns : List (List ℕ)). OthersStay ns old new) (sym is) (OthersStay-front front (name ∷ rest) old new others)
 
 -- ---- counts
 RoseFor-later : {A : Type 0} (faults : A → ℕ) (first before now : ℕ) (items : List A) → first ≤ before → RoseFor faults before now items → RoseFor faults first now items
@@ -163,11 +176,24 @@ module _ {I O : Type 0} (left : I → Option (List ℕ)) (reads : I → ℕ) (ta
   AreNew-joined [] ys (f ∷ fs) gs h k = absurd h
   AreNew-joined (x ∷ xs) ys [] gs h k = absurd h
 
-  AreNew-moved : (other : List ℕ → Option (List ℕ)) (xs : List (List ℕ)) (fs : List (I × O)) → SameBytes input other → AreNew left reads taken writes tells other xs fs → AreNew left reads taken writes tells input xs fs
+  pub AreNew-moved : (other : List ℕ → Option (List ℕ)) (xs : List (List ℕ)) (fs : List (I × O)) → SameBytes input other → AreNew left reads taken writes tells other xs fs → AreNew left reads taken writes tells input xs fs
   AreNew-moved other [] [] same h = tt
   AreNew-moved other (x ∷ xs) (f ∷ fs) same h = (subst (λ (o : Option (List ℕ)). IsNew left reads taken writes tells o f) (same x) h.0, AreNew-moved other xs fs same h.1)
   AreNew-moved other [] (f ∷ fs) same h = absurd h
   AreNew-moved other (x ∷ xs) [] same h = absurd h
+
+  pub AreNew-length : (names : List (List ℕ)) (files : List (I × O)) → AreNew left reads taken writes tells input names files → length files ≡ length names
+  AreNew-length [] [] h = refl
+  AreNew-length (name ∷ names) (file ∷ files) h = ap suc (AreNew-length names files h.1)
+  AreNew-length [] (file ∷ files) h = absurd h
+  AreNew-length (name ∷ names) [] h = absurd h
+
+  -- new outputs that were given back as they are
+  AreEmpty-kept : (output : List ℕ → Option (List ℕ)) (names : List (List ℕ)) (files : List (I × O)) → AreNew left reads taken writes tells input names files → AreKept taken output names files → AreEmpty tells output names
+  AreEmpty-kept output [] [] h k = tt
+  AreEmpty-kept output (name ∷ names) (file ∷ files) h k = (k.0 ∙ h.0.empty, AreEmpty-kept output names files h.1 k.1)
+  AreEmpty-kept output [] (file ∷ files) h k = absurd h
+  AreEmpty-kept output (name ∷ names) [] h k = absurd h
 
 -- the outputs that were given back stay as they are
 AreKept-moved : {I O : Type 0} (taken : O → Option (List ℕ)) (old new : List ℕ → Option (List ℕ)) (name : List ℕ) (names : List (List ℕ)) (files : List (I × O)) → AreKept taken old names files → OthersStay (name ∷ []) old new → is_among name names ≡ false → AreKept taken new names files
@@ -335,3 +361,52 @@ module _ {S I O : Type 0} (source : S → List ℕ → Result I Failed → S →
         (sym (drop_more files n file inside ∙ ap (λ f. f ∷ drop (n + 1) files) (sym file_is)))
         (HasReturned-cons name (drop (n + 1) names) file (drop (n + 1) files) a b c h k
         (distinct_behind (take n names) name (drop (n + 1) names) (ap are_distinct (sym (split_at names n name within is)) ∙ distinct))))
+
+    -- those that were opened before a fault are no more than the names, and are open
+    pub stopped_few : (why : Unopened) (names : List (List ℕ)) (files : List (I × O)) (a b : S)
+        → HasStopped source sink take_back give_back left reads taken writes tells input output is_open source_faults sink_faults why names files a b → length files ≤ length names
+    stopped_few why names files a b h =
+        let count : length files ≡ length h.front = AreNew-length left reads taken writes tells (input a) h.front files h.opened.new_files in
+        let all : length names ≡ length h.front + suc (length h.rest) = ap length h.in_order ∙ length-append h.front (h.name ∷ h.rest) in
+        omega arith
+
+    stopped_front : (why : Unopened) (names : List (List ℕ)) (files : List (I × O)) (n : ℕ) (a b : S) → n ≡ length files
+        → (h : HasStopped source sink take_back give_back left reads taken writes tells input output is_open source_faults sink_faults why names files a b) → take n names ≡ h.front
+    stopped_front why names files n a b is h =
+        front_of names h.front h.name h.rest n h.in_order (sym (AreNew-length left reads taken writes tells (input a) h.front files h.opened.new_files) ∙ sym is)
+
+    pub stopped_open : (why : Unopened) (names : List (List ℕ)) (files : List (I × O)) (n : ℕ) (a b : S) → n ≡ length files
+        → HasStopped source sink take_back give_back left reads taken writes tells input output is_open source_faults sink_faults why names files a b → AreOpen (is_open b) (take n names)
+    stopped_open why names files n a b is h =
+        subst (AreOpen (is_open b)) (sym (stopped_front why names files n a b is h)) (AreOpen-same h.front (is_open h.before) (is_open b) h.same_open h.opened.are_open)
+
+    -- and behind their return
+    pub HasUndone-of : (why : Unopened) (names : List (List ℕ)) (files : List (I × O)) (n : ℕ) (a b c : S) → n ≡ length files
+        → HasStopped source sink take_back give_back left reads taken writes tells input output is_open source_faults sink_faults why names files a b
+        → HasReturned source sink take_back give_back left reads taken writes tells input output is_open source_faults sink_faults (take n names) files b c
+        → HasUndone source sink take_back give_back left reads taken writes tells input output is_open source_faults sink_faults why names a c
+    HasUndone-of why names files n a b c is h k =
+        let front = stopped_front why names files n a b is h in
+        record {
+          front = h.front;
+          name = h.name;
+          rest = h.rest;
+          in_order = h.in_order;
+          files = files;
+          before = h.before;
+          between = b;
+          opened = h.opened.calls;
+          failed = h.failed;
+          returned = subst (λ (ns : List (List ℕ)). Returned source sink take_back give_back ns files b c) front k.calls;
+          empty = AreEmpty-kept left reads taken writes tells (input a) (output c) h.front files h.opened.new_files (subst (λ (ns : List (List ℕ)). AreKept taken (output c) ns files) front k.kept);
+          others = λ other none.
+              OthersStay-more names h.front h.name h.rest (output b) (output c) h.in_order (subst (λ (ns : List (List ℕ)). OthersStay ns (output b) (output c)) front k.others) other none ∙ h.others other none;
+          closed = λ other open_now.
+              let one = k.closed other open_now in
+              sym (h.opened.others_open other (subst (λ (ns : List (List ℕ)). is_among other (map output_name ns) ≡ false) front one.1)) ∙ sym (h.same_open other) ∙ one.0;
+          inputs = λ other. k.inputs other ∙ h.inputs other;
+          no_fewer_reads = omega (arith, h.no_fewer_reads, k.no_fewer_reads);
+          no_fewer_writes = omega (arith, h.no_fewer_writes, k.no_fewer_writes);
+          read_fault = λ e. Rose-on (source_faults a) (source_faults b) (source_faults c) k.no_fewer_reads (h.read_fault e);
+          write_fault = λ e. Rose-on (sink_faults a) (sink_faults b) (sink_faults c) k.no_fewer_writes (h.write_fault e);
+        }

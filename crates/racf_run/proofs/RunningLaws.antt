@@ -3,11 +3,11 @@ use Rattle.std.proofs.Common.{◌≡◌, ◌≢◌, ◌≤◌, ◌<◌, ◌+◌,
 use Rattle.std.specs.Prelude.{◌⊎◌, Option, None, Result, nat_le, nat_lt, if◌then◌else◌, cond}
 use Rattle.std.specs.List.{sum_by}
 use Rattle.std.proofs.lemmas.Bool.{leb-true, false≢true}
-use Rattle.std.proofs.lemmas.List.{map-append, length-map, length-take-le, take-append-drop, take_at}
+use Rattle.std.proofs.lemmas.List.{map-append, length-map, length-take-le, take-append-drop}
 use Rattle.std.proofs.lemmas.List.Sums.{sum_by-cons}
 use Rattle.racf_outside.specs.Causes.{Rose}
 use Rattle.racf_outside.specs.Disk.{History}
-use Rattle.racf_outside.specs.Shelf.{told, SameOpen}
+use Rattle.racf_outside.specs.Shelf.{told}
 use Rattle.racf_desk.specs.Position.{Position}
 use Rattle.command_history.specs.declared.events.Accepted.{Accepted}
 use Rattle.command_history.specs.declared.events.Event.{Event}
@@ -16,13 +16,14 @@ use Rattle.command_history.specs.Reached.{reached, AreLegal}
 use Rattle.racroute.specs.Disks.{StandAt}
 use Rattle.racf_stream.specs.Status.{code_of}
 use Rattle.racf_stream.specs.declared.status.Status.{Status}
-use Rattle.racf_stream.specs.declared.status.Status.TheVariants.{Done, Usage, ReadFault, WriteFault}
+use Rattle.racf_stream.specs.declared.status.Status.TheVariants.{Done, Usage, ReadFault, WriteFault, DiskFault}
 use Rattle.racf_threads.specs.Outputs.{DeckRan, FileRan, StopsFor}
 use Rattle.racf_threads.specs.Together.{Worked, HasStopped, IsDeck, IsFile, AreDecks, AreFiles, RunsTogether, greater, greatest}
 use Rattle.racf_run.specs.Opening.{output_name, is_among, are_distinct, AreNew, AreKept, AreOpen, IsNew, OthersStay, RoseFor}
-use Rattle.racf_run.proofs.OpeningLaws.{OthersStay-front}
 use Rattle.racf_run.specs.Racf.{OpensNone}
-use Rattle.racf_run.specs.Running.{RunWords, deck_names, request_names, are_run_words, are_apart, Named, DecksNamed, FilesNamed, NamedRan, AreEmpty}
+use Rattle.racf_run.specs.Running.{RunWords, deck_names, request_names, are_run_words, are_apart, Named, DecksNamed, FilesNamed, NamedRan, unopened_status}
+use Rattle.racf_run.specs.declared.opening.Unopened.{Unopened}
+use Rattle.racf_run.specs.declared.opening.Unopened.TheVariants.{Input, Output}
 
 -- ---- the words
 both : (a b : Bool) → (a && b) ≡ true → (a ≡ true) × (b ≡ true)
@@ -63,6 +64,25 @@ greater_is a b s h = either (nat_lt (code_of a) (code_of b)) h
 rose_from_none : (now : ℕ) → Rose 0 now → 0 < now
 rose_from_none now rose = grind arith
 
+-- the status tells what couldn't be opened
+pub input_of : (why : Unopened) → unopened_status why ≡ ReadFault → why ≡ Input
+input_of Input e = refl
+input_of Output e = absurd (other e)
+  where
+    other : WriteFault ≡ ReadFault → ⊥
+    other f = cc
+
+pub output_of : (why : Unopened) → unopened_status why ≡ WriteFault → why ≡ Output
+output_of Output e = refl
+output_of Input e = absurd (other e)
+  where
+    other : ReadFault ≡ WriteFault → ⊥
+    other f = cc
+
+pub unopened_ends : (why : Unopened) → (unopened_status why ≢ Usage) × (unopened_status why ≢ DiskFault)
+unopened_ends Input = (λ (e : ReadFault ≡ Usage). cc, λ (e : ReadFault ≡ DiskFault). cc)
+unopened_ends Output = (λ (e : WriteFault ≡ Usage). cc, λ (e : WriteFault ≡ DiskFault). cc)
+
 -- ---- files and names
 module _ {I K : Type 0} (left : I → Option (List ℕ)) (reads : I → ℕ) (taken : K → Option (List ℕ)) (writes : K → ℕ) (tells : Bool) (input output : List ℕ → Option (List ℕ)) where
   -- those in front, and those behind
@@ -77,21 +97,8 @@ module _ {I K : Type 0} (left : I → Option (List ℕ)) (reads : I → ℕ) (ta
   AreKept-split (name ∷ names) (x ∷ xs) ys h = let rest = AreKept-split names xs ys h.1 in ((h.0, rest.0), rest.1)
   AreKept-split [] (x ∷ xs) ys h = absurd h
 
-  pub AreNew-length : (names : List (List ℕ)) (files : List (I × K)) → AreNew left reads taken writes tells input names files → length files ≡ length names
-  AreNew-length [] [] h = refl
-  AreNew-length (name ∷ names) (file ∷ files) h = ap suc (AreNew-length names files h.1)
-  AreNew-length [] (file ∷ files) h = absurd h
-  AreNew-length (name ∷ names) [] h = absurd h
-
-  -- new outputs that were given back as they are
-  pub AreEmpty-kept : (names : List (List ℕ)) (files : List (I × K)) → AreNew left reads taken writes tells input names files → AreKept taken output names files → AreEmpty tells output names
-  AreEmpty-kept [] [] h k = tt
-  AreEmpty-kept (name ∷ names) (file ∷ files) h k = (k.0 ∙ h.0.empty, AreEmpty-kept names files h.1 k.1)
-  AreEmpty-kept [] (file ∷ files) h k = absurd h
-  AreEmpty-kept (name ∷ names) [] h k = absurd h
-
 -- workers under these names
-named : {I K : Type 0} → List (List ℕ) → List (Worked I K) → List Named
+abbrev named : {I K : Type 0} → List (List ℕ) → List (Worked I K) → List Named
 named [] workers = []
 named (name ∷ names) [] = []
 named (name ∷ names) (w ∷ workers) = record { name = name; status = w.status; faults = w.faults } ∷ named names workers
@@ -195,7 +202,7 @@ module _ {I K : Type 0} (left : I → Option (List ℕ)) (reads : I → ℕ) (ta
 
 -- ---- what faults come of
 module _ {I K : Type 0} (left : I → Option (List ℕ)) (reads : I → ℕ) (taken : K → Option (List ℕ)) (writes : K → ℕ) (base : Position) where
-  AreStopped : List (Worked I K) → Type 0
+  abbrev AreStopped : List (Worked I K) → Type 0
   AreStopped [] = Unit {0}
   AreStopped (w ∷ ws) = HasStopped left reads taken writes base w × AreStopped ws
 
@@ -212,7 +219,10 @@ module _ {I K : Type 0} (left : I → Option (List ℕ)) (reads : I → ℕ) (ta
   stopped_append (x ∷ xs) ys h k = (h.0, stopped_append xs ys h.1 k)
 
   no_usage : (ws : List (Worked I K)) → AreStopped ws → greatest (map (λ w. w.status) ws) ≢ Usage
-  no_usage [] h = λ (e : Done ≡ Usage). cc
+  no_usage [] h e = absurd (none e)
+    where
+      none : Done ≡ Usage → ⊥
+      none f = cc
   no_usage (w ∷ ws) h e = ⊎_elim h.0.usage (no_usage ws h.1) (greater_is w.status (greatest (map (λ (v : Worked I K). v.status) ws)) Usage e)
 
   module _ (tells : Bool) (input : List ℕ → Option (List ℕ)) (before now : ℕ) where
@@ -283,12 +293,3 @@ module _ {I K : Type 0} (left : I → Option (List ℕ)) (reads : I → ℕ) (ta
 pub opens_none : (names : List (List ℕ)) (old between new : List ℕ → Bool) → OthersStay names old between → ((other : List ℕ) → new other ≡ true → (between other ≡ true) × (is_among other (map output_name names) ≡ false)) → OpensNone old new
 opens_none names old between new others closed other h = let before = closed other h in sym (others other before.1) ∙ before.0
 
-pub AreOpen-same : (names : List (List ℕ)) (old new : List ℕ → Bool) → SameOpen old new → AreOpen old names → AreOpen new names
-AreOpen-same [] old new same h = tt
-AreOpen-same (name ∷ names) old new same h = (same (output_name name) ∙ h.0, AreOpen-same names old new same h.1)
-
-pub front_of : {X : Type 0} (names front : List X) (name : X) (rest : List X) (n : ℕ) → names ≡ front ++ name ∷ rest → length front ≡ n → take n names ≡ front
-front_of names front name rest n is count = ap (take n) is ∙ take_at front (name ∷ rest) n count
-
-pub OthersStay-more : {A : Type 0} (names front : List (List ℕ)) (name : List ℕ) (rest : List (List ℕ)) (old new : List ℕ → A) → names ≡ front ++ name ∷ rest → OthersStay front old new → OthersStay names old new
-OthersStay-more names front name rest old new is others = subst (λ (ns : List (List ℕ)). OthersStay ns old new) (sym is) (OthersStay-front front (name ∷ rest) old new others)

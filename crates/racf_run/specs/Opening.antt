@@ -42,6 +42,10 @@ module _ {S I O : Type 0} (source : S → List ℕ → Result I Failed → S →
   Returned [] (file ∷ files) old new = ⊥
   Returned (name ∷ names) [] old new = ⊥
 
+  -- Some files were handed back under these names.
+  abbrev pub ReturnsSome : (names : List (List ℕ)) → (old new : S) → Type 0
+  ReturnsSome names old new = (files : List (I × O)) × Returned names files old new
+
   -- An input couldn't be opened; or its output couldn't, and the input was taken back.
   abbrev pub OpensNeither : Unopened → (name : List ℕ) → (old new : S) → Type 0
   OpensNeither Input name old new = (failed : Failed) × source old name (Err failed) new
@@ -72,6 +76,10 @@ abbrev pub AreOpen : (is_open : List ℕ → Bool) → (names : List (List ℕ))
 AreOpen is_open [] = Unit {0}
 AreOpen is_open (name ∷ names) = (is_open (output_name name) ≡ true) × AreOpen is_open names
 
+-- Each output that is open now was open before, and is that of none of these names.
+abbrev pub ClosesAll : (names : List (List ℕ)) → (old new : List ℕ → Bool) → Type 0
+ClosesAll names old new = (other : List ℕ) → new other ≡ true → (old other ≡ true) × (is_among other (map output_name names) ≡ false)
+
 -- Only outputs of these names were changed.
 abbrev pub OthersStay : {A : Type 0} → (names : List (List ℕ)) → (old new : List ℕ → A) → Type 0
 OthersStay names old new = (other : List ℕ) → is_among other (map output_name names) ≡ false → new other ≡ old other
@@ -82,6 +90,11 @@ AreKept taken output [] [] = Unit {0}
 AreKept taken output (name ∷ names) (file ∷ files) = (output (output_name name) ≡ taken file.1) × AreKept taken output names files
 AreKept taken output [] (file ∷ files) = ⊥
 AreKept taken output (name ∷ names) [] = ⊥
+
+-- The outputs of these names are empty.
+abbrev pub AreEmpty : (tells : Bool) → (output : List ℕ → Option (List ℕ)) → (names : List (List ℕ)) → Type 0
+AreEmpty tells output [] = Unit {0}
+AreEmpty tells output (name ∷ names) = (output (output_name name) ≡ told tells []) × AreEmpty tells output names
 
 -- Where one of the files counted a fault, the count of what takes it back rose.
 abbrev pub RoseFor : {A : Type 0} → (faults : A → ℕ) → (before now : ℕ) → List A → Type 0
@@ -126,9 +139,31 @@ module _ {S I O : Type 0} (source : S → List ℕ → Result I Failed → S →
     pub calls : Returned source sink take_back give_back names files old new
     pub kept : AreKept taken (output new) names files
     pub others : OthersStay names (output old) (output new)
-    pub closed : (other : List ℕ) → is_open new other ≡ true → (is_open old other ≡ true) × (is_among other (map output_name names) ≡ false)
+    pub closed : ClosesAll names (is_open old) (is_open new)
     pub inputs : SameBytes (input old) (input new)
     pub no_fewer_reads : source_faults old ≤ source_faults new
     pub no_fewer_writes : sink_faults old ≤ sink_faults new
     pub reads_rose : RoseFor (λ file. reads file.0) (source_faults old) (source_faults new) files
     pub writes_rose : RoseFor (λ file. writes file.1) (sink_faults old) (sink_faults new) files
+
+  -- Those of some names were opened, those of the next weren't, for this fault, and the former were handed back, with
+  -- nothing written.
+  pub record HasUndone (why : Unopened) (names : List (List ℕ)) (old new : S) : Type 0 where
+    pub front : List (List ℕ)
+    pub name : List ℕ
+    pub rest : List (List ℕ)
+    pub in_order : names ≡ front ++ name ∷ rest
+    pub files : List (I × O)
+    pub before : S
+    pub between : S
+    pub opened : Opened source sink take_back give_back front files old before
+    pub failed : OpensNeither source sink take_back give_back why name before between
+    pub returned : Returned source sink take_back give_back front files between new
+    pub empty : AreEmpty tells (output new) front
+    pub others : OthersStay names (output old) (output new)
+    pub closed : (other : List ℕ) → is_open new other ≡ true → is_open old other ≡ true
+    pub inputs : SameBytes (input old) (input new)
+    pub no_fewer_reads : source_faults old ≤ source_faults new
+    pub no_fewer_writes : sink_faults old ≤ sink_faults new
+    pub read_fault : why ≡ Input → Rose (source_faults old) (source_faults new)
+    pub write_fault : why ≡ Output → Rose (sink_faults old) (sink_faults new)

@@ -19,7 +19,7 @@ use Rattle.racf_threads.specs.Outputs.{DeckRan, FileRan}
 use Rattle.racf_threads.specs.Together.{greatest}
 use Rattle.racf_run.specs.declared.opening.Unopened.{Unopened}
 use Rattle.racf_run.specs.declared.opening.Unopened.TheVariants.{Input, Output}
-use Rattle.racf_run.specs.Opening.{output_name, is_among, are_distinct, Opened, Returned, OpensNeither, OthersStay}
+use Rattle.racf_run.specs.Opening.{output_name, is_among, are_distinct, Opened, Returned, OpensNeither, OthersStay, AreEmpty}
 
 -- ---- the words
 
@@ -103,11 +103,6 @@ pub record NamedRan (first second : Option History) (base : Position) (tells : B
 abbrev pub unopened_status : Unopened → Status
 unopened_status Input = ReadFault
 unopened_status Output = WriteFault
-
--- The outputs of these names are empty.
-abbrev pub AreEmpty : (tells : Bool) → (output : List ℕ → Option (List ℕ)) → (names : List (List ℕ)) → Type 0
-AreEmpty tells output [] = Unit {0}
-AreEmpty tells output (name ∷ names) = (output (output_name name) ≡ told tells []) × AreEmpty tells output names
 
 -- The calls that the program makes of a shelf of the kind S, whose inputs are of the kind I and whose outputs of the
 -- kind O: `source` and the other three say that a call was made. `output` is what the outputs of a shelf tell.

@@ -3,7 +3,7 @@
 ghost use Rattle.std.specs.Prelude.{ℕ, true, ◌≡◌, ◌≤◌, ◌+◌, ◌++◌, ◌∷◌, [], List, map, length, IfOk, OnOk, IfErr, OnErr, string_bytes, vec_len, vec_capacity, take};
 ghost use Rattle.racf_outside.specs.Causes.{Rose};
 ghost use Rattle.racf_outside.specs.Shelf.{SameBytes, SameOthers, SameOpen, Opens, Closes};
-ghost use Rattle.racf_run.specs.Opening.{output_name, Opened, Returned, OpensNeither, IsNew, AreOpen, HasOpened, HasStopped, HasReturned, are_distinct};
+ghost use Rattle.racf_run.specs.Opening.{output_name, Opened, Returned, OpensNeither, IsNew, AreOpen, HasOpened, HasStopped, HasReturned, HasUndone, are_distinct};
 
 use racf_outside::{Failed, Shelf};
 use std::alloc::{AllocError, Global};
@@ -21,7 +21,7 @@ pub(crate) enum Unopened {
 }
 
 /// The names of the outputs.
-pub(crate) fn output_names(alloc: Global, names: &[String]) -> Result<Vec<String>, AllocError>
+fn output_names(alloc: Global, names: &[String]) -> Result<Vec<String>, AllocError>
     ensures { IfOk result (λ made. map string_bytes made.items ≡ map output_name (map string_bytes names.now)) }
 {
     let mut outputs = Vec::with_capacity(alloc, names.len())?;
@@ -73,9 +73,51 @@ fn open_file<F: Shelf>(
     }
 }
 
+/// The names of the outputs, and room for so many files.
+pub(crate) fn room_for<I, K>(
+    alloc: Global,
+    names: &[String],
+) -> Result<(Vec<String>, Vec<(I, K)>), AllocError>
+    ensures outputs { IfOk result (λ room. map string_bytes room.0.items ≡ map output_name (map string_bytes names.now)) }
+    ensures none { IfOk result (λ room. vec_len room.1 ≡ 0) }
+    ensures room { IfOk result (λ room. length names.now ≤ vec_capacity room.1) }
+{
+    let outputs = output_names(alloc, names)?;
+    let files = Vec::with_capacity(alloc, names.len())?;
+    Ok((outputs, files))
+}
+
+/// Opens the files of these names. Where one can't be opened, those that were are handed back.
+pub(crate) fn open_all<F: Shelf>(
+    shelf: &mut F,
+    names: &[String],
+    outputs: &[String],
+    mut files: Vec<(F::In, F::Out)>,
+) -> Result<Vec<(F::In, F::Out)>, Unopened>
+where
+    F::In: Drop,
+    F::Out: Drop,
+    requires outputs { map string_bytes outputs.now ≡ map output_name (map string_bytes names.now) }
+    requires none { vec_len files ≡ 0 }
+    requires room { length names.now ≤ vec_capacity files }
+    requires distinct { are_distinct (map string_bytes names.now) ≡ true }
+    ensures opened { IfOk result (λ files. HasOpened F.source_gives F.sink_gives F.take_back_gives F.give_back_gives F.In.left F.In.faults F.Out.taken F.Out.faults
+        F.tells F.input F.output F.is_open F.source_faults F.sink_faults (map string_bytes names.now) files.items shelf.old shelf.new) }
+    ensures undone { IfErr result (λ why. HasUndone F.source_gives F.sink_gives F.take_back_gives F.give_back_gives F.In.left F.In.faults F.Out.taken F.Out.faults
+        F.tells F.input F.output F.is_open F.source_faults F.sink_faults why (map string_bytes names.now) shelf.old shelf.new) }
+{
+    match open_files(shelf, names, outputs, &mut files) {
+        Ok(()) => Ok(files),
+        Err(why) => {
+            return_files(shelf, names, outputs, files);
+            Err(why)
+        }
+    }
+}
+
 /// Opens the files of these names: of each in turn the input, and then the output. Those that were opened stand in the
 /// list, in their order.
-pub(crate) fn open_files<F: Shelf>(
+fn open_files<F: Shelf>(
     shelf: &mut F,
     names: &[String],
     outputs: &[String],

@@ -9,9 +9,11 @@ use racf_outside::{
     Disk, Failed, Failing, FileShelf, MemoryDisk, MemoryShelf, MemorySink, MemorySource, NeverDisk,
     Shelf, Source, Two,
 };
-use racf_run::{Status, racf, script};
+use racf_run::{Idle, Status, racf, script};
 use std::alloc::Global;
 use std::process::Abort;
+use std::sync::Wait;
+use std::thread::Threads;
 
 /// A profile, an ACEE, and what may be answered of them, before the class is active and afterwards.
 const FIRST_STREAM: &str = "RDEFINE FACILITY BPX.X UACC(READ)
@@ -85,7 +87,8 @@ fn database(rt: &(impl AllocGlobal + Abort)) -> Two<MemoryDisk> {
 /// The program over a shelf and disks in memory. What an embedder knows then: where the words are `script IN OUT` and the
 /// input was read to its end, the disks stood for a position, and the output is exactly that of the input's bytes from
 /// there on.
-fn racf_in_memory(
+fn racf_in_memory<R: Wait + Threads + Sync>(
+    rt: &R,
     alloc: Global,
     words: &[String],
     shelf: &mut MemoryShelf,
@@ -96,7 +99,7 @@ fn racf_in_memory(
         IsWholeOutput base ⟦<MemoryShelf as Shelf>⟧.tells result.0
         (⟦<MemoryShelf as Shelf>⟧.input shelf.old files.input) (⟦<MemoryShelf as Shelf>⟧.output shelf.new files.output))) }
 {
-    racf(alloc, words, shelf, disks)
+    racf(rt, alloc, words, shelf, disks, &Idle)
 }
 
 /// Which calls are to fail, by their numbers, and 0 where none is: the opening of an input and of an output, a read and a
@@ -141,13 +144,18 @@ fn has_output(shelf: &MemoryShelf, wanted: Option<&str>) -> bool {
 }
 
 /// Asserts how the program works the input over a shelf, and that it takes no other words.
-fn assert_works(rt: &(impl AllocGlobal + Abort), input: &str, output: &str, status: Status) {
+fn assert_works<R: AllocGlobal + Abort + Wait + Threads + Sync>(
+    rt: &R,
+    input: &str,
+    output: &str,
+    status: Status,
+) {
     let words = words(rt, "IN", "OUT");
     let mut shelf = shelf(rt, input, NONE);
-    let (told, disks) = racf_in_memory(rt.alloc(), words.as_slice(), &mut shelf, database(rt));
+    let (told, disks) = racf_in_memory(rt, rt.alloc(), words.as_slice(), &mut shelf, database(rt));
     assert!(rt; told == status);
     assert!(rt; has_output(&shelf, Some(output)));
-    let (told, _disks) = racf(rt.alloc(), &[], &mut shelf, disks);
+    let (told, _disks) = racf(rt, rt.alloc(), &[], &mut shelf, disks, &Idle);
     assert!(rt; told == Status::Usage);
 }
 
@@ -182,7 +190,11 @@ const STOPS: [Stop; 6] = [
 ];
 
 /// Whether the program ends so over two requests.
-fn stops(rt: &(impl AllocGlobal + Abort), words: &[String], stop: Stop) -> bool {
+fn stops<R: AllocGlobal + Abort + Wait + Threads + Sync>(
+    rt: &R,
+    words: &[String],
+    stop: Stop,
+) -> bool {
     let (source, sink, read, write, status, output) = stop;
     let calls = Calls {
         source,
@@ -191,7 +203,7 @@ fn stops(rt: &(impl AllocGlobal + Abort), words: &[String], stop: Stop) -> bool 
         write,
     };
     let mut shelf = shelf(rt, TWO, calls);
-    let (told, _disks) = racf(rt.alloc(), words, &mut shelf, database(rt));
+    let (told, _disks) = racf(rt, rt.alloc(), words, &mut shelf, database(rt), &Idle);
     told == status && has_output(&shelf, output)
 }
 
@@ -208,7 +220,15 @@ fn stops_at_the_longest_input(rt: HostRuntime) {
     let words = words(&rt, "/dev/zero", "/dev/null");
     let host = rt.clone().expect(&rt, "memory");
     let mut shelf = FileShelf::new(rt.alloc(), host);
-    let (status, _disks) = racf(rt.alloc(), words.as_slice(), &mut shelf, database(&rt));
+    let disks = database(&rt);
+    let (status, _disks) = racf(
+        &rt,
+        rt.alloc(),
+        words.as_slice(),
+        &mut shelf,
+        disks,
+        &Idle,
+    );
     assert!(rt; status == Status::InputTooLong);
 }
 

@@ -2,8 +2,10 @@
 
 use crate::layout_tests::{JOE, NEW, NOBODY, disks_of, read_as};
 use racf_outside::{Failing, MemoryShelf};
-use racf_run::{Status, racf};
+use racf_run::{Idle, Status, racf};
 use std::process::Abort;
+use std::sync::Wait;
+use std::thread::Threads;
 
 /// These words.
 fn words_of(rt: &(impl AllocGlobal + Abort), words: &[&str]) -> Vec<String> {
@@ -145,12 +147,19 @@ const RUNS: [Run; 16] = [
 ];
 
 /// Asserts how a run ends.
-fn assert_ends(rt: &(impl AllocGlobal + Abort), run: &Run) {
+fn assert_ends(rt: &(impl AllocGlobal + Abort + Wait + Threads + Sync), run: &Run) {
     let (words, held, failing, input, (wanted, code), output, left) = run;
     let words = words_of(rt, words);
     let mut shelf = shelf_of(rt, input, false);
     let disks = disks_of(rt, held, *failing);
-    let (status, disks) = racf(rt.alloc(), words.as_slice(), &mut shelf, disks);
+    let (status, disks) = racf(
+        rt,
+        rt.alloc(),
+        words.as_slice(),
+        &mut shelf,
+        disks,
+        &Idle,
+    );
     let fails = *wanted == Status::DiskFault;
     assert!(rt; status == *wanted && status.code() == *code, "{input}");
     assert!(rt; has_output(&shelf, *output), "{input}");
@@ -178,10 +187,24 @@ fn nothing_is_opened_before_the_database(rt: HostRuntime) {
         (&init, Status::Done),
         (&script, Status::ReadFault),
     ] {
-        (status, disks) = racf(rt.alloc(), words.as_slice(), &mut shelf, disks);
+        (status, disks) = racf(
+            &rt,
+            rt.alloc(),
+            words.as_slice(),
+            &mut shelf,
+            disks,
+            &Idle,
+        );
         assert!(rt; status == wanted && has_output(&shelf, None));
     }
-    (status, disks) = racf(rt.alloc(), script.as_slice(), &mut shelf, disks);
+    (status, disks) = racf(
+        &rt,
+        rt.alloc(),
+        script.as_slice(),
+        &mut shelf,
+        disks,
+        &Idle,
+    );
     assert!(rt; status == Status::Done && has_output(&shelf, Some("1 ACCEPTED\n")));
     assert!(rt; read_as(&disks, JOE));
 }

@@ -1,2 +1,5 @@
+pub mod OpeningLaws
+pub mod RunningLaws
 mod Sent
 pub mod TopLaws
+pub mod WordLaws

@@ -10,6 +10,7 @@ use Rattle.racf_checkpoint.specs.Stored.{Beside}
 use Rattle.racf_desk.specs.Durable.{LeavesIt, WasPossible, StaysPossible}
 use Rattle.racf_desk.specs.Made.{DeskOn}
 use Rattle.racf_desk.specs.Position.{Position}
+use Rattle.racroute.specs.Disks.{StandAt}
 use Rattle.racf_stream.specs.declared.status.Status.{Status}
 use Rattle.racf_stream.specs.Durable.{StandsForFront}
 use Rattle.racf_run.specs.Racf.{Files, RanTo, RunsOnShelf, EndsAt, EndsOn, StoodFor, StandsAlong, StaysAlongFrom}
@@ -100,6 +101,12 @@ pub ends_on : {D : Type 0} (tells : D → Option History) (desk : DeskOn D) (fir
 ends_on {D = D} tells desk first second is_first is_second s ends =
     subst (λ (d : D). EndsOn (tells d) (tells second) s) (sym is_first)
     (subst (λ (d : D). EndsOn (tells desk.store.journal.disk) (tells d) s) (sym is_second) ends.leaves)
+
+-- and where nothing was run, it stands where the desk does
+pub stand_at : {D : Type 0} (tells : D → Option History) (desk : DeskOn D) (first second : D) → first ≡ desk.store.journal.disk → second ≡ desk.store.second → LeavesIt tells desk.store desk.position → StandAt false (tells first) (tells second) desk.position
+stand_at {D = D} tells desk first second is_first is_second leaves =
+    subst (λ (d : D). StandAt false (tells d) (tells second) desk.position) (sym is_first)
+    (subst (λ (d : D). StandAt false (tells desk.store.journal.disk) (tells d) desk.position) (sym is_second) leaves)
 
 -- ---- the moments
 module _ (first second : Option History) (input : Option (List ℕ)) where

@@ -2,17 +2,23 @@
 //!
 //! The principal functions are `racf`, the top call over a shelf and disks of `racf_outside`, and `make`, which writes the
 //! text of `racf_generator`; both answer with a `Status`. The stream between one source and one sink, `script`, is that of
-//! `racf_stream`.
+//! `racf_stream`; decks and request files side by side, `run`, are those of `racf_threads`, whose workers ask a `Gate` of
+//! `racf_workers` at each line.
 //!
 //! ```text
-//! let (status, disks) = racf(alloc, words, &mut shelf, disks);
+//! let (status, disks) = racf(rt, alloc, words, &mut shelf, disks, &Idle);
 //! std::process::exit(status.code())
 //! ```
 #![tactic(auto)]
 
 mod making;
+mod names;
+mod opening;
+mod running;
 mod top;
 
 pub use making::make;
 pub use racf_stream::{Status, script};
+pub use racf_threads::{Ran, run};
+pub use racf_workers::{Gate, Idle};
 pub use top::{racf, works_on_disks};

@@ -13,16 +13,23 @@ ghost use Rattle.racf_stream.specs.Durable.{StaysAlong};
 ghost use Rattle.racf_run.specs.Racf.{script_files, is_init, opening_status, RunsOnShelf, MakesOnShelf, IsWholeOutput, OpensNone};
 ghost use Rattle.racf_run.specs.Racf.{OpensNoDatabase, OpensDatabase, EndsOn, EndsAt, StaysAlongFrom};
 ghost use Rattle.racf_run.specs.Making.{make_words, most_users};
+ghost use Rattle.racf_run.specs.Running.{run_words, NamedRan, RunsFiles};
+ghost use Rattle.racroute.specs.Disks.{StandAt};
 ghost use Rattle.racf_stream.specs.Runs.{longest_input};
 ghost use Rattle.racf_stream.specs.Script.{is_whole};
 
 use crate::making::make;
+use crate::names::run_words;
+use crate::running::run_on;
 use racf_checkpoint::StoreFault;
 use racf_desk::Desk;
 use racf_outside::{Disk, Failed, Shelf, Two};
 use racf_stream::{Status, script};
+use racf_workers::Gate;
 use request_files::number_word;
 use std::alloc::Global;
+use std::sync::Wait;
+use std::thread::Threads;
 
 /// The most users that `make` is asked for.
 const MOST_USERS: u64 = 10_000;
@@ -47,17 +54,26 @@ struct MakeWords<'a> {
 
 /// The program: works what the words ask for, over the inputs and outputs of a shelf and the database on the disks. The
 /// word `init` makes a new database, whatever the disks held. The words `script IN OUT` open the database, work the stream
-/// of the input IN, and write to the output OUT; IN and OUT differ or are both `-`. The words `make N OUT` write the
-/// generated text of N users, from 1 to 10,000, to the output OUT. Other words are `Usage`. (The words are this product's
-/// own.)
+/// of the input IN, and write to the output OUT; IN and OUT differ or are both `-`. The words `run K NAME..` open the
+/// database, and work the first K of the names, from 1 to 4, as decks, and the others, at most 16, as request files, each
+/// in a thread of its own: the output of NAME is `NAME.out`. The names differ, and none is the output of another. The words
+/// `make N OUT` write the generated text of N users, from 1 to 10,000, to the output OUT. Other words are `Usage`. (The
+/// words are this product's own.)
 ///
-/// The database is opened first, then the input, then the output; each that was opened is handed back, under its name.
-pub fn racf<F: Shelf, D: Disk>(
+/// The database is opened first, then of each name the input and then the output; each that was opened is handed back,
+/// under its name. The gate is asked before and behind each line of a run.
+pub fn racf<F: Shelf, D: Disk + Send, G: Gate + Sync, R: Wait + Threads + Sync>(
+    rt: &R,
     alloc: Global,
     words: &[String],
     shelf: &mut F,
     disks: Two<D>,
+    gate: &G,
 ) -> (Status, Two<D>)
+where
+    F::In: Drop + Send,
+    F::Out: Drop + Send,
+
     // The database is opened, or why not. Which calls are made of the shelf then, in which order, what the outputs tell
     // afterwards, wherever the stream stopped, and what every crash leaves of the disks behind it.
     ensures runs { IfSome (script_files (map string_bytes words.now)) (λ files.
@@ -76,6 +92,16 @@ pub fn racf<F: Shelf, D: Disk>(
     ensures moments { IfSome (script_files (map string_bytes words.now)) (λ files.
         StaysAlongFrom (D.tells disks.second) (F.input shelf.old files.input) (D.tells disks.first) (D.tells result.1.first)) }
 
+    // The database is opened, or why not; then all files, or why not; and then decks and request files are worked side by
+    // side, over one history, of which each output tells a part.
+    ensures runs_together { IfSome (run_words (map string_bytes words.now)) (λ asked.
+        OpensNoDatabase (D.tells disks.first) (D.tells disks.second) result.0 shelf.old shelf.new
+        ⊎ OpensDatabase (D.tells disks.first) (D.tells disks.second) (λ base.
+        RunsFiles F.source_gives F.sink_gives F.take_back_gives F.give_back_gives F.tells F.output
+        (NamedRan (D.tells result.1.first) (D.tells result.1.second) base F.tells result.0 asked (F.input shelf.old) (F.output shelf.old) (F.output shelf.new))
+        (StandAt false (D.tells result.1.first) (D.tells result.1.second) base)
+        result.0 asked.names shelf.old shelf.new)) }
+
     ensures makes { IfSome (make_words (map string_bytes words.now)) (λ asked.
         MakesOnShelf F.sink_gives F.give_back_gives F.tells F.output result.0 asked shelf.old shelf.new) }
 
@@ -87,7 +113,7 @@ pub fn racf<F: Shelf, D: Disk>(
 
     // Why it stopped.
     ensures usage { (result.0 ≡ Status.Usage) ↔ (IsNone (script_files (map string_bytes words.now)) × IsNone (make_words (map string_bytes words.now))
-        × (is_init (map string_bytes words.now) ≡ false)) }
+        × (is_init (map string_bytes words.now) ≡ false) × IsNone (run_words (map string_bytes words.now))) }
     ensures nothing_opened { (result.0 ≡ Status.Usage) ⊎ (is_init (map string_bytes words.now) ≡ true) → shelf.new ≡ shelf.old }
     ensures read_fault { result.0 ≡ Status.ReadFault → Rose (F.source_faults shelf.old) (F.source_faults shelf.new) }
     ensures write_fault { result.0 ≡ Status.WriteFault → Rose (F.sink_faults shelf.old) (F.sink_faults shelf.new) }
@@ -99,7 +125,7 @@ pub fn racf<F: Shelf, D: Disk>(
 
     // What stays.
     ensures untouched { (result.0 ≡ Status.Usage) ⊎ IsSome (make_words (map string_bytes words.now)) → result.1 ≡ disks }
-    ensures second { result.1.second ≡ disks.second }
+    ensures second { IsNone (run_words (map string_bytes words.now)) → result.1.second ≡ disks.second }
     ensures inputs { SameBytes (F.input shelf.old) (F.input shelf.new) }
     ensures handed_back { OpensNone (F.is_open shelf.old) (F.is_open shelf.new) }
     ensures source_faults { F.source_faults shelf.old ≤ F.source_faults shelf.new }
@@ -108,6 +134,9 @@ pub fn racf<F: Shelf, D: Disk>(
 {
     if let Some(files) = script_files(words) {
         return script_on(alloc, files.input, files.output, shelf, disks);
+    }
+    if let Some(asked) = run_words(words) {
+        return run_on(rt, alloc, asked, shelf, disks, gate);
     }
     if is_init(words) {
         return init(alloc, disks);
@@ -122,9 +151,9 @@ pub fn racf<F: Shelf, D: Disk>(
 /// Whether the words are of a form that works on the disks. Where they aren't, `racf` leaves the disks as they are, so that
 /// a program need not open them.
 pub fn works_on_disks(words: &[String]) -> bool
-    ensures { result ≡ is_some (script_files (map string_bytes words.now)) || is_init (map string_bytes words.now) }
+    ensures { result ≡ is_some (script_files (map string_bytes words.now)) || is_init (map string_bytes words.now) || is_some (run_words (map string_bytes words.now)) }
 {
-    script_files(words).is_some() || is_init(words)
+    script_files(words).is_some() || is_init(words) || run_words(words).is_some()
 }
 
 /// Makes a new database on the disks.
@@ -180,7 +209,7 @@ fn script_on<F: Shelf, D: Disk>(
 }
 
 /// The status where a database couldn't be made or opened.
-fn opening_status(why: StoreFault) -> Status
+pub(crate) fn opening_status(why: StoreFault) -> Status
     ensures { result ≡ opening_status why }
 {
     match why {

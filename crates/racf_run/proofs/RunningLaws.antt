@@ -1,0 +1,295 @@
+-- What a run of files says under their names, and what its faults come of.
+use Rattle.std.proofs.Common.{◌≡◌, ◌≢◌, ◌≤◌, ◌<◌, ◌+◌, ◌-◌, ◌^◌, ℕ, suc, Bool, true, false, ◌&&◌, List, [], ◌∷◌, ◌++◌, length, map, take, drop, leb, refl, sym, ◌∙◌, ap, subst, arith, inl, inr, ⊎_elim}
+use Rattle.std.specs.Prelude.{◌⊎◌, Option, None, Result, nat_le, nat_lt, if◌then◌else◌, cond}
+use Rattle.std.specs.List.{sum_by}
+use Rattle.std.proofs.lemmas.Bool.{leb-true, false≢true}
+use Rattle.std.proofs.lemmas.List.{map-append, length-map, length-take-le, take-append-drop}
+use Rattle.std.proofs.lemmas.List.Sums.{sum_by-cons}
+use Rattle.racf_outside.specs.Causes.{Rose}
+use Rattle.racf_outside.specs.Disk.{History}
+use Rattle.racf_outside.specs.Shelf.{told}
+use Rattle.racf_desk.specs.Position.{Position}
+use Rattle.command_history.specs.declared.events.Accepted.{Accepted}
+use Rattle.command_history.specs.declared.events.Event.{Event}
+use Rattle.command_history.specs.Events.{all_of}
+use Rattle.command_history.specs.Reached.{reached, AreLegal}
+use Rattle.racroute.specs.Disks.{StandAt}
+use Rattle.racf_stream.specs.Status.{code_of}
+use Rattle.racf_stream.specs.declared.status.Status.{Status}
+use Rattle.racf_stream.specs.declared.status.Status.TheVariants.{Done, Usage, ReadFault, WriteFault, DiskFault}
+use Rattle.racf_threads.specs.Outputs.{DeckRan, FileRan, StopsFor}
+use Rattle.racf_threads.specs.Together.{Worked, HasStopped, IsDeck, IsFile, AreDecks, AreFiles, RunsTogether, greater, greatest}
+use Rattle.racf_run.specs.Opening.{output_name, is_among, are_distinct, AreNew, AreKept, AreOpen, IsNew, OthersStay, RoseFor}
+use Rattle.racf_run.specs.Racf.{OpensNone}
+use Rattle.racf_run.specs.Running.{RunWords, deck_names, request_names, are_run_words, are_apart, Named, DecksNamed, FilesNamed, NamedRan, unopened_status}
+use Rattle.racf_run.specs.declared.opening.Unopened.{Unopened}
+use Rattle.racf_run.specs.declared.opening.Unopened.TheVariants.{Input, Output}
+
+-- ---- the words
+both : (a b : Bool) → (a && b) ≡ true → (a ≡ true) × (b ≡ true)
+both true b h = (refl, h)
+both false b h = absurd (false≢true h)
+
+-- what the words of a run have
+pub record HasForm (decks : ℕ) (names : List (List ℕ)) : Type 0 where
+  pub some : 1 ≤ decks
+  pub few_decks : decks ≤ 4
+  pub are_there : decks ≤ length names
+  pub few : length names ≤ decks + 16
+  pub distinct : are_distinct names ≡ true
+
+pub form_of : (decks : ℕ) (names : List (List ℕ)) → are_run_words decks names ≡ true → HasForm decks names
+form_of decks names h =
+    let one = both _ (are_apart (map output_name names) names) h in
+    let two = both _ (are_distinct names) one.0 in
+    let three = both _ (nat_le (length names) (decks + 16)) two.0 in
+    let four = both _ (nat_le decks (length names)) three.0 in
+    let five = both (nat_le 1 decks) (nat_le decks 4) four.0 in
+    record {
+      some = leb-true 1 decks five.0;
+      few_decks = leb-true decks 4 five.1;
+      are_there = leb-true decks (length names) four.1;
+      few = leb-true (length names) (decks + 16) three.1;
+      distinct = two.1;
+    }
+
+-- ---- statuses
+greater_is : (a b s : Status) → greater a b ≡ s → (a ≡ s) ⊎ (b ≡ s)
+greater_is a b s h = either (nat_lt (code_of a) (code_of b)) h
+  where
+    either : (t : Bool) → cond t b a ≡ s → (a ≡ s) ⊎ (b ≡ s)
+    either true k = inr k
+    either false k = inl k
+
+rose_from_none : (now : ℕ) → Rose 0 now → 0 < now
+rose_from_none now rose = grind arith
+
+-- the status tells what couldn't be opened
+pub input_of : (why : Unopened) → unopened_status why ≡ ReadFault → why ≡ Input
+input_of Input e = refl
+input_of Output e = absurd (other e)
+  where
+    other : WriteFault ≡ ReadFault → ⊥
+    other f = cc
+
+pub output_of : (why : Unopened) → unopened_status why ≡ WriteFault → why ≡ Output
+output_of Output e = refl
+output_of Input e = absurd (other e)
+  where
+    other : ReadFault ≡ WriteFault → ⊥
+    other f = cc
+
+pub unopened_ends : (why : Unopened) → (unopened_status why ≢ Usage) × (unopened_status why ≢ DiskFault)
+unopened_ends Input = (λ (e : ReadFault ≡ Usage). cc, λ (e : ReadFault ≡ DiskFault). cc)
+unopened_ends Output = (λ (e : WriteFault ≡ Usage). cc, λ (e : WriteFault ≡ DiskFault). cc)
+
+-- ---- files and names
+module _ {I K : Type 0} (left : I → Option (List ℕ)) (reads : I → ℕ) (taken : K → Option (List ℕ)) (writes : K → ℕ) (tells : Bool) (input output : List ℕ → Option (List ℕ)) where
+  -- those in front, and those behind
+  AreNew-split : (names : List (List ℕ)) (xs ys : List (I × K)) → AreNew left reads taken writes tells input names (xs ++ ys)
+      → AreNew left reads taken writes tells input (take (length xs) names) xs × AreNew left reads taken writes tells input (drop (length xs) names) ys
+  AreNew-split names [] ys h = (tt, h)
+  AreNew-split (name ∷ names) (x ∷ xs) ys h = let rest = AreNew-split names xs ys h.1 in ((h.0, rest.0), rest.1)
+  AreNew-split [] (x ∷ xs) ys h = absurd h
+
+  AreKept-split : (names : List (List ℕ)) (xs ys : List (I × K)) → AreKept taken output names (xs ++ ys) → AreKept taken output (take (length xs) names) xs × AreKept taken output (drop (length xs) names) ys
+  AreKept-split names [] ys h = (tt, h)
+  AreKept-split (name ∷ names) (x ∷ xs) ys h = let rest = AreKept-split names xs ys h.1 in ((h.0, rest.0), rest.1)
+  AreKept-split [] (x ∷ xs) ys h = absurd h
+
+-- workers under these names
+abbrev named : {I K : Type 0} → List (List ℕ) → List (Worked I K) → List Named
+named [] workers = []
+named (name ∷ names) [] = []
+named (name ∷ names) (w ∷ workers) = record { name = name; status = w.status; faults = w.faults } ∷ named names workers
+
+module _ {I K : Type 0} (left : I → Option (List ℕ)) (reads : I → ℕ) (taken : K → Option (List ℕ)) (writes : K → ℕ) (tells : Bool) (input output : List ℕ → Option (List ℕ)) where
+  named_names : (names : List (List ℕ)) (ws : List (Worked I K)) → AreNew left reads taken writes tells input names (map (λ w. w.given) ws) → map (λ w. w.name) (named names ws) ≡ names
+  named_names [] [] h = refl
+  named_names (name ∷ names) (w ∷ ws) h = ap (λ ns. name ∷ ns) (named_names names ws h.1)
+  named_names [] (w ∷ ws) h = absurd h
+  named_names (name ∷ names) [] h = absurd h
+
+  named_statuses : (names : List (List ℕ)) (ws : List (Worked I K)) → AreNew left reads taken writes tells input names (map (λ w. w.given) ws) → map (λ w. w.status) (named names ws) ≡ map (λ (w : Worked I K). w.status) ws
+  named_statuses [] [] h = refl
+  named_statuses (name ∷ names) (w ∷ ws) h = ap (λ ss. w.status ∷ ss) (named_statuses names ws h.1)
+  named_statuses [] (w ∷ ws) h = absurd h
+  named_statuses (name ∷ names) [] h = absurd h
+
+  named_faults : (names : List (List ℕ)) (ws : List (Worked I K)) → AreNew left reads taken writes tells input names (map (λ w. w.given) ws) → sum_by (λ w. w.faults) (named names ws) ≡ sum_by (λ (w : Worked I K). w.faults) ws
+  named_faults [] [] h = refl
+  named_faults (name ∷ names) (w ∷ ws) h =
+      sum_by-cons (λ (v : Named). v.faults) (record { name = name; status = w.status; faults = w.faults }) (named names ws)
+      ∙ ap (λ n. w.faults + n) (named_faults names ws h.1)
+      ∙ sym (sum_by-cons (λ (v : Worked I K). v.faults) w ws)
+  named_faults [] (w ∷ ws) h = absurd h
+  named_faults (name ∷ names) [] h = absurd h
+
+  module _ (base : Position) (whole : List Event) where
+    named_decks : (deck : ℕ) (names : List (List ℕ)) (ws : List (Worked I K)) → AreNew left reads taken writes tells input names (map (λ w. w.given) ws) → AreKept taken output names (map (λ w. w.back) ws)
+        → AreDecks left reads taken writes base whole deck ws → DecksNamed base whole tells input output deck (named names ws)
+    named_decks deck [] [] h k decks = tt
+    named_decks deck (name ∷ names) (w ∷ ws) h k decks =
+        (
+          (
+            left w.back.0,
+            subst (λ (o : Option (List ℕ)). DeckRan base whole deck w.faults w.status (input name) (left w.back.0) (told tells []) o) (sym k.0)
+            (subst (λ (o : Option (List ℕ)). DeckRan base whole deck w.faults w.status (input name) (left w.back.0) o (taken w.back.1)) h.0.empty
+            (subst (λ (o : Option (List ℕ)). DeckRan base whole deck w.faults w.status o (left w.back.0) (taken w.given.1) (taken w.back.1)) h.0.bytes decks.0.0)),
+          ),
+          named_decks (suc deck) names ws h.1 k.1 decks.1,
+        )
+    named_decks deck [] (w ∷ ws) h k decks = absurd h
+    named_decks deck (name ∷ names) [] h k decks = absurd h
+
+    named_files : (names : List (List ℕ)) (ws : List (Worked I K)) → AreNew left reads taken writes tells input names (map (λ w. w.given) ws) → AreKept taken output names (map (λ w. w.back) ws)
+        → AreFiles left reads taken writes base whole ws → FilesNamed base whole tells input output (named names ws)
+    named_files [] [] h k files = tt
+    named_files (name ∷ names) (w ∷ ws) h k files =
+        (
+          (
+            left w.back.0,
+            subst (λ (o : Option (List ℕ)). FileRan base whole w.status (input name) (left w.back.0) (told tells []) o) (sym k.0)
+            (subst (λ (o : Option (List ℕ)). FileRan base whole w.status (input name) (left w.back.0) o (taken w.back.1)) h.0.empty
+            (subst (λ (o : Option (List ℕ)). FileRan base whole w.status o (left w.back.0) (taken w.given.1) (taken w.back.1)) h.0.bytes files.0.0)),
+          ),
+          named_files names ws h.1 k.1 files.1,
+        )
+    named_files [] (w ∷ ws) h k files = absurd h
+    named_files (name ∷ names) [] h k files = absurd h
+
+  -- ---- a run, under names
+  pub named_run : (first second : Option History) (base : Position) (entries : List Accepted) (halted : Bool) (status : Status) (decks : ℕ) (names : List (List ℕ)) (files outs : List (I × K)) (old : List ℕ → Option (List ℕ))
+      → decks ≤ length files → AreNew left reads taken writes tells input names files → AreKept taken output names outs
+      → RunsTogether left reads taken writes base entries halted status (take decks files) (drop decks files) outs
+      → AreLegal base entries → StandAt halted first second (reached base (all_of entries halted)) → OthersStay names old output
+      → NamedRan first second base tells status (record { decks = decks; names = names }) input old output
+  named_run first second base entries halted status decks names files outs old enough new kept together legal stand others =
+      let dw = together.deck_workers in
+      let fw = together.file_workers in
+      let givens : files ≡ map (λ w. w.given) dw ++ map (λ w. w.given) fw =
+          sym (take-append-drop decks files) ∙ ap (λ xs. xs ++ drop decks files) (sym together.decks_are) ∙ ap (λ xs. map (λ (w : Worked I K). w.given) dw ++ xs) (sym together.requests_are) in
+      let backs : outs ≡ map (λ w. w.back) dw ++ map (λ w. w.back) fw = sym together.outs_are ∙ map-append (λ (w : Worked I K). w.back) dw fw in
+      let count : length dw ≡ decks = sym (length-map dw (λ (w : Worked I K). w.given)) ∙ ap length together.decks_are ∙ length-take-le decks files enough in
+      let given_count : length (map (λ (w : Worked I K). w.given) dw) ≡ decks = length-map dw (λ (w : Worked I K). w.given) ∙ count in
+      let back_count : length (map (λ (w : Worked I K). w.back) dw) ≡ decks = length-map dw (λ (w : Worked I K). w.back) ∙ count in
+      let news : AreNew left reads taken writes tells input (take decks names) (map (λ w. w.given) dw) × AreNew left reads taken writes tells input (drop decks names) (map (λ w. w.given) fw) =
+          subst (λ (n : ℕ). AreNew left reads taken writes tells input (take n names) (map (λ w. w.given) dw) × AreNew left reads taken writes tells input (drop n names) (map (λ w. w.given) fw)) given_count
+          (AreNew-split left reads taken writes tells input output names (map (λ w. w.given) dw) (map (λ w. w.given) fw) (subst (AreNew left reads taken writes tells input names) givens new)) in
+      let keeps : AreKept taken output (take decks names) (map (λ w. w.back) dw) × AreKept taken output (drop decks names) (map (λ w. w.back) fw) =
+          subst (λ (n : ℕ). AreKept taken output (take n names) (map (λ (w : Worked I K). w.back) dw) × AreKept taken output (drop n names) (map (λ (w : Worked I K). w.back) fw)) back_count
+          (AreKept-split left reads taken writes tells input output names (map (λ w. w.back) dw) (map (λ w. w.back) fw) (subst (AreKept taken output names) backs kept)) in
+      record {
+        entries = entries;
+        halted = halted;
+        decks = named (take decks names) dw;
+        files = named (drop decks names) fw;
+        are_decks = named_decks base (all_of entries halted) 0 (take decks names) dw news.0 keeps.0 together.are_decks;
+        are_files = named_files base (all_of entries halted) (drop decks names) fw news.1 keeps.1 together.are_files;
+        deck_names_are = named_names (take decks names) dw news.0;
+        file_names_are = named_names (drop decks names) fw news.1;
+        status_is =
+            together.status_is ∙ ap greatest
+            (map-append (λ (w : Worked I K). w.status) dw fw
+            ∙ ap (λ xs. xs ++ map (λ (w : Worked I K). w.status) fw) (sym (named_statuses (take decks names) dw news.0))
+            ∙ ap (λ xs. map (λ (w : Named). w.status) (named (take decks names) dw) ++ xs) (sym (named_statuses (drop decks names) fw news.1))
+            ∙ sym (map-append (λ (w : Named). w.status) (named (take decks names) dw) (named (drop decks names) fw)));
+        one_fault = named_faults (take decks names) dw news.0 ∙ together.one_fault;
+        legal = legal;
+        stand = stand;
+        others = others;
+      }
+
+-- ---- what faults come of
+module _ {I K : Type 0} (left : I → Option (List ℕ)) (reads : I → ℕ) (taken : K → Option (List ℕ)) (writes : K → ℕ) (base : Position) where
+  abbrev AreStopped : List (Worked I K) → Type 0
+  AreStopped [] = Unit {0}
+  AreStopped (w ∷ ws) = HasStopped left reads taken writes base w × AreStopped ws
+
+  stopped_decks : (whole : List Event) (deck : ℕ) (ws : List (Worked I K)) → AreDecks left reads taken writes base whole deck ws → AreStopped ws
+  stopped_decks whole deck [] h = tt
+  stopped_decks whole deck (w ∷ ws) h = (h.0.1, stopped_decks whole (suc deck) ws h.1)
+
+  stopped_files : (whole : List Event) (ws : List (Worked I K)) → AreFiles left reads taken writes base whole ws → AreStopped ws
+  stopped_files whole [] h = tt
+  stopped_files whole (w ∷ ws) h = (h.0.1, stopped_files whole ws h.1)
+
+  stopped_append : (xs ys : List (Worked I K)) → AreStopped xs → AreStopped ys → AreStopped (xs ++ ys)
+  stopped_append [] ys h k = k
+  stopped_append (x ∷ xs) ys h k = (h.0, stopped_append xs ys h.1 k)
+
+  no_usage : (ws : List (Worked I K)) → AreStopped ws → greatest (map (λ w. w.status) ws) ≢ Usage
+  no_usage [] h e = absurd (none e)
+    where
+      none : Done ≡ Usage → ⊥
+      none f = cc
+  no_usage (w ∷ ws) h e = ⊎_elim h.0.usage (no_usage ws h.1) (greater_is w.status (greatest (map (λ (v : Worked I K). v.status) ws)) Usage e)
+
+  module _ (tells : Bool) (input : List ℕ → Option (List ℕ)) (before now : ℕ) where
+    reads_of : (names : List (List ℕ)) (ws : List (Worked I K)) → AreStopped ws → AreNew left reads taken writes tells input names (map (λ w. w.given) ws) → greatest (map (λ w. w.status) ws) ≡ ReadFault
+        → RoseFor (λ (file : I × K). reads file.0) before now (map (λ w. w.back) ws) → Rose before now
+    reads_of [] [] h new e rose = absurd (none e)
+      where
+        none : Done ≡ ReadFault → ⊥
+        none f = cc
+    reads_of (name ∷ names) (w ∷ ws) h new e rose =
+        ⊎_elim
+        (λ here. rose.0 (rose_from_none (reads w.back.0) (subst (λ (n : ℕ). Rose n (reads w.back.0)) new.0.no_reads (h.0.read_fault here))))
+        (λ other. reads_of names ws h.1 new.1 other rose.1)
+        (greater_is w.status (greatest (map (λ (v : Worked I K). v.status) ws)) ReadFault e)
+    reads_of [] (w ∷ ws) h new e rose = absurd new
+    reads_of (name ∷ names) [] h new e rose = absurd new
+
+    writes_of : (names : List (List ℕ)) (ws : List (Worked I K)) → AreStopped ws → AreNew left reads taken writes tells input names (map (λ w. w.given) ws) → greatest (map (λ w. w.status) ws) ≡ WriteFault
+        → RoseFor (λ (file : I × K). writes file.1) before now (map (λ w. w.back) ws) → Rose before now
+    writes_of [] [] h new e rose = absurd (none e)
+      where
+        none : Done ≡ WriteFault → ⊥
+        none f = cc
+    writes_of (name ∷ names) (w ∷ ws) h new e rose =
+        ⊎_elim
+        (λ here. rose.0 (rose_from_none (writes w.back.1) (subst (λ (n : ℕ). Rose n (writes w.back.1)) new.0.no_writes (h.0.write_fault here))))
+        (λ other. writes_of names ws h.1 new.1 other rose.1)
+        (greater_is w.status (greatest (map (λ (v : Worked I K). v.status) ws)) WriteFault e)
+    writes_of [] (w ∷ ws) h new e rose = absurd new
+    writes_of (name ∷ names) [] h new e rose = absurd new
+
+  -- a run as a whole
+  module _ (entries : List Accepted) (halted : Bool) (status : Status) (decks : ℕ) (files outs : List (I × K)) (together : RunsTogether left reads taken writes base entries halted status (take decks files) (drop decks files) outs) where
+    all_stopped : AreStopped (together.deck_workers ++ together.file_workers)
+    all_stopped =
+        stopped_append together.deck_workers together.file_workers (stopped_decks (all_of entries halted) 0 together.deck_workers together.are_decks) (stopped_files (all_of entries halted) together.file_workers together.are_files)
+
+    all_given : map (λ w. w.given) (together.deck_workers ++ together.file_workers) ≡ files
+    all_given =
+        map-append (λ (w : Worked I K). w.given) together.deck_workers together.file_workers
+        ∙ ap (λ xs. xs ++ map (λ (w : Worked I K). w.given) together.file_workers) together.decks_are
+        ∙ ap (λ xs. take decks files ++ xs) together.requests_are
+        ∙ take-append-drop decks files
+
+    pub outs_length : length outs ≡ length files
+    outs_length =
+        sym (ap length together.outs_are) ∙ length-map (together.deck_workers ++ together.file_workers) (λ (w : Worked I K). w.back)
+        ∙ sym (length-map (together.deck_workers ++ together.file_workers) (λ (w : Worked I K). w.given)) ∙ ap length all_given
+
+    pub run_no_usage : status ≢ Usage
+    run_no_usage e = no_usage (together.deck_workers ++ together.file_workers) all_stopped (sym together.status_is ∙ e)
+
+    pub run_reads : (tells : Bool) (input : List ℕ → Option (List ℕ)) (names : List (List ℕ)) (before now : ℕ) → AreNew left reads taken writes tells input names files
+        → RoseFor (λ (file : I × K). reads file.0) before now outs → status ≡ ReadFault → Rose before now
+    run_reads tells input names before now new rose e =
+        reads_of tells input before now names (together.deck_workers ++ together.file_workers) all_stopped
+        (subst (AreNew left reads taken writes tells input names) (sym all_given) new) (sym together.status_is ∙ e)
+        (subst (RoseFor (λ (file : I × K). reads file.0) before now) (sym together.outs_are) rose)
+
+    pub run_writes : (tells : Bool) (input : List ℕ → Option (List ℕ)) (names : List (List ℕ)) (before now : ℕ) → AreNew left reads taken writes tells input names files
+        → RoseFor (λ (file : I × K). writes file.1) before now outs → status ≡ WriteFault → Rose before now
+    run_writes tells input names before now new rose e =
+        writes_of tells input before now names (together.deck_workers ++ together.file_workers) all_stopped
+        (subst (AreNew left reads taken writes tells input names) (sym all_given) new) (sym together.status_is ∙ e)
+        (subst (RoseFor (λ (file : I × K). writes file.1) before now) (sym together.outs_are) rose)
+
+-- ---- what is open
+pub opens_none : (names : List (List ℕ)) (old between new : List ℕ → Bool) → OthersStay names old between → ((other : List ℕ) → new other ≡ true → (between other ≡ true) × (is_among other (map output_name names) ≡ false)) → OpensNone old new
+opens_none names old between new others closed other h = let before = closed other h in sym (others other before.1) ∙ before.0
+

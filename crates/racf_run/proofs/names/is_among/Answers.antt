@@ -1,0 +1,10 @@
+use Rattle.std.proofs.Common.{string_bytes, bytes_eq, sym, ◌∙◌, rules}
+use Rattle.std.proofs.lemmas.Iterator.{YieldsList-from_slice}
+use Rattle.std.proofs.lemmas.Iterator.Search.{any_from_yields_List}
+use Rattle.racf_run.proofs.WordLaws.{among_map}
+use Rattle.racf_run.proofs.names.is_among.Goals as goal
+
+pub returns : goal.returns
+returns c =
+    any_from_yields_List (λ other. bytes_eq c.args.name.now (string_bytes other)) _ _ _ c.any.ensures.ran (YieldsList-from_slice c.args.names.now cc) (λ x b q k. search rules)
+    ∙ sym (among_map string_bytes c.args.name.now c.args.names.now)

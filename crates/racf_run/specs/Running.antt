@@ -1,0 +1,146 @@
+-- The words `run K NAME..`, and what the program does to the shelf and to the database for them.
+use Rattle.std.specs.Prelude.{◌≡◌, ◌⊎◌, ℕ, ◌+◌, suc, nat_le, Bool, true, false, ◌&&◌, not, Option, Some, None, option_and_then, Result, List, [], ◌∷◌, ◌++◌, length, take, drop, map, codes, if◌then◌else◌}
+use Rattle.std.specs.List.{sum_by}
+use Rattle.std.specs.Str.{bytes_eq}
+use Rattle.racf_outside.specs.declared.streams.Failed.{Failed}
+use Rattle.racf_outside.specs.Disk.{History}
+use Rattle.racf_outside.specs.Shelf.{told}
+use Rattle.racf_desk.specs.Position.{Position}
+use Rattle.command_history.specs.declared.events.Accepted.{Accepted}
+use Rattle.command_history.specs.declared.events.Event.{Event}
+use Rattle.command_history.specs.Events.{all_of}
+use Rattle.command_history.specs.Reached.{reached, AreLegal}
+use Rattle.racroute.specs.Disks.{StandAt}
+use Rattle.racroute.specs.Kept.{fault_count}
+use Rattle.request_files.specs.Spellings.{number_word}
+use Rattle.racf_stream.specs.declared.status.Status.{Status}
+use Rattle.racf_stream.specs.declared.status.Status.TheVariants.{ReadFault, WriteFault, NoMemory}
+use Rattle.racf_threads.specs.Outputs.{DeckRan, FileRan}
+use Rattle.racf_threads.specs.Together.{greatest}
+use Rattle.racf_run.specs.declared.opening.Unopened.{Unopened}
+use Rattle.racf_run.specs.declared.opening.Unopened.TheVariants.{Input, Output}
+use Rattle.racf_run.specs.Opening.{output_name, is_among, are_distinct, Opened, Returned, OpensNeither, OthersStay, AreEmpty}
+
+-- ---- the words
+
+-- how many of the names are decks, and the names: decks, then request files
+pub record RunWords : Type 0 where
+  pub decks : ℕ
+  pub names : List (List ℕ)
+
+abbrev pub deck_names : RunWords → List (List ℕ)
+deck_names asked = take asked.decks asked.names
+
+abbrev pub request_names : RunWords → List (List ℕ)
+request_names asked = drop asked.decks asked.names
+
+-- No output is among the names.
+abbrev pub are_apart : (outputs names : List (List ℕ)) → Bool
+are_apart [] names = true
+are_apart (output ∷ outputs) names = not (is_among output names) && are_apart outputs names
+
+-- From 1 to 4 decks, and at most 16 request files; no name stands twice, and none is the output of another.
+abbrev pub are_run_words : ℕ → List (List ℕ) → Bool
+are_run_words decks names =
+    nat_le 1 decks && nat_le decks 4 && nat_le decks (length names) && nat_le (length names) (decks + 16)
+    && are_distinct names && are_apart (map output_name names) names
+
+abbrev pub if_run : List (List ℕ) → ℕ → Option RunWords
+if_run names decks = if are_run_words decks names then Some (record { decks = decks; names = names }) else None
+
+-- `run K NAME..`
+abbrev pub run_words : List (List ℕ) → Option RunWords
+run_words (verb ∷ count ∷ names) = if bytes_eq verb (codes "run") then option_and_then (if_run names) (number_word count) else None
+run_words others = None
+
+-- ---- the files
+
+-- A worker's name, how it ended, and for a deck how many of its commands a disk failed.
+pub record Named : Type 0 where
+  pub name : List ℕ
+  pub status : Status
+  pub faults : ℕ
+
+-- The run began at `base`, and its history is `whole`; `input` is what an input has to give, and `output` what the output
+-- that was given back under a name holds, which was new and empty.
+module _ (base : Position) (whole : List Event) (tells : Bool) (input output : List ℕ → Option (List ℕ)) where
+  -- the decks, which number from this one on
+  abbrev pub DecksNamed : (deck : ℕ) → List Named → Type 0
+  DecksNamed deck [] = Unit {0}
+  DecksNamed deck (w ∷ workers) =
+      ((left : Option (List ℕ)) × DeckRan base whole deck w.faults w.status (input w.name) left (told tells []) (output (output_name w.name)))
+      × DecksNamed (suc deck) workers
+
+  abbrev pub FilesNamed : List Named → Type 0
+  FilesNamed [] = Unit {0}
+  FilesNamed (w ∷ workers) =
+      ((left : Option (List ℕ)) × FileRan base whole w.status (input w.name) left (told tells []) (output (output_name w.name)))
+      × FilesNamed workers
+
+-- Decks and request files of these names were worked: the output of each is that of its worker, in one and the same
+-- history, whose entries are legal from the base on. The status is the greatest of the workers', and of all lines one
+-- says DISKFAULT where a disk failed a command, else none. Whatever a crash now leaves of both disks stands for the
+-- position behind that history. The outputs told `old` before and tell `new` now, and those of other names are as they
+-- were.
+pub record NamedRan (first second : Option History) (base : Position) (tells : Bool) (status : Status) (asked : RunWords) (input old new : List ℕ → Option (List ℕ)) : Type 0 where
+  pub entries : List Accepted
+  pub halted : Bool
+  pub decks : List Named
+  pub files : List Named
+  pub are_decks : DecksNamed base (all_of entries halted) tells input new 0 decks
+  pub are_files : FilesNamed base (all_of entries halted) tells input new files
+  pub deck_names_are : map (λ w. w.name) decks ≡ deck_names asked
+  pub file_names_are : map (λ w. w.name) files ≡ request_names asked
+  pub status_is : status ≡ greatest (map (λ w. w.status) (decks ++ files))
+  pub one_fault : sum_by (λ w. w.faults) decks ≡ fault_count halted
+  pub legal : AreLegal base entries
+  pub stand : StandAt halted first second (reached base (all_of entries halted))
+  pub others : OthersStay asked.names old new
+
+-- ---- the calls of the shelf
+
+-- the status where a file couldn't be opened
+abbrev pub unopened_status : Unopened → Status
+unopened_status Input = ReadFault
+unopened_status Output = WriteFault
+
+-- The calls that the program makes of a shelf of the kind S, whose inputs are of the kind I and whose outputs of the
+-- kind O: `source` and the other three say that a call was made. `output` is what the outputs of a shelf tell.
+module _ {S I O : Type 0} (source : S → List ℕ → Result I Failed → S → Type 0) (sink : S → List ℕ → Result O Failed → S → Type 0) (take_back : S → List ℕ → I → S → Type 0) (give_back : S → List ℕ → O → S → Type 0) (tells : Bool) (output : S → List ℕ → Option (List ℕ)) where
+  -- There was no memory for the names of the outputs or for the list of files, and nothing was called. Q is what stands
+  -- where nothing was run.
+  pub record OpensNoFile (Q : Type 0) (status : Status) (old new : S) : Type 0 where
+    pub stands : Q
+    pub is_status : status ≡ NoMemory
+    pub kept : new ≡ old
+
+  -- The files of some names were opened, those of the next weren't, and the former were handed back, with nothing written.
+  pub record OpensSome (Q : Type 0) (status : Status) (names : List (List ℕ)) (old new : S) : Type 0 where
+    pub stands : Q
+    pub why : Unopened
+    pub is_status : status ≡ unopened_status why
+    pub front : List (List ℕ)
+    pub name : List ℕ
+    pub rest : List (List ℕ)
+    pub in_order : names ≡ front ++ name ∷ rest
+    pub files : List (I × O)
+    pub first : S
+    pub second : S
+    pub opened : Opened source sink take_back give_back front files old first
+    pub failed : OpensNeither source sink take_back give_back why name first second
+    pub returned : Returned source sink take_back give_back front files second new
+    pub empty : AreEmpty tells (output new) front
+    pub others : OthersStay names (output old) (output new)
+
+  -- All were opened, worked, and handed back: P is what was run.
+  pub record OpensAll (P : Type 0) (names : List (List ℕ)) (old new : S) : Type 0 where
+    pub files : List (I × O)
+    pub worked : List (I × O)
+    pub first : S
+    pub opened : Opened source sink take_back give_back names files old first
+    pub returned : Returned source sink take_back give_back names worked first new
+    pub ran : P
+
+  -- how the program ends, where P is what it ran, and Q what stands where it ran nothing
+  abbrev pub RunsFiles : (P Q : Type 0) → Status → (names : List (List ℕ)) → (old new : S) → Type 0
+  RunsFiles P Q status names old new = OpensNoFile Q status old new ⊎ (OpensSome Q status names old new ⊎ OpensAll P names old new)

@@ -1,0 +1,158 @@
+//! The words `run K NAME..`: decks and request files of a shelf, worked side by side.
+
+ghost use Rattle.std.specs.Prelude.{ℕ, ◌≡◌, ◌≢◌, ◌⊎◌, ◌≤◌, true, false, List, Option, map, string_bytes};
+ghost use Rattle.racf_outside.specs.Causes.{Rose};
+ghost use Rattle.racf_outside.specs.Shelf.{SameBytes};
+ghost use Rattle.racroute.specs.Disks.{StandAt};
+ghost use Rattle.racf_run.specs.Opening.{output_name, AreNew, AreOpen, OthersStay, ClosesAll, ReturnsSome};
+ghost use Rattle.racf_run.specs.Racf.{OpensNoDatabase, OpensDatabase, OpensNone};
+ghost use Rattle.racf_run.specs.Running.{are_run_words, unopened_status, NamedRan, RunsFiles};
+
+use crate::names::RunWords;
+use crate::opening::{Unopened, open_all, return_files, room_for};
+use crate::top::opening_status;
+use racf_desk::Desk;
+use racf_outside::{Disk, Shelf, Two};
+use racf_stream::Status;
+use racf_threads::{Ran, run_files};
+use racf_workers::Gate;
+use std::alloc::Global;
+use std::sync::Wait;
+use std::thread::Threads;
+
+/// Opens the database on the disks, and works the files that the words name.
+pub(crate) fn run_on<F: Shelf, D: Disk + Send, G: Gate + Sync, R: Wait + Threads + Sync>(
+    rt: &R,
+    alloc: Global,
+    asked: RunWords<'_>,
+    shelf: &mut F,
+    disks: Two<D>,
+    gate: &G,
+) -> (Status, Two<D>)
+where
+    F::In: Drop + Send,
+    F::Out: Drop + Send,
+    requires form { are_run_words asked.decks (map string_bytes asked.names.now) ≡ true }
+    ensures runs { OpensNoDatabase (D.tells disks.first) (D.tells disks.second) result.0 shelf.old shelf.new
+        ⊎ OpensDatabase (D.tells disks.first) (D.tells disks.second) (λ base. RunsFiles F.source_gives F.sink_gives F.take_back_gives F.give_back_gives F.tells F.output
+        (NamedRan (D.tells result.1.first) (D.tells result.1.second) base F.tells result.0 (record { decks = asked.entry.decks; names = map string_bytes asked.entry.names.now })
+        (F.input shelf.old) (F.output shelf.old) (F.output shelf.new))
+        (StandAt false (D.tells result.1.first) (D.tells result.1.second) base)
+        result.0 (map string_bytes asked.entry.names.now) shelf.old shelf.new) }
+    ensures usage { result.0 ≢ Status.Usage }
+    ensures read_fault { result.0 ≡ Status.ReadFault → Rose (F.source_faults shelf.old) (F.source_faults shelf.new) }
+    ensures write_fault { result.0 ≡ Status.WriteFault → Rose (F.sink_faults shelf.old) (F.sink_faults shelf.new) }
+    ensures disk_fault { result.0 ≡ Status.DiskFault → Rose (D.faults disks.first) (D.faults result.1.first) }
+    ensures inputs { SameBytes (F.input shelf.old) (F.input shelf.new) }
+    ensures handed_back { OpensNone (F.is_open shelf.old) (F.is_open shelf.new) }
+    ensures source_faults { F.source_faults shelf.old ≤ F.source_faults shelf.new }
+    ensures sink_faults { F.sink_faults shelf.old ≤ F.sink_faults shelf.new }
+    ensures disk_faults { D.faults disks.first ≤ D.faults result.1.first }
+{
+    match Desk::open(alloc, disks) {
+        Ok(desk) => run_between(rt, alloc, asked, shelf, desk, gate),
+        Err((disks, why)) => (opening_status(why), disks),
+    }
+}
+
+/// Works the files that the words name at a desk that was opened.
+fn run_between<F: Shelf, D: Disk + Send, G: Gate + Sync, R: Wait + Threads + Sync>(
+    rt: &R,
+    alloc: Global,
+    asked: RunWords<'_>,
+    shelf: &mut F,
+    desk: Desk<D>,
+    gate: &G,
+) -> (Status, Two<D>)
+where
+    F::In: Drop + Send,
+    F::Out: Drop + Send,
+    requires form { are_run_words asked.decks (map string_bytes asked.names.now) ≡ true }
+    requires running { desk.halted ≡ false }
+    requires settled { desk.committed ≡ false }
+    ensures runs { RunsFiles F.source_gives F.sink_gives F.take_back_gives F.give_back_gives F.tells F.output
+        (NamedRan (D.tells result.1.first) (D.tells result.1.second) desk.position F.tells result.0 (record { decks = asked.entry.decks; names = map string_bytes asked.entry.names.now })
+        (F.input shelf.old) (F.output shelf.old) (F.output shelf.new))
+        (StandAt false (D.tells result.1.first) (D.tells result.1.second) desk.position)
+        result.0 (map string_bytes asked.entry.names.now) shelf.old shelf.new }
+    ensures usage { result.0 ≢ Status.Usage }
+    ensures read_fault { result.0 ≡ Status.ReadFault → Rose (F.source_faults shelf.old) (F.source_faults shelf.new) }
+    ensures write_fault { result.0 ≡ Status.WriteFault → Rose (F.sink_faults shelf.old) (F.sink_faults shelf.new) }
+    ensures disk_fault { result.0 ≡ Status.DiskFault → Rose (D.faults desk.store.journal.disk) (D.faults result.1.first) }
+    ensures inputs { SameBytes (F.input shelf.old) (F.input shelf.new) }
+    ensures handed_back { OpensNone (F.is_open shelf.old) (F.is_open shelf.new) }
+    ensures source_faults { F.source_faults shelf.old ≤ F.source_faults shelf.new }
+    ensures sink_faults { F.sink_faults shelf.old ≤ F.sink_faults shelf.new }
+    ensures disk_faults { D.faults desk.store.journal.disk ≤ D.faults result.1.first }
+{
+    desk.is_at_rest();
+    let names = asked.names;
+    let Ok((outputs, files)) = room_for(alloc, names) else {
+        return (Status::NoMemory, desk.into_disks());
+    };
+    let outputs = outputs.as_slice();
+    match open_all(shelf, names, outputs, files) {
+        Ok(files) => work_files(rt, alloc, asked, outputs, shelf, desk, files, gate),
+        Err(why) => (unopened_status(why), desk.into_disks()),
+    }
+}
+
+/// Works files that were opened at a desk, and hands them back.
+fn work_files<F: Shelf, D: Disk + Send, G: Gate + Sync, R: Wait + Threads + Sync>(
+    rt: &R,
+    alloc: Global,
+    asked: RunWords<'_>,
+    outputs: &[String],
+    shelf: &mut F,
+    desk: Desk<D>,
+    files: Vec<(F::In, F::Out)>,
+    gate: &G,
+) -> (Status, Two<D>)
+where
+    F::In: Drop + Send,
+    F::Out: Drop + Send,
+    requires form { are_run_words asked.decks (map string_bytes asked.names.now) ≡ true }
+    requires outputs { map string_bytes outputs.now ≡ map output_name (map string_bytes asked.names.now) }
+    requires running { desk.halted ≡ false }
+    requires settled { desk.committed ≡ false }
+    requires new { AreNew F.In.left F.In.faults F.Out.taken F.Out.faults F.tells (F.input shelf.old) (map string_bytes asked.names.now) files.items }
+    requires open { AreOpen (F.is_open shelf.old) (map string_bytes asked.names.now) }
+
+    // The inputs had told the same before the files were opened, and the outputs of other names too.
+    ensures ran { (input before : List ℕ → Option (List ℕ))
+        → AreNew F.In.left F.In.faults F.Out.taken F.Out.faults F.tells input (map string_bytes asked.entry.names.now) files.items
+        → OthersStay (map string_bytes asked.entry.names.now) before (F.output shelf.old)
+        → NamedRan (D.tells result.1.first) (D.tells result.1.second) desk.position F.tells result.0 (record { decks = asked.entry.decks; names = map string_bytes asked.entry.names.now })
+        input before (F.output shelf.new) }
+    ensures returned { ReturnsSome F.source_gives F.sink_gives F.take_back_gives F.give_back_gives (map string_bytes asked.entry.names.now) shelf.old shelf.new }
+    ensures usage { result.0 ≢ Status.Usage }
+    ensures read_fault { result.0 ≡ Status.ReadFault → Rose (F.source_faults shelf.old) (F.source_faults shelf.new) }
+    ensures write_fault { result.0 ≡ Status.WriteFault → Rose (F.sink_faults shelf.old) (F.sink_faults shelf.new) }
+    ensures disk_fault { result.0 ≡ Status.DiskFault → Rose (D.faults desk.store.journal.disk) (D.faults result.1.first) }
+    ensures inputs { SameBytes (F.input shelf.old) (F.input shelf.new) }
+    ensures closed { ClosesAll (map string_bytes asked.entry.names.now) (F.is_open shelf.old) (F.is_open shelf.new) }
+    ensures source_faults { F.source_faults shelf.old ≤ F.source_faults shelf.new }
+    ensures sink_faults { F.sink_faults shelf.old ≤ F.sink_faults shelf.new }
+    ensures disk_faults { D.faults desk.store.journal.disk ≤ D.faults result.1.first }
+{
+    let Ran {
+        status,
+        outs,
+        disks,
+        first: _,
+        accepted: _,
+        halted: _,
+    } = run_files(rt, alloc, desk, files, asked.decks, gate);
+    return_files(shelf, asked.names, outputs, outs);
+    (status, disks)
+}
+
+/// The status where a file couldn't be opened.
+fn unopened_status(why: Unopened) -> Status
+    ensures { result ≡ unopened_status why }
+{
+    match why {
+        Unopened::Input => Status::ReadFault,
+        Unopened::Output => Status::WriteFault,
+    }
+}

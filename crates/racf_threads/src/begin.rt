@@ -8,7 +8,7 @@ ghost use Rattle.racf_desk.specs.Made.{number_at};
 ghost use Rattle.command_history.specs.Events.{all_of, Extends};
 ghost use Rattle.command_history.specs.Reached.{reached, AreLegal};
 ghost use Rattle.racroute.specs.Core.{new_passes};
-ghost use Rattle.racroute.specs.Disks.{StandAt};
+ghost use Rattle.racroute.specs.Disks.{StandAt, StaysAlong};
 ghost use Rattle.racroute.specs.Kept.{fault_count};
 ghost use Rattle.racf_threads.specs.Together.{RunsTogether};
 ghost use Rattle.racf_threads.specs.Working.{HasWorked};
@@ -57,6 +57,7 @@ pub(crate) fn begun<
     requires image { arc_value opened.1 ≡ J.base.image }
     requires base { desk.position ≡ J.base }
     requires faults { J.faults ≡ D.faults desk.store.journal.disk }
+    requires before { (J.first_disk ≡ D.tells desk.store.journal.disk) × (J.second_disk ≡ D.tells desk.store.second) }
     requires running { desk.halted ≡ false }
     requires settled { desk.committed ≡ false }
     requires some { 0 < vec_len files }
@@ -68,6 +69,8 @@ pub(crate) fn begun<
     ensures legal { IfOk result (λ ran. AreLegal J.base ran.accepted.items) }
     ensures first { IfOk result (λ ran. ran.first ≡ number_at J.base) }
     ensures disks { IfOk result (λ ran. StandAt ran.halted (D.tells ran.disks.first) (D.tells ran.disks.second) (reached J.base (all_of ran.accepted.items ran.halted))) }
+    ensures moments { IfOk result (λ ran. StaysAlong J.base (all_of ran.accepted.items ran.halted) J.second_disk J.first_disk (D.tells ran.disks.first)) }
+    ensures second { IfOk result (λ ran. D.tells ran.disks.second ≡ J.second_disk) }
     ensures rose { IfOk result (λ ran. ran.halted ≡ true → Rose J.faults (D.faults ran.disks.first)) }
     ensures disk_fault { IfOk result (λ ran. ran.status ≡ Status.DiskFault → ran.halted ≡ true) }
     ensures no_fewer { IfOk result (λ ran. J.faults ≤ D.faults ran.disks.first) }
@@ -111,6 +114,8 @@ pub(crate) fn unbegun<I: Source, K: Sink, D: Disk>(
     ensures legal { AreLegal desk.position result.accepted.items }
     ensures first { result.first ≡ number_at desk.position }
     ensures disks { StandAt result.halted (D.tells result.disks.first) (D.tells result.disks.second) (reached desk.position (all_of result.accepted.items result.halted)) }
+    ensures moments { StaysAlong desk.position (all_of result.accepted.items result.halted) (D.tells desk.store.second) (D.tells desk.store.journal.disk) (D.tells result.disks.first) }
+    ensures second { D.tells result.disks.second ≡ D.tells desk.store.second }
     ensures faults { D.faults result.disks.first ≡ D.faults desk.store.journal.disk }
 {
     desk.is_at_rest();
@@ -166,6 +171,8 @@ fn ran<
     ensures legal { AreLegal J.base result.accepted.items }
     ensures first { result.first ≡ number_at J.base }
     ensures disks { StandAt result.halted (D.tells result.disks.first) (D.tells result.disks.second) (reached J.base (all_of result.accepted.items result.halted)) }
+    ensures moments { StaysAlong J.base (all_of result.accepted.items result.halted) J.second_disk J.first_disk (D.tells result.disks.first) }
+    ensures second { D.tells result.disks.second ≡ J.second_disk }
     ensures rose { result.halted ≡ true → Rose J.faults (D.faults result.disks.first) }
     ensures disk_fault { result.status ≡ Status.DiskFault → result.halted ≡ true }
     ensures no_fewer { J.faults ≤ D.faults result.disks.first }
@@ -252,6 +259,8 @@ fn closed<
     ensures faults { sum_by (λ e. e.faults) ends.items ≡ fault_count result.halted }
     ensures first { result.first ≡ number_at J.base }
     ensures disks { StandAt result.halted (D.tells result.disks.first) (D.tells result.disks.second) (reached J.base (all_of result.accepted.items result.halted)) }
+    ensures moments { StaysAlong J.base (all_of result.accepted.items result.halted) J.second_disk J.first_disk (D.tells result.disks.first) }
+    ensures second { D.tells result.disks.second ≡ J.second_disk }
     ensures no_fewer { J.faults ≤ D.faults result.disks.first }
     ensures rose { result.halted ≡ true → Rose J.faults (D.faults result.disks.first) }
 {

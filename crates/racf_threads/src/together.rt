@@ -5,7 +5,7 @@ ghost use Rattle.racf_outside.specs.Causes.{Rose};
 ghost use Rattle.racf_desk.specs.Made.{number_at};
 ghost use Rattle.command_history.specs.Events.{all_of};
 ghost use Rattle.command_history.specs.Reached.{reached, AreLegal};
-ghost use Rattle.racroute.specs.Disks.{StandAt};
+ghost use Rattle.racroute.specs.Disks.{StandAt, StaysAlong};
 ghost use Rattle.racf_threads.specs.Together.{RunsTogether, HasNoRoom};
 
 use crate::begin::{begun, unbegun};
@@ -66,8 +66,10 @@ pub fn run<
     ensures legal { AreLegal desk.position result.accepted.items }
     ensures first { result.first ≡ number_at desk.position }
 
-    // What every crash leaves of the disks behind it.
+    // What every crash leaves of the disks: at every moment of it, and behind it.
+    ensures moments { StaysAlong desk.position (all_of result.accepted.items result.halted) (D.tells desk.store.second) (D.tells desk.store.journal.disk) (D.tells result.disks.first) }
     ensures disks { StandAt result.halted (D.tells result.disks.first) (D.tells result.disks.second) (reached desk.position (all_of result.accepted.items result.halted)) }
+    ensures second { D.tells result.disks.second ≡ D.tells desk.store.second }
     ensures rose { result.halted ≡ true → Rose (D.faults desk.store.journal.disk) (D.faults result.disks.first) }
     ensures disk_fault { result.status ≡ Status.DiskFault → result.halted ≡ true }
     ensures no_fewer { D.faults desk.store.journal.disk ≤ D.faults result.disks.first }
@@ -109,8 +111,10 @@ pub fn run_files<
     ensures legal { AreLegal desk.position result.accepted.items }
     ensures first { result.first ≡ number_at desk.position }
 
-    // What every crash leaves of the disks behind it.
+    // What every crash leaves of the disks: at every moment of it, and behind it.
+    ensures moments { StaysAlong desk.position (all_of result.accepted.items result.halted) (D.tells desk.store.second) (D.tells desk.store.journal.disk) (D.tells result.disks.first) }
     ensures disks { StandAt result.halted (D.tells result.disks.first) (D.tells result.disks.second) (reached desk.position (all_of result.accepted.items result.halted)) }
+    ensures second { D.tells result.disks.second ≡ D.tells desk.store.second }
     ensures rose { result.halted ≡ true → Rose (D.faults desk.store.journal.disk) (D.faults result.disks.first) }
     ensures disk_fault { result.status ≡ Status.DiskFault → result.halted ≡ true }
     ensures no_fewer { D.faults desk.store.journal.disk ≤ D.faults result.disks.first }

@@ -1,6 +1,6 @@
 use Rattle.std.proofs.Common.{◌≡◌, ◌<◌, length, [], false, refl, arith, rules}
 use Rattle.racf_threads.proofs.Parts.{idle_over}
-use Rattle.racf_threads.proofs.Rests.{rests}
+use Rattle.racf_threads.proofs.Rests.{rests, rested}
 use Rattle.racf_threads.proofs.begin.unbegun.Goals as goal
 
 pub returns-clause-together : goal.returns-clause-together
@@ -13,3 +13,8 @@ pub returns-clause-disks : goal.returns-clause-disks
 returns-clause-disks g c =
     let none : c.new-accepted.result.items ≡ [] = search rules in
     rw none (rests g.D.Disk.tells c.args.desk.store c.into_disks-disks.result.first c.into_disks-disks.result.second c.args.desk.position c.into_disks-disks.ensures.first c.into_disks-disks.ensures.second (c.is_at_rest.ensures c.requires.running))
+
+pub returns-clause-moments : goal.returns-clause-moments
+returns-clause-moments g c =
+    let none : c.new-accepted.result.items ≡ [] = search rules in
+    rw none (rested g.D.Disk.tells c.args.desk.store c.into_disks-disks.result.first c.args.desk.position c.into_disks-disks.ensures.first (c.is_at_rest.ensures c.requires.running))

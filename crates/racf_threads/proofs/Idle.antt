@@ -65,18 +65,18 @@ module _ {I K : Type 0} (left : I → Option (List ℕ)) (reads : I → ℕ) (ta
   decks_gave : (deck : ℕ) (decks : List (I × K)) → DecksGave left reads taken writes base (all_of [] false) deck (map idle decks) (passes_from deck (length decks))
   decks_gave deck [] = tt
   decks_gave deck (given ∷ decks) = (
-      record { seen = []; gives = none_given base [] (new_pass deck) (left given.0) (left given.0) (taken given.1); later = seen_nothing },
-      stopped given,
-      refl,
-      decks_gave (suc deck) decks,
-    )
+    record { seen = []; gives = none_given base [] (new_pass deck) (left given.0) (left given.0) (taken given.1); later = seen_nothing },
+    stopped given,
+    refl,
+    decks_gave (suc deck) decks,
+  )
 
   are_files : (requests : List (I × K)) → AreFiles left reads taken writes base (all_of [] false) (map idle requests)
   are_files [] = tt
   are_files (given ∷ requests) = (
-      (record { seen = []; answers = none_answered base [] (left given.0) (left given.0) (taken given.1); later = seen_nothing }, stopped given),
-      are_files requests,
-    )
+    (record { seen = []; answers = none_answered base [] (left given.0) (left given.0) (taken given.1); later = seen_nothing }, stopped given),
+    are_files requests,
+  )
 
   pub not_begun : (decks requests : List (I × K)) → 0 < length (decks ++ requests) → RunsTogether left reads taken writes base [] false statuses.NoMemory decks requests (decks ++ requests)
   not_begun decks requests some =

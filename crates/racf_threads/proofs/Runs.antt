@@ -91,13 +91,13 @@ module _ {I K : Type 0} (left : I → Option (List ℕ)) (reads : I → ℕ) (ta
   failed whole (pass ∷ passes) (given ∷ files) [] did seen is = absurd did
   failed whole [] (given ∷ files) (new ∷ news) did seen is =
       elim (either_of new.status (greatest (map (λ w. w.status) news)) statuses.DiskFault is) [
-        inl here ↦ absurd ((answered_of given new did.0).failed here)
-      | inr there ↦ failed whole [] files news did.1 seen.1 there
+        | inl here ↦ absurd ((answered_of given new did.0).failed here)
+        | inr there ↦ failed whole [] files news did.1 seen.1 there
       ]
   failed whole (pass ∷ passes) (given ∷ files) (new ∷ news) did seen is =
       elim (either_of new.status (greatest (map (λ w. w.status) news)) statuses.DiskFault is) [
-        inl here ↦ stays_marked new.caller.events whole seen.0 ((gave_of pass given new did.0).failed here)
-      | inr there ↦ failed whole passes files news did.1 seen.1 there
+        | inl here ↦ stays_marked new.caller.events whole seen.0 ((gave_of pass given new did.0).failed here)
+        | inr there ↦ failed whole passes files news did.1 seen.1 there
       ]
 
   -- ---- request files

@@ -88,9 +88,7 @@ pub(crate) fn begun<
         Err(_) => return Err((desk, files)),
     };
     match Racf::<J, _, _, _, S, F, P, D>::start(alloc, publisher, blanks, desk, decks) {
-        Ok((racf, passes)) => Ok(ran(
-            rt, alloc, racf, callers, passes, decks, files, room, gate,
-        )),
+        Ok((racf, passes)) => Ok(ran(rt, alloc, racf, callers, passes, decks, files, room, gate)),
         Err(desk) => {
             room.give_back();
             Err((desk, files))

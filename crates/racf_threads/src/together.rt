@@ -91,14 +91,7 @@ pub fn run_files<
     D: Disk + Send,
     G: Gate + Sync,
     R: Wait + Threads + Sync,
->(
-    rt: &R,
-    alloc: Global,
-    desk: Desk<D>,
-    files: Vec<(I, K)>,
-    decks: u32,
-    gate: &G,
-) -> Ran<I, K, D>
+>(rt: &R, alloc: Global, desk: Desk<D>, files: Vec<(I, K)>, decks: u32, gate: &G) -> Ran<I, K, D>
     requires running { desk.halted ≡ false }
     requires settled { desk.committed ≡ false }
     requires few_decks { decks ≤ 4 }

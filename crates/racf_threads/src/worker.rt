@@ -62,14 +62,29 @@ impl<J: Naming, S: Ledger, F: Ledger, P: Ledger, I: Source, K: Sink> Worker<J, S
         match self.pass.take() {
             Some(pass) => {
                 let (status, source, end) = give(
-                    rt, alloc, racf, &mut self.caller, pass, source, &mut sink, gate, self.number,
+                    rt,
+                    alloc,
+                    racf,
+                    &mut self.caller,
+                    pass,
+                    source,
+                    &mut sink,
+                    gate,
+                    self.number,
                 );
                 self.end = Some(end);
                 self.leave(status, (source, sink));
             }
             None => {
                 let (status, source) = answer_requests(
-                    rt, alloc, racf, &mut self.caller, source, &mut sink, gate, self.number,
+                    rt,
+                    alloc,
+                    racf,
+                    &mut self.caller,
+                    source,
+                    &mut sink,
+                    gate,
+                    self.number,
                 );
                 self.leave(status, (source, sink));
             }

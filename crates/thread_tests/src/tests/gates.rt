@@ -81,9 +81,11 @@ impl<R: Wait> Gate for Holding<'_, R> {
         };
         let (other, awaited) = (hold.other, hold.awaited);
         let answered = self.answered.lock(self.rt);
-        let _answered = self
-            .moved
-            .wait_while(self.rt, answered, |answered| !answered.has(other, awaited));
+        let _answered = self.moved.wait_while(
+            self.rt,
+            answered,
+            |answered| !answered.has(other, awaited),
+        );
     }
 
     fn answered(&self, worker: u32, line: u64) {

@@ -73,11 +73,7 @@ pub(super) fn ran_on_failing<G: Gate + Sync, R: Wait + Threads + Sync>(
     requires few { (length asked.now.decks ≤ 4) × (length asked.now.requests ≤ 16) × (0 < length asked.now.decks) }
 {
     let disks = Two {
-        first: MemoryDisk::new(
-            alloc,
-            Vec::new(alloc),
-            Vec::from_slice(alloc, &[failing])?,
-        )?,
+        first: MemoryDisk::new(alloc, Vec::new(alloc), Vec::from_slice(alloc, &[failing])?)?,
         second: MemoryDisk::new(alloc, Vec::new(alloc), Vec::new(alloc))?,
     };
     match Desk::format(alloc, disks) {
@@ -116,10 +112,7 @@ fn over<G: Gate + Sync, D: Disk + Drop + Send, R: Wait + Threads + Sync>(
 }
 
 /// A source of each of these lines, with an empty sink.
-fn files(
-    alloc: Global,
-    texts: &[&[u8]],
-) -> Result<Vec<(MemorySource, MemorySink)>, AllocError>
+fn files(alloc: Global, texts: &[&[u8]]) -> Result<Vec<(MemorySource, MemorySink)>, AllocError>
     ensures { IfOk result (λ files. vec_len files ≡ length texts.now) }
 {
     let mut files = Vec::with_capacity(alloc, texts.len())?;

@@ -42,9 +42,9 @@ closed-disks-requires g c =
     let few : c.args.decks ≤ length c.args.files.items = omega (arith, files, fewer) in
     let written : c.seat-workers.result.len ≡ length c.side_by_side.new.workers =
     (let v = c.seat-workers.result.ok.0 in
-        let e : length c.as_mut_slice.result.now ≡ length c.seat-workers.result.items = ap length c.as_mut_slice.ensures.value in
-        let a = c.side_by_side.auto.workers in
-        omega (arith, v, e, a)) in
+    let e : length c.as_mut_slice.result.now ≡ length c.seat-workers.result.items = ap length c.as_mut_slice.ensures.value in
+    let a = c.side_by_side.auto.workers in
+    omega (arith, v, e, a)) in
     let news : List (Working g.row.I.Denot g.row.K.Denot) = take c.seat-workers.result.len (c.side_by_side.new.workers ++ drop (length c.side_by_side.new.workers) c.seat-workers.result.items) in
     let news_are : news ≡ c.side_by_side.new.workers =
     ap (λ (n : ℕ). take n (c.side_by_side.new.workers ++ drop (length c.side_by_side.new.workers) c.seat-workers.result.items)) written ∙ first_part c.side_by_side.new.workers (drop (length c.side_by_side.new.workers) c.seat-workers.result.items) in
@@ -63,9 +63,9 @@ returns-clause-together g c =
     let few : c.args.decks ≤ length c.args.files.items = omega (arith, files, fewer) in
     let written : c.seat-workers.result.len ≡ length c.side_by_side.new.workers =
     (let v = c.seat-workers.result.ok.0 in
-        let e : length c.as_mut_slice.result.now ≡ length c.seat-workers.result.items = ap length c.as_mut_slice.ensures.value in
-        let a = c.side_by_side.auto.workers in
-        omega (arith, v, e, a)) in
+    let e : length c.as_mut_slice.result.now ≡ length c.seat-workers.result.items = ap length c.as_mut_slice.ensures.value in
+    let a = c.side_by_side.auto.workers in
+    omega (arith, v, e, a)) in
     let news : List (Working g.row.I.Denot g.row.K.Denot) = take c.seat-workers.result.len (c.side_by_side.new.workers ++ drop (length c.side_by_side.new.workers) c.seat-workers.result.items) in
     let news_are : news ≡ c.side_by_side.new.workers =
     ap (λ (n : ℕ). take n (c.side_by_side.new.workers ++ drop (length c.side_by_side.new.workers) c.seat-workers.result.items)) written ∙ first_part c.side_by_side.new.workers (drop (length c.side_by_side.new.workers) c.seat-workers.result.items) in
@@ -80,9 +80,9 @@ returns-clause-disk_fault g c =
     let few : c.args.decks ≤ length c.args.files.items = omega (arith, files, fewer) in
     let written : c.seat-workers.result.len ≡ length c.side_by_side.new.workers =
     (let v = c.seat-workers.result.ok.0 in
-        let e : length c.as_mut_slice.result.now ≡ length c.seat-workers.result.items = ap length c.as_mut_slice.ensures.value in
-        let a = c.side_by_side.auto.workers in
-        omega (arith, v, e, a)) in
+    let e : length c.as_mut_slice.result.now ≡ length c.seat-workers.result.items = ap length c.as_mut_slice.ensures.value in
+    let a = c.side_by_side.auto.workers in
+    omega (arith, v, e, a)) in
     let news : List (Working g.row.I.Denot g.row.K.Denot) = take c.seat-workers.result.len (c.side_by_side.new.workers ++ drop (length c.side_by_side.new.workers) c.seat-workers.result.items) in
     let news_are : news ≡ c.side_by_side.new.workers =
     ap (λ (n : ℕ). take n (c.side_by_side.new.workers ++ drop (length c.side_by_side.new.workers) c.seat-workers.result.items)) written ∙ first_part c.side_by_side.new.workers (drop (length c.side_by_side.new.workers) c.seat-workers.result.items) in

@@ -12,8 +12,8 @@ returns g c =
     let D : Working g.row.I.Denot g.row.K.Denot → Working g.row.I.Denot g.row.K.Denot → Type 0 = HasWorked g.I.Source.left g.I.Source.faults g.K.Sink.taken g.K.Sink.faults g.J.Naming.base in
     at_each D c.args.workers.now c.for_each_mut.new.s c.for_each_mut.auto.s
     (λ i d h.
-        let k = (c.for_each_mut.ensures i d h).1 in
-        carried D k.argument.now k.after_call.now (slice_index_or c.args.workers.now i d) (slice_index_or c.for_each_mut.new.s i d) k.argument_is k.left k.call)
+    let k = (c.for_each_mut.ensures i d h).1 in
+    carried D k.argument.now k.after_call.now (slice_index_or c.args.workers.now i d) (slice_index_or c.for_each_mut.new.s i d) k.argument_is k.left k.call)
 
 pub for_each_mut-requires-sync-F : goal.for_each_mut-requires-sync-F
 for_each_mut-requires-sync-F g c κs within =

@@ -1,6 +1,6 @@
 -- What a run of files says under their names, and what its faults come of.
-use Rattle.std.proofs.Common.{◌≡◌, ◌≢◌, ◌≤◌, ◌<◌, ◌+◌, ◌-◌, ◌^◌, ℕ, suc, Bool, true, false, ◌&&◌, List, [], ◌∷◌, ◌++◌, length, map, take, drop, leb, refl, sym, ◌∙◌, ap, subst, arith, inl, inr, ⊎_elim}
-use Rattle.std.specs.Prelude.{◌⊎◌, Option, None, Result, nat_le, nat_lt, if◌then◌else◌, cond}
+use Rattle.std.proofs.Common.{◌≡◌, ◌≢◌, ◌≤◌, ◌<◌, ◌+◌, ℕ, suc, Bool, true, false, ◌&&◌, List, [], ◌∷◌, ◌++◌, length, map, take, drop, refl, sym, ◌∙◌, ap, subst, arith, inl, inr, ⊎_elim}
+use Rattle.std.specs.Prelude.{◌⊎◌, Option, nat_le, nat_lt, cond}
 use Rattle.std.specs.List.{sum_by}
 use Rattle.std.proofs.lemmas.Bool.{leb-true, false≢true}
 use Rattle.std.proofs.lemmas.List.{map-append, length-map, length-take-le, take_all, take-append-drop}
@@ -17,12 +17,12 @@ use Rattle.racroute.specs.Disks.{StandAt}
 use Rattle.racf_stream.specs.Status.{code_of}
 use Rattle.racf_stream.specs.declared.status.Status.{Status}
 use Rattle.racf_stream.specs.declared.status.Status.TheVariants.{Done, Usage, ReadFault, WriteFault, DiskFault}
-use Rattle.racf_threads.specs.Outputs.{DeckRan, FileRan, StopsFor}
-use Rattle.racf_threads.specs.Together.{Worked, HasStopped, IsDeck, IsFile, AreDecks, AreFiles, RunsTogether, greater, greatest}
+use Rattle.racf_threads.specs.Outputs.{DeckRan, FileRan}
+use Rattle.racf_threads.specs.Together.{Worked, HasStopped, AreDecks, AreFiles, RunsTogether, greater, greatest}
 use Rattle.racf_run.proofs.OpeningLaws.{AreNew-length}
-use Rattle.racf_run.specs.Opening.{output_name, is_among, are_distinct, AreNew, AreKept, AreOpen, IsNew, OthersStay, RoseFor}
+use Rattle.racf_run.specs.Opening.{output_name, is_among, are_distinct, AreNew, AreKept, OthersStay, RoseFor}
 use Rattle.racf_run.specs.Racf.{OpensNone}
-use Rattle.racf_run.specs.Running.{RunWords, deck_names, request_names, are_run_words, are_apart, Named, DecksNamed, FilesNamed, NamedRan, unopened_status}
+use Rattle.racf_run.specs.Running.{are_run_words, are_apart, Named, DecksNamed, FilesNamed, NamedRan, unopened_status}
 use Rattle.racf_run.specs.declared.opening.Unopened.{Unopened}
 use Rattle.racf_run.specs.declared.opening.Unopened.TheVariants.{Input, Output}
 

@@ -1,4 +1,4 @@
-use Rattle.std.proofs.Common.{inl, inr, refl, sym, ◌∙◌, map, string_bytes, arith}
+use Rattle.std.proofs.Common.{inl, inr, refl, sym, ◌∙◌, map, string_bytes}
 use Rattle.racf_outside.proofs.Rises.{Rose-later}
 use Rattle.racf_run.proofs.OpeningLaws.{AreNew-moved}
 use Rattle.racf_run.proofs.RunningLaws.{input_of, output_of, unopened_ends, opens_none}

@@ -1,5 +1,4 @@
-use Rattle.std.proofs.Common.{◌≡◌, ◌≤◌, ◌+◌, ℕ, List, length, map, string_bytes, take, vec_len, refl, sym, ◌∙◌, ap, subst, arith}
-use Rattle.std.specs.Prelude.{Option}
+use Rattle.std.proofs.Common.{◌≤◌, ℕ, List, length, map, string_bytes, vec_len, sym, subst, arith}
 use Rattle.std.proofs.lemmas.List.{length-map}
 use Rattle.racf_run.specs.Opening.{Returned, AreKept, AreOpen, OthersStay, ClosesAll}
 use Rattle.racf_run.proofs.OpeningLaws.{AreNew-length, OthersStay-chain}

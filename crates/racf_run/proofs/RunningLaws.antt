@@ -1,9 +1,9 @@
 -- What a run of files says under their names, and what its faults come of.
-use Rattle.std.proofs.Common.{◌≡◌, ◌≢◌, ◌≤◌, ◌<◌, ◌+◌, ◌-◌, ◌^◌, ℕ, suc, Bool, true, false, ◌&&◌, List, [], ◌∷◌, ◌++◌, length, map, take, drop, leb, refl, sym, ◌∙◌, ap, subst, arith, inl, inr, ⊎_elim}
-use Rattle.std.specs.Prelude.{◌⊎◌, Option, None, Result, nat_le, nat_lt, if◌then◌else◌, cond}
+use Rattle.std.proofs.Common.{◌≡◌, ◌≢◌, ◌≤◌, ◌<◌, ◌+◌, ℕ, suc, Bool, true, false, ◌&&◌, List, [], ◌∷◌, ◌++◌, length, map, take, drop, refl, sym, ◌∙◌, ap, subst, arith, inl, inr, ⊎_elim}
+use Rattle.std.specs.Prelude.{◌⊎◌, Option, nat_le, nat_lt, cond}
 use Rattle.std.specs.List.{sum_by}
 use Rattle.std.proofs.lemmas.Bool.{leb-true, false≢true}
-use Rattle.std.proofs.lemmas.List.{map-append, length-map, length-take-le, take-append-drop}
+use Rattle.std.proofs.lemmas.List.{map-append, length-map, length-take-le, take_all, take-append-drop}
 use Rattle.std.proofs.lemmas.List.Sums.{sum_by-cons}
 use Rattle.racf_outside.specs.Causes.{Rose}
 use Rattle.racf_outside.specs.Disk.{History}
@@ -17,11 +17,12 @@ use Rattle.racroute.specs.Disks.{StandAt}
 use Rattle.racf_stream.specs.Status.{code_of}
 use Rattle.racf_stream.specs.declared.status.Status.{Status}
 use Rattle.racf_stream.specs.declared.status.Status.TheVariants.{Done, Usage, ReadFault, WriteFault, DiskFault}
-use Rattle.racf_threads.specs.Outputs.{DeckRan, FileRan, StopsFor}
-use Rattle.racf_threads.specs.Together.{Worked, HasStopped, IsDeck, IsFile, AreDecks, AreFiles, RunsTogether, greater, greatest}
-use Rattle.racf_run.specs.Opening.{output_name, is_among, are_distinct, AreNew, AreKept, AreOpen, IsNew, OthersStay, RoseFor}
+use Rattle.racf_threads.specs.Outputs.{DeckRan, FileRan}
+use Rattle.racf_threads.specs.Together.{Worked, HasStopped, AreDecks, AreFiles, RunsTogether, greater, greatest}
+use Rattle.racf_run.proofs.OpeningLaws.{AreNew-length}
+use Rattle.racf_run.specs.Opening.{output_name, is_among, are_distinct, AreNew, AreKept, OthersStay, RoseFor}
 use Rattle.racf_run.specs.Racf.{OpensNone}
-use Rattle.racf_run.specs.Running.{RunWords, deck_names, request_names, are_run_words, are_apart, Named, DecksNamed, FilesNamed, NamedRan, unopened_status}
+use Rattle.racf_run.specs.Running.{are_run_words, are_apart, Named, DecksNamed, FilesNamed, NamedRan, unopened_status}
 use Rattle.racf_run.specs.declared.opening.Unopened.{Unopened}
 use Rattle.racf_run.specs.declared.opening.Unopened.TheVariants.{Input, Output}
 
@@ -267,10 +268,17 @@ module _ {I K : Type 0} (left : I → Option (List ℕ)) (reads : I → ℕ) (ta
         ∙ ap (λ xs. take decks files ++ xs) together.requests_are
         ∙ take-append-drop decks files
 
-    pub outs_length : length outs ≡ length files
+    outs_length : length outs ≡ length files
     outs_length =
         sym (ap length together.outs_are) ∙ length-map (together.deck_workers ++ together.file_workers) (λ (w : Worked I K). w.back)
         ∙ sym (length-map (together.deck_workers ++ together.file_workers) (λ (w : Worked I K). w.given)) ∙ ap length all_given
+
+    -- all that were given are given back
+    pub run_count : (tells : Bool) (input : List ℕ → Option (List ℕ)) (names : List (List ℕ)) (n : ℕ) → n ≡ length outs → AreNew left reads taken writes tells input names files → n ≡ length names
+    run_count tells input names n is new = is ∙ outs_length ∙ AreNew-length left reads taken writes tells input names files new
+
+    pub run_names : (tells : Bool) (input : List ℕ → Option (List ℕ)) (names : List (List ℕ)) (n : ℕ) → n ≡ length outs → AreNew left reads taken writes tells input names files → take n names ≡ names
+    run_names tells input names n is new = let count : n ≡ length names = run_count tells input names n is new in take_all n names (omega arith)
 
     pub run_no_usage : status ≢ Usage
     run_no_usage e = no_usage (together.deck_workers ++ together.file_workers) all_stopped (sym together.status_is ∙ e)

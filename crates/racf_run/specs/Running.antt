@@ -1,5 +1,5 @@
 -- The words `run K NAME..`, and what the program does to the shelf and to the database for them.
-use Rattle.std.specs.Prelude.{◌≡◌, ◌⊎◌, ℕ, ◌+◌, suc, nat_le, Bool, true, false, ◌&&◌, not, Option, Some, None, option_and_then, Result, List, [], ◌∷◌, ◌++◌, length, take, drop, map, codes, if◌then◌else◌}
+use Rattle.std.specs.Prelude.{◌≡◌, ◌⊎◌, ℕ, ◌+◌, suc, nat_le, Bool, true, ◌&&◌, not, Option, Some, None, option_and_then, Result, List, [], ◌∷◌, ◌++◌, length, take, drop, map, codes, if◌then◌else◌}
 use Rattle.std.specs.List.{sum_by}
 use Rattle.std.specs.Str.{bytes_eq}
 use Rattle.racf_outside.specs.declared.streams.Failed.{Failed}

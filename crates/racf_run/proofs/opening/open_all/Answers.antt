@@ -1,4 +1,4 @@
-use Rattle.std.proofs.Common.{◌≡◌, ◌≤◌, length, map, string_bytes, vec_len, arith}
+use Rattle.std.proofs.Common.{map, string_bytes, vec_len, arith}
 use Rattle.std.proofs.lemmas.List.{length-map}
 use Rattle.racf_run.proofs.OpeningLaws.{stopped_few, stopped_open, HasUndone-of}
 use Rattle.racf_run.proofs.opening.open_all.Goals as goal

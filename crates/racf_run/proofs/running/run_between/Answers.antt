@@ -1,4 +1,4 @@
-use Rattle.std.proofs.Common.{inl, inr, refl, sym, ◌∙◌, map, string_bytes, arith}
+use Rattle.std.proofs.Common.{inl, inr, refl, sym, ◌∙◌, map, string_bytes}
 use Rattle.racf_outside.proofs.Rises.{Rose-later}
 use Rattle.racf_run.proofs.OpeningLaws.{AreNew-moved}
 use Rattle.racf_run.proofs.RunningLaws.{input_of, output_of, unopened_ends, opens_none}
@@ -50,7 +50,7 @@ returns-clause-disk_fault g c = λ e. absurd ((unopened_ends c.in-Err.why).1 (sy
 
 -- the inputs tell what they told
 pub work_files-requires-clause-new : goal.work_files-requires-clause-new
-work_files-requires-clause-new g c =
+work_files-requires-clause-new g c κs within =
     let opened = c.in-Ok-open_all.ensures.opened in
     AreNew-moved g.F.In.Source.left g.F.In.Source.faults g.F.Out.Sink.taken g.F.Out.Sink.faults g.F.Shelf.tells (g.F.Shelf.input c.open_all.new.shelf) (g.F.Shelf.input c.args.shelf.now) (map string_bytes c.args.asked.names.now) c.in-Ok-open_all.files.items
     (λ name. sym (opened.inputs name)) opened.new_files

@@ -1,52 +1,43 @@
-use Rattle.std.proofs.Common.{◌≡◌, ◌≤◌, ◌+◌, ℕ, List, length, map, string_bytes, take, vec_len, refl, sym, ◌∙◌, ap, subst, arith}
-use Rattle.std.specs.Prelude.{Option}
-use Rattle.std.proofs.lemmas.List.{length-map, take_all}
+use Rattle.std.proofs.Common.{◌≤◌, ℕ, List, length, map, string_bytes, vec_len, sym, subst, arith}
+use Rattle.std.proofs.lemmas.List.{length-map}
 use Rattle.racf_run.specs.Opening.{Returned, AreKept, AreOpen, OthersStay, ClosesAll}
 use Rattle.racf_run.proofs.OpeningLaws.{AreNew-length, OthersStay-chain}
-use Rattle.racf_run.proofs.RunningLaws.{form_of, named_run, outs_length, run_no_usage, run_reads, run_writes}
+use Rattle.racf_run.proofs.RunningLaws.{form_of, named_run, run_count, run_names, run_no_usage, run_reads, run_writes}
 use Rattle.racf_run.proofs.running.work_files.Goals as goal
 
 -- as many files as names
 pub run_files-status-requires-clause-few_decks : goal.run_files-status-requires-clause-few_decks
-run_files-status-requires-clause-few_decks g c = (form_of c.args.asked.decks (map string_bytes c.args.asked.names.now) c.requires.form).few_decks
+run_files-status-requires-clause-few_decks g c κs within =
+    let form = form_of c.args.asked.decks (map string_bytes c.args.asked.names.now) c.requires.form in
+    form.few_decks
 
 pub run_files-status-requires-clause-are_there : goal.run_files-status-requires-clause-are_there
-run_files-status-requires-clause-are_there g c =
+run_files-status-requires-clause-are_there g c κs within =
     let form = form_of c.args.asked.decks (map string_bytes c.args.asked.names.now) c.requires.form in
     let count = AreNew-length g.F.In.Source.left g.F.In.Source.faults g.F.Out.Sink.taken g.F.Out.Sink.faults g.F.Shelf.tells (g.F.Shelf.input c.args.shelf.now) (map string_bytes c.args.asked.names.now) c.args.files.items c.requires.new in
     omega (arith, form.are_there, count, c.args.files.ok.0)
 
 pub run_files-status-requires-clause-few_requests : goal.run_files-status-requires-clause-few_requests
-run_files-status-requires-clause-few_requests g c =
+run_files-status-requires-clause-few_requests g c κs within =
     let form = form_of c.args.asked.decks (map string_bytes c.args.asked.names.now) c.requires.form in
     let count = AreNew-length g.F.In.Source.left g.F.In.Source.faults g.F.Out.Sink.taken g.F.Out.Sink.faults g.F.Shelf.tells (g.F.Shelf.input c.args.shelf.now) (map string_bytes c.args.asked.names.now) c.args.files.items c.requires.new in
     omega (arith, form.few, count, c.args.files.ok.0)
 
 pub run_files-status-requires-clause-some : goal.run_files-status-requires-clause-some
-run_files-status-requires-clause-some g c =
+run_files-status-requires-clause-some g c κs within =
     let form = form_of c.args.asked.decks (map string_bytes c.args.asked.names.now) c.requires.form in
     let count = AreNew-length g.F.In.Source.left g.F.In.Source.faults g.F.Out.Sink.taken g.F.Out.Sink.faults g.F.Shelf.tells (g.F.Shelf.input c.args.shelf.now) (map string_bytes c.args.asked.names.now) c.args.files.items c.requires.new in
     omega (arith, form.some, form.are_there, count, c.args.files.ok.0)
 
--- all that were given are given back
-back_count : (g : _) (c : goal.After-run_files-status g) → vec_len c.run_files-status.result.outs ≡ length (map string_bytes c.args.asked.names.now)
-back_count g c =
-    c.run_files-status.result.outs.ok.0
-    ∙ outs_length g.F.In.Source.left g.F.In.Source.faults g.F.Out.Sink.taken g.F.Out.Sink.faults c.args.desk.position c.run_files-status.result.accepted.items c.run_files-status.result.halted c.run_files-status.result.status c.args.asked.decks c.args.files.items c.run_files-status.result.outs.items c.run_files-status.ensures.together
-    ∙ AreNew-length g.F.In.Source.left g.F.In.Source.faults g.F.Out.Sink.taken g.F.Out.Sink.faults g.F.Shelf.tells (g.F.Shelf.input c.args.shelf.now) (map string_bytes c.args.asked.names.now) c.args.files.items c.requires.new
-
 pub return_files-requires-clause-few : goal.return_files-requires-clause-few
-return_files-requires-clause-few g c = omega (arith, back_count g c, length-map c.args.asked.names.now string_bytes)
+return_files-requires-clause-few g c =
+    omega (arith, run_count g.F.In.Source.left g.F.In.Source.faults g.F.Out.Sink.taken g.F.Out.Sink.faults c.args.desk.position c.run_files-status.result.accepted.items c.run_files-status.result.halted c.run_files-status.result.status c.args.asked.decks c.args.files.items c.run_files-status.result.outs.items c.run_files-status.ensures.together g.F.Shelf.tells (g.F.Shelf.input c.args.shelf.now) (map string_bytes c.args.asked.names.now) (vec_len c.run_files-status.result.outs) c.run_files-status.result.outs.ok.0 c.requires.new, length-map c.args.asked.names.now string_bytes)
 
 pub return_files-requires-clause-distinct : goal.return_files-requires-clause-distinct
 return_files-requires-clause-distinct g c = (form_of c.args.asked.decks (map string_bytes c.args.asked.names.now) c.requires.form).distinct
 
--- all names
-all_names : (g : _) (c : goal.After-run_files-status g) → take (vec_len c.run_files-status.result.outs) (map string_bytes c.args.asked.names.now) ≡ map string_bytes c.args.asked.names.now
-all_names g c = take_all (vec_len c.run_files-status.result.outs) (map string_bytes c.args.asked.names.now) (omega (arith, back_count g c))
-
 pub return_files-requires-clause-open : goal.return_files-requires-clause-open
-return_files-requires-clause-open g c = subst (AreOpen (g.F.Shelf.is_open c.args.shelf.now)) (sym (all_names g c)) c.requires.«open»
+return_files-requires-clause-open g c = subst (AreOpen (g.F.Shelf.is_open c.args.shelf.now)) (sym (run_names g.F.In.Source.left g.F.In.Source.faults g.F.Out.Sink.taken g.F.Out.Sink.faults c.args.desk.position c.run_files-status.result.accepted.items c.run_files-status.result.halted c.run_files-status.result.status c.args.asked.decks c.args.files.items c.run_files-status.result.outs.items c.run_files-status.ensures.together g.F.Shelf.tells (g.F.Shelf.input c.args.shelf.now) (map string_bytes c.args.asked.names.now) (vec_len c.run_files-status.result.outs) c.run_files-status.result.outs.ok.0 c.requires.new)) c.requires.«open»
 
 pub returns-clause-ran : goal.returns-clause-ran
 returns-clause-ran g c input before new others =
@@ -56,14 +47,14 @@ returns-clause-ran g c input before new others =
         omega (arith, form.are_there, AreNew-length g.F.In.Source.left g.F.In.Source.faults g.F.Out.Sink.taken g.F.Out.Sink.faults g.F.Shelf.tells input names c.args.files.items new) in
     named_run g.F.In.Source.left g.F.In.Source.faults g.F.Out.Sink.taken g.F.Out.Sink.faults g.F.Shelf.tells input (g.F.Shelf.output c.return_files.new.shelf) (g.D.Disk.tells c.run_files-status.result.disks.first) (g.D.Disk.tells c.run_files-status.result.disks.second)
     c.args.desk.position c.run_files-status.result.accepted.items c.run_files-status.result.halted c.run_files-status.result.status c.args.asked.decks names c.args.files.items c.run_files-status.result.outs.items before
-    enough new (subst (λ (ns : List (List ℕ)). AreKept g.F.Out.Sink.taken (g.F.Shelf.output c.return_files.new.shelf) ns c.run_files-status.result.outs.items) (all_names g c) c.return_files.ensures.kept)
+    enough new (subst (λ (ns : List (List ℕ)). AreKept g.F.Out.Sink.taken (g.F.Shelf.output c.return_files.new.shelf) ns c.run_files-status.result.outs.items) (run_names g.F.In.Source.left g.F.In.Source.faults g.F.Out.Sink.taken g.F.Out.Sink.faults c.args.desk.position c.run_files-status.result.accepted.items c.run_files-status.result.halted c.run_files-status.result.status c.args.asked.decks c.args.files.items c.run_files-status.result.outs.items c.run_files-status.ensures.together g.F.Shelf.tells (g.F.Shelf.input c.args.shelf.now) (map string_bytes c.args.asked.names.now) (vec_len c.run_files-status.result.outs) c.run_files-status.result.outs.ok.0 c.requires.new) c.return_files.ensures.kept)
     c.run_files-status.ensures.together c.run_files-status.ensures.legal c.run_files-status.ensures.disks
     (OthersStay-chain names before (g.F.Shelf.output c.args.shelf.now) (g.F.Shelf.output c.return_files.new.shelf) others
-    (subst (λ (ns : List (List ℕ)). OthersStay ns (g.F.Shelf.output c.args.shelf.now) (g.F.Shelf.output c.return_files.new.shelf)) (all_names g c) c.return_files.ensures.others))
+    (subst (λ (ns : List (List ℕ)). OthersStay ns (g.F.Shelf.output c.args.shelf.now) (g.F.Shelf.output c.return_files.new.shelf)) (run_names g.F.In.Source.left g.F.In.Source.faults g.F.Out.Sink.taken g.F.Out.Sink.faults c.args.desk.position c.run_files-status.result.accepted.items c.run_files-status.result.halted c.run_files-status.result.status c.args.asked.decks c.args.files.items c.run_files-status.result.outs.items c.run_files-status.ensures.together g.F.Shelf.tells (g.F.Shelf.input c.args.shelf.now) (map string_bytes c.args.asked.names.now) (vec_len c.run_files-status.result.outs) c.run_files-status.result.outs.ok.0 c.requires.new) c.return_files.ensures.others))
 
 pub returns-clause-returned : goal.returns-clause-returned
 returns-clause-returned g c =
-    (c.run_files-status.result.outs.items, subst (λ (ns : List (List ℕ)). Returned g.F.Shelf.source_gives g.F.Shelf.sink_gives g.F.Shelf.take_back_gives g.F.Shelf.give_back_gives ns c.run_files-status.result.outs.items c.args.shelf.now c.return_files.new.shelf) (all_names g c) c.return_files.ensures.calls)
+    (c.run_files-status.result.outs.items, subst (λ (ns : List (List ℕ)). Returned g.F.Shelf.source_gives g.F.Shelf.sink_gives g.F.Shelf.take_back_gives g.F.Shelf.give_back_gives ns c.run_files-status.result.outs.items c.args.shelf.now c.return_files.new.shelf) (run_names g.F.In.Source.left g.F.In.Source.faults g.F.Out.Sink.taken g.F.Out.Sink.faults c.args.desk.position c.run_files-status.result.accepted.items c.run_files-status.result.halted c.run_files-status.result.status c.args.asked.decks c.args.files.items c.run_files-status.result.outs.items c.run_files-status.ensures.together g.F.Shelf.tells (g.F.Shelf.input c.args.shelf.now) (map string_bytes c.args.asked.names.now) (vec_len c.run_files-status.result.outs) c.run_files-status.result.outs.ok.0 c.requires.new) c.return_files.ensures.calls)
 
 pub returns-clause-usage : goal.returns-clause-usage
 returns-clause-usage g c =
@@ -83,4 +74,4 @@ pub returns-clause-disk_fault : goal.returns-clause-disk_fault
 returns-clause-disk_fault g c = λ e. c.run_files-status.ensures.rose (c.run_files-status.ensures.disk_fault e)
 
 pub returns-clause-closed : goal.returns-clause-closed
-returns-clause-closed g c = subst (λ (ns : List (List ℕ)). ClosesAll ns (g.F.Shelf.is_open c.args.shelf.now) (g.F.Shelf.is_open c.return_files.new.shelf)) (all_names g c) c.return_files.ensures.closed
+returns-clause-closed g c = subst (λ (ns : List (List ℕ)). ClosesAll ns (g.F.Shelf.is_open c.args.shelf.now) (g.F.Shelf.is_open c.return_files.new.shelf)) (run_names g.F.In.Source.left g.F.In.Source.faults g.F.Out.Sink.taken g.F.Out.Sink.faults c.args.desk.position c.run_files-status.result.accepted.items c.run_files-status.result.halted c.run_files-status.result.status c.args.asked.decks c.args.files.items c.run_files-status.result.outs.items c.run_files-status.ensures.together g.F.Shelf.tells (g.F.Shelf.input c.args.shelf.now) (map string_bytes c.args.asked.names.now) (vec_len c.run_files-status.result.outs) c.run_files-status.result.outs.ok.0 c.requires.new) c.return_files.ensures.closed

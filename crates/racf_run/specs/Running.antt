@@ -10,7 +10,7 @@ use Rattle.command_history.specs.declared.events.Accepted.{Accepted}
 use Rattle.command_history.specs.declared.events.Event.{Event}
 use Rattle.command_history.specs.Events.{all_of}
 use Rattle.command_history.specs.Reached.{reached, AreLegal}
-use Rattle.racroute.specs.Disks.{StandAt}
+use Rattle.racroute.specs.Disks.{StandAt, StaysAlong}
 use Rattle.racroute.specs.Kept.{fault_count}
 use Rattle.request_files.specs.Spellings.{number_word}
 use Rattle.racf_stream.specs.declared.status.Status.{Status}
@@ -80,9 +80,10 @@ module _ (base : Position) (whole : List Event) (tells : Bool) (input output : L
 -- Decks and request files of these names were worked: the output of each is that of its worker, in one and the same
 -- history, whose entries are legal from the base on. The status is the greatest of the workers', and of all lines one
 -- says DISKFAULT where a disk failed a command, else none. Whatever a crash now leaves of both disks stands for the
--- position behind that history. The outputs told `old` before and tell `new` now, and those of other names are as they
--- were.
-pub record NamedRan (first second : Option History) (base : Position) (tells : Bool) (status : Status) (asked : RunWords) (input old new : List ℕ → Option (List ℕ)) : Type 0 where
+-- position behind that history; and at every moment since the first disk told `opened`, for where some beginning of it
+-- leads, or for one command more that a disk failed. The outputs told `old` before and tell `new` now, and those of
+-- other names are as they were.
+pub record NamedRan (opened first second : Option History) (base : Position) (tells : Bool) (status : Status) (asked : RunWords) (input old new : List ℕ → Option (List ℕ)) : Type 0 where
   pub entries : List Accepted
   pub halted : Bool
   pub decks : List Named
@@ -95,6 +96,7 @@ pub record NamedRan (first second : Option History) (base : Position) (tells : B
   pub one_fault : sum_by (λ w. w.faults) decks ≡ fault_count halted
   pub legal : AreLegal base entries
   pub stand : StandAt halted first second (reached base (all_of entries halted))
+  pub moments : StaysAlong base (all_of entries halted) second opened first
   pub others : OthersStay asked.names old new
 
 -- ---- the calls of the shelf

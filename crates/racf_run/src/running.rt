@@ -3,6 +3,8 @@
 ghost use Rattle.std.specs.Prelude.{ℕ, ◌≡◌, ◌≢◌, ◌⊎◌, ◌≤◌, true, false, List, Option, map, string_bytes};
 ghost use Rattle.racf_outside.specs.Causes.{Rose};
 ghost use Rattle.racf_outside.specs.Shelf.{SameBytes};
+ghost use Rattle.racf_outside.specs.Disk.{History};
+ghost use Rattle.racf_desk.specs.Durable.{StaysPossible};
 ghost use Rattle.racroute.specs.Disks.{StandAt};
 ghost use Rattle.racf_run.specs.Opening.{output_name, AreNew, AreOpen, OthersStay, ClosesAll, ReturnsSome};
 ghost use Rattle.racf_run.specs.Racf.{OpensNoDatabase, OpensDatabase, OpensNone};
@@ -34,8 +36,8 @@ where
     F::Out: Drop + Send,
     requires form { are_run_words asked.decks (map string_bytes asked.names.now) ≡ true }
     ensures runs { OpensNoDatabase (D.tells disks.first) (D.tells disks.second) result.0 shelf.old shelf.new
-        ⊎ OpensDatabase (D.tells disks.first) (D.tells disks.second) (λ base. RunsFiles F.source_gives F.sink_gives F.take_back_gives F.give_back_gives F.tells F.output
-        (NamedRan (D.tells result.1.first) (D.tells result.1.second) base F.tells result.0 (record { decks = asked.entry.decks; names = map string_bytes asked.entry.names.now })
+        ⊎ OpensDatabase (D.tells disks.first) (D.tells disks.second) (λ base. (opened : Option History) × StaysPossible (D.tells disks.second) (D.tells disks.first) opened × RunsFiles F.source_gives F.sink_gives F.take_back_gives F.give_back_gives F.tells F.output
+        (NamedRan opened (D.tells result.1.first) (D.tells result.1.second) base F.tells result.0 (record { decks = asked.entry.decks; names = map string_bytes asked.entry.names.now })
         (F.input shelf.old) (F.output shelf.old) (F.output shelf.new))
         (StandAt false (D.tells result.1.first) (D.tells result.1.second) base)
         result.0 (map string_bytes asked.entry.names.now) shelf.old shelf.new) }
@@ -71,7 +73,7 @@ where
     requires running { desk.halted ≡ false }
     requires settled { desk.committed ≡ false }
     ensures runs { RunsFiles F.source_gives F.sink_gives F.take_back_gives F.give_back_gives F.tells F.output
-        (NamedRan (D.tells result.1.first) (D.tells result.1.second) desk.position F.tells result.0 (record { decks = asked.entry.decks; names = map string_bytes asked.entry.names.now })
+        (NamedRan (D.tells desk.store.journal.disk) (D.tells result.1.first) (D.tells result.1.second) desk.position F.tells result.0 (record { decks = asked.entry.decks; names = map string_bytes asked.entry.names.now })
         (F.input shelf.old) (F.output shelf.old) (F.output shelf.new))
         (StandAt false (D.tells result.1.first) (D.tells result.1.second) desk.position)
         result.0 (map string_bytes asked.entry.names.now) shelf.old shelf.new }
@@ -122,7 +124,7 @@ where
     ensures ran { (input before : List ℕ → Option (List ℕ))
         → AreNew F.In.left F.In.faults F.Out.taken F.Out.faults F.tells input (map string_bytes asked.entry.names.now) files.items
         → OthersStay (map string_bytes asked.entry.names.now) before (F.output shelf.old)
-        → NamedRan (D.tells result.1.first) (D.tells result.1.second) desk.position F.tells result.0 (record { decks = asked.entry.decks; names = map string_bytes asked.entry.names.now })
+        → NamedRan (D.tells desk.store.journal.disk) (D.tells result.1.first) (D.tells result.1.second) desk.position F.tells result.0 (record { decks = asked.entry.decks; names = map string_bytes asked.entry.names.now })
         input before (F.output shelf.new) }
     ensures returned { ReturnsSome F.source_gives F.sink_gives F.take_back_gives F.give_back_gives (map string_bytes asked.entry.names.now) shelf.old shelf.new }
     ensures usage { result.0 ≢ Status.Usage }

@@ -1,13 +1,14 @@
 //! The top call: the words of the command line, over a shelf of named inputs and outputs.
 
-ghost use Rattle.std.specs.Prelude.{ℕ, ◌≡◌, ◌≢◌, ◌⊎◌, ◌↔◌, ◌≤◌, ◌<◌, ◌||◌, true, false, map, is_some, IsNone, IsSome, IsTrue, IfSome, length, string_bytes};
+ghost use Rattle.std.specs.Prelude.{Option, ℕ, ◌≡◌, ◌≢◌, ◌⊎◌, ◌↔◌, ◌≤◌, ◌<◌, ◌||◌, true, false, map, is_some, IsNone, IsSome, IsTrue, IfSome, length, string_bytes};
 ghost use Rattle.std.specs.Option.{option_map};
 ghost use Rattle.racf_outside.specs.Causes.{Rose};
 ghost use Rattle.racf_outside.specs.Crashes.{Leaves};
-ghost use Rattle.racf_outside.specs.Disk.{Now};
+ghost use Rattle.racf_outside.specs.Disk.{History, Now};
 ghost use Rattle.racf_outside.specs.Shelf.{SameBytes};
 ghost use Rattle.racf_checkpoint.specs.Stored.{Beside};
 ghost use Rattle.racf_desk.specs.Position.{first_position};
+ghost use Rattle.racf_desk.specs.Durable.{StaysPossible};
 ghost use Rattle.racf_desk.specs.Recovery.{StandsFor};
 ghost use Rattle.racf_stream.specs.Durable.{StaysAlong};
 ghost use Rattle.racf_run.specs.Racf.{script_files, is_init, opening_status, RunsOnShelf, MakesOnShelf, IsWholeOutput, OpensNone};
@@ -97,8 +98,9 @@ where
     ensures runs_together { IfSome (run_words (map string_bytes words.now)) (λ asked.
         OpensNoDatabase (D.tells disks.first) (D.tells disks.second) result.0 shelf.old shelf.new
         ⊎ OpensDatabase (D.tells disks.first) (D.tells disks.second) (λ base.
-        RunsFiles F.source_gives F.sink_gives F.take_back_gives F.give_back_gives F.tells F.output
-        (NamedRan (D.tells result.1.first) (D.tells result.1.second) base F.tells result.0 asked (F.input shelf.old) (F.output shelf.old) (F.output shelf.new))
+        (opened : Option History) × StaysPossible (D.tells disks.second) (D.tells disks.first) opened
+        × RunsFiles F.source_gives F.sink_gives F.take_back_gives F.give_back_gives F.tells F.output
+        (NamedRan opened (D.tells result.1.first) (D.tells result.1.second) base F.tells result.0 asked (F.input shelf.old) (F.output shelf.old) (F.output shelf.new))
         (StandAt false (D.tells result.1.first) (D.tells result.1.second) base)
         result.0 asked.names shelf.old shelf.new)) }
 

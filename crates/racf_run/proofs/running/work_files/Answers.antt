@@ -1,5 +1,9 @@
 use Rattle.std.proofs.Common.{◌≤◌, ℕ, List, length, map, string_bytes, vec_len, sym, subst, arith}
+use Rattle.std.specs.Prelude.{Option}
 use Rattle.std.proofs.lemmas.List.{length-map}
+use Rattle.racf_outside.specs.Disk.{History}
+use Rattle.command_history.specs.Events.{all_of}
+use Rattle.racroute.specs.Disks.{StaysAlong}
 use Rattle.racf_run.specs.Opening.{Returned, AreKept, AreOpen, OthersStay, ClosesAll}
 use Rattle.racf_run.proofs.OpeningLaws.{AreNew-length, OthersStay-chain}
 use Rattle.racf_run.proofs.RunningLaws.{form_of, named_run, run_count, run_names, run_no_usage, run_reads, run_writes}
@@ -43,12 +47,14 @@ pub returns-clause-ran : goal.returns-clause-ran
 returns-clause-ran g c input before new others =
     let names = map string_bytes c.args.asked.names.now in
     let enough : c.args.asked.decks ≤ length c.args.files.items =
-        let form = form_of c.args.asked.decks names c.requires.form in
-        omega (arith, form.are_there, AreNew-length g.F.In.Source.left g.F.In.Source.faults g.F.Out.Sink.taken g.F.Out.Sink.faults g.F.Shelf.tells input names c.args.files.items new) in
-    named_run g.F.In.Source.left g.F.In.Source.faults g.F.Out.Sink.taken g.F.Out.Sink.faults g.F.Shelf.tells input (g.F.Shelf.output c.return_files.new.shelf) (g.D.Disk.tells c.run_files-status.result.disks.first) (g.D.Disk.tells c.run_files-status.result.disks.second)
+    let form = form_of c.args.asked.decks names c.requires.form in
+    omega (arith, form.are_there, AreNew-length g.F.In.Source.left g.F.In.Source.faults g.F.Out.Sink.taken g.F.Out.Sink.faults g.F.Shelf.tells input names c.args.files.items new) in
+    named_run g.F.In.Source.left g.F.In.Source.faults g.F.Out.Sink.taken g.F.Out.Sink.faults g.F.Shelf.tells input (g.F.Shelf.output c.return_files.new.shelf) (g.D.Disk.tells c.args.desk.store.journal.disk) (g.D.Disk.tells c.run_files-status.result.disks.first) (g.D.Disk.tells c.run_files-status.result.disks.second)
     c.args.desk.position c.run_files-status.result.accepted.items c.run_files-status.result.halted c.run_files-status.result.status c.args.asked.decks names c.args.files.items c.run_files-status.result.outs.items before
     enough new (subst (λ (ns : List (List ℕ)). AreKept g.F.Out.Sink.taken (g.F.Shelf.output c.return_files.new.shelf) ns c.run_files-status.result.outs.items) (run_names g.F.In.Source.left g.F.In.Source.faults g.F.Out.Sink.taken g.F.Out.Sink.faults c.args.desk.position c.run_files-status.result.accepted.items c.run_files-status.result.halted c.run_files-status.result.status c.args.asked.decks c.args.files.items c.run_files-status.result.outs.items c.run_files-status.ensures.together g.F.Shelf.tells (g.F.Shelf.input c.args.shelf.now) (map string_bytes c.args.asked.names.now) (vec_len c.run_files-status.result.outs) c.run_files-status.result.outs.ok.0 c.requires.new) c.return_files.ensures.kept)
     c.run_files-status.ensures.together c.run_files-status.ensures.legal c.run_files-status.ensures.disks
+    (subst (λ (h : Option History). StaysAlong c.args.desk.position (all_of c.run_files-status.result.accepted.items c.run_files-status.result.halted) h (g.D.Disk.tells c.args.desk.store.journal.disk) (g.D.Disk.tells c.run_files-status.result.disks.first))
+    (sym c.run_files-status.ensures.second) c.run_files-status.ensures.moments)
     (OthersStay-chain names before (g.F.Shelf.output c.args.shelf.now) (g.F.Shelf.output c.return_files.new.shelf) others
     (subst (λ (ns : List (List ℕ)). OthersStay ns (g.F.Shelf.output c.args.shelf.now) (g.F.Shelf.output c.return_files.new.shelf)) (run_names g.F.In.Source.left g.F.In.Source.faults g.F.Out.Sink.taken g.F.Out.Sink.faults c.args.desk.position c.run_files-status.result.accepted.items c.run_files-status.result.halted c.run_files-status.result.status c.args.asked.decks c.args.files.items c.run_files-status.result.outs.items c.run_files-status.ensures.together g.F.Shelf.tells (g.F.Shelf.input c.args.shelf.now) (map string_bytes c.args.asked.names.now) (vec_len c.run_files-status.result.outs) c.run_files-status.result.outs.ok.0 c.requires.new) c.return_files.ensures.others))
 

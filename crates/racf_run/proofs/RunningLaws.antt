@@ -130,32 +130,30 @@ module _ {I K : Type 0} (left : I → Option (List ℕ)) (reads : I → ℕ) (ta
     named_decks : (deck : ℕ) (names : List (List ℕ)) (ws : List (Worked I K)) → AreNew left reads taken writes tells input names (map (λ w. w.given) ws) → AreKept taken output names (map (λ w. w.back) ws)
         → AreDecks left reads taken writes base whole deck ws → DecksNamed base whole tells input output deck (named names ws)
     named_decks deck [] [] h k decks = tt
-    named_decks deck (name ∷ names) (w ∷ ws) h k decks =
-        (
-          (
-            left w.back.0,
-            subst (λ (o : Option (List ℕ)). DeckRan base whole deck w.faults w.status (input name) (left w.back.0) (told tells []) o) (sym k.0)
+    named_decks deck (name ∷ names) (w ∷ ws) h k decks = (
+      (
+        left w.back.0,
+        subst (λ (o : Option (List ℕ)). DeckRan base whole deck w.faults w.status (input name) (left w.back.0) (told tells []) o) (sym k.0)
             (subst (λ (o : Option (List ℕ)). DeckRan base whole deck w.faults w.status (input name) (left w.back.0) o (taken w.back.1)) h.0.empty
             (subst (λ (o : Option (List ℕ)). DeckRan base whole deck w.faults w.status o (left w.back.0) (taken w.given.1) (taken w.back.1)) h.0.bytes decks.0.0)),
-          ),
-          named_decks (suc deck) names ws h.1 k.1 decks.1,
-        )
+      ),
+      named_decks (suc deck) names ws h.1 k.1 decks.1,
+    )
     named_decks deck [] (w ∷ ws) h k decks = absurd h
     named_decks deck (name ∷ names) [] h k decks = absurd h
 
     named_files : (names : List (List ℕ)) (ws : List (Worked I K)) → AreNew left reads taken writes tells input names (map (λ w. w.given) ws) → AreKept taken output names (map (λ w. w.back) ws)
         → AreFiles left reads taken writes base whole ws → FilesNamed base whole tells input output (named names ws)
     named_files [] [] h k files = tt
-    named_files (name ∷ names) (w ∷ ws) h k files =
-        (
-          (
-            left w.back.0,
-            subst (λ (o : Option (List ℕ)). FileRan base whole w.status (input name) (left w.back.0) (told tells []) o) (sym k.0)
+    named_files (name ∷ names) (w ∷ ws) h k files = (
+      (
+        left w.back.0,
+        subst (λ (o : Option (List ℕ)). FileRan base whole w.status (input name) (left w.back.0) (told tells []) o) (sym k.0)
             (subst (λ (o : Option (List ℕ)). FileRan base whole w.status (input name) (left w.back.0) o (taken w.back.1)) h.0.empty
             (subst (λ (o : Option (List ℕ)). FileRan base whole w.status o (left w.back.0) (taken w.given.1) (taken w.back.1)) h.0.bytes files.0.0)),
-          ),
-          named_files names ws h.1 k.1 files.1,
-        )
+      ),
+      named_files names ws h.1 k.1 files.1,
+    )
     named_files [] (w ∷ ws) h k files = absurd h
     named_files (name ∷ names) [] h k files = absurd h
 
@@ -169,17 +167,17 @@ module _ {I K : Type 0} (left : I → Option (List ℕ)) (reads : I → ℕ) (ta
       let dw = together.deck_workers in
       let fw = together.file_workers in
       let givens : files ≡ map (λ w. w.given) dw ++ map (λ w. w.given) fw =
-          sym (take-append-drop decks files) ∙ ap (λ xs. xs ++ drop decks files) (sym together.decks_are) ∙ ap (λ xs. map (λ (w : Worked I K). w.given) dw ++ xs) (sym together.requests_are) in
+      sym (take-append-drop decks files) ∙ ap (λ xs. xs ++ drop decks files) (sym together.decks_are) ∙ ap (λ xs. map (λ (w : Worked I K). w.given) dw ++ xs) (sym together.requests_are) in
       let backs : outs ≡ map (λ w. w.back) dw ++ map (λ w. w.back) fw = sym together.outs_are ∙ map-append (λ (w : Worked I K). w.back) dw fw in
       let count : length dw ≡ decks = sym (length-map dw (λ (w : Worked I K). w.given)) ∙ ap length together.decks_are ∙ length-take-le decks files enough in
       let given_count : length (map (λ (w : Worked I K). w.given) dw) ≡ decks = length-map dw (λ (w : Worked I K). w.given) ∙ count in
       let back_count : length (map (λ (w : Worked I K). w.back) dw) ≡ decks = length-map dw (λ (w : Worked I K). w.back) ∙ count in
       let news : AreNew left reads taken writes tells input (take decks names) (map (λ w. w.given) dw) × AreNew left reads taken writes tells input (drop decks names) (map (λ w. w.given) fw) =
-          subst (λ (n : ℕ). AreNew left reads taken writes tells input (take n names) (map (λ w. w.given) dw) × AreNew left reads taken writes tells input (drop n names) (map (λ w. w.given) fw)) given_count
-          (AreNew-split left reads taken writes tells input output names (map (λ w. w.given) dw) (map (λ w. w.given) fw) (subst (AreNew left reads taken writes tells input names) givens new)) in
+      subst (λ (n : ℕ). AreNew left reads taken writes tells input (take n names) (map (λ w. w.given) dw) × AreNew left reads taken writes tells input (drop n names) (map (λ w. w.given) fw)) given_count
+      (AreNew-split left reads taken writes tells input output names (map (λ w. w.given) dw) (map (λ w. w.given) fw) (subst (AreNew left reads taken writes tells input names) givens new)) in
       let keeps : AreKept taken output (take decks names) (map (λ w. w.back) dw) × AreKept taken output (drop decks names) (map (λ w. w.back) fw) =
-          subst (λ (n : ℕ). AreKept taken output (take n names) (map (λ (w : Worked I K). w.back) dw) × AreKept taken output (drop n names) (map (λ (w : Worked I K). w.back) fw)) back_count
-          (AreKept-split left reads taken writes tells input output names (map (λ w. w.back) dw) (map (λ w. w.back) fw) (subst (AreKept taken output names) backs kept)) in
+      subst (λ (n : ℕ). AreKept taken output (take n names) (map (λ (w : Worked I K). w.back) dw) × AreKept taken output (drop n names) (map (λ (w : Worked I K). w.back) fw)) back_count
+      (AreKept-split left reads taken writes tells input output names (map (λ w. w.back) dw) (map (λ w. w.back) fw) (subst (AreKept taken output names) backs kept)) in
       record {
         entries = entries;
         halted = halted;
@@ -300,4 +298,3 @@ module _ {I K : Type 0} (left : I → Option (List ℕ)) (reads : I → ℕ) (ta
 -- ---- what is open
 pub opens_none : (names : List (List ℕ)) (old between new : List ℕ → Bool) → OthersStay names old between → ((other : List ℕ) → new other ≡ true → (between other ≡ true) × (is_among other (map output_name names) ≡ false)) → OpensNone old new
 opens_none names old between new others closed other h = let before = closed other h in sym (others other before.1) ∙ before.0
-

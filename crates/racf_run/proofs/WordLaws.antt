@@ -18,8 +18,7 @@ pub output_ending : (name output : List ℕ) → bytes_eq (drop (length output -
 output_ending name output ends =
     let ending : drop (length output - 4) output ≡ codes ".out" = (bytes_eq-Decides (drop (length output - 4) output) (codes ".out")).0 ends in
     let whole : take (length output - 4) output ++ codes ".out" ≡ output = ap (λ xs. take (length output - 4) output ++ xs) (sym ending) ∙ take-append-drop (length output - 4) output in
-    same_from_decides (bytes_eq (take (length output - 4) output) name) (bytes_eq (output_name name) output) (bytes_eq-Decides (take (length output - 4) output) name)
-    (
+    same_from_decides (bytes_eq (take (length output - 4) output) name) (bytes_eq (output_name name) output) (bytes_eq-Decides (take (length output - 4) output) name) (
       λ h. append_cancel_right (take (length output - 4) output) name (codes ".out") (whole ∙ sym ((bytes_eq-Decides (output_name name) output).0 h)),
       λ h. (bytes_eq-Decides (output_name name) output).1 (ap (λ xs. xs ++ codes ".out") (sym h) ∙ whole),
     )
@@ -28,7 +27,7 @@ pub no_output_ending : (name output : List ℕ) → bytes_eq (drop (length outpu
 no_output_ending name output ends =
     sym (false_from_ne_true (bytes_eq (output_name name) output)
     (λ same.
-        let is : output_name name ≡ output = (bytes_eq-Decides (output_name name) output).0 same in
-        let long : length output - 4 ≡ length name = omega (arith, ap length is, length-append name (codes ".out")) in
-        let tail : drop (length output - 4) output ≡ codes ".out" = ap (λ k. drop k output) long ∙ ap (drop (length name)) (sym is) ∙ drop_at name (codes ".out") (length name) refl in
-        false≢true (sym ends ∙ (bytes_eq-Decides (drop (length output - 4) output) (codes ".out")).1 tail)))
+    let is : output_name name ≡ output = (bytes_eq-Decides (output_name name) output).0 same in
+    let long : length output - 4 ≡ length name = omega (arith, ap length is, length-append name (codes ".out")) in
+    let tail : drop (length output - 4) output ≡ codes ".out" = ap (λ k. drop k output) long ∙ ap (drop (length name)) (sym is) ∙ drop_at name (codes ".out") (length name) refl in
+    false≢true (sym ends ∙ (bytes_eq-Decides (drop (length output - 4) output) (codes ".out")).1 tail)))

@@ -94,9 +94,7 @@ fn are_apart(names: &[String]) -> bool
 fn is_output_among(name: &str, names: &[String]) -> bool
     ensures { result ≡ is_among (output_name name.now) (map string_bytes names.now) }
 {
-    names
-        .iter()
-        .any(|other| is_output_of(name, other.as_str()))
+    names.iter().any(|other| is_output_of(name, other.as_str()))
 }
 
 /// Whether this name is that of the output of the other.

@@ -42,11 +42,7 @@ fn output_of(alloc: Global, name: &str) -> Result<String, AllocError>
 }
 
 /// Opens the input of a name, and then its output.
-fn open_file<F: Shelf>(
-    shelf: &mut F,
-    name: &str,
-    output: &str,
-) -> Result<(F::In, F::Out), Unopened>
+fn open_file<F: Shelf>(shelf: &mut F, name: &str, output: &str) -> Result<(F::In, F::Out), Unopened>
     requires { output.now ≡ output_name name.now }
     ensures opened { IfOk result (λ file. Opened F.source_gives F.sink_gives F.take_back_gives F.give_back_gives (name.now ∷ []) (file ∷ []) shelf.old shelf.new) }
     ensures unopened { IfErr result (λ why. OpensNeither F.source_gives F.sink_gives F.take_back_gives F.give_back_gives why name.now shelf.old shelf.new) }

@@ -9,9 +9,9 @@ returns-in-Some c =
     let ending : c.as_bytes-2.result.now ≡ codes ".out" = c.as_bytes-2.ensures.value in
     let is : c.as_bytes.result.now ≡ output = c.as_bytes.ensures.value in
     let ends : bytes_eq (drop (length output - 4) output) (codes ".out") ≡ true =
-        subst (λ (e : List ℕ). bytes_eq (drop (length output - length e) output) e ≡ true) ending (subst (λ (o : List ℕ). bytes_eq (drop (length o - length c.as_bytes-2.result.now) o) c.as_bytes-2.result.now ≡ true) is c.in-Some.ensures.cases.0) in
+    subst (λ (e : List ℕ). bytes_eq (drop (length output - length e) output) e ≡ true) ending (subst (λ (o : List ℕ). bytes_eq (drop (length o - length c.as_bytes-2.result.now) o) c.as_bytes-2.result.now ≡ true) is c.in-Some.ensures.cases.0) in
     let front : c.in-Some.front.now ≡ take (length output - 4) output =
-        subst (λ (e : List ℕ). c.in-Some.front.now ≡ take (length output - length e) output) ending (subst (λ (o : List ℕ). c.in-Some.front.now ≡ take (length o - length c.as_bytes-2.result.now) o) is c.in-Some.ensures.cases.1) in
+    subst (λ (e : List ℕ). c.in-Some.front.now ≡ take (length output - length e) output) ending (subst (λ (o : List ℕ). c.in-Some.front.now ≡ take (length o - length c.as_bytes-2.result.now) o) is c.in-Some.ensures.cases.1) in
     c.eq.ensures ∙ ap (bytes_eq c.in-Some.front.now) c.as_bytes-in-Some.ensures.value ∙ ap (λ f. bytes_eq f c.args.name.now) front ∙ output_ending c.args.name.now output ends
 
 pub returns-in-None : goal.returns-in-None

@@ -12,12 +12,14 @@ open_file-requires g c =
     ∙ ap output_name (sym c.as_str-name.ensures.value)
 
 pub loop-place-init : goal.loop-place-init
-loop-place-init g c = record { count = c.requires.none; room = c.requires.room; 
-      opened =
-          subst (λ (fs : List (g.row.F-In.Denot × g.row.F-Out.Denot)). HasOpened g.F.Shelf.source_gives g.F.Shelf.sink_gives g.F.Shelf.take_back_gives g.F.Shelf.give_back_gives g.F.In.Source.left g.F.In.Source.faults g.F.Out.Sink.taken g.F.Out.Sink.faults g.F.Shelf.tells g.F.Shelf.input g.F.Shelf.output g.F.Shelf.is_open g.F.Shelf.source_faults g.F.Shelf.sink_faults [] fs c.args.shelf.now c.args.shelf.now)
-          (sym (nil_from_length c.args.files.now.items (sym c.args.files.now.ok.0 ∙ c.requires.none)))
-          (HasOpened-none g.F.Shelf.source_gives g.F.Shelf.sink_gives g.F.Shelf.take_back_gives g.F.Shelf.give_back_gives g.F.In.Source.left g.F.In.Source.faults g.F.Out.Sink.taken g.F.Out.Sink.faults g.F.Shelf.tells g.F.Shelf.input g.F.Shelf.output g.F.Shelf.is_open g.F.Shelf.source_faults g.F.Shelf.sink_faults c.args.shelf.now);
-    }
+loop-place-init g c = record {
+  count = c.requires.none;
+  room = c.requires.room;
+  opened =
+      subst (λ (fs : List (g.row.F-In.Denot × g.row.F-Out.Denot)). HasOpened g.F.Shelf.source_gives g.F.Shelf.sink_gives g.F.Shelf.take_back_gives g.F.Shelf.give_back_gives g.F.In.Source.left g.F.In.Source.faults g.F.Out.Sink.taken g.F.Out.Sink.faults g.F.Shelf.tells g.F.Shelf.input g.F.Shelf.output g.F.Shelf.is_open g.F.Shelf.source_faults g.F.Shelf.sink_faults [] fs c.args.shelf.now c.args.shelf.now)
+      (sym (nil_from_length c.args.files.now.items (sym c.args.files.now.ok.0 ∙ c.requires.none)))
+      (HasOpened-none g.F.Shelf.source_gives g.F.Shelf.sink_gives g.F.Shelf.take_back_gives g.F.Shelf.give_back_gives g.F.In.Source.left g.F.In.Source.faults g.F.Out.Sink.taken g.F.Out.Sink.faults g.F.Shelf.tells g.F.Shelf.input g.F.Shelf.output g.F.Shelf.is_open g.F.Shelf.source_faults g.F.Shelf.sink_faults c.args.shelf.now);
+}
 
 pub returns-in_err-open_file-clause-stopped : goal.returns-in_err-open_file-clause-stopped
 returns-in_err-open_file-clause-stopped g c =

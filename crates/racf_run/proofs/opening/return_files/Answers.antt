@@ -47,7 +47,7 @@ loop-source-preserved g c =
     let one : vec_len c.loop-source.files ≡ n + 1 = sym c.in-Some.ensures.cases in
     let below : n < m = omega (arith, c.loop-source.invariant.few) in
     let took = popped c.args.files.items c.loop-source.files.items c.pop.new.self.items (vec_len c.loop-source.files) n (c.in-Some.source, c.in-Some.sink) c.loop-source.invariant.rest c.in-Some.ensures.items one
-        (omega (arith, c.loop-source.invariant.few, c.args.files.ok.0)) in
+    (omega (arith, c.loop-source.invariant.few, c.args.files.ok.0)) in
     let distinct : are_distinct (take m all) ≡ true = distinct_front (take m all) (drop m all) (ap are_distinct (take-append-drop m all) ∙ c.requires.distinct) in
     let name : c.as_str.result.now ≡ get_or (take m all) n [] = c.as_str.ensures.value ∙ name_in_front string_bytes c.args.names.now m n c.len-place.result c.index-names-place.result below (omega (arith, c.requires.few)) (omega (arith, c.len-place.ensures)) c.index-names-place.is in
     record {

@@ -43,8 +43,8 @@ pub returns-clause-ran : goal.returns-clause-ran
 returns-clause-ran g c input before new others =
     let names = map string_bytes c.args.asked.names.now in
     let enough : c.args.asked.decks ≤ length c.args.files.items =
-        let form = form_of c.args.asked.decks names c.requires.form in
-        omega (arith, form.are_there, AreNew-length g.F.In.Source.left g.F.In.Source.faults g.F.Out.Sink.taken g.F.Out.Sink.faults g.F.Shelf.tells input names c.args.files.items new) in
+    let form = form_of c.args.asked.decks names c.requires.form in
+    omega (arith, form.are_there, AreNew-length g.F.In.Source.left g.F.In.Source.faults g.F.Out.Sink.taken g.F.Out.Sink.faults g.F.Shelf.tells input names c.args.files.items new) in
     named_run g.F.In.Source.left g.F.In.Source.faults g.F.Out.Sink.taken g.F.Out.Sink.faults g.F.Shelf.tells input (g.F.Shelf.output c.return_files.new.shelf) (g.D.Disk.tells c.run_files-status.result.disks.first) (g.D.Disk.tells c.run_files-status.result.disks.second)
     c.args.desk.position c.run_files-status.result.accepted.items c.run_files-status.result.halted c.run_files-status.result.status c.args.asked.decks names c.args.files.items c.run_files-status.result.outs.items before
     enough new (subst (λ (ns : List (List ℕ)). AreKept g.F.Out.Sink.taken (g.F.Shelf.output c.return_files.new.shelf) ns c.run_files-status.result.outs.items) (run_names g.F.In.Source.left g.F.In.Source.faults g.F.Out.Sink.taken g.F.Out.Sink.faults c.args.desk.position c.run_files-status.result.accepted.items c.run_files-status.result.halted c.run_files-status.result.status c.args.asked.decks c.args.files.items c.run_files-status.result.outs.items c.run_files-status.ensures.together g.F.Shelf.tells (g.F.Shelf.input c.args.shelf.now) (map string_bytes c.args.asked.names.now) (vec_len c.run_files-status.result.outs) c.run_files-status.result.outs.ok.0 c.requires.new) c.return_files.ensures.kept)

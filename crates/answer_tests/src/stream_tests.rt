@@ -221,14 +221,7 @@ fn stops_at_the_longest_input(rt: HostRuntime) {
     let host = rt.clone().expect(&rt, "memory");
     let mut shelf = FileShelf::new(rt.alloc(), host);
     let disks = database(&rt);
-    let (status, _disks) = racf(
-        &rt,
-        rt.alloc(),
-        words.as_slice(),
-        &mut shelf,
-        disks,
-        &Idle,
-    );
+    let (status, _disks) = racf(&rt, rt.alloc(), words.as_slice(), &mut shelf, disks, &Idle);
     assert!(rt; status == Status::InputTooLong);
 }
 

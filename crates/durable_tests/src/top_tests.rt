@@ -152,14 +152,7 @@ fn assert_ends(rt: &(impl AllocGlobal + Abort + Wait + Threads + Sync), run: &Ru
     let words = words_of(rt, words);
     let mut shelf = shelf_of(rt, input, false);
     let disks = disks_of(rt, held, *failing);
-    let (status, disks) = racf(
-        rt,
-        rt.alloc(),
-        words.as_slice(),
-        &mut shelf,
-        disks,
-        &Idle,
-    );
+    let (status, disks) = racf(rt, rt.alloc(), words.as_slice(), &mut shelf, disks, &Idle);
     let fails = *wanted == Status::DiskFault;
     assert!(rt; status == *wanted && status.code() == *code, "{input}");
     assert!(rt; has_output(&shelf, *output), "{input}");
@@ -187,24 +180,10 @@ fn nothing_is_opened_before_the_database(rt: HostRuntime) {
         (&init, Status::Done),
         (&script, Status::ReadFault),
     ] {
-        (status, disks) = racf(
-            &rt,
-            rt.alloc(),
-            words.as_slice(),
-            &mut shelf,
-            disks,
-            &Idle,
-        );
+        (status, disks) = racf(&rt, rt.alloc(), words.as_slice(), &mut shelf, disks, &Idle);
         assert!(rt; status == wanted && has_output(&shelf, None));
     }
-    (status, disks) = racf(
-        &rt,
-        rt.alloc(),
-        script.as_slice(),
-        &mut shelf,
-        disks,
-        &Idle,
-    );
+    (status, disks) = racf(&rt, rt.alloc(), script.as_slice(), &mut shelf, disks, &Idle);
     assert!(rt; status == Status::Done && has_output(&shelf, Some("1 ACCEPTED\n")));
     assert!(rt; read_as(&disks, JOE));
 }

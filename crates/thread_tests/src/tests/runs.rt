@@ -50,7 +50,7 @@ pub(super) fn ran<G: Gate + Sync, R: Wait + Threads + Sync>(
     asked: &Asked,
     gate: &G,
 ) -> Result<Told, Fail>
-    requires few { (length asked.now.decks ≤ 4) × (length asked.now.requests ≤ 16) × (0 < length asked.now.decks) }
+    requires few { (length asked.now.decks.now ≤ 4) × (length asked.now.requests.now ≤ 16) × (0 < length asked.now.decks.now) }
 {
     let nothing_is_kept = Two {
         first: NeverDisk,
@@ -70,7 +70,7 @@ pub(super) fn ran_on_failing<G: Gate + Sync, R: Wait + Threads + Sync>(
     gate: &G,
     failing: u64,
 ) -> Result<Told, Fail>
-    requires few { (length asked.now.decks ≤ 4) × (length asked.now.requests ≤ 16) × (0 < length asked.now.decks) }
+    requires few { (length asked.now.decks.now ≤ 4) × (length asked.now.requests.now ≤ 16) × (0 < length asked.now.decks.now) }
 {
     let disks = Two {
         first: MemoryDisk::new(alloc, Vec::new(alloc), Vec::from_slice(alloc, &[failing])?)?,
@@ -90,7 +90,7 @@ fn over<G: Gate + Sync, D: Disk + Drop + Send, R: Wait + Threads + Sync>(
     gate: &G,
     desk: Desk<D>,
 ) -> Result<Told, Fail>
-    requires few { (length asked.now.decks ≤ 4) × (length asked.now.requests ≤ 16) × (0 < length asked.now.decks) }
+    requires few { (length asked.now.decks.now ≤ 4) × (length asked.now.requests.now ≤ 16) × (0 < length asked.now.decks.now) }
     requires desk { desk ≡ is_fresh first_position desk.store }
 {
     let (Ok(decks), Ok(requests)) = (files(alloc, asked.decks), files(alloc, asked.requests)) else {

@@ -121,5 +121,5 @@ module _ (gate : ℕ) (body head rest : List ℕ) (closed : gate ≡ 1 → ⊥) 
 
 pub writes : (head rest : List ℕ) (m : Moment) → length head ≡ 24 → HoldsClosed m → Writes head rest m
 writes head rest m size holds =
-    subst (Writes head rest) (sym (holds.idle.durable ∙ ap durable (parts m.bytes holds.idle.formatted holds.idle.gate)))
+    subst (Writes head rest) (sym (holds.idle.durable ∙ ap durable (parts m.bytes holds.idle.formatted holds.gate)))
     (writes_here (get_or m.bytes 8 0) (drop 9 m.bytes) head rest (not_open m.bytes holds.closed) size)

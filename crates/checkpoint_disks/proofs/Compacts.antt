@@ -18,18 +18,17 @@ pub closing_is : (before made : List ℕ) (a b : Option History) → StaysIn (Is
 closing_is before made a b s = StaysIn-weaker (IsOneOf before made) s (λ h told file left. one_of before made file left)
   where
     one_of : (before made file : List ℕ) → IsClosing before file → IsOneOf before made file
-    one_of before made file (inl same) = inl same
-    one_of before made file (inr closed) = inr (inl closed)
+    one_of before made file left = inl left
 
 pub closed_is : (before made : List ℕ) (a b : Option History) → StaysIn IsClosed a b → StaysIn (IsOneOf before made) a b
-closed_is before made a b s = StaysIn-weaker (IsOneOf before made) s (λ h told file closed. inr (inl closed))
+closed_is before made a b s = StaysIn-weaker (IsOneOf before made) s (λ h told file closed. inl (inr (inl closed)))
 
 pub opening_is : (before body : List ℕ) (a b : Option History) → StaysIn (IsOpening body) a b → StaysIn (IsOneOf before (with_head 1 body)) a b
 opening_is before body a b s = StaysIn-weaker (IsOneOf before (with_head 1 body)) s (λ h told file left. one_of before body file left)
   where
     one_of : (before body file : List ℕ) → IsOpening body file → IsOneOf before (with_head 1 body) file
-    one_of before body file (inl closed) = inr (inl closed)
-    one_of before body file (inr same) = inr (inr same)
+    one_of before body file (inl closed) = inl (inr (inl closed))
+    one_of before body file (inr same) = inr same
 
 -- the bytes of a new file
 pub new_body_is : (epoch number size : ℕ) (rows : Rows) (head rest : List ℕ) → head ≡ fields epoch number size → rest ≡ image_of rows ++ 0 ∷ [] → size ≡ length rest - 1 → head ++ rest ≡ new_body epoch number rows
@@ -49,7 +48,7 @@ done_is body made b same done h e = done h e ∙ ap (λ (l : List ℕ). durable 
 
 -- nothing was done
 pub files_alone : (before made : List ℕ) (a : Option History) → Now a IsIdle → Now a (λ m. m.bytes ≡ before) → StaysIn (IsOneOf before made) a a
-files_alone before made a idle holds = StaysIn-none (IsOneOf before made) a (λ h e. left_alone (IsOneOf before made) before h.now (idle h e) (holds h e) (inl refl))
+files_alone before made a idle holds = StaysIn-none (IsOneOf before made) a (λ h e. left_alone (IsOneOf before made) before h.now (idle h e) (holds h e) (inl (inl refl)))
 
 -- ---- beside the other
 pub says_alone : (side : Side) (live before : List ℕ) (epoch : ℕ) (checkpoint : CheckpointRead) (a : Option History) → CountsBeside side before live epoch → Now a IsIdle → Now a (λ m. m.bytes ≡ before)

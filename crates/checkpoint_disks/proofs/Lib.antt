@@ -3,7 +3,5 @@ mod Compacts
 mod Contents
 mod Counts
 mod HeadGates
-mod Places
-mod Scans
-mod Walks
+pub mod Held
 mod WorkedRows

@@ -1,8 +1,9 @@
 -- What writing a checkpoint makes of the disk that doesn't count, at its end and at every moment before.
-use Rattle.std.specs.Prelude.{ℕ, ◌+◌, ◌<◌, ◌≤◌, ◌≡◌, ◌⊎◌, true, false, List, [], ◌∷◌, ◌++◌, length, drop, Result, Ok}
+use Rattle.std.specs.Prelude.{ℕ, ◌+◌, ◌<◌, ◌≤◌, ◌^◌, ◌≡◌, ◌⊎◌, true, false, List, [], ◌∷◌, ◌++◌, length, drop, Result, Ok}
 use Rattle.byteorder.specs.Endian.{big_bytes}
 use Rattle.racf_profiles.specs.declared.rows.Rows.{Rows}
-use Rattle.database_image.specs.Image.{image_of}
+use Rattle.database_image.specs.Image.{image_of, IsStored}
+use Rattle.racf_journal.specs.Kept.{ReadsAs}
 use Rattle.racf_journal.specs.Reading.{spelled}
 use Rattle.racf_outside.specs.Moments.{Moment, durable}
 use Rattle.checkpoint_disks.specs.declared.counting.Side.{Side}
@@ -56,13 +57,32 @@ with_records epoch number rows records = record {
   gate = (33 + length (image_of rows)) + length (spelled records);
 }
 
+-- What a file may say: a checkpoint that is written as such, with the places that follow of its rows and its records.
+pub record IsCheckpoint (read : CheckpointRead) : Type 0 where
+  pub some : 0 < read.epoch
+  pub epoch : read.epoch < 2 ^ 64
+  pub number : read.number ≤ 2 ^ 62
+  pub stored : IsStored read.rows
+  pub size : length (image_of read.rows) < 2 ^ 64
+  pub is : read ≡ with_records read.epoch read.number read.rows read.records
+
+-- A file counts with an epoch, beside those that have a lower one.
+pub record Counts (epoch : ℕ) (file : List ℕ) : Type 0 where
+  pub formatted : is_formatted file ≡ true
+  pub opened : head_is_open file ≡ true
+  pub epoch_is : epoch_of file ≡ epoch
+
+-- What was read is held: the fields, the image of the rows and the records.
+pub record IsHeld (read : CheckpointRead) (file : List ℕ) : Type 0 where
+  pub lawful : IsCheckpoint read
+  pub counts : Counts read.epoch file
+  pub reads : ReadsAs (with_image read.epoch read.number read.rows) read.records file
+
 -- ---- one disk
 
--- A disk on which a checkpoint may be written: its file begins as it has to and has a head gate, and nothing is in
--- doubt.
+-- A disk on which a checkpoint may be written: its file begins as it has to, and nothing is in doubt.
 pub record IsIdle (moment : Moment) : Type 0 where
   pub formatted : is_formatted moment.bytes ≡ true
-  pub gate : 9 ≤ length moment.bytes
   pub durable : moment ≡ durable moment.bytes
 
 -- A file that doesn't count, whatever the other says: its head gate is closed.
@@ -70,9 +90,15 @@ pub record IsClosed (file : List ℕ) : Type 0 where
   pub formatted : is_formatted file ≡ true
   pub closed : head_is_open file ≡ false
 
--- such a file is all that a disk holds
+-- A file that ends with its head gate, or before it: it has no epoch.
+pub record IsBare (file : List ℕ) : Type 0 where
+  pub formatted : is_formatted file ≡ true
+  pub ends : length file ≤ 9
+
+-- the head gate is there, and closed: such a file is all that a disk holds
 pub record HoldsClosed (moment : Moment) : Type 0 where
   pub idle : IsIdle moment
+  pub gate : 9 ≤ length moment.bytes
   pub closed : head_is_open moment.bytes ≡ false
 
 -- the same with these bytes from place 9 on
@@ -80,18 +106,24 @@ pub record HoldsBody (body : List ℕ) (moment : Moment) : Type 0 where
   pub held : HoldsClosed moment
   pub is : drop 9 moment.bytes ≡ body
 
--- What a crash leaves while the head gate is closed: the file as it was, or one that is closed.
+-- What a crash leaves of a file that ends before its head gate, while that is written: one that is bare.
+abbrev pub IsGating : (before file : List ℕ) → Type 0
+IsGating before file = (length before ≤ 8) × IsBare file
+
+-- What a crash leaves while the head gate is closed: the file as it was, or one that is closed; or, where there was no
+-- head gate, one that is bare.
 abbrev pub IsClosing : (before file : List ℕ) → Type 0
-IsClosing before file = (file ≡ before) ⊎ IsClosed file
+IsClosing before file = (file ≡ before) ⊎ IsClosed file ⊎ IsGating before file
 
 -- What a crash leaves while the head gate is opened: a file that is closed, or the one with these bytes whose gate is
 -- open.
 abbrev pub IsOpening : (body file : List ℕ) → Type 0
 IsOpening body file = IsClosed file ⊎ (file ≡ with_head 1 body)
 
--- What a crash leaves at every moment: the file as it was, one that is closed, or the new one, whole.
+-- What a crash leaves at every moment: the file as it was, one that is closed, or, where there was no head gate, bare,
+-- or the new one, whole.
 abbrev pub IsOneOf : (before new file : List ℕ) → Type 0
-IsOneOf before new file = (file ≡ before) ⊎ IsClosed file ⊎ (file ≡ new)
+IsOneOf before new file = IsClosing before file ⊎ (file ≡ new)
 
 -- ---- two disks
 
@@ -108,10 +140,11 @@ second_of Second file other = file
 abbrev pub said_beside : Side → (file other : List ℕ) → Result CheckpointRead CheckpointFault
 said_beside side file other = said (first_of side file other) (second_of side file other)
 
--- The other file counts beside this one, and its epoch is below the new one.
+-- The other file counts beside this one, and its epoch, which isn't 0, is below the new one.
 pub record CountsBeside (side : Side) (file live : List ℕ) (epoch : ℕ) : Type 0 where
   pub formatted : is_formatted live ≡ true
   pub opened : head_is_open live ≡ true
+  pub some : 0 < epoch_of live
   pub below : epoch_of live < epoch
   pub says : said_beside side file live ≡ contents live
 

@@ -13,7 +13,7 @@ ghost use Rattle.checkpoint_disks.specs.declared.fault.CheckpointFault.TheVarian
 
 use crate::fault::CheckpointFault;
 use crate::laws::a_new_file_says_its_checkpoint;
-use crate::layout::CLOSED;
+use crate::layout::{CLOSED, IMAGE};
 use crate::writing::write_behind;
 use racf_outside::Disk;
 use racf_profiles::{NoMemory, Rows};
@@ -22,6 +22,7 @@ use std::alloc::Global;
 /// Writes a checkpoint of rows on the disk whose file doesn't count: with an epoch above that of the other file it counts
 /// from then on. At every moment a crash leaves the file as it was, one whose head gate is closed, or the new one; so
 /// that beside the other file it says what that says, or the new checkpoint. After `Ok` it leaves the new one.
+/// The place of its journal's one gate is answered.
 ///
 /// # Errors
 ///
@@ -32,11 +33,12 @@ pub fn compact<D: Disk>(
     epoch: u64,
     number: u64,
     rows: &Rows,
-) -> Result<(), CheckpointFault>
+) -> Result<u64, CheckpointFault>
     requires idle { Now (D.tells idle.old) IsIdle }
     requires stored { IsStored rows.now }
     requires number { number ≤ 2 ^ 62 }
 
+    ensures start { IfOk result (λ start. start ≡ 33 + length (image_of rows.now)) }
     ensures done { OnOk result (Now (D.tells idle.new) (λ m. m ≡ durable (new_file epoch number rows.now))) }
     ensures counts { OnOk result ((side : Side) (live before : List ℕ) → CountsBeside side before live epoch
         → Now (D.tells idle.new) (Leaves (λ file. said_beside side file live ≡ Ok (new_checkpoint epoch number rows.now)))) }
@@ -51,9 +53,10 @@ pub fn compact<D: Disk>(
 {
     a_new_file_says_its_checkpoint();
     let image = image_and_gate(alloc, rows)?;
-    let fields = fields_of(alloc, epoch, number, image.len() as u64 - 1)?;
+    let size = image.len() as u64 - 1;
+    let fields = fields_of(alloc, epoch, number, size)?;
     write_behind(idle, &fields, &image)?;
-    Ok(())
+    Ok(IMAGE as u64 + size)
 }
 
 /// The image of rows, and the closed gate of a journal behind it.

@@ -1,8 +1,9 @@
 //! Which of two files counts.
 
-ghost use Rattle.std.specs.Prelude.{◌≡◌, nat_lt, Some, IfOk};
-ghost use Rattle.checkpoint_disks.specs.Files.{epoch_of, Answers};
-ghost use Rattle.checkpoint_disks.specs.Counting.{which, said, as_read};
+ghost use Rattle.std.specs.Prelude.{◌≡◌, nat_lt, true, Some, IfOk, OnOk};
+ghost use Rattle.checkpoint_disks.specs.Files.{is_formatted, epoch_of, Answers};
+ghost use Rattle.checkpoint_disks.specs.Counting.{which, file_on, said, as_read};
+ghost use Rattle.checkpoint_disks.specs.Compacting.{IsHeld};
 
 use crate::fault::CheckpointFault;
 use crate::heads::{epoch_of, head_is_open, is_formatted};
@@ -54,6 +55,8 @@ pub fn read_pair(
 ) -> Result<(Side, Checkpoint), CheckpointFault>
     ensures said { Answers (λ read. as_read read.1) result (said first.now second.now) }
     ensures side { IfOk result (λ read. which first.now second.now ≡ Some read.0) }
+    ensures formatted { OnOk result ((is_formatted first.now ≡ true) × (is_formatted second.now ≡ true)) }
+    ensures held { IfOk result (λ read. IsHeld (as_read read.1) (file_on read.0 first.now second.now)) }
 {
     if !is_formatted(first) || !is_formatted(second) {
         return Err(CheckpointFault::NotFormatted);
@@ -61,9 +64,16 @@ pub fn read_pair(
     let Some(side) = which(first, second) else {
         return Err(CheckpointFault::NotFormatted);
     };
-    let file = match side {
+    let file = file_on(side, first, second);
+    Ok((side, read_file(alloc, file)?))
+}
+
+/// The file on a side.
+pub fn file_on<'a>(side: Side, first: &'a [u8], second: &'a [u8]) -> &'a [u8]
+    ensures { result.now ≡ file_on side first.now second.now }
+{
+    match side {
         Side::First => first,
         Side::Second => second,
-    };
-    Ok((side, read_file(alloc, file)?))
+    }
 }

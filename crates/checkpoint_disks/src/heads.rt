@@ -1,6 +1,6 @@
 //! The fields in front of an image.
 
-ghost use Rattle.std.specs.Prelude.{◌≡◌, ◌+◌, ◌≤◌, length, IfOk};
+ghost use Rattle.std.specs.Prelude.{◌≡◌, ◌+◌, ◌<◌, ◌≤◌, ◌^◌, length, IfOk};
 ghost use Rattle.checkpoint_disks.specs.Files.{is_formatted, head_is_open, epoch_of, number_at, head_of};
 
 use crate::fault::CheckpointFault;
@@ -56,6 +56,10 @@ fn number_at(bytes: &[u8], place: usize) -> u64
 #[tactic(auto, unfolding(crate::specs::Files::head_of))]
 pub(crate) fn read_head(bytes: &[u8]) -> Result<Head, CheckpointFault>
     ensures value { result ≡ head_of bytes.now }
+    ensures some { IfOk result (λ head. 0 < head.epoch) }
+    ensures epoch { IfOk result (λ head. head.epoch ≡ epoch_of bytes.now) }
+    ensures number { IfOk result (λ head. (head.number ≤ 2 ^ 62) × (head.number ≡ number_at 17 bytes.now)) }
+    ensures size { IfOk result (λ head. head.start ≡ 33 + number_at 25 bytes.now) }
     ensures behind { IfOk result (λ head. 33 ≤ head.start) }
     ensures within { IfOk result (λ head. head.start ≤ length bytes.now) }
 {

@@ -6,7 +6,7 @@ ghost use Rattle.database_image.specs.Image.{image_of, IsStored};
 ghost use Rattle.racf_journal.specs.Kept.{ReadsAs};
 ghost use Rattle.checkpoint_disks.specs.declared.counting.Side.{Side};
 ghost use Rattle.checkpoint_disks.specs.Files.{head_is_open, contents};
-ghost use Rattle.checkpoint_disks.specs.Compacting.{IsOneOf, CountsBeside, SaysEither, said_beside, new_file, new_checkpoint, with_image, with_records};
+ghost use Rattle.checkpoint_disks.specs.Compacting.{Counts, IsOneOf, CountsBeside, SaysEither, said_beside, new_file, new_checkpoint, with_image, with_records};
 
 use database_image::laws::images_are_of_rows;
 
@@ -21,10 +21,12 @@ pub fn a_new_file_says_its_checkpoint()
     images_are_of_rows();
 }
 
-/// Behind the fields and an image a journal's records are those of the checkpoint.
+/// Behind the fields and an image a journal's records are those of the checkpoint, and its file counts with that epoch.
 pub fn records_are_read_behind_an_image()
-    ensures { (epoch number : ℕ) (rows : Rows) (records : List (List ℕ)) (file : List ℕ) → IsStored rows → 0 < epoch → epoch < 2 ^ 64 → number ≤ 2 ^ 62 → length (image_of rows) < 2 ^ 64
+    ensures says { (epoch number : ℕ) (rows : Rows) (records : List (List ℕ)) (file : List ℕ) → IsStored rows → 0 < epoch → epoch < 2 ^ 64 → number ≤ 2 ^ 62 → length (image_of rows) < 2 ^ 64
         → ReadsAs (with_image epoch number rows) records file → contents file ≡ Ok (with_records epoch number rows records) }
+    ensures counts { (epoch number : ℕ) (rows : Rows) (records : List (List ℕ)) (file : List ℕ) → epoch < 2 ^ 64
+        → ReadsAs (with_image epoch number rows) records file → Counts epoch file }
 {
     images_are_of_rows();
 }
@@ -39,8 +41,8 @@ pub fn what_is_left_says_either()
     a_new_file_says_its_checkpoint();
 }
 
-/// Where the head gate was closed, a crash that leaves it open leaves the new file whole: the gate is written only once
+/// Where the head gate was there and closed, a crash that leaves it open leaves the new file whole: the gate is written only once
 /// all behind it is kept.
 pub fn an_open_head_has_its_body()
-    ensures { (before made file : List ℕ) → IsOneOf before made file → head_is_open before ≡ false → head_is_open file ≡ true → file ≡ made }
+    ensures { (before made file : List ℕ) → IsOneOf before made file → 9 ≤ length before → head_is_open before ≡ false → head_is_open file ≡ true → file ≡ made }
 {}

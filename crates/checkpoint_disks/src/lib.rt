@@ -15,15 +15,13 @@
 mod compacting;
 mod counting;
 mod fault;
-mod gates;
 mod heads;
 pub mod laws;
 mod layout;
 mod reading;
-mod scan;
 mod writing;
 
 pub use compacting::compact;
-pub use counting::{Side, read_pair, which};
+pub use counting::{Side, file_on, read_pair, which};
 pub use fault::CheckpointFault;
 pub use reading::{Checkpoint, read_file};

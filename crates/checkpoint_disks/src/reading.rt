@@ -1,16 +1,18 @@
 //! A checkpoint, read from the bytes of a file.
 
-ghost use Rattle.std.specs.Prelude.{◌≡◌, ◌+◌, ◌⊎◌};
-ghost use Rattle.database_image.specs.Image.{rows_of};
-ghost use Rattle.checkpoint_disks.specs.Files.{contents, rows_read, Answers};
+ghost use Rattle.std.specs.Prelude.{◌≡◌, ◌+◌, ◌<◌, ◌^◌, ◌⊎◌, true, Ok, length, IfOk};
+ghost use Rattle.database_image.specs.Image.{image_of, rows_of, IsStored};
+ghost use Rattle.racf_journal.specs.Reading.{walk};
+ghost use Rattle.checkpoint_disks.specs.Files.{is_formatted, head_is_open, contents, rows_read, records_read, Answers};
 ghost use Rattle.checkpoint_disks.specs.Counting.{as_read};
+ghost use Rattle.checkpoint_disks.specs.Compacting.{IsHeld};
 
 use crate::fault::CheckpointFault;
 use crate::heads::read_head;
 use crate::layout::IMAGE;
-use crate::scan::scan;
 use access_levels::Text;
 use database_image::ImageFault;
+use racf_journal::{FoundRecords, JournalFault, read_records};
 use racf_profiles::Rows;
 use std::alloc::Global;
 
@@ -38,11 +40,12 @@ pub struct Checkpoint {
 /// `Damaged` at the first field that has no lawful value: a field in front of the image, then one within it, then an
 /// open gate without a whole record. `NoMemory` where there was no room for the rows and the records.
 pub fn read_file(alloc: Global, bytes: &[u8]) -> Result<Checkpoint, CheckpointFault>
-    ensures { Answers as_read result (contents bytes.now) }
+    ensures contents { Answers as_read result (contents bytes.now) }
+    ensures held { is_formatted bytes.now ≡ true → head_is_open bytes.now ≡ true → IfOk result (λ read. IsHeld (as_read read) bytes.now) }
 {
     let head = read_head(bytes)?;
     let rows = read_rows(alloc, &bytes[IMAGE..head.start as usize])?;
-    let found = scan(alloc, &bytes[head.start as usize..], head.start)?;
+    let found = read_journal(alloc, &bytes[head.start as usize..], head.start)?;
     Ok(Checkpoint {
         epoch: head.epoch,
         number: head.number,
@@ -55,12 +58,26 @@ pub fn read_file(alloc: Global, bytes: &[u8]) -> Result<Checkpoint, CheckpointFa
 
 /// The rows of an image.
 fn read_rows(alloc: Global, image: &[u8]) -> Result<Rows, CheckpointFault>
-    ensures { Answers (λ rows. rows) result (rows_read (rows_of image.now)) }
+    ensures read { Answers (λ rows. rows) result (rows_read (rows_of image.now)) }
+    ensures found { IfOk result (λ rows. IsStored rows × (image.now ≡ image_of rows)) }
 {
     match database_image::read(alloc, image) {
         Ok(rows) => Ok(rows),
         Err(ImageFault::BadField(place)) => Err(damage(place)),
         Err(ImageFault::NoMemory) => Err(CheckpointFault::NoMemory),
+    }
+}
+
+/// The records behind an image.
+fn read_journal(alloc: Global, bytes: &[u8], start: u64) -> Result<FoundRecords, CheckpointFault>
+    requires { start + length bytes.now < 2 ^ 64 }
+    ensures read { Answers (λ found. record { records = found.records.items; gate = found.gate }) result (records_read (walk 0 start bytes.now)) }
+    ensures walked { IfOk result (λ found. walk 0 start bytes.now ≡ Ok (record { records = found.records.items; gate = found.gate })) }
+{
+    match read_records(alloc, bytes, start) {
+        Ok(found) => Ok(found),
+        Err(JournalFault::Damaged(place)) => Err(CheckpointFault::Damaged(place)),
+        Err(_) => Err(CheckpointFault::NoMemory),
     }
 }
 

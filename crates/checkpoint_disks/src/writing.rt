@@ -1,6 +1,6 @@
 //! How a checkpoint comes onto a disk.
 
-ghost use Rattle.std.specs.Prelude.{ℕ, ◌+◌, ◌<◌, ◌≡◌, ◌^◌, ◌++◌, ◌==◌, List, length, slice_index, IfOk, OnOk};
+ghost use Rattle.std.specs.Prelude.{ℕ, ◌+◌, ◌<◌, ◌≡◌, ◌^◌, ◌++◌, ◌==◌, ◌&&◌, not, nat_lt, List, length, slice_index, IfOk, OnOk};
 ghost use Rattle.racf_outside.specs.Causes.{HasCause};
 ghost use Rattle.racf_outside.specs.Crashes.{StaysIn};
 ghost use Rattle.racf_outside.specs.Disk.{Now};
@@ -28,16 +28,16 @@ pub(crate) fn write_behind<D: Disk>(disk: &mut D, fields: &[u8], rest: &[u8]) ->
     Ok(())
 }
 
-/// Closes the head gate, only where it is open: a crash within the write of a gate that is closed could open it, whatever
-/// stands behind it.
+/// Closes the head gate, where it is open or isn't there: a crash within the write of a gate that is closed could open it,
+/// whatever stands behind it.
 fn close_head<D: Disk>(disk: &mut D) -> Result<(), Failed>
     requires idle { Now (D.tells disk.old) IsIdle }
     ensures done { OnOk result (Now (D.tells disk.new) HoldsClosed) }
     ensures moments { (before : List ℕ) → Now (D.tells disk.old) (λ m. m.bytes ≡ before) → StaysIn (IsClosing before) (D.tells disk.old) (D.tells disk.new) }
     ensures cause { HasCause (D.faults disk.old) (D.faults disk.new) result }
 {
-    let opened = reads_open(disk)?;
-    if !opened {
+    let closed = reads_closed(disk)?;
+    if closed {
         return Ok(());
     }
     disk.write_at(HEAD, &[CLOSED])?;
@@ -45,22 +45,22 @@ fn close_head<D: Disk>(disk: &mut D) -> Result<(), Failed>
     Ok(())
 }
 
-/// Whether the head gate reads as open.
-fn reads_open<D: Disk>(disk: &mut D) -> Result<bool, Failed>
-    ensures value { IfOk result (λ opened. Now (D.tells disk.old) (λ m. opened ≡ head_is_open m.bytes)) }
+/// Whether a head gate is read, and is closed.
+fn reads_closed<D: Disk>(disk: &mut D) -> Result<bool, Failed>
+    ensures value { IfOk result (λ closed. Now (D.tells disk.old) (λ m. closed ≡ (nat_lt 8 (length m.bytes) && not (head_is_open m.bytes)))) }
     ensures kept { D.tells disk.new ≡ D.tells disk.old }
     ensures cause { HasCause (D.faults disk.old) (D.faults disk.new) result }
 {
     let mut gate = [CLOSED];
     let count = disk.read(HEAD, &mut gate)?;
-    Ok(is_open(&gate[..count]))
+    Ok(is_closed(&gate[..count]))
 }
 
-/// Whether a gate that was read, if any was, is open.
-fn is_open(gate: &[u8]) -> bool
-    ensures { result ≡ (slice_index gate.now 0 == 1) }
+/// Whether a gate was read, and is closed.
+fn is_closed(gate: &[u8]) -> bool
+    ensures { result ≡ (nat_lt 0 (length gate.now) && not (slice_index gate.now 0 == 1)) }
 {
-    matches!(gate, [OPEN, ..])
+    !gate.is_empty() && gate[0] != OPEN
 }
 
 /// Writes all from place 9 on behind a head gate that is closed.

@@ -8,7 +8,7 @@ use Rattle.racf_outside.specs.Crashes.{Leaves}
 use Rattle.racf_outside.proofs.Images.{front_stays, durable-leaves}
 use Rattle.racf_journal.specs.Reading.{IsEnd}
 use Rattle.racf_journal.specs.Repair.{Holds, HoldsEnd, Ends}
-use Rattle.racf_journal.proofs.Appends.{unwritten_before}
+use Rattle.racf_journal.proofs.Places.{unwritten_before}
 
 -- at most one byte is an end
 pub short_is_end : (bytes : List ℕ) → length bytes ≤ 1 → IsEnd bytes

@@ -1,12 +1,12 @@
 -- How the records of a file are found, one after another, and how its bytes are read.
-use Rattle.std.proofs.Common.{ℕ, ◌+◌, ◌-◌, ◌<◌, ◌≤◌, ◌≡◌, ◌∙◌, min, Bool, true, ◌||◌, List, [], ◌∷◌, ◌++◌, length, take, drop, Err, sym, ap, arith, append_assoc, length-append}
+use Rattle.std.proofs.Common.{ℕ, ◌+◌, ◌-◌, ◌<◌, ◌≤◌, ◌≡◌, ◌∙◌, min, Bool, true, false, ◌||◌, List, [], ◌∷◌, ◌++◌, length, take, drop, Ok, Err, sym, ap, arith, append_assoc, length-append}
 use Rattle.std.specs.Prelude.{bytes_eq}
 use Rattle.std.specs.List.{AllByRecursion}
 use Rattle.std.proofs.lemmas.List.{take_rest, take_min, take-take, drop-take, drop-drop, take-append-drop, length-take-le}
 use Rattle.std.proofs.lemmas.Bool.{eqb-true, le-ltb}
 use Rattle.racf_journal.specs.declared.fault.JournalFault.TheVariants.{Damaged}
 use Rattle.racf_journal.specs.Reading.{magic, is_formatted, claims, IsRecord, walk, is_open, spelled}
-use Rattle.racf_journal.proofs.Walks.{walk_to_damage, IsRecord-front, lawful-push, spelled-push}
+use Rattle.racf_journal.proofs.Walks.{walk_to_damage, walk_to_end, IsRecord-front, lawful-push, spelled-push}
 
 -- an open gate is X'01', and something follows it
 pub open_is : (bytes : List ℕ) → is_open bytes ≡ true → (bytes ≡ 1 ∷ drop 1 bytes) × (0 < length (drop 1 bytes))
@@ -48,6 +48,12 @@ module _ (bytes : List ℕ) (records : List (List ℕ)) (rest : List ℕ) (split
 
     pub scanned_to : (start gate : ℕ) → gate ≡ start + length (spelled records) → gate + (1 + length first) ≡ start + length (spelled more)
     scanned_to start gate to = omega (arith, to, ap (λ (l : List (List ℕ)). length (spelled l)) pushed, ap length (spelled-push records first), length-append (spelled records) (1 ∷ first))
+
+-- the end
+pub scanned_end : (bytes : List ℕ) (records : List (List ℕ)) (rest : List ℕ) → bytes ≡ spelled records ++ rest → AllByRecursion IsRecord records → is_open rest ≡ false → (start gate : ℕ) → gate ≡ start + length (spelled records)
+    → walk 0 start bytes ≡ Ok (record { records = records; gate = gate })
+scanned_end bytes records rest split lawful is start gate to =
+    ap (walk 0 start) split ∙ walk_to_end records start rest lawful is ∙ ap (λ n. Ok (record { records = records; gate = n })) (sym to)
 
 -- a piece more of what is read from a place on
 pub read_more : (bytes piece more file : List ℕ) (start count : ℕ) → bytes ≡ take (length bytes) (drop start file) → length piece ≡ count → piece ≡ take count (drop (start + length bytes) file) → more ≡ bytes ++ piece → more ≡ take (length more) (drop start file)

@@ -14,7 +14,7 @@ use crate::fault::JournalFault;
 use crate::journal::Journal;
 use crate::reading::{is_formatted, read_from};
 use crate::repair::repair;
-use crate::scan::{Found, scan};
+use crate::scan::{FoundRecords, read_records};
 use access_levels::Text;
 use racf_outside::Disk;
 use std::alloc::Global;
@@ -27,7 +27,7 @@ pub struct FoundJournal<D: Disk> {
     /// Where its first gate is.
     start: u64,
     /// Its records, and where its last gate is.
-    found: Found,
+    found: FoundRecords,
     /// The bytes of the file from that gate on.
     end: Text,
 }
@@ -79,6 +79,27 @@ impl<D: Disk> Journal<D> {
 }
 
 impl<D: Disk> FoundJournal<D> {
+    /// The journal that was read of a disk as the end of its file: these records from the place `start` on, and the bytes
+    /// `end` from the gate behind them on. The disk holds them, and a crash changes none of it.
+    pub fn behind(disk: D, start: u64, found: FoundRecords, end: Text) -> FoundJournal<D>
+        requires { IsFound start found.gate found.records.items end (D.tells disk) }
+        ensures { result ≡ record { disk = disk; start = start; gate = found.gate; records = found.records.items } }
+    {
+        FoundJournal {
+            disk,
+            start,
+            found,
+            end,
+        }
+    }
+
+    /// Where its first gate is.
+    pub fn start(&self) -> u64
+        ensures { result ≡ self.now.start }
+    {
+        self.start
+    }
+
     /// The records, in their order.
     pub fn records(&self) -> &[Text]
         ensures { result.now ≡ self.now.records }
@@ -106,7 +127,7 @@ impl<D: Disk> FoundJournal<D> {
         let FoundJournal {
             mut disk,
             start,
-            found: Found { records, gate },
+            found: FoundRecords { records, gate },
             end,
         } = self;
         match repair(&mut disk, gate, end.bytes()) {
@@ -130,7 +151,11 @@ impl<D: Disk> FoundJournal<D> {
 }
 
 /// Finds the records of a disk, and the bytes of its file from the last gate on. The disk is synced, and then only read.
-fn find<D: Disk>(alloc: Global, disk: &mut D, start: u64) -> Result<(Found, Text), JournalFault>
+fn find<D: Disk>(
+    alloc: Global,
+    disk: &mut D,
+    start: u64,
+) -> Result<(FoundRecords, Text), JournalFault>
     requires { IsStart start (D.tells disk.old) }
     ensures reads { IfOk result (λ seen. Now (D.tells disk.old) (λ m. reading start m.bytes ≡ Ok (record { records = seen.0.records.items; gate = seen.0.gate }))) }
     ensures found { IfOk result (λ seen. IsFound start seen.0.gate seen.0.records.items seen.1 (D.tells disk.new)) }
@@ -149,7 +174,11 @@ fn find<D: Disk>(alloc: Global, disk: &mut D, start: u64) -> Result<(Found, Text
 }
 
 /// The records of a disk, and the bytes of its file from the start on. The disk is only read.
-fn read<D: Disk>(alloc: Global, disk: &mut D, start: u64) -> Result<(Found, Vec<u8>), JournalFault>
+fn read<D: Disk>(
+    alloc: Global,
+    disk: &mut D,
+    start: u64,
+) -> Result<(FoundRecords, Vec<u8>), JournalFault>
     ensures seen { IfOk result (λ seen. Now (D.tells disk.old) (λ m. (is_formatted start m.bytes ≡ true) × (seen.1.items ≡ drop start m.bytes))) }
     ensures found { IfOk result (λ seen. IsScanned start seen.1.items seen.0.records.items seen.0.gate) }
     ensures room { IfOk result (λ seen. start + length seen.1.items < 2 ^ 64) }
@@ -163,6 +192,6 @@ fn read<D: Disk>(alloc: Global, disk: &mut D, start: u64) -> Result<(Found, Vec<
         return Err(JournalFault::NotFormatted);
     }
     let bytes = read_from(alloc, disk, start)?;
-    let found = scan(alloc, &bytes, start)?;
+    let found = read_records(alloc, &bytes, start)?;
     Ok((found, bytes))
 }

@@ -16,6 +16,7 @@ use access_levels::Text;
 use racf_outside::Disk;
 use std::alloc::Global;
 use std::marker::Model;
+use std::mem;
 
 /// Records behind gates, on a disk of its own or in the last part of a file.
 pub struct Journal<D: Disk> {
@@ -54,6 +55,30 @@ impl<D: Disk> Journal<D> {
             }),
             Err(fault) => Err((disk, JournalFault::from(fault))),
         }
+    }
+
+    /// A journal without records at the end of a file: its one gate stands at `start`, and nothing is in doubt.
+    pub fn behind(disk: D, start: u64) -> Journal<D>
+        requires rest { Now (D.tells disk) (IsResting start start) }
+        ensures { result ≡ record { disk = disk; start = start; gate = start } }
+    {
+        Journal {
+            disk,
+            start,
+            gate: start,
+        }
+    }
+
+    /// Goes over to another disk, as a journal without records at the end of its file, and hands the former one back in
+    /// its place.
+    pub fn turn_to(&mut self, other: &mut D, start: u64)
+        requires rest { Now (D.tells other.old) (IsResting start start) }
+        ensures journal { self.new ≡ record { disk = other.old; start = start; gate = start } }
+        ensures former { other.new ≡ self.old.disk }
+    {
+        mem::swap(&mut self.disk, other);
+        self.start = start;
+        self.gate = start;
     }
 
     /// Opens the journal that begins at `start`, and gives its whole open records. At every moment a crash leaves a

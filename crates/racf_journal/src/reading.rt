@@ -29,12 +29,12 @@ pub(crate) fn is_formatted<D: Disk>(disk: &mut D, start: u64) -> Result<bool, Fa
     Ok(bytes[..count] == MAGIC[..])
 }
 
-/// The bytes of the file from a place on.
-pub(crate) fn read_from<D: Disk>(
-    alloc: Global,
-    disk: &mut D,
-    start: u64,
-) -> Result<Vec<u8>, JournalFault>
+/// The bytes of a file from a place on. It is only read.
+///
+/// # Errors
+///
+/// `DiskFault` where the disk failed, and `NoMemory` where there was no room for the bytes.
+pub fn read_from<D: Disk>(alloc: Global, disk: &mut D, start: u64) -> Result<Vec<u8>, JournalFault>
     ensures bytes { IfOk result (λ bytes. Now (D.tells disk.old) (λ m. bytes.items ≡ drop start m.bytes)) }
     ensures room { IfOk result (λ bytes. start + length bytes.items < 2 ^ 64) }
     ensures kept { D.tells disk.new ≡ D.tells disk.old }

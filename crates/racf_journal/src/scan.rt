@@ -1,6 +1,6 @@
 //! How the records of a journal are found.
 
-ghost use Rattle.std.specs.Prelude.{◌+◌, ◌<◌, ◌≡◌, ◌≢◌, ◌^◌, ◌⊎◌, Err, length, IfOk, IfErr};
+ghost use Rattle.std.specs.Prelude.{◌+◌, ◌<◌, ◌≡◌, ◌≢◌, ◌^◌, ◌⊎◌, Ok, Err, length, IfOk, IfErr};
 ghost use Rattle.racf_journal.specs.declared.fault.JournalFault.TheVariants as fault;
 ghost use Rattle.racf_journal.specs.Reading.{walk};
 ghost use Rattle.racf_journal.specs.Repair.{IsScanned};
@@ -12,19 +12,25 @@ use std::alloc::Global;
 
 /// What is found in a journal.
 #[derive(Drop)]
-pub(crate) struct Found {
+pub struct FoundRecords {
     /// The open records.
-    pub(crate) records: Vec<Text>,
+    pub records: Vec<Text>,
     /// The place of the closed gate behind them.
-    pub(crate) gate: u64,
+    pub gate: u64,
 }
 
-/// The records in the bytes of a file from the place `start` on.
-pub(crate) fn scan(alloc: Global, bytes: &[u8], start: u64) -> Result<Found, JournalFault>
+/// The whole open records in the bytes of a file from the place `start` on, where its journal begins.
+///
+/// # Errors
+///
+/// `Damaged` at the first open gate that has no whole record behind it; `NoMemory` where there was no room for the
+/// records.
+pub fn read_records(alloc: Global, bytes: &[u8], start: u64) -> Result<FoundRecords, JournalFault>
     requires { start + length bytes.now < 2 ^ 64 }
+    ensures read { IfOk result (λ found. walk 0 start bytes.now ≡ Ok (record { records = found.records.items; gate = found.gate })) }
     ensures found { IfOk result (λ found. IsScanned start bytes.now found.records.items found.gate) }
     ensures fault { IfErr result (λ why. (walk 0 start bytes.now ≡ Err why) ⊎ (why ≡ fault.NoMemory)) }
-    ensures no_other { IfErr result (λ why. (why ≢ fault.DiskFault) × (why ≢ fault.Full)) }
+    ensures no_other { IfErr result (λ why. (why ≢ fault.DiskFault) × (why ≢ fault.NotFormatted) × (why ≢ fault.Full)) }
 {
     let mut records = Vec::new(alloc);
     let mut rest = bytes;
@@ -37,5 +43,5 @@ pub(crate) fn scan(alloc: Global, bytes: &[u8], start: u64) -> Result<Found, Jou
         gate += 1 + next.len() as u64;
         rest = &rest[1 + next.len()..];
     }
-    Ok(Found { records, gate })
+    Ok(FoundRecords { records, gate })
 }

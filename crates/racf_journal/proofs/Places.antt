@@ -1,19 +1,25 @@
--- One byte written within a file, and the images that a crash leaves of it.
+-- One byte written within a file or behind it, and the images that a crash leaves of it.
 use Rattle.std.proofs.Common.{ℕ, ◌+◌, ◌<◌, ◌≤◌, ◌≡◌, ◌∙◌, false, not, ◌&&◌, ◌||◌, ltb, List, [], ◌∷◌, ◌++◌, length, get_or, drop, sym, ap, arith, append_assoc, length-append}
-use Rattle.std.proofs.lemmas.List.{take_at, drop_at, drop_more}
+use Rattle.std.proofs.lemmas.List.{take_all, take_at, drop_all, drop_at, drop_more, append-nil}
 use Rattle.std.proofs.lemmas.Bool.{lt-ltb, le-ltb}
 use Rattle.racf_outside.specs.Moments.{Moment, IsImage, is_written, durable, written}
 use Rattle.racf_outside.proofs.Images.{front_stays, back_stays}
 
 -- a place before or behind the one range that was written
-unwritten_before : (place from to : ℕ) → place < from → is_written ((from, to) ∷ []) place ≡ false
+pub unwritten_before : (place from to : ℕ) → place < from → is_written ((from, to) ∷ []) place ≡ false
 unwritten_before place from to before = ap (λ b. (not b && ltb place to) || false) (lt-ltb place from before)
 
-unwritten_behind : (place from to : ℕ) → to ≤ place → from ≤ to → is_written ((from, to) ∷ []) place ≡ false
+pub unwritten_behind : (place from to : ℕ) → to ≤ place → from ≤ to → is_written ((from, to) ∷ []) place ≡ false
 unwritten_behind place from to behind order =
     ap (λ b. (not b && ltb place to) || false) (le-ltb place from (omega arith)) ∙ ap (λ b. b || false) (le-ltb place to behind)
 
--- the bytes behind it
+-- a write behind all bytes, and one over a byte
+pub written_end : (place : ℕ) (bytes more : List ℕ) → place ≡ length bytes → (written place more (durable bytes)).bytes ≡ bytes ++ more
+written_end place bytes more at_end =
+    ap (λ (l : List ℕ). l ++ (more ++ drop (place + length more) bytes)) (take_all place bytes (omega (arith, at_end)))
+    ∙ ap (λ (l : List ℕ). bytes ++ (more ++ l)) (drop_all (place + length more) bytes (omega (arith, at_end)))
+    ∙ ap (λ (l : List ℕ). bytes ++ l) (append-nil more)
+
 pub written_byte : (place : ℕ) (base rest : List ℕ) (old byte : ℕ) → length base ≡ place → (written place (byte ∷ []) (durable (base ++ old ∷ rest))).bytes ≡ base ++ byte ∷ rest
 written_byte place base rest old byte at =
     let split : base ++ old ∷ rest ≡ (base ++ old ∷ []) ++ rest = sym (append_assoc base (old ∷ []) rest) in

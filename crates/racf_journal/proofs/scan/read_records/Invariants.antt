@@ -2,7 +2,7 @@
 use Rattle.std.proofs.Common.{◌+◌, ◌≡◌, ◌++◌, length}
 use Rattle.std.specs.List.{AllByRecursion}
 use Rattle.racf_journal.specs.Reading.{IsRecord, spelled}
-use Rattle.checkpoint_disks.proofs.scan.scan.Given as goal
+use Rattle.racf_journal.proofs.scan.read_records.Given as goal
 
 abbrev pub invariant-loop-rest : goal.invariant-loop-rest
 invariant-loop-rest l =

@@ -6,7 +6,9 @@ ghost use Rattle.racf_outside.specs.Causes.{Rose};
 ghost use Rattle.racf_outside.specs.Crashes.{Leaves, StaysIn};
 ghost use Rattle.racf_outside.specs.Disk.{Now};
 ghost use Rattle.racf_outside.specs.Moments.{durable};
+ghost use Rattle.racf_profiles.specs.Lawful.{AreLawful};
 ghost use Rattle.database_image.specs.Image.{image_of, IsStored};
+ghost use Rattle.database_image.specs.Spelled.{AreSpelled};
 ghost use Rattle.checkpoint_disks.specs.Compacting.{IsIdle, IsOneOf, CountsBeside, SaysEither, said_beside, fields, new_file, new_checkpoint};
 ghost use Rattle.checkpoint_disks.specs.declared.counting.Side.{Side};
 ghost use Rattle.checkpoint_disks.specs.declared.fault.CheckpointFault.TheVariants as fault;
@@ -15,6 +17,7 @@ use crate::fault::CheckpointFault;
 use crate::laws::a_new_file_says_its_checkpoint;
 use crate::layout::{CLOSED, IMAGE};
 use crate::writing::write_behind;
+use database_image::laws::lawful_rows_are_stored;
 use racf_outside::Disk;
 use racf_profiles::{NoMemory, Rows};
 use std::alloc::Global;
@@ -35,10 +38,11 @@ pub fn compact<D: Disk>(
     rows: &Rows,
 ) -> Result<u64, CheckpointFault>
     requires idle { Now (D.tells idle.old) IsIdle }
-    requires stored { IsStored rows.now }
+    requires lawful { AreLawful rows.now }
     requires number { number ≤ 2 ^ 62 }
 
     ensures start { IfOk result (λ start. start ≡ 33 + length (image_of rows.now)) }
+    ensures stored { OnOk result (IsStored rows.now) }
     ensures done { OnOk result (Now (D.tells idle.new) (λ m. m ≡ durable (new_file epoch number rows.now))) }
     ensures counts { OnOk result ((side : Side) (live before : List ℕ) → CountsBeside side before live epoch
         → Now (D.tells idle.new) (Leaves (λ file. said_beside side file live ≡ Ok (new_checkpoint epoch number rows.now)))) }
@@ -52,6 +56,7 @@ pub fn compact<D: Disk>(
     ensures no_fewer { D.faults idle.old ≤ D.faults idle.new }
 {
     a_new_file_says_its_checkpoint();
+    lawful_rows_are_stored();
     let image = image_and_gate(alloc, rows)?;
     let size = image.len() as u64 - 1;
     let fields = fields_of(alloc, epoch, number, size)?;
@@ -61,7 +66,8 @@ pub fn compact<D: Disk>(
 
 /// The image of rows, and the closed gate of a journal behind it.
 fn image_and_gate(alloc: Global, rows: &Rows) -> Result<Vec<u8>, NoMemory>
-    ensures { IfOk result (λ bytes. bytes.items ≡ image_of rows.now ++ 0 ∷ []) }
+    ensures image { IfOk result (λ bytes. bytes.items ≡ image_of rows.now ++ 0 ∷ []) }
+    ensures spelled { IfOk result (λ bytes. AreSpelled rows.now) }
 {
     let mut bytes = database_image::write(alloc, rows)?;
     bytes.push(CLOSED)?;

@@ -2,7 +2,7 @@
 import os, resource, shutil, subprocess, sys, time
 
 top = os.path.dirname(os.path.dirname(os.path.realpath(__file__)))
-sys.path.append(os.path.join(top, "tools"))
+sys.path += [os.path.join(top, "tools"), os.path.join(top, "tests")]
 import databases
 
 NAME = f"bench/{os.path.basename(sys.argv[0])}"

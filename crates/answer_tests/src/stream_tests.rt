@@ -78,9 +78,13 @@ fn disk_of(rt: &(impl AllocGlobal + Abort), bytes: &[u8]) -> MemoryDisk {
 
 /// Disks that hold a new database.
 fn database(rt: &(impl AllocGlobal + Abort)) -> Two<MemoryDisk> {
-    Two {
-        first: disk_of(rt, b"RACFJNL1\0"),
+    let disks = Two {
+        first: disk_of(rt, b""),
         second: disk_of(rt, b""),
+    };
+    match Desk::format(rt.alloc(), disks) {
+        Ok(desk) => desk.into_disks(),
+        Err((disks, _)) => disks,
     }
 }
 

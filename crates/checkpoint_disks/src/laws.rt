@@ -41,8 +41,8 @@ pub fn what_is_left_says_either()
     a_new_file_says_its_checkpoint();
 }
 
-/// Where the head gate was there and closed, a crash that leaves it open leaves the new file whole: the gate is written only once
-/// all behind it is kept.
+/// Where the head gate was there and closed, a crash that leaves it open leaves the new file whole: the gate is
+/// written only once all behind it is kept.
 pub fn an_open_head_has_its_body()
     ensures { (before made file : List ℕ) → IsOneOf before made file → 9 ≤ length before → head_is_open before ≡ false → head_is_open file ≡ true → file ≡ made }
 {}

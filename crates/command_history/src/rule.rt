@@ -88,22 +88,26 @@ pub trait Naming {
     ghost use Rattle.std.specs.Prelude.{ℕ, Option};
     ghost use Rattle.logbook.specs.Pages.{Book};
     ghost use Rattle.racf_outside.specs.Disk.{History};
+    ghost use Rattle.racf_desk.specs.Durable.{IdleDisk};
     ghost use Rattle.racf_desk.specs.Position.{Position};
 
     // The book of the history.
     ghost book: { Book };
     // Where the history begins.
     ghost base: { Position };
-    // How many faults of the disk had been counted there.
+    // How many faults of the disk of its desk that counts had been counted there, and how many of the other.
     ghost faults: { ℕ };
-    // What the first disk of its desk told there, and what the second did.
-    ghost first_disk: { Option History };
 
-    ghost second_disk: { Option History };
+    ghost idle_faults: { ℕ };
+    // What the disk that counts told there, and what is told of the other.
+    ghost live_disk: { Option History };
+
+    ghost idle_disk: { IdleDisk };
 }
 
 impl Naming for Brand {
     ghost use Rattle.std.specs.Prelude.{None};
+    ghost use Rattle.checkpoint_disks.specs.declared.counting.Side.TheVariants.{First};
     ghost use Rattle.racf_desk.specs.Position.{first_position};
 
     ghost book = { record { number = 0; log_name = 0; cells_name = 0 } };
@@ -112,7 +116,9 @@ impl Naming for Brand {
 
     ghost faults = { 0 };
 
-    ghost first_disk = { None };
+    ghost idle_faults = { 0 };
 
-    ghost second_disk = { None };
+    ghost live_disk = { None };
+
+    ghost idle_disk = { record { side = First; told = None } };
 }

@@ -1,7 +1,8 @@
 //! A stream over a disk of which each call fails in turn: what is printed, what a read of the disk gives then, and where
 //! a desk stands that is opened over what a crash leaves at that moment.
 
-use crate::layout_tests::{NEW, Opened, Stand, disks_of, open_desk, read_as, stand_of};
+use crate::files::{BARE, EMPTY, Held, disks_of, first_alone, held_bytes, read_as};
+use crate::layout_tests::{Opened, Stand, open_desk, stand_of};
 use racf_desk::Desk;
 use racf_outside::{MemoryDisk, MemorySink, MemorySource, Two};
 use racf_run::{Status, script};
@@ -61,8 +62,14 @@ const STANDS: [Stand; 8] = [
     (7, [false, false, true]),
 ];
 
+/// Where the journal of a new database begins.
+const START: usize = 346;
+
 /// How many bytes a record takes with its gate.
 const STEP: usize = 32;
+
+/// How many calls an opening makes of each disk: a sync, and reads up to one that gives nothing.
+const OPENING: u64 = 3;
 
 /// The output where the third accepted command fails.
 const THIRD_FAILS: &str = "1 ACCEPTED
@@ -131,7 +138,8 @@ fn output(rt: &(impl AllocGlobal + Abort), fault: u64) -> String {
 
 /// The file of the first of the records, as many as are asked for: in front of the last is this gate.
 fn file(rt: &(impl AllocGlobal + Abort), records: u64, last_gate: u8) -> Vec<u8> {
-    let mut bytes = Vec::from_slice(rt.alloc(), b"RACFJNL1").expect(rt, "memory");
+    let mut bytes = held_bytes(rt, &Held::First(EMPTY));
+    bytes.truncate(START);
     let mut number: u64 = 0;
     for record in &RECORDS {
         number = number.saturating_add(1);
@@ -155,10 +163,10 @@ struct Worked {
     output: Vec<u8>,
 }
 
-/// Opens the database of a disk that fails at this call, and works a stream of which a read or a write is to fail.
+/// Opens a new database on disks that fail at these calls, and works a stream of which a read or a write is to fail.
 fn run_stream(
     rt: &(impl AllocGlobal + Abort),
-    failing: u64,
+    failing: (u64, u64),
     input: &str,
     (read, write): (u64, u64),
 ) -> Worked {
@@ -167,7 +175,8 @@ fn run_stream(
     let writes = Vec::from_slice(rt.alloc(), &[write]).expect(rt, "memory");
     let source = MemorySource::new(input, reads);
     let mut sink = MemorySink::new(rt.alloc(), writes);
-    match Desk::open(rt.alloc(), disks_of(rt, NEW, failing)) {
+    let new = held_bytes(rt, &Held::First(EMPTY));
+    match Desk::open(rt.alloc(), disks_of(rt, &new, BARE, failing)) {
         Ok(desk) => {
             let (status, _source, desk) = script(rt.alloc(), source, &mut sink, desk);
             let ended = Some((status, desk.halted(), stand_of(&desk)));
@@ -196,7 +205,7 @@ fn input(rt: &(impl AllocGlobal + Abort)) -> String {
 
 /// Asserts that these bytes stand for the position behind so many commands.
 fn assert_stands(rt: &(impl AllocGlobal + Abort), bytes: &[u8], number: u64) {
-    let Opened { disks: _, found } = open_desk(rt, disks_of(rt, bytes, 0));
+    let Opened { disks: _, found } = open_desk(rt, first_alone(rt, bytes, 0));
     assert!(rt; found == Ok(stand_behind(number)), "{number}: {bytes:?}");
 }
 
@@ -238,7 +247,10 @@ fn assert_left(rt: &(impl AllocGlobal + Abort), disks: Two<MemoryDisk>, number: 
         1 | 2 => (file(rt, next, 0), number),
         _ => (file(rt, next, 1), next),
     };
-    assert!(rt; read_as(&disks, &bytes), "step {step} behind {number}");
+    assert!(rt;
+        read_as(&disks, &bytes, BARE),
+        "step {step} behind {number}"
+    );
     match step {
         1 => assert_record_in_doubt(rt, &bytes, number),
         3 => assert_gate_in_doubt(rt, number),
@@ -246,7 +258,7 @@ fn assert_left(rt: &(impl AllocGlobal + Abort), disks: Two<MemoryDisk>, number: 
     }
     let Opened { disks, found } = open_desk(rt, disks);
     let rest = file(rt, counted, 1);
-    assert!(rt; found == Ok(stand_behind(counted)) && read_as(&disks, &rest));
+    assert!(rt; found == Ok(stand_behind(counted)) && read_as(&disks, &rest, BARE));
 }
 
 /// Where no call fails, the whole output is written, and the disk holds all records.
@@ -256,27 +268,33 @@ fn streams_end(rt: HostRuntime) {
         disks,
         ended,
         output: written,
-    } = run_stream(&rt, 33, &input(&rt), (0, 0));
+    } = run_stream(&rt, (OPENING + 29, OPENING + 1), &input(&rt), (0, 0));
     assert!(rt; ended == Some((Status::Refusals, false, STANDS[7])));
     assert!(rt; written.as_slice() == output(&rt, 7).as_bytes());
     assert!(rt; output(&rt, 2).as_str() == THIRD_FAILS);
-    assert!(rt; disks.first.faults() == 0 && read_as(&disks, &file(&rt, 7, 1)));
+    assert!(rt; disks.first.faults() == 0 && disks.second.faults() == 0);
+    assert!(rt; read_as(&disks, &file(&rt, 7, 1), BARE));
     assert_stands(&rt, disks.first.bytes(), 7);
 }
 
-/// Opening takes four calls, of which none changes the disk.
+/// Opening takes three calls of each disk, of which none changes it.
 #[test]
 fn openings_stop(rt: HostRuntime) {
-    for failing in 1..5 {
-        let run = run_stream(&rt, failing, &input(&rt), (0, 0));
-        assert!(rt; run.ended.is_none() && run.output.is_empty());
-        assert!(rt; run.disks.first.faults() == 1 && read_as(&run.disks, NEW));
-        assert!(rt; open_desk(&rt, run.disks).found == Ok(STANDS[0]));
+    let new = held_bytes(&rt, &Held::First(EMPTY));
+    for failing in 1..=OPENING {
+        for (first, second) in [(failing, 0), (0, failing)] {
+            let run = run_stream(&rt, (first, second), &input(&rt), (0, 0));
+            let faults = [run.disks.first.faults(), run.disks.second.faults()];
+            assert!(rt; run.ended.is_none() && run.output.is_empty());
+            assert!(rt; faults == [u64::from(first > 0), u64::from(second > 0)]);
+            assert!(rt; read_as(&run.disks, &new, BARE));
+            assert!(rt; open_desk(&rt, run.disks).found == Ok(STANDS[0]));
+        }
     }
 }
 
-/// Each accepted command takes four calls: a write and a sync of its record, and of its gate. Where one fails, the command
-/// is told so, each further command is told that the desk is halted, and requests are answered on.
+/// Each accepted command takes four calls of the disk that counts: a write and a sync of its record, and of its gate. Where
+/// one fails, the command is told so, each further command is told that the desk is halted, and requests are answered on.
 #[test]
 fn commands_stop(rt: HostRuntime) {
     let stream = input(&rt);
@@ -285,12 +303,12 @@ fn commands_stop(rt: HostRuntime) {
             let failing = number
                 .saturating_mul(4)
                 .saturating_add(step)
-                .saturating_add(5);
+                .saturating_add(OPENING + 1);
             let Worked {
                 disks,
                 ended,
                 output: written,
-            } = run_stream(&rt, failing, &stream, (0, 0));
+            } = run_stream(&rt, (failing, 0), &stream, (0, 0));
             let stand = stand_behind(number);
             assert!(rt;
                 ended == Some((Status::DiskFault, true, stand)),
@@ -300,7 +318,7 @@ fn commands_stop(rt: HostRuntime) {
                 written.as_slice() == output(&rt, number).as_bytes(),
                 "at call {failing}"
             );
-            assert!(rt; disks.first.faults() == 1);
+            assert!(rt; disks.first.faults() == 1 && disks.second.faults() == 0);
             assert_left(&rt, disks, number, step);
         }
     }
@@ -316,8 +334,22 @@ const LATER_FAULTS: [(u64, u64, &str); 3] = [
 #[test]
 fn a_fault_of_the_disk_counts_for_more(rt: HostRuntime) {
     for (read, write, printed) in &LATER_FAULTS {
-        let run = run_stream(&rt, 5, "AU JOE\nAU BOB", (*read, *write));
+        let run = run_stream(&rt, (OPENING + 1, 0), "AU JOE\nAU BOB", (*read, *write));
         assert!(rt; run.ended == Some((Status::DiskFault, true, STANDS[0])));
         assert!(rt; run.output.as_slice() == printed.as_bytes());
     }
+}
+
+/// The second sync of the second command is its last call. Where it fails, whoever asks is answered as before it, and what a
+/// crash leaves has one of the commands or two, by the byte in the gate.
+#[test]
+fn the_second_sync_of_the_second_command_fails(rt: HostRuntime) {
+    let stream = "AU JOE\nAU BOB\nAU CAT\nVERIFY A IBMUSER\n";
+    let printed = "1 ACCEPTED\n1 DISKFAULT\n1 HALTED\n1 0 VERIFIED\n";
+    let run = run_stream(&rt, (OPENING + 8, 0), stream, (0, 0));
+    assert!(rt;
+        run.ended == Some((Status::DiskFault, true, STANDS[1])) && Status::DiskFault.code() == 20
+    );
+    assert!(rt; run.output.as_slice() == printed.as_bytes());
+    assert_left(&rt, run.disks, 1, 3);
 }

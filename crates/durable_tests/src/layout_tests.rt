@@ -1,30 +1,19 @@
-//! What lies on the first disk of a desk: behind `format` and a command, and before and behind `open`.
+//! What lies on the disks of a desk: behind `format`, a command and a compaction, and before and behind `open`.
 
 ghost use Rattle.std.specs.Prelude.{◌≡◌, false, IfOk};
 
+use crate::files::{BARE, BOB, EMPTY, Held, JOE, NOBODY, disks_of, held_bytes, read_as};
 use access_levels::Id;
-use racf_checkpoint::StoreFault;
+use racf_checkpoint::{Loaded, Store, StoreFault};
 use racf_desk::{Desk, Reply};
 use racf_outside::{Disk, MemoryDisk, Two};
 use racf_profiles::ibmuser;
 use raclist_image::Image;
 use std::process::Abort;
 
-/// The file of a new database.
-pub(crate) const NEW: &[u8] = b"RACFJNL1\0";
-
-/// The file behind `AU JOE` by IBMUSER.
-pub(crate) const JOE: &[u8] = b"RACFJNL1\x01\0\0\0\x1bIBMUSER SYS1    ADDUSER JOE\0";
-
-/// A file whose one record deletes a user who isn't there.
-pub(crate) const NOBODY: &[u8] = b"RACFJNL1\x01\0\0\0\x1bIBMUSER SYS1    DELUSER JOE\0";
-
 /// Where a desk stands, as it can be told from outside: the number of the accepted commands, and whether the users JOE, BOB
 /// and JIM are there.
 pub(crate) type Stand = (u64, [bool; 3]);
-
-/// What the second disk holds, which isn't used yet.
-pub(crate) const SECOND: &[u8] = b"XYZ";
 
 /// Two disks behind an opening, and where the desk stood, or why none was opened.
 #[derive(Drop)]
@@ -33,30 +22,6 @@ pub(crate) struct Opened {
     pub(crate) disks: Two<MemoryDisk>,
     /// Where the desk stood.
     pub(crate) found: Result<Stand, StoreFault>,
-}
-
-/// A disk in memory that holds these bytes, and of whose calls the one of this number is to fail; none where it is 0.
-fn disk_of(rt: &(impl AllocGlobal + Abort), bytes: &[u8], failing: u64) -> MemoryDisk {
-    let bytes = Vec::from_slice(rt.alloc(), bytes).expect(rt, "memory");
-    let failing = Vec::from_slice(rt.alloc(), &[failing]).expect(rt, "memory");
-    MemoryDisk::new(rt.alloc(), bytes, failing).expect(rt, "memory")
-}
-
-/// Two disks, of which the first holds these bytes and fails at that call.
-pub(crate) fn disks_of(
-    rt: &(impl AllocGlobal + Abort),
-    bytes: &[u8],
-    failing: u64,
-) -> Two<MemoryDisk> {
-    Two {
-        first: disk_of(rt, bytes, failing),
-        second: disk_of(rt, SECOND, 0),
-    }
-}
-
-/// Whether the first disk reads so, and the second is as it was.
-pub(crate) fn read_as(disks: &Two<MemoryDisk>, bytes: &[u8]) -> bool {
-    disks.first.bytes() == bytes && disks.second.bytes() == SECOND
 }
 
 /// Whether there is a user of this name.
@@ -102,6 +67,7 @@ pub(crate) fn formatted(
 ) -> Result<Desk<MemoryDisk>, Two<MemoryDisk>>
     ensures running { IfOk result (λ desk. desk.halted ≡ false) }
     ensures settled { IfOk result (λ desk. desk.committed ≡ false) }
+    ensures epoch { IfOk result (λ desk. desk.store.epoch ≡ 1) }
 {
     match Desk::format(rt.alloc(), disks) {
         Ok(desk) => Ok(desk),
@@ -109,94 +75,246 @@ pub(crate) fn formatted(
     }
 }
 
-/// A new database is nine bytes, whatever the disk held, and its first command 32 more.
+/// The number of the checkpoint that the disks say, and how many records are behind it.
+pub(crate) fn loaded(
+    rt: &impl AllocGlobal,
+    disks: Two<MemoryDisk>,
+) -> Result<(u64, usize), StoreFault> {
+    match Store::load(rt.alloc(), disks) {
+        Ok(
+            Loaded {
+                store,
+                rows: _rows,
+                number,
+                start: _,
+                records,
+            },
+        ) => {
+            let _disks = store.into_disks();
+            Ok((number, records.len()))
+        }
+        Err((_, fault)) => Err(fault),
+    }
+}
+
+/// A new database is a checkpoint on the first disk, whatever the disks held, and its first command 32 bytes more.
 #[test]
 fn the_first_rows(rt: HostRuntime) {
-    for held in [b"".as_slice(), b"ABC", JOE, NOBODY] {
-        let Ok(mut desk) = formatted(&rt, disks_of(&rt, held, 0)) else {
+    let (new, joe) = (
+        held_bytes(&rt, &Held::First(EMPTY)),
+        held_bytes(&rt, &Held::First(JOE)),
+    );
+    for held in [
+        Held::Bytes(b""),
+        Held::Bytes(b"ABC"),
+        Held::First(NOBODY),
+        Held::Second(EMPTY),
+    ] {
+        let bytes = held_bytes(&rt, &held);
+        let Ok(mut desk) = formatted(&rt, disks_of(&rt, &bytes, &bytes, (0, 0))) else {
             panic!(rt; "a disk failed")
         };
         let before = stand_of(&desk);
         let reply = desk.execute(rt.alloc(), ibmuser(), None, b"AU JOE");
         assert!(rt; before == (0, [false; 3]) && matches!(reply, Reply::Accepted(1)));
-        assert!(rt; read_as(&desk.into_disks(), JOE));
+        assert!(rt; read_as(&desk.into_disks(), &joe, BARE));
 
-        let Ok(desk) = formatted(&rt, disks_of(&rt, held, 0)) else {
+        let Ok(desk) = formatted(&rt, disks_of(&rt, &bytes, &bytes, (0, 0))) else {
             panic!(rt; "a disk failed")
         };
-        assert!(rt; read_as(&desk.into_disks(), NEW));
+        assert!(rt; read_as(&desk.into_disks(), &new, BARE));
     }
+    assert!(rt; new.len() == 347 && joe.len() == 379);
 }
 
-/// A file, where a desk stands that is opened over it or why none is, and what that leaves of the file.
-type Opening = (&'static [u8], Result<Stand, StoreFault>, &'static [u8]);
+/// What the disks hold; where a desk stands that is opened over them; and what that leaves of them.
+type Opening = ([Held; 2], Stand, [Held; 2]);
 
-/// Files that are opened: a new one; one with JOE's record; the same with a last gate that isn't written yet, and with one
-/// in front of the record that isn't open, so that the record doesn't count.
-const OPENINGS: [Opening; 5] = [
-    (NEW, Ok((0, [false; 3])), NEW),
-    (b"RACFJNL1", Ok((0, [false; 3])), NEW),
-    (JOE, Ok((1, [true, false, false])), JOE),
+/// Files that are opened: a new database; one with JOE's record; the same with a last gate that isn't written yet, and with
+/// one in front of the record that isn't open, so that the record doesn't count; one whose last gate isn't there; and pairs
+/// of checkpoints, of which the one of the greater epoch counts, on equal epochs the first, and none whose head gate is
+/// closed.
+const OPENINGS: [Opening; 9] = [
     (
-        b"RACFJNL1\x01\0\0\0\x1bIBMUSER SYS1    ADDUSER JOE\x37",
-        Ok((1, [true, false, false])),
-        JOE,
+        [Held::First(EMPTY), Held::Bytes(BARE)],
+        (0, [false; 3]),
+        [Held::First(EMPTY), Held::Bytes(BARE)],
     ),
     (
-        b"RACFJNL1\x37\0\0\0\x1bIBMUSER SYS1    ADDUSER JOE\0",
-        Ok((0, [false; 3])),
-        NEW,
+        [Held::First(JOE), Held::Bytes(BARE)],
+        (1, [true, false, false]),
+        [Held::First(JOE), Held::Bytes(BARE)],
+    ),
+    (
+        [
+            Held::First(b"\x01\0\0\0\x1bIBMUSER SYS1    ADDUSER JOE\x37"),
+            Held::Bytes(BARE),
+        ],
+        (1, [true, false, false]),
+        [Held::First(JOE), Held::Bytes(BARE)],
+    ),
+    (
+        [
+            Held::First(b"\x37\0\0\0\x1bIBMUSER SYS1    ADDUSER JOE\0"),
+            Held::Bytes(BARE),
+        ],
+        (0, [false; 3]),
+        [Held::First(EMPTY), Held::Bytes(BARE)],
+    ),
+    (
+        [Held::First(b""), Held::Bytes(BARE)],
+        (0, [false; 3]),
+        [Held::First(EMPTY), Held::Bytes(BARE)],
+    ),
+    (
+        [Held::First(JOE), Held::Second(BOB)],
+        (2, [true, true, false]),
+        [Held::First(JOE), Held::Second(BOB)],
+    ),
+    (
+        [Held::Third(EMPTY), Held::Second(BOB)],
+        (2, [true, true, false]),
+        [Held::Third(EMPTY), Held::Second(BOB)],
+    ),
+    (
+        [Held::First(JOE), Held::First(EMPTY)],
+        (1, [true, false, false]),
+        [Held::First(JOE), Held::First(EMPTY)],
+    ),
+    (
+        [Held::First(JOE), Held::Fields(0, 2, 7)],
+        (1, [true, false, false]),
+        [Held::First(JOE), Held::Fields(0, 2, 7)],
     ),
 ];
 
-/// Files that are refused, and left as they are: no journal; a record that isn't whole; records at whose place no such
-/// command is accepted, since the user isn't there, or is there already, or the issuer isn't there or may not give it; and
-/// one whose text isn't the canonical one.
-const REFUSED: [(&[u8], StoreFault); 9] = [
-    (b"", StoreFault::NotFormatted),
-    (b"\0ACFJNL1\0", StoreFault::NotFormatted),
+/// Disks that are refused, and left as they are: one that isn't known by its first bytes, or isn't there, or has the layout
+/// of a journal alone; no head gate that is open; an epoch that there isn't, a number past the last, a file that ends within
+/// its fields; a record that isn't whole; records at whose place no such command is accepted, since the user isn't there, or
+/// is there already, or the issuer isn't there or may not give it; and one whose text isn't the canonical one. Beside a
+/// checkpoint of a lesser epoch it is the same: what counts is damaged.
+const REFUSED: [([Held; 2], StoreFault); 17] = [
     (
-        b"\0ACFJNL1\x01\0\0\0\x1bIBMUSER SYS1    ADDUSER JOE\0",
+        [Held::Bytes(b""), Held::Bytes(BARE)],
         StoreFault::NotFormatted,
     ),
     (
-        b"RACFJNL1\x01\0\0\0\x1bIBMUSER SYS1    ADDUSER JOE\x01\0\0\0\x1bIBM",
-        StoreFault::Damaged(40),
-    ),
-    (NOBODY, StoreFault::Damaged(8)),
-    (
-        b"RACFJNL1\x01\0\0\0\x1bIBMUSER SYS1    ADDUSER JOE\x01\0\0\0\x1bIBMUSER SYS1    ADDUSER JOE\0",
-        StoreFault::Damaged(40),
+        [Held::First(EMPTY), Held::Bytes(b"")],
+        StoreFault::NotFormatted,
     ),
     (
-        b"RACFJNL1\x01\0\0\0\x1bBOB     SYS1    ADDUSER JOE\0",
-        StoreFault::Damaged(8),
+        [Held::First(EMPTY), Held::Bytes(b"\0ACFDB01\0")],
+        StoreFault::NotFormatted,
     ),
     (
-        b"RACFJNL1\x01\0\0\0\x1bIBMUSER SYS1    ADDUSER JOE\x01\0\0\0\x1bJOE     SYS1    ADDUSER BOB\0",
-        StoreFault::Damaged(40),
+        [
+            Held::Bytes(b"RACFJNL1\x01\0\0\0\x1bIBMUSER SYS1    ADDUSER JOE\0"),
+            Held::Bytes(BARE),
+        ],
+        StoreFault::NotFormatted,
     ),
     (
-        b"RACFJNL1\x01\0\0\0\x16IBMUSER SYS1    AU JOE\0",
-        StoreFault::Damaged(8),
+        [Held::Bytes(BARE), Held::Bytes(BARE)],
+        StoreFault::NotFormatted,
+    ),
+    (
+        [Held::Fields(0, 1, 0), Held::Bytes(BARE)],
+        StoreFault::NotFormatted,
+    ),
+    (
+        [Held::Fields(2, 1, 0), Held::Bytes(BARE)],
+        StoreFault::NotFormatted,
+    ),
+    (
+        [Held::Fields(1, 0, 0), Held::Bytes(BARE)],
+        StoreFault::Damaged(9),
+    ),
+    (
+        [Held::Bytes(b"RACFDB01\x01\0\0\0"), Held::Bytes(BARE)],
+        StoreFault::Damaged(9),
+    ),
+    (
+        [
+            Held::Fields(1, 1, 4_611_686_018_427_387_905),
+            Held::Bytes(BARE),
+        ],
+        StoreFault::Damaged(17),
+    ),
+    (
+        [
+            Held::Bytes(b"RACFDB01\x01\0\0\0\0\0\0\0\x01\0\0\0\0\0\0\0\0\0\0\0\0\0\0\0\x05ABCD"),
+            Held::Bytes(BARE),
+        ],
+        StoreFault::Damaged(25),
+    ),
+    (
+        [
+            Held::First(b"\x01\0\0\0\x1bIBMUSER SYS1    ADDUSER JOE\x01\0\0\0\x1bIBM"),
+            Held::Bytes(BARE),
+        ],
+        StoreFault::Damaged(378),
+    ),
+    (
+        [Held::First(NOBODY), Held::Bytes(BARE)],
+        StoreFault::Damaged(346),
+    ),
+    (
+        [
+            Held::First(
+                b"\x01\0\0\0\x1bIBMUSER SYS1    ADDUSER JOE\x01\0\0\0\x1bIBMUSER SYS1    ADDUSER JOE\0",
+            ),
+            Held::Bytes(BARE),
+        ],
+        StoreFault::Damaged(378),
+    ),
+    (
+        [
+            Held::First(
+                b"\x01\0\0\0\x1bIBMUSER SYS1    ADDUSER JOE\x01\0\0\0\x1bJOE     SYS1    ADDUSER BOB\0",
+            ),
+            Held::Bytes(BARE),
+        ],
+        StoreFault::Damaged(378),
+    ),
+    (
+        [
+            Held::First(b"\x01\0\0\0\x16IBMUSER SYS1    AU JOE\0"),
+            Held::Bytes(BARE),
+        ],
+        StoreFault::Damaged(346),
+    ),
+    (
+        [
+            Held::First(JOE),
+            Held::Second(b"\x01\0\0\0\x1bIBMUSER SYS1    ADDUSER JOE\0"),
+        ],
+        StoreFault::Damaged(426),
     ),
 ];
 
 /// Asserts what an opening gives.
-fn assert_opens(rt: &(impl AllocGlobal + Abort), opening: Opening) {
-    let (file, wanted, left) = opening;
-    let Opened { disks, found } = open_desk(rt, disks_of(rt, file, 0));
-    assert!(rt; found == wanted, "at {file:?}");
-    assert!(rt; read_as(&disks, left), "at {file:?}");
+fn assert_opens(
+    rt: &(impl AllocGlobal + Abort),
+    held: &[Held; 2],
+    wanted: Result<Stand, StoreFault>,
+    left: &[Held; 2],
+) {
+    let [first, second] = held;
+    let (first, second) = (held_bytes(rt, first), held_bytes(rt, second));
+    let Opened { disks, found } = open_desk(rt, disks_of(rt, &first, &second, (0, 0)));
+    let [one, two] = left;
+    let (one, two) = (held_bytes(rt, one), held_bytes(rt, two));
+    assert!(rt; found == wanted, "at {first:?}");
+    assert!(rt; read_as(&disks, &one, &two), "at {first:?}");
 }
 
-/// A file stands for a position, or is refused.
+/// Two files stand for a position, or are refused.
 #[test]
 fn files_are_opened(rt: HostRuntime) {
-    for opening in &OPENINGS {
-        assert_opens(&rt, *opening);
+    for (held, stand, left) in &OPENINGS {
+        assert_opens(&rt, held, Ok(*stand), left);
     }
-    for (file, fault) in &REFUSED {
-        assert_opens(&rt, (file, Err(*fault), file));
+    for (held, fault) in &REFUSED {
+        assert_opens(&rt, held, Err(*fault), held);
     }
 }

@@ -4,8 +4,12 @@
 #[cfg(test)]
 mod crash_tests;
 #[cfg(test)]
+mod files;
+#[cfg(test)]
 mod halt_tests;
 #[cfg(test)]
 mod layout_tests;
+#[cfg(test)]
+mod stop_tests;
 #[cfg(test)]
 mod top_tests;

@@ -1,6 +1,6 @@
 //! The top call over a shelf and disks in memory: how it ends, and what it leaves.
 
-use crate::layout_tests::{JOE, NEW, NOBODY, disks_of, read_as};
+use crate::files::{BARE, BOB, EMPTY, Held, JOE, NOBODY, disks_of, held_bytes, read_as};
 use racf_outside::{Failing, MemoryShelf};
 use racf_run::{Idle, Status, racf};
 use std::process::Abort;
@@ -45,105 +45,288 @@ const SCRIPT: &[&str] = &["script", "-", "-"];
 /// The words that make a new database.
 const INIT: &[&str] = &["init"];
 
-/// The words; what the first disk holds, and which call of it fails, or 0 where none does; standard input; the status and
-/// its code; standard output, where it was opened; and what the first disk reads as then.
+/// The words that write a checkpoint.
+const COMPACT: &[&str] = &["compact"];
+
+/// What the disks hold: two files.
+type Pair = [Held; 2];
+
+/// A new database.
+const NEW_PAIR: Pair = [Held::First(EMPTY), Held::Bytes(BARE)];
+
+/// One with JOE.
+const JOE_PAIR: Pair = [Held::First(JOE), Held::Bytes(BARE)];
+
+/// One with a record that no command left.
+const NOBODY_PAIR: Pair = [Held::First(NOBODY), Held::Bytes(BARE)];
+
+/// Two disks that hold nothing.
+const NOTHING: Pair = [Held::Bytes(b""), Held::Bytes(b"")];
+
+/// Two that hold other bytes.
+const LETTERS: Pair = [Held::Bytes(b"ABCDEFGHIJKL"), Held::Bytes(b"XYZ")];
+
+/// The words; what the disks hold, and which call of each fails, or 0 where none does; standard input; the status and its
+/// code; standard output, where it was opened; and what the disks read as then.
 type Run = (
     &'static [&'static str],
-    &'static [u8],
-    u64,
+    Pair,
+    (u64, u64),
     &'static str,
     (Status, u8),
     Option<&'static str>,
-    &'static [u8],
+    Pair,
 );
 
-const RUNS: [Run; 16] = [
+/// Databases that aren't opened, and new ones.
+const OPENED: [Run; 14] = [
     // no database, and one that is damaged: nothing is opened
     (
         SCRIPT,
-        b"",
-        0,
+        NOTHING,
+        (0, 0),
         "AU JOE",
         (Status::NotFormatted, 24),
         None,
-        b"",
+        NOTHING,
+    ),
+    (
+        COMPACT,
+        NOTHING,
+        (0, 0),
+        "",
+        (Status::NotFormatted, 24),
+        None,
+        NOTHING,
     ),
     (
         SCRIPT,
-        NOBODY,
-        0,
+        NOBODY_PAIR,
+        (0, 0),
         "AU JOE",
-        (Status::Damaged(8), 24),
+        (Status::Damaged(346), 24),
         None,
-        NOBODY,
+        NOBODY_PAIR,
+    ),
+    (
+        COMPACT,
+        NOBODY_PAIR,
+        (0, 0),
+        "",
+        (Status::Damaged(346), 24),
+        None,
+        NOBODY_PAIR,
     ),
     // a new database, whatever was there
-    (INIT, b"", 0, "", (Status::Done, 0), None, NEW),
-    (INIT, b"ABCDEFGHIJKL", 0, "", (Status::Done, 0), None, NEW),
-    (INIT, JOE, 0, "", (Status::Done, 0), None, NEW),
-    (INIT, NOBODY, 0, "", (Status::Done, 0), None, NEW),
+    (INIT, NOTHING, (0, 0), "", (Status::Done, 0), None, NEW_PAIR),
+    (INIT, LETTERS, (0, 0), "", (Status::Done, 0), None, NEW_PAIR),
+    (
+        INIT,
+        JOE_PAIR,
+        (0, 0),
+        "",
+        (Status::Done, 0),
+        None,
+        NEW_PAIR,
+    ),
+    (
+        INIT,
+        NOBODY_PAIR,
+        (0, 0),
+        "",
+        (Status::Done, 0),
+        None,
+        NEW_PAIR,
+    ),
+    (
+        INIT,
+        [Held::First(JOE), Held::Second(EMPTY)],
+        (0, 0),
+        "",
+        (Status::Done, 0),
+        None,
+        NEW_PAIR,
+    ),
     // a disk that fails at a write, a cut or a sync
     (
         INIT,
-        b"ABCDEFGHIJKL",
-        1,
+        LETTERS,
+        (1, 0),
         "",
         (Status::DiskFault, 20),
         None,
-        b"ABCDEFGHIJKL",
+        LETTERS,
     ),
     (
         INIT,
-        b"ABCDEFGHIJKL",
-        2,
+        LETTERS,
+        (2, 0),
         "",
         (Status::DiskFault, 20),
         None,
-        b"RACFJNL1\0JKL",
+        [Held::Bytes(b"RACFDB01\0JKL"), Held::Bytes(b"XYZ")],
     ),
     (
         INIT,
-        b"ABCDEFGHIJKL",
-        3,
+        LETTERS,
+        (3, 0),
         "",
         (Status::DiskFault, 20),
         None,
-        NEW,
+        [Held::Bytes(BARE), Held::Bytes(b"XYZ")],
     ),
+    (
+        INIT,
+        LETTERS,
+        (0, 1),
+        "",
+        (Status::DiskFault, 20),
+        None,
+        [Held::Bytes(BARE), Held::Bytes(b"XYZ")],
+    ),
+    (
+        INIT,
+        LETTERS,
+        (10, 0),
+        "",
+        (Status::DiskFault, 20),
+        None,
+        NEW_PAIR,
+    ),
+];
+
+/// Streams, checkpoints, and disks that fail under them.
+const WORKED: [Run; 14] = [
     // streams: nothing, a command, one that is there already
-    (SCRIPT, NEW, 0, "", (Status::Done, 0), Some(""), NEW),
     (
         SCRIPT,
-        NEW,
-        0,
+        NEW_PAIR,
+        (0, 0),
+        "",
+        (Status::Done, 0),
+        Some(""),
+        NEW_PAIR,
+    ),
+    (
+        SCRIPT,
+        NEW_PAIR,
+        (0, 0),
         "AU JOE",
         (Status::Done, 0),
         Some("1 ACCEPTED\n"),
-        JOE,
+        JOE_PAIR,
     ),
     (
         SCRIPT,
-        JOE,
-        0,
+        JOE_PAIR,
+        (0, 0),
         "VERIFY A JOE\nAU JOE\n",
         (Status::Refusals, 4),
         Some("1 0 VERIFIED\n1 REFUSED EXISTS JOE\n"),
-        JOE,
+        JOE_PAIR,
     ),
-    // a disk that fails as the database is opened, and behind that
-    (SCRIPT, NEW, 4, "AU JOE", (Status::DiskFault, 20), None, NEW),
+    // a checkpoint, behind which the number and JOE are as before; and a second one
+    (
+        COMPACT,
+        JOE_PAIR,
+        (0, 0),
+        "",
+        (Status::Done, 0),
+        None,
+        [Held::First(JOE), Held::Second(EMPTY)],
+    ),
     (
         SCRIPT,
-        NEW,
-        5,
+        [Held::First(JOE), Held::Second(EMPTY)],
+        (0, 0),
+        "AU JOE\nAU BOB",
+        (Status::Refusals, 4),
+        Some("1 REFUSED EXISTS JOE\n2 ACCEPTED\n"),
+        [Held::First(JOE), Held::Second(BOB)],
+    ),
+    (
+        COMPACT,
+        [Held::First(JOE), Held::Second(BOB)],
+        (0, 0),
+        "",
+        (Status::Done, 0),
+        None,
+        [Held::Third(EMPTY), Held::Second(BOB)],
+    ),
+    // a disk that fails as the database is opened, and behind that
+    (
+        SCRIPT,
+        NEW_PAIR,
+        (3, 0),
+        "AU JOE",
+        (Status::DiskFault, 20),
+        None,
+        NEW_PAIR,
+    ),
+    (
+        SCRIPT,
+        NEW_PAIR,
+        (0, 3),
+        "AU JOE",
+        (Status::DiskFault, 20),
+        None,
+        NEW_PAIR,
+    ),
+    (
+        SCRIPT,
+        NEW_PAIR,
+        (4, 0),
         "AU JOE\nVERIFY A IBMUSER\nAX",
         (Status::DiskFault, 20),
         Some("0 DISKFAULT\n0 0 VERIFIED\n0 HALTED\n"),
-        NEW,
+        NEW_PAIR,
+    ),
+    (
+        COMPACT,
+        JOE_PAIR,
+        (0, 3),
+        "",
+        (Status::DiskFault, 20),
+        None,
+        JOE_PAIR,
+    ),
+    (
+        COMPACT,
+        JOE_PAIR,
+        (0, 10),
+        "",
+        (Status::DiskFault, 20),
+        None,
+        [Held::First(JOE), Held::Second(EMPTY)],
     ),
     // other words leave the disks as they are
-    (&["init", "-"], JOE, 1, "", (Status::Usage, 8), None, JOE),
-    (&["script", "-"], JOE, 1, "", (Status::Usage, 8), None, JOE),
+    (
+        &["init", "-"],
+        JOE_PAIR,
+        (1, 1),
+        "",
+        (Status::Usage, 8),
+        None,
+        JOE_PAIR,
+    ),
+    (
+        &["compact", "-"],
+        JOE_PAIR,
+        (1, 1),
+        "",
+        (Status::Usage, 8),
+        None,
+        JOE_PAIR,
+    ),
+    (
+        &["script", "-"],
+        JOE_PAIR,
+        (1, 1),
+        "",
+        (Status::Usage, 8),
+        None,
+        JOE_PAIR,
+    ),
 ];
 
 /// Asserts how a run ends.
@@ -151,18 +334,34 @@ fn assert_ends(rt: &(impl AllocGlobal + Abort + Wait + Threads + Sync), run: &Ru
     let (words, held, failing, input, (wanted, code), output, left) = run;
     let words = words_of(rt, words);
     let mut shelf = shelf_of(rt, input, false);
-    let disks = disks_of(rt, held, *failing);
+    let [first, second] = held;
+    let (first, second) = (held_bytes(rt, first), held_bytes(rt, second));
+    let disks = disks_of(rt, &first, &second, *failing);
     let (status, disks) = racf(rt, rt.alloc(), words.as_slice(), &mut shelf, disks, &Idle);
-    let fails = *wanted == Status::DiskFault;
+    let faults = disks.first.faults().saturating_add(disks.second.faults());
+    let [first, second] = left;
+    let (first, second) = (held_bytes(rt, first), held_bytes(rt, second));
     assert!(rt; status == *wanted && status.code() == *code, "{input}");
     assert!(rt; has_output(&shelf, *output), "{input}");
-    assert!(rt; read_as(&disks, left) && disks.first.faults() == u64::from(fails));
+    assert!(rt; read_as(&disks, &first, &second), "{input}");
+    assert!(rt;
+        faults == u64::from(*wanted == Status::DiskFault),
+        "{input}"
+    );
 }
 
-/// Runs end so, each over its own disks.
+/// Runs that open no database, or make one, end so.
 #[test]
-fn runs_end(rt: HostRuntime) {
-    for run in &RUNS {
+fn databases_are_made(rt: HostRuntime) {
+    for run in &OPENED {
+        assert_ends(&rt, run);
+    }
+}
+
+/// Runs at a database end so.
+#[test]
+fn databases_are_worked(rt: HostRuntime) {
+    for run in &WORKED {
         assert_ends(&rt, run);
     }
 }
@@ -173,7 +372,7 @@ fn runs_end(rt: HostRuntime) {
 fn nothing_is_opened_before_the_database(rt: HostRuntime) {
     let (init, script) = (words_of(&rt, INIT), words_of(&rt, SCRIPT));
     let mut shelf = shelf_of(&rt, "AU JOE", true);
-    let mut disks = disks_of(&rt, b"", 0);
+    let mut disks = disks_of(&rt, b"", b"", (0, 0));
     let mut status = Status::Done;
     for (words, wanted) in [
         (&script, Status::NotFormatted),
@@ -185,5 +384,6 @@ fn nothing_is_opened_before_the_database(rt: HostRuntime) {
     }
     (status, disks) = racf(&rt, rt.alloc(), script.as_slice(), &mut shelf, disks, &Idle);
     assert!(rt; status == Status::Done && has_output(&shelf, Some("1 ACCEPTED\n")));
-    assert!(rt; read_as(&disks, JOE));
+    let joe = held_bytes(&rt, &Held::First(JOE));
+    assert!(rt; read_as(&disks, &joe, BARE));
 }

@@ -2,6 +2,8 @@
 #![tactic(auto)]
 
 #[cfg(test)]
+mod command_tests;
+#[cfg(test)]
 mod crash_tests;
 #[cfg(test)]
 mod layout_tests;

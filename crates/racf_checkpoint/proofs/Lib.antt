@@ -1,3 +1,8 @@
-mod Says
-pub mod Steps
+mod Appending
+mod Compacting
+mod Finding
+mod New
+mod Saying
+mod Seeing
+mod Turning
 mod WorkedRows

@@ -1,108 +1,210 @@
 //! Stores that were read, and how they are opened.
 
-ghost use Rattle.std.specs.Prelude.{◌+◌, ◌≤◌, ◌≡◌, ◌≢◌, length, IfOk, IfErr, MatchResult};
+ghost use Rattle.std.specs.Prelude.{◌+◌, ◌<◌, ◌≤◌, ◌≡◌, ◌≢◌, ◌^◌, length, IfOk, IfErr, MatchResult};
 ghost use Rattle.std.specs.List.{AllByRecursion};
 ghost use Rattle.racf_outside.specs.Causes.{Rose};
 ghost use Rattle.racf_journal.specs.Opening.{OnlySynced};
 ghost use Rattle.racf_journal.specs.Reading.{IsRecord, spelled};
-ghost use Rattle.racf_checkpoint.specs.Contents.{Says, Refuses, IsCaused};
-ghost use Rattle.racf_checkpoint.specs.Stored.{Stores, IsReady, NowRead, StaysPossible};
+ghost use Rattle.database_image.specs.Image.{image_of, IsStored as AreStored};
+ghost use Rattle.checkpoint_disks.specs.declared.counting.Side.{Side};
+ghost use Rattle.checkpoint_disks.specs.Compacting.{IsCheckpoint};
+ghost use Rattle.checkpoint_disks.specs.Counting.{as_read};
+ghost use Rattle.racf_checkpoint.specs.Contents.{Says, Refuses, IsCausedByOne};
+ghost use Rattle.racf_checkpoint.specs.Stored.{Stores, IsReady, NowRead, StaysPossible, disk_on, pick};
+ghost use Rattle.racf_checkpoint.specs.Finding.{found_in, IsSeen};
 
 use crate::fault::StoreFault;
-use crate::store::{START, Store};
+use crate::reading::{Seen, read_disks};
+use crate::sides::{by_role, in_order};
+use crate::store::{Loaded, Store};
 use access_levels::Text;
-use racf_journal::{FoundJournal, Journal};
+use checkpoint_disks::laws::records_are_read_behind_an_image;
+use checkpoint_disks::{Checkpoint, Side};
+use racf_journal::{FoundJournal, FoundRecords};
 use racf_outside::{Disk, Two};
+use racf_profiles::Rows;
 use std::alloc::Global;
 use std::marker::Model;
 
 /// A store that was read and isn't open yet: its disks hold what was found there.
 pub struct FoundStore<D: Disk> {
-    /// The journal, which is on the first disk.
+    /// The journal, behind the checkpoint of the disk that counts.
     journal: FoundJournal<D>,
-    /// The second disk, as it was handed in.
-    second: D,
+    /// The other disk.
+    idle: D,
+    /// Which of the two counts.
+    side: Side,
+    /// The epoch of its checkpoint.
+    epoch: u64,
+    /// How many commands led to the rows.
+    number: u64,
+    /// The rows of the checkpoint.
+    rows: Rows,
 }
 
 impl<D: Disk> Model for FoundStore<D> {
-    ghost use Rattle.std.specs.Prelude.{◌≡◌};
-    ghost use Rattle.racf_checkpoint.specs.Stored.{FoundOn};
+    ghost use Rattle.racf_checkpoint.specs.Finding.{FoundOn, found_in, IsRead};
 
     ghost Value = { FoundOn D };
 
-    ghost view = { λ a. record { journal = a.journal; second = a.second } };
+    ghost view = { λ a. record { journal = a.journal; idle = a.idle; side = a.side; epoch = a.epoch; number = a.number; rows = a.rows } };
 
-    ghost invariant = { λ a. a.journal.start ≡ 8 };
+    ghost invariant = { λ a. IsRead (D.tells a.journal.disk) (D.tells a.idle) a.side (record { epoch = a.epoch; number = a.number; rows = a.rows; start = a.journal.start; records = a.journal.records; gate = a.journal.gate }) };
 }
 
 impl<D: Disk> Store<D> {
-    /// Reads the records of a store, which lead on from the rows of a new database. The first disk is synced, and both stay
-    /// as they are. Otherwise they are handed back.
+    /// Reads a store: the checkpoint that counts, and the records of its journal. Both disks are synced, and stay as
+    /// they are. Otherwise they are handed back.
     pub fn find(alloc: Global, disks: Two<D>) -> Result<FoundStore<D>, (Two<D>, StoreFault)>
-        ensures says { IfOk result (λ found. NowRead (D.tells disks.first) (D.tells disks.second) (Says found.journal.records)) }
-        ensures synced { IfOk result (λ found. OnlySynced (D.tells disks.first) (D.tells found.journal.disk)) }
-        ensures start { IfOk result (λ found. found.journal.start ≡ 8) }
-        ensures counted { IfOk result (λ found. found.journal.gate ≡ 8 + length (spelled found.journal.records)) }
+        ensures says { IfOk result (λ found. NowRead (D.tells disks.first) (D.tells disks.second) (Says (found_in found))) }
+        ensures lawful { IfOk result (λ found. IsCheckpoint (found_in found)) }
         ensures each { IfOk result (λ found. AllByRecursion IsRecord found.journal.records) }
-        ensures moments { MatchResult result (λ found. StaysPossible (D.tells disks.second) (D.tells disks.first) (D.tells found.journal.disk))
-            (λ back. StaysPossible (D.tells disks.second) (D.tells disks.first) (D.tells back.0.first)) }
-        ensures second { MatchResult result (λ found. found.second ≡ disks.second) (λ back. back.0.second ≡ disks.second) }
+        ensures room { IfOk result (λ found. found.journal.start + length (spelled found.journal.records) < 2 ^ 64) }
+        ensures first_synced { IfOk result (λ found. OnlySynced (D.tells disks.first) (D.tells (pick found.side found.journal.disk found.idle))) }
+        ensures second_synced { IfOk result (λ found. OnlySynced (D.tells disks.second) (D.tells (pick found.side found.idle found.journal.disk))) }
+        ensures first_moments { MatchResult result (λ found. StaysPossible (D.tells disks.first) (D.tells (pick found.side found.journal.disk found.idle))) (λ back. StaysPossible (D.tells disks.first) (D.tells back.0.first)) }
+        ensures second_moments { MatchResult result (λ found. StaysPossible (D.tells disks.second) (D.tells (pick found.side found.idle found.journal.disk))) (λ back. StaysPossible (D.tells disks.second) (D.tells back.0.second)) }
 
         ensures fault { IfErr result (λ back. NowRead (D.tells disks.first) (D.tells disks.second) (Refuses back.1)) }
         ensures no_other { IfErr result (λ back. back.1 ≢ StoreFault.Full) }
-        ensures untouched { IfErr result (λ back. back.1 ≢ StoreFault.DiskFault → OnlySynced (D.tells disks.first) (D.tells back.0.first)) }
-        ensures cause { IfErr result (λ back. IsCaused (D.faults disks.first) (D.faults back.0.first) back.1) }
-        ensures no_fewer { MatchResult result (λ found. D.faults disks.first ≤ D.faults found.journal.disk) (λ back. D.faults disks.first ≤ D.faults back.0.first) }
+        ensures untouched { IfErr result (λ back. back.1 ≢ StoreFault.DiskFault → OnlySynced (D.tells disks.first) (D.tells back.0.first) × OnlySynced (D.tells disks.second) (D.tells back.0.second)) }
+        ensures cause { IfErr result (λ back. IsCausedByOne (D.faults disks.first) (D.faults back.0.first) (D.faults disks.second) (D.faults back.0.second) back.1) }
+        ensures first_no_fewer { MatchResult result (λ found. D.faults disks.first ≤ D.faults (pick found.side found.journal.disk found.idle)) (λ back. D.faults disks.first ≤ D.faults back.0.first) }
+        ensures second_no_fewer { MatchResult result (λ found. D.faults disks.second ≤ D.faults (pick found.side found.idle found.journal.disk)) (λ back. D.faults disks.second ≤ D.faults back.0.second) }
     {
-        let Two { first, second } = disks;
-        match Journal::find(alloc, first, START) {
-            Ok(journal) => Ok(FoundStore { journal, second }),
-            Err((first, fault)) => Err((Two { first, second }, StoreFault::from(fault))),
+        let Two {
+            mut first,
+            mut second,
+        } = disks;
+        match read_disks(alloc, &mut first, &mut second) {
+            Ok(seen) => Ok(FoundStore::of(first, second, seen)),
+            Err(fault) => Err((Two { first, second }, fault)),
         }
     }
 }
 
 impl<D: Disk> FoundStore<D> {
-    /// The records, in their order.
+    /// What was seen on two disks.
+    fn of(first: D, second: D, seen: Seen) -> FoundStore<D>
+        requires { IsSeen (D.tells first) (D.tells second) seen.side (as_read seen.checkpoint) seen.end }
+        ensures found { found_in result ≡ as_read seen.checkpoint }
+        ensures side { result.side ≡ seen.side }
+        ensures live { result.journal.disk ≡ pick seen.side first second }
+        ensures idle { result.idle ≡ pick seen.side second first }
+    {
+        let Seen {
+            side,
+            checkpoint,
+            end,
+        } = seen;
+        let Checkpoint {
+            epoch,
+            number,
+            rows,
+            start,
+            records,
+            gate,
+        } = checkpoint;
+        let (live, idle) = by_role(side, first, second);
+        let found = FoundRecords { records, gate };
+        FoundStore {
+            journal: FoundJournal::behind(live, start, found, end),
+            idle,
+            side,
+            epoch,
+            number,
+            rows,
+        }
+    }
+
+    /// The rows of the checkpoint.
+    pub fn rows(&self) -> &Rows
+        ensures { result.now ≡ self.now.rows }
+    {
+        &self.rows
+    }
+
+    /// How many commands led to these rows.
+    pub fn number(&self) -> u64
+        ensures { result ≡ self.now.number }
+    {
+        self.number
+    }
+
+    /// The place of the journal's first gate.
+    pub fn start(&self) -> u64
+        ensures { result ≡ self.now.journal.start }
+    {
+        self.journal.start()
+    }
+
+    /// The records since, in their order.
     pub fn records(&self) -> &[Text]
         ensures { result.now ≡ self.now.journal.records }
     {
         self.journal.records()
     }
 
-    /// Opens the store, and gives its records: repairs the end of the first disk's journal. At every moment a crash leaves
-    /// files that say what was possible before; after `Ok` it leaves the records given. Otherwise the disks are handed
-    /// back.
-    pub fn open(self) -> Result<(Store<D>, Vec<Text>), (Two<D>, StoreFault)>
-        ensures stores { IfOk result (λ opened. Stores D.tells opened.0 self.journal.records) }
-        ensures ready { IfOk result (λ opened. IsReady D.tells opened.0) }
-        ensures start { IfOk result (λ opened. opened.0.journal.start ≡ 8) }
-        ensures gate { IfOk result (λ opened. opened.0.journal.gate ≡ self.journal.gate) }
-        ensures records { IfOk result (λ opened. opened.1.items ≡ self.journal.records) }
-        ensures moments { MatchResult result (λ opened. StaysPossible (D.tells self.second) (D.tells self.journal.disk) (D.tells opened.0.journal.disk))
-            (λ back. StaysPossible (D.tells self.second) (D.tells self.journal.disk) (D.tells back.0.first)) }
-        ensures second { MatchResult result (λ opened. opened.0.second ≡ self.second) (λ back. back.0.second ≡ self.second) }
+    /// Opens the store, and gives what was found: repairs the end of its journal. At every moment a crash leaves files
+    /// that say what was possible before; after `Ok` it leaves what is given. Otherwise the disks are handed back.
+    pub fn open(self) -> Result<Loaded<D>, (Two<D>, StoreFault)>
+        ensures stores { IfOk result (λ loaded. Stores D.tells loaded.store (found_in self)) }
+        ensures ready { IfOk result (λ loaded. IsReady D.tells loaded.store) }
+        ensures epoch { IfOk result (λ loaded. loaded.store.epoch ≡ self.epoch) }
+        ensures side { IfOk result (λ loaded. loaded.store.side ≡ self.side) }
+        ensures rows { IfOk result (λ loaded. loaded.rows ≡ self.rows) }
+        ensures number { IfOk result (λ loaded. loaded.number ≡ self.number) }
+        ensures start { IfOk result (λ loaded. (loaded.start ≡ self.journal.start) × (loaded.store.journal.start ≡ self.journal.start)) }
+        ensures gate { IfOk result (λ loaded. loaded.store.journal.gate ≡ self.journal.gate) }
+        ensures records { IfOk result (λ loaded. loaded.records.items ≡ self.journal.records) }
+        ensures moments { MatchResult result (λ loaded. StaysPossible (D.tells self.journal.disk) (D.tells loaded.store.journal.disk))
+            (λ back. StaysPossible (D.tells self.journal.disk) (D.tells (pick self.side back.0.first back.0.second))) }
+        ensures idle { MatchResult result (λ loaded. loaded.store.idle ≡ self.idle) (λ back. pick self.side back.0.second back.0.first ≡ self.idle) }
 
         ensures fault { IfErr result (λ back. back.1 ≡ StoreFault.DiskFault) }
-        ensures cause { IfErr result (λ back. Rose (D.faults self.journal.disk) (D.faults back.0.first)) }
-        ensures no_fewer { MatchResult result (λ opened. D.faults self.journal.disk ≤ D.faults opened.0.journal.disk) (λ back. D.faults self.journal.disk ≤ D.faults back.0.first) }
+        ensures cause { IfErr result (λ back. Rose (D.faults self.journal.disk) (D.faults (pick self.side back.0.first back.0.second))) }
+        ensures no_fewer { MatchResult result (λ loaded. D.faults self.journal.disk ≤ D.faults loaded.store.journal.disk) (λ back. D.faults self.journal.disk ≤ D.faults (pick self.side back.0.first back.0.second)) }
     {
-        let FoundStore { journal, second } = self;
+        let FoundStore {
+            journal,
+            idle,
+            side,
+            epoch,
+            number,
+            rows,
+        } = self;
+        records_are_read_behind_an_image();
+        let start = journal.start();
         match journal.open() {
-            Ok((journal, records)) => Ok((Store { journal, second }, records)),
-            Err((first, _)) => Err((Two { first, second }, StoreFault::DiskFault)),
+            Ok((journal, records)) => Ok(Loaded {
+                store: Store {
+                    journal,
+                    idle,
+                    side,
+                    epoch,
+                },
+                rows,
+                number,
+                start,
+                records,
+            }),
+            Err((live, _)) => Err((in_order(side, live, idle), StoreFault::DiskFault)),
         }
     }
 
     /// The disks.
     pub fn into_disks(self) -> Two<D>
-        ensures first { result.first ≡ self.journal.disk }
-        ensures second { result.second ≡ self.second }
+        ensures first { result.first ≡ pick self.side self.journal.disk self.idle }
+        ensures second { result.second ≡ pick self.side self.idle self.journal.disk }
     {
-        let FoundStore { journal, second } = self;
-        Two {
-            first: journal.into_disk(),
-            second,
-        }
+        let FoundStore {
+            journal,
+            idle,
+            side,
+            epoch: _,
+            number: _,
+            rows: _,
+        } = self;
+        in_order(side, journal.into_disk(), idle)
     }
 }

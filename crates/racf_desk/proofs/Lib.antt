@@ -8,3 +8,4 @@ mod RepeatLaws
 mod DeskLaws
 mod OpenLaws
 mod AcceptedLaws
+pub mod IdleLaws

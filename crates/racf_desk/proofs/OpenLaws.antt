@@ -1,33 +1,50 @@
 -- What an opening finds: where the records lead that were loaded, and why they may not.
-use Rattle.std.proofs.Common.{◌≡◌, ℕ, ◌+◌, List, [], ◌∷◌, length, Option, Result, Ok, Err, ◌⊎◌, inl, inr, refl, sym, ◌∙◌, ap, subst}
+use Rattle.std.proofs.Common.{◌≡◌, ℕ, ◌+◌, ◌≤◌, List, [], ◌∷◌, length, Option, None, Some, Result, Ok, Err, ◌⊎◌, inl, inr, refl, sym, ◌∙◌, ap, subst, arith}
 use Rattle.std.specs.Prelude.{◌≢◌}
-use Rattle.racf_outside.specs.Disk.{History}
-use Rattle.racf_outside.specs.Moments.{Moment}
-use Rattle.racf_outside.proofs.Runs.{StaysIn-weaker}
+use Rattle.std.specs.Option.{option_map}
+use Rattle.std.proofs.lemmas.Option.{none-some}
+use Rattle.racf_outside.specs.Causes.{Rose}
+use Rattle.racf_outside.specs.Disk.{History, goes, Now}
+use Rattle.racf_outside.specs.Moments.{Moment, IsImage, synced}
+use Rattle.racf_outside.proofs.Images.{only}
+use Rattle.racf_outside.proofs.Rises.{Rose-later}
+use Rattle.racf_outside.proofs.Runs.{StaysIn-joined, StaysIn-weaker, same_history}
+use Rattle.racf_profiles.specs.NewDatabase.{new_database}
+use Rattle.racf_profiles.specs.declared.rows.Rows.{Rows}
+use Rattle.raclist_image.specs.Imaged.{Imaged}
+use Rattle.racf_journal.specs.Opening.{OnlySynced}
 use Rattle.racf_journal.specs.Reading.{spelled}
+use Rattle.checkpoint_disks.specs.declared.counting.Side.{Side}
+use Rattle.checkpoint_disks.specs.declared.counting.Side.TheVariants.{First, Second}
+use Rattle.checkpoint_disks.specs.Files.{CheckpointRead}
+use Rattle.checkpoint_disks.specs.Compacting.{new_checkpoint, IsCheckpoint}
 use Rattle.racf_checkpoint.specs.declared.fault.StoreFault.{StoreFault}
 use Rattle.racf_checkpoint.specs.declared.fault.StoreFault.TheVariants as fault
 use Rattle.racf_checkpoint.specs.Contents.{Says, Refuses as RefusesToLoad}
-use Rattle.racf_checkpoint.specs.Stored.{IsStored, Stores, StoreOn, Beside, NowRead, WasPossible as LoadedWasPossible, StaysPossible as LoadStaysPossible}
+use Rattle.racf_checkpoint.specs.Stored.{Stores, StoreOn, NowRead, WasPossible, StaysPossible, pick, disk_on}
 use Rattle.journal_records.specs.declared.record.CommandRecord.{CommandRecord}
 use Rattle.journal_records.specs.declared.record.RecordFault.{RecordFault}
 use Rattle.journal_records.specs.Reading.{record_of}
 use Rattle.racf_desk.specs.declared.refusal.Refusal.{Refusal}
-use Rattle.racf_desk.specs.Position.{Position, first_position, restarted}
-use Rattle.racf_desk.specs.Recovery.{unless_faulty, outcome_again, behind_outcome, behind_record, behind_records, recovered, standing, Refuses}
-use Rattle.racf_desk.specs.Durable.{LeadTo, StandsThere, WasPossible, StaysPossible}
-use Rattle.racf_desk.proofs.DeskLaws.{beside_weaker}
+use Rattle.racf_desk.specs.Position.{Position, at_checkpoint, start_behind, first_position, restarted}
+use Rattle.racf_desk.specs.Made.{DeskOn, is_fresh}
+use Rattle.racf_desk.specs.Recovery.{unless_faulty, outcome_again, behind_outcome, behind_record, behind_records, base_of, recovered_from, recovered, standing, Refuses}
+use Rattle.racf_desk.specs.Durable.{LeadTo, SaysEpoch, StandsThere}
+use Rattle.racf_desk.proofs.RecoveryLaws.{standing_is}
 
 -- What is read of both disks has more, where that is known of every file.
 pub read_weaker : (first second : Option History) (P Q : (first second : List ℕ) → Type 0) → ((one other : List ℕ) → P one other → Q one other) → NowRead first second P → NowRead first second Q
 read_weaker first second P Q weaker read h told k also = weaker h.now.bytes k.now.bytes (read h told k also)
 
--- The files stand for where the records lead that they say.
-pub found : (first second : Option History) (records : List (List ℕ)) (position : Position) → NowRead first second (Says records) → recovered records ≡ Ok position
+-- The files stand for where the checkpoint leads that they say.
+pub found : (first second : Option History) (kept : CheckpointRead) (position : Position) → NowRead first second (Says kept) → recovered kept ≡ Ok position
     → NowRead first second (λ one other. standing one other ≡ Ok position)
-found first second records position says leads =
-    read_weaker first second (Says records) (λ one other. standing one other ≡ Ok position)
-    (λ one other said. ap (λ (read : Result (List (List ℕ)) StoreFault). unless_faulty read recovered) said ∙ leads) says
+found first second kept position says leads =
+    read_weaker first second (Says kept) (λ one other. standing one other ≡ Ok position) (λ one other said. standing_is kept one other said ∙ leads) says
+
+-- The epoch of the checkpoint that they say.
+pub epoch_said : (first second : Option History) (kept : CheckpointRead) (epoch : ℕ) → NowRead first second (Says kept) → epoch ≡ kept.epoch → NowRead first second (SaysEpoch epoch)
+epoch_said first second kept epoch says counts = read_weaker first second (Says kept) (SaysEpoch epoch) (λ one other said. (kept, said, sym counts)) says
 
 -- Where records lead, each listed copy is made anew already.
 anew : (found : Result Position StoreFault) (position : Position) → unless_faulty found (λ at. Ok (restarted at)) ≡ Ok position → position ≡ restarted position
@@ -36,55 +53,154 @@ anew (Ok at) position leads =
     subst (λ (p : Position). p ≡ restarted p) same refl
 anew (Err why) position leads = cc
 
-leads_anew : (records : List (List ℕ)) (position : Position) → recovered records ≡ Ok position → LeadTo position records
-leads_anew records position leads = leads ∙ ap (λ (p : Position). Ok p) (anew (behind_records records first_position) position leads)
+leads_anew : (kept : CheckpointRead) (position : Position) → recovered kept ≡ Ok position → LeadTo position kept
+leads_anew kept position leads = leads ∙ ap (λ (p : Position). Ok p) (anew (behind_records kept.records (base_of kept)) position leads)
 
--- No record leads to a new database.
-pub new_is_first : (position : Position) → recovered [] ≡ Ok position → position ≡ first_position
-new_is_first position leads = let same : restarted first_position ≡ position = cc in sym same
+-- What is recovered of a checkpoint's parts is what is recovered of it.
+pub of_parts : (kept : CheckpointRead) (rows : Rows) (number start : ℕ) (records : List (List ℕ)) → rows ≡ kept.rows → number ≡ kept.number → start ≡ kept.start → records ≡ kept.records
+    → recovered kept ≡ recovered_from (at_checkpoint rows number start) records
+of_parts kept rows number start records rows_are counts starts are = sym (
+    ap (λ (r : Rows). recovered_from (at_checkpoint r number start) records) rows_are
+    ∙ ap (λ n. recovered_from (at_checkpoint kept.rows n start) records) counts
+    ∙ ap (λ n. recovered_from (at_checkpoint kept.rows kept.number n) records) starts
+    ∙ ap (recovered_from (base_of kept)) are)
 
--- The store that was loaded stands there.
-pub stands_there : {D : Type 0} (tells : D → Option History) (store : StoreOn D) (records : List (List ℕ)) (position : Position) → Stores tells store records
-    → store.journal.start ≡ 8 → store.journal.gate ≡ 8 + length (spelled records) → position.gate ≡ 8 + length (spelled records) → recovered records ≡ Ok position
-    → StandsThere tells store position
-stands_there tells store records position stores start counted gate leads =
-    let at : store.journal.gate ≡ position.gate = counted ∙ sym gate in
-    record {
-      start = start;
-      gate = at;
-      durable = λ h told.
-          (records, subst (λ g. IsStored 8 g records h.now) at (subst (λ s. IsStored s store.journal.gate records h.now) start (stores h told)), leads_anew records position leads);
-    }
+-- The last gate of a checkpoint is behind its records.
+counted : (kept : CheckpointRead) → IsCheckpoint kept → kept.gate ≡ kept.start + length (spelled kept.records)
+counted kept lawful =
+    let gate = ap (λ (read : CheckpointRead). read.gate) lawful.is in
+    let start = ap (λ (read : CheckpointRead). read.start) lawful.is in
+    omega arith
 
--- What might have been left says the same, and so stands for the same.
-possible : (before : Moment) (first second : List ℕ) → LoadedWasPossible before first second → WasPossible before first second
-possible before first second was = record {
-  image = was.image;
-  was_left = was.was_left;
-  stands = ap (λ (read : Result (List (List ℕ)) StoreFault). unless_faulty read recovered) was.says;
+-- The store that was opened stands where its checkpoint leads.
+pub stands_there : {D : Type 0} (tells : D → Option History) (store : StoreOn D) (kept : CheckpointRead) (position : Position) → IsCheckpoint kept → Stores tells store kept
+    → store.epoch ≡ kept.epoch → store.journal.gate ≡ kept.gate → position.gate ≡ kept.start + length (spelled kept.records) → recovered kept ≡ Ok position → StandsThere tells store position
+stands_there tells store kept position lawful stores counts at ends leads = record {
+  gate = at ∙ counted kept lawful ∙ sym ends;
+  kept = kept;
+  epoch = sym counts;
+  lawful = lawful;
+  stores = stores;
+  leads = leads_anew kept position leads;
 }
 
-pub stays_possible : (second old new : Option History) → LoadStaysPossible second old new → StaysPossible second old new
-stays_possible second old new stays before was =
-    StaysIn-weaker (Beside second (WasPossible before)) (stays before was) (λ h told. beside_weaker (LoadedWasPossible before) (WasPossible before) second (possible before))
+-- A new database, whose journal begins behind its image, is at the first position,
+pub first_is : (image : Imaged) (gate : ℕ) → image ≡ first_position.image → gate ≡ start_behind new_database → record { image = image; gate = gate } ≡ first_position
+first_is image gate pictures starts = ap (λ (i : Imaged). record { image = i; gate = gate }) pictures ∙ ap (λ n. record { image = first_position.image; gate = n }) starts
+
+-- and its store stands there.
+pub stands_first : {D : Type 0} (tells : D → Option History) (store : StoreOn D) (position : Position) → position ≡ first_position → IsCheckpoint (new_checkpoint 1 0 new_database)
+    → Stores tells store (new_checkpoint 1 0 new_database) → store.epoch ≡ 1 → store.journal.gate ≡ position.gate → StandsThere tells store position
+stands_first tells store position is lawful stores counts at = record {
+  gate = at;
+  kept = new_checkpoint 1 0 new_database;
+  epoch = sym counts;
+  lawful = lawful;
+  stores = stores;
+  leads = ap (λ (p : Position). Ok (restarted p)) (sym is);
+}
+
+-- A fresh desk is one at its own store.
+pub fresh_at : {D : Type 0} (desk : DeskOn D) (position there : Position) (store : StoreOn D) → desk ≡ is_fresh position store → position ≡ there → desk ≡ is_fresh there desk.store
+fresh_at {D} desk position there store is same = is ∙ ap (λ (p : Position). is_fresh p store) same ∙ ap (is_fresh there) (sym (ap (λ (d : DeskOn D). d.store) is))
+
+-- ---- two disks, one call after another
+
+-- What was possible behind a sync was so before it.
+possible_before : (m before : Moment) → m ≡ before → IsImage m m.bytes → (file : List ℕ) → WasPossible (synced m) file → WasPossible before file
+possible_before m before same law file w =
+    record { image = w.image; was_left = subst (λ n. IsImage n w.image) same (subst (IsImage m) (sym (only m.bytes w.image w.was_left)) law); says = w.says }
+
+synced_now : (a b : Option History) → OnlySynced a b → (h : History) → a ≡ Some h → Now b (λ m. m ≡ synced h.now)
+synced_now a b s h e k f = ap (λ (i : History). i.now) (sym (same_history (goes synced h) k (sym (s.is ∙ ap (option_map (goes synced)) e) ∙ f)))
+
+-- A call that only synced a disk, and one after it.
+possible_joined : (a b c : Option History) → StaysPossible a b → OnlySynced a b → StaysPossible b c → StaysPossible a c
+possible_joined a b c stays s later before was = record {
+  told = λ h e. (StaysIn-joined (stays before was) (StaysIn-weaker (WasPossible before) (later (synced h.now) (synced_now a b s h e))
+      (λ k f file w. possible_before h.now before (was h e) (s.was_left h e) file w))).told h e;
+  untold = λ none.
+      let next : b ≡ None = s.is ∙ ap (option_map (goes synced)) none in
+      (later before (λ k f. absurd (none-some k (sym next ∙ f)))).untold next;
+}
+
+-- Of two disks one went on, and the other stayed as it was: what was known of each by its role is known of the two that
+-- they are now, in their order.
+first_of_two : {D : Type 0} (side : Side) (live idle one two : D) (W Q : D → Type 0) → (W live → Q (pick side one two)) → (W idle → Q (pick side two one)) → W (pick side live idle) → Q one
+first_of_two First live idle one two W Q goes stays w = goes w
+first_of_two Second live idle one two W Q goes stays w = stays w
+
+second_of_two : {D : Type 0} (side : Side) (live idle one two : D) (W Q : D → Type 0) → (W live → Q (pick side one two)) → (W idle → Q (pick side two one)) → W (pick side idle live) → Q two
+second_of_two First live idle one two W Q goes stays w = stays w
+second_of_two Second live idle one two W Q goes stays w = goes w
+
+-- The one that counts was opened, and the other stayed as it was.
+pub record GoesOn {D : Type 0} (tells : D → Option History) (faults : D → ℕ) (side : Side) (live idle one two : D) : Type 0 where
+  pub moments : StaysPossible (tells live) (tells (pick side one two))
+  pub no_fewer : faults live ≤ faults (pick side one two)
+  pub stays : pick side two one ≡ idle
+
+-- So it was where a store was made of them.
+pub store_goes : {D : Type 0} (tells : D → Option History) (faults : D → ℕ) (side : Side) (live idle : D) (store : StoreOn D) → store.side ≡ side → store.idle ≡ idle
+    → StaysPossible (tells live) (tells store.journal.disk) → faults live ≤ faults store.journal.disk → GoesOn tells faults side live idle (disk_on First store) (disk_on Second store)
+store_goes {D} tells faults side live idle store at same moments no_fewer = subst (λ (s : Side). GoesOn tells faults s live idle (disk_on First store) (disk_on Second store)) at (by store.side)
+  where
+    by : (s : Side) → GoesOn tells faults s live idle (pick s store.journal.disk store.idle) (pick s store.idle store.journal.disk)
+    by First = record { moments = moments; no_fewer = no_fewer; stays = same }
+    by Second = record { moments = moments; no_fewer = no_fewer; stays = same }
+
+module _ {D : Type 0} (tells : D → Option History) (faults : D → ℕ) (side : Side) (live idle one two : D) (on : GoesOn tells faults side live idle one two) where
+  -- What a call leaves behind one that only synced a disk.
+  abbrev Synced : Option History → D → Type 0
+  Synced a disk = StaysPossible a (tells disk) × OnlySynced a (tells disk)
+
+  went : (a : Option History) → Synced a live → StaysPossible a (tells (pick side one two))
+  went a w = possible_joined a (tells live) (tells (pick side one two)) w.0 w.1 on.moments
+
+  stayed : (a : Option History) → Synced a idle → StaysPossible a (tells (pick side two one))
+  stayed a w = subst (λ (disk : D). StaysPossible a (tells disk)) (sym on.stays) w.0
+
+  pub first_stays : (a : Option History) → StaysPossible a (tells (pick side live idle)) → OnlySynced a (tells (pick side live idle)) → StaysPossible a (tells one)
+  first_stays a moments synced = first_of_two side live idle one two (Synced a) (λ disk. StaysPossible a (tells disk)) (went a) (stayed a) (moments, synced)
+
+  pub second_stays : (a : Option History) → StaysPossible a (tells (pick side idle live)) → OnlySynced a (tells (pick side idle live)) → StaysPossible a (tells two)
+  second_stays a moments synced = second_of_two side live idle one two (Synced a) (λ disk. StaysPossible a (tells disk)) (went a) (stayed a) (moments, synced)
+
+  more : (n : ℕ) → n ≤ faults live → n ≤ faults (pick side one two)
+  more n w = let on_more = on.no_fewer in omega arith
+
+  same : (n : ℕ) → n ≤ faults idle → n ≤ faults (pick side two one)
+  same n w = subst (λ (disk : D). n ≤ faults disk) (sym on.stays) w
+
+  pub first_no_fewer : (n : ℕ) → n ≤ faults (pick side live idle) → n ≤ faults one
+  first_no_fewer n w = first_of_two side live idle one two (λ disk. n ≤ faults disk) (λ disk. n ≤ faults disk) (more n) (same n) w
+
+  pub second_no_fewer : (n : ℕ) → n ≤ faults (pick side idle live) → n ≤ faults two
+  second_no_fewer n w = second_of_two side live idle one two (λ disk. n ≤ faults disk) (λ disk. n ≤ faults disk) (more n) (same n) w
+
+-- A fault of the one that counts is one of the two.
+pub one_rose : {D : Type 0} (faults : D → ℕ) (side : Side) (live idle one two : D) (n m : ℕ) → n ≤ faults (pick side live idle) → m ≤ faults (pick side idle live)
+    → Rose (faults live) (faults (pick side one two)) → Rose n (faults one) ⊎ Rose m (faults two)
+one_rose faults First live idle one two n m before other rose = inl (Rose-later n (faults live) (faults one) before rose)
+one_rose faults Second live idle one two n m before other rose = inr (Rose-later m (faults live) (faults two) other rose)
 
 -- ---- faults
 
 -- What isn't loaded isn't opened.
 not_loaded : (why : StoreFault) (first second : List ℕ) → RefusesToLoad why first second → Refuses why first second
-not_loaded why first second (inl said) = inl (ap (λ (read : Result (List (List ℕ)) StoreFault). unless_faulty read recovered) said)
+not_loaded why first second (inl said) = inl (ap (λ (read : Result CheckpointRead StoreFault). unless_faulty read recovered) said)
 not_loaded why first second (inr other) = inr other
 
 pub refused_to_load : (first second : Option History) (why : StoreFault) → NowRead first second (RefusesToLoad why) → NowRead first second (Refuses why)
 refused_to_load first second why = read_weaker first second (RefusesToLoad why) (Refuses why) (not_loaded why)
 
-not_recovered : (why : StoreFault) (records : List (List ℕ)) (first second : List ℕ) → (recovered records ≡ Err why) ⊎ (why ≡ fault.NoMemory) → Says records first second → Refuses why first second
-not_recovered why records first second (inl leads) said = inl (ap (λ (read : Result (List (List ℕ)) StoreFault). unless_faulty read recovered) said ∙ leads)
-not_recovered why records first second (inr memory) said = inr (inr memory)
+not_recovered : (why : StoreFault) (kept : CheckpointRead) (first second : List ℕ) → (recovered kept ≡ Err why) ⊎ (why ≡ fault.NoMemory) → Says kept first second → Refuses why first second
+not_recovered why kept first second (inl leads) said = inl (standing_is kept first second said ∙ leads)
+not_recovered why kept first second (inr memory) said = inr (inr memory)
 
-pub refused_to_recover : (first second : Option History) (why : StoreFault) (records : List (List ℕ)) → NowRead first second (Says records) → (recovered records ≡ Err why) ⊎ (why ≡ fault.NoMemory)
+pub refused_to_recover : (first second : Option History) (why : StoreFault) (kept : CheckpointRead) → NowRead first second (Says kept) → (recovered kept ≡ Err why) ⊎ (why ≡ fault.NoMemory)
     → NowRead first second (Refuses why)
-refused_to_recover first second why records says fails = read_weaker first second (Says records) (Refuses why) (λ one other. not_recovered why records one other fails) says
+refused_to_recover first second why kept says fails = read_weaker first second (Says kept) (Refuses why) (λ one other. not_recovered why kept one other fails) says
 
 -- Records lead nowhere only by damage.
 abbrev IsDamage : StoreFault → Type 0
@@ -112,7 +228,7 @@ damaged (Ok at) why h = cc
 damaged (Err other) why h = h
 
 -- So no disk failed, and none was full.
-pub only_damage : (records : List (List ℕ)) (why : StoreFault) → (recovered records ≡ Err why) ⊎ (why ≡ fault.NoMemory) → (why ≢ fault.Full) × (why ≢ fault.DiskFault)
-only_damage records why (inl leads) =
-    let (place, is) = damaged_by records first_position why (damaged (behind_records records first_position) why leads) in (λ full. cc, λ failed. cc)
-only_damage records why (inr memory) = (λ full. cc, λ failed. cc)
+pub only_damage : (kept : CheckpointRead) (why : StoreFault) → (recovered kept ≡ Err why) ⊎ (why ≡ fault.NoMemory) → (why ≢ fault.Full) × (why ≢ fault.DiskFault)
+only_damage kept why (inl leads) =
+    let (place, is) = damaged_by kept.records (base_of kept) why (damaged (behind_records kept.records (base_of kept)) why leads) in (λ full. cc, λ failed. cc)
+only_damage kept why (inr memory) = (λ full. cc, λ failed. cc)

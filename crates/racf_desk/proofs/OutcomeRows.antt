@@ -18,6 +18,10 @@ use Rattle.racf_desk.specs.Outcome.{outcome_in, outcome}
 use Rattle.racf_desk.specs.Position.{Position, first_position, position_after}
 use Rattle.racf_desk.specs.Words.{refusal_words}
 
+-- A new database: its journal begins behind an image of 313 bytes, which the rows of recovery compute.
+abbrev pub at_start : Position
+at_start = record { image = first_position.image; gate = 346 }
+
 -- A command, who gives it, and the group that is named for him if one is.
 record Given : Type 0 where
   issuer : List ℕ
@@ -42,7 +46,7 @@ abbrev in_group : List ℕ → List ℕ → List ℕ → Given
 in_group issuer group text = record { issuer = issuer; group = Some group; text = text }
 
 -- Group-SPECIAL in D1 reaches SUE, whom D3 owns, until a user owns D2 on the way.
-scope_rows : told first_position (
+scope_rows : told at_start (
     prepared (codes "AG D1 OWNER(SYS1)")
     ∷ prepared (codes "AG D2 SUPGROUP(D1) OWNER(D1)")
     ∷ prepared (codes "AG D3 SUPGROUP(D2) OWNER(D2)")
@@ -58,7 +62,7 @@ unfolding canon form_in parsed front behind command_of tokens is_root has_subgro
 scope_rows = refl
 
 -- An issuer is judged as he stands at the command.
-issuer_rows : told first_position (
+issuer_rows : told at_start (
     by (codes "ANN") (codes "AG X")
     ∷ by (codes "ANN") (codes "AX")
     ∷ prepared (codes "AG G1")
@@ -103,7 +107,7 @@ room_rows : told (standing_at (2 ^ 62 - 1) (2 ^ 28 - 32)) (prepared (codes "AU J
 unfolding canon form_in parsed front behind command_of tokens is_root has_subgroup has_connected has_profile meets cycle owner_not_superior default_group last_special users_full groups_full connections_full user_full add_user_conflicts alt_user_conflicts del_user_conflicts add_group_conflicts alt_group_conflicts del_group_conflicts connect_conflicts remove_conflicts no_user no_group no_owner no_named_group no_class name_taken not_connected default_not_connected unknown_level unknown_category never_category unknown_label add_user_requirements alt_user_requirements add_group_requirements alt_group_requirements del_group_requirements connect_requirements remove_requirements is_met need spelled canonical outcome_in
 room_rows = refl
 
-need_rows : told first_position (
+need_rows : told at_start (
     prepared (codes "AU ANN")
     ∷ by (codes "ANN") (codes "AU IBMUSER")
     ∷ by (codes "ANN") (codes "DG SYS1")

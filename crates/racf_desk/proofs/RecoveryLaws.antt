@@ -13,12 +13,13 @@ use Rattle.journal_records.specs.Reading.{record_of}
 use Rattle.journal_records.specs.Spelling.{spelled}
 use Rattle.racf_checkpoint.specs.declared.fault.StoreFault.{StoreFault}
 use Rattle.racf_checkpoint.specs.Contents.{Says}
+use Rattle.checkpoint_disks.specs.Files.{CheckpointRead}
 use Rattle.racf_desk.specs.declared.refusal.Refusal.{Refusal}
 use Rattle.racf_desk.specs.declared.refusal.Refusal.TheVariants.{IssuerRevoked, IssuerNotConnected}
 use Rattle.racf_desk.specs.Issuers.{current_group, is_connected, issuer_in, issuer_among, issuer_of, unless_not_connected}
-use Rattle.racf_desk.specs.Position.{Position, first_position, position_behind, restarted}
+use Rattle.racf_desk.specs.Position.{Position, position_behind, restarted}
 use Rattle.racf_desk.specs.Outcome.{first_of, rules_of, journal_full, number_spent, refusal_of, unless_met, unless_refused, command_of_text, judged, outcome_in, outcome}
-use Rattle.racf_desk.specs.Recovery.{unless_faulty, refusal_again, outcome_again, behind_outcome, behind_record, behind_records, recovered, StandsFor}
+use Rattle.racf_desk.specs.Recovery.{unless_faulty, refusal_again, outcome_again, behind_outcome, behind_record, behind_records, recovered_from, recovered, standing}
 use Rattle.racf_desk.specs.History.{at, IsLegal}
 use Rattle.racf_desk.proofs.IssuerLaws.{issuer_in_spelled}
 
@@ -172,16 +173,16 @@ leads_by position given (Ok found) reads accepted h =
     ∙ ap (λ (p : Position). Ok (restarted (position_behind p given))) same
 leads_by position given (Err why) reads accepted h = cc
 
--- The record of what is accepted leads on from a position to the one behind it.
-pub leads_on : (position : Position) (given : CommandRecord) (records : List (List ℕ)) → record_of (spelled given) ≡ Ok given → outcome_again position given ≡ Ok given
-    → recovered records ≡ Ok (restarted position) → recovered (records ++ spelled given ∷ []) ≡ Ok (restarted (position_behind position given))
-leads_on position given records reads accepted leads =
-    ap (λ (found : Result Position StoreFault). unless_faulty found (λ position. Ok (restarted position))) (behind_append records (spelled given ∷ []) first_position)
-    ∙ leads_by position given (behind_records records first_position) reads accepted leads
+-- The record of what is accepted leads on from a position to the one behind it, whatever the base.
+pub leads_on : (base position : Position) (given : CommandRecord) (records : List (List ℕ)) → record_of (spelled given) ≡ Ok given → outcome_again position given ≡ Ok given
+    → recovered_from base records ≡ Ok (restarted position) → recovered_from base (records ++ spelled given ∷ []) ≡ Ok (restarted (position_behind position given))
+leads_on base position given records reads accepted leads =
+    ap (λ (found : Result Position StoreFault). unless_faulty found (λ position. Ok (restarted position))) (behind_append records (spelled given ∷ []) base)
+    ∙ leads_by position given (behind_records records base) reads accepted leads
 
--- Files that say records stand for where these lead.
-pub standing_by : (position : Position) (records : List (List ℕ)) (first second : List ℕ) → Says records first second → recovered records ≡ Ok (restarted position) → StandsFor position first second
-standing_by position records first second says leads = ap (λ (read : Result (List (List ℕ)) StoreFault). unless_faulty read recovered) says ∙ leads
+-- Files stand for where the checkpoint leads that they say.
+pub standing_is : (kept : CheckpointRead) (first second : List ℕ) → Says kept first second → standing first second ≡ recovered kept
+standing_is kept first second says = ap (λ (read : Result CheckpointRead StoreFault). unless_faulty read recovered) says
 
 -- ---- histories
 
@@ -222,15 +223,15 @@ along (bytes ∷ records) base position h = read (along records) (record_of byte
     read after (Ok asked) is h = accepted after asked is (outcome_again base asked) refl h
     read after (Err why) is h = cc
 
--- and from a new database on, as far as it outlives a restart.
-pub lead_along : (records : List (List ℕ)) (position : Position) → recovered records ≡ Ok position
-    → (history : List CommandRecord) × IsLegal first_position history × (map record_of records ≡ map Ok history) × (position ≡ restarted (at first_position history))
-lead_along records position h = by (behind_records records first_position) refl h
+-- as far as it outlives a restart.
+pub lead_along : (base : Position) (records : List (List ℕ)) (position : Position) → recovered_from base records ≡ Ok position
+    → (history : List CommandRecord) × IsLegal base history × (map record_of records ≡ map Ok history) × (position ≡ restarted (at base history))
+lead_along base records position h = by (behind_records records base) refl h
   where
-    by : (found : Result Position StoreFault) → behind_records records first_position ≡ found → unless_faulty found (λ p. Ok (restarted p)) ≡ Ok position
-        → (history : List CommandRecord) × IsLegal first_position history × (map record_of records ≡ map Ok history) × (position ≡ restarted (at first_position history))
+    by : (found : Result Position StoreFault) → behind_records records base ≡ found → unless_faulty found (λ p. Ok (restarted p)) ≡ Ok position
+        → (history : List CommandRecord) × IsLegal base history × (map record_of records ≡ map Ok history) × (position ≡ restarted (at base history))
     by (Ok found) is h =
         let same : restarted found ≡ position = cc in
-        let (history, legal, maps, ends) = along records first_position found is in
+        let (history, legal, maps, ends) = along records base found is in
         (history, legal, maps, sym same ∙ ap restarted ends)
     by (Err why) is h = cc

@@ -3,6 +3,9 @@ use Rattle.std.proofs.Common.{◌≡◌, ℕ, ◌+◌, ◌<◌, ◌≤◌, ◌^�
 use Rattle.std.specs.Result.{result_ok}
 use Rattle.std.proofs.lemmas.List.{take_more, take_all, take-append-drop}
 use Rattle.racf_profiles.specs.declared.rows.Rows.{Rows}
+use Rattle.racf_profiles.specs.NewDatabase.{new_database}
+use Rattle.racf_profiles.specs.State.{restart}
+use Rattle.raclist_image.specs.Imaged.{Imaged}
 use Rattle.command_conflicts.specs.Conflicts.{conflict_of}
 use Rattle.command_effects.specs.Effects.{step}
 use Rattle.journal_records.specs.declared.record.CommandRecord.{CommandRecord}
@@ -14,8 +17,8 @@ use Rattle.racf_checkpoint.specs.declared.fault.StoreFault.TheVariants.{NoMemory
 use Rattle.racf_desk.specs.declared.recovery.Recovery.{Recovery}
 use Rattle.racf_desk.specs.declared.refusal.Refusal.{Refusal}
 use Rattle.racf_desk.specs.Outcome.{most_number, first_of, rules_of, number_spent, judged}
-use Rattle.racf_desk.specs.Position.{Position, first_position, position_behind}
-use Rattle.racf_desk.specs.Recovery.{unless_faulty, refusal_again, behind_outcome, behind_record, behind_records}
+use Rattle.racf_desk.specs.Position.{Position, at_checkpoint, first_position, position_behind, restarted}
+use Rattle.racf_desk.specs.Recovery.{unless_faulty, refusal_again, behind_outcome, behind_record, behind_records, recovered_from}
 use Rattle.racf_desk.specs.Recovering.{IsAt}
 use Rattle.racf_desk.proofs.MakingLaws.{unspent, within}
 use Rattle.racf_desk.proofs.RecoveryLaws.{judged_parts, same_again, behind_append}
@@ -79,12 +82,14 @@ spelled_append (first ∷ records) others =
     let after : length (spelled (records ++ others)) ≡ length (spelled records) + length (spelled others) = spelled_append records others in
     simp length-append (omega arith)
 
--- These records led a recovery there.
-pub record HasLed (records : List (List ℕ)) (recovery : Recovery) : Type 0 where
-  pub position : Position
-  pub is_at : IsAt recovery position
-  pub leads : behind_records records first_position ≡ Ok position
-  pub gate : recovery.gate ≡ 8 + length (spelled records)
+-- These records led a recovery from where it was, wherever that is.
+pub record HasLed (records : List (List ℕ)) (old new : Recovery) : Type 0 where
+  pub leads : (base : Position) → IsAt old base → (position : Position) × IsAt new position × (behind_records records base ≡ Ok position)
+  pub gate : new.gate ≡ old.gate + length (spelled records)
+
+-- No record leads it on.
+pub none_led : (recovery : Recovery) → HasLed [] recovery recovery
+none_led recovery = record { leads = λ base at. (base, at, refl); gate = omega arith }
 
 -- The records are those before one, and it, and those behind it.
 parted : (records : List (List ℕ)) (i : ℕ) (bytes : List ℕ) → i < length records → bytes ≡ get_or records i bytes → take i records ++ bytes ∷ drop (i + 1) records ≡ records
@@ -97,9 +102,9 @@ pub item_at : (records : List (List ℕ)) (i : ℕ) (item bytes : List ℕ) → 
 item_at records i item bytes is same = subst (λ (b : List ℕ). b ≡ get_or records i b) (sym same) is
 
 -- There is room for each.
-pub fits : (records : List (List ℕ)) (i : ℕ) (bytes : List ℕ) (recovery : Recovery) → i < length records → bytes ≡ get_or records i bytes
-    → 8 + length (spelled records) < 2 ^ 64 → HasLed (take i records) recovery → recovery.gate + 1 + length bytes < 2 ^ 64
-fits records i bytes recovery within is room led =
+pub fits : (records : List (List ℕ)) (i : ℕ) (bytes : List ℕ) (old mid : Recovery) → i < length records → bytes ≡ get_or records i bytes
+    → old.gate + length (spelled records) < 2 ^ 64 → HasLed (take i records) old mid → mid.gate + 1 + length bytes < 2 ^ 64
+fits records i bytes old mid within is room led =
     let gate = led.gate in
     let whole : length (spelled records) ≡ length (spelled (take i records)) + length (spelled (bytes ∷ drop (i + 1) records)) =
     sym (ap (λ (all : List (List ℕ)). length (spelled all)) (parted records i bytes within is)) ∙ spelled_append (take i records) (bytes ∷ drop (i + 1) records) in
@@ -107,45 +112,71 @@ fits records i bytes recovery within is room led =
     omega arith
 
 -- One more led it on,
-pushed : (records : List (List ℕ)) (bytes : List ℕ) (old new : Recovery) → HasLed records old
-    → ((position : Position) → IsAt old position → (next : Position) × IsAt new next × (behind_record position (record_of bytes) ≡ Ok next))
-    → new.gate ≡ old.gate + 1 + length bytes → HasLed (records ++ bytes ∷ []) new
-pushed records bytes old new led leads gate =
-    let (next, is_at, to) = leads led.position led.is_at in
+pushed : (records : List (List ℕ)) (bytes : List ℕ) (old mid new : Recovery) → HasLed records old mid
+    → ((position : Position) → IsAt mid position → (next : Position) × IsAt new next × (behind_record position (record_of bytes) ≡ Ok next))
+    → new.gate ≡ mid.gate + 1 + length bytes → HasLed (records ++ bytes ∷ []) old new
+pushed records bytes old mid new led leads gate =
     let before = led.gate in
     let more : length (spelled (records ++ bytes ∷ [])) ≡ length (spelled records) + (1 + length bytes) = spelled_append records (bytes ∷ []) ∙ simp length-append (omega arith) in
     record {
-      position = next;
-      is_at = is_at;
-      leads =
-          behind_append records (bytes ∷ []) first_position
-          ∙ ap (λ (found : Result Position StoreFault). unless_faulty found (behind_records (bytes ∷ []))) led.leads
-          ∙ ap (λ (found : Result Position StoreFault). unless_faulty found (behind_records [])) to;
+      leads = λ base at.
+          let (position, is_at, there) = led.leads base at in
+          let (next, is_next, to) = leads position is_at in (
+            next,
+            is_next,
+            behind_append records (bytes ∷ []) base
+                ∙ ap (λ (found : Result Position StoreFault). unless_faulty found (behind_records (bytes ∷ []))) there
+                ∙ ap (λ (found : Result Position StoreFault). unless_faulty found (behind_records [])) to,
+          );
       gate = omega arith;
     }
 
-pub led_on : (records : List (List ℕ)) (i : ℕ) (bytes : List ℕ) (old new : Recovery) → i < length records → bytes ≡ get_or records i bytes → HasLed (take i records) old
-    → ((position : Position) → IsAt old position → (next : Position) × IsAt new next × (behind_record position (record_of bytes) ≡ Ok next))
-    → new.gate ≡ old.gate + 1 + length bytes → HasLed (take (i + 1) records) new
-led_on records i bytes old new within is led leads gate =
-    subst (λ (all : List (List ℕ)). HasLed all new) (sym (take_more records i bytes within ∙ ap (λ (b : List ℕ). take i records ++ b ∷ []) (sym is))) (pushed (take i records) bytes old new led leads gate)
+pub led_on : (records : List (List ℕ)) (i : ℕ) (bytes : List ℕ) (old mid new : Recovery) → i < length records → bytes ≡ get_or records i bytes → HasLed (take i records) old mid
+    → ((position : Position) → IsAt mid position → (next : Position) × IsAt new next × (behind_record position (record_of bytes) ≡ Ok next))
+    → new.gate ≡ mid.gate + 1 + length bytes → HasLed (take (i + 1) records) old new
+led_on records i bytes old mid new within is led leads gate =
+    subst (λ (all : List (List ℕ)). HasLed all old new) (sym (take_more records i bytes within ∙ ap (λ (b : List ℕ). take i records ++ b ∷ []) (sym is))) (pushed (take i records) bytes old mid new led leads gate)
 
 -- or is damage.
-pub led_to_damage : (records : List (List ℕ)) (i : ℕ) (bytes : List ℕ) (recovery : Recovery) (why : StoreFault) → i < length records → bytes ≡ get_or records i bytes → HasLed (take i records) recovery
-    → (why ≡ NoMemory) ⊎ ((position : Position) → IsAt recovery position → behind_record position (record_of bytes) ≡ Err why)
-    → (behind_records records first_position ≡ Err why) ⊎ (why ≡ NoMemory)
-led_to_damage records i bytes recovery why within is led (inl memory) = inr memory
-led_to_damage records i bytes recovery why within is led (inr fault) =
-    inl (sym (ap (λ (all : List (List ℕ)). behind_records all first_position) (parted records i bytes within is))
-    ∙ behind_append (take i records) (bytes ∷ drop (i + 1) records) first_position
-    ∙ ap (λ (found : Result Position StoreFault). unless_faulty found (behind_records (bytes ∷ drop (i + 1) records))) led.leads
-    ∙ ap (λ (found : Result Position StoreFault). unless_faulty found (behind_records (drop (i + 1) records))) (fault led.position led.is_at))
+pub led_to_damage : (records : List (List ℕ)) (i : ℕ) (bytes : List ℕ) (old mid : Recovery) (why : StoreFault) → i < length records → bytes ≡ get_or records i bytes → HasLed (take i records) old mid
+    → (why ≡ NoMemory) ⊎ ((position : Position) → IsAt mid position → behind_record position (record_of bytes) ≡ Err why)
+    → (why ≡ NoMemory) ⊎ ((base : Position) → IsAt old base → behind_records records base ≡ Err why)
+led_to_damage records i bytes old mid why within is led (inl memory) = inl memory
+led_to_damage records i bytes old mid why within is led (inr fault) =
+    inr (λ base at.
+    let (position, is_at, there) = led.leads base at in
+    sym (ap (λ (all : List (List ℕ)). behind_records all base) (parted records i bytes within is))
+    ∙ behind_append (take i records) (bytes ∷ drop (i + 1) records) base
+    ∙ ap (λ (found : Result Position StoreFault). unless_faulty found (behind_records (bytes ∷ drop (i + 1) records))) there
+    ∙ ap (λ (found : Result Position StoreFault). unless_faulty found (behind_records (drop (i + 1) records))) (fault position is_at))
 
--- Behind the last, all of them led there.
-pub all_led : (records : List (List ℕ)) (i : ℕ) (recovery : Recovery) → length records ≤ i → HasLed (take i records) recovery
-    → (position : Position) × IsAt recovery position × (behind_records records first_position ≡ Ok position)
-all_led records i recovery past led =
-    (led.position, led.is_at, sym (ap (λ (all : List (List ℕ)). behind_records all first_position) (take_all i records past)) ∙ led.leads)
+-- Behind the last, all of them led it there.
+pub all_led : (records : List (List ℕ)) (i : ℕ) (old new : Recovery) → length records ≤ i → HasLed (take i records) old new → HasLed records old new
+all_led records i old new past = subst (λ (all : List (List ℕ)). HasLed all old new) (take_all i records past)
 
-pub all_counted : (records : List (List ℕ)) (i : ℕ) (recovery : Recovery) → length records ≤ i → HasLed (take i records) recovery → recovery.gate ≡ 8 + length (spelled records)
-all_counted records i recovery past led = led.gate ∙ ap (λ (all : List (List ℕ)). 8 + length (spelled all)) (take_all i records past)
+-- ---- what was recovered
+
+-- Where records lead to the position that a recovery is at, that is what was recovered, with an image of its rows.
+pub recovered_there : (base : Position) (records : List (List ℕ)) (recovery : Recovery) (image : Imaged) (gate : ℕ) → (position : Position) × IsAt recovery position × (behind_records records base ≡ Ok position)
+    → image ≡ record { state = restart recovery.database.rows; generation = recovery.number } → gate ≡ recovery.gate → recovered_from base records ≡ Ok (record { image = image; gate = gate })
+recovered_there base records recovery image gate (position, at, there) pictures ends =
+    let remade : Rows → ℕ → ℕ → Result Position StoreFault = λ rows number end. Ok (record { image = record { state = restart rows; generation = number }; gate = end }) in
+    ap (λ (found : Result Position StoreFault). unless_faulty found (λ p. Ok (restarted p))) there
+    ∙ ap (λ (rows : Rows). remade rows position.image.generation position.gate) (sym at.rows)
+    ∙ ap (λ n. remade recovery.database.rows n position.gate) (sym at.number)
+    ∙ ap (λ n. remade recovery.database.rows recovery.number n) (sym at.gate ∙ sym ends)
+    ∙ ap (λ (i : Imaged). Ok (record { image = i; gate = gate })) (sym pictures)
+
+-- Where they are a fault from where a recovery was, so is what is recovered.
+pub recovered_fault : (old : Recovery) (base : Position) (records : List (List ℕ)) (why : StoreFault) → IsAt old base
+    → (why ≡ NoMemory) ⊎ ((from : Position) → IsAt old from → behind_records records from ≡ Err why) → (recovered_from base records ≡ Err why) ⊎ (why ≡ NoMemory)
+recovered_fault old base records why at (inl memory) = inr memory
+recovered_fault old base records why at (inr fails) = inl (ap (λ (found : Result Position StoreFault). unless_faulty found (λ p. Ok (restarted p))) (fails base at))
+
+-- From the rows of a new database nothing leads to its image.
+pub new_is_first : (rows : Rows) (image : Imaged) (gate : ℕ) → rows ≡ new_database → recovered_from (at_checkpoint rows 0 0) [] ≡ Ok (record { image = image; gate = gate }) → image ≡ first_position.image
+new_is_first rows image gate new h =
+    let here : ◌≡◌ {A = Result Position StoreFault} (Ok (restarted (at_checkpoint new_database 0 0))) (Ok (record { image = image; gate = gate })) =
+    sym (ap (λ (r : Rows). Ok (restarted (at_checkpoint r 0 0))) new) ∙ h in
+    let same : restarted (at_checkpoint new_database 0 0) ≡ record { image = image; gate = gate } = cc in
+    sym (ap (λ (p : Position). p.image) same)

@@ -5,6 +5,9 @@ use Rattle.std.specs.Arc.{arc_value}
 use Rattle.racf_outside.specs.Disk.{History}
 use Rattle.racf_profiles.specs.Edits.{changed}
 use Rattle.racf_journal.specs.Reading.{IsRecord}
+use Rattle.checkpoint_disks.specs.Files.{CheckpointRead}
+use Rattle.checkpoint_disks.specs.Compacting.{IsCheckpoint}
+use Rattle.racf_checkpoint.specs.Contents.{and_record}
 use Rattle.racf_database.specs.Contents.{Contents as Database}
 use Rattle.racf_desk.specs.declared.desk.Desk.TheInside.{Inside}
 use Rattle.racf_desk.specs.Images.{IsImageOf}
@@ -27,7 +30,7 @@ contents_of desk =
 pub record IsReady (database : Database) (position : Position) (made : Made) : Type 0 where
   pub prepared : database.prepared ≡ Some made.change
   pub image : IsImageOf (changed made.change.edits database.rows) made.behind
-  pub leads : (records : List (List ℕ)) → LeadTo position records → LeadTo (installed position made) (records ++ made.entry ∷ [])
+  pub leads : (kept : CheckpointRead) → IsCheckpoint kept → LeadTo position kept → LeadTo (installed position made) (and_record kept made.entry)
   pub whole : IsRecord made.entry
   pub short : length made.entry ≤ 30020
   pub fits : (position.gate + 1) + (length made.entry + 1) ≤ 2 ^ 28

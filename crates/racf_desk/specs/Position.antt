@@ -2,7 +2,9 @@
 -- so far, the state that they led to, as an image of it shows them, and where the journal's last gate is.
 use Rattle.std.specs.Prelude.{ℕ, ◌+◌, List, length, Result, Ok, Err}
 use Rattle.racf_profiles.specs.State.{State, ListedCopy, restart, changed_state}
+use Rattle.racf_profiles.specs.declared.rows.Rows.{Rows}
 use Rattle.racf_profiles.specs.NewDatabase.{new_database}
+use Rattle.database_image.specs.Image.{image_of}
 use Rattle.command_parser.specs.declared.fields.CommandFields.{CommandFields}
 use Rattle.command_parser.specs.declared.fields.CommandFields.TheVariants as fields
 use Rattle.command_effects.specs.Effects.{step}
@@ -17,9 +19,21 @@ pub record Position : Type 0 where
   pub image : Imaged
   pub gate : ℕ
 
--- That of a new database, whose journal has its first gate at place 8.
+-- That of a checkpoint of these rows, which so many commands led to: its journal, whose first gate is there, has no records.
+abbrev pub at_checkpoint : Rows → (number start : ℕ) → Position
+at_checkpoint rows number start = record { image = record { state = restart rows; generation = number }; gate = start }
+
+-- Where the journal begins behind the image of these rows.
+abbrev pub start_behind : Rows → ℕ
+start_behind rows = 33 + length (image_of rows)
+
+-- That of a new database.
 abbrev pub first_position : Position
-first_position = record { image = record { state = restart new_database; generation = 0 }; gate = 8 }
+first_position = at_checkpoint new_database 0 (start_behind new_database)
+
+-- Where a checkpoint of its rows is written: the journal has no records, and nothing else is changed.
+abbrev pub compacted : Position → Position
+compacted position = record { image = position.image; gate = start_behind position.image.state.rows }
 
 -- The listed copies behind a command: SETROPTS makes and drops them by its edits, and no other command does.
 abbrev pub copies_behind : CommandFields → State → List ListedCopy

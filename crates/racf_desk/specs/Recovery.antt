@@ -6,10 +6,11 @@ use Rattle.journal_records.specs.declared.record.RecordFault.{RecordFault}
 use Rattle.journal_records.specs.Reading.{record_of}
 use Rattle.racf_checkpoint.specs.declared.fault.StoreFault.{StoreFault}
 use Rattle.racf_checkpoint.specs.declared.fault.StoreFault.TheVariants as fault
+use Rattle.checkpoint_disks.specs.Files.{CheckpointRead}
 use Rattle.racf_checkpoint.specs.Contents.{contents}
 use Rattle.racf_desk.specs.declared.refusal.Refusal.{Refusal}
 use Rattle.racf_desk.specs.Outcome.{first_of, rules_of, number_spent, judged}
-use Rattle.racf_desk.specs.Position.{Position, first_position, position_behind, restarted}
+use Rattle.racf_desk.specs.Position.{Position, at_checkpoint, position_behind, restarted}
 
 -- what follows where nothing was faulty so far
 abbrev pub unless_faulty : {X Y : Type 0} → Result X StoreFault → (X → Result Y StoreFault) → Result Y StoreFault
@@ -40,12 +41,19 @@ abbrev pub behind_records : List (List ℕ) → Position → Result Position Sto
 behind_records [] position = Ok position
 behind_records (bytes ∷ records) position = unless_faulty (behind_record position (record_of bytes)) (behind_records records)
 
--- Where these records lead from a new database, and each listed copy is made anew.
-abbrev pub recovered : List (List ℕ) → Result Position StoreFault
-recovered records = unless_faulty (behind_records records first_position) (λ position. Ok (restarted position))
+-- Where these records lead from a base, and each listed copy is made anew.
+abbrev pub recovered_from : Position → List (List ℕ) → Result Position StoreFault
+recovered_from base records = unless_faulty (behind_records records base) (λ position. Ok (restarted position))
 
--- What two files stand for: where their records lead, or the first fault. Faults of the journal come before those of what
--- its records say.
+-- where a checkpoint stands, and where the records behind it lead
+abbrev pub base_of : CheckpointRead → Position
+base_of kept = at_checkpoint kept.rows kept.number kept.start
+
+abbrev pub recovered : CheckpointRead → Result Position StoreFault
+recovered kept = recovered_from (base_of kept) kept.records
+
+-- What two files stand for: where the records behind the checkpoint that counts lead, or the first fault. Faults of the
+-- checkpoint and of the journal come before those of what the records say.
 abbrev pub standing : (first second : List ℕ) → Result Position StoreFault
 standing first second = unless_faulty (contents first second) recovered
 

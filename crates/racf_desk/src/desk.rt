@@ -1,17 +1,20 @@
 //! The desk: where it stands, what was made last, and its disks.
-ghost use Rattle.std.specs.Prelude.{◌≡◌, ◌≢◌, ◌⊎◌, ◌≤◌, true, false, Some, None, Ok, Err, IfOk, IfErr, OnOk, OnErr, MatchResult};
+ghost use Rattle.std.specs.Prelude.{◌+◌, ◌-◌, ◌≡◌, ◌≢◌, ◌⊎◌, ◌<◌, ◌≤◌, ◌^◌, min, true, false, Some, None, Ok, Err, IfOk, IfErr, OnOk, OnErr, MatchResult};
 ghost use Rattle.std.specs.Arc.{arc_value};
 ghost use Rattle.racf_outside.specs.Causes.{HasCause, Rose};
 ghost use Rattle.racf_journal.specs.Opening.{OnlySynced};
-ghost use Rattle.racf_checkpoint.specs.Contents.{IsCaused};
-ghost use Rattle.racf_checkpoint.specs.Stored.{NowRead};
+ghost use Rattle.checkpoint_disks.specs.declared.counting.Side.{Side};
+ghost use Rattle.racf_checkpoint.specs.Contents.{IsCaused, IsCausedByOne};
+ghost use Rattle.racf_checkpoint.specs.Stored.{NowRead, StaysPossible, disk_on, other};
 
 use crate::answers::{Ready, Reply};
 use crate::making::{is_recorded, make};
 use crate::outcome::outcome_in;
-use crate::recovery::{Recovered, recover};
+use crate::recovery::{Recovered, new_database, recover};
 use access_levels::Id;
-use racf_checkpoint::{Store, StoreFault};
+use racf_checkpoint::{
+    Loaded, Store, StoreFault, a_new_database_is_stored, what_is_stored_is_said,
+};
 use racf_database::Database;
 use racf_outside::{Disk, Failed, Two};
 use raclist_image::Image;
@@ -56,61 +59,82 @@ impl<D: Disk> Model for Desk<D> {
 
 impl<D: Disk> Desk<D> {
     ghost use Rattle.racf_desk.specs.Outcome.{outcome};
-    ghost use Rattle.racf_desk.specs.Position.{first_position, position_after};
+    ghost use Rattle.racf_desk.specs.Position.{first_position, compacted, position_after};
     ghost use Rattle.racf_desk.specs.Made.{installed, is_fresh, made_in, made_of_outcome, number_at, IsRefusal, IsAnswer};
     ghost use Rattle.racf_desk.specs.Recovery.{standing, Refuses};
-    ghost use Rattle.racf_desk.specs.Durable.{LeavesIt, StandsThere, StaysEither, StaysPossible};
+    ghost use Rattle.racf_desk.specs.Durable.{LeavesIt, LeavesCheckpoint, SameIdle, SaysEpoch, StandsThere, StaysEither, StaysThere};
     ghost use Rattle.racf_desk.specs.Images.{IsImageOf};
 
-    /// A desk over a new database, whatever the disks held. A crash meanwhile may leave anything of the first. Where that
-    /// fails, both are handed back.
+    /// A desk over a new database, whatever the disks held: the first has a checkpoint of it. A crash meanwhile may leave
+    /// anything of both. Where that fails, both are handed back.
     pub fn format(alloc: Global, disks: Two<D>) -> Result<Desk<D>, (Two<D>, StoreFault)>
         ensures desk { IfOk result (λ desk. desk ≡ is_fresh first_position desk.store) }
         ensures leaves { IfOk result (λ desk. LeavesIt D.tells desk.store first_position) }
-        ensures second { MatchResult result (λ desk. desk.store.second ≡ disks.second) (λ back. back.0.second ≡ disks.second) }
+        ensures side { IfOk result (λ desk. desk.store.side ≡ Side.First) }
+        ensures epoch { IfOk result (λ desk. desk.store.epoch ≡ 1) }
         ensures fault { IfErr result (λ back. (back.1 ≡ StoreFault.DiskFault) ⊎ (back.1 ≡ StoreFault.NoMemory)) }
-        ensures cause { IfErr result (λ back. IsCaused (D.faults disks.first) (D.faults back.0.first) back.1) }
-        ensures no_fewer { MatchResult result (λ desk. D.faults disks.first ≤ D.faults desk.store.journal.disk) (λ back. D.faults disks.first ≤ D.faults back.0.first) }
+        ensures cause { IfErr result (λ back. IsCausedByOne (D.faults disks.first) (D.faults back.0.first) (D.faults disks.second) (D.faults back.0.second) back.1) }
+        ensures first_no_fewer { MatchResult result (λ desk. D.faults disks.first ≤ D.faults (disk_on Side.First desk.store)) (λ back. D.faults disks.first ≤ D.faults back.0.first) }
+        ensures second_no_fewer { MatchResult result (λ desk. D.faults disks.second ≤ D.faults (disk_on Side.Second desk.store)) (λ back. D.faults disks.second ≤ D.faults back.0.second) }
     {
-        let found = match recover(alloc, &[]) {
+        a_new_database_is_stored();
+        let found = match new_database(alloc) {
             Ok(found) => found,
             Err(fault) => return Err((disks, fault)),
         };
-        match Store::format(disks) {
-            Ok(store) => Ok(Desk::fresh(alloc, found, store)),
+        match Store::format(alloc, disks) {
+            Ok(store) => {
+                let gate = store.gate();
+                Ok(Desk::fresh(alloc, Recovered { gate, ..found }, store))
+            }
             Err(back) => Err(back),
         }
     }
 
-    /// Opens the database that the disks stand for: repeats the commands of the journal's records, from a new database on,
-    /// in time that grows with their number, and makes the image of the rows once. Nothing is written before all of them are
-    /// judged. At every moment a crash leaves files that stand for what was possible before; after `Ok` it leaves what was
-    /// opened. Otherwise the disks are handed back.
+    /// Opens the database that the disks stand for: takes the rows of the checkpoint that counts, repeats the commands of
+    /// the records behind it, in time that grows with their number, and makes the image of the rows once. Both disks are
+    /// synced, and nothing is written before all records are judged. At every moment a crash leaves files that say what was
+    /// possible before; after `Ok` it leaves what was opened. Otherwise the disks are handed back.
     pub fn open(alloc: Global, disks: Two<D>) -> Result<Desk<D>, (Two<D>, StoreFault)>
         ensures stands { IfOk result (λ desk. NowRead (D.tells disks.first) (D.tells disks.second) (λ first second. standing first second ≡ Ok desk.position)) }
         ensures desk { IfOk result (λ desk. desk ≡ is_fresh desk.position desk.store) }
+        ensures epoch { IfOk result (λ desk. NowRead (D.tells disks.first) (D.tells disks.second) (SaysEpoch desk.store.epoch)) }
         ensures leaves { IfOk result (λ desk. LeavesIt D.tells desk.store desk.position) }
-        ensures moments { MatchResult result (λ desk. StaysPossible (D.tells disks.second) (D.tells disks.first) (D.tells desk.store.journal.disk))
-            (λ back. StaysPossible (D.tells disks.second) (D.tells disks.first) (D.tells back.0.first)) }
-        ensures second { MatchResult result (λ desk. desk.store.second ≡ disks.second) (λ back. back.0.second ≡ disks.second) }
+        ensures first_moments { MatchResult result (λ desk. StaysPossible (D.tells disks.first) (D.tells (disk_on Side.First desk.store))) (λ back. StaysPossible (D.tells disks.first) (D.tells back.0.first)) }
+        ensures second_moments { MatchResult result (λ desk. StaysPossible (D.tells disks.second) (D.tells (disk_on Side.Second desk.store))) (λ back. StaysPossible (D.tells disks.second) (D.tells back.0.second)) }
 
         ensures fault { IfErr result (λ back. NowRead (D.tells disks.first) (D.tells disks.second) (Refuses back.1)) }
         ensures no_other { IfErr result (λ back. back.1 ≢ StoreFault.Full) }
-        ensures untouched { IfErr result (λ back. back.1 ≢ StoreFault.DiskFault → OnlySynced (D.tells disks.first) (D.tells back.0.first)) }
-        ensures cause { IfErr result (λ back. IsCaused (D.faults disks.first) (D.faults back.0.first) back.1) }
-        ensures no_fewer { MatchResult result (λ desk. D.faults disks.first ≤ D.faults desk.store.journal.disk) (λ back. D.faults disks.first ≤ D.faults back.0.first) }
+        ensures untouched { IfErr result (λ back. back.1 ≢ StoreFault.DiskFault → OnlySynced (D.tells disks.first) (D.tells back.0.first) × OnlySynced (D.tells disks.second) (D.tells back.0.second)) }
+        ensures cause { IfErr result (λ back. IsCausedByOne (D.faults disks.first) (D.faults back.0.first) (D.faults disks.second) (D.faults back.0.second) back.1) }
+        ensures first_no_fewer { MatchResult result (λ desk. D.faults disks.first ≤ D.faults (disk_on Side.First desk.store)) (λ back. D.faults disks.first ≤ D.faults back.0.first) }
+        ensures second_no_fewer { MatchResult result (λ desk. D.faults disks.second ≤ D.faults (disk_on Side.Second desk.store)) (λ back. D.faults disks.second ≤ D.faults back.0.second) }
     {
         let found = match Store::find(alloc, disks) {
             Ok(found) => found,
             Err(back) => return Err(back),
         };
         // The records are judged before anything is written.
-        let recovered = match recover(alloc, found.records()) {
+        let recovered = match recover(
+            alloc,
+            found.rows(),
+            found.number(),
+            found.start(),
+            found.records(),
+        ) {
             Ok(recovered) => recovered,
             Err(fault) => return Err((found.into_disks(), fault)),
         };
         match found.open() {
-            Ok((store, _records)) => Ok(Desk::fresh(alloc, recovered, store)),
+            Ok(
+                Loaded {
+                    store,
+                    rows: _rows,
+                    number: _,
+                    start: _,
+                    records: _records,
+                },
+            ) => Ok(Desk::fresh(alloc, recovered, store)),
             Err(back) => Err(back),
         }
     }
@@ -168,6 +192,7 @@ impl<D: Disk> Desk<D> {
         requires { self.now.committed ≡ false }
         ensures { self.now.halted ≡ false → LeavesIt D.tells self.now.store self.now.position }
     {
+        what_is_stored_is_said();
         let _ = &self.halted;
     }
 
@@ -233,9 +258,10 @@ impl<D: Disk> Desk<D> {
         ensures leaves { OnOk result (LeavesIt D.tells self.new.store (installed self.old.position (made_in ready.now))) }
         ensures moments { StaysEither D.tells self.old.store self.new.store self.old.position (installed self.old.position (made_in ready.now)) }
         ensures halted { OnErr result (self.new ≡ record self.old { store = self.new.store; halted = true }) }
-        ensures second { self.new.store.second ≡ self.old.store.second }
+        ensures idle { SameIdle self.old.store self.new.store }
         ensures cause { HasCause (D.faults self.old.store.journal.disk) (D.faults self.new.store.journal.disk) result }
     {
+        what_is_stored_is_said();
         match self.store.append(self.alloc, ready.entry.bytes()) {
             Ok(()) => {
                 self.committed = true;
@@ -282,7 +308,7 @@ impl<D: Disk> Desk<D> {
         ensures leaves { self.new.halted ≡ false → LeavesIt D.tells self.new.store self.new.position }
         ensures nothing_made { self.new.made ≡ None }
         ensures settled { self.new.committed ≡ false }
-        ensures second { self.new.store.second ≡ self.old.store.second }
+        ensures idle { SameIdle self.old.store self.new.store }
         ensures cause { self.old.halted ≡ false → self.new.halted ≡ true → Rose (D.faults self.old.store.journal.disk) (D.faults self.new.store.journal.disk) }
         ensures no_fewer { D.faults self.old.store.journal.disk ≤ D.faults self.new.store.journal.disk }
     {
@@ -301,10 +327,53 @@ impl<D: Disk> Desk<D> {
         }
     }
 
+    /// Writes a checkpoint of the rows on the disk that doesn't count. It counts from then on, and its journal has no
+    /// records; the number and the state are as before. At every moment a crash leaves what stands for them. What was made
+    /// last doesn't stand any longer. At the last epoch, 2^64 - 1, nothing is written.
+    ///
+    /// # Errors
+    ///
+    /// `DiskFault`: then the desk is halted. `NoMemory`: then nothing was written.
+    pub fn compact(&mut self, alloc: Global) -> Result<(), StoreFault>
+        requires running { self.old.halted ≡ false }
+        requires settled { self.old.committed ≡ false }
+        ensures done { OnOk result (self.old.store.epoch < 2 ^ 64 - 1 → self.new ≡ is_fresh (compacted self.old.position) self.new.store) }
+        ensures journal { OnOk result (self.old.store.epoch < 2 ^ 64 - 1 → self.new.store.journal.gate ≡ self.new.store.journal.start) }
+        ensures side { OnOk result (self.old.store.epoch < 2 ^ 64 - 1 → self.new.store.side ≡ other self.old.store.side) }
+        ensures epoch { OnOk result (self.new.store.epoch ≡ min (self.old.store.epoch + 1) (2 ^ 64 - 1)) }
+        ensures last { self.old.store.epoch ≡ 2 ^ 64 - 1 → OnOk result (self.new ≡ is_fresh self.old.position self.old.store) }
+        ensures leaves { OnOk result (LeavesIt D.tells self.new.store self.new.position) }
+        ensures checkpoint { OnOk result (self.old.store.epoch < 2 ^ 64 - 1 → LeavesCheckpoint D.tells self.new.store (self.old.store.epoch + 1) self.old.position) }
+        ensures moments { StaysThere D.tells self.old.store self.new.store self.old.position }
+        ensures live { disk_on self.old.store.side self.new.store ≡ self.old.store.journal.disk }
+
+        ensures fault { IfErr result (λ why. (why ≡ StoreFault.DiskFault) ⊎ (why ≡ StoreFault.NoMemory)) }
+        ensures halted { IfErr result (λ why. why ≡ StoreFault.DiskFault → self.new ≡ record self.old { store = self.new.store; halted = true; made = None }) }
+        ensures memory { IfErr result (λ why. why ≡ StoreFault.NoMemory → self.new ≡ record self.old { made = None }) }
+        ensures cause { IfErr result (IsCaused (D.faults self.old.store.idle) (D.faults (disk_on (other self.old.store.side) self.new.store))) }
+        ensures no_fewer { D.faults self.old.store.idle ≤ D.faults (disk_on (other self.old.store.side) self.new.store) }
+    {
+        what_is_stored_is_said();
+        self.is_at_rest();
+        self.made = None;
+        let rows = self.database.to_rows(alloc)?;
+        match self.store.compact(alloc, self.image.generation(), &rows) {
+            Ok(()) => {
+                self.gate = self.store.gate();
+                Ok(())
+            }
+            Err(StoreFault::DiskFault) => {
+                self.halted = true;
+                Err(StoreFault::DiskFault)
+            }
+            Err(fault) => Err(fault),
+        }
+    }
+
     /// The disks.
     pub fn into_disks(self) -> Two<D>
-        ensures first { result.first ≡ self.store.journal.disk }
-        ensures second { result.second ≡ self.store.second }
+        ensures first { result.first ≡ disk_on Side.First self.store }
+        ensures second { result.second ≡ disk_on Side.Second self.store }
     {
         let Desk {
             alloc: _,

@@ -6,8 +6,8 @@ ghost use Rattle.journal_records.specs.declared.record.CommandRecord.{CommandRec
 ghost use Rattle.journal_records.specs.Reading.{record_of};
 ghost use Rattle.racf_desk.specs.History.{at, IsLegal};
 ghost use Rattle.racf_desk.specs.Outcome.{outcome};
-ghost use Rattle.racf_desk.specs.Position.{Position, first_position, restarted};
-ghost use Rattle.racf_desk.specs.Recovery.{recovered};
+ghost use Rattle.racf_desk.specs.Position.{Position, restarted};
+ghost use Rattle.racf_desk.specs.Recovery.{recovered_from};
 
 /// A desk that is opened again goes on as the one that ran: a command has the same outcome at both, and behind the same
 /// commands both have the same number, rows and journal, so that what is opened then is the same.
@@ -17,12 +17,12 @@ pub fn recovery_agrees_with_the_running_desk()
     ensures history { (base : Position) (history : List CommandRecord) → restarted (at (restarted base) history) ≡ restarted (at base history) }
 {}
 
-/// Where records lead to a position, they are those of a history that is legal from a new database on, and the position is
-/// the one behind it, as far as it outlives a restart.
+/// Where records lead from a base to a position, they are those of a history that is legal from the base on, and the
+/// position is the one behind it, as far as it outlives a restart.
 pub fn records_lead_along_a_history()
-    ensures { (records : List (List ℕ)) (position : Position) → recovered records ≡ Ok position →
-        (history : List CommandRecord) × IsLegal first_position history × (map record_of records ≡ map Ok history)
-        × (position ≡ restarted (at first_position history)) }
+    ensures { (base : Position) (records : List (List ℕ)) (position : Position) → recovered_from base records ≡ Ok position →
+        (history : List CommandRecord) × IsLegal base history × (map record_of records ≡ map Ok history)
+        × (position ≡ restarted (at base history)) }
 {}
 
 /// A command that is accepted is written: its canonical text spells it, whoever gives it.

@@ -1,4 +1,4 @@
-//! What the records of a journal lead to, from a new database on.
+//! What the records of a journal lead to, from a checkpoint on.
 
 ghost use Rattle.std.specs.Prelude.{ℕ, ◌≡◌, ◌+◌, ◌<◌, ◌≤◌, ◌⊎◌, ◌^◌, Some, Ok, Err, length, IfOk, IfErr, OnOk};
 ghost use Rattle.std.specs.Result.{result_ok};
@@ -7,25 +7,24 @@ ghost use Rattle.journal_records.specs.Reading.{record_of};
 ghost use Rattle.racf_journal.specs.Reading.{spelled};
 ghost use Rattle.racf_checkpoint.specs.declared.fault.StoreFault.TheVariants.{NoMemory};
 ghost use Rattle.racf_profiles.specs.State.{restart};
+ghost use Rattle.database_image.specs.Image.{IsStored as AreStored};
 ghost use Rattle.racf_desk.specs.Images.{IsImageOf};
 ghost use Rattle.racf_desk.specs.Outcome.{most_number, judged};
-ghost use Rattle.racf_desk.specs.Position.{Position, first_position};
-ghost use Rattle.racf_desk.specs.Recovery.{behind_record, behind_records, recovered, refusal_again};
+ghost use Rattle.racf_desk.specs.Position.{Position, at_checkpoint, first_position};
+ghost use Rattle.racf_desk.specs.Recovery.{behind_record, behind_records, recovered_from, refusal_again};
 ghost use Rattle.racf_desk.specs.Recovering.{IsAt};
 
 use crate::issuers::issuer_of;
 use crate::outcome::{MOST_NUMBER, rules_of};
 use access_levels::Text;
 use journal_records::{CommandRecord, RecordFault, read};
-use racf_checkpoint::StoreFault;
+use racf_checkpoint::{StoreFault, a_new_database_is_stored};
 use racf_database::Database;
-use racf_profiles::NoMemory;
+use racf_profiles::{NoMemory, Rows};
 use raclist_image::Image;
 use std::alloc::Global;
 use std::sync::Arc;
-
-/// Where the journal of a new database has its first gate.
-const FIRST_GATE: u64 = 8;
+use stored_database::of_rows;
 
 /// A position that records lead to.
 #[derive(Drop)]
@@ -38,15 +37,37 @@ pub(crate) struct Recovered {
     pub(crate) gate: u64,
 }
 
-/// Where these records lead from a new database on, each where the ones before it lead.
-pub(crate) fn recover(alloc: Global, records: &[Text]) -> Result<Recovered, StoreFault>
-    requires room { 8 + length (spelled records.now) < 2 ^ 64 }
-    ensures position { IfOk result (λ found. recovered records.now ≡ Ok (record { image = arc_value found.image; gate = found.gate })) }
+/// A new database that isn't on any disk yet.
+pub(crate) fn new_database(alloc: Global) -> Result<Recovered, StoreFault>
+    ensures position { IfOk result (λ found. arc_value found.image ≡ first_position.image) }
     ensures image { IfOk result (λ found. IsImageOf found.database.rows (arc_value found.image)) }
-    ensures gate { IfOk result (λ found. found.gate ≡ 8 + length (spelled records.now)) }
-    ensures fault { IfErr result (λ why. (recovered records.now ≡ Err why) ⊎ (why ≡ NoMemory)) }
+    ensures memory { IfErr result (λ why. why ≡ NoMemory) }
 {
-    let recovery = Recovery::of(alloc, records)?;
+    a_new_database_is_stored();
+    let rows = Rows::new_database(alloc)?;
+    let found = recover(alloc, &rows, 0, 0, &[])?;
+    Ok(found)
+}
+
+/// Where these records lead from a checkpoint of these rows on, which so many commands led to, and whose journal has its
+/// first gate there: each where the ones before it lead.
+pub(crate) fn recover(
+    alloc: Global,
+    rows: &Rows,
+    number: u64,
+    start: u64,
+    records: &[Text],
+) -> Result<Recovered, StoreFault>
+    requires stored { AreStored rows.now }
+    requires number { number ≤ most_number }
+    requires room { start + length (spelled records.now) < 2 ^ 64 }
+    ensures position { IfOk result (λ found. recovered_from (at_checkpoint rows.now number start) records.now ≡ Ok (record { image = arc_value found.image; gate = found.gate })) }
+    ensures image { IfOk result (λ found. IsImageOf found.database.rows (arc_value found.image)) }
+    ensures gate { IfOk result (λ found. found.gate ≡ start + length (spelled records.now)) }
+    ensures fault { IfErr result (λ why. (recovered_from (at_checkpoint rows.now number start) records.now ≡ Err why) ⊎ (why ≡ NoMemory)) }
+{
+    let mut recovery = Recovery::at(alloc, rows, number, start)?;
+    recovery.repeat_all(alloc, records)?;
     match recovery.imaged(alloc) {
         Ok(found) => Ok(found),
         Err(_) => Err(StoreFault::NoMemory),
@@ -65,33 +86,36 @@ struct Recovery {
 }
 
 impl Recovery {
-    /// A new database.
-    fn new(alloc: Global) -> Result<Recovery, StoreFault>
-        ensures at { IfOk result (λ recovery. IsAt recovery first_position) }
+    /// A checkpoint.
+    fn at(alloc: Global, rows: &Rows, number: u64, start: u64) -> Result<Recovery, StoreFault>
+        requires stored { AreStored rows.now }
+        requires number { number ≤ most_number }
+        ensures at { IfOk result (λ recovery. IsAt recovery (at_checkpoint rows.now number start)) }
+        ensures gate { IfOk result (λ recovery. recovery.gate ≡ start) }
         ensures memory { IfErr result (λ why. why ≡ NoMemory) }
     {
-        let Ok(database) = Database::new(alloc) else {
+        let Ok(database) = of_rows(alloc, rows) else {
             return Err(StoreFault::NoMemory);
         };
         Ok(Recovery {
             database,
-            number: 0,
-            gate: FIRST_GATE,
+            number,
+            gate: start,
         })
     }
 
-    /// Where these records lead, each where the ones before it lead.
-    fn of(alloc: Global, records: &[Text]) -> Result<Recovery, StoreFault>
-        requires room { 8 + length (spelled records.now) < 2 ^ 64 }
-        ensures recovered { IfOk result (λ recovery. (position : Position) × IsAt recovery position × (behind_records records.now first_position ≡ Ok position)) }
-        ensures gate { IfOk result (λ recovery. recovery.gate ≡ 8 + length (spelled records.now)) }
-        ensures fault { IfErr result (λ why. (behind_records records.now first_position ≡ Err why) ⊎ (why ≡ NoMemory)) }
+    /// Gives the commands of these records again, each where the ones before it lead.
+    fn repeat_all(&mut self, alloc: Global, records: &[Text]) -> Result<(), StoreFault>
+        requires room { self.old.gate + length (spelled records.now) < 2 ^ 64 }
+        ensures leads { OnOk result ((base : Position) → IsAt self.old base
+            → (position : Position) × IsAt self.new position × (behind_records records.now base ≡ Ok position)) }
+        ensures gate { OnOk result (self.new.gate ≡ self.old.gate + length (spelled records.now)) }
+        ensures fault { IfErr result (λ why. (why ≡ NoMemory) ⊎ ((base : Position) → IsAt self.old base → behind_records records.now base ≡ Err why)) }
     {
-        let mut recovery = Recovery::new(alloc)?;
         for record in records {
-            recovery.repeat(alloc, record.bytes())?;
+            self.repeat(alloc, record.bytes())?;
         }
-        Ok(recovery)
+        Ok(())
     }
 
     /// Gives the command of a record again.

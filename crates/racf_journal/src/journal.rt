@@ -137,6 +137,13 @@ impl<D: Disk> Journal<D> {
         Ok(())
     }
 
+    /// The place of its last gate, behind which a record comes next.
+    pub fn gate(&self) -> u64
+        ensures { result ≡ self.now.gate }
+    {
+        self.gate
+    }
+
     /// Whether a record of that many bytes has room.
     pub fn fits(&self, length: u64) -> bool
         ensures { IsTrue result ↔ ((self.now.gate + 1) + (length + 1) ≤ 2 ^ 28) }

@@ -1,3 +1,5 @@
+pub mod CompactLaws
+pub mod DiskLaws
 pub mod OpeningLaws
 pub mod RunningLaws
 mod Sent

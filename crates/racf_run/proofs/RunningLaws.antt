@@ -8,6 +8,7 @@ use Rattle.std.proofs.lemmas.List.Sums.{sum_by-cons}
 use Rattle.racf_outside.specs.Causes.{Rose}
 use Rattle.racf_outside.specs.Disk.{History}
 use Rattle.racf_outside.specs.Shelf.{told}
+use Rattle.racf_checkpoint.specs.Stored.{pick}
 use Rattle.racf_desk.specs.Position.{Position}
 use Rattle.command_history.specs.declared.events.Accepted.{Accepted}
 use Rattle.command_history.specs.declared.events.Event.{Event}
@@ -21,7 +22,7 @@ use Rattle.racf_threads.specs.Outputs.{DeckRan, FileRan}
 use Rattle.racf_threads.specs.Together.{Worked, HasStopped, AreDecks, AreFiles, RunsTogether, greater, greatest}
 use Rattle.racf_run.proofs.OpeningLaws.{AreNew-length}
 use Rattle.racf_run.specs.Opening.{output_name, is_among, are_distinct, AreNew, AreKept, OthersStay, RoseFor}
-use Rattle.racf_run.specs.Racf.{OpensNone}
+use Rattle.racf_run.specs.Racf.{OpensNone, OpenedDisks}
 use Rattle.racf_run.specs.Running.{are_run_words, are_apart, Named, DecksNamed, FilesNamed, NamedRan, unopened_status}
 use Rattle.racf_run.specs.declared.opening.Unopened.{Unopened}
 use Rattle.racf_run.specs.declared.opening.Unopened.TheVariants.{Input, Output}
@@ -158,12 +159,13 @@ module _ {I K : Type 0} (left : I → Option (List ℕ)) (reads : I → ℕ) (ta
     named_files (name ∷ names) [] h k files = absurd h
 
   -- ---- a run, under names
-  pub named_run : (opened first second : Option History) (base : Position) (entries : List Accepted) (halted : Bool) (status : Status) (decks : ℕ) (names : List (List ℕ)) (files outs : List (I × K)) (old : List ℕ → Option (List ℕ))
+  pub named_run : (opened : OpenedDisks) (first second : Option History) (base : Position) (entries : List Accepted) (halted : Bool) (status : Status) (decks : ℕ) (names : List (List ℕ)) (files outs : List (I × K)) (old : List ℕ → Option (List ℕ))
       → decks ≤ length files → AreNew left reads taken writes tells input names files → AreKept taken output names outs
       → RunsTogether left reads taken writes base entries halted status (take decks files) (drop decks files) outs
-      → AreLegal base entries → StandAt halted first second (reached base (all_of entries halted)) → StaysAlong base (all_of entries halted) second opened first → OthersStay names old output
+      → AreLegal base entries → StandAt halted first second (reached base (all_of entries halted)) → StaysAlong base (all_of entries halted) opened.idle opened.live (pick opened.idle.side first second)
+      → pick opened.idle.side second first ≡ opened.idle.told → OthersStay names old output
       → NamedRan opened first second base tells status (record { decks = decks; names = names }) input old output
-  named_run opened first second base entries halted status decks names files outs old enough new kept together legal stand moments others =
+  named_run opened first second base entries halted status decks names files outs old enough new kept together legal stand moments idle others =
       let dw = together.deck_workers in
       let fw = together.file_workers in
       let givens : files ≡ map (λ w. w.given) dw ++ map (λ w. w.given) fw =
@@ -197,6 +199,7 @@ module _ {I K : Type 0} (left : I → Option (List ℕ)) (reads : I → ℕ) (ta
         legal = legal;
         stand = stand;
         moments = moments;
+        idle = idle;
         others = others;
       }
 

@@ -5,20 +5,18 @@ use Rattle.racf_outside.specs.Crashes.{StaysIn}
 use Rattle.racf_outside.specs.declared.streams.Failed.{Failed}
 use Rattle.racf_outside.specs.Disk.{History}
 use Rattle.racf_outside.specs.Shelf.{told, SameOthers}
-use Rattle.racf_outside.proofs.Runs.{StaysIn-joined, StaysIn-weaker}
-use Rattle.racf_checkpoint.specs.Stored.{Beside}
-use Rattle.racf_desk.specs.Durable.{LeavesIt, WasPossible, StaysPossible}
+use Rattle.racf_checkpoint.specs.Stored.{StoreOn, StaysPossible, pick}
+use Rattle.racf_desk.specs.Durable.{SameIdle, idle_of, BesideIdle, LeavesIt}
 use Rattle.racf_desk.specs.Made.{DeskOn}
 use Rattle.racf_desk.specs.Position.{Position}
-use Rattle.racroute.specs.Disks.{StandAt}
 use Rattle.racf_stream.specs.declared.status.Status.{Status}
-use Rattle.racf_stream.specs.Durable.{StandsForFront}
-use Rattle.racf_run.specs.Racf.{Files, RanTo, RunsOnShelf, EndsAt, EndsOn, StoodFor, StandsAlong, StaysAlongFrom}
+use Rattle.racf_stream.specs.Durable.{StandsForFront, StaysAlong}
+use Rattle.racf_run.specs.Racf.{Files, RanTo, RunsOnShelf, EndsAt, StoodFor, MovesAlong, opened_on}
 use Rattle.racf_stream.specs.Runs.{Ran}
 use Rattle.racf_stream.specs.Script.{stream, fault_at, fault_of, StandsAt}
 use Rattle.racf_stream.specs.Stream.{State, number_of, new_stream}
-use Rattle.racf_stream.proofs.Moments.{beside_weaker}
 use Rattle.racf_stream.proofs.ScriptLaws.{Ran-weaker, stands_new, position_new}
+use Rattle.racf_run.proofs.DiskLaws.{HandsBack, opens_on, live_told, idle_told}
 
 -- the desk at the start
 pub ends_new : {D : Type 0} (tells : D → Option History) (desk : DeskOn D) → desk.halted ≡ false → desk.committed ≡ false → (desk.halted ≡ false → LeavesIt tells desk.store desk.position) → EndsAt tells desk (new_stream desk.position)
@@ -96,29 +94,19 @@ module _ {S I O : Type 0} (source : S → List ℕ → Result I Failed → S →
         ran = RanTo-weaker P Q base tells status bytes files.output (output old) (output new) weaker r.ran;
       }))
 
--- what a desk's disks leave is what the disks that it hands back leave
-pub ends_on : {D : Type 0} (tells : D → Option History) (desk : DeskOn D) (first second : D) → first ≡ desk.store.journal.disk → second ≡ desk.store.second → (s : State) → EndsAt tells desk s → EndsOn (tells first) (tells second) s
-ends_on {D = D} tells desk first second is_first is_second s ends =
-    subst (λ (d : D). EndsOn (tells d) (tells second) s) (sym is_first)
-    (subst (λ (d : D). EndsOn (tells desk.store.journal.disk) (tells d) s) (sym is_second) ends.leaves)
-
--- and where nothing was run, it stands where the desk does
-pub stand_at : {D : Type 0} (tells : D → Option History) (desk : DeskOn D) (first second : D) → first ≡ desk.store.journal.disk → second ≡ desk.store.second → LeavesIt tells desk.store desk.position → StandAt false (tells first) (tells second) desk.position
-stand_at {D = D} tells desk first second is_first is_second leaves =
-    subst (λ (d : D). StandAt false (tells d) (tells second) desk.position) (sym is_first)
-    (subst (λ (d : D). StandAt false (tells desk.store.journal.disk) (tells d) desk.position) (sym is_second) leaves)
-
 -- ---- the moments
-module _ (first second : Option History) (input : Option (List ℕ)) where
-  -- the database couldn't be opened
-  pub opening_along : (last : Option History) → StaysPossible second first last → StaysAlongFrom second input first last
-  opening_along last possible before is =
-      StaysIn-weaker (Beside second (StandsAlong first second before input)) (possible before is)
-      (λ h told one. beside_weaker second (WasPossible before) (StandsAlong first second before input) one (λ other w. inl w))
-
-  -- it was, and the stream was run
-  pub script_along : (middle last : Option History) (base : Position) → StaysPossible second first middle → StoodFor first second base → StaysIn (Beside second (StandsForFront base input)) middle last → StaysAlongFrom second input first last
-  script_along middle last base possible stood along before is =
-      StaysIn-joined (opening_along middle possible before is)
-      (StaysIn-weaker (Beside second (StandsAlong first second before input)) along
-      (λ h told one. beside_weaker second (StandsForFront base input) (StandsAlong first second before input) one (λ other front. inr (base, stood, front))))
+-- the database was opened, and the stream was run
+pub script_along : {D : Type 0} (tells : D → Option History) (first second : Option History) (input : Option (List ℕ)) (old new : StoreOn D) (one two : D) (base : Position)
+    → HandsBack new one two → StoodFor first second base → StaysPossible first (tells (pick old.side old.journal.disk old.idle)) → StaysPossible second (tells (pick old.side old.idle old.journal.disk))
+    → SameIdle old new → StaysAlong tells base input old new → MovesAlong first second input (tells one) (tells two)
+script_along tells first second input old new one two base back stood first_moments second_moments same along =
+    inr (record {
+      base = base;
+      stood = stood;
+      opened = opened_on tells old;
+      opens = opens_on tells old first second first_moments second_moments;
+      along =
+          subst (StaysIn (BesideIdle (idle_of tells old) (StandsForFront base input)) (tells old.journal.disk))
+          (sym (ap (λ side. pick side (tells one) (tells two)) (sym same.side) ∙ live_told tells new one two back)) along;
+      idle = ap (λ side. pick side (tells two) (tells one)) (sym same.side) ∙ idle_told tells new one two back ∙ ap tells same.idle;
+    })

@@ -1,15 +1,15 @@
 -- The words of the command line, and what the program does to the shelf and to the database on the disks.
 use Rattle.std.specs.Prelude.{◌≡◌, ◌⊎◌, ℕ, Bool, true, false, ◌||◌, ◌&&◌, not, Option, Some, None, IfSome, Result, Ok, Err, List, [], ◌∷◌, codes, if◌then◌else◌}
 use Rattle.std.specs.Str.{bytes_eq}
-use Rattle.racf_outside.specs.Crashes.{Leaves, StaysIn}
+use Rattle.racf_outside.specs.Causes.{Rose}
+use Rattle.racf_outside.specs.Crashes.{StaysIn}
 use Rattle.racf_outside.specs.declared.streams.Failed.{Failed}
-use Rattle.racf_outside.specs.Disk.{History, Now}
-use Rattle.racf_outside.specs.Moments.{Moment}
+use Rattle.racf_outside.specs.Disk.{History}
 use Rattle.racf_outside.specs.Shelf.{told, SameBytes, SameOthers}
 use Rattle.racf_checkpoint.specs.declared.fault.StoreFault.{StoreFault}
 use Rattle.racf_checkpoint.specs.declared.fault.StoreFault.TheVariants as fault
-use Rattle.racf_checkpoint.specs.Stored.{Beside, NowRead}
-use Rattle.racf_desk.specs.Durable.{WasPossible, LeavesIt}
+use Rattle.racf_checkpoint.specs.Stored.{StoreOn, NowRead, StaysPossible, pick}
+use Rattle.racf_desk.specs.Durable.{IdleDisk, idle_of, BesideIdle, LeavesBoth, LeavesIt}
 use Rattle.racf_desk.specs.Made.{DeskOn}
 use Rattle.racf_desk.specs.Position.{Position}
 use Rattle.racf_desk.specs.Recovery.{standing, Refuses, StandsFor}
@@ -47,8 +47,8 @@ opening_status fault.Full = NoMemory
 opening_status fault.NoMemory = NoMemory
 
 -- The stream was worked from the input `input` of a shelf to its output of the name `name`, which was new and empty,
--- and is given back: the outputs told `old` before, and tell `new` now. It was worked from the position `base` on, and what
--- stands behind it has P.
+-- and is given back: the outputs told `old` before, and tell `new` now. It was worked from the position `base` on, and
+-- what stands behind it has P.
 pub record RanTo (P : State → Type 0) (base : Position) (tells : Bool) (status : Status) (input : Option (List ℕ)) (name : List ℕ) (old new : List ℕ → Option (List ℕ)) : Type 0 where
   pub fault : Option ℕ
   pub left : Option (List ℕ)
@@ -140,7 +140,11 @@ StoodFor first second base = NowRead first second (λ one other. standing one ot
 
 -- Whatever a crash now leaves of the disks stands for the position of this state, unless a disk failed.
 abbrev pub EndsOn : (first second : Option History) → State → Type 0
-EndsOn first second s = s.halted ≡ false → Now first (Leaves (Beside second (StandsFor s.position)))
+EndsOn first second s = s.halted ≡ false → LeavesBoth first second (StandsFor s.position)
+
+-- Of one of two disks a fault was counted.
+abbrev pub RoseEither : (first next_first second next_second : ℕ) → Type 0
+RoseEither first next_first second next_second = Rose first next_first ⊎ Rose second next_second
 
 -- The desk stands where the state says, and, unless a disk failed, so do its disks.
 pub record EndsAt {D : Type 0} (tells : D → Option History) (desk : DeskOn D) (s : State) : Type 0 where
@@ -160,16 +164,33 @@ pub record OpensDatabase (first second : Option History) (runs : Position → Ty
   pub stood : StoodFor first second base
   pub ran : runs base
 
--- Two files stand for what was possible when the database was opened, or for the position behind some front of the
--- statements of the input, from the position on at which it was opened.
-abbrev pub StandsAlong : (first : Option History) → (second : Option History) → (before : Moment) → (input : Option (List ℕ)) → (one other : List ℕ) → Type 0
-StandsAlong first second before input one other =
-    WasPossible before one other ⊎ ((base : Position) × StoodFor first second base × StandsForFront base input one other)
+-- Two disks where a database was opened on them: what the one that counts told then, and what is told of the other.
+pub record OpenedDisks : Type 0 where
+  pub live : Option History
+  pub idle : IdleDisk
 
--- At every moment a crash leaves that.
-abbrev pub StaysAlongFrom : (second : Option History) → (input : Option (List ℕ)) → (old new : Option History) → Type 0
-StaysAlongFrom second input old new =
-    (before : Moment) → Now old (λ moment. moment ≡ before) → StaysIn (Beside second (StandsAlong old second before input)) old new
+abbrev pub opened_on : {D : Type 0} → (tells : D → Option History) → StoreOn D → OpenedDisks
+opened_on tells store = record { live = tells store.journal.disk; idle = idle_of tells store }
+
+-- Until then a crash left of each disk what was possible before.
+pub record OpensOn (first second : Option History) (opened : OpenedDisks) : Type 0 where
+  pub first_moments : StaysPossible first (pick opened.idle.side opened.live opened.idle.told)
+  pub second_moments : StaysPossible second (pick opened.idle.side opened.idle.told opened.live)
+
+-- The database was opened at a position. From then on a crash leaves what stands for the position behind some front of
+-- the statements of the input, and the disk that doesn't count stays as it is.
+pub record RunsAlong (first second : Option History) (input : Option (List ℕ)) (next_first next_second : Option History) : Type 0 where
+  pub base : Position
+  pub stood : StoodFor first second base
+  pub opened : OpenedDisks
+  pub opens : OpensOn first second opened
+  pub along : StaysIn (BesideIdle opened.idle (StandsForFront base input)) opened.live (pick opened.idle.side next_first next_second)
+  pub idle : pick opened.idle.side next_second next_first ≡ opened.idle.told
+
+-- What every crash leaves meanwhile: where the database isn't opened, of each disk what was possible before.
+abbrev pub MovesAlong : (first second : Option History) → (input : Option (List ℕ)) → (next_first next_second : Option History) → Type 0
+MovesAlong first second input next_first next_second =
+    (StaysPossible first next_first × StaysPossible second next_second) ⊎ RunsAlong first second input next_first next_second
 
 -- Each output that is open now was open before: what the call opened was given back.
 abbrev pub OpensNone : (List ℕ → Bool) → (List ℕ → Bool) → Type 0

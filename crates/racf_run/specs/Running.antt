@@ -5,6 +5,7 @@ use Rattle.std.specs.Str.{bytes_eq}
 use Rattle.racf_outside.specs.declared.streams.Failed.{Failed}
 use Rattle.racf_outside.specs.Disk.{History}
 use Rattle.racf_outside.specs.Shelf.{told}
+use Rattle.racf_checkpoint.specs.Stored.{pick}
 use Rattle.racf_desk.specs.Position.{Position}
 use Rattle.command_history.specs.declared.events.Accepted.{Accepted}
 use Rattle.command_history.specs.declared.events.Event.{Event}
@@ -20,6 +21,7 @@ use Rattle.racf_threads.specs.Together.{greatest}
 use Rattle.racf_run.specs.declared.opening.Unopened.{Unopened}
 use Rattle.racf_run.specs.declared.opening.Unopened.TheVariants.{Input, Output}
 use Rattle.racf_run.specs.Opening.{output_name, is_among, are_distinct, Opened, Returned, OpensNeither, OthersStay, AreEmpty}
+use Rattle.racf_run.specs.Racf.{OpenedDisks}
 
 -- ---- the words
 
@@ -80,10 +82,10 @@ module _ (base : Position) (whole : List Event) (tells : Bool) (input output : L
 -- Decks and request files of these names were worked: the output of each is that of its worker, in one and the same
 -- history, whose entries are legal from the base on. The status is the greatest of the workers', and of all lines one
 -- says DISKFAULT where a disk failed a command, else none. Whatever a crash now leaves of both disks stands for the
--- position behind that history; and at every moment since the first disk told `opened`, for where some beginning of it
--- leads, or for one command more that a disk failed. The outputs told `old` before and tell `new` now, and those of
--- other names are as they were.
-pub record NamedRan (opened first second : Option History) (base : Position) (tells : Bool) (status : Status) (asked : RunWords) (input old new : List ℕ → Option (List ℕ)) : Type 0 where
+-- position behind that history; and at every moment since the disks told `opened`, for where some beginning of it
+-- leads, or for one command more that a disk failed; the disk that doesn't count stays as it is. The outputs told `old`
+-- before and tell `new` now, and those of other names are as they were.
+pub record NamedRan (opened : OpenedDisks) (first second : Option History) (base : Position) (tells : Bool) (status : Status) (asked : RunWords) (input old new : List ℕ → Option (List ℕ)) : Type 0 where
   pub entries : List Accepted
   pub halted : Bool
   pub decks : List Named
@@ -96,7 +98,8 @@ pub record NamedRan (opened first second : Option History) (base : Position) (te
   pub one_fault : sum_by (λ w. w.faults) decks ≡ fault_count halted
   pub legal : AreLegal base entries
   pub stand : StandAt halted first second (reached base (all_of entries halted))
-  pub moments : StaysAlong base (all_of entries halted) second opened first
+  pub moments : StaysAlong base (all_of entries halted) opened.idle opened.live (pick opened.idle.side first second)
+  pub idle : pick opened.idle.side second first ≡ opened.idle.told
   pub others : OthersStay asked.names old new
 
 -- ---- the calls of the shelf

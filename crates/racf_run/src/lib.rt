@@ -1,9 +1,10 @@
 //! The top call of the program, over a shelf of named inputs and outputs and the disks of a database.
 //!
-//! The principal functions are `racf`, the top call over a shelf and disks of `racf_outside`, and `make`, which writes the
-//! text of `racf_generator`; both answer with a `Status`. The stream between one source and one sink, `script`, is that of
-//! `racf_stream`; decks and request files side by side, `run`, are those of `racf_threads`, whose workers ask a `Gate` of
-//! `racf_workers` at each line.
+//! The principal functions are `racf`, the top call over a shelf and disks of `racf_outside`, and `make`, which writes
+//! the text of `racf_generator`; both answer with a `Status`. The stream between one source and one sink, `script`, is
+//! that of `racf_stream`; decks and request files side by side, `run`, are those of `racf_threads`, whose workers ask a
+//! `Gate` of `racf_workers` at each line. The words `init` and `compact` make a new database, and write a checkpoint of
+//! one, by the desk of `racf_desk`.
 //!
 //! ```text
 //! let (status, disks) = racf(rt, alloc, words, &mut shelf, disks, &Idle);
@@ -11,6 +12,7 @@
 //! ```
 #![tactic(auto)]
 
+mod compacting;
 mod making;
 mod names;
 mod opening;

@@ -17,9 +17,10 @@ use std::alloc::{AllocError, Global};
 /// How many bytes of the text are written at once.
 const BLOCK: usize = 65_536;
 
-/// Writes the generated text of so many users, at most 10,000, to the sink, and behind it a line with the counts of what
-/// `script` answers to it, which is worked out over a new database that no disk keeps. Neither the text nor the answers are kept, so
-/// that memory grows with the database alone. `NoMemory` comes also where a source or a sink in memory wants memory.
+/// Writes the generated text of so many users, at most 10,000, to the sink, and behind it a line with the counts of
+/// what `script` answers to it, which is worked out over a new database that no disk keeps. Neither the text nor the
+/// answers are kept, so that memory grows with the database alone. `NoMemory` comes also where a source or a sink in
+/// memory wants memory.
 pub fn make<O: Sink>(alloc: Global, users: u32, sink: &mut O) -> Status
     requires few { users ≤ most_users }
     ensures ends { (result ≡ Status.Done) ⊎ ((result ≡ Status.WriteFault) ⊎ (result ≡ Status.NoMemory)) }

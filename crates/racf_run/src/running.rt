@@ -3,11 +3,11 @@
 ghost use Rattle.std.specs.Prelude.{ℕ, ◌≡◌, ◌≢◌, ◌⊎◌, ◌≤◌, true, false, List, Option, map, string_bytes};
 ghost use Rattle.racf_outside.specs.Causes.{Rose};
 ghost use Rattle.racf_outside.specs.Shelf.{SameBytes};
-ghost use Rattle.racf_outside.specs.Disk.{History};
-ghost use Rattle.racf_desk.specs.Durable.{StaysPossible};
+ghost use Rattle.checkpoint_disks.specs.declared.counting.Side.{Side};
+ghost use Rattle.racf_checkpoint.specs.Stored.{disk_on};
 ghost use Rattle.racroute.specs.Disks.{StandAt};
 ghost use Rattle.racf_run.specs.Opening.{output_name, AreNew, AreOpen, OthersStay, ClosesAll, ReturnsSome};
-ghost use Rattle.racf_run.specs.Racf.{OpensNoDatabase, OpensDatabase, OpensNone};
+ghost use Rattle.racf_run.specs.Racf.{OpensNoDatabase, OpensDatabase, OpenedDisks, OpensOn, OpensNone, RoseEither, opened_on};
 ghost use Rattle.racf_run.specs.Running.{are_run_words, unopened_status, NamedRan, RunsFiles};
 
 use crate::names::RunWords;
@@ -36,7 +36,7 @@ where
     F::Out: Drop + Send,
     requires form { are_run_words asked.decks (map string_bytes asked.names.now) ≡ true }
     ensures runs { OpensNoDatabase (D.tells disks.first) (D.tells disks.second) result.0 shelf.old shelf.new
-        ⊎ OpensDatabase (D.tells disks.first) (D.tells disks.second) (λ base. (opened : Option History) × StaysPossible (D.tells disks.second) (D.tells disks.first) opened × RunsFiles F.source_gives F.sink_gives F.take_back_gives F.give_back_gives F.tells F.output
+        ⊎ OpensDatabase (D.tells disks.first) (D.tells disks.second) (λ base. (opened : OpenedDisks) × OpensOn (D.tells disks.first) (D.tells disks.second) opened × RunsFiles F.source_gives F.sink_gives F.take_back_gives F.give_back_gives F.tells F.output
         (NamedRan opened (D.tells result.1.first) (D.tells result.1.second) base F.tells result.0 (record { decks = asked.entry.decks; names = map string_bytes asked.entry.names.now })
         (F.input shelf.old) (F.output shelf.old) (F.output shelf.new))
         (StandAt false (D.tells result.1.first) (D.tells result.1.second) base)
@@ -44,12 +44,13 @@ where
     ensures usage { result.0 ≢ Status.Usage }
     ensures read_fault { result.0 ≡ Status.ReadFault → Rose (F.source_faults shelf.old) (F.source_faults shelf.new) }
     ensures write_fault { result.0 ≡ Status.WriteFault → Rose (F.sink_faults shelf.old) (F.sink_faults shelf.new) }
-    ensures disk_fault { result.0 ≡ Status.DiskFault → Rose (D.faults disks.first) (D.faults result.1.first) }
+    ensures disk_fault { result.0 ≡ Status.DiskFault → RoseEither (D.faults disks.first) (D.faults result.1.first) (D.faults disks.second) (D.faults result.1.second) }
     ensures inputs { SameBytes (F.input shelf.old) (F.input shelf.new) }
     ensures handed_back { OpensNone (F.is_open shelf.old) (F.is_open shelf.new) }
     ensures source_faults { F.source_faults shelf.old ≤ F.source_faults shelf.new }
     ensures sink_faults { F.sink_faults shelf.old ≤ F.sink_faults shelf.new }
-    ensures disk_faults { D.faults disks.first ≤ D.faults result.1.first }
+    ensures first_faults { D.faults disks.first ≤ D.faults result.1.first }
+    ensures second_faults { D.faults disks.second ≤ D.faults result.1.second }
 {
     match Desk::open(alloc, disks) {
         Ok(desk) => run_between(rt, alloc, asked, shelf, desk, gate),
@@ -73,19 +74,20 @@ where
     requires running { desk.halted ≡ false }
     requires settled { desk.committed ≡ false }
     ensures runs { RunsFiles F.source_gives F.sink_gives F.take_back_gives F.give_back_gives F.tells F.output
-        (NamedRan (D.tells desk.store.journal.disk) (D.tells result.1.first) (D.tells result.1.second) desk.position F.tells result.0 (record { decks = asked.entry.decks; names = map string_bytes asked.entry.names.now })
+        (NamedRan (opened_on D.tells desk.store) (D.tells result.1.first) (D.tells result.1.second) desk.position F.tells result.0 (record { decks = asked.entry.decks; names = map string_bytes asked.entry.names.now })
         (F.input shelf.old) (F.output shelf.old) (F.output shelf.new))
         (StandAt false (D.tells result.1.first) (D.tells result.1.second) desk.position)
         result.0 (map string_bytes asked.entry.names.now) shelf.old shelf.new }
     ensures usage { result.0 ≢ Status.Usage }
     ensures read_fault { result.0 ≡ Status.ReadFault → Rose (F.source_faults shelf.old) (F.source_faults shelf.new) }
     ensures write_fault { result.0 ≡ Status.WriteFault → Rose (F.sink_faults shelf.old) (F.sink_faults shelf.new) }
-    ensures disk_fault { result.0 ≡ Status.DiskFault → Rose (D.faults desk.store.journal.disk) (D.faults result.1.first) }
+    ensures disk_fault { result.0 ≡ Status.DiskFault → RoseEither (D.faults (disk_on Side.First desk.store)) (D.faults result.1.first) (D.faults (disk_on Side.Second desk.store)) (D.faults result.1.second) }
     ensures inputs { SameBytes (F.input shelf.old) (F.input shelf.new) }
     ensures handed_back { OpensNone (F.is_open shelf.old) (F.is_open shelf.new) }
     ensures source_faults { F.source_faults shelf.old ≤ F.source_faults shelf.new }
     ensures sink_faults { F.sink_faults shelf.old ≤ F.sink_faults shelf.new }
-    ensures disk_faults { D.faults desk.store.journal.disk ≤ D.faults result.1.first }
+    ensures first_faults { D.faults (disk_on Side.First desk.store) ≤ D.faults result.1.first }
+    ensures second_faults { D.faults (disk_on Side.Second desk.store) ≤ D.faults result.1.second }
 {
     desk.is_at_rest();
     let names = asked.names;
@@ -124,18 +126,19 @@ where
     ensures ran { (input before : List ℕ → Option (List ℕ))
         → AreNew F.In.left F.In.faults F.Out.taken F.Out.faults F.tells input (map string_bytes asked.entry.names.now) files.items
         → OthersStay (map string_bytes asked.entry.names.now) before (F.output shelf.old)
-        → NamedRan (D.tells desk.store.journal.disk) (D.tells result.1.first) (D.tells result.1.second) desk.position F.tells result.0 (record { decks = asked.entry.decks; names = map string_bytes asked.entry.names.now })
+        → NamedRan (opened_on D.tells desk.store) (D.tells result.1.first) (D.tells result.1.second) desk.position F.tells result.0 (record { decks = asked.entry.decks; names = map string_bytes asked.entry.names.now })
         input before (F.output shelf.new) }
     ensures returned { ReturnsSome F.source_gives F.sink_gives F.take_back_gives F.give_back_gives (map string_bytes asked.entry.names.now) shelf.old shelf.new }
     ensures usage { result.0 ≢ Status.Usage }
     ensures read_fault { result.0 ≡ Status.ReadFault → Rose (F.source_faults shelf.old) (F.source_faults shelf.new) }
     ensures write_fault { result.0 ≡ Status.WriteFault → Rose (F.sink_faults shelf.old) (F.sink_faults shelf.new) }
-    ensures disk_fault { result.0 ≡ Status.DiskFault → Rose (D.faults desk.store.journal.disk) (D.faults result.1.first) }
+    ensures disk_fault { result.0 ≡ Status.DiskFault → RoseEither (D.faults (disk_on Side.First desk.store)) (D.faults result.1.first) (D.faults (disk_on Side.Second desk.store)) (D.faults result.1.second) }
     ensures inputs { SameBytes (F.input shelf.old) (F.input shelf.new) }
     ensures closed { ClosesAll (map string_bytes asked.entry.names.now) (F.is_open shelf.old) (F.is_open shelf.new) }
     ensures source_faults { F.source_faults shelf.old ≤ F.source_faults shelf.new }
     ensures sink_faults { F.sink_faults shelf.old ≤ F.sink_faults shelf.new }
-    ensures disk_faults { D.faults desk.store.journal.disk ≤ D.faults result.1.first }
+    ensures first_faults { D.faults (disk_on Side.First desk.store) ≤ D.faults result.1.first }
+    ensures second_faults { D.faults (disk_on Side.Second desk.store) ≤ D.faults result.1.second }
 {
     let Ran {
         status,

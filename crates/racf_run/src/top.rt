@@ -1,24 +1,23 @@
 //! The top call: the words of the command line, over a shelf of named inputs and outputs.
 
-ghost use Rattle.std.specs.Prelude.{Option, ℕ, ◌≡◌, ◌≢◌, ◌⊎◌, ◌↔◌, ◌≤◌, ◌<◌, ◌||◌, true, false, map, is_some, IsNone, IsSome, IsTrue, IfSome, length, string_bytes};
+ghost use Rattle.std.specs.Prelude.{ℕ, ◌≡◌, ◌≢◌, ◌⊎◌, ◌↔◌, ◌≤◌, ◌<◌, ◌||◌, true, false, map, is_some, IsNone, IsSome, IsTrue, IfSome, length, string_bytes};
 ghost use Rattle.std.specs.Option.{option_map};
 ghost use Rattle.racf_outside.specs.Causes.{Rose};
-ghost use Rattle.racf_outside.specs.Crashes.{Leaves};
-ghost use Rattle.racf_outside.specs.Disk.{History, Now};
 ghost use Rattle.racf_outside.specs.Shelf.{SameBytes};
-ghost use Rattle.racf_checkpoint.specs.Stored.{Beside};
 ghost use Rattle.racf_desk.specs.Position.{first_position};
-ghost use Rattle.racf_desk.specs.Durable.{StaysPossible};
+ghost use Rattle.racf_desk.specs.Durable.{LeavesBoth, SameIdle};
 ghost use Rattle.racf_desk.specs.Recovery.{StandsFor};
 ghost use Rattle.racf_stream.specs.Durable.{StaysAlong};
 ghost use Rattle.racf_run.specs.Racf.{script_files, is_init, opening_status, RunsOnShelf, MakesOnShelf, IsWholeOutput, OpensNone};
-ghost use Rattle.racf_run.specs.Racf.{OpensNoDatabase, OpensDatabase, EndsOn, EndsAt, StaysAlongFrom};
+ghost use Rattle.racf_run.specs.Racf.{OpensNoDatabase, OpensDatabase, OpenedDisks, OpensOn, EndsOn, EndsAt, MovesAlong, RoseEither};
+ghost use Rattle.racf_run.specs.Compacting.{is_compact, EndsCompact, MovesToCompact};
 ghost use Rattle.racf_run.specs.Making.{make_words, most_users};
 ghost use Rattle.racf_run.specs.Running.{run_words, NamedRan, RunsFiles};
 ghost use Rattle.racroute.specs.Disks.{StandAt};
 ghost use Rattle.racf_stream.specs.Runs.{longest_input};
 ghost use Rattle.racf_stream.specs.Script.{is_whole};
 
+use crate::compacting::{compact_on, is_compact};
 use crate::making::make;
 use crate::names::run_words;
 use crate::running::run_on;
@@ -54,12 +53,13 @@ struct MakeWords<'a> {
 }
 
 /// The program: works what the words ask for, over the inputs and outputs of a shelf and the database on the disks. The
-/// word `init` makes a new database, whatever the disks held. The words `script IN OUT` open the database, work the stream
-/// of the input IN, and write to the output OUT; IN and OUT differ or are both `-`. The words `run K NAME..` open the
-/// database, and work the first K of the names, from 1 to 4, as decks, and the others, at most 16, as request files, each
-/// in a thread of its own: the output of NAME is `NAME.out`. The names differ, and none is the output of another. The words
-/// `make N OUT` write the generated text of N users, from 1 to 10,000, to the output OUT. Other words are `Usage`. (The
-/// words are this product's own.)
+/// word `init` makes a new database, whatever the disks held. The word `compact` opens the database and writes a
+/// checkpoint of it, on the disk that doesn't count: then that one counts, and there are no records behind it. The
+/// words `script IN OUT` open the database, work the stream of the input IN, and write to the output OUT; IN and OUT
+/// differ or are both `-`. The words `run K NAME..` open the database, and work the first K of the names, from 1 to 4,
+/// as decks, and the others, at most 16, as request files, each in a thread of its own: the output of NAME is
+/// `NAME.out`. The names differ, and none is the output of another. The words `make N OUT` write the generated text of
+/// N users, from 1 to 10,000, to the output OUT. Other words are `Usage`. (The words are this product's own.)
 ///
 /// The database is opened first, then of each name the input and then the output; each that was opened is handed back,
 /// under its name. The gate is asked before and behind each line of a run.
@@ -91,14 +91,14 @@ where
 
     // What every crash leaves meanwhile.
     ensures moments { IfSome (script_files (map string_bytes words.now)) (λ files.
-        StaysAlongFrom (D.tells disks.second) (F.input shelf.old files.input) (D.tells disks.first) (D.tells result.1.first)) }
+        MovesAlong (D.tells disks.first) (D.tells disks.second) (F.input shelf.old files.input) (D.tells result.1.first) (D.tells result.1.second)) }
 
-    // The database is opened, or why not; then all files, or why not; and then decks and request files are worked side by
-    // side, over one history, of which each output tells a part.
+    // The database is opened, or why not; then all files, or why not; and then decks and request files are worked side
+    // by side, over one history, of which each output tells a part.
     ensures runs_together { IfSome (run_words (map string_bytes words.now)) (λ asked.
         OpensNoDatabase (D.tells disks.first) (D.tells disks.second) result.0 shelf.old shelf.new
         ⊎ OpensDatabase (D.tells disks.first) (D.tells disks.second) (λ base.
-        (opened : Option History) × StaysPossible (D.tells disks.second) (D.tells disks.first) opened
+        (opened : OpenedDisks) × OpensOn (D.tells disks.first) (D.tells disks.second) opened
         × RunsFiles F.source_gives F.sink_gives F.take_back_gives F.give_back_gives F.tells F.output
         (NamedRan opened (D.tells result.1.first) (D.tells result.1.second) base F.tells result.0 asked (F.input shelf.old) (F.output shelf.old) (F.output shelf.new))
         (StandAt false (D.tells result.1.first) (D.tells result.1.second) base)
@@ -109,17 +109,26 @@ where
 
     // A new database: every crash leaves what stands for it.
     ensures new { is_init (map string_bytes words.now) ≡ true → result.0 ≡ Status.Done →
-        Now (D.tells result.1.first) (Leaves (Beside (D.tells result.1.second) (StandsFor first_position))) }
+        LeavesBoth (D.tells result.1.first) (D.tells result.1.second) (StandsFor first_position) }
     ensures new_or_not { is_init (map string_bytes words.now) ≡ true →
         (result.0 ≡ Status.Done) ⊎ ((result.0 ≡ Status.DiskFault) ⊎ (result.0 ≡ Status.NoMemory)) }
 
+    // The database is opened, or why not; and then a checkpoint of it is written, or a disk failed, or memory ran out.
+    // At every moment a crash leaves what stands for the database as it was opened.
+    ensures compacts { is_compact (map string_bytes words.now) ≡ true →
+        OpensNoDatabase (D.tells disks.first) (D.tells disks.second) result.0 shelf.old shelf.new
+        ⊎ OpensDatabase (D.tells disks.first) (D.tells disks.second)
+        (EndsCompact (D.tells disks.first) (D.tells disks.second) (D.tells result.1.first) (D.tells result.1.second) result.0) }
+    ensures compact_moments { is_compact (map string_bytes words.now) ≡ true →
+        MovesToCompact (D.tells disks.first) (D.tells disks.second) (D.tells result.1.first) (D.tells result.1.second) }
+
     // Why it stopped.
     ensures usage { (result.0 ≡ Status.Usage) ↔ (IsNone (script_files (map string_bytes words.now)) × IsNone (make_words (map string_bytes words.now))
-        × (is_init (map string_bytes words.now) ≡ false) × IsNone (run_words (map string_bytes words.now))) }
-    ensures nothing_opened { (result.0 ≡ Status.Usage) ⊎ (is_init (map string_bytes words.now) ≡ true) → shelf.new ≡ shelf.old }
+        × (is_init (map string_bytes words.now) ≡ false) × (is_compact (map string_bytes words.now) ≡ false) × IsNone (run_words (map string_bytes words.now))) }
+    ensures nothing_opened { (result.0 ≡ Status.Usage) ⊎ ((is_init (map string_bytes words.now) ≡ true) ⊎ (is_compact (map string_bytes words.now) ≡ true)) → shelf.new ≡ shelf.old }
     ensures read_fault { result.0 ≡ Status.ReadFault → Rose (F.source_faults shelf.old) (F.source_faults shelf.new) }
     ensures write_fault { result.0 ≡ Status.WriteFault → Rose (F.sink_faults shelf.old) (F.sink_faults shelf.new) }
-    ensures disk_fault { result.0 ≡ Status.DiskFault → Rose (D.faults disks.first) (D.faults result.1.first) }
+    ensures disk_fault { result.0 ≡ Status.DiskFault → RoseEither (D.faults disks.first) (D.faults result.1.first) (D.faults disks.second) (D.faults result.1.second) }
     ensures too_long { result.0 ≡ Status.InputTooLong → IfSome (script_files (map string_bytes words.now)) (λ files.
         IfSome (F.input shelf.old files.input) (λ bytes. longest_input < length bytes)) }
     ensures not_too_long { IsTrue (is_whole result.0) → IfSome (script_files (map string_bytes words.now)) (λ files.
@@ -127,12 +136,12 @@ where
 
     // What stays.
     ensures untouched { (result.0 ≡ Status.Usage) ⊎ IsSome (make_words (map string_bytes words.now)) → result.1 ≡ disks }
-    ensures second { IsNone (run_words (map string_bytes words.now)) → result.1.second ≡ disks.second }
     ensures inputs { SameBytes (F.input shelf.old) (F.input shelf.new) }
     ensures handed_back { OpensNone (F.is_open shelf.old) (F.is_open shelf.new) }
     ensures source_faults { F.source_faults shelf.old ≤ F.source_faults shelf.new }
     ensures sink_faults { F.sink_faults shelf.old ≤ F.sink_faults shelf.new }
-    ensures disk_faults { D.faults disks.first ≤ D.faults result.1.first }
+    ensures first_faults { D.faults disks.first ≤ D.faults result.1.first }
+    ensures second_faults { D.faults disks.second ≤ D.faults result.1.second }
 {
     if let Some(files) = script_files(words) {
         return script_on(alloc, files.input, files.output, shelf, disks);
@@ -142,6 +151,9 @@ where
     }
     if is_init(words) {
         return init(alloc, disks);
+    }
+    if is_compact(words) {
+        return compact_on(alloc, disks);
     }
     let status = match make_words(words) {
         Some(asked) => make_into(alloc, asked.users, asked.output, shelf),
@@ -153,18 +165,22 @@ where
 /// Whether the words are of a form that works on the disks. Where they aren't, `racf` leaves the disks as they are, so that
 /// a program need not open them.
 pub fn works_on_disks(words: &[String]) -> bool
-    ensures { result ≡ is_some (script_files (map string_bytes words.now)) || is_init (map string_bytes words.now) || is_some (run_words (map string_bytes words.now)) }
+    ensures { result ≡ is_some (script_files (map string_bytes words.now)) || is_init (map string_bytes words.now) || is_compact (map string_bytes words.now)
+        || is_some (run_words (map string_bytes words.now)) }
 {
-    script_files(words).is_some() || is_init(words) || run_words(words).is_some()
+    script_files(words).is_some()
+        || is_init(words)
+        || is_compact(words)
+        || run_words(words).is_some()
 }
 
 /// Makes a new database on the disks.
 fn init<D: Disk>(alloc: Global, disks: Two<D>) -> (Status, Two<D>)
     ensures ends { (result.0 ≡ Status.Done) ⊎ ((result.0 ≡ Status.DiskFault) ⊎ (result.0 ≡ Status.NoMemory)) }
-    ensures new { result.0 ≡ Status.Done → Now (D.tells result.1.first) (Leaves (Beside (D.tells result.1.second) (StandsFor first_position))) }
-    ensures disk_fault { result.0 ≡ Status.DiskFault → Rose (D.faults disks.first) (D.faults result.1.first) }
-    ensures second { result.1.second ≡ disks.second }
-    ensures disk_faults { D.faults disks.first ≤ D.faults result.1.first }
+    ensures new { result.0 ≡ Status.Done → LeavesBoth (D.tells result.1.first) (D.tells result.1.second) (StandsFor first_position) }
+    ensures disk_fault { result.0 ≡ Status.DiskFault → RoseEither (D.faults disks.first) (D.faults result.1.first) (D.faults disks.second) (D.faults result.1.second) }
+    ensures first_faults { D.faults disks.first ≤ D.faults result.1.first }
+    ensures second_faults { D.faults disks.second ≤ D.faults result.1.second }
 {
     match Desk::format(alloc, disks) {
         Ok(desk) => (Status::Done, desk.into_disks()),
@@ -187,19 +203,19 @@ fn script_on<F: Shelf, D: Disk>(
         result.0 (F.input shelf.old input.now) (record { input = input.now; output = output.now }) shelf.old shelf.new) }
     ensures whole { IsTrue (is_whole result.0) → OpensDatabase (D.tells disks.first) (D.tells disks.second) (λ base.
         IsWholeOutput base F.tells result.0 (F.input shelf.old input.now) (F.output shelf.new output.now)) }
-    ensures moments { StaysAlongFrom (D.tells disks.second) (F.input shelf.old input.now) (D.tells disks.first) (D.tells result.1.first) }
+    ensures moments { MovesAlong (D.tells disks.first) (D.tells disks.second) (F.input shelf.old input.now) (D.tells result.1.first) (D.tells result.1.second) }
     ensures usage { result.0 ≢ Status.Usage }
     ensures read_fault { result.0 ≡ Status.ReadFault → Rose (F.source_faults shelf.old) (F.source_faults shelf.new) }
     ensures write_fault { result.0 ≡ Status.WriteFault → Rose (F.sink_faults shelf.old) (F.sink_faults shelf.new) }
-    ensures disk_fault { result.0 ≡ Status.DiskFault → Rose (D.faults disks.first) (D.faults result.1.first) }
+    ensures disk_fault { result.0 ≡ Status.DiskFault → RoseEither (D.faults disks.first) (D.faults result.1.first) (D.faults disks.second) (D.faults result.1.second) }
     ensures too_long { result.0 ≡ Status.InputTooLong → IfSome (F.input shelf.old input.now) (λ bytes. longest_input < length bytes) }
     ensures not_too_long { IsTrue (is_whole result.0) → IfSome (F.input shelf.old input.now) (λ bytes. length bytes ≤ longest_input) }
-    ensures second { result.1.second ≡ disks.second }
     ensures inputs { SameBytes (F.input shelf.old) (F.input shelf.new) }
     ensures handed_back { OpensNone (F.is_open shelf.old) (F.is_open shelf.new) }
     ensures source_faults { F.source_faults shelf.old ≤ F.source_faults shelf.new }
     ensures sink_faults { F.sink_faults shelf.old ≤ F.sink_faults shelf.new }
-    ensures disk_faults { D.faults disks.first ≤ D.faults result.1.first }
+    ensures first_faults { D.faults disks.first ≤ D.faults result.1.first }
+    ensures second_faults { D.faults disks.second ≤ D.faults result.1.second }
 {
     match Desk::open(alloc, disks) {
         Ok(desk) => {
@@ -257,7 +273,7 @@ fn script_between<F: Shelf, D: Disk>(
         result.0 (F.input shelf.old input.now) (record { input = input.now; output = output.now }) shelf.old shelf.new }
     ensures whole { IsTrue (is_whole result.0) → IsWholeOutput desk.position F.tells result.0 (F.input shelf.old input.now) (F.output shelf.new output.now) }
     ensures moments { StaysAlong D.tells desk.position (F.input shelf.old input.now) desk.store result.1.store }
-    ensures second { result.1.store.second ≡ desk.store.second }
+    ensures idle { SameIdle desk.store result.1.store }
     ensures no_other { (result.0 ≢ Status.Usage) × (result.0 ≢ Status.NotFormatted) }
     ensures undamaged { (place : ℕ) → result.0 ≢ Status.Damaged place }
     ensures read_fault { result.0 ≡ Status.ReadFault → Rose (F.source_faults shelf.old) (F.source_faults shelf.new) }

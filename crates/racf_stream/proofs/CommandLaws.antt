@@ -13,7 +13,7 @@ use Rattle.racf_stream.specs.declared.statement.Statement.{Statement}
 use Rattle.racf_stream.specs.declared.statement.Statement.TheVariants as item
 use Rattle.racf_stream.specs.Replies.{reply_line}
 use Rattle.racf_stream.specs.Stream as s
-use Rattle.racf_stream.specs.Stream.{State, Answer, number_of, fails_behind, fail, accept, halt, answer_outcome, outcome_of, issue_by}
+use Rattle.racf_stream.specs.Stream.{Answer, number_of, fails_behind, fail, accept, halt, answer_outcome, outcome_of, issue_by}
 use Rattle.racf_stream.specs.Printed.{Turn, printed, behind}
 
 module _ (turn : Turn) where

@@ -1,6 +1,6 @@
 -- Texts without a line feed: names that were read, numbers, and what is made of such texts.
 use Rattle.std.proofs.Common.{◌≡◌, ℕ, suc, ◌≤◌, Bool, true, false, cond, not, ◌&&◌, List, [], ◌∷◌, ◌++◌, Option, None, Some, Result, Ok, Err, refl, sym, ap, subst, ◌∙◌, zero, take, true≢false, arith}
-use Rattle.std.specs.Prelude.{◌==◌, IfSome, find, unwrap_or, option_map, option_and_then, decimal}
+use Rattle.std.specs.Prelude.{◌==◌, is_ok, IfSome, find, unwrap_or, option_map, option_and_then, decimal}
 use Rattle.std.specs.List.{AllByRecursion, list_all}
 use Rattle.std.specs.Option.{option_or}
 use Rattle.std.specs.Result.{result_ok}
@@ -75,6 +75,21 @@ id-feedless id h = read_id-feedless id id h
 
 pub read_group-feedless : (text group : List ℕ) → group_of text ≡ Ok group → IsFeedless group
 read_group-feedless text group h = read_id-feedless text group (group_of-ok text group h).1
+
+-- a text that is spelled as an ID, or as a group
+pub spelled_id-feedless : (text : List ℕ) → is_ok (id_of text) ≡ true → IsFeedless text
+spelled_id-feedless text is = by (id_of text) refl is
+  where
+    by : (r : _) → id_of text ≡ r → is_ok r ≡ true → IsFeedless text
+    by (Ok read) e k = subst IsFeedless (id_of-ok text read e).0 (read_id-feedless text read e)
+    by (Err why) e k = absurd (true≢false (sym k))
+
+pub spelled_group-feedless : (text : List ℕ) → is_ok (group_of text) ≡ true → IsFeedless text
+spelled_group-feedless text is = by (group_of text) refl is
+  where
+    by : (r : _) → group_of text ≡ r → is_ok r ≡ true → IsFeedless text
+    by (Ok read) e k = subst IsFeedless (group_of-ok text read e).0 (read_group-feedless text read e)
+    by (Err why) e k = absurd (true≢false (sym k))
 
 pub group-feedless : (group : List ℕ) → IsGroupName group → IsFeedless group
 group-feedless group h = read_group-feedless group group h

@@ -11,7 +11,7 @@ use Rattle.generic_names.specs.declared.kind.NameKind.TheVariants.{DataSet, Gene
 use Rattle.generic_names.specs.declared.fault.NameFault.{NameFault}
 use Rattle.generic_names.specs.declared.fault.NameFault.TheVariants.{StarInside, BadByte}
 use Rattle.generic_names.specs.Spelled.{Spelled, qualifiers}
-use Rattle.generic_names.specs.Faults.{has_generic, is_ordinary, byte_fault, bytes_fault, qualifier_fault, qualifiers_fault, is_too_long, is_whole, longest, fault_of, unless, name_of, resource_of, member_of}
+use Rattle.generic_names.specs.Faults.{has_generic, is_ordinary, byte_fault, bytes_fault, qualifier_fault, qualifiers_fault, is_too_long, is_whole, longest, fault_of, unless, name_of, resource_of, pattern_of, member_of}
 use Rattle.generic_names.proofs.Bools as bools
 use Rattle.generic_names.proofs.Lawful.{first_none, passed_test}
 use Rattle.racf_stream.proofs.Feedless.{IsFeedless, is_feedless, joined}
@@ -87,22 +87,32 @@ none_whole q is = absurd (true≢false (sym is))
 pub resource_name-feedless : (kind : NameKind) (text : List ℕ) → HoldsNoFeed (resource_of kind text)
 resource_name-feedless kind text = search (of_form, none_whole)
 
--- the name of a member of a global access table has `**` and the two variables
+-- the name of a profile has `**`
 same-feedless : (q text : List ℕ) → IsFeedless text → bytes_eq q text ≡ true → IsFeedless q
 same-feedless q text h same = subst IsFeedless (sym ((bytes_eq-Decides q text).0 same)) h
 
+whole-pattern : (q : List ℕ) → bytes_eq q (codes "**") ≡ true → IsFeedless q
+whole-pattern q h = same-feedless q (codes "**") refl h
+
+pattern-read : (kind : NameKind) (text : List ℕ) → HoldsNoFeed (pattern_of kind text)
+pattern-read kind text = search (of_form, whole-pattern)
+
+was : (r : Result Spelled NameFault) (name : Spelled) → result_ok r ≡ Some name → r ≡ Ok name
+was (Ok read) name k = cc
+was (Err fault) name k = absurd (cc)
+
+pub pattern_name-feedless : (kind : NameKind) (text : List ℕ) (name : Spelled) → result_ok (pattern_of kind text) ≡ Some name → IsFeedless name.text
+pattern_name-feedless kind text name h = pattern-read kind text name (was (pattern_of kind text) name h)
+
+-- that of a member of a global access table has the two variables too
 whole-member : (q : List ℕ) → (bytes_eq q (codes "**") || bytes_eq q (codes "&RACUID") || bytes_eq q (codes "&RACGPID")) ≡ true → IsFeedless q
 whole-member q h =
     bools.either (bytes_eq q (codes "**") || bytes_eq q (codes "&RACUID")) (bytes_eq q (codes "&RACGPID")) h
-    (λ k. bools.either (bytes_eq q (codes "**")) (bytes_eq q (codes "&RACUID")) k (same-feedless q (codes "**") refl) (same-feedless q (codes "&RACUID") refl))
+    (λ k. bools.either (bytes_eq q (codes "**")) (bytes_eq q (codes "&RACUID")) k (whole-pattern q) (same-feedless q (codes "&RACUID") refl))
     (same-feedless q (codes "&RACGPID") refl)
 
 member-read : (kind : NameKind) (text : List ℕ) → HoldsNoFeed (member_of kind text)
 member-read kind text = search (of_form, whole-member)
 
-pub member_name-feedless : (kind : NameKind) (name : Spelled) → result_ok (member_of kind name.text) ≡ Some name → IsFeedless name.text
-member_name-feedless kind name h = member-read kind name.text name (was (member_of kind name.text) h)
-  where
-    was : (r : Result Spelled NameFault) → result_ok r ≡ Some name → r ≡ Ok name
-    was (Ok read) k = cc
-    was (Err fault) k = absurd (cc)
+pub member_name-feedless : (kind : NameKind) (text : List ℕ) (name : Spelled) → result_ok (member_of kind text) ≡ Some name → IsFeedless name.text
+member_name-feedless kind text name h = member-read kind text name (was (member_of kind text) name h)

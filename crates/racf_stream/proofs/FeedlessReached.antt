@@ -1,12 +1,13 @@
--- Where records lead no name holds a line feed.
-use Rattle.std.proofs.Common.{◌≡◌, ℕ, Bool, true, false, List, [], ◌∷◌, take, drop, Option, None, Some, Result, Ok, Err, refl, sym, subst, true≢false, length}
-use Rattle.std.specs.Prelude.{nat_lt, is_ok, if◌then◌else◌}
-use Rattle.access_levels.specs.Spelling.{id_of, group_of}
+-- Where the files of two disks lead no name holds a line feed.
+use Rattle.std.proofs.Common.{◌≡◌, ℕ, Bool, true, false, List, [], ◌∷◌, take, drop, Option, None, Some, Result, Ok, Err, refl, subst, length}
+use Rattle.std.specs.Prelude.{nat_lt, if◌then◌else◌}
+use Rattle.access_levels.specs.Spelling.{id_of}
 use Rattle.racf_profiles.specs.declared.class_rows.ClassRow.{ClassRow}
 use Rattle.racf_profiles.specs.declared.rows.Rows.{Rows}
 use Rattle.racf_profiles.specs.State.{restart}
+use Rattle.checkpoint_disks.specs.Files.{CheckpointRead}
 use Rattle.racf_checkpoint.specs.declared.fault.StoreFault.{StoreFault}
-use Rattle.command_values.proofs.Names.{group_of-ok}
+use Rattle.racf_checkpoint.specs.Contents.{contents}
 use Rattle.command_parser.specs.declared.commands.Issuer.{Issuer}
 use Rattle.command_parser.specs.declared.fields.CommandFields.{CommandFields}
 use Rattle.command_parser.specs.LawfulFields.{AreLawfulFields}
@@ -16,25 +17,18 @@ use Rattle.journal_records.specs.declared.record.RecordFault.TheVariants as faul
 use Rattle.journal_records.specs.Reading.{issuer_in, canonical_command, ◌>>=◌, or_fault, item_from, item_in, record_of}
 use Rattle.lawful_commands.proofs.RowLists.{all-filter}
 use Rattle.racf_desk.specs.declared.refusal.Refusal.{Refusal}
-use Rattle.racf_desk.specs.Position.{Position, first_position, position_behind, restarted}
-use Rattle.racf_desk.specs.Recovery.{unless_faulty, outcome_again, behind_outcome, behind_record, behind_records}
+use Rattle.racf_desk.specs.Position.{Position, position_behind, restarted}
+use Rattle.racf_desk.specs.Recovery.{unless_faulty, outcome_again, behind_outcome, behind_record, behind_records, base_of, recovered}
 use Rattle.racf_stream.specs.Printed.{IsReached}
-use Rattle.racf_stream.proofs.Feedless.{IsFeedless, read_id-feedless, read_group-feedless}
+use Rattle.racf_stream.proofs.Feedless.{read_id-feedless, spelled_group-feedless}
 use Rattle.racf_stream.proofs.FeedlessCopies.{copies-all}
-use Rattle.racf_stream.proofs.FeedlessRows.{AreFeedlessProfiles, AreFeedless, IsFeedlessState, first-feedless}
+use Rattle.racf_stream.proofs.FeedlessFiles.{says-feedless}
+use Rattle.racf_stream.proofs.FeedlessRows.{AreFeedlessProfiles, AreFeedless, IsFeedlessState}
 use Rattle.racf_stream.proofs.FeedlessOutcomes.{IsFeedlessIssuer, IsFeedlessAccepted, IsFeedlessOutcome, again-feedless, behind-feedless}
 
 -- the listed copies that are made anew
 restart-feedless : (rows : Rows) → AreFeedless rows → IsFeedlessState (restart rows)
 restart-feedless rows are = record { rows = are; copies = copies-all _ (all-filter AreFeedlessProfiles (λ (class : ClassRow). class.listed) rows.classes are.classes) }
-
--- a group that is spelled as one
-spelled-feedless : (group : List ℕ) → is_ok (group_of group) ≡ true → IsFeedless group
-spelled-feedless group is = by (group_of group) refl is
-  where
-    by : (r : _) → group_of group ≡ r → is_ok r ≡ true → IsFeedless group
-    by (Ok read) e k = subst IsFeedless (group_of-ok group read e).0 (read_group-feedless group read e)
-    by (Err why) e k = absurd (true≢false (sym k))
 
 -- ---- a record that is read, where the fields of a command with a canonical text are lawful, and two fields are an
 -- identifier's
@@ -43,7 +37,7 @@ module _ (lawful : (issuer text : List ℕ) (c : CommandFields) → canonical_co
   issuer-feedless : (id group : List ℕ) (issuer : Issuer) → issuer_in id group ≡ Ok issuer → IsFeedlessIssuer issuer
   issuer-feedless id group issuer is = record {
     id = read_id-feedless issuer.id issuer.id (named id group issuer is);
-    group = spelled-feedless issuer.group issuer.group_spelled;
+    group = spelled_group-feedless issuer.group issuer.group_spelled;
   }
 
   -- the text is a command's, and the record that command's
@@ -107,12 +101,20 @@ module _ (lawful : (issuer text : List ℕ) (c : CommandFields) → canonical_co
       by more (Ok next) e k = more next base (record-leads bytes position next are e) k
       by more (Err why) e k = absurd cc
 
-  pub reached-feedless : (base : Position) → IsReached base → IsFeedlessState base.image.state
-  reached-feedless base reached = by (behind_records reached.0 first_position) refl reached.1
+  -- ---- where the records behind a checkpoint lead
+  recovered-feedless : (kept : CheckpointRead) (base : Position) → AreFeedless kept.rows → recovered kept ≡ Ok base → IsFeedlessState base.image.state
+  recovered-feedless kept base are h = by (behind_records kept.records (base_of kept)) refl h
     where
-      by : (r : Result Position StoreFault) → behind_records reached.0 first_position ≡ r → unless_faulty r (λ position. Ok (restarted position)) ≡ Ok base → IsFeedlessState base.image.state
+      by : (r : Result Position StoreFault) → behind_records kept.records (base_of kept) ≡ r → unless_faulty r (λ position. Ok (restarted position)) ≡ Ok base → IsFeedlessState base.image.state
       by (Ok position) e k =
-          let led = records-lead reached.0 first_position position (restart-feedless _ first-feedless) e in
+          let led = records-lead kept.records (base_of kept) position (restart-feedless kept.rows are) e in
           let same : restarted position ≡ base = cc in
           subst (λ (p : Position). IsFeedlessState p.image.state) same (restart-feedless position.image.state.rows led.rows)
+      by (Err why) e k = absurd cc
+
+  pub reached-feedless : (base : Position) → IsReached base → IsFeedlessState base.image.state
+  reached-feedless base reached = by (contents reached.0 reached.1) refl reached.2
+    where
+      by : (r : Result CheckpointRead StoreFault) → contents reached.0 reached.1 ≡ r → unless_faulty r recovered ≡ Ok base → IsFeedlessState base.image.state
+      by (Ok kept) e k = recovered-feedless kept base (says-feedless kept reached.0 reached.1 e) k
       by (Err why) e k = absurd cc

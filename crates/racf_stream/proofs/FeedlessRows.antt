@@ -1,5 +1,5 @@
 -- Rows whose IDs and names hold no line feed, and that each command that a text spells leaves such rows.
-use Rattle.std.proofs.Common.{ℕ, Bool, true, false, cond, not, List, [], ◌∷◌, ◌++◌, Option, None, Some, refl, bytes_eq}
+use Rattle.std.proofs.Common.{ℕ, Bool, true, false, cond, not, List, [], ◌∷◌, ◌++◌, Option, None, Some, bytes_eq}
 use Rattle.std.specs.Prelude.{IfSome, find, filter, fold}
 use Rattle.std.specs.List.{AllByRecursion, flat_map, list_any}
 use Rattle.std.specs.Option.{option_map_or}
@@ -25,7 +25,6 @@ use Rattle.racf_profiles.specs.State.{State, ListedCopy, is_copy_of, copy_of}
 use Rattle.racf_profiles.specs.Edits.{with_profile, without_profile}
 use Rattle.racf_profiles.proofs.OrderedProfiles.{all-put_profile}
 use Rattle.racf_profiles.proofs.EditLaws.{all-drop_row}
-use Rattle.racf_profiles.specs.NewDatabase.{new_database}
 use Rattle.command_values.specs.declared.values.Reset.{Reset}
 use Rattle.command_values.specs.declared.values.Reset.TheVariants as reset
 use Rattle.command_parser.specs.declared.commands.Issuer.{Issuer}
@@ -87,14 +86,6 @@ pub record AreFeedless (rows : Rows) : Type 0 where
   pub groups : AllByRecursion IsFeedlessGroup rows.groups
   pub classes : AllByRecursion AreFeedlessProfiles rows.classes
   pub categories : AllByRecursion IsFeedless rows.options.categories
-
-pub first-feedless : AreFeedless new_database
-first-feedless = record {
-  users = (record { id = refl; default_group = refl; groups = (refl, tt) }, tt);
-  groups = (record { id = refl; superior = tt; owner = refl }, tt);
-  classes = (tt, (tt, (tt, (tt, (tt, (tt, (tt, (tt, (tt, (tt, (tt, (tt, (tt, (tt, tt))))))))))))));
-  categories = tt;
-}
 
 -- of a state: its listed copies too
 pub record IsFeedlessState (state : State) : Type 0 where
@@ -219,7 +210,7 @@ module _ (c : Permit) (whos : AllByRecursion IsFeedlessWho c.id) where
 
 -- ---- the members, and the categories that they define
 member-feedless : (form : MemberForm) (added : Member) → IsMember form added → IsFeedlessMember added
-member-feedless (forms.Access kind) (member.Access resources level) h = member_name-feedless kind resources h
+member-feedless (forms.Access kind) (member.Access resources level) h = member_name-feedless kind resources.text resources h
 member-feedless forms.SecurityLevel (member.Access resources level) h = absurd h
 member-feedless forms.Category (member.Access resources level) h = absurd h
 member-feedless forms.SecurityLevel (member.SecurityLevel name number) h = id-feedless name h.0

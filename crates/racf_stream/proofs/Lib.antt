@@ -28,6 +28,9 @@ pub mod FeedlessNeeds
 pub mod FeedlessDecisions
 pub mod FeedlessLines
 pub mod FeedlessOutcomes
+pub mod Readings
+pub mod FeedlessImages
+pub mod FeedlessFiles
 pub mod FeedlessReached
 pub mod FeedlessTurns
 pub mod OutputLaws

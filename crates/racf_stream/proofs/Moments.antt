@@ -7,8 +7,9 @@ use Rattle.racf_outside.specs.Disk.{History}
 use Rattle.racf_outside.specs.Reader.{Reader, at_start}
 use Rattle.racf_outside.proofs.Rises.{Rose-later}
 use Rattle.racf_outside.proofs.Runs.{Leaves-weaker, StaysIn-none, StaysIn-joined, StaysIn-weaker}
-use Rattle.racf_checkpoint.specs.Stored.{StoreOn, Beside}
-use Rattle.racf_desk.specs.Durable.{LeavesIt, StaysEither}
+use Rattle.racf_checkpoint.specs.Stored.{StoreOn}
+use Rattle.racf_desk.specs.Durable.{SameIdle, IdleDisk, idle_of, BesideIdle, LeavesIt, StaysEither}
+use Rattle.racf_desk.proofs.IdleLaws.{same_idle, same_idle-then, same_idle-told, beside-weaker}
 use Rattle.racf_desk.specs.Position.{Position}
 use Rattle.racf_desk.specs.Recovery.{StandsFor, StandsForEither}
 use Rattle.racf_stream.specs.declared.statement.Statement.{Statement}
@@ -34,10 +35,6 @@ stands_walked base source reader s before now gathered w position is one other s
       stands = subst (λ p. StandsFor p one other) (is ∙ ap (λ (x : State). x.position) w.state) stands;
     }
 
--- beside whatever a crash leaves of the second disk
-pub beside_weaker : (second : Option History) (P Q : List ℕ → List ℕ → Type 0) (one : List ℕ) → ((other : List ℕ) → P one other → Q one other) → Beside second P one → Beside second Q one
-beside_weaker second P Q one weaker p history told = Leaves-weaker (P one) (Q one) history.now weaker (p history told)
-
 new_position : (base : Position) → base ≡ (new_stream base).position
 unfolding new_stream
 new_position base = refl
@@ -47,9 +44,9 @@ pub StaysAlong-none : {D : Type 0} (tells : D → Option History) (base : Positi
 StaysAlong-none tells base source store leaves =
     let front : (one other : List ℕ) → StandsFor base one other → StandsForFront base source one other =
     stands_walked base source (at_start source 0) (new_stream base) None None [] (Walk-none (stream None base) source None 0) base (new_position base) in
-    StaysIn-none (Beside (tells store.second) (StandsForFront base source)) (tells store.journal.disk)
-    (λ h told. Leaves-weaker (Beside (tells store.second) (StandsFor base)) (Beside (tells store.second) (StandsForFront base source)) h.now
-    (λ one. beside_weaker (tells store.second) (StandsFor base) (StandsForFront base source) one (front one)) (leaves h told))
+    StaysIn-none (BesideIdle (idle_of tells store) (StandsForFront base source)) (tells store.journal.disk)
+    (λ h told. Leaves-weaker (BesideIdle (idle_of tells store) (StandsFor base)) (BesideIdle (idle_of tells store) (StandsForFront base source)) h.now
+    (beside-weaker (idle_of tells store) (StandsFor base) (StandsForFront base source) front) (leaves h told))
 
 module _ {D : Type 0} (tells : D → Option History) (faults : D → ℕ) (base : Position) (source : Option (List ℕ)) (first : StoreOn D) (s t : StreamOn D) where
   -- nothing was done to the disks
@@ -58,9 +55,9 @@ module _ {D : Type 0} (tells : D → Option History) (faults : D → ℕ) (base 
 
   -- a command stands on them, or doesn't
   one_more : (old new : Reader) (item : Statement) (bytes : List ℕ) (before now : Option (List ℕ)) (gathered : List ℕ)
-      → Walk (stream None base) source old s.state before now gathered → TakesStatements statements (item ∷ []) bytes old new → s.store.second ≡ first.second
+      → Walk (stream None base) source old s.state before now gathered → TakesStatements statements (item ∷ []) bytes old new → SameIdle first s.store
       → StaysEither tells s.store t.store s.state.position (answer None item s.state).state.position → StaysAlong tells base source first s.store → StaysAlong tells base source first t.store
-  one_more old new item bytes before now gathered w takes second either along =
+  one_more old new item bytes before now gathered w takes idle either along =
       let m = stream None base in
       let next : State = step None item s.state in
       let is : (answer None item s.state).state.position ≡ next.position = ap (λ (x : State). x.position) (sym (step_is None item s.state)) in
@@ -68,9 +65,9 @@ module _ {D : Type 0} (tells : D → Option History) (faults : D → ℕ) (base 
       let front : (one other : List ℕ) → StandsForEither s.state.position (answer None item s.state).state.position one other → StandsForFront base source one other =
       by_either s.state.position (answer None item s.state).state.position (stands_walked base source old s.state before now gathered w s.state.position refl) (stands_walked base source new next before now (gathered ++ output m (item ∷ []) s.state) behind (answer None item s.state).state.position is) in
       StaysIn-joined along
-      (StaysIn-weaker (Beside (tells first.second) (StandsForFront base source)) either
-      (λ h told one p. beside_weaker (tells first.second) (StandsForEither s.state.position (answer None item s.state).state.position) (StandsForFront base source) one (front one)
-      (subst (λ (d : D). Beside (tells d) (StandsForEither s.state.position (answer None item s.state).state.position) one) second p)))
+      (StaysIn-weaker (BesideIdle (idle_of tells first) (StandsForFront base source)) either
+      (λ h told one p. beside-weaker (idle_of tells first) (StandsForEither s.state.position (answer None item s.state).state.position) (StandsForFront base source) front one
+      (subst (λ (d : IdleDisk). BesideIdle d (StandsForEither s.state.position (answer None item s.state).state.position) one) (same_idle-told tells first s.store idle) p)))
     where
       by_either : (p q : Position) → ((one other : List ℕ) → StandsFor p one other → StandsForFront base source one other) → ((one other : List ℕ) → StandsFor q one other → StandsForFront base source one other)
           → (one other : List ℕ) → StandsForEither p q one other → StandsForFront base source one other
@@ -79,20 +76,20 @@ module _ {D : Type 0} (tells : D → Option History) (faults : D → ℕ) (base 
 
   -- a statement, where there is one
   pub moved : (old new : Reader) (given : Option Statement) (bytes : List ℕ) (before now : Option (List ℕ)) (gathered : List ℕ)
-      → StreamWalk base source old s.state before now gathered → TakesStatements statements (option_to_list given) bytes old new → s.store.second ≡ first.second
+      → StreamWalk base source old s.state before now gathered → TakesStatements statements (option_to_list given) bytes old new → SameIdle first s.store
       → MovesBy tells faults given s t → StaysAlong tells base source first s.store → StaysAlong tells base source first t.store
-  moved old new None bytes before now gathered w takes second is along = same_store (ap (λ (x : StreamOn D). x.store) is) along
-  moved old new (Some item) bytes before now gathered w takes second moves along = by moves.moments
+  moved old new None bytes before now gathered w takes idle is along = same_store (ap (λ (x : StreamOn D). x.store) is) along
+  moved old new (Some item) bytes before now gathered w takes idle moves along = by moves.moments
     where
       by : (t.store ≡ s.store) ⊎ ((s.state.halted ≡ false) × StaysEither tells s.store t.store s.state.position (answer None item s.state).state.position) → StaysAlong tells base source first t.store
       by (inl is) = same_store is along
       by (inr either) =
           one_more old new item bytes before now gathered
-          (subst (λ fault. Walk (stream fault base) source old s.state before now gathered) (ap (λ h. fault_at h (number_of s.state)) either.0) w) takes second either.1 along
+          (subst (λ fault. Walk (stream fault base) source old s.state before now gathered) (ap (λ h. fault_at h (number_of s.state)) either.0) w) takes idle either.1 along
 
-  pub same_second : (given : Option Statement) → MovesBy tells faults given s t → s.store.second ≡ first.second → t.store.second ≡ first.second
-  same_second None is second = ap (λ (x : StreamOn D). x.store.second) is ∙ second
-  same_second (Some item) moves second = moves.second ∙ second
+  pub idle_still : (given : Option Statement) → MovesBy tells faults given s t → SameIdle first s.store → SameIdle first t.store
+  idle_still None is idle = same_idle-then first s.store t.store idle (same_idle s.store t.store (ap (λ (x : StreamOn D). x.store) is))
+  idle_still (Some item) moves idle = same_idle-then first s.store t.store idle moves.idle
 
   pub no_fewer : (given : Option Statement) → MovesBy tells faults given s t → faults first.journal.disk ≤ faults s.store.journal.disk → faults first.journal.disk ≤ faults t.store.journal.disk
   no_fewer None is h = subst (λ (x : StreamOn D). faults first.journal.disk ≤ faults x.store.journal.disk) (sym is) h

@@ -1,7 +1,8 @@
 -- A statement that leaves the desk as it was does nothing to the disks.
-use Rattle.std.proofs.Common.{◌≡◌, ℕ, ◌≤◌, true, false, inl, sym, ◌∙◌, ap, subst, arith}
+use Rattle.std.proofs.Common.{◌≡◌, ℕ, ◌≤◌, true, false, inl, sym, ◌∙◌, subst, arith}
 use Rattle.std.specs.Prelude.{Option}
 use Rattle.racf_outside.specs.Disk.{History}
+use Rattle.racf_desk.proofs.IdleLaws.{same_idle}
 use Rattle.racf_stream.specs.declared.statement.Statement.{Statement}
 use Rattle.racf_stream.specs.Durable.{StreamOn, Stays, Moves}
 
@@ -9,7 +10,7 @@ pub stays_moves : {D : Type 0} (tells : D → Option History) (faults : D → �
 stays_moves tells faults item s t stays =
     record {
       moments = inl stays.store;
-      second = ap (λ store. store.second) stays.store;
+      idle = same_idle s.store t.store stays.store;
       cause = λ running halted. let no : true ≡ false = sym halted ∙ stays.halted ∙ running in cc;
       no_fewer = subst (λ store. faults s.store.journal.disk ≤ faults store.journal.disk) (sym stays.store) (omega arith);
     }

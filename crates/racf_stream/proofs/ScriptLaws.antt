@@ -4,6 +4,7 @@ use Rattle.std.specs.Prelude.{Option, IsTrue, IfSome}
 use Rattle.std.specs.Io.KnownBytes.{prepend_known, append_known, IsAtEnd}
 use Rattle.racf_outside.specs.Disk.{History}
 use Rattle.racf_checkpoint.specs.Stored.{StoreOn}
+use Rattle.racf_desk.specs.Durable.{SameIdle}
 use Rattle.racf_desk.specs.Made.{DeskOn}
 use Rattle.racf_desk.specs.Position.{Position}
 use Rattle.racf_stream.specs.declared.statement.Statement.{Statement}
@@ -119,3 +120,7 @@ along_as {D = D} tells at base known source old first new last is_at is_known is
     (subst (λ (k : Option (List ℕ)). StaysAlong tells at k first last) is_known
     (subst (λ (o : StoreOn D). StaysAlong tells at known o last) is_old
     (subst (λ (n : StoreOn D). StaysAlong tells at known old n) is_new along)))
+
+-- and the disk that doesn't count
+pub idle_as : {D : Type 0} (old first new last : StoreOn D) → old ≡ first → new ≡ last → SameIdle old new → SameIdle first last
+idle_as old first new last is_old is_new idle = subst (λ o. SameIdle o last) is_old (subst (λ n. SameIdle old n) is_new idle)

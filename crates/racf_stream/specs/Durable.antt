@@ -4,8 +4,8 @@ use Rattle.std.specs.Io.KnownBytes.{prepend_known}
 use Rattle.racf_outside.specs.Causes.{Rose}
 use Rattle.racf_outside.specs.Crashes.{StaysIn}
 use Rattle.racf_outside.specs.Disk.{History}
-use Rattle.racf_checkpoint.specs.Stored.{StoreOn, Beside}
-use Rattle.racf_desk.specs.Durable.{StaysEither}
+use Rattle.racf_checkpoint.specs.Stored.{StoreOn}
+use Rattle.racf_desk.specs.Durable.{SameIdle, idle_of, BesideIdle, StaysEither}
 use Rattle.racf_desk.specs.Made.{Made, DeskOn, installed}
 use Rattle.racf_desk.specs.Position.{Position}
 use Rattle.racf_desk.specs.Recovery.{StandsFor}
@@ -57,7 +57,7 @@ pub record Stays {D : Type 0} (s t : StreamOn D) : Type 0 where
 pub record Moves {D : Type 0} (tells : D → Option History) (faults : D → ℕ) (item : Statement) (s t : StreamOn D) : Type 0 where
   pub moments : (t.store ≡ s.store)
       ⊎ ((s.state.halted ≡ false) × StaysEither tells s.store t.store s.state.position (answer None item s.state).state.position)
-  pub second : t.store.second ≡ s.store.second
+  pub idle : SameIdle s.store t.store
   pub cause : s.state.halted ≡ false → t.state.halted ≡ true → Rose (faults s.store.journal.disk) (faults t.store.journal.disk)
   pub no_fewer : faults s.store.journal.disk ≤ faults t.store.journal.disk
 
@@ -71,7 +71,7 @@ pub record Settles {D : Type 0} (tells : D → Option History) (desk now : DeskO
   pub done : ((now ≡ record { position = installed desk.position made; store = now.store; halted = false; made = None; committed = false }) × (new ≡ old ++ reply_line made.number Accepted))
       ⊎ ((now ≡ record desk { store = now.store; halted = true }) × (new ≡ old ++ reply_line desk.position.image.generation DiskFault))
   pub moments : StaysEither tells desk.store now.store desk.position (installed desk.position made)
-  pub second : now.store.second ≡ desk.store.second
+  pub idle : SameIdle desk.store now.store
 
 -- Two files stand for the position behind the first statements of an input, whichever these are.
 pub record StandsForFront (base : Position) (source : Option (List ℕ)) (first second : List ℕ) : Type 0 where
@@ -83,7 +83,7 @@ pub record StandsForFront (base : Position) (source : Option (List ℕ)) (first 
   pub stands : StandsFor (after (stream None base) done (new_stream base)).position first second
 
 -- At every moment of a stream from that input, from a base on, a crash leaves what stands for the position behind some
--- front of its statements. The second disk stays as it is.
+-- front of its statements. The disk that doesn't count stays as it is.
 abbrev pub StaysAlong : {D : Type 0} → (tells : D → Option History) → (base : Position) → (source : Option (List ℕ)) → (old new : StoreOn D) → Type 0
 StaysAlong tells base source old new =
-    StaysIn (Beside (tells old.second) (StandsForFront base source)) (tells old.journal.disk) (tells new.journal.disk)
+    StaysIn (BesideIdle (idle_of tells old) (StandsForFront base source)) (tells old.journal.disk) (tells new.journal.disk)

@@ -5,7 +5,7 @@ use Rattle.racf_outside.specs.Lines.{NoFeed}
 use Rattle.request_files.specs.Answers.{numbered, never_line}
 use Rattle.racf_stream.specs.declared.statement.Statement.{Statement}
 use Rattle.racf_desk.specs.Position.{Position}
-use Rattle.racf_desk.specs.Recovery.{recovered}
+use Rattle.racf_desk.specs.Recovery.{standing}
 use Rattle.racf_stream.specs.Stream.{State, new_stream, number_of, step, text}
 use Rattle.racf_stream.specs.Script.{statements}
 
@@ -24,9 +24,9 @@ turns fault (item ∷ items) s = record { fault = fault; item = item; before = s
 abbrev pub input_turns : (fault : Option ℕ) → (base : Position) → List ℕ → List Turn
 input_turns fault base bytes = turns fault (statements.items bytes) (new_stream base)
 
--- Some disks stand for this position.
+-- Some two files stand for this position: where the records behind the checkpoint that counts lead.
 abbrev pub IsReached : Position → Type 0
-IsReached base = (records : List (List ℕ)) × (recovered records ≡ Ok base)
+IsReached base = (first : List ℕ) × (second : List ℕ) × (standing first second ≡ Ok base)
 
 -- what is printed at a turn, and what stands behind it
 abbrev pub printed : Turn → List ℕ

@@ -4,7 +4,7 @@ ghost use Rattle.std.specs.Prelude.{ℕ, ◌≡◌, ◌≢◌, ◌<◌, ◌≤�
 ghost use Rattle.std.specs.Io.KnownBytes.{append_known};
 ghost use Rattle.racf_outside.specs.Causes.{HasCause, Rose};
 ghost use Rattle.racf_outside.specs.Reader.{at_start};
-ghost use Rattle.racf_desk.specs.Durable.{LeavesIt};
+ghost use Rattle.racf_desk.specs.Durable.{LeavesIt, SameIdle};
 ghost use Rattle.racf_desk.specs.Position.{Position};
 ghost use Rattle.racf_stream.specs.Durable.{DoesOn, Moves, MovesBy, StaysAlong, fault_in};
 ghost use Rattle.racf_stream.specs.Gathering.{IsCutShort, Settles};
@@ -50,7 +50,7 @@ pub fn script<S: Source, O: Sink, D: Disk>(
     // unless a disk failed, for that of the desk.
     ensures moments { StaysAlong D.tells desk.position (S.left source) desk.store result.2.store }
     ensures leaves { result.2.halted ≡ false → LeavesIt D.tells result.2.store result.2.position }
-    ensures second { result.2.store.second ≡ desk.store.second }
+    ensures idle { SameIdle desk.store result.2.store }
 
     // Why it stopped.
     ensures no_other { (result.0 ≢ Status.Usage) × (result.0 ≢ Status.NotFormatted) }
@@ -91,7 +91,7 @@ fn run<S: Source, O: Sink, D: Disk>(
     requires new { stream.old.state ≡ new_stream stream.old.state.position }
     ensures ran { Ran (machine (fault_in stream.new) stream.old.state.position) (λ s. stream.new.state ≡ s) result lines.old.left lines.new.left (O.taken sink.old) (O.taken sink.new) }
     ensures moments { StaysAlong D.tells stream.old.state.position lines.old.left stream.old.store stream.new.store }
-    ensures second { stream.new.store.second ≡ stream.old.store.second }
+    ensures idle { SameIdle stream.old.store stream.new.store }
     ensures read_fault { result ≡ Status.ReadFault → Rose lines.old.faults lines.new.faults }
     ensures write_fault { result ≡ Status.WriteFault → Rose (O.faults sink.old) (O.faults sink.new) }
     ensures disk_fault { result ≡ Status.DiskFault → stream.new.state.halted ≡ true }

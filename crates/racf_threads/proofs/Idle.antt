@@ -1,16 +1,15 @@
 -- A run for which there was no memory: each worker has stopped before its first line.
-use Rattle.std.proofs.Common.{◌≡◌, ℕ, zero, suc, ◌+◌, ◌<◌, true, false, List, [], ◌∷◌, ◌++◌, map, length, refl, sym, ◌∙◌, ap, subst, arith}
+use Rattle.std.proofs.Common.{◌≡◌, ℕ, zero, suc, ◌+◌, ◌<◌, false, List, [], ◌∷◌, ◌++◌, map, length, refl, sym, ◌∙◌, ap, arith}
 use Rattle.std.specs.Prelude.{Option}
 use Rattle.std.specs.List.{sum_by}
 use Rattle.std.proofs.lemmas.List.Sums.{sum_by-cons}
 use Rattle.racf_desk.specs.Position.{Position}
 use Rattle.command_history.specs.Events.{all_of, Extends}
 use Rattle.racroute.specs.Core.{Passing}
-use Rattle.racf_stream.specs.declared.status.Status.{Status}
 use Rattle.racf_stream.specs.declared.status.Status.TheVariants as statuses
 use Rattle.racf_workers.proofs.DeckWalk.{none_given}
 use Rattle.racf_workers.proofs.FileWalk.{none_answered}
-use Rattle.racf_threads.specs.Outputs.{StopsFor, new_pass}
+use Rattle.racf_threads.specs.Outputs.{new_pass}
 use Rattle.racf_threads.specs.Together.{Worked, AreFiles, HasStopped, RunsTogether, greater, greatest}
 use Rattle.racf_threads.proofs.Gave.{DecksGave}
 use Rattle.racf_threads.proofs.Own.{decks_ran, faults_ran}

@@ -1,11 +1,11 @@
 -- Runs over one list of files, of which the first are decks.
-use Rattle.std.proofs.Common.{◌≡◌, ℕ, zero, suc, ◌+◌, ◌<◌, ◌≤◌, min, Bool, true, false, List, [], ◌∷◌, ◌++◌, map, length, take, drop, Some, refl, sym, ◌∙◌, ap, subst, arith, length-take, length-append}
+use Rattle.std.proofs.Common.{◌≡◌, ℕ, zero, suc, ◌<◌, ◌≤◌, Bool, true, false, List, [], ◌∷◌, ◌++◌, map, length, take, drop, Some, refl, sym, ◌∙◌, ap, subst, arith, length-take, length-append}
 use Rattle.std.specs.Prelude.{Option}
 use Rattle.std.specs.List.{All, AllZip, filter_map, sum_by}
 use Rattle.std.proofs.lemmas.List.{take-append-drop}
 use Rattle.racf_desk.specs.Position.{Position}
 use Rattle.command_history.specs.declared.events.Accepted.{Accepted}
-use Rattle.command_history.specs.Events.{all_of, mark_of, Extends}
+use Rattle.command_history.specs.Events.{all_of, Extends}
 use Rattle.command_history.proofs.Extensions.{mark_of_all}
 use Rattle.raclist_snapshots.specs.Publishing.{Seeing}
 use Rattle.racroute.specs.Core.{Passing, new_passes}

@@ -2,25 +2,31 @@
 use Rattle.std.proofs.Common.{◌≡◌, false, [], refl, sym, ◌∙◌, ap, subst}
 use Rattle.std.specs.Prelude.{Option}
 use Rattle.racf_outside.specs.Disk.{History}
-use Rattle.racf_checkpoint.specs.Stored.{StoreOn}
-use Rattle.racf_desk.specs.Durable.{LeavesIt}
+use Rattle.checkpoint_disks.specs.declared.counting.Side.TheVariants.{First, Second}
+use Rattle.racf_checkpoint.specs.Stored.{StoreOn, disk_on, pick}
+use Rattle.racf_desk.specs.Durable.{idle_of, LeavesIt}
 use Rattle.racf_desk.specs.Position.{Position}
+use Rattle.racf_desk.specs.Recovery.{StandsFor}
+use Rattle.racf_desk.proofs.IdleLaws.{leaves-both}
 use Rattle.command_history.specs.Events.{all_of}
 use Rattle.command_history.specs.Reached.{reached}
 use Rattle.command_history.proofs.Leading.{reached_ended, reached_none}
 use Rattle.racroute.specs.Disks.{StandAt, StaysAlong}
 use Rattle.racroute.proofs.Along.{stays_begun}
+use Rattle.racroute.proofs.Closing.{live_is}
 
 stays : (position : Position) → reached position (all_of [] false) ≡ position
 stays position = reached_ended position [] false ∙ reached_none position
 
-pub rests : {D : Type 0} (tells : D → Option History) (store : StoreOn D) (one other : D) (position : Position) → one ≡ store.journal.disk → other ≡ store.second → LeavesIt tells store position
+pub rests : {D : Type 0} (tells : D → Option History) (store : StoreOn D) (one other : D) (position : Position) → one ≡ disk_on First store → other ≡ disk_on Second store → LeavesIt tells store position
     → StandAt false (tells one) (tells other) (reached position (all_of [] false))
-rests tells store one other position first second rest = rw (first, second, stays position) rest
+rests tells store one other position first second rest =
+    rw (first, second, stays position) (leaves-both tells store.side store.journal.disk store.idle (StandsFor position) rest)
 
 -- and at every moment of that
-pub rested : {D : Type 0} (tells : D → Option History) (store : StoreOn D) (one : D) (position : Position) → one ≡ store.journal.disk → LeavesIt tells store position
-    → StaysAlong position (all_of [] false) (tells store.second) (tells store.journal.disk) (tells one)
-rested tells store one position first rest =
-    subst (λ (h : Option History). StaysAlong position (all_of [] false) (tells store.second) (tells store.journal.disk) h) (sym (ap tells first))
-    (stays_begun position (tells store.second) (tells store.journal.disk) tells store position (all_of [] false) rest (stays position) refl refl)
+pub rested : {D : Type 0} (tells : D → Option History) (store : StoreOn D) (one other : D) (position : Position) → one ≡ disk_on First store → other ≡ disk_on Second store → LeavesIt tells store position
+    → StaysAlong position (all_of [] false) (idle_of tells store) (tells store.journal.disk) (tells (pick store.side one other))
+rested tells store one other position first second rest =
+    subst (λ (h : Option History). StaysAlong position (all_of [] false) (idle_of tells store) (tells store.journal.disk) h)
+    (sym (ap tells (live_is tells store (idle_of tells store) one other refl first second)))
+    (stays_begun position (idle_of tells store) (tells store.journal.disk) tells store position (all_of [] false) rest (stays position) refl refl)

@@ -1,8 +1,7 @@
 -- The greatest of the statuses: it doesn't matter in which order they are compared.
-use Rattle.std.proofs.Common.{◌≡◌, ℕ, List, [], ◌∷◌, map, length, refl, sym, ◌∙◌, arith}
+use Rattle.std.proofs.Common.{◌≡◌, List, [], ◌∷◌, map, length, refl, sym, ◌∙◌, arith}
 use Rattle.racf_stream.specs.declared.status.Status.{Status}
 use Rattle.racf_stream.specs.declared.status.Status.TheVariants as statuses
-use Rattle.racf_stream.specs.Status.{code_of}
 use Rattle.racf_threads.specs.Together.{greater, greatest}
 use Rattle.std.proofs.lemmas.Bool.Decides.{nat_tests}
 

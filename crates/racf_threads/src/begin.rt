@@ -4,6 +4,8 @@ ghost use Rattle.std.specs.Prelude.{◌≡◌, ◌≤◌, ◌<◌, ◌+◌, ℕ,
 ghost use Rattle.std.specs.Arc.{arc_value};
 ghost use Rattle.std.specs.List.{All, AllZip, sum_by};
 ghost use Rattle.racf_outside.specs.Causes.{Rose};
+ghost use Rattle.racf_checkpoint.specs.Stored.{pick};
+ghost use Rattle.racf_desk.specs.Durable.{idle_of};
 ghost use Rattle.racf_desk.specs.Made.{number_at};
 ghost use Rattle.command_history.specs.Events.{all_of, Extends};
 ghost use Rattle.command_history.specs.Reached.{reached, AreLegal};
@@ -57,7 +59,8 @@ pub(crate) fn begun<
     requires image { arc_value opened.1 ≡ J.base.image }
     requires base { desk.position ≡ J.base }
     requires faults { J.faults ≡ D.faults desk.store.journal.disk }
-    requires before { (J.first_disk ≡ D.tells desk.store.journal.disk) × (J.second_disk ≡ D.tells desk.store.second) }
+    requires idle_faults { J.idle_faults ≡ D.faults desk.store.idle }
+    requires before { (J.live_disk ≡ D.tells desk.store.journal.disk) × (J.idle_disk ≡ idle_of D.tells desk.store) }
     requires running { desk.halted ≡ false }
     requires settled { desk.committed ≡ false }
     requires some { 0 < vec_len files }
@@ -69,11 +72,12 @@ pub(crate) fn begun<
     ensures legal { IfOk result (λ ran. AreLegal J.base ran.accepted.items) }
     ensures first { IfOk result (λ ran. ran.first ≡ number_at J.base) }
     ensures disks { IfOk result (λ ran. StandAt ran.halted (D.tells ran.disks.first) (D.tells ran.disks.second) (reached J.base (all_of ran.accepted.items ran.halted))) }
-    ensures moments { IfOk result (λ ran. StaysAlong J.base (all_of ran.accepted.items ran.halted) J.second_disk J.first_disk (D.tells ran.disks.first)) }
-    ensures second { IfOk result (λ ran. D.tells ran.disks.second ≡ J.second_disk) }
-    ensures rose { IfOk result (λ ran. ran.halted ≡ true → Rose J.faults (D.faults ran.disks.first)) }
+    ensures moments { IfOk result (λ ran. StaysAlong J.base (all_of ran.accepted.items ran.halted) J.idle_disk J.live_disk (D.tells (pick J.idle_disk.side ran.disks.first ran.disks.second))) }
+    ensures idle { IfOk result (λ ran. D.tells (pick J.idle_disk.side ran.disks.second ran.disks.first) ≡ J.idle_disk.told) }
+    ensures idle_faults { IfOk result (λ ran. D.faults (pick J.idle_disk.side ran.disks.second ran.disks.first) ≡ J.idle_faults) }
+    ensures rose { IfOk result (λ ran. ran.halted ≡ true → Rose J.faults (D.faults (pick J.idle_disk.side ran.disks.first ran.disks.second))) }
     ensures disk_fault { IfOk result (λ ran. ran.status ≡ Status.DiskFault → ran.halted ≡ true) }
-    ensures no_fewer { IfOk result (λ ran. J.faults ≤ D.faults ran.disks.first) }
+    ensures no_fewer { IfOk result (λ ran. J.faults ≤ D.faults (pick J.idle_disk.side ran.disks.first ran.disks.second)) }
     ensures desk { IfErr result (λ back. back.0 ≡ desk) }
     ensures files { IfErr result (λ back. back.1 ≡ files) }
 {
@@ -112,9 +116,10 @@ pub(crate) fn unbegun<I: Source, K: Sink, D: Disk>(
     ensures legal { AreLegal desk.position result.accepted.items }
     ensures first { result.first ≡ number_at desk.position }
     ensures disks { StandAt result.halted (D.tells result.disks.first) (D.tells result.disks.second) (reached desk.position (all_of result.accepted.items result.halted)) }
-    ensures moments { StaysAlong desk.position (all_of result.accepted.items result.halted) (D.tells desk.store.second) (D.tells desk.store.journal.disk) (D.tells result.disks.first) }
-    ensures second { D.tells result.disks.second ≡ D.tells desk.store.second }
-    ensures faults { D.faults result.disks.first ≡ D.faults desk.store.journal.disk }
+    ensures moments { StaysAlong desk.position (all_of result.accepted.items result.halted) (idle_of D.tells desk.store) (D.tells desk.store.journal.disk) (D.tells (pick desk.store.side result.disks.first result.disks.second)) }
+    ensures idle { D.tells (pick desk.store.side result.disks.second result.disks.first) ≡ D.tells desk.store.idle }
+    ensures faults { D.faults (pick desk.store.side result.disks.first result.disks.second) ≡ D.faults desk.store.journal.disk }
+    ensures idle_faults { D.faults (pick desk.store.side result.disks.second result.disks.first) ≡ D.faults desk.store.idle }
 {
     desk.is_at_rest();
     let first = desk.number();
@@ -169,11 +174,12 @@ fn ran<
     ensures legal { AreLegal J.base result.accepted.items }
     ensures first { result.first ≡ number_at J.base }
     ensures disks { StandAt result.halted (D.tells result.disks.first) (D.tells result.disks.second) (reached J.base (all_of result.accepted.items result.halted)) }
-    ensures moments { StaysAlong J.base (all_of result.accepted.items result.halted) J.second_disk J.first_disk (D.tells result.disks.first) }
-    ensures second { D.tells result.disks.second ≡ J.second_disk }
-    ensures rose { result.halted ≡ true → Rose J.faults (D.faults result.disks.first) }
+    ensures moments { StaysAlong J.base (all_of result.accepted.items result.halted) J.idle_disk J.live_disk (D.tells (pick J.idle_disk.side result.disks.first result.disks.second)) }
+    ensures idle { D.tells (pick J.idle_disk.side result.disks.second result.disks.first) ≡ J.idle_disk.told }
+    ensures idle_faults { D.faults (pick J.idle_disk.side result.disks.second result.disks.first) ≡ J.idle_faults }
+    ensures rose { result.halted ≡ true → Rose J.faults (D.faults (pick J.idle_disk.side result.disks.first result.disks.second)) }
     ensures disk_fault { result.status ≡ Status.DiskFault → result.halted ≡ true }
-    ensures no_fewer { J.faults ≤ D.faults result.disks.first }
+    ensures no_fewer { J.faults ≤ D.faults (pick J.idle_disk.side result.disks.first result.disks.second) }
 {
     let Room { workers, left } = room;
     let mut workers = seat(callers, passes, files, workers);
@@ -257,10 +263,11 @@ fn closed<
     ensures faults { sum_by (λ e. e.faults) ends.items ≡ fault_count result.halted }
     ensures first { result.first ≡ number_at J.base }
     ensures disks { StandAt result.halted (D.tells result.disks.first) (D.tells result.disks.second) (reached J.base (all_of result.accepted.items result.halted)) }
-    ensures moments { StaysAlong J.base (all_of result.accepted.items result.halted) J.second_disk J.first_disk (D.tells result.disks.first) }
-    ensures second { D.tells result.disks.second ≡ J.second_disk }
-    ensures no_fewer { J.faults ≤ D.faults result.disks.first }
-    ensures rose { result.halted ≡ true → Rose J.faults (D.faults result.disks.first) }
+    ensures moments { StaysAlong J.base (all_of result.accepted.items result.halted) J.idle_disk J.live_disk (D.tells (pick J.idle_disk.side result.disks.first result.disks.second)) }
+    ensures idle { D.tells (pick J.idle_disk.side result.disks.second result.disks.first) ≡ J.idle_disk.told }
+    ensures idle_faults { D.faults (pick J.idle_disk.side result.disks.second result.disks.first) ≡ J.idle_faults }
+    ensures no_fewer { J.faults ≤ D.faults (pick J.idle_disk.side result.disks.first result.disks.second) }
+    ensures rose { result.halted ≡ true → Rose J.faults (D.faults (pick J.idle_disk.side result.disks.first result.disks.second)) }
 {
     match racf.close(callers, ends) {
         Ok(closed) => closed,

@@ -2,6 +2,8 @@
 
 ghost use Rattle.std.specs.Prelude.{◌≡◌, ◌≤◌, ◌<◌, ◌+◌, ◌⊎◌, true, false, vec_len, take, drop};
 ghost use Rattle.racf_outside.specs.Causes.{Rose};
+ghost use Rattle.racf_checkpoint.specs.Stored.{pick};
+ghost use Rattle.racf_desk.specs.Durable.{idle_of};
 ghost use Rattle.racf_desk.specs.Made.{number_at};
 ghost use Rattle.command_history.specs.Events.{all_of};
 ghost use Rattle.command_history.specs.Reached.{reached, AreLegal};
@@ -67,12 +69,13 @@ pub fn run<
     ensures first { result.first ≡ number_at desk.position }
 
     // What every crash leaves of the disks: at every moment of it, and behind it.
-    ensures moments { StaysAlong desk.position (all_of result.accepted.items result.halted) (D.tells desk.store.second) (D.tells desk.store.journal.disk) (D.tells result.disks.first) }
+    ensures moments { StaysAlong desk.position (all_of result.accepted.items result.halted) (idle_of D.tells desk.store) (D.tells desk.store.journal.disk) (D.tells (pick desk.store.side result.disks.first result.disks.second)) }
     ensures disks { StandAt result.halted (D.tells result.disks.first) (D.tells result.disks.second) (reached desk.position (all_of result.accepted.items result.halted)) }
-    ensures second { D.tells result.disks.second ≡ D.tells desk.store.second }
-    ensures rose { result.halted ≡ true → Rose (D.faults desk.store.journal.disk) (D.faults result.disks.first) }
+    ensures idle { D.tells (pick desk.store.side result.disks.second result.disks.first) ≡ D.tells desk.store.idle }
+    ensures idle_faults { D.faults (pick desk.store.side result.disks.second result.disks.first) ≡ D.faults desk.store.idle }
+    ensures rose { result.halted ≡ true → Rose (D.faults desk.store.journal.disk) (D.faults (pick desk.store.side result.disks.first result.disks.second)) }
     ensures disk_fault { result.status ≡ Status.DiskFault → result.halted ≡ true }
-    ensures no_fewer { D.faults desk.store.journal.disk ≤ D.faults result.disks.first }
+    ensures no_fewer { D.faults desk.store.journal.disk ≤ D.faults (pick desk.store.side result.disks.first result.disks.second) }
 {
     let count = decks.len() as u32;
     let mut files = decks;
@@ -105,12 +108,13 @@ pub fn run_files<
     ensures first { result.first ≡ number_at desk.position }
 
     // What every crash leaves of the disks: at every moment of it, and behind it.
-    ensures moments { StaysAlong desk.position (all_of result.accepted.items result.halted) (D.tells desk.store.second) (D.tells desk.store.journal.disk) (D.tells result.disks.first) }
+    ensures moments { StaysAlong desk.position (all_of result.accepted.items result.halted) (idle_of D.tells desk.store) (D.tells desk.store.journal.disk) (D.tells (pick desk.store.side result.disks.first result.disks.second)) }
     ensures disks { StandAt result.halted (D.tells result.disks.first) (D.tells result.disks.second) (reached desk.position (all_of result.accepted.items result.halted)) }
-    ensures second { D.tells result.disks.second ≡ D.tells desk.store.second }
-    ensures rose { result.halted ≡ true → Rose (D.faults desk.store.journal.disk) (D.faults result.disks.first) }
+    ensures idle { D.tells (pick desk.store.side result.disks.second result.disks.first) ≡ D.tells desk.store.idle }
+    ensures idle_faults { D.faults (pick desk.store.side result.disks.second result.disks.first) ≡ D.faults desk.store.idle }
+    ensures rose { result.halted ≡ true → Rose (D.faults desk.store.journal.disk) (D.faults (pick desk.store.side result.disks.first result.disks.second)) }
     ensures disk_fault { result.status ≡ Status.DiskFault → result.halted ≡ true }
-    ensures no_fewer { D.faults desk.store.journal.disk ≤ D.faults result.disks.first }
+    ensures no_fewer { D.faults desk.store.journal.disk ≤ D.faults (pick desk.store.side result.disks.first result.disks.second) }
 {
     let image = match Arc::try_clone(desk.image()) {
         Ok(image) => image,

@@ -3,13 +3,14 @@
 use Rattle.std.proofs.Common.{◌≡◌, ℕ, Bool, true, List, [], ◌∷◌, Option, Some, Ok, refl, sym, subst, inl, inr}
 use Rattle.racf_outside.specs.Disk.{History}
 use Rattle.racf_outside.proofs.Runs.{Leaves-weaker, StaysIn-none, StaysIn-joined, StaysIn-weaker}
-use Rattle.racf_checkpoint.specs.Stored.{StoreOn, Beside}
+use Rattle.racf_checkpoint.specs.Stored.{StoreOn}
 use Rattle.racf_desk.specs.declared.answers.Ready.{Ready}
-use Rattle.racf_desk.specs.Durable.{LeavesIt, StaysEither}
+use Rattle.racf_desk.specs.Durable.{IdleDisk, idle_of, BesideIdle, LeavesIt, StaysEither}
 use Rattle.racf_desk.specs.Made.{Made, made_at, made_in, made_of_outcome, installed}
 use Rattle.racf_desk.specs.Outcome.{outcome}
 use Rattle.racf_desk.specs.Position.{Position}
 use Rattle.racf_desk.specs.Recovery.{StandsFor, StandsForEither}
+use Rattle.racf_desk.proofs.IdleLaws.{beside-weaker}
 use Rattle.command_history.specs.declared.events.Event.{Event}
 use Rattle.command_history.specs.declared.events.Event.TheVariants.{Added, Ended}
 use Rattle.command_history.specs.Events.{is_ended, mark_of, Extends}
@@ -38,41 +39,37 @@ stand_whole : (base : Position) (events : List Event) (position : Position) → 
 stand_whole base events position leads one other stand =
     inl (record { beginning = events; begins = (extends_self events).prefix; stand = subst (λ (p : Position). StandsFor p one other) (sym leads) stand })
 
--- beside whatever a crash leaves of the second disk
-beside_weaker : (second : Option History) (P Q : (first second : List ℕ) → Type 0) → ((one other : List ℕ) → P one other → Q one other) → (one : List ℕ) → Beside second P one → Beside second Q one
-beside_weaker second P Q weaker one p history told = Leaves-weaker (P one) (Q one) history.now (weaker one) (p history told)
-
-module _ (base : Position) (second first : Option History) where
+module _ (base : Position) (idle : IdleDisk) (live : Option History) where
   -- a history that grows
-  pub stays_later : (earlier later : List Event) (now : Option History) → Extends earlier later → StaysAlong base earlier second first now → StaysAlong base later second first now
+  pub stays_later : (earlier later : List Event) (now : Option History) → Extends earlier later → StaysAlong base earlier idle live now → StaysAlong base later idle live now
   stays_later earlier later now extends along =
-      StaysIn-weaker (Beside second (StandAlong base later)) along
-      (λ h told. beside_weaker second (StandAlong base earlier) (StandAlong base later) (stand_later base earlier later extends))
+      StaysIn-weaker (BesideIdle idle (StandAlong base later)) along
+      (λ h told. beside-weaker idle (StandAlong base earlier) (StandAlong base later) (stand_later base earlier later extends))
 
   -- a history that begins
   pub stays_begun : {D : Type 0} (tells : D → Option History) (store : StoreOn D) (position : Position) (events : List Event) → LeavesIt tells store position → reached base events ≡ position
-      → first ≡ tells store.journal.disk → second ≡ tells store.second → StaysAlong base events second first (tells store.journal.disk)
+      → live ≡ tells store.journal.disk → idle ≡ idle_of tells store → StaysAlong base events idle live (tells store.journal.disk)
   stays_begun tells store position events leaves leads one other =
       let P = StandsFor position in
       let Q = StandAlong base events in
-      subst (λ (h : Option History). StaysAlong base events second h (tells store.journal.disk)) (sym one)
-      (subst (λ (h : Option History). StaysAlong base events h (tells store.journal.disk) (tells store.journal.disk)) (sym other)
-      (StaysIn-none (Beside (tells store.second) Q) (tells store.journal.disk)
-      (λ h told. Leaves-weaker (Beside (tells store.second) P) (Beside (tells store.second) Q) h.now
-      (beside_weaker (tells store.second) P Q (stand_whole base events position leads)) (leaves h told))))
+      subst (λ (h : Option History). StaysAlong base events idle h (tells store.journal.disk)) (sym one)
+      (subst (λ (h : IdleDisk). StaysAlong base events h (tells store.journal.disk) (tells store.journal.disk)) (sym other)
+      (StaysIn-none (BesideIdle (idle_of tells store) Q) (tells store.journal.disk)
+      (λ h told. Leaves-weaker (BesideIdle (idle_of tells store) P) (BesideIdle (idle_of tells store) Q) h.now
+      (beside-weaker (idle_of tells store) P Q (stand_whole base events position leads)) (leaves h told))))
 
   -- a call that leaves the one or the other, where both stand along the history behind it
   stays_either : {D : Type 0} (tells : D → Option History) (old now : StoreOn D) (position next : Position) (events later : List Event)
-      → Extends events later → StaysEither tells old now position next → tells old.second ≡ second
+      → Extends events later → StaysEither tells old now position next → idle_of tells old ≡ idle
       → ((one other : List ℕ) → StandsFor position one other → StandAlong base later one other)
       → ((one other : List ℕ) → StandsFor next one other → StandAlong base later one other)
-      → StaysAlong base events second first (tells old.journal.disk) → StaysAlong base later second first (tells now.journal.disk)
+      → StaysAlong base events idle live (tells old.journal.disk) → StaysAlong base later idle live (tells now.journal.disk)
   stays_either tells old now position next events later extends either is here there along =
       let P = StandsForEither position next in
       let Q = StandAlong base later in
       StaysIn-joined (stays_later events later (tells old.journal.disk) extends along)
-      (StaysIn-weaker (Beside second Q) either
-      (λ h told one p. beside_weaker second P Q both one (subst (λ (s : Option History). Beside s P one) is p)))
+      (StaysIn-weaker (BesideIdle idle Q) either
+      (λ h told one p. beside-weaker idle P Q both one (subst (λ (s : IdleDisk). BesideIdle s P one) is p)))
     where
       both : (one other : List ℕ) → StandsForEither position next one other → StandAlong base later one other
       both one other (inl s) = here one other s
@@ -80,8 +77,8 @@ module _ (base : Position) (second first : Option History) where
 
   -- an accepted command
   pub stays_accepted : {D : Type 0} (tells : D → Option History) (old now : StoreOn D) (position next : Position) (events later : List Event)
-      → Extends events later → StaysEither tells old now position next → tells old.second ≡ second → reached base events ≡ position → reached base later ≡ next
-      → StaysAlong base events second first (tells old.journal.disk) → StaysAlong base later second first (tells now.journal.disk)
+      → Extends events later → StaysEither tells old now position next → idle_of tells old ≡ idle → reached base events ≡ position → reached base later ≡ next
+      → StaysAlong base events idle live (tells old.journal.disk) → StaysAlong base later idle live (tells now.journal.disk)
   stays_accepted tells old now position next events later extends either is leads leads' along =
       stays_either tells old now position next events later extends either is
       (λ one other stand. stand_later base events later extends one other (stand_whole base events position leads one other stand))
@@ -89,9 +86,9 @@ module _ (base : Position) (second first : Option History) where
 
   -- a command that a disk failed
   pub stays_failed : {D : Type 0} (tells : D → Option History) (old now : StoreOn D) (position : Position) (events later : List Event) (given : Given) (ready : Ready)
-      → Extends events later → StaysEither tells old now position (installed position (made_in ready)) → tells old.second ≡ second → reached base later ≡ position
+      → Extends events later → StaysEither tells old now position (installed position (made_in ready)) → idle_of tells old ≡ idle → reached base later ≡ position
       → mark_of later ≡ Some true → made_of_outcome position.image (outcome position given.issuer given.group given.text) ≡ Ok (made_in ready)
-      → StaysAlong base events second first (tells old.journal.disk) → StaysAlong base later second first (tells now.journal.disk)
+      → StaysAlong base events idle live (tells old.journal.disk) → StaysAlong base later idle live (tells now.journal.disk)
   stays_failed tells old now position events later given ready extends either is leads mark made along =
       let m = made_of position.image (outcome position given.issuer given.group given.text) (made_in ready) made in
       stays_either tells old now position (installed position (made_in ready)) events later extends either is

@@ -1,10 +1,14 @@
 -- An office that is closed.
-use Rattle.std.proofs.Common.{◌≡◌, Bool, true, false, List, [], ◌∷◌, ◌++◌, Option, refl, sym, ◌∙◌, ap, subst, if◌then◌else◌}
+use Rattle.std.proofs.Common.{◌≡◌, ℕ, Bool, true, false, List, [], ◌∷◌, ◌++◌, Option, refl, sym, ◌∙◌, ap, subst, if◌then◌else◌}
 use Rattle.std.specs.List.{All}
 use Rattle.racf_outside.specs.Disk.{History}
-use Rattle.racf_checkpoint.specs.Stored.{StoreOn}
-use Rattle.racf_desk.specs.Durable.{LeavesIt}
+use Rattle.checkpoint_disks.specs.declared.counting.Side.{Side}
+use Rattle.checkpoint_disks.specs.declared.counting.Side.TheVariants.{First, Second}
+use Rattle.racf_checkpoint.specs.Stored.{StoreOn, disk_on, pick}
+use Rattle.racf_desk.specs.Durable.{IdleDisk, idle_of, LeavesIt}
 use Rattle.racf_desk.specs.Position.{Position}
+use Rattle.racf_desk.specs.Recovery.{StandsFor}
+use Rattle.racf_desk.proofs.IdleLaws.{leaves-both}
 use Rattle.command_history.specs.declared.events.Accepted.{Accepted}
 use Rattle.command_history.specs.declared.events.Event.{Event}
 use Rattle.command_history.specs.declared.events.Event.TheVariants.{Added, Ended}
@@ -50,16 +54,42 @@ all_begin halted events settled history callers is end all =
 
 -- what its disks keep
 pub stand : {D : Type 0} (tells : D → Option History) (store : StoreOn D) (one other : D) (halted : Bool) (position behind : Position)
-    → one ≡ store.journal.disk → other ≡ store.second → behind ≡ position → (halted ≡ false → LeavesIt tells store position)
-    → (halted ≡ true → IsInDoubt (tells store.journal.disk) (tells store.second) position) → StandAt halted (tells one) (tells other) behind
+    → one ≡ disk_on First store → other ≡ disk_on Second store → behind ≡ position → (halted ≡ false → LeavesIt tells store position)
+    → (halted ≡ true → IsInDoubt (tells (disk_on First store)) (tells (disk_on Second store)) position) → StandAt halted (tells one) (tells other) behind
 stand tells store one other true position behind first second is rest doubt = rw (first, second, is) (doubt refl)
-stand tells store one other false position behind first second is rest doubt = rw (first, second, is) (rest refl)
+stand tells store one other false position behind first second is rest doubt =
+    rw (first, second, is) (leaves-both tells store.side store.journal.disk store.idle (StandsFor position) (rest refl))
 
 -- and what every crash left since the history began
-pub stayed : {D : Type 0} (tells : D → Option History) (base : Position) (second first : Option History) (halted : Bool) (events : List Event) (history : List Accepted)
-    (disk one : D) → all_of history halted ≡ ended_with halted events → one ≡ disk → StaysAlong base events second first (tells disk)
-    → StaysAlong base (all_of history halted) second first (tells one)
-stayed {D} tells base second first halted events history disk one is same along =
-    subst (λ (d : D). StaysAlong base (all_of history halted) second first (tells d)) (sym same)
-    (subst (λ (l : List Event). StaysAlong base l second first (tells disk)) (sym is)
-    (stays_later base second first events (ended_with halted events) (tells disk) (extends_ended halted events) along))
+pub stayed : {D : Type 0} (tells : D → Option History) (base : Position) (idle : IdleDisk) (live : Option History) (halted : Bool) (events : List Event) (history : List Accepted)
+    (disk one : D) → all_of history halted ≡ ended_with halted events → one ≡ disk → StaysAlong base events idle live (tells disk)
+    → StaysAlong base (all_of history halted) idle live (tells one)
+stayed {D} tells base idle live halted events history disk one is same along =
+    subst (λ (d : D). StaysAlong base (all_of history halted) idle live (tells d)) (sym same)
+    (subst (λ (l : List Event). StaysAlong base l idle live (tells disk)) (sym is)
+    (stays_later base idle live events (ended_with halted events) (tells disk) (extends_ended halted events) along))
+
+-- the two disks of a store, by the side of the one that counts
+pub live_is : {D : Type 0} (tells : D → Option History) (store : StoreOn D) (idle : IdleDisk) (one other : D) → idle_of tells store ≡ idle
+    → one ≡ disk_on First store → other ≡ disk_on Second store → pick idle.side one other ≡ store.journal.disk
+live_is tells store idle one other is first second = rw (sym is, first, second) (by store.side)
+  where
+    by : (side : Side) → pick side (pick side store.journal.disk store.idle) (pick side store.idle store.journal.disk) ≡ store.journal.disk
+    by First = refl
+    by Second = refl
+
+pub faults_are : {D : Type 0} (tells : D → Option History) (counted : D → ℕ) (store : StoreOn D) (idle : IdleDisk) (one other : D) (n : ℕ) → idle_of tells store ≡ idle
+    → one ≡ disk_on First store → other ≡ disk_on Second store → counted store.idle ≡ n → counted (pick idle.side other one) ≡ n
+faults_are tells counted store idle one other n is first second counts = rw (sym is, first, second) (ap counted (by store.side) ∙ counts)
+  where
+    by : (side : Side) → pick side (pick side store.idle store.journal.disk) (pick side store.journal.disk store.idle) ≡ store.idle
+    by First = refl
+    by Second = refl
+
+pub idle_is : {D : Type 0} (tells : D → Option History) (store : StoreOn D) (idle : IdleDisk) (one other : D) → idle_of tells store ≡ idle
+    → one ≡ disk_on First store → other ≡ disk_on Second store → tells (pick idle.side other one) ≡ idle.told
+idle_is tells store idle one other is first second = rw (sym is, first, second) (ap tells (by store.side))
+  where
+    by : (side : Side) → pick side (pick side store.idle store.journal.disk) (pick side store.journal.disk store.idle) ≡ store.idle
+    by First = refl
+    by Second = refl

@@ -5,6 +5,6 @@ pub mod Along
 mod Serving
 mod Telling
 mod Replying
-mod Closing
+pub mod Closing
 mod Says
 pub mod Crossing

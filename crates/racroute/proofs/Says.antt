@@ -6,10 +6,12 @@ use Rattle.racf_desk.specs.declared.refusal.Refusal.{Refusal}
 use Rattle.racf_desk.specs.Outcome.{outcome}
 use Rattle.racf_desk.specs.Made.{Made, made_at, made_in, made_of_outcome, installed, number_at}
 use Rattle.racf_desk.specs.Position.{Position}
-use Rattle.racf_desk.specs.Durable.{StaysEither}
+use Rattle.racf_desk.specs.Durable.{SameIdle, IdleDisk, idle_of, BesideIdle, StaysEither}
+use Rattle.racf_desk.proofs.IdleLaws.{same_idle-told, leaves-both}
 use Rattle.racf_desk.specs.Recovery.{StandsForEither}
 use Rattle.racf_outside.specs.Crashes.{Leaves}
-use Rattle.racf_checkpoint.specs.Stored.{StoreOn, Beside}
+use Rattle.checkpoint_disks.specs.declared.counting.Side.TheVariants.{First, Second}
+use Rattle.racf_checkpoint.specs.Stored.{StoreOn, disk_on}
 use Rattle.command_history.specs.declared.events.Accepted.{Accepted}
 use Rattle.command_history.specs.declared.events.Event.{Event}
 use Rattle.command_history.specs.declared.events.Event.TheVariants.{Added}
@@ -114,19 +116,20 @@ module _ {D : Type 0} (tells : D → Option History) (counted : D → ℕ) (base
 -- The disks, where one failed a command.
 pub in_doubt : {D : Type 0} (tells : D → Option History) (old now : StoreOn D) (position : Position) (given : Given) (ready : Ready)
     → made_of_outcome position.image (outcome position given.issuer given.group given.text) ≡ Ok (made_in ready)
-    → StaysEither tells old now position (installed position (made_in ready)) → now.second ≡ old.second
-    → IsInDoubt (tells now.journal.disk) (tells now.second) position
-in_doubt {D} tells old now position given ready made stays second =
+    → StaysEither tells old now position (installed position (made_in ready)) → SameIdle old now
+    → IsInDoubt (tells (disk_on First now)) (tells (disk_on Second now)) position
+in_doubt {D} tells old now position given ready made stays same =
     let m = made_of position.image (outcome position given.issuer given.group given.text) (made_in ready) made in
-    let P : D → Made → List ℕ → Type 0 = λ other made. Beside (tells other) (StandsForEither position (installed position made)) in
-    let ends : Now (tells now.journal.disk) (Leaves (P old.second (made_in ready))) =
-    stays_now (P old.second (made_in ready)) (tells old.journal.disk) (tells now.journal.disk) stays in
+    let P : IdleDisk → Made → List ℕ → Type 0 = λ idle made. BesideIdle idle (StandsForEither position (installed position made)) in
+    let ends : Now (tells now.journal.disk) (Leaves (P (idle_of tells old) (made_in ready))) =
+    stays_now (P (idle_of tells old) (made_in ready)) (tells old.journal.disk) (tells now.journal.disk) stays in
     record {
       id = given.issuer;
       group = given.group;
       text = given.text;
       command = m.command;
       accepted = m.accepted;
-      either = subst (λ (d : D). Now (tells now.journal.disk) (Leaves (P d (made_at position.image m.command)))) (sym second)
-          (subst (λ (made : Made). Now (tells now.journal.disk) (Leaves (P old.second made))) (sym m.made_is) ends);
+      either = leaves-both tells now.side now.journal.disk now.idle (StandsForEither position (installed position (made_at position.image m.command)))
+          (subst (λ (i : IdleDisk). Now (tells now.journal.disk) (Leaves (P i (made_at position.image m.command)))) (sym (same_idle-told tells old now same))
+          (subst (λ (made : Made). Now (tells now.journal.disk) (Leaves (P (idle_of tells old) made))) (sym m.made_is) ends));
     }

@@ -6,7 +6,10 @@ use Rattle.command_parser.specs.Canonical.{canonical, IsWritten}
 use Rattle.journal_records.specs.declared.record.CommandRecord.{CommandRecord}
 use Rattle.racf_desk.specs.declared.answers.Ready.{Ready}
 use Rattle.racf_desk.specs.Outcome.{outcome}
-use Rattle.racf_desk.specs.Durable.{LeavesIt, StaysEither}
+use Rattle.checkpoint_disks.specs.declared.counting.Side.TheVariants.{First, Second}
+use Rattle.racf_checkpoint.specs.Stored.{disk_on}
+use Rattle.racf_desk.specs.Durable.{SameIdle, idle_of, LeavesIt, StaysEither}
+use Rattle.racf_desk.proofs.IdleLaws.{same_idle-told}
 use Rattle.racf_desk.specs.Made.{Made, made_in, made_of_outcome, installed}
 use Rattle.racf_desk.specs.Position.{Position}
 use Rattle.command_history.specs.declared.events.Accepted.{Accepted}
@@ -59,10 +62,10 @@ module _ {D : Type 0} (tells : D → Option History) (counted : D → ℕ) (base
       → reached base (core.events ++ Added entry ∷ []) ≡ installed (reached base core.events) made
       → now.events ≡ core.events ++ Added entry ∷ [] → now.position ≡ installed core.position made → now.halted ≡ false → now.passes ≡ core.passes
       → counted core.store.journal.disk ≤ counted now.store.journal.disk
-      → StaysEither tells core.store now.store core.position (installed core.position made) → now.store.second ≡ core.store.second
+      → StaysEither tells core.store now.store core.position (installed core.position made) → SameIdle core.store now.store
       → later ≡ history ++ entry ∷ [] → commands' ≡ commands + 1 → faults' ≡ faults → out' ≡ out
       → IsOffice tells counted base before now later commands' faults' out'
-  accepted_kept core now history later commands faults out commands' faults' out' entry made kept goes runs legal leads events position still passes fewer either second items more same outs =
+  accepted_kept core now history later commands faults out commands' faults' out' entry made kept goes runs legal leads events position still passes fewer either idle items more same outs =
       let goes' : is_ended now.events ≡ false = rw events (goes_push core.events entry goes) in
       let extends : Extends core.events now.events = subst (Extends core.events) (sym events) (extends_push core.events (Added entry) goes) in
       let there : reached base now.events ≡ installed core.position made =
@@ -82,9 +85,10 @@ module _ {D : Type 0} (tells : D → Option History) (counted : D → ℕ) (base
         no_fewer = let had = kept.no_fewer in omega arith;
         rose = λ h. absurd (cc (h, still));
         doubt = λ h. absurd (cc (h, still));
-        moments = stays_accepted base before.second before.first tells core.store now.store core.position (installed core.position made)
-            core.events now.events extends either kept.second (sym kept.position) there kept.moments;
-        second = ap tells second ∙ kept.second;
+        moments = stays_accepted base before.idle before.live tells core.store now.store core.position (installed core.position made)
+            core.events now.events extends either kept.idle (sym kept.position) there kept.moments;
+        idle = same_idle-told tells core.store now.store idle ∙ kept.idle;
+        idle_faults = ap counted idle.idle ∙ kept.idle_faults;
       }
 
   -- what a command leaves that a disk failed
@@ -94,12 +98,12 @@ module _ {D : Type 0} (tells : D → Option History) (counted : D → ℕ) (base
       → now.events ≡ ended_with true core.events → now.position ≡ core.position → now.halted ≡ true → now.passes ≡ core.passes
       → counted core.store.journal.disk ≤ counted now.store.journal.disk
       → Rose (counted core.store.journal.disk) (counted now.store.journal.disk)
-      → IsInDoubt (tells now.store.journal.disk) (tells now.store.second) now.position
+      → IsInDoubt (tells (disk_on First now.store)) (tells (disk_on Second now.store)) now.position
       → made_of_outcome core.position.image (outcome core.position given.issuer given.group given.text) ≡ Ok (made_in ready)
-      → StaysEither tells core.store now.store core.position (installed core.position (made_in ready)) → now.store.second ≡ core.store.second
+      → StaysEither tells core.store now.store core.position (installed core.position (made_in ready)) → SameIdle core.store now.store
       → later ≡ history → commands' ≡ commands → faults' ≡ faults + 1 → out' ≡ out
       → IsOffice tells counted base before now later commands' faults' out'
-  failed_kept core now history later commands faults out commands' faults' out' given ready kept goes runs events position halts passes fewer rose doubt made either second items same more outs =
+  failed_kept core now history later commands faults out commands' faults' out' given ready kept goes runs events position halts passes fewer rose doubt made either idle items same more outs =
       let none : faults ≡ 0 = kept.faults_are ∙ ap fault_count runs in
       let marked : mark_of now.events ≡ Some now.halted = rw (events, halts) (ended_mark true core.events (mark_any true core.events goes)) in
       let ends : now.events ≡ core.events ++ Ended true ∷ [] = events ∙ ended_more true core.events goes in
@@ -118,18 +122,19 @@ module _ {D : Type 0} (tells : D → Option History) (counted : D → ℕ) (base
         no_fewer = let had = kept.no_fewer in omega arith;
         rose = λ _. risen before.faults (counted core.store.journal.disk) (counted now.store.journal.disk) kept.no_fewer rose;
         doubt = λ _. doubt;
-        moments = stays_failed base before.second before.first tells core.store now.store core.position core.events now.events given ready
-            extends either kept.second (sym there) (marked ∙ ap Some halts) made kept.moments;
-        second = ap tells second ∙ kept.second;
+        moments = stays_failed base before.idle before.live tells core.store now.store core.position core.events now.events given ready
+            extends either kept.idle (sym there) (marked ∙ ap Some halts) made kept.moments;
+        idle = same_idle-told tells core.store now.store idle ∙ kept.idle;
+        idle_faults = ap counted idle.idle ∙ kept.idle_faults;
       }
 
   -- an office in which nothing has happened
   pub opened_kept : (core : Core D) (history : List Accepted) (commands faults out : ℕ)
-      → core.events ≡ [] → core.position ≡ base → core.halted ≡ false → before.faults ≤ counted core.store.journal.disk
-      → (before.first ≡ tells core.store.journal.disk) × (before.second ≡ tells core.store.second) → LeavesIt tells core.store core.position
+      → core.events ≡ [] → core.position ≡ base → core.halted ≡ false → before.faults ≤ counted core.store.journal.disk → before.idle_faults ≡ counted core.store.idle
+      → (before.live ≡ tells core.store.journal.disk) × (before.idle ≡ idle_of tells core.store) → LeavesIt tells core.store core.position
       → history ≡ [] → commands ≡ 0 → faults ≡ 0 → out ≡ core.passes
       → IsOffice tells counted base before core history commands faults out
-  opened_kept core history commands faults out events position runs fewer disks leaves items none faultless outs =
+  opened_kept core history commands faults out events position runs fewer counts disks leaves items none faultless outs =
       let goes : is_ended core.events ≡ false = ap is_ended events in
       let there : core.position ≡ reached base core.events = position ∙ (sym (reached_none base) ∙ ap (reached base) (sym events)) in
       record {
@@ -145,6 +150,7 @@ module _ {D : Type 0} (tells : D → Option History) (counted : D → ℕ) (base
         no_fewer = fewer;
         rose = λ h. absurd (cc (h, runs));
         doubt = λ h. absurd (cc (h, runs));
-        moments = stays_begun base before.second before.first tells core.store core.position core.events leaves (sym there) disks.0 disks.1;
-        second = sym disks.1;
+        moments = stays_begun base before.idle before.live tells core.store core.position core.events leaves (sym there) disks.0 disks.1;
+        idle = sym disks.1;
+        idle_faults = sym counts;
       }

@@ -58,9 +58,10 @@ module _ {D : Type 0} (tells : D → Option History) (counted : D → ℕ) (base
         no_fewer = kept.no_fewer;
         rose = kept.rose;
         doubt = kept.doubt;
-        moments = stays_later base before.second before.first core.events later (tells core.store.journal.disk)
+        moments = stays_later base before.idle before.live core.events later (tells core.store.journal.disk)
             (subst (Extends core.events) (sym is) (extends_ended core.halted core.events)) kept.moments;
-        second = kept.second;
+        idle = kept.idle;
+        idle_faults = kept.idle_faults;
       }
 
 -- what is told where nothing more is accepted, and else

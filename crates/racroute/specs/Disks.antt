@@ -1,10 +1,10 @@
 -- What the disks of an office keep.
 use Rattle.std.specs.Prelude.{ℕ, ◌≡◌, ◌⊎◌, Bool, true, false, List, Option, Some, Ok}
 use mathlib.Core.List.{IsPrefix}
-use Rattle.racf_outside.specs.Crashes.{Leaves, StaysIn}
-use Rattle.racf_outside.specs.Disk.{History, Now}
-use Rattle.racf_checkpoint.specs.Stored.{Beside}
+use Rattle.racf_outside.specs.Crashes.{StaysIn}
+use Rattle.racf_outside.specs.Disk.{History}
 use Rattle.journal_records.specs.declared.record.CommandRecord.{CommandRecord}
+use Rattle.racf_desk.specs.Durable.{IdleDisk, BesideIdle, LeavesBoth}
 use Rattle.racf_desk.specs.Outcome.{outcome}
 use Rattle.racf_desk.specs.Position.{Position, position_behind}
 use Rattle.racf_desk.specs.Recovery.{StandsFor, StandsForEither}
@@ -20,11 +20,11 @@ pub record IsInDoubt (first second : Option History) (position : Position) : Typ
   pub text : List ℕ
   pub command : CommandRecord
   pub accepted : outcome position id group text ≡ Ok command
-  pub either : Now first (Leaves (Beside second (StandsForEither position (position_behind position command))))
+  pub either : LeavesBoth first second (StandsForEither position (position_behind position command))
 
 -- Whatever a crash now leaves of both disks stands for this position, or for one command more where a disk failed it.
 abbrev pub StandAt : (halted : Bool) → (first second : Option History) → Position → Type 0
-StandAt false first second position = Now first (Leaves (Beside second (StandsFor position)))
+StandAt false first second position = LeavesBoth first second (StandsFor position)
 StandAt true first second position = IsInDoubt first second position
 
 -- Two files stand for where some beginning of a history leads.
@@ -48,6 +48,6 @@ pub record StandForFailed (base : Position) (events : List Event) (first second 
 abbrev pub StandAlong : (base : Position) → List Event → (first second : List ℕ) → Type 0
 StandAlong base events first second = StandForBeginning base events first second ⊎ StandForFailed base events first second
 
--- At every moment from where a history begins a crash leaves what stands along it. The second disk stays as it is.
-abbrev pub StaysAlong : (base : Position) → List Event → (second : Option History) → (old new : Option History) → Type 0
-StaysAlong base events second old new = StaysIn (Beside second (StandAlong base events)) old new
+-- At every moment from where a history begins a crash leaves what stands along it. The disk that doesn't count stays as it is.
+abbrev pub StaysAlong : (base : Position) → List Event → IdleDisk → (old new : Option History) → Type 0
+StaysAlong base events idle old new = StaysIn (BesideIdle idle (StandAlong base events)) old new

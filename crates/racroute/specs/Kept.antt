@@ -2,7 +2,10 @@
 use Rattle.std.specs.Prelude.{ℕ, ◌≡◌, ◌≤◌, Bool, true, false, List, length, Option, Ok, if◌then◌else◌}
 use Rattle.racf_outside.specs.Causes.{Rose}
 use Rattle.racf_outside.specs.Disk.{History}
+use Rattle.checkpoint_disks.specs.declared.counting.Side.TheVariants.{First, Second}
+use Rattle.racf_checkpoint.specs.Stored.{disk_on}
 use Rattle.racf_desk.specs.declared.answers.Ready.{Ready}
+use Rattle.racf_desk.specs.Durable.{IdleDisk, idle_of}
 use Rattle.racf_desk.specs.Made.{made_in, made_of_outcome}
 use Rattle.racf_desk.specs.Position.{Position}
 use Rattle.command_history.specs.declared.events.Accepted.{Accepted}
@@ -18,14 +21,16 @@ use Rattle.racroute.specs.Replies.{Given, outcome_behind}
 abbrev pub fault_count : (halted : Bool) → ℕ
 fault_count halted = if halted then 1 else 0
 
--- The disks of an office where its history begins: how many faults of the first had been counted, and what each told.
+-- The disks of an office where its history begins: how many faults had been counted of the one that counts and of the
+-- other, what the former told, and what is told of the latter.
 pub record DisksBefore : Type 0 where
   pub faults : ℕ
-  pub first : Option History
-  pub second : Option History
+  pub idle_faults : ℕ
+  pub live : Option History
+  pub idle : IdleDisk
 
-abbrev pub disks_before : ℕ → Option History → Option History → DisksBefore
-disks_before faults first second = record { faults = faults; first = first; second = second }
+abbrev pub disks_before : (faults idle_faults : ℕ) → Option History → IdleDisk → DisksBefore
+disks_before faults idle_faults live idle = record { faults = faults; idle_faults = idle_faults; live = live; idle = idle }
 
 -- The database is where the history leads, and the entries that are kept are those of the history. The ledgers count what
 -- there is: `commands`, `faults` and `out` are their totals. The final mark is there where a disk failed a command, and
@@ -43,9 +48,10 @@ pub record IsOffice {D : Type 0} (tells : D → Option History) (counted : D →
   pub ended : is_ended core.events ≡ true → core.halted ≡ false → core.passes ≡ 0
   pub no_fewer : before.faults ≤ counted core.store.journal.disk
   pub rose : core.halted ≡ true → Rose before.faults (counted core.store.journal.disk)
-  pub doubt : core.halted ≡ true → IsInDoubt (tells core.store.journal.disk) (tells core.store.second) core.position
-  pub moments : StaysAlong base core.events before.second before.first (tells core.store.journal.disk)
-  pub second : tells core.store.second ≡ before.second
+  pub doubt : core.halted ≡ true → IsInDoubt (tells (disk_on First core.store)) (tells (disk_on Second core.store)) core.position
+  pub moments : StaysAlong base core.events before.idle before.live (tells core.store.journal.disk)
+  pub idle : idle_of tells core.store ≡ before.idle
+  pub idle_faults : counted core.store.idle ≡ before.idle_faults
 
 -- It was made of a command that is given where these events lead.
 pub record IsMade (base : Position) (events : List Event) (ready : Ready) : Type 0 where

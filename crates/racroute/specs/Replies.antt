@@ -6,6 +6,7 @@ use Rattle.journal_records.specs.declared.record.CommandRecord.{CommandRecord}
 use Rattle.racf_desk.specs.declared.refusal.Refusal.{Refusal}
 use Rattle.racf_desk.specs.declared.answers.Reply.{Reply}
 use Rattle.racf_desk.specs.declared.answers.Reply.TheVariants as reply
+use Rattle.racf_desk.specs.Durable.{SameIdle}
 use Rattle.racf_desk.specs.Outcome.{outcome}
 use Rattle.racf_desk.specs.Position.{Position}
 use Rattle.command_history.specs.declared.events.Accepted.{Accepted}
@@ -90,7 +91,7 @@ Says base given reply.NoMemory before after pass back = SaysNothing before after
 pub record GoesOn {D : Type 0} (faults : D → ℕ) (old new : Core D) : Type 0 where
   pub ran : old.halted ≡ false
   pub runs : new.halted ≡ false
-  pub second : new.store.second ≡ old.store.second
+  pub idle : SameIdle old.store new.store
   pub no_fewer : faults old.store.journal.disk ≤ faults new.store.journal.disk
   pub passes : new.passes ≡ old.passes
   pub decks : new.decks ≡ old.decks
@@ -100,7 +101,7 @@ pub record Stops {D : Type 0} (faults : D → ℕ) (old new : Core D) : Type 0 w
   pub ran : old.halted ≡ false
   pub halts : new.halted ≡ true
   pub position : new.position ≡ old.position
-  pub second : new.store.second ≡ old.store.second
+  pub idle : SameIdle old.store new.store
   pub no_fewer : faults old.store.journal.disk ≤ faults new.store.journal.disk
   pub rose : Rose (faults old.store.journal.disk) (faults new.store.journal.disk)
   pub passes : new.passes ≡ old.passes

@@ -2,6 +2,8 @@
 ghost use Rattle.std.specs.Prelude.{◌≡◌, ◌+◌, ◌<◌, ◌%◌, ◌^◌, ◌≤◌, ◌⊎◌, ℕ, Bool, true, false, Some, None, [], length, List, IfOk, IfErr, OnOk, OnErr, vec_len};
 ghost use Rattle.std.specs.List.{All, sum_by};
 ghost use Rattle.racf_outside.specs.Causes.{Rose};
+ghost use Rattle.racf_checkpoint.specs.Stored.{pick};
+ghost use Rattle.racf_desk.specs.Durable.{idle_of};
 ghost use Rattle.racf_desk.specs.Made.{number_at};
 ghost use Rattle.command_history.specs.declared.events.Event.{Event};
 ghost use Rattle.command_history.specs.Events.{all_of, Extends};
@@ -89,7 +91,7 @@ impl<
     } };
 
     ghost invariant = { λ o. (o.desk.committed ≡ false) × (o.publisher.held ≡ None) × (o.first ≡ number_at J.base)
-        × IsOffice D.tells D.faults J.base (disks_before J.faults J.first_disk J.second_disk) (record {
+        × IsOffice D.tells D.faults J.base (disks_before J.faults J.idle_faults J.live_disk J.idle_disk) (record {
           events = o.publisher.events;
           position = o.desk.position;
           store = o.desk.store;
@@ -135,7 +137,8 @@ impl<
         requires runs { desk.halted ≡ false }
         requires settled { desk.committed ≡ false }
         requires faults { J.faults ≤ D.faults desk.store.journal.disk }
-        requires disks { (J.first_disk ≡ D.tells desk.store.journal.disk) × (J.second_disk ≡ D.tells desk.store.second) }
+        requires idle_faults { J.idle_faults ≡ D.faults desk.store.idle }
+        requires disks { (J.live_disk ≡ D.tells desk.store.journal.disk) × (J.idle_disk ≡ idle_of D.tells desk.store) }
         requires books { (books.0.total ≡ 0) × (books.1.total ≡ 0) × (books.2.total ≡ rest) }
         ensures { result ≡ record { events = []; position = J.base; store = desk.store; halted = false; passes = rest; decks = rest } }
     {
@@ -336,10 +339,11 @@ impl<
         ensures faults { sum_by (λ e. e.faults) ends.items ≡ fault_count result.halted }
         ensures first { result.first ≡ number_at J.base }
         ensures disks { StandAt result.halted (D.tells result.disks.first) (D.tells result.disks.second) (reached J.base (all_of result.accepted.items result.halted)) }
-        ensures moments { StaysAlong J.base (all_of result.accepted.items result.halted) J.second_disk J.first_disk (D.tells result.disks.first) }
-        ensures second { D.tells result.disks.second ≡ J.second_disk }
-        ensures no_fewer { J.faults ≤ D.faults result.disks.first }
-        ensures rose { result.halted ≡ true → Rose J.faults (D.faults result.disks.first) }
+        ensures moments { StaysAlong J.base (all_of result.accepted.items result.halted) J.idle_disk J.live_disk (D.tells (pick J.idle_disk.side result.disks.first result.disks.second)) }
+        ensures idle { D.tells (pick J.idle_disk.side result.disks.second result.disks.first) ≡ J.idle_disk.told }
+        ensures idle_faults { D.faults (pick J.idle_disk.side result.disks.second result.disks.first) ≡ J.idle_faults }
+        ensures no_fewer { J.faults ≤ D.faults (pick J.idle_disk.side result.disks.first result.disks.second) }
+        ensures rose { result.halted ≡ true → Rose J.faults (D.faults (pick J.idle_disk.side result.disks.first result.disks.second)) }
     {
         let Office {
             desk,

@@ -2,6 +2,8 @@
 ghost use Rattle.std.specs.Prelude.{◌≡◌, ◌≢◌, ◌+◌, ◌%◌, ◌^◌, ◌≤◌, true, false, None, [], length, List, IfOk, IfErr, OnOk, MatchResult, vec_len};
 ghost use Rattle.std.specs.List.{All, sum_by};
 ghost use Rattle.racf_outside.specs.Causes.{Rose};
+ghost use Rattle.racf_checkpoint.specs.Stored.{pick};
+ghost use Rattle.racf_desk.specs.Durable.{idle_of};
 ghost use Rattle.racf_desk.specs.Made.{number_at};
 ghost use Rattle.command_history.specs.declared.events.Event.{Event};
 ghost use Rattle.command_history.specs.Events.{all_of, Extends};
@@ -89,7 +91,8 @@ impl<
         requires runs { desk.halted ≡ false }
         requires settled { desk.committed ≡ false }
         requires faults { J.faults ≤ D.faults desk.store.journal.disk }
-        requires disks { (J.first_disk ≡ D.tells desk.store.journal.disk) × (J.second_disk ≡ D.tells desk.store.second) }
+        requires idle_faults { J.idle_faults ≡ D.faults desk.store.idle }
+        requires disks { (J.live_disk ≡ D.tells desk.store.journal.disk) × (J.idle_disk ≡ idle_of D.tells desk.store) }
         requires commands { (blanks.0.name ≡ S.name) × (blanks.0.parts ≡ S.parts) × (S.parts ≡ decks + 1) }
         requires failed { (blanks.1.name ≡ F.name) × (blanks.1.parts ≡ F.parts) × (F.parts ≡ decks + 1) }
         requires out { (blanks.2.name ≡ P.name) × (blanks.2.parts ≡ P.parts) × (P.parts ≡ decks + 1) }
@@ -194,10 +197,11 @@ impl<
         ensures faults { IfOk result (λ closed. sum_by (λ e. e.faults) ends.items ≡ fault_count closed.halted) }
         ensures first { IfOk result (λ closed. closed.first ≡ number_at J.base) }
         ensures disks { IfOk result (λ closed. StandAt closed.halted (D.tells closed.disks.first) (D.tells closed.disks.second) (reached J.base (all_of closed.accepted.items closed.halted))) }
-        ensures moments { IfOk result (λ closed. StaysAlong J.base (all_of closed.accepted.items closed.halted) J.second_disk J.first_disk (D.tells closed.disks.first)) }
-        ensures second { IfOk result (λ closed. D.tells closed.disks.second ≡ J.second_disk) }
-        ensures no_fewer { IfOk result (λ closed. J.faults ≤ D.faults closed.disks.first) }
-        ensures rose { IfOk result (λ closed. closed.halted ≡ true → Rose J.faults (D.faults closed.disks.first)) }
+        ensures moments { IfOk result (λ closed. StaysAlong J.base (all_of closed.accepted.items closed.halted) J.idle_disk J.live_disk (D.tells (pick J.idle_disk.side closed.disks.first closed.disks.second))) }
+        ensures idle { IfOk result (λ closed. D.tells (pick J.idle_disk.side closed.disks.second closed.disks.first) ≡ J.idle_disk.told) }
+        ensures idle_faults { IfOk result (λ closed. D.faults (pick J.idle_disk.side closed.disks.second closed.disks.first) ≡ J.idle_faults) }
+        ensures no_fewer { IfOk result (λ closed. J.faults ≤ D.faults (pick J.idle_disk.side closed.disks.first closed.disks.second)) }
+        ensures rose { IfOk result (λ closed. closed.halted ≡ true → Rose J.faults (D.faults (pick J.idle_disk.side closed.disks.first closed.disks.second))) }
         ensures handed_back { IfErr result (λ back. (back.callers ≡ callers) × (back.ends ≡ ends)) }
     {
         let Racf { office, moved } = self;

@@ -2,6 +2,7 @@
 //! these tests have ample memory; the script `tests/refusals` runs them with allocations refused.
 ghost use Rattle.std.specs.Prelude.{◌≡◌, ◌+◌, ◌≤◌, vec_len, vec_capacity};
 ghost use Rattle.std.specs.Arc.{arc_value};
+ghost use Rattle.racf_desk.specs.Durable.{idle_of};
 ghost use Rattle.racf_desk.specs.Made.{is_fresh};
 ghost use Rattle.racf_desk.specs.Position.{first_position};
 
@@ -52,12 +53,12 @@ fn each_reply_has_its_number_in_threads(rt: HostRuntime) -> Result<(), Fail> {
     Ok(())
 }
 
-/// A new database takes three calls of its disk, and a command four: the eighth is of the second command.
+/// A new database takes ten calls of its first disk, and a command four: the sixteenth is of the second command.
 #[test]
 fn a_disk_fault_ends_the_history(rt: HostRuntime) -> Result<(), Fail> {
     let alloc = rt.alloc();
     let disks = Two {
-        first: MemoryDisk::new(alloc, Vec::new(alloc), Vec::from_slice(alloc, &[8])?)?,
+        first: MemoryDisk::new(alloc, Vec::new(alloc), Vec::from_slice(alloc, &[16])?)?,
         second: MemoryDisk::new(alloc, Vec::new(alloc), Vec::new(alloc))?,
     };
     match Desk::format(alloc, disks) {
@@ -133,7 +134,8 @@ fn begun<
     requires image { arc_value opened.1 ≡ first_position.image }
     requires base { J.base ≡ first_position }
     requires none { J.faults ≡ 0 }
-    requires disks { (J.first_disk ≡ D.tells desk.store.journal.disk) × (J.second_disk ≡ D.tells desk.store.second) }
+    requires idle_faults { J.idle_faults ≡ D.faults desk.store.idle }
+    requires disks { (J.live_disk ≡ D.tells desk.store.journal.disk) × (J.idle_disk ≡ idle_of D.tells desk.store) }
     requires desk { desk ≡ is_fresh first_position desk.store }
     requires commands { (blanks.0.name ≡ S.name) × (blanks.0.parts ≡ S.parts) × (S.parts ≡ 3) }
     requires failed { (blanks.1.name ≡ F.name) × (blanks.1.parts ≡ F.parts) × (F.parts ≡ 3) }

@@ -2,6 +2,7 @@
 //! worked in turn, and all is closed.
 ghost use Rattle.std.specs.Prelude.{◌≡◌, ◌+◌, ◌≤◌, vec_len, vec_capacity};
 ghost use Rattle.std.specs.Arc.{arc_value};
+ghost use Rattle.racf_desk.specs.Durable.{idle_of};
 ghost use Rattle.racf_desk.specs.Made.{is_fresh};
 ghost use Rattle.racf_desk.specs.Position.{first_position};
 
@@ -64,7 +65,8 @@ fn begun<J: Naming, S: Ledger, F: Ledger, P: Ledger, D: Disk + Drop, R: Wait + A
     requires image { arc_value opened.1 ≡ first_position.image }
     requires base { J.base ≡ first_position }
     requires none { J.faults ≡ 0 }
-    requires disks { (J.first_disk ≡ D.tells desk.store.journal.disk) × (J.second_disk ≡ D.tells desk.store.second) }
+    requires idle_faults { J.idle_faults ≡ D.faults desk.store.idle }
+    requires disks { (J.live_disk ≡ D.tells desk.store.journal.disk) × (J.idle_disk ≡ idle_of D.tells desk.store) }
     requires desk { desk ≡ is_fresh first_position desk.store }
     requires commands { (blanks.0.name ≡ S.name) × (blanks.0.parts ≡ S.parts) × (S.parts ≡ 2) }
     requires failed { (blanks.1.name ≡ F.name) × (blanks.1.parts ≡ F.parts) × (F.parts ≡ 2) }

@@ -2,14 +2,14 @@ use Rattle.std.proofs.Common.{inl, inr, refl, sym, ◌∙◌, map, string_bytes}
 use Rattle.racf_outside.proofs.Rises.{Rose-later}
 use Rattle.racf_run.proofs.OpeningLaws.{AreNew-moved}
 use Rattle.racf_run.proofs.RunningLaws.{input_of, output_of, unopened_ends, opens_none}
-use Rattle.racf_run.proofs.TopLaws.{stand_at}
+use Rattle.racf_run.proofs.DiskLaws.{stand_at}
 use Rattle.racf_run.proofs.running.run_between.Goals as goal
 
 -- there was no memory for the list of files
 pub returns-in_default-clause-runs : goal.returns-in_default-clause-runs
 returns-in_default-clause-runs g c =
     inl (record {
-      stands = stand_at g.D.Disk.tells c.args.desk c.into_disks.result.first c.into_disks.result.second c.into_disks.ensures.first c.into_disks.ensures.second (c.is_at_rest.ensures c.requires.running);
+      stands = stand_at g.D.Disk.tells c.args.desk c.into_disks.result.first c.into_disks.result.second (record { first = c.into_disks.ensures.first; second = c.into_disks.ensures.second }) (c.is_at_rest.ensures c.requires.running);
       is_status = refl;
       kept = refl;
     })
@@ -19,7 +19,7 @@ pub returns-clause-runs : goal.returns-clause-runs
 returns-clause-runs g c =
     let undone = c.in-Err.ensures.undone in
     inr (inl (record {
-      stands = stand_at g.D.Disk.tells c.args.desk c.into_disks-in-Err.result.first c.into_disks-in-Err.result.second c.into_disks-in-Err.ensures.first c.into_disks-in-Err.ensures.second (c.is_at_rest.ensures c.requires.running);
+      stands = stand_at g.D.Disk.tells c.args.desk c.into_disks-in-Err.result.first c.into_disks-in-Err.result.second (record { first = c.into_disks-in-Err.ensures.first; second = c.into_disks-in-Err.ensures.second }) (c.is_at_rest.ensures c.requires.running);
       why = c.in-Err.why;
       is_status = c.unopened_status.ensures;
       front = undone.front;

@@ -1,10 +1,12 @@
-use Rattle.std.proofs.Common.{◌≤◌, ℕ, List, length, map, string_bytes, vec_len, sym, subst, arith}
-use Rattle.std.specs.Prelude.{Option}
+use Rattle.std.proofs.Common.{◌≤◌, ℕ, List, length, map, string_bytes, vec_len, sym, ◌∙◌, subst, arith}
 use Rattle.std.proofs.lemmas.List.{length-map}
-use Rattle.racf_outside.specs.Disk.{History}
 use Rattle.command_history.specs.Events.{all_of}
+use Rattle.racf_desk.specs.Durable.{idle_of}
+use Rattle.racf_desk.proofs.IdleLaws.{told-pick}
 use Rattle.racroute.specs.Disks.{StaysAlong}
 use Rattle.racf_run.specs.Opening.{Returned, AreKept, AreOpen, OthersStay, ClosesAll}
+use Rattle.racf_run.specs.Racf.{opened_on}
+use Rattle.racf_run.proofs.DiskLaws.{rose_live, no_fewer}
 use Rattle.racf_run.proofs.OpeningLaws.{AreNew-length, OthersStay-chain}
 use Rattle.racf_run.proofs.RunningLaws.{form_of, named_run, run_count, run_names, run_no_usage, run_reads, run_writes}
 use Rattle.racf_run.proofs.running.work_files.Goals as goal
@@ -49,12 +51,13 @@ returns-clause-ran g c input before new others =
     let enough : c.args.asked.decks ≤ length c.args.files.items =
     let form = form_of c.args.asked.decks names c.requires.form in
     omega (arith, form.are_there, AreNew-length g.F.In.Source.left g.F.In.Source.faults g.F.Out.Sink.taken g.F.Out.Sink.faults g.F.Shelf.tells input names c.args.files.items new) in
-    named_run g.F.In.Source.left g.F.In.Source.faults g.F.Out.Sink.taken g.F.Out.Sink.faults g.F.Shelf.tells input (g.F.Shelf.output c.return_files.new.shelf) (g.D.Disk.tells c.args.desk.store.journal.disk) (g.D.Disk.tells c.run_files-status.result.disks.first) (g.D.Disk.tells c.run_files-status.result.disks.second)
+    named_run g.F.In.Source.left g.F.In.Source.faults g.F.Out.Sink.taken g.F.Out.Sink.faults g.F.Shelf.tells input (g.F.Shelf.output c.return_files.new.shelf) (opened_on g.D.Disk.tells c.args.desk.store) (g.D.Disk.tells c.run_files-status.result.disks.first) (g.D.Disk.tells c.run_files-status.result.disks.second)
     c.args.desk.position c.run_files-status.result.accepted.items c.run_files-status.result.halted c.run_files-status.result.status c.args.asked.decks names c.args.files.items c.run_files-status.result.outs.items before
     enough new (subst (λ (ns : List (List ℕ)). AreKept g.F.Out.Sink.taken (g.F.Shelf.output c.return_files.new.shelf) ns c.run_files-status.result.outs.items) (run_names g.F.In.Source.left g.F.In.Source.faults g.F.Out.Sink.taken g.F.Out.Sink.faults c.args.desk.position c.run_files-status.result.accepted.items c.run_files-status.result.halted c.run_files-status.result.status c.args.asked.decks c.args.files.items c.run_files-status.result.outs.items c.run_files-status.ensures.together g.F.Shelf.tells (g.F.Shelf.input c.args.shelf.now) (map string_bytes c.args.asked.names.now) (vec_len c.run_files-status.result.outs) c.run_files-status.result.outs.ok.0 c.requires.new) c.return_files.ensures.kept)
     c.run_files-status.ensures.together c.run_files-status.ensures.legal c.run_files-status.ensures.disks
-    (subst (λ (h : Option History). StaysAlong c.args.desk.position (all_of c.run_files-status.result.accepted.items c.run_files-status.result.halted) h (g.D.Disk.tells c.args.desk.store.journal.disk) (g.D.Disk.tells c.run_files-status.result.disks.first))
-    (sym c.run_files-status.ensures.second) c.run_files-status.ensures.moments)
+    (subst (StaysAlong c.args.desk.position (all_of c.run_files-status.result.accepted.items c.run_files-status.result.halted) (idle_of g.D.Disk.tells c.args.desk.store) (g.D.Disk.tells c.args.desk.store.journal.disk))
+    (told-pick g.D.Disk.tells c.args.desk.store.side c.run_files-status.result.disks.first c.run_files-status.result.disks.second) c.run_files-status.ensures.moments)
+    (sym (told-pick g.D.Disk.tells c.args.desk.store.side c.run_files-status.result.disks.second c.run_files-status.result.disks.first) ∙ c.run_files-status.ensures.idle)
     (OthersStay-chain names before (g.F.Shelf.output c.args.shelf.now) (g.F.Shelf.output c.return_files.new.shelf) others
     (subst (λ (ns : List (List ℕ)). OthersStay ns (g.F.Shelf.output c.args.shelf.now) (g.F.Shelf.output c.return_files.new.shelf)) (run_names g.F.In.Source.left g.F.In.Source.faults g.F.Out.Sink.taken g.F.Out.Sink.faults c.args.desk.position c.run_files-status.result.accepted.items c.run_files-status.result.halted c.run_files-status.result.status c.args.asked.decks c.args.files.items c.run_files-status.result.outs.items c.run_files-status.ensures.together g.F.Shelf.tells (g.F.Shelf.input c.args.shelf.now) (map string_bytes c.args.asked.names.now) (vec_len c.run_files-status.result.outs) c.run_files-status.result.outs.ok.0 c.requires.new) c.return_files.ensures.others))
 
@@ -77,7 +80,19 @@ returns-clause-write_fault g c =
     g.F.Shelf.tells (g.F.Shelf.input c.args.shelf.now) (map string_bytes c.args.asked.names.now) (g.F.Shelf.sink_faults c.args.shelf.now) (g.F.Shelf.sink_faults c.return_files.new.shelf) c.requires.new c.return_files.ensures.writes_rose
 
 pub returns-clause-disk_fault : goal.returns-clause-disk_fault
-returns-clause-disk_fault g c = λ e. c.run_files-status.ensures.rose (c.run_files-status.ensures.disk_fault e)
+returns-clause-disk_fault g c = λ e.
+    rose_live g.D.Disk.faults c.args.desk.store.side c.args.desk.store.journal.disk c.args.desk.store.idle c.run_files-status.result.disks.first c.run_files-status.result.disks.second
+    (c.run_files-status.ensures.rose (c.run_files-status.ensures.disk_fault e))
+
+pub returns-clause-first_faults : goal.returns-clause-first_faults
+returns-clause-first_faults g c =
+    (no_fewer g.D.Disk.faults c.args.desk.store.side c.args.desk.store.journal.disk c.args.desk.store.idle c.run_files-status.result.disks.first c.run_files-status.result.disks.second
+    c.run_files-status.ensures.no_fewer (omega (arith, c.run_files-status.ensures.idle_faults))).0
+
+pub returns-clause-second_faults : goal.returns-clause-second_faults
+returns-clause-second_faults g c =
+    (no_fewer g.D.Disk.faults c.args.desk.store.side c.args.desk.store.journal.disk c.args.desk.store.idle c.run_files-status.result.disks.first c.run_files-status.result.disks.second
+    c.run_files-status.ensures.no_fewer (omega (arith, c.run_files-status.ensures.idle_faults))).1
 
 pub returns-clause-closed : goal.returns-clause-closed
 returns-clause-closed g c = subst (λ (ns : List (List ℕ)). ClosesAll ns (g.F.Shelf.is_open c.args.shelf.now) (g.F.Shelf.is_open c.return_files.new.shelf)) (run_names g.F.In.Source.left g.F.In.Source.faults g.F.Out.Sink.taken g.F.Out.Sink.faults c.args.desk.position c.run_files-status.result.accepted.items c.run_files-status.result.halted c.run_files-status.result.status c.args.asked.decks c.args.files.items c.run_files-status.result.outs.items c.run_files-status.ensures.together g.F.Shelf.tells (g.F.Shelf.input c.args.shelf.now) (map string_bytes c.args.asked.names.now) (vec_len c.run_files-status.result.outs) c.run_files-status.result.outs.ok.0 c.requires.new) c.return_files.ensures.closed

@@ -1,8 +1,7 @@
-use Rattle.std.proofs.Common.{inr, sym, subst}
-use Rattle.racf_outside.specs.Crashes.{StaysIn}
-use Rattle.racf_checkpoint.specs.Stored.{Beside}
-use Rattle.racf_stream.specs.Durable.{StandsForFront}
-use Rattle.racf_run.proofs.TopLaws.{RunsOnShelf-weaker, ends_on, opening_along, script_along}
+use Rattle.std.proofs.Common.{inl, inr}
+use Rattle.std.proofs.Math.Nat.{le_trans}
+use Rattle.racf_run.proofs.DiskLaws.{ends_on, either_later, rose_along, no_fewer_along}
+use Rattle.racf_run.proofs.TopLaws.{RunsOnShelf-weaker, script_along}
 use Rattle.racf_run.specs.Racf.{EndsAt, EndsOn}
 use Rattle.racf_run.proofs.top.script_on.Goals as goal
 
@@ -15,19 +14,34 @@ returns-in-Ok-clause-runs g c =
       ran =
           RunsOnShelf-weaker g.F.Shelf.source_gives g.F.Shelf.sink_gives g.F.Shelf.take_back_gives g.F.Shelf.give_back_gives g.F.Shelf.tells g.F.Shelf.output
           (EndsAt g.D.Disk.tells desk) (EndsOn (g.D.Disk.tells c.into_disks.result.first) (g.D.Disk.tells c.into_disks.result.second)) c.in-Ok.desk.position
-          (ends_on g.D.Disk.tells desk c.into_disks.result.first c.into_disks.result.second c.into_disks.ensures.first c.into_disks.ensures.second)
+          (ends_on g.D.Disk.tells desk c.into_disks.result.first c.into_disks.result.second (record { first = c.into_disks.ensures.first; second = c.into_disks.ensures.second }))
           c.script_between-status.result.0 _ _ c.args.shelf.now c.script_between-status.new.shelf c.script_between-status.ensures.runs;
     })
 
 pub returns-in-Ok-clause-moments : goal.returns-in-Ok-clause-moments
 returns-in-Ok-clause-moments g c =
     let tells = g.D.Disk.tells in
-    let base = c.in-Ok.desk.position in
-    let input = g.F.Shelf.input c.args.shelf.now c.args.input.now in
-    script_along (tells c.args.disks.first) (tells c.args.disks.second) input (tells c.in-Ok.desk.store.journal.disk) (tells c.into_disks.result.first) base c.in-Ok.ensures.moments c.in-Ok.ensures.stands
-    (subst (λ (d : g.row.D.Denot). StaysIn (Beside (tells c.args.disks.second) (StandsForFront base input)) (tells c.in-Ok.desk.store.journal.disk) (tells d)) (sym c.into_disks.ensures.first)
-    (subst (λ (d : g.row.D.Denot). StaysIn (Beside (tells d) (StandsForFront base input)) (tells c.in-Ok.desk.store.journal.disk) (tells c.script_between-status.result.1.store.journal.disk)) c.in-Ok.ensures.second
-    c.script_between-status.ensures.moments))
+    script_along tells (tells c.args.disks.first) (tells c.args.disks.second) (g.F.Shelf.input c.args.shelf.now c.args.input.now) c.in-Ok.desk.store c.script_between-status.result.1.store c.into_disks.result.first c.into_disks.result.second c.in-Ok.desk.position
+    (record { first = c.into_disks.ensures.first; second = c.into_disks.ensures.second })
+    c.in-Ok.ensures.stands c.in-Ok.ensures.first_moments c.in-Ok.ensures.second_moments c.script_between-status.ensures.idle c.script_between-status.ensures.moments
+
+pub returns-in-Ok-clause-disk_fault : goal.returns-in-Ok-clause-disk_fault
+returns-in-Ok-clause-disk_fault g c = λ e.
+    either_later _ _ _ _ _ _ c.in-Ok.ensures.first_no_fewer c.in-Ok.ensures.second_no_fewer
+    (rose_along g.D.Disk.faults c.in-Ok.desk.store c.script_between-status.result.1.store c.into_disks.result.first c.into_disks.result.second
+    (record { first = c.into_disks.ensures.first; second = c.into_disks.ensures.second }) c.script_between-status.ensures.idle (c.script_between-status.ensures.disk_fault e))
+
+pub returns-in-Ok-clause-first_faults : goal.returns-in-Ok-clause-first_faults
+returns-in-Ok-clause-first_faults g c =
+    le_trans c.in-Ok.ensures.first_no_fewer
+    (no_fewer_along g.D.Disk.faults c.in-Ok.desk.store c.script_between-status.result.1.store c.into_disks.result.first c.into_disks.result.second
+    (record { first = c.into_disks.ensures.first; second = c.into_disks.ensures.second }) c.script_between-status.ensures.idle c.script_between-status.ensures.disk_faults).0
+
+pub returns-in-Ok-clause-second_faults : goal.returns-in-Ok-clause-second_faults
+returns-in-Ok-clause-second_faults g c =
+    le_trans c.in-Ok.ensures.second_no_fewer
+    (no_fewer_along g.D.Disk.faults c.in-Ok.desk.store c.script_between-status.result.1.store c.into_disks.result.first c.into_disks.result.second
+    (record { first = c.into_disks.ensures.first; second = c.into_disks.ensures.second }) c.script_between-status.ensures.idle c.script_between-status.ensures.disk_faults).1
 
 pub returns-in-Err-clause-moments : goal.returns-in-Err-clause-moments
-returns-in-Err-clause-moments g c = opening_along (g.D.Disk.tells c.args.disks.first) (g.D.Disk.tells c.args.disks.second) _ (g.D.Disk.tells c.in-Err.disks.first) c.in-Err.ensures.moments
+returns-in-Err-clause-moments g c = inl (c.in-Err.ensures.first_moments, c.in-Err.ensures.second_moments)

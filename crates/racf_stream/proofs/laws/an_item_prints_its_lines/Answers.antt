@@ -11,7 +11,7 @@ use Rattle.racf_stream.proofs.laws.an_item_prints_its_lines.Goals as goal
 pub returns-clause-whole : goal.returns-clause-whole
 returns-clause-whole c = λ fault base bytes. output_of_turns fault base (statements.items bytes) (new_stream base)
 
--- The position that records lead to holds no line feed, and then none is printed within a line.
+-- The position that two files stand for holds no line feed, and then none is printed within a line.
 pub returns-clause-line : goal.returns-clause-line
 returns-clause-line c =
     λ fault base bytes reached.

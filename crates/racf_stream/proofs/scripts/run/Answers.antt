@@ -1,10 +1,11 @@
 use Rattle.std.proofs.Common.{◌≡◌, arith, refl}
+use Rattle.racf_desk.proofs.IdleLaws.{same_idle}
 use Rattle.racf_stream.specs.Durable.{fault_in}
 use Rattle.racf_stream.specs.Script.{stream}
 use Rattle.racf_stream.specs.Stream.{State}
 use Rattle.racf_stream.proofs.Walk.{Walk-settles}
 use Rattle.racf_stream.proofs.StreamWalk.{begun, new_runs, passed_none, goes_on, cut, stopped, failed_status, unanswered_at}
-use Rattle.racf_stream.proofs.Moments.{StaysAlong-none, moved, same_second, no_fewer, halts}
+use Rattle.racf_stream.proofs.Moments.{StaysAlong-none, moved, idle_still, no_fewer, halts}
 use Rattle.racf_stream.proofs.scripts.run.Goals as goal
 
 pub item-init : goal.item-init
@@ -14,7 +15,7 @@ item-init g c =
       walk = begun c.args.stream.now.state.position c.args.lines.now c.args.stream.now.state _ c.new-replies.result c.requires.begins c.requires.new c.new-replies.ensures;
       most = passed_none c.args.lines.now c.requires.begins;
       along = StaysAlong-none g.D.Disk.tells c.args.stream.now.state.position c.args.lines.now.left c.args.stream.now.store (c.is_at_rest.ensures runs);
-      second = refl;
+      idle = same_idle c.args.stream.now.store c.args.stream.now.store refl;
       halted = λ halted. cc;
       source_faults = omega arith;
       sink_faults = omega arith;
@@ -50,7 +51,12 @@ returns-in-Err-process_statement-clause-moments g c =
     let takes = rw c.in-Ok-Ok.field-0-is at c.in-Ok-Ok.ensures.item in
     moved g.D.Disk.tells g.D.Disk.faults base c.args.lines.now.left c.args.stream.now.store c.item.stream c.process_statement.new.stream c.item.lines c.next_statement.new.lines c.in-Ok-Ok.item takes.0 _ _ c.next_statement.new.replies
     (Walk-settles (stream (fault_in c.item.stream) base) _ c.item.lines c.item.stream.state _ _ _ c.item.replies c.next_statement.new.replies c.item.invariant.walk c.in-Ok-Ok.ensures.settled)
-    takes.1 c.item.invariant.second c.process_statement.ensures.moves c.item.invariant.along
+    takes.1 c.item.invariant.idle c.process_statement.ensures.moves c.item.invariant.along
+
+pub returns-in-Err-process_statement-clause-idle : goal.returns-in-Err-process_statement-clause-idle
+returns-in-Err-process_statement-clause-idle g c =
+    idle_still g.D.Disk.tells g.D.Disk.faults c.args.stream.now.state.position c.args.lines.now.left c.args.stream.now.store c.item.stream c.process_statement.new.stream c.in-Ok-Ok.item
+    c.process_statement.ensures.moves c.item.invariant.idle
 
 pub item-preserved : goal.item-preserved
 item-preserved g c =
@@ -67,8 +73,8 @@ item-preserved g c =
     record {
       walk = Walk-settles (stream (fault_in new) base) _ c.next_statement.new.lines new.state _ _ _ c.process_statement.new.replies c.acknowledge.new.replies worked c.in-Ok-acknowledge.ensures.settled;
       most = c.in-Ok-Ok.ensures.limit;
-      along = moved g.D.Disk.tells g.D.Disk.faults base c.args.lines.now.left first old new c.item.lines c.next_statement.new.lines c.in-Ok-Ok.item takes.0 _ _ c.next_statement.new.replies before takes.1 c.item.invariant.second moves c.item.invariant.along;
-      second = same_second g.D.Disk.tells g.D.Disk.faults base c.args.lines.now.left first old new c.in-Ok-Ok.item moves c.item.invariant.second;
+      along = moved g.D.Disk.tells g.D.Disk.faults base c.args.lines.now.left first old new c.item.lines c.next_statement.new.lines c.in-Ok-Ok.item takes.0 _ _ c.next_statement.new.replies before takes.1 c.item.invariant.idle moves c.item.invariant.along;
+      idle = idle_still g.D.Disk.tells g.D.Disk.faults base c.args.lines.now.left first old new c.in-Ok-Ok.item moves c.item.invariant.idle;
       halted = halts g.D.Disk.tells g.D.Disk.faults base c.args.lines.now.left first old new c.in-Ok-Ok.item moves c.item.invariant.disk_faults c.item.invariant.halted;
       source_faults = omega (arith, c.item.invariant.source_faults, c.next_statement.ensures.faults);
       sink_faults = omega (arith, c.item.invariant.sink_faults, c.next_statement.ensures.cause.no_fewer, c.acknowledge.ensures.cause.no_fewer);
@@ -94,4 +100,9 @@ returns-in-Err-acknowledge-clause-moments g c =
     let takes = rw c.in-Ok-Ok.field-0-is at c.in-Ok-Ok.ensures.item in
     moved g.D.Disk.tells g.D.Disk.faults base c.args.lines.now.left c.args.stream.now.store c.item.stream c.process_statement.new.stream c.item.lines c.next_statement.new.lines c.in-Ok-Ok.item takes.0 _ _ c.next_statement.new.replies
     (Walk-settles (stream (fault_in c.item.stream) base) _ c.item.lines c.item.stream.state _ _ _ c.item.replies c.next_statement.new.replies c.item.invariant.walk c.in-Ok-Ok.ensures.settled)
-    takes.1 c.item.invariant.second c.process_statement.ensures.moves c.item.invariant.along
+    takes.1 c.item.invariant.idle c.process_statement.ensures.moves c.item.invariant.along
+
+pub returns-in-Err-acknowledge-clause-idle : goal.returns-in-Err-acknowledge-clause-idle
+returns-in-Err-acknowledge-clause-idle g c =
+    idle_still g.D.Disk.tells g.D.Disk.faults c.args.stream.now.state.position c.args.lines.now.left c.args.stream.now.store c.item.stream c.process_statement.new.stream c.in-Ok-Ok.item
+    c.process_statement.ensures.moves c.item.invariant.idle

@@ -1,6 +1,7 @@
-use Rattle.std.proofs.Common.{◌≡◌, ℕ, List, sym, ap, subst}
+use Rattle.std.proofs.Common.{◌≡◌, ℕ, List, refl, sym, ap, subst}
 use Rattle.std.specs.Prelude.{Option}
 use Rattle.racf_outside.specs.Reader.{Reader}
+use Rattle.racf_desk.proofs.IdleLaws.{same_idle}
 use Rattle.racf_desk.specs.Made.{DeskOn}
 use Rattle.racf_stream.specs.Durable.{StreamOn, StaysAlong}
 use Rattle.racf_stream.specs.Runs.{Ran}
@@ -8,7 +9,7 @@ use Rattle.racf_stream.specs.Script.{stream, fault_of, StandsAt}
 use Rattle.racf_stream.specs.declared.status.Status.TheVariants.{NoMemory}
 use Rattle.racf_stream.proofs.Walk.{none_read}
 use Rattle.racf_stream.proofs.Moments.{StaysAlong-none}
-use Rattle.racf_stream.proofs.ScriptLaws.{begins_new, position_new, stands_new, ran_script, ran_whole, ran_too_long, along_as}
+use Rattle.racf_stream.proofs.ScriptLaws.{begins_new, position_new, stands_new, ran_script, ran_whole, ran_too_long, along_as, idle_as}
 use Rattle.racf_stream.proofs.scripts.script.Goals as goal
 
 -- there was no memory for the reader
@@ -17,6 +18,9 @@ returns-in-Err-clause-ran g c = none_read (stream (fault_of c.args.desk) c.args.
 
 pub returns-in-Err-clause-moments : goal.returns-in-Err-clause-moments
 returns-in-Err-clause-moments g c = StaysAlong-none g.D.Disk.tells c.args.desk.position (g.S.Source.left c.args.source) c.args.desk.store (c.is_at_rest.ensures c.requires.running)
+
+pub returns-in-Err-clause-idle : goal.returns-in-Err-clause-idle
+returns-in-Err-clause-idle g c = same_idle c.args.desk.store c.args.desk.store refl
 
 -- nor for the state of the stream
 pub returns-in-Err-new-clause-ran : goal.returns-in-Err-new-clause-ran
@@ -28,6 +32,9 @@ pub returns-in-Err-new-clause-moments : goal.returns-in-Err-new-clause-moments
 returns-in-Err-new-clause-moments g c =
     subst (λ (desk : DeskOn g.row.D.Denot). StaysAlong g.D.Disk.tells c.args.desk.position (g.S.Source.left c.args.source) c.args.desk.store desk.store) (sym c.in-Err-new.ensures.back)
     (StaysAlong-none g.D.Disk.tells c.args.desk.position (g.S.Source.left c.args.source) c.args.desk.store (c.is_at_rest.ensures c.requires.running))
+
+pub returns-in-Err-new-clause-idle : goal.returns-in-Err-new-clause-idle
+returns-in-Err-new-clause-idle g c = same_idle c.args.desk.store _ (ap (λ (desk : DeskOn g.row.D.Denot). desk.store) c.in-Err-new.ensures.back)
 
 pub run-status-requires-clause-new : goal.run-status-requires-clause-new
 run-status-requires-clause-new g c = begins_new c.args.desk.position c.in-Ok-new.stream.state (ap (λ (s : StreamOn g.row.D.Denot). s.state) c.in-Ok-new.ensures.state)
@@ -55,3 +62,8 @@ returns-in-Ok-new-clause-moments g c =
     (ap (λ (r : Reader). r.left) c.in-Ok.ensures.start)
     (ap (λ (s : StreamOn g.row.D.Denot). s.store) c.in-Ok-new.ensures.state)
     (sym c.into_desk.ensures.stands.store) c.run-status.ensures.moments
+
+pub returns-in-Ok-new-clause-idle : goal.returns-in-Ok-new-clause-idle
+returns-in-Ok-new-clause-idle g c =
+    idle_as c.in-Ok-new.stream.store c.args.desk.store c.run-status.new.stream.store c.into_desk.result.store
+    (ap (λ (s : StreamOn g.row.D.Denot). s.store) c.in-Ok-new.ensures.state) (sym c.into_desk.ensures.stands.store) c.run-status.ensures.idle

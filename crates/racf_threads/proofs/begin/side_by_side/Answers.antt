@@ -2,7 +2,7 @@ use denote.Param.{param}
 use denote.Param.Send.{param_sync, arg_sync, recorded_sync, struct_sync, shr_sync}
 use Rattle.std.proofs.Crossing.{sync}
 use Rattle.racroute.proofs.Crossing.{Racf-sync}
-use Rattle.std.proofs.Common.{◌≡◌, ℕ, ◌<◌, length, slice_index_or}
+use Rattle.std.proofs.Common.{slice_index_or}
 use Rattle.racf_threads.specs.Working.{Working, HasWorked}
 use Rattle.racf_threads.proofs.Captures.{each_of_four, at_each, carried}
 use Rattle.racf_threads.proofs.begin.side_by_side.Goals as goal

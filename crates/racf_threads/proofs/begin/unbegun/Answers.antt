@@ -1,4 +1,6 @@
-use Rattle.std.proofs.Common.{◌≡◌, ◌<◌, length, [], false, refl, arith, rules}
+use Rattle.std.proofs.Common.{◌≡◌, ◌<◌, length, [], false, refl, ap, arith, rules}
+use Rattle.racf_desk.specs.Durable.{idle_of}
+use Rattle.racroute.proofs.Closing.{live_is, idle_is, faults_are}
 use Rattle.racf_threads.proofs.Parts.{idle_over}
 use Rattle.racf_threads.proofs.Rests.{rests, rested}
 use Rattle.racf_threads.proofs.begin.unbegun.Goals as goal
@@ -17,4 +19,16 @@ returns-clause-disks g c =
 pub returns-clause-moments : goal.returns-clause-moments
 returns-clause-moments g c =
     let none : c.new-accepted.result.items ≡ [] = search rules in
-    rw none (rested g.D.Disk.tells c.args.desk.store c.into_disks-disks.result.first c.args.desk.position c.into_disks-disks.ensures.first (c.is_at_rest.ensures c.requires.running))
+    rw none (rested g.D.Disk.tells c.args.desk.store c.into_disks-disks.result.first c.into_disks-disks.result.second c.args.desk.position c.into_disks-disks.ensures.first c.into_disks-disks.ensures.second (c.is_at_rest.ensures c.requires.running))
+
+pub returns-clause-idle : goal.returns-clause-idle
+returns-clause-idle g c =
+    idle_is g.D.Disk.tells c.args.desk.store (idle_of g.D.Disk.tells c.args.desk.store) c.into_disks-disks.result.first c.into_disks-disks.result.second refl c.into_disks-disks.ensures.first c.into_disks-disks.ensures.second
+
+pub returns-clause-faults : goal.returns-clause-faults
+returns-clause-faults g c =
+    ap g.D.Disk.faults (live_is g.D.Disk.tells c.args.desk.store (idle_of g.D.Disk.tells c.args.desk.store) c.into_disks-disks.result.first c.into_disks-disks.result.second refl c.into_disks-disks.ensures.first c.into_disks-disks.ensures.second)
+
+pub returns-clause-idle_faults : goal.returns-clause-idle_faults
+returns-clause-idle_faults g c =
+    faults_are g.D.Disk.tells g.D.Disk.faults c.args.desk.store (idle_of g.D.Disk.tells c.args.desk.store) c.into_disks-disks.result.first c.into_disks-disks.result.second _ refl c.into_disks-disks.ensures.first c.into_disks-disks.ensures.second refl

@@ -1,5 +1,5 @@
-use Rattle.std.proofs.Common.{◌≡◌, ℕ, ◌+◌, ◌≤◌, length, ap, sym, ◌∙◌, arith, ◌∷◌}
-use Rattle.std.specs.Vec.Iter.{into_iter_items, into_iter_len}
+use Rattle.std.proofs.Common.{◌≡◌, length, ap, arith, ◌∷◌}
+use Rattle.std.specs.Vec.Iter.{into_iter_items}
 use Rattle.racf_threads.specs.Working.{Working}
 use Rattle.racf_threads.proofs.Gathers.{one_more, no_more, maybe_more, none_more}
 use Rattle.racf_threads.proofs.Statuses.{one_greater, none_greater}

@@ -1,9 +1,10 @@
+use Rattle.racf_desk.specs.Durable.{idle_of}
 use Rattle.racf_desk.specs.Position.{first_position}
 use Rattle.racroute_tests.proofs.tests.over.Given as goal
 
 -- the history that was just opened, and a ledger for each blank
 abbrev pub ghosts-begun-J-Naming : goal.ghosts-begun-J-Naming
-ghosts-begun-J-Naming g a = record { book = a.opened.0; base = first_position; faults = 0; first_disk = g.D.Disk.tells a.desk.store.journal.disk; second_disk = g.D.Disk.tells a.desk.store.second }
+ghosts-begun-J-Naming g a = record { book = a.opened.0; base = first_position; faults = 0; idle_faults = g.D.Disk.faults a.desk.store.idle; live_disk = g.D.Disk.tells a.desk.store.journal.disk; idle_disk = idle_of g.D.Disk.tells a.desk.store }
 
 abbrev pub ghosts-begun-S-Ledger : goal.ghosts-begun-S-Ledger
 ghosts-begun-S-Ledger g a = record { name = a.blanks.0.name; parts = a.blanks.0.parts }

@@ -1,9 +1,20 @@
--- What is read is the journal of the first disk.
-use Rattle.racf_checkpoint.proofs.Says.{stays_possible}
+-- The disks of what was found are those that were read, and its places lie in the file that was read.
+use Rattle.std.proofs.Common.{◌+◌, ◌<◌, ◌^◌, length, sym, subst}
+use Rattle.racf_journal.specs.Reading.{spelled}
+use Rattle.checkpoint_disks.specs.Files.{CheckpointRead}
+use Rattle.checkpoint_disks.specs.Counting.{as_read}
+use Rattle.racf_checkpoint.proofs.Finding.{seen_room}
+use Rattle.racf_checkpoint.proofs.Turning.{found_first, found_second}
 use Rattle.racf_checkpoint.proofs.store.Store.find.Goals as goal
 
-pub returns-in-Ok-clause-moments : goal.returns-in-Ok-clause-moments
-returns-in-Ok-clause-moments g c = stays_possible _ _ _ c.in-Ok.ensures.moments
+pub returns-in-Ok-clause-first_moments : goal.returns-in-Ok-clause-first_moments
+returns-in-Ok-clause-first_moments g c =
+    found_first g.D.Disk.tells (g.D.Disk.tells c.args.disks.first) c.in-Ok.seen.side c.of.result.side c.read_disks.new.first c.read_disks.new.second c.of.result.journal.disk c.of.result.idle c.of.ensures.side c.of.ensures.live c.of.ensures.idle c.read_disks.ensures.moments.0
 
-pub returns-in-Err-clause-moments : goal.returns-in-Err-clause-moments
-returns-in-Err-clause-moments g c = stays_possible _ _ _ c.in-Err.ensures.moments
+pub returns-in-Ok-clause-second_moments : goal.returns-in-Ok-clause-second_moments
+returns-in-Ok-clause-second_moments g c =
+    found_second g.D.Disk.tells (g.D.Disk.tells c.args.disks.second) c.in-Ok.seen.side c.of.result.side c.read_disks.new.first c.read_disks.new.second c.of.result.journal.disk c.of.result.idle c.of.ensures.side c.of.ensures.live c.of.ensures.idle c.read_disks.ensures.moments.1
+
+pub returns-in-Ok-clause-room : goal.returns-in-Ok-clause-room
+returns-in-Ok-clause-room g c =
+    subst (λ (read : CheckpointRead). read.start + length (spelled read.records) < 2 ^ 64) (sym c.of.ensures.found) (seen_room _ _ c.in-Ok.seen.side (as_read c.in-Ok.seen.checkpoint) c.in-Ok.seen.end c.in-Ok.ensures.seen)

@@ -3,7 +3,8 @@ use Rattle.command_history.specs.Events.{all_of}
 use Rattle.command_history.specs.Reached.{reached}
 use Rattle.raclist_snapshots.specs.Publishing.{Publishing, ended_with}
 use Rattle.racroute.specs.Core.{Core}
-use Rattle.racroute.proofs.Closing.{whole, led, all_begin, stand, stayed}
+use Rattle.racf_checkpoint.specs.Stored.{pick}
+use Rattle.racroute.proofs.Closing.{whole, led, all_begin, stand, stayed, live_is, idle_is, faults_are}
 use Rattle.racroute.proofs.office.Office.close.Goals as goal
 
 pub returns-clause-callers : goal.returns-clause-callers
@@ -36,5 +37,17 @@ returns-clause-moments g c =
     let o = c.self.inside in
     let halted = c.halted-halted.result in
     let all = whole halted o.publisher.events o.past.items c.is_legal.ensures.last (rw c.halted-halted.ensures c.self.invariant.3.mark) c.self.invariant.3.entries_are in
-    stayed g.D.Disk.tells g.J.Naming.base g.J.Naming.second_disk g.J.Naming.first_disk halted o.publisher.events o.past.items
-    o.desk.store.journal.disk c.into_disks.result.first all c.into_disks.ensures.first c.self.invariant.3.moments
+    stayed g.D.Disk.tells g.J.Naming.base g.J.Naming.idle_disk g.J.Naming.live_disk halted o.publisher.events o.past.items
+    o.desk.store.journal.disk (pick g.J.Naming.idle_disk.side c.into_disks.result.first c.into_disks.result.second) all
+    (live_is g.D.Disk.tells o.desk.store g.J.Naming.idle_disk c.into_disks.result.first c.into_disks.result.second c.self.invariant.3.idle c.into_disks.ensures.first c.into_disks.ensures.second)
+    c.self.invariant.3.moments
+
+pub returns-clause-idle : goal.returns-clause-idle
+returns-clause-idle g c =
+    let o = c.self.inside in
+    idle_is g.D.Disk.tells o.desk.store g.J.Naming.idle_disk c.into_disks.result.first c.into_disks.result.second c.self.invariant.3.idle c.into_disks.ensures.first c.into_disks.ensures.second
+
+pub returns-clause-idle_faults : goal.returns-clause-idle_faults
+returns-clause-idle_faults g c =
+    let o = c.self.inside in
+    faults_are g.D.Disk.tells g.D.Disk.faults o.desk.store g.J.Naming.idle_disk c.into_disks.result.first c.into_disks.result.second _ c.self.invariant.3.idle c.into_disks.ensures.first c.into_disks.ensures.second c.self.invariant.3.idle_faults

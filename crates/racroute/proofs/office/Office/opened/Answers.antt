@@ -9,8 +9,8 @@ invariant_of-result g c = (
   c.requires.settled,
   c.requires.free,
   c.number.ensures ∙ ap number_at c.requires.position,
-  opened_kept g.D.Disk.tells g.D.Disk.faults g.J.Naming.base (disks_before g.J.Naming.faults g.J.Naming.first_disk g.J.Naming.second_disk) _ _ _ _ _
-      c.requires.events c.requires.position c.requires.runs c.requires.faults c.requires.disks
+  opened_kept g.D.Disk.tells g.D.Disk.faults g.J.Naming.base (disks_before g.J.Naming.faults g.J.Naming.idle_faults g.J.Naming.live_disk g.J.Naming.idle_disk) _ _ _ _ _
+      c.requires.events c.requires.position c.requires.runs c.requires.faults c.requires.idle_faults c.requires.disks
       (c.is_at_rest.ensures c.requires.runs) c.new.ensures.items c.requires.books.0 c.requires.books.1
       (c.requires.books.2 ∙ sym c.decks.ensures.decks),
 )

@@ -15,6 +15,6 @@ invariant_of-self g c =
       c.self.invariant.0,
       told.0,
       c.self.invariant.2,
-      either_kept g.D.Disk.tells g.D.Disk.faults g.J.Naming.base (disks_before g.J.Naming.faults g.J.Naming.first_disk g.J.Naming.second_disk) core c.tell_final.new.self.events o.past.items o.commands.total o.faults.total o.out.total
+      either_kept g.D.Disk.tells g.D.Disk.faults g.J.Naming.base (disks_before g.J.Naming.faults g.J.Naming.idle_faults g.J.Naming.live_disk g.J.Naming.idle_disk) core c.tell_final.new.self.events o.past.items o.commands.total o.faults.total o.out.total
           c.self.invariant.3 over told.1,
     )

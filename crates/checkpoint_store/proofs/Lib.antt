@@ -1,8 +1,0 @@
-mod Appending
-mod Compacting
-mod Finding
-mod New
-mod Saying
-mod Seeing
-mod Turning
-mod WorkedRows

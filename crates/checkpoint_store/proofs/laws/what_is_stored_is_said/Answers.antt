@@ -1,6 +1,0 @@
-use Rattle.checkpoint_store.proofs.Saying.{stored_says}
-use Rattle.checkpoint_store.proofs.laws.what_is_stored_is_said.Goals as goal
-
-pub returns : goal.returns
-returns c side epoch start gate kept live idle stored passed =
-    stored_says (record { says = c.records_are_read_behind_an_image.ensures.says; counts = c.records_are_read_behind_an_image.ensures.counts }) side epoch start gate kept live idle stored passed

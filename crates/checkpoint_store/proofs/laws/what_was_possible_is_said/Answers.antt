@@ -1,5 +1,0 @@
-use Rattle.checkpoint_store.proofs.Finding.{said_together}
-use Rattle.checkpoint_store.proofs.laws.what_was_possible_is_said.Goals as goal
-
-pub returns : goal.returns
-returns c one two first second w v = said_together one two first second w v

@@ -1,0 +1,112 @@
+-- What two files say, where one counts and the other is passed over.
+use Rattle.std.proofs.Common.{ℕ, ◌<◌, ◌≤◌, ◌^◌, ◌≡◌, ◌∙◌, cond, ◌&&◌, List, length, Option, None, Some, Result, Ok, Err, refl, sym, ap, subst}
+use Rattle.std.proofs.lemmas.Bool.{cond-true, and_from}
+use Rattle.racf_outside.specs.Crashes.{Leaves}
+use Rattle.racf_outside.specs.Disk.{History, Now}
+use Rattle.racf_outside.specs.Moments.{Moment}
+use Rattle.racf_outside.proofs.Images.{durable-leaves}
+use Rattle.racf_outside.proofs.Runs.{Leaves-weaker}
+use Rattle.racf_profiles.specs.declared.rows.Rows.{Rows}
+use Rattle.database_image.specs.Image.{image_of, IsStored as AreStored}
+use Rattle.racf_journal.specs.Kept.{ReadsAs}
+use Rattle.racf_journal.proofs.Rests.{rest_leaves}
+use Rattle.checkpoint_disks.specs.declared.counting.Side.{Side}
+use Rattle.checkpoint_disks.specs.declared.counting.Side.TheVariants.{First, Second}
+use Rattle.checkpoint_disks.specs.declared.fault.CheckpointFault.{CheckpointFault}
+use Rattle.checkpoint_disks.specs.declared.fault.CheckpointFault.TheVariants.{NotFormatted}
+use Rattle.checkpoint_disks.specs.Files.{is_formatted, head_is_open, epoch_of, CheckpointRead}
+use Rattle.checkpoint_disks.specs.Files.{contents as file_contents}
+use Rattle.checkpoint_disks.specs.Counting.{which, counted, said}
+use Rattle.checkpoint_disks.specs.Compacting.{with_image, with_records, IsCheckpoint, Counts, first_of, second_of}
+use Rattle.racf_checkpoint.specs.Contents.{as_stored, Says}
+use Rattle.racf_checkpoint.specs.Stored.{IsStored, IsPassedOver, Beside, SaysAs}
+
+-- the law of the crate below: a journal's records behind an image are said, and their file counts
+pub record RecordsAreRead : Type 0 where
+  pub says : (epoch number : ℕ) (rows : Rows) (records : List (List ℕ)) (file : List ℕ) → AreStored rows → 0 < epoch → epoch < 2 ^ 64 → number ≤ 2 ^ 62 → length (image_of rows) < 2 ^ 64
+      → ReadsAs (with_image epoch number rows) records file → file_contents file ≡ Ok (with_records epoch number rows records)
+  pub counts : (epoch number : ℕ) (rows : Rows) (records : List (List ℕ)) (file : List ℕ) → epoch < 2 ^ 64 → ReadsAs (with_image epoch number rows) records file → Counts epoch file
+
+-- a file that counts says what the two say
+pub said_counts : (side : Side) (epoch : ℕ) (live : List ℕ) (idle : Moment) → IsPassedOver side epoch idle → Counts epoch live → said (first_of side live idle.bytes) (second_of side live idle.bytes) ≡ file_contents live
+said_counts First epoch live idle p c =
+    cond-true (is_formatted live && is_formatted idle.bytes) (counted live idle.bytes (which live idle.bytes)) (Err NotFormatted) (and_from (is_formatted live) (is_formatted idle.bytes) c.formatted p.at_rest.formatted)
+    ∙ ap (counted live idle.bytes) (p.counts live c.opened c.epoch_is)
+said_counts Second epoch live idle p c =
+    cond-true (is_formatted idle.bytes && is_formatted live) (counted idle.bytes live (which idle.bytes live)) (Err NotFormatted) (and_from (is_formatted idle.bytes) (is_formatted live) p.at_rest.formatted c.formatted)
+    ∙ ap (counted idle.bytes live) (p.counts live c.opened c.epoch_is)
+
+module _ (law : RecordsAreRead) where
+  -- what these records are read as
+  pub contents_are : (kept : CheckpointRead) (records : List (List ℕ)) (file : List ℕ) → IsCheckpoint kept → ReadsAs (with_image kept.epoch kept.number kept.rows) records file
+      → file_contents file ≡ Ok (with_records kept.epoch kept.number kept.rows records)
+  contents_are kept records file c r = law.says kept.epoch kept.number kept.rows records file c.stored c.some c.epoch c.number c.size r
+
+  pub reads_counts : (kept : CheckpointRead) (records : List (List ℕ)) (file : List ℕ) → IsCheckpoint kept → ReadsAs (with_image kept.epoch kept.number kept.rows) records file → Counts kept.epoch file
+  reads_counts kept records file c r = law.counts kept.epoch kept.number kept.rows records file c.epoch r
+
+  -- beside a file that is passed over
+  pub reads_says : (side : Side) (epoch : ℕ) (kept : CheckpointRead) (records : List (List ℕ)) (file : List ℕ) (idle : Moment) → IsCheckpoint kept → kept.epoch ≡ epoch → IsPassedOver side epoch idle
+      → ReadsAs (with_image kept.epoch kept.number kept.rows) records file → Says (with_records kept.epoch kept.number kept.rows records) (first_of side file idle.bytes) (second_of side file idle.bytes)
+  reads_says side epoch kept records file idle c at p r =
+      ap as_stored (said_counts side epoch file idle p (subst (λ e. Counts e file) at (reads_counts kept records file c r)) ∙ contents_are kept records file c r)
+
+  pub kept_says : (side : Side) (epoch : ℕ) (kept : CheckpointRead) (file : List ℕ) (idle : Moment) → IsCheckpoint kept → kept.epoch ≡ epoch → IsPassedOver side epoch idle
+      → ReadsAs (with_image kept.epoch kept.number kept.rows) kept.records file → Says kept (first_of side file idle.bytes) (second_of side file idle.bytes)
+  kept_says side epoch kept file idle c at p r = reads_says side epoch kept kept.records file idle c at p r ∙ ap (λ (read : CheckpointRead). Ok read) (sym c.is)
+
+-- beside whatever a crash leaves of a disk that is passed over
+pub beside_passed : (side : Side) (epoch : ℕ) (told : Option History) (P : (first second : List ℕ) → Type 0) (file : List ℕ) → Now told (IsPassedOver side epoch)
+    → ((idle : Moment) → IsPassedOver side epoch idle → P (first_of side file idle.bytes) (second_of side file idle.bytes)) → Beside side told P file
+beside_passed side epoch told P file passed p h e =
+    let q = passed h e in
+    subst (Leaves (λ image. P (first_of side file image) (second_of side file image))) (sym q.at_rest.durable)
+    (durable-leaves (λ image. P (first_of side file image) (second_of side file image)) h.now.bytes (p h.now q))
+
+-- of what is stored every crash leaves files that say it
+pub stored_says : RecordsAreRead → (side : Side) (epoch start gate : ℕ) (kept : CheckpointRead) (live : Moment) (idle : Option History) → IsStored epoch start gate kept live → Now idle (IsPassedOver side epoch)
+    → Leaves (Beside side idle (Says kept)) live
+stored_says law side epoch start gate kept live idle s passed =
+    Leaves-weaker (ReadsAs (with_image kept.epoch kept.number kept.rows) kept.records) (Beside side idle (Says kept)) live
+    (λ file r. beside_passed side epoch idle (Says kept) file passed (λ m p. kept_says law side epoch kept file m s.lawful s.is_of p r))
+    (rest_leaves (with_image kept.epoch kept.number kept.rows) start gate kept.records live s.rest)
+
+-- ---- files that say the same beside every other
+
+counted_same : (one two other : List ℕ) (side : Option Side) → file_contents one ≡ file_contents two → counted one other side ≡ counted two other side
+counted_same one two other None same = refl
+counted_same one two other (Some First) same = same
+counted_same one two other (Some Second) same = refl
+
+counted_other : (one two other : List ℕ) (side : Option Side) → file_contents one ≡ file_contents two → counted other one side ≡ counted other two side
+counted_other one two other None same = refl
+counted_other one two other (Some First) same = refl
+counted_other one two other (Some Second) same = same
+
+-- which file counts depends on their head gates and epochs alone
+pub which_first : (one two other : List ℕ) → head_is_open one ≡ head_is_open two → epoch_of one ≡ epoch_of two → which one other ≡ which two other
+which_first one two other opened epochs = rw (opened, epochs) refl
+
+pub which_second : (one two other : List ℕ) → head_is_open one ≡ head_is_open two → epoch_of one ≡ epoch_of two → which other one ≡ which other two
+which_second one two other opened epochs = rw (opened, epochs) refl
+
+module _ (one two : List ℕ) (formatted : is_formatted one ≡ is_formatted two) (opened : head_is_open one ≡ head_is_open two) (epochs : epoch_of one ≡ epoch_of two) (same : file_contents one ≡ file_contents two) where
+  first_same : (other : List ℕ) → said one other ≡ said two other
+  first_same other =
+      ap (λ b. cond (b && is_formatted other) (counted one other (which one other)) (Err NotFormatted)) formatted
+      ∙ ap (λ (r : Result CheckpointRead CheckpointFault). cond (is_formatted two && is_formatted other) r (Err NotFormatted)) (ap (counted one other) (which_first one two other opened epochs) ∙ counted_same one two other (which two other) same)
+
+  second_same : (other : List ℕ) → said other one ≡ said other two
+  second_same other =
+      ap (λ b. cond (is_formatted other && b) (counted other one (which other one)) (Err NotFormatted)) formatted
+      ∙ ap (λ (r : Result CheckpointRead CheckpointFault). cond (is_formatted other && is_formatted two) r (Err NotFormatted)) (ap (counted other one) (which_second one two other opened epochs) ∙ counted_other one two other (which other two) same)
+
+  says_as : SaysAs one two
+  says_as = record { first = first_same; second = second_same }
+
+pub same_as : (file : List ℕ) → SaysAs file file
+same_as file = record { first = λ other. refl; second = λ other. refl }
+
+-- two files of the same checkpoint and the same records
+pub held_as : (kept : CheckpointRead) (one two : List ℕ) → Counts kept.epoch one → Counts kept.epoch two → file_contents one ≡ Ok kept → file_contents two ≡ Ok kept → SaysAs one two
+held_as kept one two c d p q = says_as one two (c.formatted ∙ sym d.formatted) (c.opened ∙ sym d.opened) (c.epoch_is ∙ sym d.epoch_is) (p ∙ sym q)

@@ -1,0 +1,10 @@
+use Rattle.racf_desk.specs.Position.{first_position}
+use Rattle.racf_desk.specs.Recovery.{StandsFor}
+use Rattle.racf_run.proofs.DiskLaws.{both_leave}
+use Rattle.racf_run.proofs.top.init.Goals as goal
+
+-- what stands on the desk's disks stands on those that it hands back
+pub returns-in-Ok-clause-new : goal.returns-in-Ok-clause-new
+returns-in-Ok-clause-new g c = λ is.
+    both_leave g.D.Disk.tells c.in-Ok.desk.store c.into_disks.result.first c.into_disks.result.second (StandsFor first_position)
+    (record { first = c.into_disks.ensures.first; second = c.into_disks.ensures.second }) c.in-Ok.ensures.leaves

@@ -10,6 +10,9 @@ use crate::table::Operand;
 use command_values::{Content, push_content};
 use std::alloc::{AllocError, Global};
 
+/// Room for most texts, taken at once.
+const MOST_TEXTS: usize = 120;
+
 /// A value in its parentheses, or nothing where there is none.
 fn push_value(out: &mut Vec<u8>, content: &Content) -> Result<(), AllocError>
     ensures { OnOk result (out.new.items ≡ out.old.items ++ value_text content.now) }
@@ -71,7 +74,7 @@ fn push_operands(
 pub fn printed(alloc: Global, parts: &Parts) -> Result<Vec<u8>, AllocError>
     ensures { IfOk result (λ text. text.items ≡ canon (generic parts.now)) }
 {
-    let mut out = Vec::new(alloc);
+    let mut out = Vec::with_capacity(alloc, MOST_TEXTS)?;
     out.extend_from_slice(parts.verb.full_name())?;
     push_positions(&mut out, &parts.positions)?;
     push_operands(&mut out, parts.verb.operands(), &parts.slots)?;

@@ -15,8 +15,8 @@ pub fn write(item: &CommandRecord, out: &mut Vec<u8>) -> Result<(), NoMemory>
     ensures ok { OnOk result (out.new.items ≡ out.old.items ++ spelled item.now) }
     ensures err { OnErr result (out.new.items ≡ out.old.items) }
 {
-    let mut bytes = Vec::new(*out.allocator());
     let length = content_length(item);
+    let mut bytes = Vec::with_capacity(*out.allocator(), 4 + length as usize)?;
     let mut number = [0; 4];
     BigEndian::write_u32(&mut number, length);
     bytes.extend_from_slice(&number)?;

@@ -10,7 +10,7 @@ ghost use Rattle.racf_desk.specs.Made.{made_at, made_in, IsRecorded};
 
 use crate::answers::Ready;
 use access_levels::Text;
-use command_parser::{Command, print};
+use command_parser::Command;
 use journal_records::laws::{lengths_are_those_of_the_texts, written_is_read};
 use journal_records::{CommandRecord, write};
 use racf_database::Database;
@@ -56,9 +56,7 @@ pub(crate) fn make(
 fn canonical_text(alloc: Global, command: &Command) -> Result<Text, NoMemory>
     ensures { IfOk result (λ text. text ≡ canonical command.now) }
 {
-    let mut text = Vec::new(alloc);
-    print(command, &mut text)?;
-    Text::of(alloc, text.as_slice())
+    Text::of(alloc, command.text())
 }
 
 /// The bytes of the record.

@@ -1,11 +1,9 @@
 -- What a crash leaves at each moment of an append.
-use Rattle.std.proofs.Common.{ℕ, ◌+◌, ◌<◌, ◌≤◌, ◌≡◌, ◌∙◌, true, false, not, ◌&&◌, ◌||◌, ltb, List, [], ◌∷◌, ◌++◌, length, get_or, drop, refl, sym, ap, subst, arith, append_assoc, length-append, inl, inr}
+use Rattle.std.proofs.Common.{ℕ, ◌+◌, ◌≡◌, ◌∙◌, true, List, [], ◌∷◌, ◌++◌, length, drop, refl, sym, ap, subst, arith, append_assoc, length-append, inl, inr}
 use Rattle.std.specs.List.{AllByRecursion}
-use Rattle.std.proofs.lemmas.List.{take_all, take_at, drop_all, drop_at, drop_more, append-nil}
-use Rattle.std.proofs.lemmas.Bool.{lt-ltb, le-ltb}
-use Rattle.racf_outside.specs.Moments.{Moment, IsImage, is_written, durable, written, synced}
+use Rattle.racf_outside.specs.Moments.{Moment, IsImage, durable, written, synced}
 use Rattle.racf_outside.specs.Crashes.{Leaves}
-use Rattle.racf_outside.proofs.Images.{front_stays, back_stays, durable-leaves}
+use Rattle.racf_outside.proofs.Images.{front_stays, durable-leaves}
 use Rattle.racf_journal.specs.Kept.{IsAtRest, ReadsAs, ReadsAsEither}
 use Rattle.racf_journal.specs.Reading.{is_formatted, IsRecord, spelled}
 use Rattle.racf_journal.proofs.Walks.{spelled-push, lawful-push}

@@ -14,6 +14,12 @@ use crate::layout::{CLOSED, LONGEST_COMMAND, NEW, OPEN};
 use racf_outside::{Disk, Failed};
 use std::alloc::Global;
 
+/// Room for the records of most commands, with a gate. Filling more for each would cost more than the record does.
+const FEW: usize = 512;
+
+/// Room for the record of any command, with a gate.
+const MOST: usize = LONGEST_COMMAND + 1;
+
 /// Makes the file that of a new journal.
 pub(crate) fn write_new<D: Disk>(disk: &mut D) -> Result<(), Failed>
     ensures done { OnOk result (Keeps magic 8 8 [] (D.tells disk.new)) }
@@ -43,8 +49,12 @@ pub(crate) fn write_record<D: Disk>(
     ensures cause { IfErr result (IsCaused (D.faults disk.old) (D.faults disk.new)) }
     ensures no_fewer { D.faults disk.old ≤ D.faults disk.new }
 {
+    if next.len() < FEW {
+        write_short::<D, FEW>(disk, gate, next)?;
+        return Ok(());
+    }
     if next.len() <= LONGEST_COMMAND {
-        write_short(disk, gate, next)?;
+        write_short::<D, MOST>(disk, gate, next)?;
         return Ok(());
     }
     let mut bytes = Vec::with_capacity(alloc, next.len() + 1)?;
@@ -54,17 +64,22 @@ pub(crate) fn write_record<D: Disk>(
     Ok(())
 }
 
-/// Writes a record that is no longer than a command's behind the last gate and opens that.
-fn write_short<D: Disk>(disk: &mut D, gate: u64, next: &[u8]) -> Result<(), Failed>
+/// Writes a record behind the last gate and opens that. It is staged in so many bytes, with the gate behind it.
+fn write_short<D: Disk, const ROOM: usize>(
+    disk: &mut D,
+    gate: u64,
+    next: &[u8],
+) -> Result<(), Failed>
     requires room { gate < 2 ^ 28 }
     requires rest { Now (D.tells disk.old) (λ m. (start : ℕ) × IsResting start gate m) }
     requires lawful { IsRecord next.now }
-    requires short { length next.now ≤ 30020 }
+    requires short { length next.now < ROOM }
+    requires room_for_one { ROOM ≤ 30021 }
     ensures acknowledged { OnOk result ((start : ℕ) → Acknowledges start gate next.now (D.tells disk.old) (D.tells disk.new)) }
     ensures moments { (start : ℕ) → LeavesEither start gate next.now (D.tells disk.old) (D.tells disk.new) }
     ensures cause { HasCause (D.faults disk.old) (D.faults disk.new) result }
 {
-    let mut bytes = [0; LONGEST_COMMAND + 1];
+    let mut bytes = [0; ROOM];
     stage(next, &mut bytes[..=next.len()]);
     put_behind(disk, gate, &bytes[..=next.len()])
 }

@@ -7,7 +7,7 @@ ghost use Rattle.racf_desk.specs.Made.{made_in};
 ghost use Rattle.racf_stream.specs.Durable.{Settles};
 
 use crate::issuer::{first_issuer, issuer_refusal};
-use crate::reply::{Refusal, Reply};
+use crate::reply::{LONGEST_LINE, Refusal, Reply};
 use crate::statement::{LineText, Statement};
 use racf_desk::{Desk, Ready, Reply as Judgement};
 use racf_outside::{Disk, Failed};
@@ -224,7 +224,8 @@ fn settle<D: Disk>(
     ensures cause { desk.new.halted ≡ true → Rose (D.faults desk.old.store.journal.disk) (D.faults desk.new.store.journal.disk) }
     ensures no_fewer { D.faults desk.old.store.journal.disk ≤ D.faults desk.new.store.journal.disk }
 {
-    let mut failed = Vec::from_slice(alloc, out.as_slice())?;
+    let mut failed = Vec::with_capacity(alloc, out.len().saturating_add(LONGEST_LINE))?;
+    failed.extend_from_slice(out.as_slice())?;
     Reply::DiskFault.write_line(desk.number(), &mut failed)?;
     Reply::Accepted.write_line(ready.number, out)?;
     match desk.commit(&ready) {

@@ -44,9 +44,13 @@ impl Answer {
         ensures { (p : Profile) → AreFacts p facts.now → result ≡ decision_of generation (Some p) self.now }
     {
         Decision {
+            rc: self.rc,
+            rule: self.rule,
             profile: Some(*facts.name),
             audits: Some(audits_of(facts)),
-            ..self.decision(generation)
+            found: self.found,
+            warned: is_warning(&self.rule),
+            generation,
         }
     }
 }

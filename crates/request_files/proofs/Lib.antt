@@ -1,3 +1,4 @@
+pub mod Folding
 mod LineRows
 mod RequestRows
 mod IssuerRows

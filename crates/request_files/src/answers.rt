@@ -2,6 +2,7 @@
 
 ghost use Rattle.std.specs.Prelude.{◌≡◌, ◌++◌, OnOk, OnErr, codes, decimal};
 ghost use Rattle.access_levels.specs.Level.{level_name};
+ghost use Rattle.audit_records.specs.Writing.{Keeps};
 ghost use Rattle.request_files.specs.Answers.{name_fault_words, refusal_words, verify_fault_words, profile_words, found_words, port_words, category_name, classified_words, member_words, rule_words, decision_words, answer_line, never_line, numbered, refused_words};
 
 use crate::line::LineRefusal;
@@ -19,7 +20,6 @@ use std::alloc::AllocError;
 /// most rules the profile and the level that was found. The image and the class are those of the decision: a category and
 /// a member of the class's global access table are named as the image has them. Where memory is short, `out` stays as it
 /// was.
-#[tactic(auto, unfolding(crate::specs::Answers::answer_line))]
 pub fn answer_text(
     number: u64,
     decision: &Decision,
@@ -30,9 +30,31 @@ pub fn answer_text(
     ensures text { OnOk result (out.new.items ≡ out.old.items ++ answer_line number image.now.state.rows class decision.now) }
     ensures kept { OnErr result (out.new.items ≡ out.old.items) }
 {
-    let mut words = Vec::new(*out.allocator());
-    write_decision(decision, image, class, &mut words)?;
-    write_line(number, words.as_slice(), out)
+    let length = out.len();
+    match write_answer(number, decision, image, class, out) {
+        Ok(()) => Ok(()),
+        Err(fault) => {
+            out.truncate(length);
+            Err(fault)
+        }
+    }
+}
+
+/// The same, where `out` may keep the front of the answer when memory is short.
+#[tactic(auto, unfolding(crate::specs::Answers::answer_line), using(audit_records::proofs::Keeping::keeps_on))]
+fn write_answer(
+    number: u64,
+    decision: &Decision,
+    image: &Image,
+    class: Id,
+    out: &mut Vec<u8>,
+) -> Result<(), AllocError>
+    ensures text { OnOk result (out.new.items ≡ out.old.items ++ answer_line number image.now.state.rows class decision.now) }
+    ensures front { Keeps out.old.items out.new.items }
+{
+    write_front(number, out)?;
+    write_decision(decision, image, class, out)?;
+    out.extend_from_slice(b"\n")
 }
 
 /// Writes a line: the number, a blank, and the words. Where memory is short, `out` stays as it was.
@@ -40,12 +62,35 @@ pub(crate) fn write_line(number: u64, words: &[u8], out: &mut Vec<u8>) -> Result
     ensures text { OnOk result (out.new.items ≡ out.old.items ++ numbered number words.now) }
     ensures kept { OnErr result (out.new.items ≡ out.old.items) }
 {
-    let mut line = Vec::new(*out.allocator());
-    write_number(number, &mut line)?;
-    line.extend_from_slice(b" ")?;
-    line.extend_from_slice(words)?;
-    line.extend_from_slice(b"\n")?;
-    out.extend_from_slice(line.as_slice())
+    let length = out.len();
+    match write_numbered(number, words, out) {
+        Ok(()) => Ok(()),
+        Err(fault) => {
+            out.truncate(length);
+            Err(fault)
+        }
+    }
+}
+
+/// The same, where `out` may keep the front of the line when memory is short.
+#[tactic(auto, using(audit_records::proofs::Keeping::keeps_on))]
+fn write_numbered(number: u64, words: &[u8], out: &mut Vec<u8>) -> Result<(), AllocError>
+    ensures text { OnOk result (out.new.items ≡ out.old.items ++ numbered number words.now) }
+    ensures front { Keeps out.old.items out.new.items }
+{
+    write_front(number, out)?;
+    out.extend_from_slice(words)?;
+    out.extend_from_slice(b"\n")
+}
+
+/// Writes a number, and a blank behind it.
+#[tactic(auto, using(audit_records::proofs::Keeping::keeps_on))]
+fn write_front(number: u64, out: &mut Vec<u8>) -> Result<(), AllocError>
+    ensures text { OnOk result (out.new.items ≡ out.old.items ++ (decimal number ++ codes " ")) }
+    ensures front { Keeps out.old.items out.new.items }
+{
+    write_number(number, out)?;
+    out.extend_from_slice(b" ")
 }
 
 /// Writes that the number which `*AFTER` asks for never comes. Where memory is short, `out` stays as it was.
@@ -61,8 +106,10 @@ pub(crate) fn write_never(number: u64, out: &mut Vec<u8>) -> Result<(), AllocErr
 }
 
 /// Writes a number in decimal.
+#[tactic(auto, using(audit_records::proofs::Keeping::keeps_on))]
 fn write_number(number: u64, out: &mut Vec<u8>) -> Result<(), AllocError>
-    ensures { OnOk result (out.new.items ≡ out.old.items ++ decimal number) }
+    ensures text { OnOk result (out.new.items ≡ out.old.items ++ decimal number) }
+    ensures front { Keeps out.old.items out.new.items }
 {
     let mut digits = Buffer::new();
     out.extend_from_slice(digits.format(number).as_bytes())
@@ -141,27 +188,30 @@ pub(crate) fn verify_fault_words(fault: VerifyFault) -> &'static [u8]
 }
 
 /// Writes the return code of a decision, and the rule.
+#[tactic(auto, using(audit_records::proofs::Keeping::keeps_on))]
 fn write_decision(
     decision: &Decision,
     image: &Image,
     class: Id,
     out: &mut Vec<u8>,
 ) -> Result<(), AllocError>
-    ensures { OnOk result (out.new.items ≡ out.old.items ++ decision_words image.now.state.rows class decision.now) }
+    ensures text { OnOk result (out.new.items ≡ out.old.items ++ decision_words image.now.state.rows class decision.now) }
+    ensures front { Keeps out.old.items out.new.items }
 {
-    write_number(u64::from(decision.rc), out)?;
-    out.extend_from_slice(b" ")?;
+    write_front(u64::from(decision.rc), out)?;
     write_rule(decision, image, class, out)
 }
 
 /// Writes the rule, and what belongs to it.
+#[tactic(auto, using(audit_records::proofs::Keeping::keeps_on))]
 fn write_rule(
     decision: &Decision,
     image: &Image,
     class: Id,
     out: &mut Vec<u8>,
 ) -> Result<(), AllocError>
-    ensures { OnOk result (out.new.items ≡ out.old.items ++ rule_words image.now.state.rows class decision.now.rule decision.now) }
+    ensures text { OnOk result (out.new.items ≡ out.old.items ++ rule_words image.now.state.rows class decision.now.rule decision.now) }
+    ensures front { Keeps out.old.items out.new.items }
 {
     match &decision.rule {
         Rule::NoClass => out.extend_from_slice(b"NOCLASS"),
@@ -185,8 +235,10 @@ fn write_rule(
 }
 
 /// Writes the member at that place of a global access table, as it was written.
+#[tactic(auto, using(audit_records::proofs::Keeping::keeps_on))]
 fn write_member(members: &[Member], place: usize, out: &mut Vec<u8>) -> Result<(), AllocError>
-    ensures { OnOk result (out.new.items ≡ out.old.items ++ member_words members.now place) }
+    ensures text { OnOk result (out.new.items ≡ out.old.items ++ member_words members.now place) }
+    ensures front { Keeps out.old.items out.new.items }
 {
     match members.get(place) {
         None => Ok(()),
@@ -198,13 +250,15 @@ fn write_member(members: &[Member], place: usize, out: &mut Vec<u8>) -> Result<(
 }
 
 /// Writes that the global access table gives access, by which member, and its level.
+#[tactic(auto, using(audit_records::proofs::Keeping::keeps_on))]
 fn write_grant(
     place: usize,
     decision: &Decision,
     members: &[Member],
     out: &mut Vec<u8>,
 ) -> Result<(), AllocError>
-    ensures { OnOk result (out.new.items ≡ out.old.items ++ (codes "GLOBAL " ++ member_words members.now place ++ codes " " ++ level_name decision.now.found)) }
+    ensures text { OnOk result (out.new.items ≡ out.old.items ++ (codes "GLOBAL " ++ member_words members.now place ++ codes " " ++ level_name decision.now.found)) }
+    ensures front { Keeps out.old.items out.new.items }
 {
     out.extend_from_slice(b"GLOBAL ")?;
     write_member(members, place, out)?;
@@ -212,37 +266,45 @@ fn write_grant(
 }
 
 /// Writes that the data are the user's own.
+#[tactic(auto, using(audit_records::proofs::Keeping::keeps_on))]
 fn write_own_data(decision: &Decision, out: &mut Vec<u8>) -> Result<(), AllocError>
-    ensures { OnOk result (out.new.items ≡ out.old.items ++ (codes "OWNDATA" ++ profile_words decision.now.profile)) }
+    ensures text { OnOk result (out.new.items ≡ out.old.items ++ (codes "OWNDATA" ++ profile_words decision.now.profile)) }
+    ensures front { Keeps out.old.items out.new.items }
 {
     out.extend_from_slice(b"OWNDATA")?;
     write_profile(&decision.profile, out)
 }
 
 /// Writes that the classification check fails, why, and of which profile.
+#[tactic(auto, using(audit_records::proofs::Keeping::keeps_on))]
 fn write_classified(
     why: Classified,
     decision: &Decision,
     options: &Options,
     out: &mut Vec<u8>,
 ) -> Result<(), AllocError>
-    ensures { OnOk result (out.new.items ≡ out.old.items ++ (codes "CLASSIFIED " ++ classified_words options.now.categories why ++ profile_words decision.now.profile)) }
+    ensures text { OnOk result (out.new.items ≡ out.old.items ++ (codes "CLASSIFIED " ++ classified_words options.now.categories why ++ profile_words decision.now.profile)) }
+    ensures front { Keeps out.old.items out.new.items }
 {
     write_bar(why, options, out)?;
     write_profile(&decision.profile, out)
 }
 
 /// Writes that the classification check fails, and why.
+#[tactic(auto, using(audit_records::proofs::Keeping::keeps_on))]
 fn write_bar(why: Classified, options: &Options, out: &mut Vec<u8>) -> Result<(), AllocError>
-    ensures { OnOk result (out.new.items ≡ out.old.items ++ (codes "CLASSIFIED " ++ classified_words options.now.categories why)) }
+    ensures text { OnOk result (out.new.items ≡ out.old.items ++ (codes "CLASSIFIED " ++ classified_words options.now.categories why)) }
+    ensures front { Keeps out.old.items out.new.items }
 {
     out.extend_from_slice(b"CLASSIFIED ")?;
     write_cause(why, options, out)
 }
 
 /// Writes why the classification check fails.
+#[tactic(auto, using(audit_records::proofs::Keeping::keeps_on))]
 fn write_cause(why: Classified, options: &Options, out: &mut Vec<u8>) -> Result<(), AllocError>
-    ensures { OnOk result (out.new.items ≡ out.old.items ++ classified_words options.now.categories why) }
+    ensures text { OnOk result (out.new.items ≡ out.old.items ++ classified_words options.now.categories why) }
+    ensures front { Keeps out.old.items out.new.items }
 {
     match why {
         Classified::LevelTooLow => out.extend_from_slice(b"LEVEL"),
@@ -256,8 +318,10 @@ fn write_cause(why: Classified, options: &Options, out: &mut Vec<u8>) -> Result<
 }
 
 /// Writes the name of the category of that number.
+#[tactic(auto, using(audit_records::proofs::Keeping::keeps_on))]
 fn write_category(number: u8, options: &Options, out: &mut Vec<u8>) -> Result<(), AllocError>
-    ensures { OnOk result (out.new.items ≡ out.old.items ++ category_name options.now.categories number) }
+    ensures text { OnOk result (out.new.items ≡ out.old.items ++ category_name options.now.categories number) }
+    ensures front { Keeps out.old.items out.new.items }
 {
     match options.categories.items.get(usize::from(number)) {
         Some(name) => out.extend_from_slice(name.text()),
@@ -266,8 +330,10 @@ fn write_category(number: u8, options: &Options, out: &mut Vec<u8>) -> Result<()
 }
 
 /// Writes the name of the profile, where there is one.
+#[tactic(auto, using(audit_records::proofs::Keeping::keeps_on))]
 fn write_profile(profile: &Option<Pattern>, out: &mut Vec<u8>) -> Result<(), AllocError>
-    ensures { OnOk result (out.new.items ≡ out.old.items ++ profile_words profile.now) }
+    ensures text { OnOk result (out.new.items ≡ out.old.items ++ profile_words profile.now) }
+    ensures front { Keeps out.old.items out.new.items }
 {
     match profile {
         None => Ok(()),
@@ -279,37 +345,45 @@ fn write_profile(profile: &Option<Pattern>, out: &mut Vec<u8>) -> Result<(), All
 }
 
 /// Writes the profile, and the level that was found.
+#[tactic(auto, using(audit_records::proofs::Keeping::keeps_on))]
 fn write_found(decision: &Decision, out: &mut Vec<u8>) -> Result<(), AllocError>
-    ensures { OnOk result (out.new.items ≡ out.old.items ++ found_words decision.now) }
+    ensures text { OnOk result (out.new.items ≡ out.old.items ++ found_words decision.now) }
+    ensures front { Keeps out.old.items out.new.items }
 {
     write_profile(&decision.profile, out)?;
     write_level(decision.found, out)
 }
 
 /// Writes a level.
+#[tactic(auto, using(audit_records::proofs::Keeping::keeps_on))]
 fn write_level(level: Level, out: &mut Vec<u8>) -> Result<(), AllocError>
-    ensures { OnOk result (out.new.items ≡ out.old.items ++ (codes " " ++ level_name level)) }
+    ensures text { OnOk result (out.new.items ≡ out.old.items ++ (codes " " ++ level_name level)) }
+    ensures front { Keeps out.old.items out.new.items }
 {
     out.extend_from_slice(b" ")?;
     out.extend_from_slice(level.name())
 }
 
 /// Writes words, and what was found.
+#[tactic(auto, using(audit_records::proofs::Keeping::keeps_on))]
 fn write_reason(words: &[u8], decision: &Decision, out: &mut Vec<u8>) -> Result<(), AllocError>
-    ensures { OnOk result (out.new.items ≡ out.old.items ++ (words.now ++ found_words decision.now)) }
+    ensures text { OnOk result (out.new.items ≡ out.old.items ++ (words.now ++ found_words decision.now)) }
+    ensures front { Keeps out.old.items out.new.items }
 {
     out.extend_from_slice(words)?;
     write_found(decision, out)
 }
 
 /// Writes words and a group, and what was found.
+#[tactic(auto, using(audit_records::proofs::Keeping::keeps_on))]
 fn write_group(
     words: &[u8],
     group: &Id,
     decision: &Decision,
     out: &mut Vec<u8>,
 ) -> Result<(), AllocError>
-    ensures { OnOk result (out.new.items ≡ out.old.items ++ (words.now ++ group.now ++ found_words decision.now)) }
+    ensures text { OnOk result (out.new.items ≡ out.old.items ++ (words.now ++ group.now ++ found_words decision.now)) }
+    ensures front { Keeps out.old.items out.new.items }
 {
     out.extend_from_slice(words)?;
     out.extend_from_slice(group.text())?;
@@ -317,21 +391,34 @@ fn write_group(
 }
 
 /// Writes that an entry under a port of entry counts, and what was found.
+#[tactic(auto, using(audit_records::proofs::Keeping::keeps_on))]
 fn write_conditional(
     port: &Condition,
     decision: &Decision,
     out: &mut Vec<u8>,
 ) -> Result<(), AllocError>
-    ensures { OnOk result (out.new.items ≡ out.old.items ++ (codes "CONDITIONAL " ++ port_words port.now ++ found_words decision.now)) }
+    ensures text { OnOk result (out.new.items ≡ out.old.items ++ (codes "CONDITIONAL " ++ port_words port.now ++ found_words decision.now)) }
+    ensures front { Keeps out.old.items out.new.items }
 {
-    out.extend_from_slice(b"CONDITIONAL ")?;
-    write_when(port, out)?;
+    write_condition(port, out)?;
     write_found(decision, out)
 }
 
+/// Writes that an entry under a port of entry counts.
+#[tactic(auto, using(audit_records::proofs::Keeping::keeps_on))]
+fn write_condition(port: &Condition, out: &mut Vec<u8>) -> Result<(), AllocError>
+    ensures text { OnOk result (out.new.items ≡ out.old.items ++ (codes "CONDITIONAL " ++ port_words port.now)) }
+    ensures front { Keeps out.old.items out.new.items }
+{
+    out.extend_from_slice(b"CONDITIONAL ")?;
+    write_when(port, out)
+}
+
 /// Writes a port of entry as PERMIT's WHEN names it.
+#[tactic(auto, using(audit_records::proofs::Keeping::keeps_on))]
 fn write_when(port: &Condition, out: &mut Vec<u8>) -> Result<(), AllocError>
-    ensures { OnOk result (out.new.items ≡ out.old.items ++ port_words port.now) }
+    ensures text { OnOk result (out.new.items ≡ out.old.items ++ port_words port.now) }
+    ensures front { Keeps out.old.items out.new.items }
 {
     out.extend_from_slice(b"WHEN(")?;
     out.extend_from_slice(port.class.name())?;

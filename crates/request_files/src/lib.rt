@@ -13,6 +13,7 @@
 
 mod acees;
 mod answers;
+mod asked;
 mod issuer_line;
 mod line;
 mod next_words;

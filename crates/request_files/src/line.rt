@@ -5,7 +5,8 @@ ghost use Rattle.request_files.specs.Grammar.{Auth, Fastauth, Delete, After, ver
 ghost use Rattle.request_files.specs.Spellings.{folded};
 ghost use Rattle.request_files.specs.Seen.{line_read};
 
-use crate::reading::{Asked, asked_by, deleted, number_after, verified_by};
+use crate::asked::Asked;
+use crate::reading::{asked_by, deleted, number_after, verified_by};
 use access_levels::Id;
 use acee::VerifyRequest;
 use command_words::{LineWord, LineWords, is_spelled};
@@ -127,9 +128,14 @@ fn auth_line(words: &LineWords) -> Result<RequestLine, LineRefusal>
         Ok(asked) => asked,
         Err(place) => return Err(LineRefusal::BadLine(place)),
     };
-    let Asked { acee, request } = asked;
-    match request {
-        Ok(request) => Ok(RequestLine::Auth(acee, request)),
+    let Asked {
+        acee,
+        class,
+        name,
+        level: asked,
+    } = asked;
+    match name.read() {
+        Ok(name) => Ok(RequestLine::Auth(acee, Request { class, name, asked })),
         Err(fault) => Err(LineRefusal::BadName(acee, fault)),
     }
 }
@@ -143,9 +149,14 @@ fn fastauth_line(words: &LineWords) -> Result<RequestLine, LineRefusal>
         Ok(asked) => asked,
         Err(place) => return Err(LineRefusal::BadLine(place)),
     };
-    let Asked { acee, request } = asked;
-    match request {
-        Ok(request) => Ok(RequestLine::Fastauth(acee, request)),
+    let Asked {
+        acee,
+        class,
+        name,
+        level: asked,
+    } = asked;
+    match name.read() {
+        Ok(name) => Ok(RequestLine::Fastauth(acee, Request { class, name, asked })),
         Err(fault) => Err(LineRefusal::BadName(acee, fault)),
     }
 }

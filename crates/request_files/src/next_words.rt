@@ -6,13 +6,14 @@ ghost use Rattle.decision.specs.Asked.{may_be_asked};
 ghost use Rattle.command_values.specs.NamedWords.{id_named as id_in};
 ghost use Rattle.request_files.specs.Spellings.{level_word as level_in, name_word as name_in, number_word as number_of};
 ghost use Rattle.request_files.specs.Grammar.{next, ended};
+ghost use Rattle.request_files.specs.Seen.{name_seen};
 
+use crate::asked::ResourceWord;
 use crate::numbers::number_word;
-use crate::spellings::{level_word, name_word};
+use crate::spellings::{id_word, level_word};
 use access_levels::{Id, Level};
-use command_values::id_named;
 use command_words::LineWords;
-use generic_names::{NameFault, NameKind, Resource};
+use generic_names::NameKind;
 
 /// An ID, and the words behind it.
 #[tactic(auto, unfolding(crate::specs::Grammar::next))]
@@ -22,7 +23,7 @@ pub(crate) fn next_id<'a>(words: &LineWords<'a>) -> Result<(Id, LineWords<'a>), 
     let Some((word, rest)) = words.split_first() else {
         return Err(words.end());
     };
-    match id_named(word.text) {
+    match id_word(word.text) {
         Some(id) => Ok((id, rest)),
         None => Err(word.place),
     }
@@ -42,19 +43,20 @@ pub(crate) fn next_number<'a>(words: &LineWords<'a>) -> Result<(u64, LineWords<'
     }
 }
 
-/// The name of a resource, or what is wrong with it, and the words behind it.
+/// The word that names a resource, whatever is wrong with it, and the words behind it.
 #[tactic(auto, unfolding(crate::specs::Grammar::next))]
 pub(crate) fn next_name<'a>(
     kind: NameKind,
     words: &LineWords<'a>,
-) -> Result<(Result<Resource, NameFault>, LineWords<'a>), u32>
-    ensures name { result ≡ next (name_in kind) words.now }
-    ensures kind { IfOk result (λ t. IfOk t.0 (λ name. name.kind ≡ kind)) }
+) -> Result<(ResourceWord<'a>, LineWords<'a>), u32>
+    ensures name { name_seen result ≡ next (name_in kind) words.now }
+    ensures kind { IfOk result (λ t. t.0.kind ≡ kind) }
 {
-    match words.split_first() {
-        Some((word, rest)) => Ok((name_word(kind, word.text), rest)),
-        None => Err(words.end()),
-    }
+    let Some((word, rest)) = words.split_first() else {
+        return Err(words.end());
+    };
+    let text = word.text;
+    Ok((ResourceWord { kind, text }, rest))
 }
 
 /// A level that may be asked for, and the words behind it.

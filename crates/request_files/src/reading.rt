@@ -1,19 +1,16 @@
 //! The words behind the first one of a line, read for each kind of line.
 
-ghost use Rattle.std.specs.Prelude.{◌≡◌, IfOk, IsTrue};
-ghost use Rattle.racf_profiles.specs.LawfulProfiles.{kind_in};
-ghost use Rattle.decision.specs.Asked.{may_be_asked};
+ghost use Rattle.std.specs.Prelude.{◌≡◌};
 ghost use Rattle.command_words.specs.TakingWords.{seen};
-ghost use Rattle.request_files.specs.Grammar.{with_word as with_one, with_words as with_all, user_alone, deleted, number_after, verified_by, asked_by, access_to};
-ghost use Rattle.request_files.specs.Seen.{access_seen, asked_seen};
+ghost use Rattle.request_files.specs.Grammar.{with_word as with_one, with_words as with_all, user_alone, deleted, number_after, verified_by, asked_by};
+ghost use Rattle.request_files.specs.Seen.{asked_seen};
 
+use crate::asked::Asked;
 use crate::next_words::{ended, next_id, next_level, next_name, next_number};
 use crate::operands::{operand_word, with_operand};
-use access_levels::{Id, Level};
+use access_levels::Id;
 use acee::VerifyRequest;
 use command_words::{LineWord, LineWords};
-use decision::Request;
-use generic_names::{NameFault, Resource};
 use racf_profiles::kind_in;
 
 /// What the words of VERIFY say.
@@ -23,15 +20,6 @@ pub(crate) struct Verified {
     pub(crate) acee: Id,
     /// Who is to be verified, and from where.
     pub(crate) request: VerifyRequest,
-}
-
-/// What the words of AUTH and FASTAUTH say. The name of the resource may have a fault.
-#[derive(Drop)]
-pub(crate) struct Asked {
-    /// The name of the ACEE that asks.
-    pub(crate) acee: Id,
-    /// The access that is asked for, or the fault of the name.
-    pub(crate) request: Result<Request, NameFault>,
 }
 
 /// DELETE: the name of an ACEE.
@@ -104,29 +92,18 @@ fn with_word(request: &VerifyRequest, word: LineWord) -> Result<VerifyRequest, u
 
 /// AUTH and FASTAUTH: the name of an ACEE, a class, the name of a resource, and a level.
 #[tactic(auto, unfolding(crate::specs::Grammar::asked_by))]
-pub(crate) fn asked_by(words: &LineWords) -> Result<Asked, u32>
+pub(crate) fn asked_by<'a>(words: &LineWords<'a>) -> Result<Asked<'a>, u32>
     ensures { asked_seen result ≡ asked_by words.now }
 {
     let (acee, rest) = next_id(words)?;
     let (class, rest) = next_id(&rest)?;
     let (name, rest) = next_name(kind_in(class), &rest)?;
     let (level, rest) = next_level(&rest)?;
-    let request = request_to(class, name, level);
-    ended(&rest, Asked { acee, request })
-}
-
-/// The request for that access, unless the name has a fault.
-fn request_to(
-    class: Id,
-    name: Result<Resource, NameFault>,
-    asked: Level,
-) -> Result<Request, NameFault>
-    requires kind { IfOk name (λ name. name.kind ≡ kind_in class) }
-    requires level { IsTrue (may_be_asked asked) }
-    ensures { access_seen result ≡ access_to class asked name }
-{
-    match name {
-        Ok(name) => Ok(Request { class, name, asked }),
-        Err(fault) => Err(fault),
-    }
+    let asked = Asked {
+        acee,
+        class,
+        name,
+        level,
+    };
+    ended(&rest, asked)
 }

@@ -75,7 +75,7 @@ discrete_byte kind first last place b h = ordinary-plain kind first b (settled (
     settled true e = refl
     settled false e = absurd (cc (e))
 
-discrete_bytes : (kind : NameKind) (first : Bool) (place : ℕ) (q : List ℕ) → bytes_fault Discrete kind first place q ≡ None → EachByte IsPlain q
+pub discrete_bytes : (kind : NameKind) (first : Bool) (place : ℕ) (q : List ℕ) → bytes_fault Discrete kind first place q ≡ None → EachByte IsPlain q
 discrete_bytes kind first place [] h = tt
 discrete_bytes kind first place (b ∷ bs) h =
     let parts = first_none _ (bytes_fault Discrete kind false (place + 1) bs) h in

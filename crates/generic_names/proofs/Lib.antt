@@ -16,3 +16,5 @@ pub mod Apart
 pub mod KeyLaws
 pub mod UnderLaws
 mod KeyRows
+mod DiscreteKeys
+mod FaultlessLaws

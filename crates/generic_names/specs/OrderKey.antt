@@ -1,9 +1,9 @@
 -- A name's place in the order of specificity, as bytes that compare as the order does.
-use Rattle.std.specs.Prelude.{◌≡◌, ◌⊎◌, ℕ, ◌-◌, ◌<◌, nat_lt, Bool, true, false, if◌then◌else◌, List, [], ◌∷◌, ◌++◌, map}
+use Rattle.std.specs.Prelude.{◌≡◌, ◌≢◌, ◌⊎◌, ℕ, ◌-◌, ◌==◌, ◌<◌, nat_lt, Bool, true, false, if◌then◌else◌, List, [], ◌∷◌, ◌++◌, map}
 use Rattle.std.specs.List.{AllByRecursion}
 use Rattle.std.specs.Ordering.{nat_cmp, is_lt}
 use Rattle.std.specs.Cmp.Lexicographic.{slice_cmp}
-use Rattle.generic_names.specs.Spelled.{Spelled, qualifiers, first_qualifier}
+use Rattle.generic_names.specs.Spelled.{Spelled, period, percent, asterisk, qualifiers, first_qualifier}
 use Rattle.generic_names.specs.Covers.{is_double}
 use Rattle.generic_names.specs.Before.{rank, ranks, order, before}
 use Rattle.generic_names.specs.Gap.{is_below}
@@ -16,6 +16,17 @@ squeezed rank = if nat_lt rank 256 then rank else rank - 5
 -- the key of a text: its ranks, each as one byte
 abbrev pub order_key : List ℕ → List ℕ
 order_key text = map squeezed (ranks (qualifiers text))
+
+-- what a byte of a name without generic characters is in the name's key, and that it is such a byte. Words of the crate's
+-- own functions.
+abbrev pub discrete_byte : ℕ → ℕ
+discrete_byte b = if b == period then 252 else b
+
+abbrev pub IsDiscrete : ℕ → Type 0
+IsDiscrete b = (b < 256) × (b ≢ percent) × (b ≢ asterisk)
+
+abbrev pub AreDiscrete : List ℕ → Type 0
+AreDiscrete text = AllByRecursion IsDiscrete text
 
 -- whether the key of a name is lower than this one
 abbrev pub is_lower : Spelled → List ℕ → Bool

@@ -3,15 +3,22 @@ ghost use Rattle.std.specs.Ordering.{nat_cmp, is_lt};
 ghost use Rattle.std.specs.Cmp.Lexicographic.{slice_cmp};
 ghost use Rattle.generic_names.specs.Spelled.{qualifiers};
 ghost use Rattle.generic_names.specs.Before.{ranks};
-ghost use Rattle.generic_names.specs.OrderKey.{squeezed, order_key, qualifier_key};
+ghost use Rattle.generic_names.specs.OrderKey.{squeezed, discrete_byte, order_key, qualifier_key, AreDiscrete};
 
 use crate::covering::is_double_asterisk;
 use crate::order::{DOUBLE_ASTERISK, END_OF_NAME, END_OF_QUALIFIER, Ranks, rank_of};
+use crate::reading::has_generic_byte;
 use std::cmp::Ordering;
 use std::marker::Model;
 
 /// The most bytes that a key has: one for each byte of the longest name, and two for its end.
 const LONGEST: usize = 248;
+
+/// The end of a qualifier as one byte.
+const QUALIFIER_ENDS: u8 = 252;
+
+/// The end of a name as one byte.
+const NAME_ENDS: u8 = 254;
 
 /// The place of a name, or of a gap's end, in the order of specificity, as bytes: the lower key belongs to the
 /// more specific name. So a search through names in order compares bytes only. It lies in an array of fixed size.
@@ -40,12 +47,33 @@ impl Model for OrderKey {
 }
 
 impl OrderKey {
-    /// The key of a name with this text.
+    /// The key of a name with this text. One that isn't generic is made in one pass.
     pub(crate) fn of(text: &[u8]) -> OrderKey
         requires { length text.now ≤ 246 }
         ensures { result ≡ order_key text.now }
     {
-        OrderKey::of_first(text, LONGEST)
+        if has_generic_byte(text) {
+            return OrderKey::of_first(text, LONGEST);
+        }
+        OrderKey::of_discrete(text)
+    }
+
+    /// The key of a name without generic characters: its bytes, a period as the end of a qualifier.
+    pub(crate) fn of_discrete(text: &[u8]) -> OrderKey
+        requires fits { length text.now ≤ 246 }
+        requires discrete { AreDiscrete text.now }
+        ensures { result ≡ order_key text.now }
+    {
+        let mut bytes = [0; LONGEST];
+        for (at, byte) in text.iter().enumerate() {
+            bytes[at] = discrete_byte(*byte);
+        }
+        bytes[text.len()] = QUALIFIER_ENDS;
+        bytes[text.len() + 1] = NAME_ENDS;
+        OrderKey {
+            length: text.len() + 2,
+            bytes,
+        }
     }
 
     /// The key of so many of the first ranks of a text, or of all where it has no more.
@@ -122,6 +150,13 @@ impl OrderKey {
     {
         self.order(other).is_lt()
     }
+}
+
+/// The byte in a key for one of a name without generic characters.
+fn discrete_byte(byte: u8) -> u8
+    ensures { result ≡ discrete_byte byte }
+{
+    if byte == b'.' { QUALIFIER_ENDS } else { byte }
 }
 
 /// A rank as one byte.

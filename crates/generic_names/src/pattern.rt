@@ -99,11 +99,14 @@ impl Pattern {
     }
 
     /// Whether it covers the name of a resource. This takes about as many steps as the two names have
-    /// bytes, and with `**` at most as many as the product of their lengths.
+    /// bytes, and with `**` at most as many as the product of their lengths. The very name needs no walk.
     pub fn covers(&self, name: &Resource) -> bool
         requires { self.now.kind ≡ name.now.kind }
         ensures { result ≡ covers self.now name.now }
     {
+        if self.name.text() == name.text() {
+            return true;
+        }
         covers_text(self.name.kind(), self.name.text(), name.text())
     }
 

@@ -1,7 +1,8 @@
-ghost use Rattle.std.specs.Prelude.{◌≡◌, ◌+◌, ◌==◌, ◌≤◌, ◌||◌, true, length, IfNone};
+ghost use Rattle.std.specs.Prelude.{◌≡◌, ◌+◌, ◌==◌, ◌≤◌, ◌||◌, IsTrue, true, None, length, IfNone};
 ghost use Rattle.std.specs.List.{list_any};
 ghost use Rattle.generic_names.specs.Spelled.{percent, asterisk, qualifiers};
 ghost use Rattle.generic_names.specs.Faults.{is_letter, is_digit, is_ordinary, has_generic, is_whole, is_too_long, is_generic_first, byte_fault, bytes_fault, qualifier_fault, qualifiers_fault, longest, fault_of};
+ghost use Rattle.generic_names.specs.Faultless.{longest_qualifier, goes_on};
 
 use crate::fault::NameFault;
 use crate::form::Form;
@@ -19,7 +20,57 @@ pub(crate) fn fault_in(form: Form, kind: NameKind, text: &[u8]) -> Option<NameFa
     if text.len() > most_bytes(kind) {
         return Some(NameFault::TooLong);
     }
+    if is_faultless(form, kind, text) {
+        return None;
+    }
     fault_in_qualifiers(form, kind, text)
+}
+
+/// Whether one pass tells that no qualifier of a resource's name has a fault.
+fn is_faultless(form: Form, kind: NameKind, text: &[u8]) -> bool
+    requires { length text.now ≤ 246 }
+    ensures { IsTrue result → qualifiers_fault form kind 1 1 (qualifiers text.now) ≡ None }
+{
+    match form {
+        Form::Discrete => goes_on(kind, text),
+        Form::Generic | Form::Symbolic => false,
+    }
+}
+
+/// Whether a text has no fault as the name of a resource, apart from its length. One pass tells that. Most bytes
+/// are letters, so it asks for those first.
+fn goes_on(kind: NameKind, text: &[u8]) -> bool
+    requires { length text.now ≤ 246 }
+    ensures { result ≡ goes_on kind 0 text.now }
+{
+    let longest = longest_qualifier(kind);
+    let mut passed = 0;
+    for byte in text {
+        if passed < longest && matches!(*byte, b'A'..=b'Z') {
+            passed += 1;
+        } else if *byte == b'.' {
+            if passed == 0 {
+                return false;
+            }
+            passed = 0;
+        } else {
+            if passed >= longest || !stands_for_itself(kind, passed == 0, *byte) {
+                return false;
+            }
+            passed += 1;
+        }
+    }
+    passed > 0
+}
+
+/// The most bytes that a qualifier may have. In a general name that is what the whole name may have.
+fn longest_qualifier(kind: NameKind) -> usize
+    ensures { result ≡ longest_qualifier kind }
+{
+    match kind {
+        NameKind::DataSet => 8,
+        NameKind::General => 246,
+    }
 }
 
 /// The most bytes that a name may have.

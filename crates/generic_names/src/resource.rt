@@ -59,10 +59,11 @@ impl Resource {
     {
         self.name.text()
     }
+
     /// The place of the pattern of this very name in the order of specificity, as bytes.
     pub fn order_key(&self) -> OrderKey
         ensures { result ≡ order_key self.now.text }
     {
-        OrderKey::of(self.name.text())
+        OrderKey::of_discrete(self.name.text())
     }
 }

@@ -1,4 +1,4 @@
-ghost use Rattle.std.specs.Prelude.{◌≡◌, ◌+◌, ◌-◌, ◌<◌, ◌≤◌, ◌++◌, length, replicate, OnSome, IfNone};
+ghost use Rattle.std.specs.Prelude.{◌≡◌, ◌+◌, ◌<◌, ◌≤◌, ◌++◌, length, OnSome, IfNone};
 ghost use Rattle.generic_names.specs.Spelled.{Spelled};
 
 use crate::kind::NameKind;
@@ -40,10 +40,12 @@ impl Spelling {
         requires { length text.now ≤ 246 }
         ensures { result ≡ record { kind = kind; text = text.now } }
     {
+        let mut bytes = [0; LONGEST];
+        bytes[..text.len()].copy_from_slice(text);
         Spelling {
             kind,
             length: text.len(),
-            bytes: padded(text),
+            bytes,
         }
     }
 
@@ -75,14 +77,4 @@ impl Spelling {
     {
         &self.bytes[..self.length]
     }
-}
-
-/// The text with zeros behind it.
-fn padded(text: &[u8]) -> [u8; LONGEST]
-    requires { length text.now ≤ 246 }
-    ensures { result ≡ text.now ++ replicate (246 - length text.now) 0 }
-{
-    let mut bytes = [0; LONGEST];
-    bytes[..text.len()].copy_from_slice(text);
-    bytes
 }

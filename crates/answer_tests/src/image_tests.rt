@@ -74,8 +74,10 @@ fn facilities(rt: &(impl AllocGlobal + Abort)) -> Profiles
 fn access(image: &ClassImage, name: &Resource) -> Option<Level>
     requires { name.now.kind ≡ image.now.kind }
 {
-    let place = image.find(name)?;
-    Some(image.facts(place).uacc)
+    match image.find(name) {
+        Some(facts) => Some(facts.uacc),
+        None => None,
+    }
 }
 
 /// Whether the most specific profile that covers the name has that universal access.

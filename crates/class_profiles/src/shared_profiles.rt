@@ -1,7 +1,7 @@
 //! The profiles of one class in a table that doesn't change.
 ghost use Rattle.std.specs.Prelude.{◌≡◌, ◌<◌, ◌≤◌, length, map, Some, IfOk};
 ghost use Rattle.std.specs.List.{find, slice_get};
-ghost use Rattle.std.specs.Option.{option_copied};
+ghost use Rattle.std.specs.Option.{option_copied, option_map};
 ghost use Rattle.racf_profiles.specs.Lookup.{is_profile};
 ghost use Rattle.racf_profiles.specs.Edits.{put_profile, drop_row};
 ghost use Rattle.racf_profiles.specs.LawfulProfiles.{AreProfiles};
@@ -110,10 +110,11 @@ impl SharedProfiles {
         }
     }
 
-    /// The place of the most specific profile that covers the name, found as `ProfileTable::find` finds it.
-    pub fn find(&self, name: &Resource) -> Option<usize>
+    /// The most specific profile that covers the name, under its own name, which the search has read there. It is
+    /// found as `ProfileTable::find` finds its place.
+    pub fn find(&self, name: &Resource) -> Option<&Entry<Profile>>
         requires { name.now.kind ≡ self.now.kind }
-        ensures { IsPlaceOf self.now.profiles (best_profile self.now.profiles name.now) result }
+        ensures { option_copied result ≡ option_map entry_of (best_profile self.now.profiles name.now) }
     {
         self.profiles.find(name)
     }

@@ -105,12 +105,13 @@ fn profile_label(image: &Image, label: Id) -> Option<Label>
     ensures { result ≡ option_map profile_label (label_profile image.now.state label) }
 {
     let profiles = image.effective(FixedClass::Seclabel.id())?;
-    let place = profiles.find(&general_name(label))?;
-    let facts = profiles.facts(place);
-    Some(Label {
-        level: facts.level,
-        categories: facts.categories,
-    })
+    match profiles.find(&general_name(label)) {
+        Some(facts) => Some(Label {
+            level: facts.level,
+            categories: facts.categories,
+        }),
+        None => None,
+    }
 }
 
 /// Whether a label has an effective profile.

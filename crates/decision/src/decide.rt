@@ -75,8 +75,7 @@ fn by_profile(image: &Image, acee: &Acee, request: &Request, without: &Answer) -
     };
     match profiles.find(&request.name) {
         None => without.decision(generation),
-        Some(place) => {
-            let facts = profiles.facts(place);
+        Some(facts) => {
             with_profile(image, acee, request, &facts).decision_on(&facts, generation)
         }
     }

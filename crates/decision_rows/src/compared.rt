@@ -4,7 +4,7 @@ ghost use Rattle.std.specs.Prelude.{◌<◌, length};
 use crate::equal::{is_same_facts, is_same_options, is_same_user_of};
 use access_levels::Id;
 use decision::Request;
-use raclist_image::{ClassImage, Image};
+use raclist_image::{ClassImage, Facts, Image};
 
 /// What two images are asked for by name.
 #[derive(Drop)]
@@ -134,14 +134,23 @@ fn differing_cover<'a>(
     resources: &'a [Request],
 ) -> Option<&'a Request> {
     for resource in resources {
-        if place_of(one, resource) != place_of(other, resource) {
+        if !is_same_cover(one, other, resource) {
             return Some(resource);
         }
     }
     None
 }
 
-/// The place of the profile that decides on a resource.
-fn place_of(image: &Image, resource: &Request) -> Option<usize> {
+/// Whether the profiles that decide on a resource have the same name, or none decides in both.
+fn is_same_cover(one: &Image, other: &Image, resource: &Request) -> bool {
+    match (facts_for(one, resource), facts_for(other, resource)) {
+        (Some(one), Some(other)) => one.name.text() == other.name.text(),
+        (None, None) => true,
+        _ => false,
+    }
+}
+
+/// What is read of the profile that decides on a resource.
+fn facts_for<'a>(image: &'a Image, resource: &Request) -> Option<Facts<'a>> {
     image.effective(resource.class)?.find(&resource.name)
 }

@@ -76,16 +76,16 @@ pub(crate) fn print_profile(rt: &impl Print, image: &Image, row: &str) -> Result
         return print_none(rt);
     };
     match profiles.find(&request.name) {
-        Some(place) => print_facts(rt, profiles.name(place).text(), &profiles.facts(place)),
+        Some(facts) => print_facts(rt, &facts),
         None => print_none(rt),
     }
 }
 
-/// Prints what a decision reads of the profile of that name.
-fn print_facts(rt: &impl Print, name: &[u8], facts: &Facts<'_>) -> Result<()> {
+/// Prints what a decision reads of a profile.
+fn print_facts(rt: &impl Print, facts: &Facts<'_>) -> Result<()> {
     println!(rt;
         "profile {} owner={} uacc={} warning={} entries={} conditional={} level={} label={}",
-        text(name),
+        text(facts.name.text()),
         text(facts.owner.text()),
         text(facts.uacc.name()),
         facts.warning,

@@ -136,7 +136,7 @@ fn to_read(name: &[u8]) -> Result<Request, Fail> {
 /// What a decision reads of the profile that decides on a resource.
 fn facts_for<'a>(image: &'a Image, request: &Request) -> Option<Facts<'a>> {
     let profiles = image.effective(request.class)?;
-    Some(profiles.facts(profiles.find(&request.name)?))
+    profiles.find(&request.name)
 }
 
 /// Whether the profile that decides on a resource has that universal access, and so many entries in each of its lists.

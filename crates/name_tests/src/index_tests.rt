@@ -380,7 +380,7 @@ fn item_for(index: &SharedIndex<u32>, name: &[u8]) -> u32
         return 0;
     };
     match index.find(&name) {
-        Some(place) => *index.at(place).1,
+        Some(entry) => entry.item,
         None => 0,
     }
 }
@@ -460,7 +460,23 @@ fn is_same(shared: &SharedIndex<u32>, index: &Index<u32>, name: &Resource) -> bo
             return false;
         }
     }
-    shared.len() == index.len() && shared.find(name) == index.find(name)
+    shared.len() == index.len() && finds_same(shared, index, name)
+}
+
+/// Whether both find the same for a name.
+fn finds_same(shared: &SharedIndex<u32>, index: &Index<u32>, name: &Resource) -> bool
+    requires kinds { AreOf General index.now.entries }
+    requires same { AreOf General shared.now }
+    requires kind { name.now.kind ≡ General }
+{
+    match (shared.find(name), index.find(name)) {
+        (Some(entry), Some(place)) => {
+            let (other, item) = index.at(place);
+            entry.name.text() == other.text() && entry.item == *item
+        }
+        (None, None) => true,
+        _ => false,
+    }
 }
 
 /// Puts an item under a name, or takes the name out where the item is 0.

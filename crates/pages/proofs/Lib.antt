@@ -1,3 +1,4 @@
 pub mod Seams
 pub mod Singles
 pub mod RisingLaws
+pub mod KeyBeginLaws

@@ -60,6 +60,17 @@ module _ {T : Type 0} (p : T → Bool) where
       let next : 1 + position_or_len p xs ≡ suc (length xs) = omega (arith, ih) in
       ap (λ b. cond (not b) (1 + position_or_len p xs) 0) (or_parts (p x) (list_any p xs) h).0 ∙ next
 
+  -- where an item passes, the first place is one of the list
+  pub position_within : (xs : List T) → list_any p xs ≡ true → position_or_len p xs < length xs
+  position_within [] h = absurd (cc)
+  position_within (x ∷ xs) h =
+      elim (p x) as (λ b. p x ≡ b → position_or_len p (x ∷ xs) < length (x ∷ xs)) [
+        | true ↦ λ t. subst (λ b. cond (not b) (1 + position_or_len p xs) 0 < suc (length xs)) (sym t) (omega arith)
+        | false ↦ λ t.
+            let less = position_within xs (or_other (p x) (list_any p xs) h t) in
+            subst (λ b. cond (not b) (1 + position_or_len p xs) 0 < suc (length xs)) (sym t) (omega (arith, less))
+      ] refl
+
   -- where an item passes, what stands behind doesn't count
   pub found_in_front : (xs ys : List T) → list_any p xs ≡ true → position_or_len p (xs ++ ys) ≡ position_or_len p xs
   found_in_front [] ys h = absurd (cc)

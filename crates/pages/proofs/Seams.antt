@@ -1,5 +1,5 @@
 -- A change in the middle one of three lists, and in one of many parts.
-use Rattle.std.proofs.Common.{◌≡◌, ◌+◌, ◌-◌, ◌<◌, ◌≤◌, ℕ, List, [], ◌∷◌, ◌++◌, length, take, drop, get_or, ap, sym, ◌∙◌, arith, append_assoc, append-nil, length-append, set, refl, zero-add, zero, suc}
+use Rattle.std.proofs.Common.{◌≡◌, ◌+◌, ◌-◌, ◌<◌, ◌≤◌, ℕ, List, [], ◌∷◌, ◌++◌, length, take, drop, get_or, ap, sym, ◌∙◌, arith, append_assoc, append-nil, length-append, set, None, refl, zero-add, zero, suc}
 use Rattle.std.specs.List.{flat_map, insert, remove, slice_get}
 use Rattle.std.proofs.lemmas.List.{set-append_left, set-append_right, take-append-drop, drop-append-le}
 use Rattle.std.proofs.lemmas.List.Edits.{insert-append_left, insert-append_right, remove-append_left, remove-append_right}
@@ -46,6 +46,11 @@ get_behind (x ∷ xs) ys j = ap (λ i. slice_get (x ∷ (xs ++ ys)) i) (next_sum
 
 pub get_seam : {T : Type 0} (xs ys zs : List T) (j : ℕ) → j < length ys → slice_get (xs ++ (ys ++ zs)) (length xs + j) ≡ slice_get ys j
 get_seam xs ys zs j h = get_behind xs (ys ++ zs) j ∙ get_front ys zs j h
+
+-- nothing stands behind the last
+pub get_past : {T : Type 0} (xs : List T) → slice_get xs (length xs) ≡ None
+get_past [] = refl
+get_past (x ∷ xs) = get_past xs
 
 -- the items of a front and of the rest
 pub flat_map_halves : {P T : Type 0} (f : P → List T) (ps : List P) (n : ℕ) → flat_map f (take n ps) ++ flat_map f (drop n ps) ≡ flat_map f ps

@@ -1,3 +1,4 @@
 pub mod Rising
+pub mod KeyBegin
 pub mod Parts
 pub mod Walk

@@ -1,11 +1,13 @@
 ghost use Rattle.std.specs.Prelude.{◌≡◌, ◌+◌, ◌<◌, ◌≤◌, ◌↔◌, [], ◌++◌, length, map, drop, insert, remove, IfOk, IsTrue, Some, slice_set, slice_get};
 ghost use Rattle.std.specs.List.{position_or_len};
 ghost use Rattle.std.specs.Arc.{arc_value};
+ghost use Rattle.std.specs.Option.{option_copied};
 ghost use Rattle.pages.specs.Rising.{Rises, reaches};
 
 use crate::keyed_part::KeyedPart;
 use crate::part::{Made, OpenPart, Part};
-use crate::search::{ByKey, ByTest, first_of, is_number};
+use crate::search::{ByTest, first_of, found_of, is_number};
+use crate::search_key::SearchKey;
 use crate::shared_page::SharedPage;
 use crate::splice::{inserted, item_at, removed, replaced, share_all};
 use crate::test::Test;
@@ -208,13 +210,22 @@ impl<T: Drop, L: Part<T>> Pages<T, L> {
 impl<T: Drop, L: KeyedPart<T>> Pages<T, L> {
     /// The first place whose key isn't lower than this one, or the number of items. It compares as many keys as the
     /// number of items has binary digits, and a few more.
-    pub fn first_by_key(&self, key: &[u8]) -> usize
+    pub fn first_by_key(&self, key: &SearchKey<'_>) -> usize
         requires { Rises (reaches L.key_of key.now) self.now }
         ensures place { result ≡ position_or_len (reaches L.key_of key.now) self.now }
         ensures within { result ≤ length self.now }
     {
         is_number(self.len);
-        first_of(&self.pages, &ByKey { key })
+        first_of(&self.pages, key)
+    }
+
+    /// The item at that place, if there is one. It is cheaper than its place, for which items are counted.
+    pub fn found_by_key(&self, key: &SearchKey<'_>) -> Option<&T>
+        requires { Rises (reaches L.key_of key.now) self.now }
+        ensures { option_copied result ≡ slice_get self.now (position_or_len (reaches L.key_of key.now) self.now) }
+    {
+        let item = found_of(&self.pages, key)?;
+        Some(item)
     }
 }
 

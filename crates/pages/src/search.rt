@@ -1,10 +1,14 @@
-ghost use Rattle.std.specs.Prelude.{◌≡◌, ◌+◌, ◌-◌, ◌^◌, ◌<◌, ◌≤◌, Bool, true, false, length, take, Some, slice_get, slice_index_or};
+ghost use Rattle.std.specs.Prelude.{◌≡◌, ◌+◌, ◌-◌, ◌^◌, ◌<◌, ◌≤◌, Bool, true, false, length, take, Some, slice_get, slice_index_or, option_map};
+ghost use Rattle.std.specs.Arc.{arc_value};
 ghost use Rattle.std.specs.List.{flat_map, position_or_len, list_any};
+ghost use Rattle.std.specs.Option.{option_copied};
 ghost use Rattle.pages.specs.Rising.{Rises, reaches};
 
 use crate::keyed_part::KeyedPart;
 use crate::part::{OpenPart, Part};
+use crate::search_key::SearchKey;
 use crate::test::Test;
+use std::sync::Arc;
 
 /// A question that is asked of the parts of a page, and then within one of them.
 pub(crate) trait Probe<T: Drop, P: Part<T>> {
@@ -39,22 +43,15 @@ impl<T: Drop, P: OpenPart<T>, Q: Test<T>> Probe<T, P> for ByTest<'_, Q> {
     }
 }
 
-/// The question whether a key isn't lower than this one.
-#[derive(Drop)]
-pub(crate) struct ByKey<'a> {
-    /// The key.
-    pub(crate) key: &'a [u8],
-}
-
-impl<T: Drop, P: KeyedPart<T>> Probe<T, P> for ByKey<'_> {
-    ghost passes = { λ probe. reaches P.key_of probe.key.now };
+impl<T: Drop, P: KeyedPart<T>> Probe<T, P> for SearchKey<'_> {
+    ghost passes = { λ key. reaches P.key_of key };
 
     fn last_passes(&self, part: &P) -> bool {
-        !part.last_key().cmp(self.key).is_lt()
+        part.reaches(self)
     }
 
     fn first_in(&self, part: &P) -> usize {
-        part.first_by_key(self.key)
+        part.first_by_key(self)
     }
 }
 
@@ -108,6 +105,21 @@ pub(crate) fn first_of<T: Drop, P: Part<T>, Q: Probe<T, P>>(parts: &[P], probe: 
         return before;
     }
     before + probe.first_in(&parts[k])
+}
+
+/// The first item whose key isn't lower than this one. No place is counted.
+pub(crate) fn found_of<'p, T: Drop, P: KeyedPart<T>>(
+    parts: &'p [P],
+    key: &SearchKey<'_>,
+) -> Option<&'p Arc<T>>
+    requires { Rises (reaches P.key_of key.now) (flat_map P.items parts.now) }
+    ensures { option_map arc_value (option_copied result) ≡ slice_get (flat_map P.items parts.now) (position_or_len (reaches P.key_of key.now) (flat_map P.items parts.now)) }
+{
+    let k = first_part(parts, key);
+    if k == parts.len() {
+        return None;
+    }
+    parts[k].found_by_key(key)
 }
 
 /// That a count is a number, which bounds each place. It does nothing: a proof has the bound of a count once it is

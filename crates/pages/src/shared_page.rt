@@ -5,7 +5,8 @@ ghost use Rattle.pages.specs.Parts.{change_items};
 
 use crate::keyed_part::KeyedPart;
 use crate::part::{Change, Made, OpenPart, Part};
-use crate::search::{ByKey, ByTest, first_of, is_number, last_part};
+use crate::search::{ByTest, first_of, found_of, is_number, last_part};
+use crate::search_key::SearchKey;
 use crate::splice::{inserted, item_at, removed, replaced, share_all};
 use crate::test::Test;
 use std::alloc::{AllocError, Global};
@@ -251,12 +252,16 @@ impl<T: Drop, P: OpenPart<T>> OpenPart<T> for SharedPage<T, P> {
 impl<T: Drop, P: KeyedPart<T>> KeyedPart<T> for SharedPage<T, P> {
     ghost key_of = { P.key_of };
 
-    fn last_key(&self) -> &[u8] {
-        self.last.last_key()
+    fn reaches(&self, key: &SearchKey<'_>) -> bool {
+        self.last.reaches(key)
     }
 
-    fn first_by_key(&self, key: &[u8]) -> usize {
-        first_of(self.parts(), &ByKey { key })
+    fn first_by_key(&self, key: &SearchKey<'_>) -> usize {
+        first_of(self.parts(), key)
+    }
+
+    fn found_by_key(&self, key: &SearchKey<'_>) -> Option<&Arc<T>> {
+        found_of(self.parts(), key)
     }
 }
 

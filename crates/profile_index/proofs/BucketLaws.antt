@@ -1,6 +1,9 @@
 -- Buckets: entries changed at one place, and the search among their keys.
 use Rattle.std.proofs.Common.{◌≡◌, ℕ, zero, suc, ◌+◌, ◌-◌, ◌<◌, ◌≤◌, Bool, true, false, not, cond, ltb, eqb, List, [], ◌∷◌, ◌++◌, length, map, take, drop, set, Option, Some, None, Ok, refl, ap, sym, ◌∙◌, subst, arith, length-append, length-drop}
-use Rattle.std.specs.Prelude.{if◌then◌else◌}
+use Rattle.std.specs.Prelude.{◌≢◌, if◌then◌else◌, IsSomeAnd}
+use Rattle.std.specs.Option.{option_map}
+use Rattle.std.specs.Ordering.{nat_cmp, is_lt}
+use Rattle.std.specs.Cmp.Lexicographic.{slice_cmp}
 use Rattle.std.specs.List.{insert, remove, slice_get, list_any, position_or_len}
 use Rattle.std.proofs.lemmas.Bool.{or_parts, ltb-false}
 use Rattle.std.proofs.lemmas.List.{take-append-drop, take-set, drop-set, length-take-le, take_all}
@@ -14,7 +17,15 @@ use Rattle.generic_names.specs.Spelled.{Spelled}
 use Rattle.generic_names.specs.Faults.{unless, longest}
 use Rattle.generic_names.specs.Laws.{IsPattern}
 use Rattle.pages.specs.Rising.{Rises}
+use Rattle.pages.specs.KeyBegin.{begin_of, AreBytes}
+use Rattle.pages.proofs.KeyBeginLaws.{begin-decides}
 use Rattle.pages.proofs.RisingLaws.{rises_front, none_up_to}
+
+-- where the begins of the last key and of another differ, they tell which is lower
+pub ends-below : (last : Option (List ℕ)) (begin : ℕ) (key : List ℕ) (other : ℕ) → IsSomeAnd last (λ k. (begin ≡ begin_of k) × AreBytes k) → AreBytes key → other ≡ begin_of key → begin ≢ other
+    → option_map (λ k. is_lt (slice_cmp nat_cmp k key)) last ≡ Some (ltb begin other)
+ends-below None begin key other ends bytes is differ = absurd ends
+ends-below (Some k) begin key other ends bytes is differ = ap (λ (b : Bool). Some b) (sym (begin-decides k key begin other ends.1 bytes ends.0 is differ))
 
 module _ {A : Type 0} where
   -- the rest from a place on begins with what stands there

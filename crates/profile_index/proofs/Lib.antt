@@ -8,3 +8,4 @@ mod SlotLaws
 mod BucketLaws
 mod KeyBeginLaws
 mod SlotOrderLaws
+mod PassedLaws

@@ -6,7 +6,7 @@ use Rattle.std.proofs.lemmas.Bool.Decides.{nat_tests}
 use Rattle.profile_index.specs.declared.entry.Entry.{Entry}
 use Rattle.profile_index.specs.declared.entry_slots.Slot.{Slot}
 use Rattle.profile_index.specs.Buckets.{key_of}
-use Rattle.profile_index.specs.KeyBegin.{begin_of}
+use Rattle.pages.specs.KeyBegin.{begin_of}
 use Rattle.profile_index.specs.EntrySlots.{numbers, renamed, renamed_slot, HaveBegins}
 use Rattle.profile_index.proofs.PlaceLaws.{all-insert, all-remove}
 use Rattle.generic_names.specs.Best.{AreNamed}

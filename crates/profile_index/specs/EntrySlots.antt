@@ -5,7 +5,7 @@ use Rattle.std.specs.Option.{option_map}
 use Rattle.profile_index.specs.declared.entry.Entry.{Entry}
 use Rattle.profile_index.specs.declared.entry_slots.Slot.{Slot}
 use Rattle.profile_index.specs.Buckets.{key_of}
-use Rattle.profile_index.specs.KeyBegin.{begin_of}
+use Rattle.pages.specs.KeyBegin.{begin_of}
 
 -- what stands in these slots, in their order
 abbrev pub in_slots : {A : Type 0} → List A → List ℕ → List A

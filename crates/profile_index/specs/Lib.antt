@@ -1,5 +1,4 @@
 pub mod Indexed
 pub mod Places
-pub mod KeyBegin
 pub mod EntrySlots
 pub mod Buckets

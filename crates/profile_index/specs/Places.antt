@@ -1,6 +1,6 @@
 -- Words of the crate's own functions, which search by places.
 use Rattle.std.specs.Prelude.{◌≡◌, ℕ, ◌+◌, ◌<◌, ◌≤◌, Bool, true, false, List, length, get_or, Option, MatchOption}
-use Rattle.std.specs.List.{AllWithin}
+use Rattle.std.specs.List.{AllWithin, slice_get}
 use Rattle.generic_names.specs.Spelled.{Spelled}
 use Rattle.generic_names.specs.Before.{before}
 use Rattle.profile_index.specs.declared.entry.Entry.{Entry}
@@ -12,6 +12,10 @@ module _ {A : Type 0} (test : A → Bool) (xs : List A) where
   IsFirst answer =
       MatchOption answer (AllWithin (λ x. test x ≡ false) xs 0 (length xs))
       (λ place. (place < length xs) × AllWithin (λ x. test x ≡ false) xs 0 place × ((d : A) → test (get_or xs place d) ≡ true))
+
+  -- behind a front of entries of which all pass a test, this is the first, if there is one
+  abbrev pub IsFirstBehind : Option A → Type 0
+  IsFirstBehind first = (place : ℕ) × ((place ≤ length xs) × (AllWithin (λ x. test x ≡ true) xs 0 place × (first ≡ slice_get xs place)))
 
 module _ {T : Type 0} (name : Spelled) (entries : List (Entry T)) where
   -- the entry at this place has the name, and no other has

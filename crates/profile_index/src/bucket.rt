@@ -1,5 +1,5 @@
 //! The leaves of a shared index.
-ghost use Rattle.std.specs.Prelude.{◌≡◌, ◌+◌, ◌-◌, ◌*◌, ◌^◌, ◌<◌, ◌≤◌, [], ◌∷◌, ◌++◌, length, IfOk, slice_set};
+ghost use Rattle.std.specs.Prelude.{◌≡◌, ◌+◌, ◌-◌, ◌*◌, ◌^◌, ◌<◌, ◌≤◌, [], ◌∷◌, ◌++◌, length, map, IfOk, Some, option_map, slice_get, slice_set};
 ghost use Rattle.std.specs.List.{insert};
 ghost use Rattle.std.specs.Arc.{arc_value};
 ghost use Rattle.std.specs.Ordering.{nat_cmp, is_lt};
@@ -10,7 +10,7 @@ ghost use Rattle.profile_index.specs.Buckets.{key_of, most_placed};
 use crate::bucket_rows::{BucketRows, names_length};
 use crate::entry::Entry;
 use generic_names::{Pattern, first_qualifier};
-use pages::{Change, KeyedPart, Made, Part};
+use pages::{Change, KeyedPart, Made, Part, SearchKey, begin_of};
 use std::alloc::{AllocError, Global};
 use std::marker::Model;
 use std::sync::Arc;
@@ -28,6 +28,8 @@ const PACKED: usize = 12;
 pub(crate) struct Bucket<T: Drop> {
     /// How many entries there are.
     len: usize,
+    /// The begin of the last one's key, by which most steps of a search pass the bucket over.
+    begin: u64,
     /// The entries, with the keys of their names.
     rows: Arc<BucketRows<T>>,
 }
@@ -42,7 +44,7 @@ impl<T: Drop> Model for Bucket<T> {
 
     ghost view = { λ bucket. arc_value bucket.rows };
 
-    ghost invariant = { λ bucket. IsBucket (arc_value bucket.rows) bucket.len };
+    ghost invariant = { λ bucket. IsBucket (arc_value bucket.rows) bucket.len bucket.begin };
 }
 
 impl<T: Drop> Bucket<T> {
@@ -55,6 +57,7 @@ impl<T: Drop> Bucket<T> {
         let len = rows.entries().len();
         Ok(Bucket {
             len,
+            begin: begin_of(rows.key(len - 1)),
             rows: Arc::new(alloc, rows)?,
         })
     }
@@ -73,6 +76,17 @@ impl<T: Drop> Bucket<T> {
         ensures { result ≤ 246 * length self.now }
     {
         names_length(self.rows().entries())
+    }
+
+    /// Whether the key of the last entry is lower than this one. Where their begins differ, no key is looked at.
+    fn is_below(&self, key: &SearchKey<'_>) -> bool
+        ensures { option_map (λ last. is_lt (slice_cmp nat_cmp last key.now)) (slice_get (map key_of self.now) (length self.now - 1)) ≡ Some result }
+    {
+        let begin = key.begin();
+        if self.begin == begin {
+            return is_lower(self.rows().key(self.len - 1), key);
+        }
+        self.begin < begin
     }
 
     /// Whether a name has its place in this bucket, going by an entry of it.
@@ -161,6 +175,7 @@ impl<T: Drop> Part<Entry<T>> for Bucket<T> {
     fn share(&self) -> Result<Bucket<T>, AllocError> {
         Ok(Bucket {
             len: self.len,
+            begin: self.begin,
             rows: Arc::try_clone(&self.rows)?,
         })
     }
@@ -257,11 +272,11 @@ impl<T: Drop> Part<Entry<T>> for Bucket<T> {
 impl<T: Drop> KeyedPart<Entry<T>> for Bucket<T> {
     ghost key_of = { key_of };
 
-    fn last_key(&self) -> &[u8] {
-        self.rows().key(self.len - 1)
+    fn reaches(&self, key: &SearchKey<'_>) -> bool {
+        !self.is_below(key)
     }
 
-    fn first_by_key(&self, key: &[u8]) -> usize {
+    fn first_by_key(&self, key: &SearchKey<'_>) -> usize {
         let rows = self.rows();
         let mut low = 0;
         let mut high = self.len;
@@ -274,6 +289,14 @@ impl<T: Drop> KeyedPart<Entry<T>> for Bucket<T> {
             }
         }
         low
+    }
+
+    fn found_by_key(&self, key: &SearchKey<'_>) -> Option<&Arc<Entry<T>>> {
+        let place = self.first_by_key(key);
+        if place == self.len {
+            return None;
+        }
+        Some(self.rows().at(place))
     }
 }
 
@@ -288,11 +311,11 @@ fn two<T: Drop>(front: Bucket<T>, back: Bucket<T>, placed: usize) -> Made<Change
     }
 }
 
-/// Whether a key is lower than another.
-fn is_lower(key: &[u8], other: &[u8]) -> bool
+/// Whether a key is lower than the one that is searched for.
+fn is_lower(key: &[u8], other: &SearchKey<'_>) -> bool
     ensures { result ≡ is_lt (slice_cmp nat_cmp key.now other.now) }
 {
-    key.cmp(other).is_lt()
+    key.cmp(other.bytes()).is_lt()
 }
 
 /// How many of these entries, from the first on, stand in one bucket that is packed.

@@ -8,7 +8,7 @@ ghost use Rattle.profile_index.specs.declared.entry.Entry.{Entry};
 use crate::bucket::Bucket;
 use crate::entry::Entry;
 use generic_names::OrderKey;
-use pages::{Pages, SharedPage};
+use pages::{Pages, SearchKey, SharedPage};
 
 /// Entries by their places, and the search among them.
 pub(crate) trait EntryList<T> {
@@ -48,6 +48,6 @@ impl<T: Drop> EntryList<T> for SharedEntries<T> {
     }
 
     fn end_below(&self, key: &OrderKey) -> usize {
-        self.first_by_key(key.as_bytes())
+        self.first_by_key(&SearchKey::of(key.as_bytes()))
     }
 }

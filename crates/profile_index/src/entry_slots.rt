@@ -7,13 +7,13 @@ ghost use Rattle.profile_index.specs.declared.entry.Entry.{Entry};
 ghost use Rattle.profile_index.specs.Buckets.{key_of};
 ghost use Rattle.profile_index.specs.EntrySlots.{in_slots, numbers, renamed_slot, HaveBegins};
 ghost use Rattle.profile_index.specs.Indexed.{name_of};
-ghost use Rattle.profile_index.specs.KeyBegin.{begin_of, AreBytes};
+ghost use Rattle.pages.specs.KeyBegin.{begin_of, AreBytes};
 
 use crate::entry::Entry;
 use crate::entry_list::EntryList;
-use crate::key_begin::begin_of;
 use crate::keyed_entry::KeyedEntry;
 use generic_names::OrderKey;
+use pages::begin_of;
 use std::alloc::{AllocError, Global};
 use std::marker::Model;
 use tiered_list::TieredList;
@@ -126,7 +126,7 @@ impl<T> EntrySlots<T> {
         ensures spare { self.new.spare + 1 ≡ self.old.spare }
     {
         let number = self.slots.len() as u32;
-        let begin = begin_of(entry.key());
+        let begin = begin_of(entry.key().as_bytes());
         self.slots.push(entry).unwrap();
         self.order.insert(place, Slot { begin, number });
         self.spare -= 1;
@@ -189,7 +189,7 @@ fn end_below<T>(slots: &[KeyedEntry<T>], order: &TieredList<Slot>, key: &OrderKe
     ensures below { AllWithin (λ e. is_lower e.name key.now ≡ true) (in_slots slots.now (numbers order.now.items)) 0 result }
     ensures above { AllWithin (λ e. is_lower e.name key.now ≡ false) (in_slots slots.now (numbers order.now.items)) result (length order.now.items) }
 {
-    let begin = begin_of(key);
+    let begin = begin_of(key.as_bytes());
     let mut low = 0;
     let mut high = order.len();
     while low < high {

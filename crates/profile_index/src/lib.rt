@@ -25,7 +25,6 @@ mod entry;
 mod entry_list;
 mod entry_slots;
 mod index;
-mod key_begin;
 mod keyed_entry;
 mod search;
 mod shared_index;

@@ -1,5 +1,6 @@
 ghost use Rattle.std.specs.Prelude.{◌≡◌, ◌+◌, ◌-◌, ◌*◌, ◌^◌, ◌<◌, ◌≤◌, true, length, get_or, IfOk, IfErr};
 ghost use Rattle.std.specs.List.{AllWithin};
+ghost use Rattle.std.specs.Option.{option_copied};
 ghost use Rattle.std.specs.Str.{bytes_eq};
 ghost use Rattle.std.specs.Ordering.{nat_cmp};
 ghost use Rattle.std.specs.Cmp.Lexicographic.{slice_cmp};
@@ -7,17 +8,19 @@ ghost use Rattle.generic_names.specs.Covers.{covers};
 ghost use Rattle.generic_names.specs.Spelled.{first_qualifier};
 ghost use Rattle.generic_names.specs.Gap.{is_below};
 ghost use Rattle.generic_names.specs.Laws.{IsResource, IsPattern};
-ghost use Rattle.generic_names.specs.Best.{IsInOrder, AreNamed};
-ghost use Rattle.generic_names.specs.OrderKey.{order_key};
+ghost use Rattle.generic_names.specs.Best.{best, IsInOrder, AreNamed};
+ghost use Rattle.generic_names.specs.OrderKey.{order_key, is_lower};
 ghost use Rattle.profile_index.specs.declared.entry.Entry.{Entry};
 ghost use Rattle.profile_index.specs.Indexed.{name_of, has_name, is_under, AreOf};
-ghost use Rattle.profile_index.specs.Places.{IsFirst, IsThere, IsMissing};
+ghost use Rattle.profile_index.specs.Places.{IsFirst, IsFirstBehind, IsThere, IsMissing};
 
-use crate::entry_list::EntryList;
+use crate::entry::Entry;
+use crate::entry_list::{EntryList, SharedEntries};
 use crate::entry_slots::EntrySlots;
 use crate::keyed_entry::KeyedEntry;
 use crate::steps::Steps;
 use generic_names::{Gap, OrderKey, Pattern, Resource, first_qualifier};
+use pages::SearchKey;
 use std::cmp::Ordering;
 use std::sync::ledger::Ledger;
 
@@ -57,6 +60,51 @@ pub(crate) fn first_that_covers<T, E: EntryList<T>>(list: &E, name: &Resource) -
         };
     }
     None
+}
+
+/// The most specific entry of a shared list that covers a name. It is searched for as `first_that_covers` does, but by
+/// entries and not by places, which costs no counting, as far as runs are passed over.
+pub(crate) fn most_specific<'a, T: Drop>(
+    list: &'a SharedEntries<T>,
+    name: &Resource,
+) -> Option<&'a Entry<T>>
+    requires ordered { IsInOrder name_of list.now }
+    requires named { AreNamed name_of list.now }
+    requires kinds { AreOf name.now.kind list.now }
+    ensures { option_copied result ≡ best name_of list.now name.now }
+{
+    is_resource(name);
+    let mut next = first_from(list, &name.order_key());
+    for _run in 0..list.len() {
+        let entry = next?;
+        if entry.name.covers(name) {
+            return Some(entry);
+        }
+        let Some(gap) = entry.name.gap(name) else {
+            break;
+        };
+        next = first_behind(list, &gap);
+    }
+    let place = first_that_covers(list, name)?;
+    Some(list.at(place))
+}
+
+/// The first entry whose name hasn't a lower key than this one.
+fn first_from<'a, T: Drop>(list: &'a SharedEntries<T>, key: &OrderKey) -> Option<&'a Entry<T>>
+    requires ordered { IsInOrder name_of list.now }
+    requires named { AreNamed name_of list.now }
+    ensures { IsFirstBehind (λ e. is_lower e.name key.now) list.now (option_copied result) }
+{
+    list.found_by_key(&SearchKey::of(key.as_bytes()))
+}
+
+/// The first entry that doesn't lie before the end of a gap.
+fn first_behind<'a, T: Drop>(list: &'a SharedEntries<T>, gap: &Gap) -> Option<&'a Entry<T>>
+    requires ordered { IsInOrder name_of list.now }
+    requires named { AreNamed name_of list.now }
+    ensures { IsFirstBehind (λ e. is_below e.name gap.now) list.now (option_copied result) }
+{
+    first_from(list, &gap.order_key())
 }
 
 /// Where the entries end that lie before the end of a gap, from a place on at which one does.

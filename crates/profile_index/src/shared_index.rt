@@ -1,4 +1,5 @@
 ghost use Rattle.std.specs.Prelude.{◌≡◌, ◌<◌, ◌≤◌, [], length, find, IfOk, Some, slice_get};
+ghost use Rattle.std.specs.Option.{option_copied};
 ghost use Rattle.generic_names.specs.Best.{best, IsInOrder, AreNamed};
 ghost use Rattle.profile_index.specs.Buckets.{most_placed};
 ghost use Rattle.profile_index.specs.Indexed.{name_of, AreOf};
@@ -6,7 +7,7 @@ ghost use Rattle.profile_index.specs.Indexed.{name_of, AreOf};
 use crate::entry::Entry;
 use crate::entry_list::SharedEntries;
 use crate::index::NoMemory;
-use crate::search::{first_that_covers, is_pattern, place_for};
+use crate::search::{is_pattern, most_specific, place_for};
 use generic_names::{Pattern, Resource};
 use pages::{Made, Pages};
 use std::alloc::Global;
@@ -92,11 +93,11 @@ impl<T: Drop> SharedIndex<T> {
 
     /// The most specific entry that covers a name. An entry before the very name isn't looked at, and of
     /// those behind it whole runs are passed over that can't cover it, as `Index::find` does.
-    pub fn find(&self, name: &Resource) -> Option<usize>
+    pub fn find(&self, name: &Resource) -> Option<&Entry<T>>
         requires { AreOf name.now.kind self.now }
-        ensures { IsPlaceOf self.now (best name_of self.now name.now) result }
+        ensures { option_copied result ≡ best name_of self.now name.now }
     {
-        first_that_covers(&self.entries, name)
+        most_specific(&self.entries, name)
     }
 
     /// The entry of a pattern's name, generic or not.

@@ -2,3 +2,4 @@ pub mod Places
 pub mod PutKinds
 pub mod Copied
 mod Placing
+mod Found

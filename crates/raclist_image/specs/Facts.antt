@@ -1,5 +1,5 @@
 -- What a decision reads of a profile.
-use Rattle.std.specs.Prelude.{◌≡◌}
+use Rattle.std.specs.Prelude.{◌≡◌, Option, None, MatchOption, IsSomeAnd}
 use Rattle.racf_profiles.specs.declared.profiles.Profile.{Profile}
 use Rattle.raclist_image.specs.declared.facts.Facts.{Facts}
 
@@ -16,3 +16,7 @@ pub record AreFacts (profile : Profile) (facts : Facts) : Type 0 where
   pub label : facts.label ≡ profile.label
   pub audit : facts.audit ≡ profile.audit
   pub global_audit : facts.global_audit ≡ profile.global_audit
+
+-- The answer for a profile that may be there: its facts where it is, and none where it isn't.
+abbrev pub AreFactsOf : Option Profile → Option Facts → Type 0
+AreFactsOf profile answer = MatchOption answer (profile ≡ None) (λ facts. IsSomeAnd profile (λ p. AreFacts p facts))

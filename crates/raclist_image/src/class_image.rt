@@ -6,9 +6,9 @@ ghost use Rattle.racf_profiles.specs.declared.profiles.Profile.{Profile};
 ghost use Rattle.racf_profiles.specs.Lookup.{is_profile};
 ghost use Rattle.racf_profiles.specs.Edits.{put_profile, drop_row};
 ghost use Rattle.racf_profiles.specs.LawfulProfiles.{AreProfiles};
-ghost use Rattle.class_profiles.specs.Table.{best_profile, IsPlaceOf};
+ghost use Rattle.class_profiles.specs.Table.{best_profile};
 ghost use Rattle.profile_index.specs.Buckets.{most_placed};
-ghost use Rattle.raclist_image.specs.Facts.{AreFacts};
+ghost use Rattle.raclist_image.specs.Facts.{AreFacts, AreFactsOf};
 
 use crate::facts::Facts;
 use class_profiles::{Made, SharedProfiles};
@@ -51,13 +51,14 @@ impl ClassImage {
         self.profiles.len()
     }
 
-    /// The place of the most specific profile that covers the name, from 0. It is found by a search in the order, in
-    /// which only profiles that differ behind a `*` or `**` alone are looked at one by one.
-    pub fn find(&self, name: &Resource) -> Option<usize>
+    /// What a decision reads of the most specific profile that covers the name. It is found by a search in the order,
+    /// in which only profiles that differ behind a `*` or `**` alone are looked at one by one.
+    pub fn find(&self, name: &Resource) -> Option<Facts<'_>>
         requires { name.now.kind ≡ self.now.kind }
-        ensures { IsPlaceOf self.now.profiles (best_profile self.now.profiles name.now) result }
+        ensures { AreFactsOf (best_profile self.now.profiles name.now) result }
     {
-        self.profiles.find(name)
+        let entry = self.profiles.find(name)?;
+        Some(facts_of(&entry.name, &entry.item))
     }
 
     /// The name of the profile at that place.
@@ -68,7 +69,7 @@ impl ClassImage {
         self.profiles.at(place).name
     }
 
-    /// What a decision reads of the profile at that place.
+    /// What a decision reads of the profile at that place, from 0.
     pub fn facts(&self, place: usize) -> Facts<'_>
         requires { place < length self.now.profiles }
         ensures { IsSomeAnd (slice_get self.now.profiles place) (λ profile. AreFacts profile result) }

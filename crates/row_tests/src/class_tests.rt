@@ -280,18 +280,19 @@ fn with_name(
     Ok(table.with_profile(alloc, profile)?.what)
 }
 
-/// The place of the profile that decides on a resource.
-fn place_for(table: &ProfileTable, resource: &[u8]) -> Option<usize> {
-    match Resource::read(table.kind(), resource) {
-        Ok(resource) => table.find(&resource),
-        Err(_) => None,
-    }
+/// The name of the profile that decides on a resource.
+fn name_for<'a>(table: &'a ProfileTable, resource: &[u8]) -> Option<&'a [u8]> {
+    let Ok(resource) = Resource::read(table.kind(), resource) else {
+        return None;
+    };
+    let place = table.find(&resource)?;
+    Some(table.at(place).name.text())
 }
 
 /// The same in a table that doesn't change.
-fn shared_place_for(table: &SharedProfiles, resource: &[u8]) -> Option<usize> {
+fn shared_name_for<'a>(table: &'a SharedProfiles, resource: &[u8]) -> Option<&'a [u8]> {
     match Resource::read(table.kind(), resource) {
-        Ok(resource) => table.find(&resource),
+        Ok(resource) => Some(table.find(&resource)?.name.text()),
         Err(_) => None,
     }
 }
@@ -307,7 +308,7 @@ fn is_same(shared: &SharedProfiles, table: &ProfileTable) -> bool {
             return false;
         }
     }
-    shared.len() == table.len() && shared_place_for(shared, b"A.B") == place_for(table, b"A.B")
+    shared.len() == table.len() && shared_name_for(shared, b"A.B") == name_for(table, b"A.B")
 }
 
 /// Takes the profile of that name away from both.

@@ -1,12 +1,13 @@
--- The index finds the entry, and its place is the profile's.
-use Rattle.std.proofs.Common.{◌∙◌, List, Option, ap, sym, subst, map}
+-- The index finds the entry, which is that of the profile.
+use Rattle.std.proofs.Common.{◌∙◌, List, ap, sym, subst, map}
+use Rattle.std.specs.Option.{option_map}
 use Rattle.profile_index.specs.declared.entry.Entry.{Entry}
-use Rattle.profile_index.specs.Indexed.{AreOf, name_of, IsPlaceOf as IsEntryAt}
+use Rattle.profile_index.specs.Indexed.{AreOf, name_of}
 use Rattle.generic_names.specs.Best.{best}
 use Rattle.racf_profiles.specs.declared.profiles.Profile.{Profile}
 use Rattle.class_profiles.specs.Paired.{entry_of, items_of}
-use Rattle.class_profiles.specs.Table.{IsPlaceOf, best_profile}
-use Rattle.class_profiles.proofs.Pairs.{kinds-paired, best-paired, place-paired}
+use Rattle.class_profiles.specs.Table.{best_profile}
+use Rattle.class_profiles.proofs.Pairs.{kinds-paired, best-paired}
 use Rattle.class_profiles.proofs.shared_profiles.SharedProfiles.find.Goals as goal
 
 pub find-requires : goal.find-requires
@@ -17,8 +18,8 @@ find-requires c =
 
 pub returns : goal.returns
 returns c =
-    let ps = items_of c.self.inside.profiles in
     let name = c.args.name.now in
-    let there = subst (λ (es : List (Entry Profile)). IsEntryAt es (best name_of es name) c.find.result) c.self.invariant.paired c.find.ensures in
-    let best_is = subst (λ (o : Option (Entry Profile)). IsEntryAt (map entry_of ps) o c.find.result) (best-paired name ps) there in
-    subst (λ v. IsPlaceOf v.profiles (best_profile v.profiles name) c.find.result) c.self.view_is (place-paired ps (best_profile ps name) c.find.result best_is)
+    c.find.ensures
+    ∙ ap (λ (es : List (Entry Profile)). best name_of es name) c.self.invariant.paired
+    ∙ best-paired name (items_of c.self.inside.profiles)
+    ∙ ap (λ v. option_map entry_of (best_profile v.profiles name)) c.self.view_is

@@ -5,7 +5,7 @@ use Rattle.profile_index.specs.EntrySlots.{in_slots, numbers, IsKept, HaveBegins
 use Rattle.std.specs.Result.{is_ok}
 use Rattle.profile_index.proofs.SlotLaws.{length-in_slots, insert-kept, insert-slots}
 use Rattle.profile_index.proofs.SlotOrderLaws.{length-entries, numbers-insert, begins-insert}
-use Rattle.profile_index.specs.KeyBegin.{begin_of}
+use Rattle.pages.specs.KeyBegin.{begin_of}
 use Rattle.profile_index.proofs.entry_slots.EntrySlots.insert.Goals as goal
 
 pub insert-requires-clause-room : goal.insert-requires-clause-room
@@ -33,7 +33,7 @@ invariant_of-self g c =
     let number : c.len-number.result ≡ length slots = c.len-number.ensures ∙ c.self.inside.slots.ok.0 in
     let inserted = c.insert.ensures.items in
     let new_numbers = ap (λ (xs : List Slot). numbers xs) inserted ∙ numbers-insert order p slot ∙ ap (λ n. insert (numbers order) p n) number in
-    let begin = c.begin_of-begin.ensures.begin ∙ ap (λ k. begin_of k) c.key.ensures.key in (
+    let begin = c.begin_of-begin.ensures.begin ∙ ap (λ k. begin_of k) (c.as_bytes.ensures ∙ c.key.ensures.key) in (
       subst (λ xs. IsKept xs (numbers c.insert.new.self.items)) (sym pushed) (subst (λ xs. IsKept (slots ++ e ∷ []) xs) (sym new_numbers) (insert-kept slots (numbers order) c.self.invariant.0 e p within)),
       subst (λ xs. HaveBegins xs c.insert.new.self.items) (sym pushed) (subst (λ xs. HaveBegins (slots ++ e ∷ []) xs) (sym inserted) (begins-insert slots order c.self.invariant.0.there c.self.invariant.1 p e slot number begin)),
       omega (arith, pushed_len, c.push.ensures.capacity, c.self.invariant.2, room, c.requires.room),

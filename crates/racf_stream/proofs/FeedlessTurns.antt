@@ -1,4 +1,5 @@
--- Each statement of an input prints nothing, one line, or one and an AUDIT line, and no line feed stands in their words.
+-- Each statement of an input prints nothing, one line, or one and an AUDIT line, and no line feed stands in their
+-- words.
 use Rattle.std.proofs.Common.{◌≡◌, ℕ, ◌+◌, Bool, true, false, not, List, [], ◌∷◌, ◌++◌, Option, None, Some, Result, Ok, Err, refl, sym, subst, true≢false, inl, inr, is_some, length, codes, cond, append-nil}
 use Rattle.std.specs.Prelude.{◌⊎◌, ◌==◌, nat_le, IfSome, IfOk, find, unwrap_or}
 use Rattle.std.specs.List.{AllByRecursion}

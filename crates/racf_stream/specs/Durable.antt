@@ -51,9 +51,9 @@ pub record Stays {D : Type 0} (s t : StreamOn D) : Type 0 where
   pub store : t.store ≡ s.store
   pub halted : t.state.halted ≡ s.state.halted
 
--- What a statement does to the disks: nothing; or it is one at a desk that isn't halted, and at every moment a crash leaves
--- what stands for the position before it, or for the one behind it where no disk fails. A disk is said to have failed only
--- where its count rose.
+-- What a statement does to the disks: nothing; or it is one at a desk that isn't halted, and at every moment a crash
+-- leaves what stands for the position before it, or for the one behind it where no disk fails. A disk is said to have
+-- failed only where its count rose.
 pub record Moves {D : Type 0} (tells : D → Option History) (faults : D → ℕ) (item : Statement) (s t : StreamOn D) : Type 0 where
   pub moments : (t.store ≡ s.store)
       ⊎ ((s.state.halted ≡ false) × StaysEither tells s.store t.store s.state.position (answer None item s.state).state.position)

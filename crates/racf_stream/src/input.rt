@@ -14,13 +14,15 @@ use racf_outside::{Failed, Line, LineFault, Lines, Sink, Source};
 use std::alloc::Global;
 
 /// The next statement; `None` where the next line is skipped. The lines of a command are joined. What is gathered is
-/// written before the source is read; where that fails, no statement is looked for.
+/// written before the source is read; where that fails, no statement is looked for. The line of a request or of an
+/// issuer is copied into `room`, whatever that holds, and takes memory only where it has too little.
 pub fn next_statement<S: Source, O: Sink>(
     kind: Kind,
     alloc: Global,
     lines: &mut Lines<S>,
     replies: &mut Replies,
     sink: &mut O,
+    room: &mut Vec<u8>,
 ) -> Result<Result<Option<Statement>, Stop>, Failed>
     ensures item { IfOk result (λ next. NextsStatement kind next lines.old lines.new) }
     ensures faults { lines.old.faults ≤ lines.new.faults }
@@ -32,7 +34,7 @@ pub fn next_statement<S: Source, O: Sink>(
     let mut begun = None;
     'line: loop {
         write_before_read(lines, replies, sink)?;
-        match next_role(kind, alloc, lines, begun) {
+        match next_role(kind, alloc, lines, begun, room) {
             Ok(LineRole::Whole(item)) => return Ok(Ok(item)),
             Ok(LineRole::GoesOn(front)) => begun = Some(front),
             Err(stop) => return Ok(Err(stop)),
@@ -46,13 +48,14 @@ fn next_role<S: Source>(
     alloc: Global,
     lines: &mut Lines<S>,
     begun: Option<Begun>,
+    room: &mut Vec<u8>,
 ) -> Result<LineRole, Stop>
     ensures role { NextsRole kind result begun lines.old lines.new }
     ensures faults { lines.old.faults ≤ lines.new.faults }
     ensures limit { lines.new.passed ≤ 2 ^ 28 }
 {
     match lines.next() {
-        Ok(Line::Text(text)) => read_role(kind, alloc, begun, text),
+        Ok(Line::Text(text)) => read_role(kind, alloc, begun, text, room),
         Ok(Line::TooLong) => Ok(LineRole::Whole(Some(Statement::LineTooLong))),
         Ok(Line::End) => read_end(begun),
         Err(LineFault::ReadFault) => Err(Stop::ReadFault),
@@ -61,10 +64,16 @@ fn next_role<S: Source>(
 }
 
 /// What a line of text is.
-fn read_role(kind: Kind, alloc: Global, begun: Option<Begun>, text: &[u8]) -> Result<LineRole, Stop>
+fn read_role(
+    kind: Kind,
+    alloc: Global,
+    begun: Option<Begun>,
+    text: &[u8],
+    room: &mut Vec<u8>,
+) -> Result<LineRole, Stop>
     ensures { ReadsRole kind result begun text.now }
 {
-    match role_of(alloc, kind, begun, text) {
+    match role_of(alloc, kind, begun, text, room) {
         Ok(role) => Ok(role),
         Err(_) => Err(Stop::NoMemory),
     }

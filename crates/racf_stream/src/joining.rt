@@ -39,30 +39,37 @@ pub enum LineRole {
     GoesOn(Begun),
 }
 
-/// What a line of text is behind the front of a command, or anew. Takes memory for a command's text.
+/// What a line of text is behind the front of a command, or anew. Takes memory for a command's text; that of a request
+/// goes into `room`.
 pub(crate) fn role_of(
     alloc: Global,
     kind: Kind,
     begun: Option<Begun>,
     text: &[u8],
+    room: &mut Vec<u8>,
 ) -> Result<LineRole, AllocError>
     ensures { IfOk result (λ role. role ≡ role_of kind begun (Text text.now)) }
 {
     match begun {
-        None => fresh_role(alloc, kind, text),
+        None => fresh_role(alloc, kind, text, room),
         Some(begun) => begun.join(text),
     }
 }
 
 /// What a line of text is that begins anew.
-fn fresh_role(alloc: Global, kind: Kind, text: &[u8]) -> Result<LineRole, AllocError>
+fn fresh_role(
+    alloc: Global,
+    kind: Kind,
+    text: &[u8],
+    room: &mut Vec<u8>,
+) -> Result<LineRole, AllocError>
     ensures { IfOk result (λ role. role ≡ fresh_role kind (Text text.now)) }
 {
     if is_skipped(text) {
         return Ok(LineRole::Whole(None));
     }
     if stands_alone(kind, text) {
-        return Ok(LineRole::Whole(Some(Statement::request(alloc, text)?)));
+        return Ok(LineRole::Whole(Some(Statement::request(alloc, text, room)?)));
     }
     joined(Vec::new(alloc), text)
 }

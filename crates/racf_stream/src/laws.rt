@@ -27,8 +27,8 @@ use command_parser::laws::{fields_of_a_text_are_lawful, one_command_is_spelled};
 use journal_records::laws::{canonical_texts_are_of_commands, fields_are_of_identifiers};
 
 /// The output of a whole input is what its statements print at their turns, in order. Whatever the input's bytes, each
-/// prints nothing, or one line, or the line of a decision and an AUDIT line behind it, so that the lines of the output are
-/// those that are printed at the turns. The state at a statement's turn is that behind the statements before it.
+/// prints nothing, or one line, or the line of a decision and an AUDIT line behind it, so that the lines of the output
+/// are those that are printed at the turns. The state at a statement's turn is that behind the statements before it.
 pub fn an_item_prints_its_lines()
     ensures whole { (fault : Option ℕ) (base : Position) (bytes : List ℕ) →
         script_output fault base bytes ≡ concat (map printed (input_turns fault base bytes)) }
@@ -46,9 +46,9 @@ pub fn an_item_prints_its_lines()
     fields_are_of_identifiers();
 }
 
-/// What is printed for an AUTH or a FASTAUTH whose ACEE is in use is the decision that the table gives for that ACEE at the
-/// position of its turn, with the number of the commands before it, and its AUDIT line exactly where it is logged there;
-/// what is printed for a VERIFY that can put an ACEE is what `verified` gives there.
+/// What is printed for an AUTH or a FASTAUTH whose ACEE is in use is the decision that the table gives for that ACEE at
+/// the position of its turn, with the number of the commands before it, and its AUDIT line exactly where it is logged
+/// there; what is printed for a VERIFY that can put an ACEE is what `verified` gives there.
 pub fn requests_are_decided()
     ensures auth { (turn : Turn) (line acee : List ℕ) (access : Access) (user : Acee) → turn.item ≡ Request line →
         read line ≡ Ok (Auth acee access) → acee_named acee turn.before.acees ≡ Some user →
@@ -64,17 +64,17 @@ pub fn requests_are_decided()
         (verified turn.before.position.image.state (number_of turn.before) asked)).text }
 {}
 
-/// A run over a whole input ends with the status of a failed disk exactly where a line of its output says DISKFAULT, and else
-/// with that of refusals exactly where one says REFUSED or NEVER.
+/// A run over a whole input ends with the status of a failed disk exactly where a line of its output says DISKFAULT,
+/// and else with that of refusals exactly where one says REFUSED or NEVER.
 pub fn the_status_is_what_the_lines_say()
     ensures { (fault : Option ℕ) (base : Position) (bytes : List ℕ) → script_status fault base bytes ≡
         whole_status (list_any says_failed (map printed (input_turns fault base bytes))) (list_any says_refused (map printed (input_turns fault base bytes))) }
 {}
 
-/// Unless a disk has failed, a command has its outcome at the position of its turn, where the issuer of its turn gives it:
-/// that is printed, and, where no disk fails it, the position behind the turn is the one behind that outcome. Behind a disk
-/// that failed every command is told so, and the position stays. A line of an issuer who fits is the issuer of the next
-/// turns; one that doesn't fit changes no issuer.
+/// Unless a disk has failed, a command has its outcome at the position of its turn, where the issuer of its turn gives
+/// it: that is printed, and, where no disk fails it, the position behind the turn is the one behind that outcome.
+/// Behind a disk that failed every command is told so, and the position stays. A line of an issuer who fits is the
+/// issuer of the next turns; one that doesn't fit changes no issuer.
 pub fn commands_are_judged()
     ensures told { (turn : Turn) (text : List ℕ) → turn.item ≡ Command text → turn.before.halted ≡ false →
         printed turn ≡ (answer_outcome turn.fault (outcome_of text turn.before) turn.before).text }

@@ -1,7 +1,7 @@
 //! The stream: lines of commands and requests in, replies and answers out, from a source to a sink, at a desk on disks.
 //!
-//! The principal function is [`script`], which answers with a [`Status`]. Commands are given at the desk of `racf_desk`,
-//! requests are answered by `request_files` on the desk's image. `laws` is for a reader of an output.
+//! The principal function is [`script`], which answers with a [`Status`]. Commands are given at the desk of
+//! `racf_desk`, requests are answered by `request_files` on the desk's image. `laws` is for a reader of an output.
 //!
 //! Others that read lines and print answers gather them in [`Replies`], whose room for each is lent before the line
 //! is worked, and end by [`end_run`]. [`next_statement`] reads the statements of a stream or of a deck, by its

@@ -1,6 +1,6 @@
 //! The replies that are gathered before they are written.
 
-ghost use Rattle.std.specs.Prelude.{◌≡◌, [], OnOk, OnErr, IfOk};
+ghost use Rattle.std.specs.Prelude.{◌≡◌, [], IsTrue, OnOk, OnErr, IfOk};
 ghost use Rattle.std.specs.Borrow.{sem};
 ghost use Rattle.std.specs.Io.KnownBytes.{append_known};
 ghost use Rattle.racf_outside.specs.Causes.{HasCause};
@@ -39,6 +39,13 @@ impl Replies {
             text: Vec::new(alloc),
             newest: Vec::new(alloc),
         }
+    }
+
+    /// Whether nothing is gathered, so that the end of the next line needn't be looked for.
+    fn has_none(&self) -> bool
+        ensures { IsTrue result → self.now ≡ [] }
+    {
+        self.text.is_empty() && self.newest.is_empty()
     }
 
     /// Room for one more reply, behind those that are gathered: what stands there when it is given back is the newest
@@ -82,7 +89,7 @@ pub fn write_before_read<S: Source, O: Sink>(
     ensures front { OnErr result (IsCutShort replies.old (O.taken sink.old) (O.taken sink.new)) }
     ensures cause { HasCause (O.faults sink.old) (O.faults sink.new) result }
 {
-    if lines.holds_line() {
+    if replies.has_none() || lines.holds_line() {
         return Ok(());
     }
     replies.write_out(sink)

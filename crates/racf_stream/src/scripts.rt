@@ -24,12 +24,12 @@ use racf_outside::{Disk, Failed, Lines, Sink, Source};
 use std::alloc::{AllocError, Global};
 
 /// Works the lines of a source at a desk, and writes the text of each to the sink; skipped lines have none. The status
-/// tells how it ended; the source is given back with what it has left, and the desk as the commands left it. The texts are
-/// gathered, and written behind each command that is accepted, before the source is read again, and before the end: a
-/// source that gives line after line has the reply to each before it is asked for the next one. At most those of the lines
-/// of one block of the input wait, and each stands whole in memory before a part of it is written, and before a disk is
-/// asked. Where a disk fails a command, the requests behind it are answered on, and every further command is told so. Time
-/// grows with the input's length, and for each line with what the database takes to work its command.
+/// tells how it ended; the source is given back with what it has left, and the desk as the commands left it. The texts
+/// are gathered, and written behind each command that is accepted, before the source is read again, and before the end:
+/// a source that gives line after line has the reply to each before it is asked for the next one. At most those of the
+/// lines of one block of the input wait, and each stands whole in memory before a part of it is written, and before a
+/// disk is asked. Where a disk fails a command, the requests behind it are answered on, and every further command is
+/// told so. Time grows with the input's length, and for each line with what the database takes to work its command.
 pub fn script<S: Source, O: Sink, D: Disk>(
     alloc: Global,
     source: S,
@@ -102,14 +102,15 @@ fn run<S: Source, O: Sink, D: Disk>(
 {
     stream.is_at_rest();
     let mut replies = Replies::new(alloc);
+    let mut room = Vec::new(alloc);
     'item: loop {
-        let item = match next_statement(Kind::Stream, alloc, lines, &mut replies, sink) {
+        let item = match next_statement(Kind::Stream, alloc, lines, &mut replies, sink, &mut room) {
             Ok(Ok(item)) => item,
             Ok(Err(stop)) => return end(stop, stream, &mut replies, sink),
             Err(Failed) => return unless_failed(stream.has_failed(), Status::WriteFault),
         };
         let number = stream.number();
-        match process_statement(alloc, stream, item, &mut replies) {
+        match process_statement(alloc, stream, item, &mut replies, &mut room) {
             Ok(()) => {}
             Err(_) => return end(Stop::NoMemory, stream, &mut replies, sink),
         }
@@ -120,12 +121,14 @@ fn run<S: Source, O: Sink, D: Disk>(
     }
 }
 
-/// Processes a statement, where there is one, and gathers its text.
+/// Processes a statement, where there is one, and gathers its text. The memory of the statement's own text is left in
+/// `room`, for that of the next one.
 fn process_statement<D: Disk>(
     alloc: Global,
     stream: &mut Stream<D>,
     item: Option<Statement>,
     replies: &mut Replies,
+    room: &mut Vec<u8>,
 ) -> Result<(), AllocError>
     ensures processes { (base : Position) → Processes base result item stream.old stream.new replies.old replies.new }
     ensures moves { MovesBy D.tells D.faults item stream.old stream.new }
@@ -133,7 +136,9 @@ fn process_statement<D: Disk>(
     let Some(item) = item else {
         return Ok(());
     };
-    gather(alloc, stream, &item, replies)
+    let done = gather(alloc, stream, &item, replies);
+    *room = item.into_room(alloc);
+    done
 }
 
 /// Processes a statement, and gathers its text. Where memory is short, nothing more is gathered, and nothing else has

@@ -8,6 +8,7 @@ ghost use Rattle.racf_stream.specs.Statements.{is_skipped, is_request, is_issuer
 use command_words::{Parting, is_blank, is_spelled};
 use std::alloc::{AllocError, Global};
 use std::marker::Model;
+use std::mem;
 
 /// What the lines of an input are.
 #[derive(Clone, Copy)]
@@ -56,6 +57,16 @@ impl LineText {
         LineText { bytes }
     }
 
+    /// These bytes, copied into `room`, which is left without memory. Whatever that held is gone.
+    fn copied(alloc: Global, text: &[u8], room: &mut Vec<u8>) -> Result<LineText, AllocError>
+        ensures { IfOk result (λ line. line ≡ text.now) }
+    {
+        let mut bytes = mem::replace(room, Vec::new(alloc));
+        bytes.clear();
+        bytes.extend_from_slice(text)?;
+        Ok(LineText::new(bytes))
+    }
+
     /// Its bytes.
     pub fn as_slice(&self) -> &[u8]
         ensures { result.now ≡ self.now }
@@ -67,16 +78,30 @@ impl LineText {
 impl Statement {
     ghost use Rattle.racf_stream.specs.Statements.{request_of};
 
-    /// What the line of a request or of an issuer asks for. Takes memory for its text.
+    /// What the line of a request or of an issuer asks for. Its text is copied into `room`.
     #[tactic(auto, unfolding(crate::specs::Statements::request_of))]
-    pub(crate) fn request(alloc: Global, text: &[u8]) -> Result<Statement, AllocError>
+    pub(crate) fn request(
+        alloc: Global,
+        text: &[u8],
+        room: &mut Vec<u8>,
+    ) -> Result<Statement, AllocError>
         ensures { IfOk result (λ item. item ≡ request_of text.now) }
     {
-        let line = LineText::new(Vec::from_slice(alloc, text)?);
+        let line = LineText::copied(alloc, text, room)?;
         if is_issuer(text) {
             return Ok(Statement::Issuer(line));
         }
         Ok(Statement::Request(line))
+    }
+
+    /// The memory of its text, for that of a later one.
+    pub(crate) fn into_room(self, alloc: Global) -> Vec<u8> {
+        match self {
+            Statement::Command(line) | Statement::Issuer(line) | Statement::Request(line) => {
+                line.bytes
+            }
+            Statement::LineTooLong => Vec::new(alloc),
+        }
     }
 }
 

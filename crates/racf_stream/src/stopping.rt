@@ -21,8 +21,8 @@ pub enum Stop {
     NoMemory,
 }
 
-/// Ends a run that stops so, where a disk failed or not, and some line was refused or none: writes what is gathered, and
-/// tells the status.
+/// Ends a run that stops so, where a disk failed or not, and some line was refused or none: writes what is gathered,
+/// and tells the status.
 pub fn end_run<O: Sink>(
     stop: Stop,
     failed: bool,

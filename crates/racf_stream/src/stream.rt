@@ -100,8 +100,8 @@ impl<D: Disk> Stream<D> {
         self.desk.number()
     }
 
-    /// Whatever a crash now leaves stands for the position, unless a disk failed. It does nothing: its contract is what it
-    /// is for.
+    /// Whatever a crash now leaves stands for the position, unless a disk failed. It does nothing: its contract is what
+    /// it is for.
     pub(crate) fn is_at_rest(&self)
         ensures { self.now.state.halted ≡ false → LeavesIt D.tells self.now.store self.now.state.position }
     {
@@ -127,8 +127,8 @@ impl<D: Disk> Stream<D> {
         }
     }
 
-    /// A command, which is given at the desk. What it takes is made, and what will be told stands whole, before a disk is
-    /// asked.
+    /// A command, which is given at the desk. What it takes is made, and what will be told stands whole, before a disk
+    /// is asked.
     #[tactic(auto, unfolding(crate::specs::Stream::command))]
     fn command(
         &mut self,

@@ -30,7 +30,8 @@ use Rattle.racf_workers.proofs.Lengthened.{with_more, after_more, output_more, t
 abbrev state_at : Between → List Turn → List Event → List (List Event) → FileState
 state_at state turns seen fronts = file_state state.acees state.has_refused turns seen fronts
 
--- The lines so far were answered at these fronts, all of which are used; the caller had seen `before`, and has seen `seen`.
+-- The lines so far were answered at these fronts, all of which are used; the caller had seen `before`, and has seen
+-- `seen`.
 pub record FileWalk (base : Position) (before seen : List Event) (source : Option (List ℕ)) (reader : Reader) (state : Between) (sunk now : Option (List ℕ)) (gathered : List ℕ) : Type 0 where
   pub fronts : List (List Event)
   pub turns : List Turn

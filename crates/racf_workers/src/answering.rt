@@ -92,8 +92,8 @@ fn write_before_wait<K: Sink>(
     }
 }
 
-/// Brings the caller to the front at which the line is answered: a wait to that of so many commands, or to the end; a line
-/// that reaches a decision to the newest that the caller knows of; any other leaves it where it is.
+/// Brings the caller to the front at which the line is answered: a wait to that of so many commands, or to the end; a
+/// line that reaches a decision to the newest that the caller knows of; any other leaves it where it is.
 fn go_to_front<
     J: Naming,
     T: Absorb<O> + Drop,

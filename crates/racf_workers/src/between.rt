@@ -57,8 +57,8 @@ impl Between {
         self.has_refused
     }
 
-    /// Answers a line on the image behind what the caller has seen, and gathers its text. Where memory is short, nothing
-    /// more is gathered, and nothing else has changed.
+    /// Answers a line on the image behind what the caller has seen, and gathers its text. Where memory is short,
+    /// nothing more is gathered, and nothing else has changed.
     #[tactic(auto, unfolding(crate::specs::RequestFile::outcome_at))]
     pub(crate) fn gather<J: Naming>(
         &mut self,

@@ -116,9 +116,10 @@ fn run<
     ensures sink_faults { K.faults sink.old ≤ K.faults sink.new }
 {
     let mut replies = Replies::new(alloc);
+    let mut room = Vec::new(alloc);
     let mut number = 0;
     'item: loop {
-        let item = match next_statement(Kind::Deck, alloc, lines, &mut replies, sink) {
+        let item = match next_statement(Kind::Deck, alloc, lines, &mut replies, sink, &mut room) {
             Ok(Ok(item)) => item,
             Ok(Err(stop)) => return end(stop, state, &mut replies, sink),
             Err(Failed) => return unless_failed(state.has_failed(), Status::WriteFault),

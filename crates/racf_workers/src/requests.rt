@@ -21,12 +21,12 @@ use std::alloc::Global;
 use std::sync::Wait;
 use std::sync::ledger::Ledger;
 
-/// Answers the lines of a request file, and writes the answers to the sink. The status tells how it ended; the source is
-/// given back with what it has left. Each line is a request by itself; blank lines and comments are skipped, and a line
-/// whose first word is no request's is refused. A line that reaches a decision is answered on the newest image that the
-/// caller knows of then, with that image's number; one that decides nothing prints the number that was seen last. `*AFTER`
-/// waits, and prints where its number is never reached. The answers are gathered, and written before a wait, before the
-/// source is read again and before the end. The gate is asked as worker `worker`.
+/// Answers the lines of a request file, and writes the answers to the sink. The status tells how it ended; the source
+/// is given back with what it has left. Each line is a request by itself; blank lines and comments are skipped, and a
+/// line whose first word is no request's is refused. A line that reaches a decision is answered on the newest image
+/// that the caller knows of then, with that image's number; one that decides nothing prints the number that was seen
+/// last. `*AFTER` waits, and prints where its number is never reached. The answers are gathered, and written before a
+/// wait, before the source is read again and before the end. The gate is asked as worker `worker`.
 pub fn answer_requests<
     J: Naming,
     T: Absorb<O> + Drop,

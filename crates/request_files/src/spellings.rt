@@ -48,6 +48,15 @@ pub(crate) fn name_word(kind: NameKind, word: &[u8]) -> Result<Resource, NameFau
     if is_folded(word) {
         return Resource::read(kind, word);
     }
+    folded_name(kind, word)
+}
+
+/// The name of a resource, as a word spells it that is folded first. It is a function of its own, since one that may
+/// hold the folded word makes room for it each time.
+fn folded_name(kind: NameKind, word: &[u8]) -> Result<Resource, NameFault>
+    ensures name { result ≡ resource_of kind (folded word.now) }
+    ensures kind { IfOk result (λ name. name.kind ≡ kind) }
+{
     match LongWord::of(word) {
         Some(long) => Resource::read(kind, long.as_slice()),
         None => Err(NameFault::TooLong),

@@ -2,4 +2,4 @@ use Rattle.racf_stream.proofs.Processing.{worked_by}
 use Rattle.racf_stream.proofs.scripts.process_statement.Goals as goal
 
 pub returns-clause-processes : goal.returns-clause-processes
-returns-clause-processes g c = λ base. worked_by base c.gather.result c.in-Some.item c.args.item _ _ _ _ c.in-Some.is c.gather.ensures.ok c.gather.ensures.err
+returns-clause-processes g c = λ base. worked_by base c.gather-done.result c.in-Some.item c.args.item _ _ _ _ c.in-Some.is c.gather-done.ensures.ok c.gather-done.ensures.err

@@ -55,8 +55,8 @@ module _ {S I O : Type 0} (source : S → List ℕ → Result I Failed → S →
 
 -- ---- what is told of files, and of a shelf between their opening and their return
 
--- A file is as it was opened under a name: the source has what the input tells, the sink is empty, and neither has counted
--- a fault.
+-- A file is as it was opened under a name: the source has what the input tells, the sink is empty, and neither has
+-- counted a fault.
 pub record IsNew {I O : Type 0} (left : I → Option (List ℕ)) (reads : I → ℕ) (taken : O → Option (List ℕ)) (writes : O → ℕ) (tells : Bool) (input : Option (List ℕ)) (file : I × O) : Type 0 where
   pub bytes : left file.0 ≡ input
   pub no_reads : reads file.0 ≡ 0

@@ -100,8 +100,8 @@ module _ {S I O : Type 0} (source : S → List ℕ → Result I Failed → S →
   RunsOnShelf status bytes files old new =
       OpensNothing status files old new ⊎ (OpensNoOutput status files old new ⊎ OpensBoth status bytes files old new)
 
--- The generated text was written to the output of the name `name`, which was new and empty, and is given back: the outputs
--- told `old` before, and tell `new` now.
+-- The generated text was written to the output of the name `name`, which was new and empty, and is given back: the
+-- outputs told `old` before, and tell `new` now.
 pub record MadeIn (tells : Bool) (status : Status) (users : ℕ) (name : List ℕ) (old new : List ℕ → Option (List ℕ)) : Type 0 where
   pub wrote : WroteText status (make_text users) (told tells []) (new name)
   pub others : SameOthers name old new
@@ -127,8 +127,8 @@ module _ {S O : Type 0} (sink : S → List ℕ → Result O Failed → S → Typ
   abbrev pub MakesOnShelf : Status → MakeWords → S → S → Type 0
   MakesOnShelf status words old new = MakesNoOutput status words old new ⊎ MakesOutput status words old new
 
--- The output is the whole output of the input's bytes from this position on, where the shelf tells both, and the status is
--- theirs.
+-- The output is the whole output of the input's bytes from this position on, where the shelf tells both, and the status
+-- is theirs.
 pub record IsWholeOutput (base : Position) (tells : Bool) (status : Status) (input output : Option (List ℕ)) : Type 0 where
   pub written : IfSome input (λ bytes. output ≡ told tells (script_output None base bytes))
   pub ended : IfSome input (λ bytes. status ≡ script_status None base bytes)

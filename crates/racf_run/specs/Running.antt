@@ -63,8 +63,8 @@ pub record Named : Type 0 where
   pub status : Status
   pub faults : ℕ
 
--- The run began at `base`, and its history is `whole`; `input` is what an input has to give, and `output` what the output
--- that was given back under a name holds, which was new and empty.
+-- The run began at `base`, and its history is `whole`; `input` is what an input has to give, and `output` what the
+-- output that was given back under a name holds, which was new and empty.
 module _ (base : Position) (whole : List Event) (tells : Bool) (input output : List ℕ → Option (List ℕ)) where
   -- the decks, which number from this one on
   abbrev pub DecksNamed : (deck : ℕ) → List Named → Type 0
@@ -119,7 +119,8 @@ module _ {S I O : Type 0} (source : S → List ℕ → Result I Failed → S →
     pub is_status : status ≡ NoMemory
     pub kept : new ≡ old
 
-  -- The files of some names were opened, those of the next weren't, and the former were handed back, with nothing written.
+  -- The files of some names were opened, those of the next weren't, and the former were handed back, with nothing
+  -- written.
   pub record OpensSome (Q : Type 0) (status : Status) (names : List (List ℕ)) (old new : S) : Type 0 where
     pub stands : Q
     pub why : Unopened

@@ -1,4 +1,5 @@
-//! The words `run K NAME..`: which of the names are decks and which request files, and that each has an output of its own.
+//! The words `run K NAME..`: which of the names are decks and which request files, and that each has an output of its
+//! own.
 
 ghost use Rattle.std.specs.Prelude.{◌≡◌, true, map, length, IfSome, string_bytes, bytes_eq};
 ghost use Rattle.std.specs.Option.{option_map};

@@ -1,5 +1,5 @@
--- In a run in which as many commands were accepted as there are entries, the entries of each deck are exactly those of its
--- accepted commands.
+-- In a run in which as many commands were accepted as there are entries, the entries of each deck are exactly those of
+-- its accepted commands.
 use Rattle.std.proofs.Common.{◌≡◌, ℕ, suc, ◌≤◌, Bool, List, [], ◌∷◌, length, refl, sym, ◌∙◌, ap, subst, arith}
 use Rattle.std.specs.Prelude.{Option}
 use Rattle.std.specs.List.{sum_by}

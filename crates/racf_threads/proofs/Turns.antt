@@ -22,8 +22,8 @@ use Rattle.racf_threads.proofs.Entries.{IsWithin, within_behind, within_later, w
 
 -- ---- one command
 
--- So much of the history was seen; what was made stands among this deck's entries there, and the pass has counted it and
--- so many faults.
+-- So much of the history was seen; what was made stands among this deck's entries there, and the pass has counted it
+-- and so many faults.
 pub record Kept (deck : ℕ) (seen : List Event) (pass : Passing) (made : List Accepted) (faults : ℕ) : Type 0 where
   pub number : pass.deck ≡ deck
   pub commands : pass.commands ≡ length made

@@ -40,8 +40,8 @@ module _ (issuer : Issuer) (why : Refusal) where
   of_fourth : entries_by 3 four ≡ []
   of_fourth = refl
 
-  -- A deck's command is accepted behind another deck's, one is refused, a disk fails the next one, and the last one is told
-  -- so: one entry was made, the last of those that stood there then, and one line says DISKFAULT.
+  -- A deck's command is accepted behind another deck's, one is refused, a disk fails the next one, and the last one is
+  -- told so: one entry was made, the last of those that stood there then, and one line says DISKFAULT.
   abbrev turns : List Turn
   turns =
       turn (reply.Accepted 2) (Added (entry 0 (codes "DELUSER A")) ∷ Added (entry 1 (codes "DELUSER B")) ∷ [])

@@ -56,8 +56,8 @@ abbrev pub state_of : {base : Position} → {before after_it : List Event} → {
     → Gives base before after_it pass back status source left sunk now → DeckState
 state_of {base} {before} {pass} gives = after (deck_machine base before pass gives.schedule) gives.ran.worked (new_deck before pass gives.schedule)
 
--- The worker of this deck, in a run whose history is `whole`. Its output is what its commands were told, each behind some
--- list that extends what its caller had seen then, and what the caller saw is a beginning of the whole. The deck's
+-- The worker of this deck, in a run whose history is `whole`. Its output is what its commands were told, each behind
+-- some list that extends what its caller had seen then, and what the caller saw is a beginning of the whole. The deck's
 -- entries are exactly those of its accepted commands. So many of its lines say DISKFAULT, and one that says so, or
 -- HALTED, stands only where a disk has failed a command.
 pub record DeckRan (base : Position) (whole : List Event) (deck faults : ℕ) (status : Status) (source left sunk now : Option (List ℕ)) : Type 0 where

@@ -31,8 +31,8 @@ pub record Worked (I K : Type 0) : Type 0 where
   pub status : Status
   pub faults : ℕ
 
--- `left` is what a source has to give and `reads` the count of its faults; `taken` is what a sink holds and `writes` the
--- count of its faults. The run begins at `base`, and its history is `whole`.
+-- `left` is what a source has to give and `reads` the count of its faults; `taken` is what a sink holds and `writes`
+-- the count of its faults. The run begins at `base`, and its history is `whole`.
 module _ {I K : Type 0} (left : I → Option (List ℕ)) (reads : I → ℕ) (taken : K → Option (List ℕ)) (writes : K → ℕ) (base : Position) where
   -- A worker stopped for one of its causes.
   abbrev pub HasStopped : Worked I K → Type 0
@@ -54,9 +54,9 @@ module _ {I K : Type 0} (left : I → Option (List ℕ)) (reads : I → ℕ) (ta
   AreFiles whole [] = Unit {0}
   AreFiles whole (w ∷ workers) = IsFile whole w × AreFiles whole workers
 
-  -- A run whose history is these entries, and has ended so: each output is that of its worker, in one and the same history;
-  -- all that was given is given back, in its order, decks before request files; the status is the greatest of the workers';
-  -- and of all lines one says DISKFAULT where a disk failed a command, else none.
+  -- A run whose history is these entries, and has ended so: each output is that of its worker, in one and the same
+  -- history; all that was given is given back, in its order, decks before request files; the status is the greatest of
+  -- the workers'; and of all lines one says DISKFAULT where a disk failed a command, else none.
   pub record RunsTogether (entries : List Accepted) (halted : Bool) (status : Status) (decks requests outs : List (I × K)) : Type 0 where
     pub deck_workers : List (Worked I K)
     pub file_workers : List (Worked I K)

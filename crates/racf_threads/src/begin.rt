@@ -33,8 +33,8 @@ use std::sync::ledger::{Blank, Ledger};
 use std::sync::{Arc, Wait};
 use std::thread::{Threads, for_each_mut};
 
-/// Works decks and request files over one history and its ledgers: the first of the files are decks, so many. All memory
-/// is taken before a line is read; where it is wanting, the desk and the files are handed back.
+/// Works decks and request files over one history and its ledgers: the first of the files are decks, so many. All
+/// memory is taken before a line is read; where it is wanting, the desk and the files are handed back.
 pub(crate) fn begun<
     J: Naming + Send + Sync,
     S: Ledger + Send,

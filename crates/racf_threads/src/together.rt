@@ -38,10 +38,10 @@ pub struct Ran<I, K, D> {
     pub halted: bool,
 }
 
-/// Works decks and request files, each in a thread of its own where one can be made: at most 4 decks and 16 request files,
-/// which are given as sources with their sinks, and are given back so. The gate is asked before each line and behind
-/// it; the workers number from 0 on, decks before request files. Where there is no memory for the list of outputs, nothing
-/// is read or written, and none is given back.
+/// Works decks and request files, each in a thread of its own where one can be made: at most 4 decks and 16 request
+/// files, which are given as sources with their sinks, and are given back so. The gate is asked before each line and
+/// behind it; the workers number from 0 on, decks before request files. Where there is no memory for the list of
+/// outputs, nothing is read or written, and none is given back.
 pub fn run<
     I: Source + Drop + Send,
     K: Sink + Drop + Send,

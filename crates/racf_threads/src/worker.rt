@@ -44,8 +44,8 @@ impl<J: Naming, S: Ledger, F: Ledger, P: Ledger, I, K> Model for Worker<J, S, F,
 impl<J: Naming, S: Ledger, F: Ledger, P: Ledger, I: Source, K: Sink> Worker<J, S, F, P, I, K> {
     ghost use Rattle.racf_threads.specs.Working.{HasWorked};
 
-    /// Works the source. A deck hands its pass in at once when it ends or stops, so that whoever waits for more commands
-    /// than will come is told.
+    /// Works the source. A deck hands its pass in at once when it ends or stops, so that whoever waits for more
+    /// commands than will come is told.
     pub(crate) fn work<
         T: Absorb<O> + Drop,
         O: Opens<Note<J>>,

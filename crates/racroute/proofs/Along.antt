@@ -1,5 +1,5 @@
--- What every crash leaves along a history: at each moment what stands for some beginning of it, or for the command that a
--- disk failed.
+-- What every crash leaves along a history: at each moment what stands for some beginning of it, or for the command that
+-- a disk failed.
 use Rattle.std.proofs.Common.{◌≡◌, ℕ, Bool, true, List, [], ◌∷◌, Option, Some, Ok, refl, sym, subst, inl, inr}
 use Rattle.racf_outside.specs.Disk.{History}
 use Rattle.racf_outside.proofs.Runs.{Leaves-weaker, StaysIn-none, StaysIn-joined, StaysIn-weaker}

@@ -1,4 +1,5 @@
--- What threads may share: a desk, a publisher and an office go from thread to thread, so they share the office behind its lock.
+-- What threads may share: a desk, a publisher and an office go from thread to thread, so they share the office behind
+-- its lock.
 --     Racf-sync      a `&Racf` may be shared by threads where the disk, the two copies, their operation and the waiting may be sent, and the copies shared
 use denote.RattleType.{RattleType}
 use denote.Param.Send.{IsSend, IsSync, sendable}

@@ -7,8 +7,8 @@ use Rattle.command_history.specs.declared.events.Event.{Event}
 use Rattle.command_history.specs.Reached.{reached}
 use Rattle.raclist_snapshots.specs.Publishing.{ended_with}
 
--- An office: the history, as it is published; where its desk stands, and on which disks; whether a disk failed a command;
--- how many passes are out; and for how many decks it was opened.
+-- An office: the history, as it is published; where its desk stands, and on which disks; whether a disk failed a
+-- command; how many passes are out; and for how many decks it was opened.
 pub record Core (D : Type 0) : Type 0 where
   pub events : List Event
   pub position : Position

@@ -12,8 +12,8 @@ use Rattle.command_history.specs.declared.events.Event.{Event}
 use Rattle.command_history.specs.Events.{mark_of}
 use Rattle.command_history.specs.Reached.{reached}
 
--- A disk failed a command at this position. Whatever a crash now leaves of both disks stands for the position, or for the
--- one behind that command, which the rules accept there.
+-- A disk failed a command at this position. Whatever a crash now leaves of both disks stands for the position, or for
+-- the one behind that command, which the rules accept there.
 pub record IsInDoubt (first second : Option History) (position : Position) : Type 0 where
   pub id : List ℕ
   pub group : Option (List ℕ)
@@ -48,6 +48,7 @@ pub record StandForFailed (base : Position) (events : List Event) (first second 
 abbrev pub StandAlong : (base : Position) → List Event → (first second : List ℕ) → Type 0
 StandAlong base events first second = StandForBeginning base events first second ⊎ StandForFailed base events first second
 
--- At every moment from where a history begins a crash leaves what stands along it. The disk that doesn't count stays as it is.
+-- At every moment from where a history begins a crash leaves what stands along it. The disk that doesn't count stays as
+-- it is.
 abbrev pub StaysAlong : (base : Position) → List Event → IdleDisk → (old new : Option History) → Type 0
 StaysAlong base events idle old new = StaysIn (BesideIdle idle (StandAlong base events)) old new

@@ -32,9 +32,10 @@ pub record DisksBefore : Type 0 where
 abbrev pub disks_before : (faults idle_faults : ℕ) → Option History → IdleDisk → DisksBefore
 disks_before faults idle_faults live idle = record { faults = faults; idle_faults = idle_faults; live = live; idle = idle }
 
--- The database is where the history leads, and the entries that are kept are those of the history. The ledgers count what
--- there is: `commands`, `faults` and `out` are their totals. The final mark is there where a disk failed a command, and
--- else only where no pass is out. At every moment since the history began a crash leaves what stands along it.
+-- The database is where the history leads, and the entries that are kept are those of the history. The ledgers count
+-- what there is: `commands`, `faults` and `out` are their totals. The final mark is there where a disk failed a
+-- command, and else only where no pass is out. At every moment since the history began a crash leaves what stands along
+-- it.
 pub record IsOffice {D : Type 0} (tells : D → Option History) (counted : D → ℕ) (base : Position) (before : DisksBefore) (core : Core D) (history : List Accepted)
     (commands faults out : ℕ) : Type 0 where
   pub position : core.position ≡ reached base core.events

@@ -27,8 +27,8 @@ fn entry_of(alloc: Global, deck: u32, ready: &Ready) -> Result<Accepted, NoMemor
     })
 }
 
-/// Takes all memory that stands between a command and its place in the history: for its entry, for the entry's place among
-/// the accepted ones, and for what the publisher holds. Where this is refused, nothing has changed that counts.
+/// Takes all memory that stands between a command and its place in the history: for its entry, for the entry's place
+/// among the accepted ones, and for what the publisher holds. Where this is refused, nothing has changed that counts.
 pub(crate) fn hold<J: Naming, T: Absorb<O> + Drop, O: Opens<Note<J>>, R: Wait + Drop>(
     alloc: Global,
     publisher: &mut Publisher<J, T, O, R>,

@@ -32,8 +32,8 @@ use std::marker::Model;
 use std::sync::Wait;
 use std::sync::ledger::{Book, Ledger};
 
-/// What one thread at a time may do: the desk, and the history that it makes. Contracts see it as the history, where the
-/// desk stands, on which disks, and how many passes are out.
+/// What one thread at a time may do: the desk, and the history that it makes. Contracts see it as the history, where
+/// the desk stands, on which disks, and how many passes are out.
 pub struct Office<
     J: Naming,
     T: Absorb<O> + Drop,
@@ -157,9 +157,9 @@ impl<
         }
     }
 
-    /// Serves one command: it is judged, committed, published and installed, and whoever gave it is told where the history
-    /// stands then. The note comes with every reply but want of memory. A pass in hand is one that is out, so this has no
-    /// condition; behind a disk fault nothing more is accepted.
+    /// Serves one command: it is judged, committed, published and installed, and whoever gave it is told where the
+    /// history stands then. The note comes with every reply but want of memory. A pass in hand is one that is out, so
+    /// this has no condition; behind a disk fault nothing more is accepted.
     pub fn serve(
         &mut self,
         alloc: Global,
@@ -212,8 +212,8 @@ impl<
         }
     }
 
-    /// Serves a command and tells its caller: his list is then the one that the reply is about, and he has learned one note
-    /// more, unless memory was wanting.
+    /// Serves a command and tells its caller: his list is then the one that the reply is about, and he has learned one
+    /// note more, unless memory was wanting.
     pub fn submit(
         &mut self,
         alloc: Global,
@@ -327,8 +327,8 @@ impl<
         Ok(())
     }
 
-    /// Closes the office, when all ends are there: what every caller has seen is a beginning of what was accepted, and all
-    /// of it where he has the final mark.
+    /// Closes the office, when all ends are there: what every caller has seen is a beginning of what was accepted, and
+    /// all of it where he has the final mark.
     pub fn close(self, callers: &[Caller<J>], ends: Vec<DeckEnd<S, F>>) -> Closed<D>
         requires ends { vec_len ends ≡ self.decks }
         ensures callers { All (λ caller. Extends caller.events (all_of result.accepted.items result.halted)) callers.now }

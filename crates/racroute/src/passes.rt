@@ -7,8 +7,8 @@ use std::alloc::Global;
 use std::marker::Model;
 use std::sync::ledger::{Book, Ledger, Share};
 
-/// The right of a deck to give commands. Contracts see it as the deck's number, and the counts of its commands that were
-/// accepted and that met a disk fault.
+/// The right of a deck to give commands. Contracts see it as the deck's number, and the counts of its commands that
+/// were accepted and that met a disk fault.
 #[derive(Drop)]
 pub struct DeckPass<S: Ledger, F: Ledger, P: Ledger> {
     /// The deck's number.

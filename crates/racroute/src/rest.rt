@@ -6,8 +6,8 @@ use crate::passes::DeckEnd;
 use std::marker::Model;
 use std::sync::ledger::{Ledger, Share};
 
-/// What is left of the ledgers of commands and of faults when each deck has its pass. Contracts see it as the number of the
-/// decks, which with it are all that have a part.
+/// What is left of the ledgers of commands and of faults when each deck has its pass. Contracts see it as the number of
+/// the decks, which with it are all that have a part.
 #[derive(Drop)]
 pub(crate) struct Rest<S: Ledger, F: Ledger> {
     /// The rest of the accepted commands: none.

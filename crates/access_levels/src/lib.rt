@@ -1,9 +1,10 @@
-//! The small values that all else is made of: identifiers, access levels, group authorities, texts, the entries of access
-//! lists and sets of category numbers.
+//! The small values that all else is made of: identifiers, access levels, group authorities, texts, the entries of
+//! access lists and sets of category numbers.
 //!
-//! An [`Id`] is the name of a user, a group, a class or a port, in its one spelling. A [`Level`] is how far an access goes;
-//! the levels rise, and each includes all before it. [`Categories`] is a set of the numbers 0 to 255. Nothing here takes
-//! memory but [`Text`]. Names of resources and profiles are in `generic_names`, and rows made of both in `racf_profiles`.
+//! An [`Id`] is the name of a user, a group, a class or a port, in its one spelling. A [`Level`] is how far an access
+//! goes; the levels rise, and each includes all before it. [`Categories`] is a set of the numbers 0 to 255. Nothing
+//! here takes memory but [`Text`]. Names of resources and profiles are in `generic_names`, and rows made of both in
+//! `racf_profiles`.
 //!
 //! ```
 //! let user = Id::read(b"IBMUSER");            // Ok

@@ -1,8 +1,8 @@
 //! The environment of a verified user (ACEE): who he is, his groups and attributes, and where he came from.
 //!
-//! [`Acee::of`] makes one of an image, or answers the first check of VERIFY that fails. It stays as it was made, whatever
-//! commands change afterwards. Images are those of `raclist_image`; `decision` makes the other checks of VERIFY, and decides
-//! by an ACEE what its user may access.
+//! [`Acee::of`] makes one of an image, or answers the first check of VERIFY that fails. It stays as it was made,
+//! whatever commands change afterwards. Images are those of `raclist_image`; `decision` makes the other checks of
+//! VERIFY, and decides by an ACEE what its user may access.
 //!
 //! ```
 //! let request = VerifyRequest { user: ann, group: None, port: None, application: None, label: None };

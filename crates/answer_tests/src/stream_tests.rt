@@ -88,9 +88,9 @@ fn database(rt: &(impl AllocGlobal + Abort)) -> Two<MemoryDisk> {
     }
 }
 
-/// The program over a shelf and disks in memory. What an embedder knows then: where the words are `script IN OUT` and the
-/// input was read to its end, the disks stood for a position, and the output is exactly that of the input's bytes from
-/// there on.
+/// The program over a shelf and disks in memory. What an embedder knows then: where the words are `script IN OUT` and
+/// the input was read to its end, the disks stood for a position, and the output is exactly that of the input's bytes
+/// from there on.
 fn racf_in_memory<R: Wait + Threads + Sync>(
     rt: &R,
     alloc: Global,
@@ -106,8 +106,8 @@ fn racf_in_memory<R: Wait + Threads + Sync>(
     racf(rt, alloc, words, shelf, disks, &Idle)
 }
 
-/// Which calls are to fail, by their numbers, and 0 where none is: the opening of an input and of an output, a read and a
-/// write.
+/// Which calls are to fail, by their numbers, and 0 where none is: the opening of an input and of an output, a read and
+/// a write.
 #[derive(Clone, Copy)]
 struct Calls {
     source: u64,

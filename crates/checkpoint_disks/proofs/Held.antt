@@ -9,7 +9,7 @@ use Rattle.byteorder.specs.Numbers.{big_from-lt}
 use Rattle.racf_profiles.specs.declared.rows.Rows.{Rows}
 use Rattle.database_image.specs.Reading.{AreBytes}
 use Rattle.database_image.specs.Image.{image_of, IsStored}
-use Rattle.racf_journal.specs.Reading.{Reading, reading, spelled, walk}
+use Rattle.racf_journal.specs.Reading.{reading, spelled, walk}
 use Rattle.racf_journal.proofs.Behind.{read_is_scanned}
 use Rattle.checkpoint_disks.specs.declared.heads.Head.{Head}
 use Rattle.checkpoint_disks.specs.Files.{is_formatted, head_is_open, number_at, epoch_of, CheckpointRead}

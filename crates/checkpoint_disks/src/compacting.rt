@@ -22,9 +22,9 @@ use racf_outside::Disk;
 use racf_profiles::{NoMemory, Rows};
 use std::alloc::Global;
 
-/// Writes a checkpoint of rows on the disk whose file doesn't count: with an epoch above that of the other file it counts
-/// from then on. At every moment a crash leaves the file as it was, one whose head gate is closed, or the new one; so
-/// that beside the other file it says what that says, or the new checkpoint. After `Ok` it leaves the new one.
+/// Writes a checkpoint of rows on the disk whose file doesn't count: with an epoch above that of the other file it
+/// counts from then on. At every moment a crash leaves the file as it was, one whose head gate is closed, or the new
+/// one; so that beside the other file it says what that says, or the new checkpoint. After `Ok` it leaves the new one.
 /// The place of its journal's one gate is answered.
 ///
 /// # Errors

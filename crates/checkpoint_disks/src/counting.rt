@@ -19,8 +19,8 @@ pub enum Side {
     Second,
 }
 
-/// Which of two files counts, by their bytes, if one does: of those with an open head gate the one of the greater epoch,
-/// on equal epochs the first.
+/// Which of two files counts, by their bytes, if one does: of those with an open head gate the one of the greater
+/// epoch, on equal epochs the first.
 pub fn which(first: &[u8], second: &[u8]) -> Option<Side>
     ensures { result ≡ which first.now second.now }
 {

@@ -1,10 +1,10 @@
 //! A checkpoint on a pair of disks: the rows of a database, their number, and the records since.
 //!
-//! Each of the two files has room for a checkpoint, and one of them counts. [`which`] tells which, by the bytes of both,
-//! and [`read_file`] reads a [`Checkpoint`] of a file's bytes, or its first fault; [`read_pair`] is both. [`compact`]
-//! writes new rows on the disk that doesn't count: at every moment a crash leaves a pair that says what it said, or the
-//! new rows. Disks are those of `racf_outside`, the image of the rows is that of `database_image`, and the records behind
-//! it are a journal of `racf_journal`.
+//! Each of the two files has room for a checkpoint, and one of them counts. [`which`] tells which, by the bytes of
+//! both, and [`read_file`] reads a [`Checkpoint`] of a file's bytes, or its first fault; [`read_pair`] is both.
+//! [`compact`] writes new rows on the disk that doesn't count: at every moment a crash leaves a pair that says what it
+//! said, or the new rows. Disks are those of `racf_outside`, the image of the rows is that of `database_image`, and the
+//! records behind it are a journal of `racf_journal`.
 //!
 //! ```
 //! let (side, checkpoint) = read_pair(alloc, &first, &second)?;        // the bytes of both files

@@ -28,8 +28,8 @@ pub(crate) fn write_behind<D: Disk>(disk: &mut D, fields: &[u8], rest: &[u8]) ->
     Ok(())
 }
 
-/// Closes the head gate, where it is open or isn't there: a crash within the write of a gate that is closed could open it,
-/// whatever stands behind it.
+/// Closes the head gate, where it is open or isn't there: a crash within the write of a gate that is closed could open
+/// it, whatever stands behind it.
 fn close_head<D: Disk>(disk: &mut D) -> Result<(), Failed>
     requires idle { Now (D.tells disk.old) IsIdle }
     ensures done { OnOk result (Now (D.tells disk.new) HoldsClosed) }

@@ -90,8 +90,7 @@ impl SharedProfiles {
         self.profiles.at(place).1
     }
 
-    /// The profile at that place, with its name as it stands beside the profile in the index: a search that found the
-    /// place has read it there.
+    /// The profile at that place, with its name as it stands beside the profile in the index.
     pub fn named_at(&self, place: usize) -> (&Pattern, &Profile)
         requires { place < length self.now.profiles }
         ensures profile { slice_get self.now.profiles place ≡ Some result.1.now }

@@ -72,8 +72,8 @@ is_for id = record { who = Named id; level = Alter }
 abbrev everyone : Entry
 everyone = record { who = Star; level = Alter }
 
--- DIV below SYS1, DEPT below DIV and TEAM below DEPT. DEPT is owned as it says, each other group by its superior group. ADM is a
--- RESTRICTED user with group-SPECIAL in DIV. SUE is owned by TEAM, and TOM by ADM.
+-- DIV below SYS1, DEPT below DIV and TEAM below DEPT. DEPT is owned as it says, each other group by its superior group.
+-- ADM is a RESTRICTED user with group-SPECIAL in DIV. SUE is owned by TEAM, and TOM by ADM.
 abbrev adm : User
 adm = let row = user (codes "ADM") (codes "SYS1") (record (connection (codes "DIV")) { special = true } ∷ []) in
     record row { attributes = record row.attributes { restricted = true } }
@@ -148,8 +148,8 @@ no_issuer : lacks (some_rows (codes "DIV") []) (codes "ADM") (fields.DelUser (re
 unfolding need is_met del_user_requirements
 no_issuer = refl
 
--- ---- authority in a group
--- ANN has CONNECT in G1: CO BOB GROUP(G1), the same with AUTHORITY(CONNECT), with AUTHORITY(JOIN) and with SPECIAL, AU CAT DFLTGRP(G1)
+-- ---- authority in a group ANN has CONNECT in G1: CO BOB GROUP(G1), the same with AUTHORITY(CONNECT), with
+-- AUTHORITY(JOIN) and with SPECIAL, AU CAT DFLTGRP(G1)
 abbrev ann : GroupAuthority → List (List ℕ) → User
 ann authority classes = record (user (codes "ANN") (codes "SYS1") (record (connection (codes "G1")) { authority = authority } ∷ [])) { classes = classes }
 
@@ -164,7 +164,8 @@ connect_rows : map (λ (c : ConnectForm). lacks (with_ann MayConnect []) (codes 
 unfolding need is_met connect_requirements
 connect_rows = refl
 
--- AU CAT DFLTGRP(G1): with JOIN and CLAUTH(USER), without the class, and with CONNECT alone; then AU CAT DFLTGRP(G1) AUDITOR
+-- AU CAT DFLTGRP(G1): with JOIN and CLAUTH(USER), without the class, and with CONNECT alone; then AU CAT DFLTGRP(G1)
+-- AUDITOR
 abbrev cat_in_g1 : AddUser
 cat_in_g1 = record (add_user (codes "CAT")) { dfltgrp = Some (codes "G1") }
 

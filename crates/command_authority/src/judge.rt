@@ -25,9 +25,9 @@ use group_tree::laws::scope_is_tested;
 use racf_profiles::{User, View};
 
 /// Whether the issuer may give the command, by his user profile and his connections as the view has them (z/OS Security
-/// Server RACF Command Language Reference, authorization required). Revoked connections don't count, and GRPLIST plays no
-/// part. An issuer who isn't a user holds nothing, and nobody has authority over what isn't there by owning it or by scope.
-/// The tree's groups are those of the view. It takes no memory.
+/// Server RACF Command Language Reference, authorization required). Revoked connections don't count, and GRPLIST plays
+/// no part. An issuer who isn't a user holds nothing, and nobody has authority over what isn't there by owning it or by
+/// scope. The tree's groups are those of the view. It takes no memory.
 ///
 /// # Errors
 ///

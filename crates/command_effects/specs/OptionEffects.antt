@@ -1,5 +1,5 @@
--- What SETROPTS makes of the options and of the classes. An operand that begins with NO stands behind the others, so that
--- it wins; the words of LOGOPTIONS apply in their order, so that of several that name a class the last counts.
+-- What SETROPTS makes of the options and of the classes. An operand that begins with NO stands behind the others, so
+-- that it wins; the words of LOGOPTIONS apply in their order, so that of several that name a class the last counts.
 use Rattle.std.specs.Prelude.{ℕ, Bool, ◌&&◌, not, List, [], ◌∷◌, map, if◌then◌else◌, bytes_eq}
 use Rattle.std.specs.List.{list_any}
 use Rattle.racf_profiles.specs.declared.class_rows.ClassRow.{ClassRow}

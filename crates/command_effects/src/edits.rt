@@ -22,8 +22,8 @@ use racf_profiles::{Edit, NoMemory, View};
 use row_tables::RowTables;
 use std::alloc::Global;
 
-/// The edits that the command makes of these rows: at most one of a row, and behind it one of the options. Those of SETROPTS
-/// are one of the options, then those of the flags of classes, and then those that list and unlist classes.
+/// The edits that the command makes of these rows: at most one of a row, and behind it one of the options. Those of
+/// SETROPTS are one of the options, then those of the flags of classes, and then those that list and unlist classes.
 ///
 /// # Errors
 ///

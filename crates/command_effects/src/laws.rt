@@ -13,8 +13,8 @@ ghost use Rattle.command_parser.specs.declared.option_fields.SetRopts.{SetRopts}
 ghost use Rattle.command_effects.specs.OptionEffects.{after_set_ropts};
 ghost use Rattle.command_effects.specs.Edits.{edits_of, edits_of_set_ropts, is_set_ropts, refreshes_listed};
 
-/// No command but SETROPTS lists a class or unlists one. Where the classes are lawful before a command and behind it, they
-/// are so behind each of its edits.
+/// No command but SETROPTS lists a class or unlists one. Where the classes are lawful before a command and behind it,
+/// they are so behind each of its edits.
 pub fn commands_edit_rows_alone()
     ensures listed { (issuer : Issuer) (command : CommandFields) (rows : Rows) → IsFalse (is_set_ropts command) → IsTrue (list_all (λ (edit : Edit). not (is_of_copies edit)) (edits_of issuer command rows)) }
     ensures classes { (issuer : Issuer) (command : CommandFields) (rows : Rows) → AreClasses rows.classes → AreClasses (changed (edits_of issuer command rows) rows).classes → LeaveLawfulClasses (edits_of issuer command rows) rows }

@@ -1,5 +1,5 @@
-//! The rows of the commands on profiles (z/OS Security Server RACF Command Language Reference; the order is this product's
-//! own).
+//! The rows of the commands on profiles (z/OS Security Server RACF Command Language Reference; the order is this
+//! product's own).
 
 use crate::operand_rows::{
     ACCESS, ADDCATEGORY, ADDMEM, AUDIT, CLASS, DELCATEGORY, DELETE, DELMEM, GENERIC, GLOBALAUDIT,

@@ -275,7 +275,8 @@ fn begun(at: &Context) -> Scope
 /// # Errors
 ///
 /// `Syntax`, with the first fault: of the length, then from word to word, and then what the whole text is needed for
-/// (PERMIT's name, operands that lack, operands that exclude one another). `NoMemory` where there was no room for a value.
+/// (PERMIT's name, operands that lack, operands that exclude one another). `NoMemory` where there was no room for a
+/// value.
 #[tactic(auto, unfolding(crate::specs::Reading::parsed))]
 pub fn read(alloc: Global, at: &Context, text: &[u8]) -> Result<Parts, ParseFault>
     ensures { Gives generic result (parsed at.now text.now) }

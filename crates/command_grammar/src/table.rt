@@ -1,6 +1,6 @@
-//! The table of commands: how each is called, its positional words, its operands in the order in which they are written,
-//! and which of them exclude one another or are needed (z/OS Security Server RACF Command Language Reference; the order
-//! is this product's own).
+//! The table of commands: how each is called, its positional words, its operands in the order in which they are
+//! written, and which of them exclude one another or are needed (z/OS Security Server RACF Command Language Reference;
+//! the order is this product's own).
 //!
 //! The reader, the printer and the laws about them all go by this table. A further command is a variant of `Verb`, its
 //! names and its rows.

@@ -47,8 +47,8 @@ impl Issuer {
     }
 }
 
-/// A command with its canonical text, seen by contracts as its `CommandFields`. The canonical text has at most 30,000 bytes,
-/// and spells the command for every issuer.
+/// A command with its canonical text, seen by contracts as its `CommandFields`. The canonical text has at most 30,000
+/// bytes, and spells the command for every issuer.
 #[derive(Drop)]
 pub struct Command {
     /// Which command it is, and its fields.
@@ -128,8 +128,8 @@ pub fn print(command: &Command, out: &mut Vec<u8>) -> Result<(), NoMemory>
     out.extend_from_slice(command.text())
 }
 
-/// The law of both directions: the canonical text of a command spells it, whoever gives it. It does nothing: its contract
-/// is what it is for.
+/// The law of both directions: the canonical text of a command spells it, whoever gives it. It does nothing: its
+/// contract is what it is for.
 pub fn printed_is_read(command: &Command)
     ensures { (issuer : List ℕ) → Spells issuer (canonical command.now) command.now }
 {

@@ -1,7 +1,7 @@
 //! The commands, each with a field for its positional word and one for each of its operands.
 //!
-//! An operand that takes no value is a `bool`, a list of names is empty where it wasn't given, and every other operand is
-//! an `Option` of its value. An operand and the one that takes it back, as SPECIAL and NOSPECIAL, are two fields.
+//! An operand that takes no value is a `bool`, a list of names is empty where it wasn't given, and every other operand
+//! is an `Option` of its value. An operand and the one that takes it back, as SPECIAL and NOSPECIAL, are two fields.
 
 use crate::option_fields::SetRopts;
 use crate::profile_fields::{AddSd, AltSd, DelSd, Permit, RAlter, RDefine, RDelete};
@@ -108,7 +108,8 @@ pub struct DelGroup {
     pub group: Id,
 }
 
-/// CONNECT connects a user to a group, or changes the connection (z/OS Security Server RACF Command Language Reference, CONNECT).
+/// CONNECT connects a user to a group, or changes the connection (z/OS Security Server RACF Command Language Reference,
+/// CONNECT).
 #[derive(Debug, Drop)]
 pub struct Connect {
     pub user: Id,

@@ -36,8 +36,8 @@ pub fn fields_of_a_text_are_lawful()
     what_is_read_is_lawful();
 }
 
-/// The operands of a command are those of the table, word by word in its order, so that its canonical text is the one that
-/// the table's reader reads.
+/// The operands of a command are those of the table, word by word in its order, so that its canonical text is the one
+/// that the table's reader reads.
 pub fn operands_are_the_tables()
     ensures words { (command : CommandFields) → words_of (operands_of_command command) ≡ map (λ (o : Operand). o.word) (operands_of (verb_of command)) }
     ensures text { (command : CommandFields) → canonical command ≡ canon (generic_view command) }

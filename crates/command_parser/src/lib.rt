@@ -1,7 +1,7 @@
 //! The grammar of commands, both ways: `parse` reads a `Command` from its text, and `print` writes its canonical text.
 //!
-//! `CommandFields` says which command it is, with a field for each of its operands. The table of commands, their reader and
-//! their printer stand in `command_grammar`, and the values of operands in `command_values`.
+//! `CommandFields` says which command it is, with a field for each of its operands. The table of commands, their reader
+//! and their printer stand in `command_grammar`, and the values of operands in `command_values`.
 //!
 //! ```text
 //! let command = parse(alloc, joe, b"ALG PAYROLL OWNER(MARY)")?;

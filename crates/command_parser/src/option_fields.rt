@@ -2,8 +2,8 @@
 
 use command_values::{Ids, LogClauses};
 
-/// SETROPTS sets the options of the whole system and of its classes (z/OS Security Server RACF Command Language Reference,
-/// SETROPTS).
+/// SETROPTS sets the options of the whole system and of its classes (z/OS Security Server RACF Command Language
+/// Reference, SETROPTS).
 #[derive(Drop)]
 pub struct SetRopts {
     pub classact: Ids,

@@ -1,6 +1,6 @@
-//! The commands on profiles, each with a field for each of its positional words and one for each of its operands, as the
-//! commands on users and groups have them. GENERIC of a data set profile's command says nothing that its name doesn't, so
-//! it has no field.
+//! The commands on profiles, each with a field for each of its positional words and one for each of its operands, as
+//! the commands on users and groups have them. GENERIC of a data set profile's command says nothing that its name
+//! doesn't, so it has no field.
 
 use access_levels::{Condition, Id, Level};
 use command_values::{Ids, MemberNames, Reset, Whos};

@@ -235,8 +235,8 @@ fn table_has(
     found.as_slice() == members
 }
 
-/// DELMEM takes away the member of that very spelling alone, and comes before ADDMEM, which puts a member in place of the
-/// one of its name.
+/// DELMEM takes away the member of that very spelling alone, and comes before ADDMEM, which puts a member in place of
+/// the one of its name.
 const TABLES: [Given; 8] = [
     (b"RDEF GLOBAL NONE", b"NOCLASS NONE"),
     (b"RALT GLOBAL FACILITY ADDMEM(A/READ)", b"NOPROFILE GLOBAL"),

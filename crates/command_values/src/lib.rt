@@ -1,10 +1,10 @@
-//! The values of commands' operands: the words that operands go by, the kinds of their values, how each kind is read and
-//! how it is written.
+//! The values of commands' operands: the words that operands go by, the kinds of their values, how each kind is read
+//! and how it is written.
 //!
-//! A `Content` is a value that was read. `value` reads what stands in an operand's parentheses, `one` the word of a positional
-//! place, `bare` an operand alone; each answers the value or the first fault. `push_content` writes it. What a value may depend
-//! on beside its text, the issuer and the class and the profile in front, is a `Scope`. The words come from `command_words`,
-//! and `command_grammar` says which operand takes which kind.
+//! A `Content` is a value that was read. `value` reads what stands in an operand's parentheses, `one` the word of a
+//! positional place, `bare` an operand alone; each answers the value or the first fault. `push_content` writes it. What
+//! a value may depend on beside its text, the issuer and the class and the profile in front, is a `Scope`. The words
+//! come from `command_words`, and `command_grammar` says which operand takes which kind.
 //!
 //! ```text
 //! let level = value(alloc, &scope, ValueKind::Level, place, Tokens::new(b"read"))?;

@@ -1,5 +1,5 @@
-//! Members of profiles, which ADDMEM and DELMEM name (z/OS Security Server RACF Command Language Reference, RALTER; their
-//! forms in detail are this product's own rules).
+//! Members of profiles, which ADDMEM and DELMEM name (z/OS Security Server RACF Command Language Reference, RALTER;
+//! their forms in detail are this product's own rules).
 
 ghost use Rattle.std.specs.Prelude.{◌≡◌, ◌<◌, [], option_map, IfOk, None, Some};
 ghost use Rattle.command_words.specs.Tokens.{tokens};

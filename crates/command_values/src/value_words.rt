@@ -84,8 +84,8 @@ pub fn unless_stray<T: Drop>(stray: Option<u32>, value: T) -> Result<T, Syntax>
     }
 }
 
-/// The word of a value of one word: its place, its bytes, and the place of what stands behind it. Where there is no word
-/// the value is refused at `place`.
+/// The word of a value of one word: its place, its bytes, and the place of what stands behind it. Where there is no
+/// word the value is refused at `place`.
 pub fn held<'a>(
     quoting: Quoting,
     place: u32,

@@ -1,9 +1,10 @@
 //! The words of texts: of a command's text its words and its values in parentheses, each with its place; of a line of
 //! requests its words.
 //!
-//! `Tokens` is a command's text that is still to be read. Each `ValuedWord` that is split off is a word with the value behind
-//! it, and a value's inside is `Tokens` again; nothing is copied. `LineWords` are the words of a line, and `Parting` finds
-//! the word that a text begins with. `command_values` reads the values, and `request_files` and `racf_run` the lines.
+//! `Tokens` is a command's text that is still to be read. Each `ValuedWord` that is split off is a word with the value
+//! behind it, and a value's inside is `Tokens` again; nothing is copied. `LineWords` are the words of a line, and
+//! `Parting` finds the word that a text begins with. `command_values` reads the values, and `request_files` and
+//! `racf_run` the lines.
 //!
 //! ```text
 //! let text = Tokens::new(b"PERMIT PAY ID(MARY)");

@@ -1,4 +1,5 @@
--- Ways up through the groups: a way that has more steps than there are groups goes round, and ends at a group below itself.
+-- Ways up through the groups: a way that has more steps than there are groups goes round, and ends at a group below
+-- itself.
 use Rattle.std.proofs.Common.{◌≡◌, ℕ, zero, suc, ◌+◌, ◌-◌, ◌*◌, ◌<◌, ◌≤◌, Bool, true, false, List, [], ◌∷◌, length, map, Option, Some, None, is_some, refl, sym, ap, subst, ◌∙◌, true≢false, arith, inl, inr, ⊎_elim, suc-add, zero-add, zero-mul, suc-mul, mul-suc}
 use Rattle.std.specs.Prelude.{◌||◌, ◌⊎◌, cond, bytes_eq}
 use Rattle.std.specs.List.{IsDistinct, AllByRecursion, list_any}

@@ -1,5 +1,5 @@
--- A form is exact: what is read is lawful and was written so, and what is lawful is read again from how it is written. Each
--- way to make a form of others keeps this.
+-- A form is exact: what is read is lawful and was written so, and what is lawful is read again from how it is written.
+-- Each way to make a form of others keeps this.
 use Rattle.std.proofs.Common.{◌≡◌, ℕ, zero, suc, ◌+◌, ◌≤◌, Bool, true, false, cond, le-ltb, List, [], ◌∷◌, ◌++◌, length, take, drop, Option, Some, None, Result, Ok, Err, refl, sym, ap, subst, ◌∙◌, append_assoc, arith, inl, inr}
 use Rattle.std.specs.Prelude.{IsTrue, nat_lt}
 use Rattle.std.specs.List.{flat_map}

@@ -1,5 +1,5 @@
--- A value is judged by its bytes as it is by itself: where bytes are read that were written up to a field that misleads,
--- the fault that is found is the value's first. Each way to make a form of others keeps this.
+-- A value is judged by its bytes as it is by itself: where bytes are read that were written up to a field that
+-- misleads, the fault that is found is the value's first. Each way to make a form of others keeps this.
 use Rattle.std.proofs.Common.{◌≡◌, ◌⊎◌, ℕ, suc, ◌+◌, ◌≤◌, Bool, List, [], ◌∷◌, ◌++◌, length, take, Option, Some, None, Result, Ok, Err, refl, sym, ap, subst, ◌∙◌, append_assoc, length-append, arith, inl, inr, zero-add}
 use Rattle.std.specs.List.{flat_map, AllByRecursion, sum_by}
 use Rattle.std.specs.Option.{option_or}

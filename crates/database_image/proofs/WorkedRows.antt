@@ -1,4 +1,5 @@
--- Images, worked out: that of a new database as another program wrote it, and bytes with a fault in a field or between two.
+-- Images, worked out: that of a new database as another program wrote it, and bytes with a fault in a field or between
+-- two.
 use Rattle.std.proofs.Common.{◌≡◌, ℕ, List, [], ◌∷◌, ◌++◌, replicate, take, Some, Ok, refl}
 use Rattle.std.specs.Prelude.{codes}
 use Rattle.racf_profiles.specs.NewDatabase.{new_database}
@@ -95,7 +96,8 @@ no-such-group : first_fault (with_user (user_with (0 ∷ 0 ∷ 2 ∷ codes "SYS1
 unfolding spelled_at rows_of first_pass second_pass image options group user connection class profile
 no-such-group = refl
 
--- A profile of GLOBAL that has the name of no class: the image of a new database but for its last count, and the profile.
+-- A profile of GLOBAL that has the name of no class: the image of a new database but for its last count, and the
+-- profile.
 unknown-class : first_fault (take 312 whole ++ 1 ∷ 0 ∷ 4 ∷ codes "NONEIBMUSER " ++ 1 ∷ zeros 38 ++ codes "        " ++ zeros 6) ≡ Some 315
 unfolding spelled_at rows_of first_pass second_pass image options group user connection class profile pattern_in is_pattern_at
 unknown-class = refl

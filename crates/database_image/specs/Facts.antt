@@ -64,8 +64,8 @@ is_superior_in groups group superior = is_some (find_group groups superior) && n
 abbrev pub group_facts : Rows → ℕ → Group → List Fact
 group_facts rows place group = option_map_or (λ superior. told (place + 8) (is_superior_in rows.groups group superior) ∷ []) group.superior []
 
--- ---- users: no group has the name, the default group is one that the user is connected to, CLAUTH names classes, and the
--- groups of the connections are there
+-- ---- users: no group has the name, the default group is one that the user is connected to, CLAUTH names classes, and
+-- the groups of the connections are there
 abbrev pub is_there : Rows → List ℕ → Bool
 is_there rows group = is_some (find_group rows.groups group)
 

@@ -1,12 +1,12 @@
--- Forms: how values are written as bytes, which are lawful, where the first fault of the others is, and how they are read.
--- A form is made of fields and lists, one behind another, so that one description says all four.
+-- Forms: how values are written as bytes, which are lawful, where the first fault of the others is, and how they are
+-- read. A form is made of fields and lists, one behind another, so that one description says all four.
 use Rattle.std.specs.Prelude.{◌≡◌, ◌⊎◌, ℕ, zero, suc, ◌+◌, Bool, nat_lt, List, [], ◌∷◌, ◌++◌, length, take, drop, Option, Some, None, Ok, Err, IsTrue, if◌then◌else◌}
 use Rattle.std.specs.List.{flat_map}
 use Rattle.byteorder.specs.Endian.{big_bytes, big_number}
 use Rattle.database_image.specs.Reading.{Reading, ◌>>=◌, where_lawful}
 
--- The bytes of a value; whether it is lawful here; at which place of its bytes the first field stands that isn't; and what
--- is read from bytes that begin with such a value.
+-- The bytes of a value; whether it is lawful here; at which place of its bytes the first field stands that isn't; and
+-- what is read from bytes that begin with such a value.
 pub record Form (A : Type 0) : Type 1 where
   pub bytes : A → List ℕ
   pub Fits : A → Type 0
@@ -63,7 +63,8 @@ pub record Part (A K : Type 0) : Type 1 where
 abbrev pub the : {A K : Type 0} → (A → K) → Form K → Part A K
 the of form = record { of = of; form = form }
 
--- The first fault of a part and the rest: that of the part; or the part fits, and behind its bytes comes that of the rest.
+-- The first fault of a part and the rest: that of the part; or the part fits, and behind its bytes comes that of the
+-- rest.
 abbrev pub FirstOf : (first : ℕ → Type 0) → (fits : Type 0) → (width : ℕ) → (rest : ℕ → Type 0) → (place : ℕ) → Type 0
 FirstOf first fits width rest place = first place ⊎ (fits × ((behind : ℕ) × rest behind × (place ≡ width + behind)))
 

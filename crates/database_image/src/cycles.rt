@@ -1,5 +1,5 @@
-//! Which groups lie below themselves. A way up that never ends goes round among such groups, so that they are the ones that
-//! are reached by many steps up. Steps are doubled, so that no way is walked step by step.
+//! Which groups lie below themselves. A way up that never ends goes round among such groups, so that they are the ones
+//! that are reached by many steps up. Steps are doubled, so that no way is walked step by step.
 ghost use Rattle.std.specs.Prelude.{◌≡◌, ◌+◌, ◌^◌, ◌<◌, List, ℕ, Some, bytes_eq, IfOk, OnOk, ◌||◌, if◌then◌else◌};
 ghost use Rattle.std.specs.Option.{option_or, option_eq, option_and_then};
 ghost use Rattle.indexmap.specs.IndexMap.{get};

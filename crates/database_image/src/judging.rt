@@ -15,8 +15,9 @@ use std::alloc::Global;
 ///
 /// # Errors
 ///
-/// `BadField` at the first field of their image that isn't lawful, or, where each is, at the first whose fact about others
-/// doesn't hold; `NoMemory` where there was no room for the image, for the copy or for what the facts are looked up in.
+/// `BadField` at the first field of their image that isn't lawful, or, where each is, at the first whose fact about
+/// others doesn't hold; `NoMemory` where there was no room for the image, for the copy or for what the facts are looked
+/// up in.
 pub fn stored_copy(alloc: Global, rows: &Rows) -> Result<Rows, ImageFault>
     // The copy has the same rows, and an image may hold them.
     ensures copy { IfOk result (λ copy. (copy ≡ rows.now) × IsStored rows.now) }
@@ -33,7 +34,8 @@ pub fn stored_copy(alloc: Global, rows: &Rows) -> Result<Rows, ImageFault>
     }
 }
 
-/// The image of rows, up to the first field that misleads: a field that doesn't end within its bytes has no lawful value.
+/// The image of rows, up to the first field that misleads: a field that doesn't end within its bytes has no lawful
+/// value.
 fn telling_image(alloc: Global, rows: &Rows) -> Result<Vec<u8>, NoMemory>
     ensures judges { IfOk result (λ bytes. Judges rows.now (rows_of bytes.items)) }
     ensures spelled { IfOk result (λ bytes. AreSpelled rows.now) }

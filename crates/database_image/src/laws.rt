@@ -7,22 +7,22 @@ ghost use Rattle.database_image.specs.Description.{image};
 ghost use Rattle.database_image.specs.Image.{image_of, first_pass, rows_of, IsStored, FirstUnlawful};
 ghost use Rattle.database_image.specs.Spelled.{AreSpelled};
 
-/// What the first pass reads is lawful field by field, and the bytes are its image; and rows whose fields are lawful are
-/// read again from their image.
+/// What the first pass reads is lawful field by field, and the bytes are its image; and rows whose fields are lawful
+/// are read again from their image.
 pub fn fields_are_of_rows()
     ensures found { (bytes : List ℕ) (rows : Rows) → AreBytes bytes → first_pass bytes ≡ Ok rows → image.Fits rows × (bytes ≡ image_of rows) }
     ensures only { (rows : Rows) → image.Fits rows → first_pass (image_of rows) ≡ Ok rows }
 {}
 
-/// The same of both passes: what bytes are read as is what an image may hold, and they are its image; and what an image may
-/// hold is read again from it.
+/// The same of both passes: what bytes are read as is what an image may hold, and they are its image; and what an image
+/// may hold is read again from it.
 pub fn images_are_of_rows()
     ensures found { (bytes : List ℕ) (rows : Rows) → AreBytes bytes → rows_of bytes ≡ Ok rows → IsStored rows × (bytes ≡ image_of rows) }
     ensures only { (rows : Rows) → IsStored rows → rows_of (image_of rows) ≡ Ok rows }
 {}
 
-/// What an image may hold is lawful, so that a database may be made of what `read` gives. No image holds listed copies, and
-/// none of what is lawful speaks of them.
+/// What an image may hold is lawful, so that a database may be made of what `read` gives. No image holds listed copies,
+/// and none of what is lawful speaks of them.
 pub fn stored_rows_are_lawful()
     ensures lawful { (rows : Rows) → IsStored rows → AreLawful rows }
 {}

@@ -15,9 +15,9 @@ use std::alloc::Global;
 ///
 /// # Errors
 ///
-/// `BadField` at the first field that has no lawful value, or at the first byte behind the last field; where there is none,
-/// at the first field whose fact doesn't hold. `NoMemory` where there was no room for the rows or for what the facts are
-/// looked up in.
+/// `BadField` at the first field that has no lawful value, or at the first byte behind the last field; where there is
+/// none, at the first field whose fact doesn't hold. `NoMemory` where there was no room for the rows or for what the
+/// facts are looked up in.
 pub fn read(alloc: Global, bytes: &[u8]) -> Result<Rows, ImageFault>
     // What is read is what the definition finds, and a fault is its first.
     ensures exact { Reads result (rows_of bytes.now) }

@@ -1,5 +1,5 @@
-//! Repeats look-ups and decisions in process, with no text read or written between them, so that a script can measure what
-//! one costs. Each row of standard input is a letter and words; each is worked at once.
+//! Repeats look-ups and decisions in process, with no text read or written between them, so that a script can measure
+//! what one costs. Each row of standard input is a letter and words; each is worked at once.
 //!
 //! Rows that make what is asked:
 //! - `C command`: gives a command to the database, as IBMUSER in the group SYS1;

@@ -104,8 +104,8 @@ impl<R: Keyed> DefinedRows<R> {
         }
     }
 
-    /// The table with a row in place of the one that had its key, or else last. The rows that a table has had in all are
-    /// at most 2 to the 64th, less one.
+    /// The table with a row in place of the one that had its key, or else last. The rows that a table has had in all
+    /// are at most 2 to the 64th, less one.
     pub fn with_row(&self, alloc: Global, row: R) -> Result<DefinedRows<R>, NoMemory>
         ensures { IfOk result (λ table. table ≡ put_row (has_key R.key (R.key row)) row self.now) }
     {

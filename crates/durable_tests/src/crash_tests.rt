@@ -1,5 +1,5 @@
-//! A stream over a disk of which each call fails in turn: what is printed, what a read of the disk gives then, and where
-//! a desk stands that is opened over what a crash leaves at that moment.
+//! A stream over a disk of which each call fails in turn: what is printed, what a read of the disk gives then, and
+//! where a desk stands that is opened over what a crash leaves at that moment.
 
 use crate::files::{BARE, EMPTY, Held, disks_of, first_alone, held_bytes, read_as};
 use crate::layout_tests::{Opened, Stand, open_desk, stand_of};
@@ -209,8 +209,9 @@ fn assert_stands(rt: &(impl AllocGlobal + Abort), bytes: &[u8], number: u64) {
     assert!(rt; found == Ok(stand_behind(number)), "{number}: {bytes:?}");
 }
 
-/// A crash while a record is written that doesn't count yet: it leaves any end behind the closed gate, and any bytes there.
-/// Of the images of each length those are opened whose bytes there are as they were, or all X'00', X'01' or X'FF'.
+/// A crash while a record is written that doesn't count yet: it leaves any end behind the closed gate, and any bytes
+/// there. Of the images of each length those are opened whose bytes there are as they were, or all X'00', X'01' or
+/// X'FF'.
 fn assert_record_in_doubt(rt: &(impl AllocGlobal + Abort), bytes: &[u8], number: u64) {
     let behind = bytes.len().saturating_sub(STEP);
     for end in behind..=bytes.len() {
@@ -237,9 +238,9 @@ fn assert_gate_in_doubt(rt: &(impl AllocGlobal + Abort), number: u64) {
     }
 }
 
-/// What the failing call of a command leaves: the write of its record nothing; the sync of that, and the write of the gate,
-/// the record behind a closed gate; and the sync of the gate both. Each image of that moment, and what the disk reads as,
-/// has the number before the command, or the next one where the gate is open.
+/// What the failing call of a command leaves: the write of its record nothing; the sync of that, and the write of the
+/// gate, the record behind a closed gate; and the sync of the gate both. Each image of that moment, and what the disk
+/// reads as, has the number before the command, or the next one where the gate is open.
 fn assert_left(rt: &(impl AllocGlobal + Abort), disks: Two<MemoryDisk>, number: u64, step: u64) {
     let next = number.saturating_add(1);
     let (bytes, counted) = match step {
@@ -293,8 +294,9 @@ fn openings_stop(rt: HostRuntime) {
     }
 }
 
-/// Each accepted command takes four calls of the disk that counts: a write and a sync of its record, and of its gate. Where
-/// one fails, the command is told so, each further command is told that the desk is halted, and requests are answered on.
+/// Each accepted command takes four calls of the disk that counts: a write and a sync of its record, and of its gate.
+/// Where one fails, the command is told so, each further command is told that the desk is halted, and requests are
+/// answered on.
 #[test]
 fn commands_stop(rt: HostRuntime) {
     let stream = input(&rt);
@@ -340,8 +342,8 @@ fn a_fault_of_the_disk_counts_for_more(rt: HostRuntime) {
     }
 }
 
-/// The second sync of the second command is its last call. Where it fails, whoever asks is answered as before it, and what a
-/// crash leaves has one of the commands or two, by the byte in the gate.
+/// The second sync of the second command is its last call. Where it fails, whoever asks is answered as before it, and
+/// what a crash leaves has one of the commands or two, by the byte in the gate.
 #[test]
 fn the_second_sync_of_the_second_command_fails(rt: HostRuntime) {
     let stream = "AU JOE\nAU BOB\nAU CAT\nVERIFY A IBMUSER\n";

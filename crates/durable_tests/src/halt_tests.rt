@@ -64,8 +64,8 @@ fn judged(alloc: Global, desk: &mut Desk<MemoryDisk>, text: &[u8]) -> Answer
     kind_of(&reply)
 }
 
-/// The call of the first disk that fails; what is answered to `AU JOE`, `AU BOB` and `AX`, which is no command; and where
-/// the desk stands behind them. A new desk takes ten calls, and each accepted command four.
+/// The call of the first disk that fails; what is answered to `AU JOE`, `AU BOB` and `AX`, which is no command; and
+/// where the desk stands behind them. A new desk takes ten calls, and each accepted command four.
 const HALTS: [(u64, [Answer; 3], Stand); 6] = [
     (
         11,
@@ -127,8 +127,8 @@ fn assert_halts(rt: &(impl AllocGlobal + Abort), failing: u64, answers: [Answer;
     );
 }
 
-/// A desk whose disk failed a command answers each further one so, with the number, whatever that says; and its image is
-/// that of the commands before.
+/// A desk whose disk failed a command answers each further one so, with the number, whatever that says; and its image
+/// is that of the commands before.
 #[test]
 fn halted_desks_take_no_more(rt: HostRuntime) {
     for (failing, answers, stand) in &HALTS {
@@ -136,9 +136,9 @@ fn halted_desks_take_no_more(rt: HostRuntime) {
     }
 }
 
-/// A new desk that is given `AU JOE`, compacted, and given `AU BOB`, where that call of the second disk fails, or none: what
-/// the compaction and the last command are answered, and where the desk stands. A new desk takes three calls of that disk, the
-/// compaction seven, and the command four.
+/// A new desk that is given `AU JOE`, compacted, and given `AU BOB`, where that call of the second disk fails, or none:
+/// what the compaction and the last command are answered, and where the desk stands. A new desk takes three calls of
+/// that disk, the compaction seven, and the command four.
 const COMPACTED: [(u64, Result<(), StoreFault>, Answer, Stand); 15] = [
     (
         4,

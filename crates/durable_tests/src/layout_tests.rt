@@ -11,8 +11,8 @@ use racf_profiles::ibmuser;
 use raclist_image::Image;
 use std::process::Abort;
 
-/// Where a desk stands, as it can be told from outside: the number of the accepted commands, and whether the users JOE, BOB
-/// and JIM are there.
+/// Where a desk stands, as it can be told from outside: the number of the accepted commands, and whether the users JOE,
+/// BOB and JIM are there.
 pub(crate) type Stand = (u64, [bool; 3]);
 
 /// Two disks behind an opening, and where the desk stood, or why none was opened.
@@ -130,10 +130,10 @@ fn the_first_rows(rt: HostRuntime) {
 /// What the disks hold; where a desk stands that is opened over them; and what that leaves of them.
 type Opening = ([Held; 2], Stand, [Held; 2]);
 
-/// Files that are opened: a new database; one with JOE's record; the same with a last gate that isn't written yet, and with
-/// one in front of the record that isn't open, so that the record doesn't count; one whose last gate isn't there; and pairs
-/// of checkpoints, of which the one of the greater epoch counts, on equal epochs the first, and none whose head gate is
-/// closed.
+/// Files that are opened: a new database; one with JOE's record; the same with a last gate that isn't written yet, and
+/// with one in front of the record that isn't open, so that the record doesn't count; one whose last gate isn't there;
+/// and pairs of checkpoints, of which the one of the greater epoch counts, on equal epochs the first, and none whose
+/// head gate is closed.
 const OPENINGS: [Opening; 9] = [
     (
         [Held::First(EMPTY), Held::Bytes(BARE)],
@@ -188,11 +188,11 @@ const OPENINGS: [Opening; 9] = [
     ),
 ];
 
-/// Disks that are refused, and left as they are: one that isn't known by its first bytes, or isn't there, or has the layout
-/// of a journal alone; no head gate that is open; an epoch that there isn't, a number past the last, a file that ends within
-/// its fields; a record that isn't whole; records at whose place no such command is accepted, since the user isn't there, or
-/// is there already, or the issuer isn't there or may not give it; and one whose text isn't the canonical one. Beside a
-/// checkpoint of a lesser epoch it is the same: what counts is damaged.
+/// Disks that are refused, and left as they are: one that isn't known by its first bytes, or isn't there, or has the
+/// layout of a journal alone; no head gate that is open; an epoch that there isn't, a number past the last, a file that
+/// ends within its fields; a record that isn't whole; records at whose place no such command is accepted, since the
+/// user isn't there, or is there already, or the issuer isn't there or may not give it; and one whose text isn't the
+/// canonical one. Beside a checkpoint of a lesser epoch it is the same: what counts is damaged.
 const REFUSED: [([Held; 2], StoreFault); 17] = [
     (
         [Held::Bytes(b""), Held::Bytes(BARE)],

@@ -1,5 +1,5 @@
-//! One table of all calls of both disks that `format`, `load`, `compact` and `append` make: each of them fails in turn, and
-//! images of what a crash may leave at that moment, right before the call or within it, are opened again.
+//! One table of all calls of both disks that `format`, `load`, `compact` and `append` make: each of them fails in turn,
+//! and images of what a crash may leave at that moment, right before the call or within it, are opened again.
 
 use crate::files::{BARE, BOB, EMPTY, Held, JIM, JOE, disks_of, held_bytes, read_as};
 use crate::layout_tests::{Opened, Stand, loaded, open_desk, stand_of};
@@ -48,8 +48,8 @@ enum Ended {
     Otherwise,
 }
 
-/// A deed; what the disks hold before it and behind it; the calls that it makes of each; and where the database stands before
-/// it and behind it.
+/// A deed; what the disks hold before it and behind it; the calls that it makes of each; and where the database stands
+/// before it and behind it.
 #[derive(Clone, Copy)]
 struct Row {
     deed: Deed,
@@ -351,8 +351,8 @@ impl Failing<'_> {
     }
 }
 
-/// What a crash may leave of the disk that fails: what it read as when all was synced, what it reads as, and what it would
-/// read as behind the call that failed; which of its places are in doubt; and between which ends.
+/// What a crash may leave of the disk that fails: what it read as when all was synced, what it reads as, and what it
+/// would read as behind the call that failed; which of its places are in doubt; and between which ends.
 #[derive(Drop)]
 struct Moment {
     synced: Vec<u8>,
@@ -544,8 +544,8 @@ fn assert_row(rt: &(impl AllocGlobal + Abort), failing: &Failing<'_>) {
     assert!(rt; found == Ok(behind));
 }
 
-/// Every call of either disk fails in turn, and every image of that moment that is tried stands for the database as it was,
-/// or as the deed leaves it where that counts already; of a `format` it stands for either, or for none.
+/// Every call of either disk fails in turn, and every image of that moment that is tried stands for the database as it
+/// was, or as the deed leaves it where that counts already; of a `format` it stands for either, or for none.
 #[test]
 fn every_call_fails_in_turn(rt: HostRuntime) {
     for row in &ROWS {

@@ -66,8 +66,8 @@ const NOTHING: Pair = [Held::Bytes(b""), Held::Bytes(b"")];
 /// Two that hold other bytes.
 const LETTERS: Pair = [Held::Bytes(b"ABCDEFGHIJKL"), Held::Bytes(b"XYZ")];
 
-/// The words; what the disks hold, and which call of each fails, or 0 where none does; standard input; the status and its
-/// code; standard output, where it was opened; and what the disks read as then.
+/// The words; what the disks hold, and which call of each fails, or 0 where none does; standard input; the status and
+/// its code; standard output, where it was opened; and what the disks read as then.
 type Run = (
     &'static [&'static str],
     Pair,
@@ -366,8 +366,8 @@ fn databases_are_worked(rt: HostRuntime) {
     }
 }
 
-/// A database is made before the first stream. Until then nothing is opened: the first opening of an input is to fail, and
-/// comes last.
+/// A database is made before the first stream. Until then nothing is opened: the first opening of an input is to fail,
+/// and comes last.
 #[test]
 fn nothing_is_opened_before_the_database(rt: HostRuntime) {
     let (init, script) = (words_of(&rt, INIT), words_of(&rt, SCRIPT));

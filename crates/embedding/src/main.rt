@@ -1,5 +1,5 @@
-//! The example of docs/EMBEDDING.md as a whole program: it makes a desk, gives it commands by two issuers, verifies
-//! two users and decides on two requests, and prints each step. Its database ends with it: the disks keep nothing. Who puts
+//! The example of docs/EMBEDDING.md as a whole program: it makes a desk, gives it commands by two issuers, verifies two
+//! users and decides on two requests, and prints each step. Its database ends with it: the disks keep nothing. Who puts
 //! the libraries into a program of his own may begin with a copy of it.
 //!
 //! ```
@@ -63,8 +63,8 @@ fn identifier(text: &str) -> Result<Id> {
     Id::read(text.as_bytes()).map_err(|_| anyhow!("no identifier"))
 }
 
-/// Gives a command, by this issuer in his default group. Over disks that keep something, a command that is accepted stands
-/// on them; where they fail, the desk takes no more, and the database is to be opened again.
+/// Gives a command, by this issuer in his default group. Over disks that keep something, a command that is accepted
+/// stands on them; where they fail, the desk takes no more, and the database is to be opened again.
 fn give(
     rt: &(impl Print + AllocGlobal),
     desk: &mut Desk<NeverDisk>,

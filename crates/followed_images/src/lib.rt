@@ -1,7 +1,7 @@
 //! A database that commands change, and the image that follows it, for the tools that ask images and for tests of them.
 //!
-//! A [`Followed`] is a new database with the image of its rows. [`Followed::give`] gives it a command of IBMUSER, and each
-//! accepted one makes the next image of the one before. [`Followed::take`] hands out the image as it stands, and
+//! A [`Followed`] is a new database with the image of its rows. [`Followed::give`] gives it a command of IBMUSER, and
+//! each accepted one makes the next image of the one before. [`Followed::take`] hands out the image as it stands, and
 //! [`Followed::image_of_rows`] makes one of all rows.
 //!
 //! ```

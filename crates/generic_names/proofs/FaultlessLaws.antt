@@ -10,22 +10,33 @@ use Rattle.generic_names.specs.declared.fault.NameFault.{NameFault}
 use Rattle.generic_names.specs.declared.fault.NameFault.TheVariants.{BadByte}
 use Rattle.generic_names.specs.Spelled.{qualifiers}
 use Rattle.generic_names.specs.Faults.{is_ordinary, bytes_fault, qualifier_fault, qualifiers_fault, is_too_long, is_generic_first}
-use Rattle.generic_names.specs.Faultless.{longest_qualifier, goes_on}
 use Rattle.generic_names.proofs.Bools.{both}
 use Rattle.generic_names.proofs.Lawful.{EachByte, IsPlain, discrete_bytes}
+
+-- whether the rest of a text goes on without fault, where so many bytes of its first qualifier are passed
+abbrev pub goes_on : NameKind → ℕ → ℕ → List ℕ → Bool
+goes_on kind longest passed [] = ltb 0 passed
+goes_on kind longest passed (b ∷ text) =
+    cond (eqb b 46) (ltb 0 passed && goes_on kind longest 0 text)
+    (ltb passed longest && (is_ordinary kind (eqb passed 0) b && goes_on kind longest (passed + 1) text))
+
+-- the most bytes that a qualifier may have
+abbrev pub IsLongest : NameKind → ℕ → Type 0
+IsLongest kind longest = (q : List ℕ) → length q ≤ longest → is_too_long kind q ≡ false
 
 and-false : (t : Bool) → (t && false) ≡ false
 and-false true = refl
 and-false false = refl
 
--- What the pass tells: the first qualifier has no fault, of which so many bytes are passed, and those behind it have none.
-record StartsWell (kind : NameKind) (passed : ℕ) (qs : List (List ℕ)) : Type 0 where
+-- What the pass tells: the first qualifier has no fault, of which so many bytes are passed, and those behind it have
+-- none.
+record StartsWell (kind : NameKind) (longest passed : ℕ) (qs : List (List ℕ)) : Type 0 where
   first : List ℕ
   behind : List (List ℕ)
   are : qs ≡ first ∷ behind
   bytes : (place : ℕ) → bytes_fault Discrete kind (eqb passed 0) place first ≡ None
   some : 0 < passed + length first
-  fits : passed + length first ≤ longest_qualifier kind
+  fits : passed + length first ≤ longest
   rest : (number place : ℕ) → qualifiers_fault Discrete kind number place behind ≡ None
 
 plain-none : (q : List ℕ) → EachByte IsPlain q → list_any (λ b. eqb b 37 || eqb b 42) q ≡ false
@@ -39,24 +50,20 @@ not-generic : (kind : NameKind) (number : ℕ) (q : List ℕ) → EachByte IsPla
 not-generic DataSet number q h = ap (λ (t : Bool). eqb number 1 && t) (plain-none q h) ∙ and-false (eqb number 1)
 not-generic General number q h = refl
 
-not-long : (kind : NameKind) (q : List ℕ) → length q ≤ longest_qualifier kind → is_too_long kind q ≡ false
-not-long DataSet q h = grind (arith, nat_tests)
-not-long General q h = refl
-
-good-qualifier : (kind : NameKind) (number place : ℕ) (q : List ℕ) → 0 < length q → length q ≤ longest_qualifier kind → bytes_fault Discrete kind true place q ≡ None → qualifier_fault Discrete kind number place q ≡ None
+good-qualifier : (kind : NameKind) (number place : ℕ) (q : List ℕ) → 0 < length q → is_too_long kind q ≡ false → bytes_fault Discrete kind true place q ≡ None → qualifier_fault Discrete kind number place q ≡ None
 good-qualifier kind number place q some fits bytes =
     let whole : eqb (length q) 0 ≡ false = grind (arith, nat_tests) in
-    rw (whole, not-long kind q fits, bytes, not-generic kind number q (discrete_bytes kind true place q bytes)) refl
+    rw (whole, fits, bytes, not-generic kind number q (discrete_bytes kind true place q bytes)) refl
 
-good-whole : (kind : NameKind) (qs : List (List ℕ)) → StartsWell kind 0 qs → (number place : ℕ) → qualifiers_fault Discrete kind number place qs ≡ None
-good-whole kind qs w number place =
+good-whole : (kind : NameKind) (longest : ℕ) (qs : List (List ℕ)) → IsLongest kind longest → StartsWell kind longest 0 qs → (number place : ℕ) → qualifiers_fault Discrete kind number place qs ≡ None
+good-whole kind longest qs most w number place =
     ap (λ (all : List (List ℕ)). qualifiers_fault Discrete kind number place all) w.are
     ∙ ap (λ (fault : Option NameFault). option_or fault (qualifiers_fault Discrete kind (number + 1) (place + length w.first + 1) w.behind))
-    (good-qualifier kind number place w.first (omega (arith, w.some)) (omega (arith, w.fits)) (w.bytes place))
+    (good-qualifier kind number place w.first (omega (arith, w.some)) (most w.first (omega (arith, w.fits))) (w.bytes place))
     ∙ w.rest (number + 1) (place + length w.first + 1)
 
-one-more : (kind : NameKind) (passed b : ℕ) (qs : List (List ℕ)) → is_ordinary kind (eqb passed 0) b ≡ true → StartsWell kind (passed + 1) qs → StartsWell kind passed (onto_first b qs)
-one-more kind passed b qs ordinary w =
+one-more : (kind : NameKind) (longest passed b : ℕ) (qs : List (List ℕ)) → is_ordinary kind (eqb passed 0) b ≡ true → StartsWell kind longest (passed + 1) qs → StartsWell kind longest passed (onto_first b qs)
+one-more kind longest passed b qs ordinary w =
     let later : eqb (passed + 1) 0 ≡ false = grind (arith, nat_tests) in
     record {
       first = b ∷ w.first;
@@ -70,8 +77,8 @@ one-more kind passed b qs ordinary w =
       rest = w.rest;
     }
 
-starts-well : (kind : NameKind) (passed : ℕ) (text : List ℕ) → passed ≤ longest_qualifier kind → goes_on kind passed text ≡ true → StartsWell kind passed (qualifiers text)
-starts-well kind passed [] low h = record {
+starts-well : (kind : NameKind) (longest : ℕ) (most : IsLongest kind longest) (passed : ℕ) (text : List ℕ) → passed ≤ longest → goes_on kind longest passed text ≡ true → StartsWell kind longest passed (qualifiers text)
+starts-well kind longest most passed [] low h = record {
   first = [];
   behind = [];
   are = refl;
@@ -80,25 +87,25 @@ starts-well kind passed [] low h = record {
   fits = omega arith;
   rest = λ number place. refl;
 }
-starts-well kind passed (b ∷ text) low h = settled (eqb b 46) (λ l w. starts-well kind 0 text l w) (λ l w. starts-well kind (passed + 1) text l w) h
+starts-well kind longest most passed (b ∷ text) low h = settled (eqb b 46) (λ l w. starts-well kind longest most 0 text l w) (λ l w. starts-well kind longest most (passed + 1) text l w) h
   where
-    settled : (t : Bool) → (0 ≤ longest_qualifier kind → goes_on kind 0 text ≡ true → StartsWell kind 0 (qualifiers text))
-        → (passed + 1 ≤ longest_qualifier kind → goes_on kind (passed + 1) text ≡ true → StartsWell kind (passed + 1) (qualifiers text))
-        → cond t (ltb 0 passed && goes_on kind 0 text) (ltb passed (longest_qualifier kind) && (is_ordinary kind (eqb passed 0) b && goes_on kind (passed + 1) text)) ≡ true
-        → StartsWell kind passed (cond t ([] ∷ qualifiers text) (onto_first b (qualifiers text)))
-    settled true next more h = both (ltb 0 passed) (goes_on kind 0 text) h (λ s w. record {
+    settled : (t : Bool) → (0 ≤ longest → goes_on kind longest 0 text ≡ true → StartsWell kind longest 0 (qualifiers text))
+        → (passed + 1 ≤ longest → goes_on kind longest (passed + 1) text ≡ true → StartsWell kind longest (passed + 1) (qualifiers text))
+        → cond t (ltb 0 passed && goes_on kind longest 0 text) (ltb passed longest && (is_ordinary kind (eqb passed 0) b && goes_on kind longest (passed + 1) text)) ≡ true
+        → StartsWell kind longest passed (cond t ([] ∷ qualifiers text) (onto_first b (qualifiers text)))
+    settled true next more h = both (ltb 0 passed) (goes_on kind longest 0 text) h (λ s w. record {
       first = [];
       behind = qualifiers text;
       are = refl;
       bytes = λ place. refl;
       some = grind (arith, nat_tests);
       fits = omega arith;
-      rest = good-whole kind (qualifiers text) (next (omega arith) w);
+      rest = good-whole kind longest (qualifiers text) most (next (omega arith) w);
     })
     settled false next more h =
-        both (ltb passed (longest_qualifier kind)) (is_ordinary kind (eqb passed 0) b && goes_on kind (passed + 1) text) h
-        (λ l k. both (is_ordinary kind (eqb passed 0) b) (goes_on kind (passed + 1) text) k
-        (λ o w. let room : passed < longest_qualifier kind = grind (arith, nat_tests) in one-more kind passed b (qualifiers text) o (more (omega arith) w)))
+        both (ltb passed longest) (is_ordinary kind (eqb passed 0) b && goes_on kind longest (passed + 1) text) h
+        (λ l k. both (is_ordinary kind (eqb passed 0) b) (goes_on kind longest (passed + 1) text) k
+        (λ o w. let room : passed < longest = grind (arith, nat_tests) in one-more kind longest passed b (qualifiers text) o (more (omega arith) w)))
 
-pub faultless : (kind : NameKind) (text : List ℕ) → goes_on kind 0 text ≡ true → qualifiers_fault Discrete kind 1 1 (qualifiers text) ≡ None
-faultless kind text h = good-whole kind (qualifiers text) (starts-well kind 0 text (omega arith) h) 1 1
+pub faultless : (kind : NameKind) (longest : ℕ) (text : List ℕ) → IsLongest kind longest → goes_on kind longest 0 text ≡ true → qualifiers_fault Discrete kind 1 1 (qualifiers text) ≡ None
+faultless kind longest text most h = good-whole kind longest (qualifiers text) most (starts-well kind longest most 0 text (omega arith) h) 1 1

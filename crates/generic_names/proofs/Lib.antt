@@ -17,4 +17,4 @@ pub mod KeyLaws
 pub mod UnderLaws
 mod KeyRows
 mod DiscreteKeys
-mod FaultlessLaws
+pub mod FaultlessLaws

@@ -17,8 +17,8 @@ squeezed rank = if nat_lt rank 256 then rank else rank - 5
 abbrev pub order_key : List ℕ → List ℕ
 order_key text = map squeezed (ranks (qualifiers text))
 
--- what a byte of a name without generic characters is in the name's key, and that it is such a byte. Words of the crate's
--- own functions.
+-- what a byte of a name without generic characters is in the name's key, and that it is such a byte. Words of the
+-- crate's own functions.
 abbrev pub discrete_byte : ℕ → ℕ
 discrete_byte b = if b == period then 252 else b
 
@@ -65,9 +65,9 @@ LowerIsPassedOn = (a b : Spelled) (key : List ℕ) → IsPattern a → IsPattern
 abbrev pub EqualKeysAreOne : Type 0
 EqualKeysAreOne = (a b : Spelled) → IsPattern a → IsPattern b → order_key a.text ≡ order_key b.text → a.text ≡ b.text
 
--- The key of no name is lower than that of its first qualifier. And of two patterns of which neither has a lower key the
--- more specific one has that first qualifier if the other has it: those that have it stand together, behind all others
--- with a lower key.
+-- The key of no name is lower than that of its first qualifier. And of two patterns of which neither has a lower key
+-- the more specific one has that first qualifier if the other has it: those that have it stand together, behind all
+-- others with a lower key.
 abbrev pub FirstIsNotLower : Type 0
 FirstIsNotLower = (a : Spelled) (q : List ℕ) → first_qualifier a.text ≡ q → is_lower a (qualifier_key q) ≡ false
 

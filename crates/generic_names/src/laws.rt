@@ -53,8 +53,8 @@ pub fn best_is_first<T>()
     ensures { (name_of : T → Spelled) → BestIsFirst name_of }
 {}
 
-/// The best profile is one of the profiles, it covers the name, and none that covers the name is before it; there is none
-/// exactly where no profile covers the name. In whatever order the profiles stand, and whatever a profile is.
+/// The best profile is one of the profiles, it covers the name, and none that covers the name is before it; there is
+/// none exactly where no profile covers the name. In whatever order the profiles stand, and whatever a profile is.
 pub fn best_is_most_specific<T>()
     ensures { (name_of : T → Spelled) → BestIsMostSpecific name_of }
 {}

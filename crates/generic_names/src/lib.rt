@@ -1,11 +1,12 @@
-//! Names of resources and of profiles: what spells one, which resources a profile covers, and which of two profiles is the
-//! more specific one.
+//! Names of resources and of profiles: what spells one, which resources a profile covers, and which of two profiles is
+//! the more specific one.
 //!
 //! A [`Resource`] is the name of one data set or general resource. A [`Pattern`] is the name of a profile, which may be
-//! generic: `%`, `*` and `**` stand for bytes and qualifiers. A [`MemberName`] is the name of a member of the global access
-//! table, in which a qualifier may stand for the user or his group. All three lie in arrays of a fixed size, so nothing here
-//! takes memory. `profile_index` keeps patterns in order and finds the one that decides. An [`OrderKey`] is the place of a
-//! name in that order as bytes, and the end of a [`Gap`] has one too, so that a search compares bytes alone.
+//! generic: `%`, `*` and `**` stand for bytes and qualifiers. A [`MemberName`] is the name of a member of the global
+//! access table, in which a qualifier may stand for the user or his group. All three lie in arrays of a fixed size, so
+//! nothing here takes memory. `profile_index` keeps patterns in order and finds the one that decides. An [`OrderKey`]
+//! is the place of a name in that order as bytes, and the end of a [`Gap`] has one too, so that a search compares bytes
+//! alone.
 //!
 //! ```
 //! let profile = Pattern::read(NameKind::DataSet, b"SYS1.PARM*")?;

@@ -1,8 +1,8 @@
-ghost use Rattle.std.specs.Prelude.{◌≡◌, ◌+◌, ◌==◌, ◌≤◌, ◌||◌, IsTrue, true, None, length, IfNone};
+ghost use Rattle.std.specs.Prelude.{◌≡◌, ℕ, ◌+◌, ◌==◌, ◌≤◌, ◌||◌, IsTrue, true, false, List, None, length, IfNone};
 ghost use Rattle.std.specs.List.{list_any};
 ghost use Rattle.generic_names.specs.Spelled.{percent, asterisk, qualifiers};
+ghost use Rattle.generic_names.specs.declared.form.Form.TheVariants.{Discrete};
 ghost use Rattle.generic_names.specs.Faults.{is_letter, is_digit, is_ordinary, has_generic, is_whole, is_too_long, is_generic_first, byte_fault, bytes_fault, qualifier_fault, qualifiers_fault, longest, fault_of};
-ghost use Rattle.generic_names.specs.Faultless.{longest_qualifier, goes_on};
 
 use crate::fault::NameFault;
 use crate::form::Form;
@@ -32,16 +32,16 @@ fn is_faultless(form: Form, kind: NameKind, text: &[u8]) -> bool
     ensures { IsTrue result → qualifiers_fault form kind 1 1 (qualifiers text.now) ≡ None }
 {
     match form {
-        Form::Discrete => goes_on(kind, text),
+        Form::Discrete => stands_discrete(kind, text),
         Form::Generic | Form::Symbolic => false,
     }
 }
 
-/// Whether a text has no fault as the name of a resource, apart from its length. One pass tells that. Most bytes
-/// are letters, so it asks for those first.
-fn goes_on(kind: NameKind, text: &[u8]) -> bool
+/// Whether one pass tells that the qualifiers of a text have no fault in the name of a resource. Most bytes are
+/// letters, so it asks for those first.
+fn stands_discrete(kind: NameKind, text: &[u8]) -> bool
     requires { length text.now ≤ 246 }
-    ensures { result ≡ goes_on kind 0 text.now }
+    ensures { IsTrue result → qualifiers_fault Discrete kind 1 1 (qualifiers text.now) ≡ None }
 {
     let longest = longest_qualifier(kind);
     let mut passed = 0;
@@ -65,7 +65,8 @@ fn goes_on(kind: NameKind, text: &[u8]) -> bool
 
 /// The most bytes that a qualifier may have. In a general name that is what the whole name may have.
 fn longest_qualifier(kind: NameKind) -> usize
-    ensures { result ≡ longest_qualifier kind }
+    ensures fits { (q : List ℕ) → length q ≤ result → is_too_long kind q ≡ false }
+    ensures most { result ≤ 246 }
 {
     match kind {
         NameKind::DataSet => 8,

@@ -1,8 +1,8 @@
 //! The tree of groups, [`Tree`]: each group's superior group and owner, and what is in scope of a group.
 //!
 //! The rows of groups are those of `racf_profiles`, and so are the definitions of scope and of what every tree keeps.
-//! The tables of a database hold a tree; what keeps groups otherwise, as images do, is a [`GroupList`], and has scope by
-//! [`in_scope_group`] and [`in_scope_user`].
+//! The tables of a database hold a tree; what keeps groups otherwise, as images do, is a [`GroupList`], and has scope
+//! by [`in_scope_group`] and [`in_scope_user`].
 //!
 //! ```
 //! let mut tree = Tree::new(alloc)?;

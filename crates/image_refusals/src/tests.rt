@@ -26,8 +26,8 @@ const COMMANDS: [&[u8]; 10] = [
     b"PERMIT PAY.** CLASS(FACILITY) ID(JOE) ACCESS(UPDATE) WHEN(TERMINAL(T1))",
 ];
 
-/// Commands that put a row of each kind, change it and take it out, and that make a class's listed copy, make it anew and
-/// drop it.
+/// Commands that put a row of each kind, change it and take it out, and that make a class's listed copy, make it anew
+/// and drop it.
 const NEXT_COMMANDS: [&[u8]; 13] = [
     b"SETROPTS RACLIST(FACILITY)",
     b"ADDGROUP NEW OWNER(SYS1)",

@@ -1,4 +1,5 @@
-//! The record of one command in a journal of its own: nine bytes become 41, and what stops on the way leaves nine or 41.
+//! The record of one command in a journal of its own: nine bytes become 41, and what stops on the way leaves nine or
+//! 41.
 
 use crate::layout_tests::{disk_of, gave, open_disk};
 use racf_journal::{Journal, JournalFault};
@@ -44,9 +45,9 @@ fn assert_opens(rt: &(impl AllocGlobal + Abort), bytes: &[u8], has_record: bool)
     }
 }
 
-/// The call that fails, or 0 where none does; what a read gives then; and whether the record is there when that is opened. A
-/// new journal takes three calls: a write, a cut and a sync. The append takes four: a write of the record and a sync, and a
-/// write of its gate and a sync.
+/// The call that fails, or 0 where none does; what a read gives then; and whether the record is there when that is
+/// opened. A new journal takes three calls: a write, a cut and a sync. The append takes four: a write of the record and
+/// a sync, and a write of its gate and a sync.
 const STOPS: [(u64, &[u8], bool); 5] = [
     (4, NEW, false),
     (5, CLOSED, false),

@@ -1,7 +1,7 @@
-//! Repeats questions on general resource names, so that a script can measure what one costs. Each row of standard input is
-//! `P pattern`, which adds a pattern to the index, `F times name`, which finds the most specific pattern that covers the
-//! name so many times, or `C times pattern name`, which asks so many times whether the pattern covers the name. For the
-//! last two it prints how many times the answer was yes.
+//! Repeats questions on general resource names, so that a script can measure what one costs. Each row of standard input
+//! is `P pattern`, which adds a pattern to the index, `F times name`, which finds the most specific pattern that covers
+//! the name so many times, or `C times pattern name`, which asks so many times whether the pattern covers the name. For
+//! the last two it prints how many times the answer was yes.
 #![tactic(auto)]
 
 mod names;

@@ -17,7 +17,8 @@ module _ {T : Type 0} where
   abbrev pub EndsWith : List (Entry T) → ℕ → Type 0
   EndsWith entries begin = IsSomeAnd (slice_get (map key_of entries) (length entries - 1)) (λ key. (begin ≡ begin_of key) × AreBytes key)
 
-  -- a bucket counts its entries, of which there is one at least, and 16 at most, and keeps the begin of the last one's key
+  -- a bucket counts its entries, of which there is one at least, and 16 at most, and keeps the begin of the last one's
+  -- key
   pub record IsBucket (entries : List (Entry T)) (count begin : ℕ) : Type 0 where
     pub counted : count ≡ length entries
     pub some : 0 < count

@@ -7,8 +7,8 @@
 //! its own, and shares the rest with the one before.
 //!
 //! In both a name's place in the order is kept as bytes, its key, and a search computes the key of what it looks for
-//! once, so that a step of it is one comparison of bytes. An [`Index`] keeps each entry behind its key, and in the order
-//! the first eight bytes of each key: where those differ, a step needs no more. A [`SharedIndex`] keeps up to 16
+//! once, so that a step of it is one comparison of bytes. An [`Index`] keeps each entry behind its key, and in the
+//! order the first eight bytes of each key: where those differ, a step needs no more. A [`SharedIndex`] keeps up to 16
 //! entries of one first qualifier in a bucket, with their keys in one region.
 //!
 //! ```

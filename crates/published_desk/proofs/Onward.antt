@@ -1,6 +1,5 @@
 -- What a desk makes goes on from what is published.
-use Rattle.std.proofs.Common.{◌≡◌, ℕ, Bool, List, [], ◌∷◌, ◌++◌, Option, None, Ok, IfSome, true, false, refl, ap, sym, subst, ◌∙◌}
-use Rattle.raclist_image.specs.Imaged.{Imaged}
+use Rattle.std.proofs.Common.{◌≡◌, ℕ, Bool, List, [], ◌∷◌, ◌++◌, Option, None, Ok, IfSome, false, refl, ap, sym, subst, ◌∙◌}
 use Rattle.racf_desk.specs.Position.{Position}
 use Rattle.racf_desk.specs.Outcome.{outcome}
 use Rattle.racf_desk.specs.Made.{Made, made_of_outcome, installed}

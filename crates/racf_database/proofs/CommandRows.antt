@@ -65,7 +65,8 @@ dg group = fields.DelGroup (record { group = group })
 abbrev re : List ℕ → List ℕ → CommandFields
 re user group = fields.Remove (record { user = user; group = Some group })
 
--- AG A OWNER(SYS1) | AG B SUPGROUP(A) OWNER(A) | ALG A SUPGROUP(B) OWNER(B) | DG A | AU JOE DFLTGRP(B) | DG B | RE JOE GROUP(B) | DU JOE | DG B | DG SYS1
+-- AG A OWNER(SYS1) | AG B SUPGROUP(A) OWNER(A) | ALG A SUPGROUP(B) OWNER(B) | DG A | AU JOE DFLTGRP(B) | DG B | RE JOE
+-- GROUP(B) | DU JOE | DG B | DG SYS1
 groups_come_and_go : outcomes (ag (codes "A") None (Some (codes "SYS1")) ∷ ag (codes "B") (Some (codes "A")) (Some (codes "A")) ∷ alg (codes "A") (Some (codes "B")) (Some (codes "B")) ∷ dg (codes "A") ∷ au_in (codes "JOE") (codes "B") ∷ dg (codes "B") ∷ re (codes "JOE") (codes "B") ∷ du (codes "JOE") ∷ dg (codes "B") ∷ dg (codes "SYS1") ∷ []) start
     ≡ None ∷ None ∷ Some (Cycle (codes "A")) ∷ Some (InUse (Subgroup (codes "B"))) ∷ None ∷ Some (InUse (Connected (codes "JOE"))) ∷ Some (DefaultGroup (codes "B")) ∷ None ∷ None ∷ Some Root ∷ []
 unfolding no_user no_owner no_group no_named_group no_class name_taken not_connected default_not_connected has_subgroup has_connected has_profile cycle owner_not_superior default_group last_special unknown_level unknown_category never_category unknown_label is_root meets users_full groups_full connections_full user_full add_user_conflicts alt_user_conflicts del_user_conflicts add_group_conflicts alt_group_conflicts del_group_conflicts connect_conflicts remove_conflicts

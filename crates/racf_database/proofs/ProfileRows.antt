@@ -83,7 +83,8 @@ alt_sd_rows : map (λ (c : AltSd). first_met (alt_sd_conflicts c some_profiles))
 unfolding no_owner unknown_level unknown_category never_category unknown_label no_profile alt_sd_conflicts
 alt_sd_rows = refl
 
--- RDEF NONE A | RDEF DATASET A | RDEF GLOBAL NONE | RDEF GLOBAL FACILITY | RDEF FACILITY A.* | RDEF SECLABEL A* | RDEF FACILITY B
+-- RDEF NONE A | RDEF DATASET A | RDEF GLOBAL NONE | RDEF GLOBAL FACILITY | RDEF FACILITY A.* | RDEF SECLABEL A* | RDEF
+-- FACILITY B
 r_define_rows : map (λ (c : RDefine). first_met (r_define_conflicts ibm c some_profiles))
     (r_define (codes "NONE") (codes "A") ∷ r_define dataset (codes "A") ∷ r_define (codes "GLOBAL") (codes "NONE") ∷ r_define (codes "GLOBAL") (codes "FACILITY") ∷ r_define (codes "FACILITY") (codes "A.*") ∷ r_define (codes "SECLABEL") (codes "A*") ∷ r_define (codes "FACILITY") (codes "B") ∷ [])
     ≡ Some (NoClass (codes "NONE")) ∷ Some (NoClass dataset) ∷ Some (NoClass (codes "NONE")) ∷ None ∷ Some (Exists (named.Profile (general (codes "A.*")))) ∷ Some (NotGeneric (codes "SECLABEL")) ∷ None ∷ []

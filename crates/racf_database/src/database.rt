@@ -26,8 +26,8 @@ use std::snapshot::Snapshot;
 pub struct Database {
     /// The rows. What holds of the rows of every database holds of them.
     pub(crate) tables: RowTables,
-    /// The change that was prepared last and isn't applied, as contracts see it: the value itself is its owner's. It can
-    /// be applied without memory, and leaves lawful rows.
+    /// The change that was prepared last and isn't applied, as contracts see it: the value itself is its owner's. It
+    /// can be applied without memory, and leaves lawful rows.
     pub(crate) prepared: Option<Snapshot<Change>>,
 }
 

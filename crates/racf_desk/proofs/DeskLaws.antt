@@ -10,7 +10,6 @@ use Rattle.racf_outside.specs.Disk.{History, Now}
 use Rattle.racf_outside.specs.Moments.{Moment}
 use Rattle.racf_outside.proofs.Runs.{Leaves-weaker, StaysIn-none, StaysIn-weaker}
 use Rattle.racf_profiles.specs.Edits.{changed}
-use Rattle.racf_profiles.specs.State.{restart}
 use Rattle.racf_profiles.specs.declared.rows.Rows.{Rows}
 use Rattle.database_image.specs.Image.{image_of}
 use Rattle.racf_journal.specs.Reading.{IsRecord}

@@ -1,5 +1,5 @@
 -- The disk that doesn't count, from one store to the next.
-use Rattle.std.proofs.Common.{◌≡◌, ◌∙◌, List, ℕ, refl, sym, ap, subst}
+use Rattle.std.proofs.Common.{◌≡◌, ◌∙◌, List, ℕ, refl, ap}
 use Rattle.std.specs.Prelude.{Option}
 use Rattle.racf_outside.specs.Crashes.{Leaves}
 use Rattle.racf_outside.specs.Disk.{History, Now}

@@ -45,8 +45,8 @@ by_ibmuser length text = 0 ∷ 0 ∷ 0 ∷ length ∷ (codes "IBMUSER SYS1    " 
 abbrev add_joe : List ℕ
 add_joe = by_ibmuser 27 (codes "ADDUSER JOE")
 
--- A checkpoint of a new database, whose image has 313 bytes, and so its journal begins at place 346: it has this epoch and
--- this number, and this behind the image.
+-- A checkpoint of a new database, whose image has 313 bytes, and so its journal begins at place 346: it has this epoch
+-- and this number, and this behind the image.
 abbrev file : (epoch number : ℕ) → List ℕ → List ℕ
 file epoch number behind = take 346 (new_file epoch number new_database) ++ behind
 

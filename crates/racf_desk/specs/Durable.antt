@@ -63,14 +63,14 @@ abbrev pub LeavesCheckpoint : {D : Type 0} → (tells : D → Option History) �
 LeavesCheckpoint tells store epoch position =
     Now (tells store.journal.disk) (Leaves (BesideIdle (idle_of tells store) (SaysCheckpoint epoch position)))
 
--- At every moment from the one store to the other, in which the disk that counts is written, a crash leaves what stands for
--- the one position or the next. The other disk stays as it is.
+-- At every moment from the one store to the other, in which the disk that counts is written, a crash leaves what stands
+-- for the one position or the next. The other disk stays as it is.
 abbrev pub StaysEither : {D : Type 0} → (tells : D → Option History) → (old new : StoreOn D) → (position next : Position) → Type 0
 StaysEither tells old new position next =
     StaysIn (BesideIdle (idle_of tells old) (StandsForEither position next)) (tells old.journal.disk) (tells new.journal.disk)
 
--- At every moment in which a checkpoint is written on the other disk, a crash leaves what stands for the position, with the
--- journal as it was or without records. The disk that counted stays as it is.
+-- At every moment in which a checkpoint is written on the other disk, a crash leaves what stands for the position, with
+-- the journal as it was or without records. The disk that counted stays as it is.
 abbrev pub StaysThere : {D : Type 0} → (tells : D → Option History) → (old new : StoreOn D) → Position → Type 0
 StaysThere tells old new position =
     StaysIn (Beside (other old.side) (tells old.journal.disk) (StandsForEither position (compacted position)))

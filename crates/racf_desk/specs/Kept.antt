@@ -1,5 +1,5 @@
 -- How a desk is kept: its image, what was made last, as contracts alone see it, and its disks.
-use Rattle.std.specs.Prelude.{◌≡◌, ℕ, ◌+◌, ◌≤◌, ◌^◌, true, false, List, [], ◌∷◌, ◌++◌, length, Option, Some, MatchOption, IsSome}
+use Rattle.std.specs.Prelude.{◌≡◌, ◌+◌, ◌≤◌, ◌^◌, true, false, [], ◌∷◌, ◌++◌, length, Option, Some, MatchOption, IsSome}
 use Rattle.std.specs.Option.{option_map}
 use Rattle.std.specs.Arc.{arc_value}
 use Rattle.racf_outside.specs.Disk.{History}
@@ -25,8 +25,8 @@ contents_of desk =
       committed = desk.committed;
     }
 
--- Its edits are those that the database has prepared, its image is that of the rows behind them, and its record leads on
--- from the position and has room in the journal.
+-- Its edits are those that the database has prepared, its image is that of the rows behind them, and its record leads
+-- on from the position and has room in the journal.
 pub record IsReady (database : Database) (position : Position) (made : Made) : Type 0 where
   pub prepared : database.prepared ≡ Some made.change
   pub image : IsImageOf (changed made.change.edits database.rows) made.behind

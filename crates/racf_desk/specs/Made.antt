@@ -87,8 +87,8 @@ abbrev pub reply_to : Position → Result CommandRecord Refusal → Reply
 reply_to position (Ok given) = reply.Accepted (number_at position + 1)
 reply_to position (Err why) = reply.Refused (number_at position) why
 
--- The desk, which was halted or not, stood there, answered this to a command with this outcome, and stands and is halted
--- so now.
+-- The desk, which was halted or not, stood there, answered this to a command with this outcome, and stands and is
+-- halted so now.
 pub record Answers (position : Position) (outcome : Result CommandRecord Refusal) (told : Reply) (now : Position) (halts : Bool) : Type 0 where
   pub reply : told ≡ reply_to position outcome
   pub left : now ≡ position_after position outcome
@@ -99,8 +99,8 @@ pub record Stops (position now : Position) (number : ℕ) (halts : Bool) : Type 
   pub left : now ≡ position
   pub stops : halts ≡ true
 
--- It is halted already, exactly where it says so; or it isn't, and the disk failed a command that is accepted; or memory
--- was wanting, and nothing has changed.
+-- It is halted already, exactly where it says so; or it isn't, and the disk failed a command that is accepted; or
+-- memory was wanting, and nothing has changed.
 abbrev pub IsAnswer : (halted : Bool) → Position → Result CommandRecord Refusal → Reply → (now : Position) → (halts : Bool) → Type 0
 IsAnswer halted position outcome (reply.Accepted number) now halts = (halted ≡ false) × Answers position outcome (reply.Accepted number) now halts
 IsAnswer halted position outcome (reply.Refused number why) now halts = (halted ≡ false) × Answers position outcome (reply.Refused number why) now halts

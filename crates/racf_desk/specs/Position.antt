@@ -1,5 +1,5 @@
--- Where a desk stands, and where it stands behind a command. A position is the number of the commands that were accepted
--- so far, the state that they led to, as an image of it shows them, and where the journal's last gate is.
+-- Where a desk stands, and where it stands behind a command. A position is the number of the commands that were
+-- accepted so far, the state that they led to, as an image of it shows them, and where the journal's last gate is.
 use Rattle.std.specs.Prelude.{ℕ, ◌+◌, List, length, Result, Ok, Err}
 use Rattle.racf_profiles.specs.State.{State, ListedCopy, restart, changed_state}
 use Rattle.racf_profiles.specs.declared.rows.Rows.{Rows}
@@ -19,7 +19,8 @@ pub record Position : Type 0 where
   pub image : Imaged
   pub gate : ℕ
 
--- That of a checkpoint of these rows, which so many commands led to: its journal, whose first gate is there, has no records.
+-- That of a checkpoint of these rows, which so many commands led to: its journal, whose first gate is there, has no
+-- records.
 abbrev pub at_checkpoint : Rows → (number start : ℕ) → Position
 at_checkpoint rows number start = record { image = record { state = restart rows; generation = number }; gate = start }
 

@@ -24,8 +24,8 @@ use std::snapshot::Snapshot;
 use std::sync::Arc;
 
 /// A database on disks, at which commands are given, with the image of its rows. To the layer above it is its position,
-/// its store, whether a disk failed a command, and what was made last. A command is judged, made, committed and installed,
-/// one after another; nothing is copied but what a command leads to.
+/// its store, whether a disk failed a command, and what was made last. A command is judged, made, committed and
+/// installed, one after another; nothing is copied but what a command leads to.
 pub struct Desk<D: Disk> {
     /// Where the journal takes its memory for a record that is longer than any of a command: it takes none.
     alloc: Global,
@@ -65,8 +65,8 @@ impl<D: Disk> Desk<D> {
     ghost use Rattle.racf_desk.specs.Durable.{LeavesIt, LeavesCheckpoint, SameIdle, SaysEpoch, StandsThere, StaysEither, StaysThere};
     ghost use Rattle.racf_desk.specs.Images.{IsImageOf};
 
-    /// A desk over a new database, whatever the disks held: the first has a checkpoint of it. A crash meanwhile may leave
-    /// anything of both. Where that fails, both are handed back.
+    /// A desk over a new database, whatever the disks held: the first has a checkpoint of it. A crash meanwhile may
+    /// leave anything of both. Where that fails, both are handed back.
     pub fn format(alloc: Global, disks: Two<D>) -> Result<Desk<D>, (Two<D>, StoreFault)>
         ensures desk { IfOk result (λ desk. desk ≡ is_fresh first_position desk.store) }
         ensures leaves { IfOk result (λ desk. LeavesIt D.tells desk.store first_position) }
@@ -91,10 +91,10 @@ impl<D: Disk> Desk<D> {
         }
     }
 
-    /// Opens the database that the disks stand for: takes the rows of the checkpoint that counts, repeats the commands of
-    /// the records behind it, in time that grows with their number, and makes the image of the rows once. Both disks are
-    /// synced, and nothing is written before all records are judged. At every moment a crash leaves files that say what was
-    /// possible before; after `Ok` it leaves what was opened. Otherwise the disks are handed back.
+    /// Opens the database that the disks stand for: takes the rows of the checkpoint that counts, repeats the commands
+    /// of the records behind it, in time that grows with their number, and makes the image of the rows once. Both disks
+    /// are synced, and nothing is written before all records are judged. At every moment a crash leaves files that say
+    /// what was possible before; after `Ok` it leaves what was opened. Otherwise the disks are handed back.
     pub fn open(alloc: Global, disks: Two<D>) -> Result<Desk<D>, (Two<D>, StoreFault)>
         ensures stands { IfOk result (λ desk. NowRead (D.tells disks.first) (D.tells disks.second) (λ first second. standing first second ≡ Ok desk.position)) }
         ensures desk { IfOk result (λ desk. desk ≡ is_fresh desk.position desk.store) }
@@ -196,9 +196,9 @@ impl<D: Disk> Desk<D> {
         let _ = &self.halted;
     }
 
-    /// Judges a command, and makes what `commit` and `install` put in place: it takes all memory that the command needs.
-    /// The issuer is named by his ID, and by the group that is to be current for him, else his default group is. The
-    /// position stays as it is, and what was made before doesn't stand any longer.
+    /// Judges a command, and makes what `commit` and `install` put in place: it takes all memory that the command
+    /// needs. The issuer is named by his ID, and by the group that is to be current for him, else his default group is.
+    /// The position stays as it is, and what was made before doesn't stand any longer.
     ///
     /// # Errors
     ///
@@ -274,8 +274,8 @@ impl<D: Disk> Desk<D> {
         }
     }
 
-    /// Puts in place what was made last and stands on the disks, and answers its number. It takes no memory, and the time
-    /// that the change takes in the database.
+    /// Puts in place what was made last and stands on the disks, and answers its number. It takes no memory, and the
+    /// time that the change takes in the database.
     pub fn install(&mut self, ready: Ready) -> u64
         requires made { self.old.made ≡ Some (made_in ready) }
         requires committed { self.old.committed ≡ true }
@@ -328,8 +328,8 @@ impl<D: Disk> Desk<D> {
     }
 
     /// Writes a checkpoint of the rows on the disk that doesn't count. It counts from then on, and its journal has no
-    /// records; the number and the state are as before. At every moment a crash leaves what stands for them. What was made
-    /// last doesn't stand any longer. At the last epoch, 2^64 - 1, nothing is written.
+    /// records; the number and the state are as before. At every moment a crash leaves what stands for them. What was
+    /// made last doesn't stand any longer. At the last epoch, 2^64 - 1, nothing is written.
     ///
     /// # Errors
     ///

@@ -8,8 +8,8 @@ use access_levels::Id;
 use command_parser::Issuer;
 use racf_profiles::{User, View};
 
-/// The issuer of that ID, with the group that was named or else his default group, as the rows have him: he is a user who
-/// isn't revoked, and connected to the group by a connection that isn't.
+/// The issuer of that ID, with the group that was named or else his default group, as the rows have him: he is a user
+/// who isn't revoked, and connected to the group by a connection that isn't.
 pub(crate) fn issuer_of<V: View>(view: &V, id: Id, group: Option<Id>) -> Result<Issuer, Refusal>
     ensures { result ≡ issuer_of (V.rows view.now) id group }
 {

@@ -1,12 +1,13 @@
-//! The desk: one command after another, judged as its issuer stands at that command, made, put on the disks and installed.
+//! The desk: one command after another, judged as its issuer stands at that command, made, put on the disks and
+//! installed.
 //!
-//! A [`Desk`] has the database, the image of its rows, and the store of `racf_checkpoint` with the records of the commands.
-//! [`Desk::format`] makes a new database and [`Desk::open`] opens the one that the disks stand for. [`Desk::judge`] tests a
-//! command in a fixed order, takes all memory and makes the next image; [`Desk::commit`] puts its record on the disks, and
-//! [`Desk::install`] puts the image in place; [`Desk::execute`] is the three. [`Desk::compact`] writes a checkpoint of the
-//! rows on the other disk, behind which the journal begins anew. The commands are those of `command_parser`, their records
-//! those of `journal_records`; `racf_database` says what they conflict with and `command_authority` who may give them.
-//! [`Refusal::write`] has the words of every refusal.
+//! A [`Desk`] has the database, the image of its rows, and the store of `racf_checkpoint` with the records of the
+//! commands. [`Desk::format`] makes a new database and [`Desk::open`] opens the one that the disks stand for.
+//! [`Desk::judge`] tests a command in a fixed order, takes all memory and makes the next image; [`Desk::commit`] puts
+//! its record on the disks, and [`Desk::install`] puts the image in place; [`Desk::execute`] is the three.
+//! [`Desk::compact`] writes a checkpoint of the rows on the other disk, behind which the journal begins anew. The
+//! commands are those of `command_parser`, their records those of `journal_records`; `racf_database` says what they
+//! conflict with and `command_authority` who may give them. [`Refusal::write`] has the words of every refusal.
 //!
 //! ```
 //! let mut desk = Desk::open(alloc, disks)?;

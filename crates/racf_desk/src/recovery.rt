@@ -49,8 +49,8 @@ pub(crate) fn new_database(alloc: Global) -> Result<Recovered, StoreFault>
     Ok(found)
 }
 
-/// Where these records lead from a checkpoint of these rows on, which so many commands led to, and whose journal has its
-/// first gate there: each where the ones before it lead.
+/// Where these records lead from a checkpoint of these rows on, which so many commands led to, and whose journal has
+/// its first gate there: each where the ones before it lead.
 pub(crate) fn recover(
     alloc: Global,
     rows: &Rows,

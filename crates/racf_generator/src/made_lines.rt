@@ -14,8 +14,8 @@ pub fn line_count(users: u32) -> u32
     users * 6 + (users + 9) / 10
 }
 
-/// Writes a part of the text, counted from 0: the lines that define a user, for each of the users, and then the requests
-/// of each.
+/// Writes a part of the text, counted from 0: the lines that define a user, for each of the users, and then the
+/// requests of each.
 #[tactic(auto, unfolding(crate::specs::Made::part_text))]
 pub(crate) fn write_part(users: u32, part: u32, out: &mut Vec<u8>) -> Result<(), AllocError>
     requires few { users ≤ 10_000 }

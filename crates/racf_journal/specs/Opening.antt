@@ -9,16 +9,16 @@ use Rattle.racf_journal.specs.declared.fault.JournalFault.{JournalFault}
 use Rattle.racf_journal.specs.declared.fault.JournalFault.TheVariants as fault
 use Rattle.racf_journal.specs.Reading.{reading}
 
--- A journal that was read and isn't open yet, as data: its disk, the place where it begins, that of its last gate, and its
--- records.
+-- A journal that was read and isn't open yet, as data: its disk, the place where it begins, that of its last gate, and
+-- its records.
 pub record FoundOn (D : Type 0) : Type 0 where
   pub disk : D
   pub start : ℕ
   pub gate : ℕ
   pub records : List (List ℕ)
 
--- A call synced the disk, which changes no byte of it: what is read now is what was read before, and might have been left
--- by a crash then.
+-- A call synced the disk, which changes no byte of it: what is read now is what was read before, and might have been
+-- left by a crash then.
 pub record OnlySynced (old new : Option History) : Type 0 where
   pub was_left : Now old (λ moment. IsImage moment moment.bytes)
   pub is : new ≡ option_map (goes synced) old

@@ -44,8 +44,8 @@ impl<D: Disk> Model for FoundJournal<D> {
 }
 
 impl<D: Disk> Journal<D> {
-    /// Reads the journal that begins at `start`: its whole open records. The disk is synced, and stays as it is. Otherwise
-    /// it is handed back.
+    /// Reads the journal that begins at `start`: its whole open records. The disk is synced, and stays as it is.
+    /// Otherwise it is handed back.
     pub fn find(
         alloc: Global,
         mut disk: D,
@@ -79,8 +79,8 @@ impl<D: Disk> Journal<D> {
 }
 
 impl<D: Disk> FoundJournal<D> {
-    /// The journal that was read of a disk as the end of its file: these records from the place `start` on, and the bytes
-    /// `end` from the gate behind them on. The disk holds them, and a crash changes none of it.
+    /// The journal that was read of a disk as the end of its file: these records from the place `start` on, and the
+    /// bytes `end` from the gate behind them on. The disk holds them, and a crash changes none of it.
     pub fn behind(disk: D, start: u64, found: FoundRecords, end: Text) -> FoundJournal<D>
         requires { IsFound start found.gate found.records.items end (D.tells disk) }
         ensures { result ≡ record { disk = disk; start = start; gate = found.gate; records = found.records.items } }
@@ -107,9 +107,9 @@ impl<D: Disk> FoundJournal<D> {
         &self.found.records
     }
 
-    /// Opens the journal, and gives its records: cuts off what lies behind the last gate, and closes that. At every moment
-    /// a crash leaves a file with a reading that was possible before; after `Ok` it leaves the records given. Otherwise
-    /// the disk is handed back.
+    /// Opens the journal, and gives its records: cuts off what lies behind the last gate, and closes that. At every
+    /// moment a crash leaves a file with a reading that was possible before; after `Ok` it leaves the records given.
+    /// Otherwise the disk is handed back.
     pub fn open(self) -> Result<(Journal<D>, Vec<Text>), (D, JournalFault)>
         ensures reads { IfOk result (λ opened. Now (D.tells self.disk) (λ m. reading self.start m.bytes ≡ Ok (record { records = self.records; gate = self.gate }))) }
         ensures rest { IfOk result (λ opened. (front : List ℕ) → Now (D.tells self.disk) (λ m. take self.start m.bytes ≡ front)
@@ -150,7 +150,8 @@ impl<D: Disk> FoundJournal<D> {
     }
 }
 
-/// Finds the records of a disk, and the bytes of its file from the last gate on. The disk is synced, and then only read.
+/// Finds the records of a disk, and the bytes of its file from the last gate on. The disk is synced, and then only
+/// read.
 fn find<D: Disk>(
     alloc: Global,
     disk: &mut D,

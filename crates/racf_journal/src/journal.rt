@@ -37,8 +37,8 @@ impl<D: Disk> Model for Journal<D> {
 }
 
 impl<D: Disk> Journal<D> {
-    /// Makes a new journal of a disk, whatever that held: the file is its first eight bytes and one closed gate. A crash
-    /// meanwhile may leave anything. Where the disk fails, it is handed back.
+    /// Makes a new journal of a disk, whatever that held: the file is its first eight bytes and one closed gate. A
+    /// crash meanwhile may leave anything. Where the disk fails, it is handed back.
     pub fn format(mut disk: D) -> Result<Journal<D>, (D, JournalFault)>
         ensures made { IfOk result (λ made. Keeps magic made.start made.gate [] (D.tells made.disk)) }
         ensures start { IfOk result (λ made. made.start ≡ 8) }
@@ -82,8 +82,8 @@ impl<D: Disk> Journal<D> {
     }
 
     /// Opens the journal that begins at `start`, and gives its whole open records. At every moment a crash leaves a
-    /// file with a reading that was possible before; after `Ok` it leaves the records given. Otherwise the disk is handed
-    /// back.
+    /// file with a reading that was possible before; after `Ok` it leaves the records given. Otherwise the disk is
+    /// handed back.
     pub fn open(
         alloc: Global,
         disk: D,

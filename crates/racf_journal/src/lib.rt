@@ -1,11 +1,11 @@
 //! The journal on a disk: records behind gates, and what every crash leaves of them.
 //!
-//! A [`Journal`] keeps records on a `Disk` of `racf_outside`: as its whole file, or as the end of one. [`Journal::append`]
-//! returns once a record stays whatever happens; until then a crash leaves the records as they were, or with that one
-//! behind them. [`Journal::open`] reads them again, and makes good what a crash left of the last append. It is two calls,
-//! for a caller that judges the records in between: [`Journal::find`] leaves the disk as it is, and [`FoundJournal::open`]
-//! makes its end good. What a record says is the caller's: here it is four bytes, which tell the length of the rest, and
-//! that rest.
+//! A [`Journal`] keeps records on a `Disk` of `racf_outside`: as its whole file, or as the end of one.
+//! [`Journal::append`] returns once a record stays whatever happens; until then a crash leaves the records as they
+//! were, or with that one behind them. [`Journal::open`] reads them again, and makes good what a crash left of the last
+//! append. It is two calls, for a caller that judges the records in between: [`Journal::find`] leaves the disk as it
+//! is, and [`FoundJournal::open`] makes its end good. What a record says is the caller's: here it is four bytes, which
+//! tell the length of the rest, and that rest.
 //!
 //! ```
 //! let mut journal = Journal::format(disk)?;

@@ -74,7 +74,7 @@ fn write_short<D: Disk, const ROOM: usize>(
     requires rest { Now (D.tells disk.old) (λ m. (start : ℕ) × IsResting start gate m) }
     requires lawful { IsRecord next.now }
     requires short { length next.now < ROOM }
-    requires room_for_one { ROOM ≤ 30021 }
+    requires longest { ROOM ≤ 30021 }
     ensures acknowledged { OnOk result ((start : ℕ) → Acknowledges start gate next.now (D.tells disk.old) (D.tells disk.new)) }
     ensures moments { (start : ℕ) → LeavesEither start gate next.now (D.tells disk.old) (D.tells disk.new) }
     ensures cause { HasCause (D.faults disk.old) (D.faults disk.new) result }

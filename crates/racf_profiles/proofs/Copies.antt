@@ -3,7 +3,6 @@ use Rattle.std.proofs.Common.{◌≡◌, ℕ, Bool, true, false, cond, not, ◌&
 use Rattle.std.specs.List.{find, filter, list_all}
 use Rattle.std.specs.Option.{option_map_or}
 use Rattle.std.proofs.lemmas.Bool.{cases_Bool, and_parts, not-true}
-use Rattle.std.proofs.lemmas.Slice.Eq.{bytes_eq-Decides}
 use Rattle.racf_profiles.specs.declared.class_rows.ClassRow.{ClassRow}
 use Rattle.racf_profiles.specs.declared.rows.Rows.{Rows}
 use Rattle.racf_profiles.specs.declared.edits.Edit.{Edit}
@@ -11,7 +10,7 @@ use Rattle.racf_profiles.specs.declared.edits.Edit.TheVariants.{PutUser, DropUse
 use Rattle.racf_profiles.specs.Lookup.{is_class, class_of}
 use Rattle.racf_profiles.specs.Edits.{put_row, drop_row, at_class, with_profile, without_profile, with_flags, with_listed, edited, changed}
 use Rattle.racf_profiles.specs.State.{State, ListedCopy, HaveCopies, is_copy_of, copy_of_class, is_none_listed, is_of_copies, restart, edited_state, changed_state}
-use Rattle.racf_profiles.proofs.Found.{find-hit, find-miss}
+use Rattle.racf_profiles.proofs.Found.{find-miss}
 use Rattle.racf_profiles.proofs.EditLaws.{put_row-found, put_row-others, at_class-absent}
 use Rattle.racf_profiles.proofs.States.{find-passes, copies_of, copies_of-others, copies_of-listed, at_class-hit, at_class-miss, at_class-found, listed_in, listed_in-hit, listed_in-miss, edit-listed, edit-copies}
 use Rattle.racf_profiles.proofs.Named.{same, itself}

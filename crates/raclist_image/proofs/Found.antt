@@ -1,7 +1,6 @@
 -- The profile whose entry was found, and its name.
 use Rattle.std.proofs.Common.{◌≡◌, Option, None, Some, refl, ap, sym, ◌∙◌}
 use Rattle.std.specs.Option.{option_map}
-use Rattle.generic_names.specs.Spelled.{Spelled}
 use Rattle.profile_index.specs.declared.entry.Entry.{Entry}
 use Rattle.racf_profiles.specs.declared.profiles.Profile.{Profile}
 use Rattle.class_profiles.specs.Paired.{entry_of}

@@ -1,5 +1,5 @@
 -- A legal history is no longer than the numbers that commands get.
-use Rattle.std.proofs.Common.{◌≡◌, ◌⊎◌, ℕ, ◌+◌, ◌<◌, ◌≤◌, ◌^◌, true, false, List, [], ◌∷◌, ◌++◌, length, Ok, Bool, Option, Some, None, nat_le, if◌then◌else◌, leb-false, inl, inr, refl, sym, ◌∙◌, ap, subst, arith, ⊎_elim}
+use Rattle.std.proofs.Common.{◌≡◌, ◌⊎◌, ℕ, ◌+◌, ◌<◌, ◌≤◌, ◌^◌, true, false, List, [], ◌∷◌, ◌++◌, length, Ok, Bool, Option, Some, None, nat_le, if◌then◌else◌, leb-false, inl, inr, refl, ◌∙◌, arith, ⊎_elim}
 use Rattle.journal_records.specs.declared.record.CommandRecord.{CommandRecord}
 use Rattle.racf_desk.specs.declared.refusal.Refusal.{Refusal}
 use Rattle.racf_desk.specs.declared.refusal.Refusal.TheVariants as refusal
@@ -10,7 +10,7 @@ use Rattle.racf_desk.proofs.RecoveryLaws.{judged_parts}
 use Rattle.command_history.specs.declared.events.Accepted.{Accepted}
 use Rattle.command_history.specs.declared.events.Event.{Event}
 use Rattle.command_history.specs.declared.events.Event.TheVariants.{Added, Ended}
-use Rattle.command_history.specs.Events.{entries_of, ends_last, is_ended}
+use Rattle.command_history.specs.Events.{entries_of, ends_last}
 use Rattle.command_history.specs.Reached.{AreLegal}
 
 -- Where nothing is refused, the end of the numbers isn't reached.

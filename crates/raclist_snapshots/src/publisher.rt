@@ -81,8 +81,8 @@ impl<J: Naming, T: Absorb<O> + Drop, O: Opens<Note<J>>, R: Wait + Drop> Publishe
     }
 
     /// Takes all memory that publishing an entry takes, and that of the next note, whether it comes before the publish
-    /// or behind it. The entry is legal behind those that are published, and the image is that of the state it leads to.
-    /// Where this is refused, nothing has changed.
+    /// or behind it. The entry is legal behind those that are published, and the image is that of the state it leads
+    /// to. Where this is refused, nothing has changed.
     pub fn hold(
         &mut self,
         alloc: Global,
@@ -199,8 +199,8 @@ impl<J: Naming, T: Absorb<O> + Drop, O: Opens<Note<J>>, R: Wait + Drop> Publishe
         }
     }
 
-    /// Puts the final mark behind the history, as `finish`, and shows that no caller has seen anything else. It takes no
-    /// memory.
+    /// Puts the final mark behind the history, as `finish`, and shows that no caller has seen anything else. It takes
+    /// no memory.
     #[tactic(auto, using(crate::proofs::Marks::ended_ends))]
     pub fn settle(&mut self, halted: bool, callers: &[Caller<J>])
         requires mark { MarkIs halted self.old.events }

@@ -14,8 +14,8 @@ use raclist_image::Image;
 use std::alloc::{AllocError, Global};
 use std::sync::{Arc, Wait};
 
-/// The publisher of a new history, and so many callers, none of whom has seen anything but the image at which it begins.
-/// The history is the one of the name `J`, and so is where it begins.
+/// The publisher of a new history, and so many callers, none of whom has seen anything but the image at which it
+/// begins. The history is the one of the name `J`, and so is where it begins.
 #[tactic(auto, using(command_history::proofs::Leading::reached_none))]
 pub fn snapshots<'a, J: Naming, Q: Wait>(
     rt: &'a Q,

@@ -1,5 +1,5 @@
-//! Runs, each of which begins at a new database with two decks and four callers, takes its course, and is closed. Run alone,
-//! these tests have ample memory; the script `tests/refusals` runs them with allocations refused.
+//! Runs, each of which begins at a new database with two decks and four callers, takes its course, and is closed. Run
+//! alone, these tests have ample memory; the script `tests/refusals` runs them with allocations refused.
 ghost use Rattle.std.specs.Prelude.{◌≡◌, ◌+◌, ◌≤◌, vec_len, vec_capacity};
 ghost use Rattle.std.specs.Arc.{arc_value};
 ghost use Rattle.racf_desk.specs.Durable.{idle_of};

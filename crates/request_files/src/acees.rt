@@ -20,8 +20,8 @@ pub struct NamedAcee {
     pub acee: Acee,
 }
 
-/// The ACEEs in use, at most 256. Contracts see them as the list of names and ACEEs, in the order in which they were put.
-/// Finding one goes through the list.
+/// The ACEEs in use, at most 256. Contracts see them as the list of names and ACEEs, in the order in which they were
+/// put. Finding one goes through the list.
 #[derive(Drop)]
 pub struct AceeTable {
     /// The ACEEs under their names, as they were put.
@@ -54,8 +54,8 @@ impl AceeTable {
     ///
     /// # Errors
     ///
-    /// The first that fits of: `AceeExists`, where an ACEE has that name, and `AceesFull`, where there are 256. The ACEE
-    /// given is then dropped.
+    /// The first that fits of: `AceeExists`, where an ACEE has that name, and `AceesFull`, where there are 256. The
+    /// ACEE given is then dropped.
     pub fn put(&mut self, name: Id, acee: Acee) -> Result<(), LineRefusal>
         ensures put { OnOk result (self.new ≡ with_acee name acee self.old) }
         ensures refused { result_err result ≡ put_refusal name self.old }

@@ -16,10 +16,10 @@ use raclist_image::Image;
 use seclabels::Classified;
 use std::alloc::AllocError;
 
-/// Writes the answer to AUTH or FASTAUTH at the end of `out`: the number, the return code, the rule that decided, and for
-/// most rules the profile and the level that was found. The image and the class are those of the decision: a category and
-/// a member of the class's global access table are named as the image has them. Where memory is short, `out` stays as it
-/// was.
+/// Writes the answer to AUTH or FASTAUTH at the end of `out`: the number, the return code, the rule that decided, and
+/// for most rules the profile and the level that was found. The image and the class are those of the decision: a
+/// category and a member of the class's global access table are named as the image has them. Where memory is short,
+/// `out` stays as it was.
 pub fn answer_text(
     number: u64,
     decision: &Decision,

@@ -17,9 +17,9 @@ pub struct NamedIssuer {
     pub group: Option<Id>,
 }
 
-/// Who is named by a line whose first word is `*ISSUER`: `*ISSUER id [GROUP(g)]` (this product's own grammar). Words are
-/// parted by blanks and tabs, and letters are folded to upper case; `GROUP(g)` is one word. Whether there is such a user
-/// or group isn't asked. It takes no memory.
+/// Who is named by a line whose first word is `*ISSUER`: `*ISSUER id [GROUP(g)]` (this product's own grammar). Words
+/// are parted by blanks and tabs, and letters are folded to upper case; `GROUP(g)` is one word. Whether there is such a
+/// user or group isn't asked. It takes no memory.
 ///
 /// # Errors
 ///

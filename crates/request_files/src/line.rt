@@ -50,10 +50,10 @@ pub enum LineRefusal {
 /// The most bytes of a line.
 pub(crate) const LONGEST: usize = 4096;
 
-/// What a line asks for. Words are parted by blanks and tabs, and letters are folded to upper case:
-/// `VERIFY a user`, with `GROUP(g)`, `APPL(x)`, `SECLABEL(l)` and one of `TERMINAL(t)`, `CONSOLE(c)`, `JESINPUT(j)` and
-/// `APPCPORT(p)` in any order; `AUTH a class name level`; `FASTAUTH a class name level`; `DELETE a`; `*AFTER n`. A blank
-/// line and one that begins with `/*` are skipped (this product's own grammar). It takes no memory.
+/// What a line asks for. Words are parted by blanks and tabs, and letters are folded to upper case: `VERIFY a user`,
+/// with `GROUP(g)`, `APPL(x)`, `SECLABEL(l)` and one of `TERMINAL(t)`, `CONSOLE(c)`, `JESINPUT(j)` and `APPCPORT(p)` in
+/// any order; `AUTH a class name level`; `FASTAUTH a class name level`; `DELETE a`; `*AFTER n`. A blank line and one
+/// that begins with `/*` are skipped (this product's own grammar). It takes no memory.
 ///
 /// # Errors
 ///

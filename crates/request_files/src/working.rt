@@ -19,9 +19,9 @@ use decision::{Decision, Request, auth, fastauth, verify};
 use raclist_image::Image;
 use std::alloc::{AllocError, Global};
 
-/// Answers a line that was read: writes its text at the end of `out`, and tells whether it was refused. VERIFY verifies a
-/// user and puts his ACEE, AUTH and FASTAUTH decide on the image, with an AUDIT line behind the answer where the decision
-/// is logged, DELETE takes an ACEE out, and `*AFTER` prints only where its number isn't reached.
+/// Answers a line that was read: writes its text at the end of `out`, and tells whether it was refused. VERIFY verifies
+/// a user and puts his ACEE, AUTH and FASTAUTH decide on the image, with an AUDIT line behind the answer where the
+/// decision is logged, DELETE takes an ACEE out, and `*AFTER` prints only where its number isn't reached.
 ///
 /// # Errors
 ///

@@ -132,8 +132,8 @@ fn drop_group(tree: &mut Tree, id: Id)
     };
 }
 
-/// No two groups have one name: the tree tells so where it is asked for its length. It does nothing: its contract is what
-/// it is for.
+/// No two groups have one name: the tree tells so where it is asked for its length. It does nothing: its contract is
+/// what it is for.
 fn names_are_distinct(tree: &Tree)
     ensures { IsTree tree.now.groups }
 {

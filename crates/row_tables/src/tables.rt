@@ -141,8 +141,8 @@ impl RowTables {
         })
     }
 
-    /// Makes room for the rows that edits add: where one of them puts a user, a group or a profile of a class that isn't
-    /// there, room for as many of these as there are edits.
+    /// Makes room for the rows that edits add: where one of them puts a user, a group or a profile of a class that
+    /// isn't there, room for as many of these as there are edits.
     ///
     /// # Errors
     ///

@@ -1,7 +1,7 @@
-//! Lets callers enter in threads of their own, to be measured by `bench/snapshots`. Each row of standard input is worked at
-//! once, over a new database: `callers entries commands` lets so many callers enter so many times each, while a command is
-//! accepted and published every ten milliseconds, so many at most. It prints how many entries were made, and how many
-//! commands were accepted meanwhile.
+//! Lets callers enter in threads of their own, to be measured by `bench/snapshots`. Each row of standard input is
+//! worked at once, over a new database: `callers entries commands` lets so many callers enter so many times each, while
+//! a command is accepted and published every ten milliseconds, so many at most. It prints how many entries were made,
+//! and how many commands were accepted meanwhile.
 #![tactic(auto)]
 
 ghost use Rattle.std.specs.Prelude.{◌≡◌, ◌<◌, [], false, None, IfSome};

@@ -2,8 +2,8 @@
 //!
 //! [`of_image`] gives the [`Database`](racf_database::Database) whose rows an image has, or the place of the image's
 //! first fault; [`of_rows`] gives the database of rows that are at hand, or the place of their first unlawful field in
-//! the image that they would have. So what an image on a disk may hold, and what a database may be made of, is one rule:
-//! that of `database_image`. Rows of a database are lawful, and never refused.
+//! the image that they would have. So what an image on a disk may hold, and what a database may be made of, is one
+//! rule: that of `database_image`. Rows of a database are lawful, and never refused.
 //!
 //! A [`RowsFault`] tells the byte of the image at which the first unlawful field stands. Images, and what is lawful in
 //! them, are those of `database_image`, the database is that of `racf_database`, and its tables are those of

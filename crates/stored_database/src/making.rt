@@ -31,8 +31,8 @@ pub fn of_image(alloc: Global, bytes: &[u8]) -> Result<Database, RowsFault>
 ///
 /// # Errors
 ///
-/// `BadRow` at the first field of their image that isn't lawful, or, where each is, at the first whose fact about others
-/// doesn't hold; `NoMemory` where there was no room for the image, for the rows or for their tables.
+/// `BadRow` at the first field of their image that isn't lawful, or, where each is, at the first whose fact about
+/// others doesn't hold; `NoMemory` where there was no room for the image, for the rows or for their tables.
 pub fn of_rows(alloc: Global, rows: &Rows) -> Result<Database, RowsFault>
     // The database has the rows, and an image may hold them.
     ensures made { IfOk result (λ database. (database.rows ≡ rows.now) × IsStored rows.now) }

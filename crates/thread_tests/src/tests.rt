@@ -94,8 +94,8 @@ const TOLD: [&[u8]; 2] = [
     b"0 0 VERIFIED\n1 0 VERIFIED\n2 4 NOPROFILE\n3 4 NOPROFILE\n",
 ];
 
-/// Each line of the deck waits for a line of the file, and the other way round: so both are under way at once. And each line
-/// of the file is answered on the command before it, of which nobody told the file.
+/// Each line of the deck waits for a line of the file, and the other way round: so both are under way at once. And each
+/// line of the file is answered on the command before it, of which nobody told the file.
 #[test]
 fn workers_run_side_by_side_and_who_is_told_nothing_follows(rt: HostRuntime) -> Result<(), Fail> {
     let holds = [

@@ -1,5 +1,5 @@
-//! A run, which begins at a new database with one deck and two callers: the deck's commands and the files of a caller are
-//! worked in turn, and all is closed.
+//! A run, which begins at a new database with one deck and two callers: the deck's commands and the files of a caller
+//! are worked in turn, and all is closed.
 ghost use Rattle.std.specs.Prelude.{◌≡◌, ◌+◌, ◌≤◌, vec_len, vec_capacity};
 ghost use Rattle.std.specs.Arc.{arc_value};
 ghost use Rattle.racf_desk.specs.Durable.{idle_of};

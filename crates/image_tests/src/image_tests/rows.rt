@@ -318,8 +318,8 @@ pub(crate) const IMAGES: &[u8] = b"0 39\n\
     2020202020202020000000000003024c4f5720202020200a024d49442020202020140248494748202020201e5345434c4142\
     454c000000000000474c4f42414c2020000000000000";
 
-/// Images whose fields are lawful, of which a fact between two fields doesn't hold, written by an independent program: the
-/// place of the first such field, or a dash, and the bytes.
+/// Images whose fields are lawful, of which a fact between two fields doesn't hold, written by an independent program:
+/// the place of the first such field, or a dash, and the bytes.
 pub(crate) const FACTS: &[u8] =
     b"- 0000015245442020202020000000045359533120202020202020202020202049424d5553455220422020202020202041\
     2020202020202049424d55534552204120202020202020535953312020202049424d555345522043202020202020204220\

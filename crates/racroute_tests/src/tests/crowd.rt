@@ -48,8 +48,8 @@ struct Worker<'a, J: Naming, S: Ledger, F: Ledger, P: Ledger> {
     is_right: bool,
 }
 
-/// Two decks give commands, each in a thread of its own, and two callers in further threads ask, and wait for what the decks
-/// do. Each deck's commands are those of `TURNS` in turn.
+/// Two decks give commands, each in a thread of its own, and two callers in further threads ask, and wait for what the
+/// decks do. Each deck's commands are those of `TURNS` in turn.
 pub(super) fn crowd<
     J: Naming + Send + Sync,
     T: Absorb<O> + Drop + Send + Sync,
@@ -170,8 +170,8 @@ fn gives<
     true
 }
 
-/// Waits for every eighth command that may come, and asks behind each: the number of the answer is its caller's, and never
-/// falls.
+/// Waits for every eighth command that may come, and asks behind each: the number of the answer is its caller's, and
+/// never falls.
 fn asks<
     J: Naming,
     T: Absorb<O> + Drop,

@@ -1,4 +1,4 @@
-use Rattle.std.proofs.Common.{◌≡◌, ◌∙◌, true, not, length, subst, refl}
+use Rattle.std.proofs.Common.{◌≡◌, ◌∙◌, true, not, subst, refl}
 use Rattle.std.specs.List.{AllWithin, position_or_len}
 use Rattle.std.proofs.lemmas.List.Sums.{prefix_len-le-length}
 use Rattle.generic_names.specs.OrderKey.{is_lower}

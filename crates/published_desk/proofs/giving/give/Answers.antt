@@ -1,8 +1,7 @@
-use Rattle.std.proofs.Common.{◌≡◌, [], ◌∷◌, ◌++◌, true, false, ap, sym, ◌∙◌, subst}
+use Rattle.std.proofs.Common.{◌≡◌, [], ◌∷◌, ◌++◌, true, ap, sym, ◌∙◌, subst}
 use Rattle.racf_desk.specs.Position.{Position}
 use Rattle.racf_desk.specs.Made.{DeskOn, made_in, installed}
 use Rattle.command_history.specs.declared.events.Event.TheVariants.{Added}
-use Rattle.command_history.specs.Events.{is_ended}
 use Rattle.command_history.specs.Reached.{reached}
 use Rattle.raclist_snapshots.specs.Publishing.{Publishing, MarkIs}
 use Rattle.published_desk.proofs.Onward.{onward, goes_push, mark_any}

@@ -1,6 +1,6 @@
-use Rattle.std.proofs.Common.{ap, sym, subst, ◌∙◌}
+use Rattle.std.proofs.Common.{ap, ◌∙◌}
 use Rattle.generic_names.specs.Best.{best}
-use Rattle.profile_index.specs.Indexed.{name_of, AreOf}
+use Rattle.profile_index.specs.Indexed.{name_of}
 use Rattle.profile_index.proofs.shared_index.SharedIndex.find.Goals as goal
 
 pub returns : goal.returns

@@ -1,7 +1,5 @@
 use Rattle.std.proofs.Common.{◌≡◌, ℕ, ◌+◌, ◌<◌, ◌≤◌, ◌^◌, List, length, Ok, Err, ◌⊎◌, ◌∙◌, ap, subst, sym}
 use Rattle.std.specs.Arc.{arc_value}
-use Rattle.racf_outside.specs.Causes.{Rose}
-use Rattle.racf_journal.specs.Opening.{OnlySynced}
 use Rattle.racf_journal.specs.Reading.{spelled}
 use Rattle.database_image.specs.Image.{IsStored as AreStored}
 use Rattle.checkpoint_disks.specs.declared.counting.Side.TheVariants.{First, Second}
@@ -11,7 +9,7 @@ use Rattle.racf_checkpoint.specs.Stored.{StoreOn, NowRead, StaysPossible, disk_o
 use Rattle.racf_desk.specs.Outcome.{most_number}
 use Rattle.racf_desk.specs.Made.{DeskOn}
 use Rattle.racf_desk.specs.Recovery.{recovered, standing}
-use Rattle.racf_desk.proofs.OpenLaws.{found, epoch_said, of_parts, stands_there, store_goes, first_stays, second_stays, first_no_fewer, second_no_fewer, one_rose, refused_to_load, refused_to_recover, only_damage}
+use Rattle.racf_desk.proofs.OpenLaws.{found, epoch_said, of_parts, stands_there, store_goes, first_stays, second_stays, refused_to_load, refused_to_recover, only_damage}
 use Rattle.racf_desk.proofs.desk.Desk.open.Goals as goal
 
 -- nothing was found

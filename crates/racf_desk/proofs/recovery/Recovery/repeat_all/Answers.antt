@@ -1,4 +1,4 @@
-use Rattle.std.proofs.Common.{◌≡◌, Err, refl, rules}
+use Rattle.std.proofs.Common.{◌≡◌, Err, rules}
 use Rattle.racf_desk.proofs.RepeatLaws.{none_led, item_at, fits, led_on, led_to_damage, all_led}
 use Rattle.racf_desk.proofs.recovery.Recovery.repeat_all.Goals as goal
 

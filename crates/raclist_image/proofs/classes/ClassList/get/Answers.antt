@@ -1,4 +1,4 @@
-use Rattle.std.proofs.Common.{◌∙◌, Some, None, sym}
+use Rattle.std.proofs.Common.{◌∙◌, sym}
 use Rattle.racf_profiles.specs.Lookup.{is_class}
 use Rattle.racf_profiles.proofs.States.{same_class}
 use Rattle.racf_profiles.proofs.Places.{at-is, none-is, found-at}

@@ -1,6 +1,5 @@
-use Rattle.std.proofs.Common.{◌≡◌, Some, None, IfSome, Option, ap, sym, ◌∙◌, subst, rules}
+use Rattle.std.proofs.Common.{◌≡◌, Some, IfSome, Option, ap, ◌∙◌, subst, rules}
 use Rattle.std.specs.Arc.{arc_value}
-use Rattle.raclist_image.specs.Imaged.{Imaged}
 use Rattle.raclist_snapshots.specs.Kept.{Holding, IsHeld}
 use Rattle.raclist_snapshots.proofs.Marks.{kept_added}
 use Rattle.raclist_snapshots.proofs.publisher.Publisher.publish.Goals as goal

@@ -1,7 +1,6 @@
 use denote.Param.{param}
 use denote.Param.Send.{param_sync, arg_sync, recorded_sync, struct_sync, shr_sync}
 use Rattle.std.proofs.Crossing.{sync}
-use Rattle.racroute.specs.contracts.racf.Racf as Racf
 use Rattle.racroute.proofs.Crossing.{Racf-sync}
 use Rattle.racroute_tests.proofs.Crossing.{each_of_three}
 use Rattle.racroute_tests.proofs.tests.crowd.crowd.Goals as goal

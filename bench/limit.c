@@ -1,18 +1,23 @@
 /* What the streams of bench/limit cost where nothing is done but what their answers need, by plain means.
  *
  *   limit IN OUT                works the stream IN, and writes what `racf script IN OUT` does
+ *   limit keep JOURNAL IN OUT   the same, and keeps each command as the program does: its record is behind JOURNAL's last one, closed, and
+ *                               synced, then opened, and synced, before its reply is written at once
  *   limit decide TIMES IN OUT   writes the return code and the profile of each AUTH of IN, and then decides on all of them so many times;
  *                               prints how many were let through, and the nanoseconds of the processor for each
  *
  * A profile stands in a hash table by its name. A generic one stands in a trie too, whose edges are qualifiers: the search for the profile
  * that decides goes from the root along the qualifiers of the name, at each node to the most specific edge first, and comes back where an
- * edge leads to none. Nothing is durable and nothing can be undone. It works the lines that bench/limit makes, and ends at any other. */
+ * edge leads to none. Nothing is durable but with `keep`, and nothing can be undone. It works the lines that bench/limit makes, and ends at any
+ * other. */
 #define _GNU_SOURCE
+#include <fcntl.h>
 #include <stdint.h>
 #include <stdio.h>
 #include <stdlib.h>
 #include <string.h>
 #include <time.h>
+#include <unistd.h>
 
 typedef struct { const char *at; size_t size; } Word;
 
@@ -272,10 +277,33 @@ static void print_count(void) {
     do *--at = '0' + n % 10; while (n /= 10);
     print((Word){at, digits + sizeof digits - at}, ' ');
 }
+/* ---- the journal */
+enum { CLOSED = 0, OPEN = 1 };
+static int journal = -1;
+static off_t journal_size;
+static char *line_at, *here;
+
+static void put(const char *bytes, size_t size, off_t at) {
+    if (pwrite(journal, bytes, size, at) != (ssize_t)size || fsync(journal)) fail("the journal can't be written", text(""));
+}
+/* The command's line behind its length, and a closed gate, which is opened once they are kept. */
+static void keep(void) {
+    char record[sizeof(uint32_t) + LONGEST_LINE + 1];
+    uint32_t size = (char *)rawmemchr(here, '\n') - line_at;
+    if (size > LONGEST_LINE) fail("a line too long", text(""));
+    memcpy(record, &size, sizeof size);
+    memcpy(record + sizeof size, line_at, size);
+    record[sizeof size + size] = CLOSED;
+    put(record, sizeof size + size + 1, journal_size);
+    journal_size += sizeof size + size;
+    put(&(char){OPEN}, 1, journal_size++);
+}
 static void accept(void) {
     accepted++;
+    if (journal >= 0) keep();
     print_count();
     print(text("ACCEPTED"), '\n');
+    if (journal >= 0) flush();
 }
 static void answer(const Question *q, Word class) {
     Answer a = decide(q);
@@ -295,7 +323,6 @@ static void answer(const Question *q, Word class) {
 
 /* ---- the lines */
 static char folded[256]; /* 0 where a word ends */
-static char *here;
 static Question *questions; /* where they are kept in place of answered */
 static size_t question_count;
 static int keeping;
@@ -390,6 +417,7 @@ static void line(void) {
         here = (char *)rawmemchr(here, '\n') + 1;
         return;
     }
+    line_at = here;
     Word verb = word();
     if (!verb.size) {}
     else if (is(verb, "AUTH")) auth();
@@ -433,8 +461,10 @@ static void decide_all(long times) {
 }
 
 int main(int count, char **words) {
+    int durable = count == 5 && !strcmp(words[1], "keep");
     keeping = count == 5 && !strcmp(words[1], "decide");
-    if (count != 3 && !keeping) fail("it is given IN OUT, or decide TIMES IN OUT", text(""));
+    if (count != 3 && !keeping && !durable) fail("it is given IN OUT, keep JOURNAL IN OUT, or decide TIMES IN OUT", text(""));
+    if (durable && (journal = open(words[2], O_RDWR | O_CREAT | O_TRUNC, 0600)) < 0) fail("the journal can't be opened", text(words[2]));
     for (int c = 'A'; c <= 'Z'; c++) folded[c] = folded[c - 'A' + 'a'] = c;
     for (const char *c = "0123456789#$@-_/:.%*"; *c; c++) folded[(unsigned char)*c] = *c;
     enter(&classes, text("FACILITY"), sizeof(Class));

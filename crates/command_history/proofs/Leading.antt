@@ -9,6 +9,7 @@ use Rattle.racf_desk.proofs.RecoveryLaws.{accepted_leads}
 use Rattle.command_history.specs.declared.events.Accepted.{Accepted}
 use Rattle.command_history.specs.declared.events.Event.{Event}
 use Rattle.command_history.specs.declared.events.Event.TheVariants.{Added, Ended}
+use Rattle.command_history.proofs.Marks.{entries_added, entries_push}
 use Rattle.command_history.specs.Events.{entries_of}
 use Rattle.command_history.specs.Reached.{record_of, with_record, records_of, reached, AreLegal}
 
@@ -16,16 +17,6 @@ use Rattle.command_history.specs.Reached.{record_of, with_record, records_of, re
 at_more : (base : Position) (history : List CommandRecord) (given : CommandRecord) → at base (history ++ given ∷ []) ≡ position_behind (at base history) given
 at_more base [] given = refl
 at_more base (first ∷ history) given = at_more (position_behind base first) history given
-
-entries_more : (events : List Event) (entry : Accepted) → entries_of (events ++ Added entry ∷ []) ≡ entries_of events ++ entry ∷ []
-entries_more [] entry = refl
-entries_more (Added first ∷ events) entry = ap (λ (l : List Accepted). first ∷ l) (entries_more events entry)
-entries_more (Ended halted ∷ events) entry = entries_more events entry
-
-entries_ended : (events : List Event) (halted : Bool) → entries_of (events ++ Ended halted ∷ []) ≡ entries_of events
-entries_ended [] halted = refl
-entries_ended (Added first ∷ events) halted = ap (λ (l : List Accepted). first ∷ l) (entries_ended events halted)
-entries_ended (Ended h ∷ events) halted = entries_ended events halted
 
 with_more : (one : Option CommandRecord) (history more : List CommandRecord) → with_record one (history ++ more) ≡ with_record one history ++ more
 with_more None history more = refl
@@ -42,12 +33,12 @@ pub reached_added : (base : Position) (events : List Event) (entry : Accepted) (
     → reached base (events ++ Added entry ∷ []) ≡ position_behind (reached base events) given
 reached_added base events entry given is =
     unfold reached in
-    ap (λ (l : List Accepted). at base (records_of l)) (entries_more events entry)
+    ap (λ (l : List Accepted). at base (records_of l)) (entries_added events entry)
     ∙ (ap (λ (l : List CommandRecord). at base l) (records_more (entries_of events) entry given is)
     ∙ at_more base (records_of (entries_of events)) given)
 
 pub reached_ended : (base : Position) (events : List Event) (halted : Bool) → reached base (events ++ Ended halted ∷ []) ≡ reached base events
-reached_ended base events halted = unfold reached in ap (λ (l : List Accepted). at base (records_of l)) (entries_ended events halted)
+reached_ended base events halted = unfold reached in ap (λ (l : List Accepted). at base (records_of l)) (entries_push events halted)
 
 pub reached_none : (base : Position) → reached base [] ≡ base
 reached_none base = unfold reached in refl
@@ -66,10 +57,10 @@ pub legal_added : (base : Position) (events : List Event) (entry : Accepted) (gi
     → AreLegal base (entries_of (events ++ Added entry ∷ []))
 legal_added base events entry given id group text legal is accepted =
     let again : outcome_again (at base (records_of (entries_of events))) given ≡ Ok given = unfold reached in accepted_leads (reached base events) id group text given accepted in
-    subst (λ (l : List Accepted). AreLegal base l) (sym (entries_more events entry)) (legal_more base (entries_of events) entry given legal is again)
+    subst (λ (l : List Accepted). AreLegal base l) (sym (entries_added events entry)) (legal_more base (entries_of events) entry given legal is again)
 
 pub legal_ended : (base : Position) (events : List Event) (halted : Bool) → AreLegal base (entries_of events) → AreLegal base (entries_of (events ++ Ended halted ∷ []))
-legal_ended base events halted legal = subst (λ (l : List Accepted). AreLegal base l) (sym (entries_ended events halted)) legal
+legal_ended base events halted legal = subst (λ (l : List Accepted). AreLegal base l) (sym (entries_push events halted)) legal
 
 pub legal_history : (base : Position) (entries : List Accepted) → AreLegal base entries → IsLegal base (records_of entries)
 legal_history base [] legal = tt

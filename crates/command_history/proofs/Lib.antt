@@ -1,4 +1,5 @@
 pub mod Extensions
 pub mod Leading
+pub mod Marks
 mod Makings
 mod Steps

@@ -1,12 +1,10 @@
 -- What is seen on two disks, and what opening their journal leaves.
-use Rattle.std.proofs.Common.{ℕ, ◌+◌, ◌<◌, ◌^◌, ◌≡◌, ◌∙◌, true, List, length, take, Option, None, Some, Ok, refl, sym, ap, subst, arith}
+use Rattle.std.proofs.Common.{ℕ, ◌+◌, ◌<◌, ◌^◌, ◌≡◌, ◌∙◌, true, List, length, take, Option, Some, Ok, refl, sym, ap, subst, arith}
 use Rattle.std.specs.Option.{option_map}
-use Rattle.std.proofs.lemmas.Option.{none-some, same_Some}
-use Rattle.racf_outside.specs.Crashes.{Leaves}
-use Rattle.racf_outside.specs.Disk.{History, goes, Now, Faulty}
+use Rattle.racf_outside.specs.Disk.{History, goes, Now}
 use Rattle.racf_outside.specs.Moments.{Moment, IsImage, durable, synced}
-use Rattle.racf_outside.proofs.Images.{only, synced-leaves}
-use Rattle.racf_outside.proofs.Runs.{starts, ok, ends, err, StaysIn-none, StaysIn-joined, StaysIn-weaker}
+use Rattle.racf_outside.proofs.Images.{only}
+use Rattle.racf_outside.proofs.Runs.{StaysIn-weaker}
 use Rattle.racf_journal.specs.Kept.{IsAtRest, Keeps, ReadsAs}
 use Rattle.racf_journal.specs.Opening.{OnlySynced}
 use Rattle.racf_journal.specs.Opening.{WasPossible as JournalWasPossible, StaysPossible as JournalStaysPossible}
@@ -23,25 +21,7 @@ use Rattle.checkpoint_disks.proofs.Held.{HeldParts, held_parts}
 use Rattle.racf_checkpoint.proofs.Seeing.{room_within}
 use Rattle.racf_checkpoint.specs.Stored.{pick, other, IsStored, IsPassedOver, NowRead, WasPossible, StaysPossible}
 use Rattle.racf_checkpoint.specs.Finding.{HoldsRead, IsRead, IsSaid, IsSeen}
-use Rattle.racf_checkpoint.proofs.Saying.{RecordsAreRead, contents_are, reads_counts, same_as, held_as, which_first, which_second}
-
--- ---- a sync
-
-possible_now : (before m : Moment) → m ≡ before → Leaves (WasPossible before) m
-possible_now before m same = record { each = λ image i. record { image = image; was_left = subst (λ n. IsImage n image) same i; says = same_as image } }
-
-pub nothing_stays : (a : Option History) → StaysPossible a a
-nothing_stays a before was = StaysIn-none (WasPossible before) a (λ h e. possible_now before h.now (was h e))
-
-pub stays_same : (a b c : Option History) → StaysPossible a b → c ≡ b → StaysPossible a c
-stays_same a b c stays same = subst (StaysPossible a) (sym same) stays
-
-pub failed_stays : (a b : Option History) → Faulty (λ m. m) a b → StaysPossible a b
-failed_stays a b failed before was = err (λ m. m) (starts (WasPossible before) a (λ h e. possible_now before h.now (was h e))) failed (λ h e. possible_now before h.now (was h e))
-
-pub synced_stays : (a b : Option History) → OnlySynced a b → StaysPossible a b
-synced_stays a b s before was =
-    ends (ok synced (starts (WasPossible before) a (λ h e. possible_now before h.now (was h e))) s.is (λ h e. synced-leaves (WasPossible before) h.now (s.was_left h e) (possible_now before h.now (was h e))))
+use Rattle.racf_checkpoint.proofs.Saying.{RecordsAreRead, contents_are, reads_counts, held_as, which_first, which_second}
 
 -- what was read behind it was read before
 pub both_before : (a b c d : Option History) (P : (first second : List ℕ) → Type 0) → OnlySynced a b → OnlySynced c d → NowRead b d P → NowRead a c P
@@ -134,23 +114,6 @@ module _ (law : RecordsAreRead) (kept : CheckpointRead) where
       subst (λ n. IsStored kept.epoch n gate kept h.now) (sym at)
       (subst (λ n. IsStored kept.epoch kept.start n kept h.now) (sym to)
       (record { is_of = refl; lawful = read.lawful; rest = keeps }))
-
--- ---- both, one after the other
-
-possible_before : (m before : Moment) → m ≡ before → IsImage m m.bytes → (file : List ℕ) → WasPossible (synced m) file → WasPossible before file
-possible_before m before same law file w =
-    let image_is : w.image ≡ m.bytes = only m.bytes w.image w.was_left in
-    record { image = w.image; was_left = subst (λ n. IsImage n w.image) same (subst (IsImage m) (sym image_is) law); says = w.says }
-
-pub possible_joined : (a b c : Option History) → OnlySynced a b → StaysPossible b c → StaysPossible a c
-possible_joined a b c s later before was = record {
-  told = λ h e. (StaysIn-joined (synced_stays a b s before was)
-      (StaysIn-weaker (WasPossible before) (later (synced h.now) (λ k told. ap (λ (history : History). history.now) (sym (same_Some (goes synced h) k (sym (s.is ∙ ap (option_map (goes synced)) e) ∙ told)))))
-      (λ k told file w. possible_before h.now before (was h e) (s.was_left h e) file w))).told h e;
-  untold = λ none.
-      let next : b ≡ None = s.is ∙ ap (option_map (goes synced)) none in
-      (later before (λ k told. absurd (none-some k (sym next ∙ told)))).untold next;
-}
 
 -- what was possible of each disk is said together
 pub said_together : (one two : Moment) (first second : List ℕ) → WasPossible one first → WasPossible two second

@@ -3,6 +3,7 @@ mod Compacting
 mod Finding
 mod New
 mod Saying
+pub mod Syncing
 mod Seeing
 mod Turning
 mod WorkedRows

@@ -9,7 +9,8 @@ use Rattle.checkpoint_disks.specs.declared.counting.Side.TheVariants.{First, Sec
 use Rattle.checkpoint_disks.specs.Files.{CheckpointRead}
 use Rattle.racf_checkpoint.specs.Stored.{StoreOn, pick, other, disk_on, StaysPossible}
 use Rattle.racf_checkpoint.specs.Finding.{IsRead, IsSeen}
-use Rattle.racf_checkpoint.proofs.Finding.{seen_found, seen_read, synced_stays, possible_joined}
+use Rattle.racf_checkpoint.proofs.Finding.{seen_found, seen_read}
+use Rattle.racf_checkpoint.proofs.Syncing.{synced_stays, possible_joined}
 
 -- ---- what was picked is picked again
 

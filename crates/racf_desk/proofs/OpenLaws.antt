@@ -1,14 +1,10 @@
 -- What an opening finds: where the records lead that were loaded, and why they may not.
-use Rattle.std.proofs.Common.{◌≡◌, ℕ, ◌+◌, ◌≤◌, List, [], ◌∷◌, length, Option, None, Some, Result, Ok, Err, ◌⊎◌, inl, inr, refl, sym, ◌∙◌, ap, subst, arith}
+use Rattle.std.proofs.Common.{◌≡◌, ℕ, ◌+◌, ◌≤◌, List, [], ◌∷◌, length, Option, Result, Ok, Err, ◌⊎◌, inl, inr, refl, sym, ◌∙◌, ap, subst, arith}
 use Rattle.std.specs.Prelude.{◌≢◌}
-use Rattle.std.specs.Option.{option_map}
-use Rattle.std.proofs.lemmas.Option.{none-some}
 use Rattle.racf_outside.specs.Causes.{Rose}
-use Rattle.racf_outside.specs.Disk.{History, goes, Now}
-use Rattle.racf_outside.specs.Moments.{Moment, IsImage, synced}
-use Rattle.racf_outside.proofs.Images.{only}
+use Rattle.racf_outside.specs.Disk.{History, goes}
+use Rattle.racf_outside.specs.Moments.{synced}
 use Rattle.racf_outside.proofs.Rises.{Rose-later}
-use Rattle.racf_outside.proofs.Runs.{StaysIn-joined, StaysIn-weaker, same_history}
 use Rattle.racf_profiles.specs.NewDatabase.{new_database}
 use Rattle.racf_profiles.specs.declared.rows.Rows.{Rows}
 use Rattle.raclist_image.specs.Imaged.{Imaged}
@@ -21,7 +17,8 @@ use Rattle.checkpoint_disks.specs.Compacting.{new_checkpoint, IsCheckpoint}
 use Rattle.racf_checkpoint.specs.declared.fault.StoreFault.{StoreFault}
 use Rattle.racf_checkpoint.specs.declared.fault.StoreFault.TheVariants as fault
 use Rattle.racf_checkpoint.specs.Contents.{Says, Refuses as RefusesToLoad}
-use Rattle.racf_checkpoint.specs.Stored.{Stores, StoreOn, NowRead, WasPossible, StaysPossible, pick, disk_on}
+use Rattle.racf_checkpoint.specs.Stored.{Stores, StoreOn, NowRead, StaysPossible, pick, disk_on}
+use Rattle.racf_checkpoint.proofs.Syncing.{possible_joined}
 use Rattle.journal_records.specs.declared.record.CommandRecord.{CommandRecord}
 use Rattle.journal_records.specs.declared.record.RecordFault.{RecordFault}
 use Rattle.journal_records.specs.Reading.{record_of}
@@ -106,24 +103,6 @@ fresh_at {D} desk position there store is same = is ∙ ap (λ (p : Position). i
 
 -- ---- two disks, one call after another
 
--- What was possible behind a sync was so before it.
-possible_before : (m before : Moment) → m ≡ before → IsImage m m.bytes → (file : List ℕ) → WasPossible (synced m) file → WasPossible before file
-possible_before m before same law file w =
-    record { image = w.image; was_left = subst (λ n. IsImage n w.image) same (subst (IsImage m) (sym (only m.bytes w.image w.was_left)) law); says = w.says }
-
-synced_now : (a b : Option History) → OnlySynced a b → (h : History) → a ≡ Some h → Now b (λ m. m ≡ synced h.now)
-synced_now a b s h e k f = ap (λ (i : History). i.now) (sym (same_history (goes synced h) k (sym (s.is ∙ ap (option_map (goes synced)) e) ∙ f)))
-
--- A call that only synced a disk, and one after it.
-possible_joined : (a b c : Option History) → StaysPossible a b → OnlySynced a b → StaysPossible b c → StaysPossible a c
-possible_joined a b c stays s later before was = record {
-  told = λ h e. (StaysIn-joined (stays before was) (StaysIn-weaker (WasPossible before) (later (synced h.now) (synced_now a b s h e))
-      (λ k f file w. possible_before h.now before (was h e) (s.was_left h e) file w))).told h e;
-  untold = λ none.
-      let next : b ≡ None = s.is ∙ ap (option_map (goes synced)) none in
-      (later before (λ k f. absurd (none-some k (sym next ∙ f)))).untold next;
-}
-
 -- Of two disks one went on, and the other stayed as it was: what was known of each by its role is known of the two that
 -- they are now, in their order.
 first_of_two : {D : Type 0} (side : Side) (live idle one two : D) (W Q : D → Type 0) → (W live → Q (pick side one two)) → (W idle → Q (pick side two one)) → W (pick side live idle) → Q one
@@ -155,7 +134,7 @@ module _ {D : Type 0} (tells : D → Option History) (faults : D → ℕ) (side 
   Synced a disk = StaysPossible a (tells disk) × OnlySynced a (tells disk)
 
   went : (a : Option History) → Synced a live → StaysPossible a (tells (pick side one two))
-  went a w = possible_joined a (tells live) (tells (pick side one two)) w.0 w.1 on.moments
+  went a w = possible_joined a (tells live) (tells (pick side one two)) w.1 on.moments
 
   stayed : (a : Option History) → Synced a idle → StaysPossible a (tells (pick side two one))
   stayed a w = subst (λ (disk : D). StaysPossible a (tells disk)) (sym on.stays) w.0

@@ -1,8 +1,9 @@
 -- What is gathered over several writes, each of which may come to nothing.
 use Rattle.std.proofs.Common.{◌≡◌, ℕ, ◌+◌, List, ◌++◌, length, take, inl, inr, refl, sym, ◌∙◌, ap, subst, arith, length-append}
-use Rattle.std.specs.Prelude.{Option, Result, Ok, Err, OnErr}
+use Rattle.std.specs.Prelude.{◌⊎◌, Option, Result, Ok, Err, IsTrue, OnErr}
 use Rattle.std.specs.Io.KnownBytes.{append_known}
-use Rattle.racf_stream.specs.Gathering.{Settles, IsCutShort}
+use Rattle.racf_outside.specs.Reader.{Reader, has_feed, KeepsSource}
+use Rattle.racf_stream.specs.Gathering.{Settles, IsCutShort, IsPrompt}
 use Rattle.std.proofs.Math.Seq.{take-append-add}
 use Rattle.racf_stream.proofs.Folds.{append_known-append, append_known-nil}
 
@@ -16,6 +17,22 @@ Settles-then gathered rest last before now then (inl kept) (inr wrote) =
 Settles-then gathered rest last before now then (inr wrote) (inl same) = inr (same.0 ∙ wrote.0, same.1 ∙ wrote.1)
 Settles-then gathered rest last before now then (inr wrote) (inr nothing) =
     inr (nothing.0, nothing.1 ∙ ap (append_known now) wrote.0 ∙ append_known-nil now ∙ wrote.1)
+
+-- where nothing waits, nothing comes to wait
+none_left : (rest last : List ℕ) (now then : Option (List ℕ)) → Settles rest last now then → rest ≡ [] → last ≡ []
+none_left rest last now then (inl same) none = same.0 ∙ none
+none_left rest last now then (inr wrote) none = wrote.0
+
+-- The source was not read, and not read again.
+kept_then : (old mid new : Reader) → KeepsSource old mid → KeepsSource mid new → KeepsSource old new
+kept_then old mid new first second = record { left = second.left ∙ first.left; faults = second.faults ∙ first.faults }
+
+-- No reply waited so far, and none waits while the next line is read.
+pub prompt_then : (rest last : List ℕ) (now then : Option (List ℕ)) (old mid new : Reader) → IsPrompt rest old mid → Settles rest last now then
+    → (last ≡ []) ⊎ IsTrue (has_feed mid.held) → (IsTrue (has_feed mid.held) → KeepsSource mid new) → IsPrompt last old new
+prompt_then rest last now then old mid new so_far settled (inl none) held = inl none
+prompt_then rest last now then old mid new (inl none) settled (inr at_hand) held = inl (none_left rest last now then settled none)
+prompt_then rest last now then old mid new (inr kept) settled (inr at_hand) held = inr (kept_then old mid new kept (held at_hand))
 
 -- a write that failed later failed in what was gathered first
 pub cut_later : (gathered rest : List ℕ) (before now then : Option (List ℕ)) → Settles gathered rest before now → IsCutShort rest now then → IsCutShort gathered before then

@@ -1,11 +1,16 @@
 -- Replies are gathered before they are written.
 use Rattle.std.specs.Prelude.{◌≡◌, ◌<◌, ◌⊎◌, ℕ, Option, List, [], length, take}
 use Rattle.std.specs.Io.KnownBytes.{append_known}
+use Rattle.racf_outside.specs.Reader.{Reader, KeepsSource}
 
 -- What was gathered is gathered still, or all of it was written.
 abbrev pub Settles : List ℕ → List ℕ → Option (List ℕ) → Option (List ℕ) → Type 0
 Settles gathered rest before now =
     ((rest ≡ gathered) × (now ≡ before)) ⊎ ((rest ≡ []) × (now ≡ append_known before gathered))
+
+-- No reply waits while the source is read: none waits any longer, or it was not read.
+abbrev pub IsPrompt : List ℕ → Reader → Reader → Type 0
+IsPrompt rest old new = (rest ≡ []) ⊎ KeepsSource old new
 
 -- A write failed behind a front of what was gathered.
 pub record IsCutShort (gathered : List ℕ) (before now : Option (List ℕ)) : Type 0 where

@@ -1,14 +1,15 @@
 //! The statements of an input, one after another.
 
-ghost use Rattle.std.specs.Prelude.{◌≤◌, ◌^◌, IfOk, OnOk, OnErr};
+ghost use Rattle.std.specs.Prelude.{◌≤◌, ◌^◌, IfOk, OnOk, OnErr, IsTrue};
 ghost use Rattle.racf_outside.specs.Causes.{HasCause};
-ghost use Rattle.racf_stream.specs.Gathering.{Settles, IsCutShort};
+ghost use Rattle.racf_outside.specs.Reader.{has_feed, KeepsSource};
+ghost use Rattle.racf_stream.specs.Gathering.{Settles, IsCutShort, IsPrompt};
 ghost use Rattle.racf_stream.specs.NextStatement.{NextsStatement};
 ghost use Rattle.racf_stream.specs.NextRole.{NextsRole, ReadsRole, ReadsEnd};
 
 use crate::joining::{Begun, LineRole, role_of};
 use crate::replies::{Replies, write_before_read};
-use crate::statement::{Kind, Statement};
+use crate::statement::{Kind, Statement, is_skipped};
 use crate::stopping::Stop;
 use racf_outside::{Failed, Line, LineFault, Lines, Sink, Source};
 use std::alloc::Global;
@@ -28,6 +29,7 @@ pub fn next_statement<S: Source, O: Sink>(
     ensures faults { lines.old.faults ≤ lines.new.faults }
     ensures limit { OnOk result (lines.new.passed ≤ 2 ^ 28) }
     ensures settled { OnOk result (Settles replies.old replies.new (O.taken sink.old) (O.taken sink.new)) }
+    ensures prompt { OnOk result (IsPrompt replies.new lines.old lines.new) }
     ensures front { OnErr result (IsCutShort replies.old (O.taken sink.old) (O.taken sink.new)) }
     ensures cause { HasCause (O.faults sink.old) (O.faults sink.new) result }
 {
@@ -53,9 +55,16 @@ fn next_role<S: Source>(
     ensures role { NextsRole kind result begun lines.old lines.new }
     ensures faults { lines.old.faults ≤ lines.new.faults }
     ensures limit { lines.new.passed ≤ 2 ^ 28 }
+    ensures held { IsTrue (has_feed lines.old.held) → KeepsSource lines.old lines.new }
 {
     match lines.next() {
-        Ok(Line::Text(text)) => read_role(kind, alloc, begun, text, room),
+        Ok(Line::Text(text)) => {
+            // It is told here, so that nothing is made of it: most lines of a script may be comments.
+            if begun.is_none() && is_skipped(text) {
+                return Ok(LineRole::Whole(None));
+            }
+            read_role(kind, alloc, begun, text, room)
+        }
         Ok(Line::TooLong) => Ok(LineRole::Whole(Some(Statement::LineTooLong))),
         Ok(Line::End) => read_end(begun),
         Err(LineFault::ReadFault) => Err(Stop::ReadFault),

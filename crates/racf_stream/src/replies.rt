@@ -1,9 +1,10 @@
 //! The replies that are gathered before they are written.
 
-ghost use Rattle.std.specs.Prelude.{◌≡◌, [], IsTrue, OnOk, OnErr, IfOk};
+ghost use Rattle.std.specs.Prelude.{◌≡◌, ◌⊎◌, [], IsTrue, OnOk, OnErr, IfOk};
 ghost use Rattle.std.specs.Borrow.{sem};
 ghost use Rattle.std.specs.Io.KnownBytes.{append_known};
 ghost use Rattle.racf_outside.specs.Causes.{HasCause};
+ghost use Rattle.racf_outside.specs.Reader.{has_feed};
 ghost use Rattle.racf_stream.specs.Gathering.{IsCutShort, Settles};
 
 use racf_outside::{Failed, Lines, Sink, Source};
@@ -86,6 +87,7 @@ pub fn write_before_read<S: Source, O: Sink>(
     sink: &mut O,
 ) -> Result<(), Failed>
     ensures settled { OnOk result (Settles replies.old replies.new (O.taken sink.old) (O.taken sink.new)) }
+    ensures prompt { OnOk result ((replies.new ≡ []) ⊎ IsTrue (has_feed lines.now.held)) }
     ensures front { OnErr result (IsCutShort replies.old (O.taken sink.old) (O.taken sink.new)) }
     ensures cause { HasCause (O.faults sink.old) (O.faults sink.new) result }
 {

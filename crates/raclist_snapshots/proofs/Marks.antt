@@ -1,5 +1,5 @@
 -- The history behind the final mark.
-use Rattle.std.proofs.Common.{◌≡◌, ℕ, ◌+◌, Bool, true, false, List, [], ◌∷◌, ◌++◌, length, Option, Some, None, IfSome, refl, ◌∙◌, ap, subst, length-append, if◌then◌else◌}
+use Rattle.std.proofs.Common.{◌≡◌, ℕ, ◌+◌, Bool, true, false, List, [], ◌∷◌, ◌++◌, length, Option, Some, None, IfSome, refl, sym, ◌∙◌, ap, subst, length-append, if◌then◌else◌}
 use Rattle.raclist_image.specs.Imaged.{Imaged}
 use Rattle.racf_desk.specs.Position.{Position}
 use Rattle.command_history.specs.declared.events.Accepted.{Accepted}
@@ -8,28 +8,29 @@ use Rattle.command_history.specs.declared.events.Event.TheVariants.{Added, Ended
 use Rattle.command_history.specs.Events.{entries_of, mark_of, is_ended}
 use Rattle.command_history.specs.Reached.{reached, AreLegal}
 use Rattle.command_history.proofs.Leading.{reached_ended, legal_ended}
+use Rattle.command_history.proofs.Marks.{goes_push, unmarked, ended_push, mark_push, entries_push}
 use Rattle.raclist_snapshots.specs.Publishing.{ended_with, MarkIs}
 use Rattle.raclist_snapshots.specs.Kept.{image_at, Holding, IsHeld, IsPublishing}
 
-ended_push : (events : List Event) (halted : Bool) → is_ended (events ++ Ended halted ∷ []) ≡ true
-ended_push [] halted = refl
-ended_push (Added entry ∷ events) halted = ended_push events halted
-ended_push (Ended h ∷ events) halted = refl
+-- the mark of a history that goes on may be any
+pub mark_any : (halted : Bool) (events : List Event) → is_ended events ≡ false → MarkIs halted events
+mark_any halted events goes = subst (λ (m : Option Bool). IfSome m (λ marked. marked ≡ halted)) (sym (unmarked events goes)) tt
 
-goes_push : (events : List Event) (entry : Accepted) → is_ended events ≡ false → is_ended (events ++ Added entry ∷ []) ≡ false
-goes_push [] entry goes = refl
-goes_push (Added first ∷ events) entry goes = goes_push events entry goes
-goes_push (Ended h ∷ events) entry goes = absurd (cc goes)
+-- a mark that is there is this one
+pub mark_is : (halted : Bool) (events : List Event) → is_ended events ≡ true → MarkIs halted events → mark_of events ≡ Some halted
+mark_is halted [] ended mark = absurd (cc ended)
+mark_is halted (Added entry ∷ events) ended mark = mark_is halted events ended mark
+mark_is halted (Ended h ∷ events) ended mark = ap Some mark
 
-pub mark_push : (events : List Event) (halted : Bool) → is_ended events ≡ false → mark_of (events ++ Ended halted ∷ []) ≡ Some halted
-mark_push [] halted goes = refl
-mark_push (Added entry ∷ events) halted goes = mark_push events halted goes
-mark_push (Ended h ∷ events) halted goes = absurd (cc goes)
+pub mark_from : (halted : Bool) (events : List Event) → mark_of events ≡ Some halted → MarkIs halted events
+mark_from halted events is = subst (λ (m : Option Bool). IfSome m (λ marked. marked ≡ halted)) (sym is) refl
 
-mark_is : (events : List Event) (halted : Bool) → is_ended events ≡ true → MarkIs halted events → mark_of events ≡ Some halted
-mark_is [] halted ended mark = absurd (cc ended)
-mark_is (Added entry ∷ events) halted ended mark = mark_is events halted ended mark
-mark_is (Ended h ∷ events) halted ended mark = ap Some mark
+-- with the mark a history is as it was, or has it behind it
+pub ended_same : (halted : Bool) (events : List Event) → is_ended events ≡ true → ended_with halted events ≡ events
+ended_same halted events is = rw is refl
+
+pub ended_more : (halted : Bool) (events : List Event) → is_ended events ≡ false → ended_with halted events ≡ events ++ Ended halted ∷ []
+ended_more halted events is = rw is refl
 
 pub ended_ends : (halted : Bool) (events : List Event) → is_ended (ended_with halted events) ≡ true
 ended_ends halted events = by (is_ended events) refl
@@ -42,8 +43,15 @@ pub mark_ended : (halted : Bool) (events : List Event) → MarkIs halted events 
 mark_ended halted events mark = by (is_ended events) refl
   where
     by : (b : Bool) → is_ended events ≡ b → mark_of (if b then events else (events ++ Ended halted ∷ [])) ≡ Some halted
-    by true is = mark_is events halted is mark
+    by true is = mark_is halted events is mark
     by false is = mark_push events halted is
+
+pub entries_ended : (halted : Bool) (events : List Event) → entries_of (ended_with halted events) ≡ entries_of events
+entries_ended halted events = by (is_ended events)
+  where
+    by : (b : Bool) → entries_of (if b then events else (events ++ Ended halted ∷ [])) ≡ entries_of events
+    by true = refl
+    by false = entries_push events halted
 
 pub image_ended : (base : Position) (halted : Bool) (events : List Event) → (reached base (ended_with halted events)).image ≡ (reached base events).image
 image_ended base halted events = by (is_ended events)

@@ -18,7 +18,7 @@ use Rattle.command_history.proofs.Extensions.{all_is}
 use Rattle.raclist_snapshots.specs.Publishing.{Seeing, ended_with, MarkIs}
 use Rattle.racroute.specs.Disks.{IsInDoubt, StandAt, StaysAlong}
 use Rattle.racroute.proofs.Along.{stays_later}
-use Rattle.racroute.proofs.Marks.{ended_mark, entries_ended}
+use Rattle.raclist_snapshots.proofs.Marks.{mark_ended, entries_ended}
 use Rattle.racroute.proofs.Telling.{extends_ended, reached_with}
 
 ends_push : (events : List Event) (halted : Bool) → is_ended events ≡ false → ends_last (events ++ Ended halted ∷ []) ≡ true
@@ -38,7 +38,7 @@ pub whole : (halted : Bool) (events : List Event) (history : List Accepted) → 
     → all_of history halted ≡ ended_with halted events
 whole halted events history last mark is =
     ap (λ (l : List Accepted). all_of l halted) (is ∙ sym (entries_ended halted events))
-    ∙ sym (all_is (ended_with halted events) halted (ends_with halted events last) (ended_mark halted events mark))
+    ∙ sym (all_is (ended_with halted events) halted (ends_with halted events last) (mark_ended halted events mark))
 
 -- where it leads
 pub led : (base : Position) (halted : Bool) (events : List Event) (history : List Accepted) → all_of history halted ≡ ended_with halted events

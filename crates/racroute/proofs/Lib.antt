@@ -1,4 +1,3 @@
-mod Marks
 mod Disks
 mod Making
 pub mod Along

@@ -23,7 +23,7 @@ use Rattle.racroute.specs.Disks.{IsInDoubt}
 use Rattle.racroute.specs.Kept.{DisksBefore, IsMade, IsMadeEntry, IsOffice}
 use Rattle.racroute.specs.Replies.{Given, SaysAccepted, SaysFailed, SaysHalted, SaysRefused}
 use Rattle.racroute.proofs.Making.{made_of}
-use Rattle.racroute.proofs.Marks.{mark_is, ended_more, ended_same}
+use Rattle.raclist_snapshots.proofs.Marks.{mark_is, ended_more, ended_same}
 use Rattle.racroute.proofs.Disks.{stays_now}
 use Rattle.racroute.proofs.Serving.{AreWritten, AreRecorded, entry_is}
 use Rattle.racroute.proofs.Telling.{reached_with}

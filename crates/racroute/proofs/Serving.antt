@@ -26,7 +26,8 @@ use Rattle.racroute.specs.Kept.{DisksBefore, IsMadeEntry, IsOffice, fault_count}
 use Rattle.racroute.specs.Replies.{Given, IsEntry}
 use Rattle.racroute.proofs.Along.{stays_accepted, stays_begun, stays_failed}
 use Rattle.racroute.proofs.Making.{IsMadeOf}
-use Rattle.racroute.proofs.Marks.{goes_push, mark_any, mark_from, ended_ends, ended_mark, ended_more, entries_ended, entries_added}
+use Rattle.command_history.proofs.Marks.{goes_push, entries_added}
+use Rattle.raclist_snapshots.proofs.Marks.{mark_any, mark_from, ended_ends, mark_ended, ended_more, entries_ended}
 
 abbrev pub AreWritten : Type 0
 AreWritten = (position : Position) (id : List ℕ) (group : Option (List ℕ)) (text : List ℕ) (given : CommandRecord) →
@@ -105,7 +106,7 @@ module _ {D : Type 0} (tells : D → Option History) (counted : D → ℕ) (base
       → IsOffice tells counted base before now later commands' faults' out'
   failed_kept core now history later commands faults out commands' faults' out' given ready kept goes runs events position halts passes fewer rose doubt made either idle items same more outs =
       let none : faults ≡ 0 = kept.faults_are ∙ ap fault_count runs in
-      let marked : mark_of now.events ≡ Some now.halted = rw (events, halts) (ended_mark true core.events (mark_any true core.events goes)) in
+      let marked : mark_of now.events ≡ Some now.halted = rw (events, halts) (mark_ended true core.events (mark_any true core.events goes)) in
       let ends : now.events ≡ core.events ++ Ended true ∷ [] = events ∙ ended_more true core.events goes in
       let extends : Extends core.events now.events = subst (Extends core.events) (sym ends) (extends_push core.events (Ended true) goes) in
       let there : core.position ≡ reached base now.events = kept.position ∙ (sym (reached_ended base core.events true) ∙ ap (reached base) (sym ends)) in

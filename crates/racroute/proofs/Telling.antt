@@ -17,7 +17,7 @@ use Rattle.raclist_snapshots.specs.Publishing.{Publishing, ended_with}
 use Rattle.racroute.specs.Core.{Core, is_over, is_waited, number_behind, told}
 use Rattle.racroute.specs.Kept.{DisksBefore, IsOffice}
 use Rattle.racroute.proofs.Along.{stays_later}
-use Rattle.racroute.proofs.Marks.{mark_from, ended_ends, ended_mark, entries_ended}
+use Rattle.raclist_snapshots.proofs.Marks.{mark_from, ended_ends, mark_ended, entries_ended}
 
 -- where the history led
 pub reached_with : (base : Position) (halted : Bool) (events : List Event) → reached base (ended_with halted events) ≡ reached base events
@@ -52,7 +52,7 @@ module _ {D : Type 0} (tells : D → Option History) (counted : D → ℕ) (base
         commands_are = kept.commands_are;
         faults_are = kept.faults_are;
         passes_are = kept.passes_are;
-        mark = mark_from core.halted later (ap mark_of is ∙ ended_mark core.halted core.events kept.mark);
+        mark = mark_from core.halted later (ap mark_of is ∙ mark_ended core.halted core.events kept.mark);
         halted = λ _. ap is_ended is ∙ ended_ends core.halted core.events;
         ended = λ _ h. none_out core.halted core.passes over h;
         no_fewer = kept.no_fewer;

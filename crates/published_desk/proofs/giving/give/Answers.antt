@@ -4,7 +4,9 @@ use Rattle.racf_desk.specs.Made.{DeskOn, made_in, installed}
 use Rattle.command_history.specs.declared.events.Event.TheVariants.{Added}
 use Rattle.command_history.specs.Reached.{reached}
 use Rattle.raclist_snapshots.specs.Publishing.{Publishing, MarkIs}
-use Rattle.published_desk.proofs.Onward.{onward, goes_push, mark_any}
+use Rattle.command_history.proofs.Marks.{goes_push}
+use Rattle.raclist_snapshots.proofs.Marks.{mark_any}
+use Rattle.published_desk.proofs.Onward.{onward}
 use Rattle.published_desk.proofs.giving.give.Goals as goal
 
 -- what the desk made goes on from what is published

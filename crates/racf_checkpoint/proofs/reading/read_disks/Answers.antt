@@ -1,7 +1,8 @@
 -- What was read behind the syncs was there before.
 use Rattle.std.proofs.Common.{◌≡◌, Err, rules}
 use Rattle.racf_checkpoint.specs.Contents.{Refuses}
-use Rattle.racf_checkpoint.proofs.Finding.{stays_same, both_before}
+use Rattle.racf_checkpoint.proofs.Finding.{both_before}
+use Rattle.racf_checkpoint.proofs.Syncing.{stays_same}
 use Rattle.racf_checkpoint.proofs.reading.read_disks.Goals as goal
 
 pub returns-in_err-seen-clause-fault : goal.returns-in_err-seen-clause-fault

@@ -1,5 +1,5 @@
 -- A disk that was synced says what was possible before, and so does one whose sync failed.
-use Rattle.racf_checkpoint.proofs.Finding.{nothing_stays, failed_stays, synced_stays}
+use Rattle.racf_checkpoint.proofs.Syncing.{nothing_stays, failed_stays, synced_stays}
 use Rattle.racf_checkpoint.proofs.reading.sync_both.Goals as goal
 
 pub returns-in_err-sync-clause-moments : goal.returns-in_err-sync-clause-moments

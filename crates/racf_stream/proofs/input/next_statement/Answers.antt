@@ -1,6 +1,6 @@
-use Rattle.std.proofs.Common.{Ok, ◌∙◌, ap, arith}
+use Rattle.std.proofs.Common.{inr, refl, Ok, ◌∙◌, ap, arith}
 use Rattle.racf_outside.proofs.Rises.{Rose-later}
-use Rattle.racf_stream.proofs.Settling.{Settles-none, Settles-then, cut_later, at_fault}
+use Rattle.racf_stream.proofs.Settling.{Settles-none, Settles-then, prompt_then, cut_later, at_fault}
 use Rattle.racf_stream.proofs.StatementLaws.{Taken-none, ends_item, goes_on, passes_more, stops}
 use Rattle.racf_stream.proofs.input.next_statement.Goals as goal
 
@@ -10,6 +10,7 @@ line-init g c =
       taken = Taken-none c.args.kind c.args.lines.now;
       faults = omega arith;
       settled = Settles-none c.args.replies.now _;
+      prompt = inr (record { left = refl; faults = refl });
       sink_faults = omega arith;
     }
 
@@ -22,6 +23,11 @@ pub returns-in-Ok-Whole-clause-settled : goal.returns-in-Ok-Whole-clause-settled
 returns-in-Ok-Whole-clause-settled g c =
     Settles-then c.args.replies.now c.line.replies c.write_before_read.new.replies _ _ _ c.line.invariant.settled c.in_ok-write_before_read.ensures.settled
 
+pub returns-in-Ok-Whole-clause-prompt : goal.returns-in-Ok-Whole-clause-prompt
+returns-in-Ok-Whole-clause-prompt g c =
+    prompt_then c.line.replies c.write_before_read.new.replies _ _ c.args.lines.now c.line.lines c.next_role.new.lines
+    c.line.invariant.prompt c.in_ok-write_before_read.ensures.settled c.in_ok-write_before_read.ensures.prompt c.next_role.ensures.held
+
 pub line-preserved : goal.line-preserved
 line-preserved g c =
     record {
@@ -30,6 +36,9 @@ line-preserved g c =
           c.line.invariant.taken c.next_role.ensures.role (c.in-Ok-GoesOn.is ∙ ap Ok c.in-Ok-GoesOn.field-0-is);
       faults = omega (arith, c.line.invariant.faults, c.next_role.ensures.faults);
       settled = Settles-then c.args.replies.now c.line.replies c.write_before_read.new.replies _ _ _ c.line.invariant.settled c.in_ok-write_before_read.ensures.settled;
+      prompt =
+          prompt_then c.line.replies c.write_before_read.new.replies _ _ c.args.lines.now c.line.lines c.next_role.new.lines
+          c.line.invariant.prompt c.in_ok-write_before_read.ensures.settled c.in_ok-write_before_read.ensures.prompt c.next_role.ensures.held;
       sink_faults = omega (arith, c.line.invariant.sink_faults, c.in_ok-write_before_read.ensures.cause.no_fewer);
     }
 
@@ -46,6 +55,11 @@ returns-in-Err-clause-item g c =
 pub returns-in-Err-clause-settled : goal.returns-in-Err-clause-settled
 returns-in-Err-clause-settled g c =
     Settles-then c.args.replies.now c.line.replies c.write_before_read.new.replies _ _ _ c.line.invariant.settled c.in_ok-write_before_read.ensures.settled
+
+pub returns-in-Err-clause-prompt : goal.returns-in-Err-clause-prompt
+returns-in-Err-clause-prompt g c =
+    prompt_then c.line.replies c.write_before_read.new.replies _ _ c.args.lines.now c.line.lines c.next_role.new.lines
+    c.line.invariant.prompt c.in_ok-write_before_read.ensures.settled c.in_ok-write_before_read.ensures.prompt c.next_role.ensures.held
 
 -- what is gathered couldn't be written
 pub returns-in_err-write_before_read-clause-front : goal.returns-in_err-write_before_read-clause-front

@@ -1,5 +1,5 @@
 use Rattle.std.proofs.Common.{◌≤◌, ◌-◌, ◌^◌}
-use Rattle.racf_stream.specs.Gathering.{Settles}
+use Rattle.racf_stream.specs.Gathering.{Settles, IsPrompt}
 use Rattle.racf_stream.proofs.StatementLaws.{Taken}
 use Rattle.racf_stream.proofs.input.next_statement.Given as goal
 
@@ -9,6 +9,7 @@ invariant-line g l =
       taken : Taken l.fn.kind l.begun l.fn.lines l.lines;
       faults : l.fn.lines.faults ≤ l.lines.faults;
       settled : Settles l.fn.replies l.replies (g.O.Sink.taken l.fn.sink) (g.O.Sink.taken l.sink);
+      prompt : IsPrompt l.replies l.fn.lines l.lines;
       sink_faults : g.O.Sink.faults l.fn.sink ≤ g.O.Sink.faults l.sink;
     }
 

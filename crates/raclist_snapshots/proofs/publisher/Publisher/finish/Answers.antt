@@ -2,7 +2,8 @@ use Rattle.std.proofs.Common.{◌≡◌, false, rules}
 use Rattle.std.specs.Option.{option_map}
 use Rattle.std.specs.Arc.{arc_value}
 use Rattle.command_history.specs.Events.{is_ended}
-use Rattle.raclist_snapshots.proofs.Marks.{mark_push, kept_ended}
+use Rattle.command_history.proofs.Marks.{mark_push}
+use Rattle.raclist_snapshots.proofs.Marks.{kept_ended}
 use Rattle.raclist_snapshots.proofs.publisher.Publisher.finish.Goals as goal
 
 -- the mark is there, and the turn is used

@@ -15,7 +15,7 @@ use Rattle.racroute.specs.Core.{Core, Passing}
 use Rattle.racroute.specs.Disks.{IsInDoubt}
 use Rattle.racroute.specs.Kept.{IsMadeEntry, disks_before}
 use Rattle.racroute.specs.Replies.{Given, given_by, SaysHalted, SaysFailed, SaysAccepted}
-use Rattle.racroute.proofs.Marks.{mark_any}
+use Rattle.raclist_snapshots.proofs.Marks.{mark_any}
 use Rattle.racroute.proofs.Serving.{accepted_kept, failed_kept}
 use Rattle.racroute.proofs.Says.{goes_on, in_doubt, is_made, says_accepted, says_failed, says_halted}
 use Rattle.racroute.proofs.office.Office.serve.Goals as goal

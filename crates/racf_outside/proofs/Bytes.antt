@@ -52,6 +52,11 @@ take-window (suc n) zero xs h = absurd (omega arith)
 take-window (suc n) (suc m) [] h = refl
 take-window (suc n) (suc m) (x ∷ xs) h = ap (λ zs. x ∷ zs) (take-window n m xs (omega arith))
 
+-- the first n of a range
+pub take-slice_range : (n : ℕ) (xs : List ℕ) (from to : ℕ) → n ≤ length (slice_range xs from to) → slice_range xs from (from + n) ≡ take n (slice_range xs from to)
+take-slice_range n xs from to h =
+    let e : from + n - from ≡ n = omega arith in ap (λ k. take k (drop from xs)) e ∙ sym (take-window n (to - from) (drop from xs) h)
+
 -- what a buffer of n bytes holds after a piece, cut to the room that it has left
 pub appended : (n : ℕ) (xs ys new front : List ℕ) (ok : Bool) → length xs ≤ n → ok ≡ true → new ≡ cond ok (xs ++ front) xs → front ≡ take (n - length xs) ys → new ≡ take n (xs ++ ys)
 appended n xs ys new front ok most fits items cut =

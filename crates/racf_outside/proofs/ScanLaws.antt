@@ -3,16 +3,16 @@ use Rattle.std.proofs.Common.{ℕ, ◌+◌, ◌^◌, ◌<◌, ◌≤◌, ◌≡�
 use Rattle.std.specs.Prelude.{slice_index, IfSome, ⊤}
 use Rattle.std.specs.Io.BufRead.{strip_last}
 use Rattle.std.specs.Io.KnownBytes.{prepend_known, IsAtEnd}
-use Rattle.std.proofs.lemmas.Bool.{eqb-false, ltb-false, ne_eqb}
-use Rattle.std.proofs.lemmas.List.{take_all}
+use Rattle.std.proofs.lemmas.Bool.{eqb-false, ltb-false, le-ltb, ne_eqb}
+use Rattle.std.proofs.lemmas.List.{take_all, length-take-le}
 use Rattle.std.proofs.lemmas.List.Elements.{All-append}
 use Rattle.std.proofs.Math.Seq.{take-length}
-use Rattle.racf_outside.specs.Blocks.{Block, unread_of}
+use Rattle.racf_outside.specs.Blocks.{Block, Passes, unread_of}
 use Rattle.racf_outside.specs.Lines as text
 use Rattle.racf_outside.specs.LineBuffer.{Begun, IsBegun}
 use Rattle.racf_outside.specs.Next.{TakesLine, end_of}
 use Rattle.racf_outside.specs.Reader.{Reader, has_feed, KeepsSource}
-use Rattle.racf_outside.specs.Scan.{TakesMore, TakesFeed, TakesNone, Pieces, Finds, IsScanned, IsFirstFeed}
+use Rattle.racf_outside.specs.Scan.{TakesMore, TakesFeed, TakesNone, Pieces, Finds, IsScanned, IsFirstFeed, LiesAtHand, TakesHeld}
 use Rattle.racf_outside.specs.declared.lines.LineFault.{LineFault}
 use Rattle.racf_outside.specs.declared.lines.LineFault.TheVariants.{ReadFault, InputTooLong}
 use Rattle.racf_outside.specs.declared.scanner.Found.{Found}
@@ -104,6 +104,40 @@ TakesLine-made raw old new begun no_feed taken counted some at_end =
       first = first_of raw new.ended old.unread new.unread no_feed taken some at_end;
     }
 
+true_is_false : true ≡ false → ⊥
+true_is_false e = cc
+
+-- the reader over a block
+abbrev pub reader_of : Block → Bool → ℕ → Reader
+reader_of block ended passed =
+    record {
+      unread = unread_of block;
+      left = block.left;
+      held = block.ready;
+      faults = block.faults;
+      ended = ended;
+      passed = passed;
+    }
+
+-- a line that lies whole in the block is the first
+pub TakesHeld-made : (size : ℕ) (block next : Block) (ended : Bool) (passed : ℕ) → LiesAtHand (reader_of block ended passed) size → Passes (size + 1) block next → TakesHeld (take size block.ready) (reader_of block ended passed) (reader_of next ended (passed + (size + 1)))
+TakesHeld-made size block next ended passed lies p =
+    let raw = take size block.ready in
+    let feed = lies.feed in
+    let long : length raw ≡ size = length-take-le size block.ready (let h : size < length block.ready = feed.within in omega arith) in
+    let taken : take (size + 1) block.ready ≡ raw ++ end_of ended =
+    take-through block.ready size feed.within ∙ ap (λ b. raw ++ b ∷ []) feed.here ∙ ap (λ end. raw ++ end_of end) (sym lies.going) in
+    record {
+      line = TakesLine-made raw (reader_of block ended passed) (reader_of next ended (passed + (size + 1))) lies.going feed.none_before
+          (unread_of-pass (size + 1) block next p.ready p.left ∙ ap (λ bytes. prepend_known bytes (unread_of next)) taken)
+          (omega (arith, long, length-append raw (end_of ended), ap (λ end. length (end_of end)) lies.going))
+          (λ at_end. absurd (true_is_false (sym at_end ∙ lies.going)))
+          (λ at_end. absurd (true_is_false (sym at_end ∙ lies.going)));
+      text = ap (λ b. cond b text.TooLong (text.Text (strip_last 13 raw))) (le-ltb 4096 (length raw) (omega (arith, long, lies.fits)));
+      source = record { left = p.left; faults = p.faults };
+      within = omega (arith, lies.within);
+    }
+
 -- what `line_found` answers, as a function of the size
 abbrev pub kind_of : ℕ → Found
 kind_of size = cond (ltb 4096 size) found.TooLong found.Text
@@ -130,9 +164,6 @@ Finds-feed raw piece old now next line line' s t =
     (λ ended. absurd (true_is_false (sym ended ∙ t.goes_on)))
     )
     (IsBegun-more raw piece line line' s.begun t.text t.size)
-  where
-    true_is_false : true ≡ false → ⊥
-    true_is_false e = cc
 
 -- what `last_found` answers
 abbrev pub last_kind_of : ℕ → Found

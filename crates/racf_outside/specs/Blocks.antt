@@ -1,5 +1,5 @@
 -- A reader of blocks, as its callers see it: the bytes of a source, a block of them at hand.
-use Rattle.std.specs.Prelude.{ℕ, List, Option}
+use Rattle.std.specs.Prelude.{ℕ, ◌≡◌, List, Option, drop}
 use Rattle.std.specs.Io.KnownBytes.{prepend_known}
 
 pub record Block : Type 0 where
@@ -10,3 +10,9 @@ pub record Block : Type 0 where
 -- all bytes that are to come
 abbrev pub unread_of : Block → Option (List ℕ)
 unread_of block = prepend_known block.ready block.left
+
+-- The first `count` of the bytes at hand were left behind.
+pub record Passes (count : ℕ) (old new : Block) : Type 0 where
+  pub ready : new.ready ≡ drop count old.ready
+  pub left : new.left ≡ old.left
+  pub faults : new.faults ≡ old.faults

@@ -20,6 +20,20 @@ pub record IsFirstFeed (bytes : List ℕ) (place : ℕ) : Type 0 where
   pub none_before : text.NoFeed (take place bytes)
   pub here : slice_index bytes place ≡ 10
 
+-- The next line lies whole in the bytes at hand: `size` bytes, and then its line feed.
+pub record LiesAtHand (now : Reader) (size : ℕ) : Type 0 where
+  pub going : now.ended ≡ false
+  pub feed : IsFirstFeed now.held size
+  pub fits : size ≤ 4096
+  pub within : now.passed + size < 2 ^ 28
+
+-- The line `raw` was taken, which isn't too long, and the source was not read.
+pub record TakesHeld (raw : List ℕ) (old new : Reader) : Type 0 where
+  pub line : TakesLine raw old new
+  pub text : text.line_of raw ≡ text.Text (strip_last 13 raw)
+  pub source : KeepsSource old new
+  pub within : new.passed ≤ 2 ^ 28
+
 -- The next bytes of a line were taken, at least one, and more of it may come.
 pub record TakesMore (raw : List ℕ) (old new : Reader) (line_old line_new : Begun) : Type 0 where
   pub no_feed : text.NoFeed raw

@@ -1,8 +1,10 @@
 //! The bytes of a source, read in blocks.
 
-ghost use Rattle.std.specs.Prelude.{◌≡◌, ◌≤◌, ◌⊎◌, [], length, drop, vec_len, IfOk, OnOk, OnErr, IfErr};
+ghost use Rattle.std.specs.Borrow.{sem};
+ghost use Rattle.std.specs.Prelude.{◌≡◌, ◌+◌, ◌≤◌, ◌<◌, ◌⊎◌, [], length, take, drop, vec_len, IfOk, OnOk, OnErr, IfErr};
+ghost use Rattle.std.specs.Io.BufRead.{Rests};
 ghost use Rattle.std.specs.Io.KnownBytes.{IsAtEnd};
-ghost use Rattle.racf_outside.specs.Blocks.{unread_of};
+ghost use Rattle.racf_outside.specs.Blocks.{Passes, unread_of};
 ghost use Rattle.racf_outside.specs.Causes.{HasCause};
 
 use crate::streams::{Failed, Source};
@@ -41,6 +43,8 @@ impl<S: Source> Model for Blocks<S> {
 }
 
 impl<S: Source> Blocks<S> {
+    ghost use Rattle.racf_outside.specs.contracts.blocks.Blocks.{the_row};
+
     /// The blocks of a source; it is given back where memory is short.
     pub(crate) fn new(alloc: Global, source: S) -> Result<Blocks<S>, S>
         ensures nothing_ready { IfOk result (λ blocks. blocks.ready ≡ []) }
@@ -93,6 +97,18 @@ impl<S: Source> Blocks<S> {
         ensures faults { self.new.faults ≡ self.old.faults }
     {
         self.from += count;
+    }
+
+    /// Leaves the first `size` of the bytes at hand behind, and the one behind them, and gives those first where they
+    /// lie.
+    pub(crate) fn take_line(&mut self, size: usize) -> &[u8]
+        requires { size < length self.old.ready }
+        ensures bytes { result.now ≡ take size self.old.ready }
+        ensures* after { sem 𝓛 (Rests (the_row S.row S.Source) self.entry (λ new. Passes (size + 1) self.old new)) }
+    {
+        let from = self.from;
+        self.from += size + 1;
+        &self.block[from..from + size]
     }
 
     /// The source itself.

@@ -34,11 +34,12 @@ pub enum LineFault {
     InputTooLong,
 }
 
-/// A reader of the lines of a source.
+/// A reader of the lines of a source. A line that lies whole in its block is given where it lies; only the others are
+/// copied.
 pub struct Lines<S: Source> {
     /// The input.
     scanner: Scanner<S>,
-    /// The newest line.
+    /// The newest of the lines that didn't lie whole in one block.
     line: LineBuffer,
 }
 
@@ -77,6 +78,9 @@ impl<S: Source> Lines<S> {
             (λ new. Nexts result self.old new × (self.old.faults ≤ new.faults) × (new.passed ≤ 2 ^ 28)
             × (IsTrue (has_feed self.old.held) → KeepsSource self.old new))) }
     {
+        if let Some(size) = self.scanner.line_at_hand() {
+            return Ok(Line::Text(without_return(self.scanner.take_line(size))));
+        }
         match self.scanner.scan(&mut self.line) {
             Err(fault) => Err(fault),
             Ok(Found::End) => Ok(Line::End),

@@ -1,6 +1,8 @@
 //! The search for the end of a line.
 
-ghost use Rattle.std.specs.Prelude.{◌≡◌, ◌+◌, ◌^◌, ◌<◌, ◌≤◌, true, false, IfOk, IfErr, IfNone, IfSome, IsTrue, Ok, nat_lt, ◌==◌, if◌then◌else◌};
+ghost use Rattle.std.specs.Borrow.{sem};
+ghost use Rattle.std.specs.Prelude.{◌≡◌, ◌+◌, ◌^◌, ◌<◌, ◌≤◌, true, false, take, IfOk, IfErr, IfNone, IfSome, IsTrue, Ok, nat_lt, ◌==◌, if◌then◌else◌};
+ghost use Rattle.std.specs.Io.BufRead.{Rests};
 ghost use Rattle.racf_outside.specs.Lines.{NoFeed};
 ghost use Rattle.racf_outside.specs.Reader.{at_start, has_feed};
 ghost use Rattle.racf_outside.specs.Scan.{IsFirstFeed};
@@ -70,7 +72,8 @@ impl<S: Source> Model for Scanner<S> {
 
 impl<S: Source> Scanner<S> {
     ghost use Rattle.racf_outside.specs.Reader.{KeepsSource};
-    ghost use Rattle.racf_outside.specs.Scan.{Pieces, Finds};
+    ghost use Rattle.racf_outside.specs.Scan.{LiesAtHand, TakesHeld, Pieces, Finds};
+    ghost use Rattle.racf_outside.specs.contracts.scanner.Scanner.{the_row};
 
     /// The input of a source; it is given back where memory is short.
     pub(crate) fn new(alloc: Global, source: S) -> Result<Scanner<S>, S>
@@ -83,6 +86,29 @@ impl<S: Source> Scanner<S> {
             passed: 0,
             ended: false,
         })
+    }
+
+    /// How many bytes the next line has, its line feed not counted, where it lies whole in the bytes at hand and isn't
+    /// too long.
+    pub(crate) fn line_at_hand(&self) -> Option<usize>
+        ensures { IfSome result (LiesAtHand self.now) }
+    {
+        if self.ended {
+            return None;
+        }
+        let most = (LIMIT - self.passed).min(LONGEST as u64 + 1);
+        find_feed(front(self.blocks.ready(), most as usize))
+    }
+
+    /// Takes the next line, which lies whole in the bytes at hand, and gives its `size` bytes where they lie.
+    pub(crate) fn take_line(&mut self, size: usize) -> &[u8]
+        requires { LiesAtHand self.old size }
+        ensures bytes { result.now ≡ take size self.old.held }
+        ensures* after { sem 𝓛 (Rests (the_row S.row S.Source) self.entry
+            (λ new. TakesHeld (take size self.old.held) self.old new)) }
+    {
+        self.passed += size as u64 + 1;
+        self.blocks.take_line(size)
     }
 
     /// Takes the next line, or what comes in its place.

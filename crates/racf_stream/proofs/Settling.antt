@@ -1,5 +1,5 @@
 -- What is gathered over several writes, each of which may come to nothing.
-use Rattle.std.proofs.Common.{◌≡◌, ℕ, ◌+◌, List, ◌++◌, length, take, inl, inr, refl, sym, ◌∙◌, ap, subst, arith, length-append}
+use Rattle.std.proofs.Common.{◌≡◌, ℕ, ◌+◌, List, [], ◌++◌, length, take, inl, inr, refl, sym, ◌∙◌, ap, subst, arith, length-append}
 use Rattle.std.specs.Prelude.{◌⊎◌, Option, Result, Ok, Err, IsTrue, OnErr}
 use Rattle.std.specs.Io.KnownBytes.{append_known}
 use Rattle.racf_outside.specs.Reader.{Reader, has_feed, KeepsSource}

@@ -1,12 +1,15 @@
 //! The outcome of a command: the tests in their order.
 ghost use Rattle.std.specs.Prelude.{◌≡◌, ◌+◌, ◌≤◌, ◌^◌, ◌↔◌, None, IfOk, IsTrue, length};
 ghost use Rattle.journal_records.specs.Spelling.{spelled};
+ghost use Rattle.command_conflicts.specs.Numbers.{is_early};
 ghost use Rattle.racf_desk.specs.Outcome.{command_of_text, journal_full, outcome_in, refusal_of, rules_of};
 
 use crate::issuers::issuer_of;
 use crate::refusal::Refusal;
 use access_levels::Id;
 use command_authority::authorised;
+use command_conflicts::Conflict;
+use command_conflicts::laws::first_conflicts;
 use command_parser::laws::one_command_is_spelled;
 use command_parser::{Command, ParseFault, parse};
 use journal_records::CommandRecord;
@@ -85,17 +88,28 @@ fn refusal_of(gate: u64, number: u64, database: &Database, given: &CommandRecord
 pub(crate) fn rules_of(database: &Database, given: &CommandRecord) -> Option<Refusal>
     ensures { result ≡ rules_of database.now.rows given.now }
 {
+    // What is told before the authority is judged is the first conflict, where it comes early.
+    first_conflicts();
     let CommandRecord { issuer, command } = given;
-    if let Err(conflict) = database.check_first(issuer, command) {
-        return Some(Refusal::Conflict(conflict));
+    let checked = database.check(issuer, command);
+    match checked {
+        Err(conflict) if is_early(&conflict) => return Some(Refusal::Conflict(conflict)),
+        _ => {}
     }
     if let Err(needs) = authorised(database, database.tree(), issuer, command) {
         return Some(Refusal::Need(needs));
     }
-    match database.check(issuer, command) {
+    match checked {
         Err(conflict) => Some(Refusal::Conflict(conflict)),
         Ok(()) => None,
     }
+}
+
+/// Whether a conflict is told before the issuer's authority is judged: those that come before `Root` are.
+fn is_early(conflict: &Conflict) -> bool
+    ensures { result ≡ is_early conflict.now }
+{
+    conflict.number() <= 6
 }
 
 /// Whether a journal whose last gate is at this place has room for the record and one gate more.

@@ -86,6 +86,14 @@ impl Id {
         Id::read(bytes)
     }
 
+    /// The identifier of a text that is known to spell one: its bytes aren't looked at again.
+    pub fn known(text: &[u8]) -> Id
+        requires { id_of text.now ≡ Ok text.now }
+        ensures { result ≡ text.now }
+    {
+        Id::spelled_by(text)
+    }
+
     /// Its spelling.
     pub fn text(&self) -> &[u8]
         ensures spelling { result.now ≡ self.now }

@@ -127,14 +127,15 @@ impl ClassTable {
         self.profiles.reserve(more)
     }
 
-    /// Puts a profile.
-    pub(crate) fn put(&mut self, profile: Profile)
+    /// Puts a profile in the place of the one of its name, which is answered, or else at its place in the order.
+    pub(crate) fn put(&mut self, profile: Profile) -> Option<Profile>
         requires { CanPut (record { kind = kind_in self.old.row.name; profiles = self.old.row.profiles; spare = self.old.spare }) profile }
+        ensures replaced { result ≡ find (is_profile profile.name) self.old.row.profiles }
         ensures row { self.new.row ≡ with_profile profile self.old.row }
-        ensures spare { self.new.spare + (if is_some (find (is_profile profile.name) self.old.row.profiles) then 0 else 1) ≡ self.old.spare }
+        ensures spare { self.new.spare + (if is_some result then 0 else 1) ≡ self.old.spare }
         ensures lawful { AreProfiles (kind_in self.old.row.name) self.new.row.profiles }
     {
-        self.profiles.put(profile);
+        self.profiles.put(profile)
     }
 
     /// Takes the profile of that name away.

@@ -128,11 +128,11 @@ impl ClassTables {
         let Some(place) = place_of(&self.classes, class) else {
             return;
         };
-        let before = self.share_in(class, &profile.name);
         let after = share_of(&profile);
+        let replaced = self.classes[place].put(profile);
+        let before = share_of_any(replaced.as_ref());
         self.count = self.count - before.profiles + after.profiles;
         self.entries = self.entries - before.entries + after.entries;
-        self.classes[place].put(profile);
     }
 
     /// Takes the profile of that very name out of a class, if there is one. It takes no memory.
@@ -210,13 +210,7 @@ impl ClassTables {
         ensures few_entries { result.entries ≤ entry_count self.now.classes }
     {
         self.what_is_kept();
-        match self.profile(class, name) {
-            None => Share {
-                profiles: 0,
-                entries: 0,
-            },
-            Some(profile) => share_of(profile),
-        }
+        share_of_any(self.profile(class, name))
     }
 }
 
@@ -245,6 +239,21 @@ struct Share {
     profiles: usize,
     /// The entries of its access lists.
     entries: usize,
+}
+
+/// What this profile adds to the counts, if there is one.
+fn share_of_any(profile: Option<&Profile>) -> Share
+    requires { option_map_or entries_in (option_copied profile) 0 ≤ most_entries_in_all }
+    ensures profiles { result.profiles ≡ option_map_or (λ _. 1) (option_copied profile) 0 }
+    ensures entries { result.entries ≡ option_map_or entries_in (option_copied profile) 0 }
+{
+    match profile {
+        None => Share {
+            profiles: 0,
+            entries: 0,
+        },
+        Some(profile) => share_of(profile),
+    }
 }
 
 /// What this profile adds to the counts.

@@ -122,18 +122,20 @@ impl ProfileTable {
         self.profiles.reserve(more)
     }
 
-    /// Puts a profile in the place of the one of its name, or else at its place in the order. It takes no memory.
-    pub fn put(&mut self, profile: Profile)
+    /// Puts a profile in the place of the one of its name, which is answered, or else at its place in the order. It takes
+    /// no memory.
+    pub fn put(&mut self, profile: Profile) -> Option<Profile>
         requires { CanPut self.old profile }
+        ensures replaced { result ≡ find (is_profile profile.name) self.old.profiles }
         ensures kind { self.new.kind ≡ self.old.kind }
         ensures profiles { self.new.profiles ≡ put_profile profile self.old.profiles }
-        ensures spare { self.new.spare + (if is_some (find (is_profile profile.name) self.old.profiles) then 0 else 1) ≡ self.old.spare }
+        ensures spare { self.new.spare + (if is_some result then 0 else 1) ≡ self.old.spare }
         ensures lawful { AreProfiles self.new.kind self.new.profiles }
     {
         racf_profiles::laws::puts_keep_the_order();
         let name = profile.name;
         is_spelled(&name);
-        self.profiles.put(name, profile);
+        self.profiles.put(name, profile)
     }
 
     /// Takes the profile of that very name away, if there is one. It takes no memory.

@@ -1,11 +1,10 @@
 //! What a command conflicts with.
-ghost use Rattle.std.specs.Prelude.{◌≡◌, None, Some, if◌then◌else◌};
+ghost use Rattle.std.specs.Prelude.{◌≡◌};
 ghost use Rattle.std.specs.Result.{result_err};
 ghost use Rattle.command_effects.specs.ProfileEffects.{dataset};
 ghost use Rattle.command_conflicts.specs.ProfileConflicts.{add_sd_requirements, new_profile_limits, add_sd_conflicts, alt_sd_conflicts, del_sd_conflicts, r_define_requirements, new_resource_limits, r_define_conflicts, r_alter_conflicts, r_delete_conflicts, permit_conflicts};
 ghost use Rattle.command_conflicts.specs.OptionConflicts.{set_ropts_conflicts};
-ghost use Rattle.command_conflicts.specs.Numbers.{is_early};
-ghost use Rattle.command_conflicts.specs.Conflicts.{conflict_of, first_conflict_of, conflicts, first_met, add_user_conflicts, alt_user_conflicts, del_user_conflicts, add_group_conflicts, alt_group_conflicts, del_group_conflicts, connect_conflicts, remove_conflicts};
+ghost use Rattle.command_conflicts.specs.Conflicts.{conflict_of, conflicts, first_met, add_user_conflicts, alt_user_conflicts, del_user_conflicts, add_group_conflicts, alt_group_conflicts, del_group_conflicts, connect_conflicts, remove_conflicts};
 
 mod groups;
 mod members;
@@ -38,10 +37,11 @@ use options::{
 };
 use permit::{check_conditional_fits, check_entries_fit, check_permitted, check_standard_fits};
 use profiles::{
-    check_class, check_class_profiles_fit, check_first_qualifier, check_generic,
+    check_class, check_class_profiles_fit, check_first_qualifier, check_found, check_generic,
     check_global_class, check_profile, check_profile_free, check_profiles_fit,
     check_resource_class, check_resource_profile,
 };
+use racf_profiles::View;
 use row_tables::RowTables;
 use security::{check_categories, check_former_categories, check_label, check_level};
 use users::{
@@ -91,35 +91,6 @@ pub fn check_command(tables: &RowTables, issuer: &Issuer, command: &Command) -> 
         CommandFields::Permit(command) => check_permit(tables, issuer, command),
         CommandFields::SetRopts(command) => check_set_ropts(tables, command),
     }
-}
-
-/// What is told of the command before the issuer's authority is judged. It makes all tests of `check_command`.
-///
-/// # Errors
-///
-/// The first conflict that is met of those that come before `Root`.
-pub fn check_first_command(
-    tables: &RowTables,
-    issuer: &Issuer,
-    command: &Command,
-) -> Result<(), Conflict>
-    ensures { result_err result ≡ first_conflict_of issuer.now command.now tables.now.rows }
-{
-    crate::laws::first_conflicts();
-    match check_command(tables, issuer, command) {
-        Ok(()) => Ok(()),
-        Err(conflict) => unless_late(conflict),
-    }
-}
-
-/// The conflict, if it comes before `Root`.
-fn unless_late(conflict: Conflict) -> Result<(), Conflict>
-    ensures { result_err result ≡ (if is_early conflict then Some conflict else None) }
-{
-    if conflict.number() <= 6 {
-        return Err(conflict);
-    }
-    Ok(())
 }
 
 /// The tests of ADDUSER, in their order.
@@ -375,13 +346,14 @@ fn check_r_delete(tables: &RowTables, command: &RDelete) -> Result<(), Conflict>
 fn check_permit(tables: &RowTables, issuer: &Issuer, command: &Permit) -> Result<(), Conflict>
     ensures { result_err result ≡ first_met (permit_conflicts issuer.now command.now tables.now.rows) }
 {
+    let found = tables.profile(command.class, &command.profile);
     first_conflict![
         check_permitted(tables, command),
-        check_profile(tables, command.class, &command.profile),
+        check_found(tables, command.class, &command.profile, found),
         check_class(tables, command.class),
-        check_standard_fits(tables, issuer, command),
-        check_conditional_fits(tables, issuer, command),
-        check_entries_fit(tables, issuer, command),
+        check_standard_fits(tables, issuer, command, found),
+        check_conditional_fits(tables, issuer, command, found),
+        check_entries_fit(tables, issuer, command, found),
     ]
 }
 

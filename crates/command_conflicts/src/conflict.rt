@@ -45,7 +45,7 @@ pub enum Conflict {
 
 impl Conflict {
     ghost use Rattle.std.specs.Prelude.{◌≡◌};
-    ghost use Rattle.command_conflicts.specs.Numbers.{number_of};
+    ghost use Rattle.command_conflicts.specs.Numbers.{number_of, is_early};
 
     /// Its number: of several conflicts that a command meets, one of the least number is told.
     pub fn number(&self) -> u8
@@ -70,6 +70,13 @@ impl Conflict {
             Conflict::UnknownName(_) => 16,
             Conflict::Full(_, _) => 17,
         }
+    }
+
+    /// Whether it is told before the issuer's authority is judged: those that come before `Root` are.
+    pub fn is_early(&self) -> bool
+        ensures { result ≡ is_early self.now }
+    {
+        self.number() <= 6
     }
 }
 

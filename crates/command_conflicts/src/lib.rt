@@ -18,5 +18,5 @@ mod conflict;
 pub mod laws;
 mod limits;
 
-pub use check::{check_command, check_first_command};
+pub use check::check_command;
 pub use conflict::{Conflict, Holder, Limit, Named};

@@ -4,10 +4,10 @@ ghost use Rattle.std.specs.Result.{result_err};
 ghost use Rattle.racf_profiles.specs.Edits.{changed};
 ghost use Rattle.racf_profiles.specs.Lawful.{AreLawful};
 ghost use Rattle.racf_profiles.specs.NewDatabase.{new_database};
-ghost use Rattle.command_conflicts.specs.Conflicts.{conflict_of, first_conflict_of};
+ghost use Rattle.command_conflicts.specs.Conflicts.{conflict_of};
 
 use access_levels::Id;
-use command_conflicts::{Conflict, check_command, check_first_command};
+use command_conflicts::{Conflict, check_command};
 use command_parser::{Command, Issuer};
 use generic_names::Pattern;
 use group_tree::Tree;
@@ -81,18 +81,6 @@ impl Database {
         ensures { result_err result ≡ conflict_of issuer.now command.now self.now.rows }
     {
         check_command(&self.tables, issuer, command)
-    }
-
-    /// What is told of the command before the issuer's authority is judged: of the conflicts that `check` tells,
-    /// those that come before `Root`. It takes no memory, and as long as `check`.
-    ///
-    /// # Errors
-    ///
-    /// The first conflict that is met of these.
-    pub fn check_first(&self, issuer: &Issuer, command: &Command) -> Result<(), Conflict>
-        ensures { result_err result ≡ first_conflict_of issuer.now command.now self.now.rows }
-    {
-        check_first_command(&self.tables, issuer, command)
     }
 
     /// Makes the change that was prepared last. It takes no memory. A user or a group that goes takes time that grows

@@ -1,7 +1,6 @@
 //! The outcome of a command: the tests in their order.
 ghost use Rattle.std.specs.Prelude.{◌≡◌, ◌+◌, ◌≤◌, ◌^◌, ◌↔◌, None, IfOk, IsTrue, length};
 ghost use Rattle.journal_records.specs.Spelling.{spelled};
-ghost use Rattle.command_conflicts.specs.Numbers.{is_early};
 ghost use Rattle.racf_desk.specs.Outcome.{command_of_text, journal_full, outcome_in, refusal_of, rules_of};
 
 use crate::issuers::issuer_of;
@@ -93,7 +92,7 @@ pub(crate) fn rules_of(database: &Database, given: &CommandRecord) -> Option<Ref
     let CommandRecord { issuer, command } = given;
     let checked = database.check(issuer, command);
     match checked {
-        Err(conflict) if is_early(&conflict) => return Some(Refusal::Conflict(conflict)),
+        Err(conflict) if conflict.is_early() => return Some(Refusal::Conflict(conflict)),
         _ => {}
     }
     if let Err(needs) = authorised(database, database.tree(), issuer, command) {
@@ -103,13 +102,6 @@ pub(crate) fn rules_of(database: &Database, given: &CommandRecord) -> Option<Ref
         Err(conflict) => Some(Refusal::Conflict(conflict)),
         Ok(()) => None,
     }
-}
-
-/// Whether a conflict is told before the issuer's authority is judged: those that come before `Root` are.
-fn is_early(conflict: &Conflict) -> bool
-    ensures { result ≡ is_early conflict.now }
-{
-    conflict.number() <= 6
 }
 
 /// Whether a journal whose last gate is at this place has room for the record and one gate more.

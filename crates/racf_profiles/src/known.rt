@@ -23,8 +23,5 @@ pub(crate) fn known_id(text: &[u8]) -> Id
     requires { id_of text.now ≡ Ok text.now }
     ensures { result ≡ text.now }
 {
-    match Id::read(text) {
-        Ok(id) => id,
-        Err(_) => unreachable!(),
-    }
+    Id::known(text)
 }

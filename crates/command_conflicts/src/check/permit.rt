@@ -1,7 +1,9 @@
 //! Whom PERMIT names, and how many entries there may be after it.
 ghost use Rattle.std.specs.Prelude.{◌≡◌, find, option_and_then};
+ghost use Rattle.std.specs.Option.{option_copied};
 ghost use Rattle.std.specs.Result.{result_err};
 ghost use Rattle.racf_profiles.specs.Counts.{entries_in};
+ghost use Rattle.racf_profiles.specs.Lookup.{profile_of};
 ghost use Rattle.command_conflicts.specs.ProfileConflicts.{is_unknown, named_unknown, no_permitted, standard_full, conditional_full, entries_full};
 
 use super::names::is_taken;
@@ -12,7 +14,7 @@ use access_lists::MOST_ENTRIES;
 use class_profiles::MOST_ENTRIES_IN_ALL;
 use command_effects::{conditional_count, standard_count};
 use command_parser::{Issuer, Permit};
-use racf_profiles::{Profile, View};
+use racf_profiles::Profile;
 use row_tables::RowTables;
 
 /// Each ID that gets access is `*`, a user or a group.
@@ -53,15 +55,18 @@ fn is_unknown(tables: &RowTables, who: &Who) -> bool
     }
 }
 
-/// The profile's standard list is within the limit after PERMIT.
+/// The profile's standard list is within the limit after PERMIT. The profile, in this test and the two behind it, is the
+/// one that was looked up for the command.
 pub(super) fn check_standard_fits(
     tables: &RowTables,
     issuer: &Issuer,
     command: &Permit,
+    found: Option<&Profile>,
 ) -> Result<(), Conflict>
+    requires { option_copied found ≡ profile_of command.now.class command.now.profile tables.now.rows }
     ensures { result_err result ≡ standard_full issuer.now command.now tables.now.rows }
 {
-    match tables.profile(command.class, &command.profile) {
+    match found {
         None => Ok(()),
         Some(old) => check_count(
             Limit::Entries,
@@ -76,10 +81,12 @@ pub(super) fn check_conditional_fits(
     tables: &RowTables,
     issuer: &Issuer,
     command: &Permit,
+    found: Option<&Profile>,
 ) -> Result<(), Conflict>
+    requires { option_copied found ≡ profile_of command.now.class command.now.profile tables.now.rows }
     ensures { result_err result ≡ conditional_full issuer.now command.now tables.now.rows }
 {
-    match tables.profile(command.class, &command.profile) {
+    match found {
         None => Ok(()),
         Some(old) => check_count(
             Limit::Entries,
@@ -94,12 +101,14 @@ pub(super) fn check_entries_fit(
     tables: &RowTables,
     issuer: &Issuer,
     command: &Permit,
+    found: Option<&Profile>,
 ) -> Result<(), Conflict>
+    requires { option_copied found ≡ profile_of command.now.class command.now.profile tables.now.rows }
     ensures { result_err result ≡ entries_full issuer.now command.now tables.now.rows }
 {
     tables.what_is_kept();
     class_profiles::laws::puts_are_counted();
-    match tables.profile(command.class, &command.profile) {
+    match found {
         None => Ok(()),
         Some(old) => check_sum(
             Limit::AllEntries,

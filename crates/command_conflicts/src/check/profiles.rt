@@ -1,5 +1,6 @@
 //! Which profiles and classes have to be there, or not, and how many there may be.
-ghost use Rattle.std.specs.Prelude.{◌≡◌, ◌+◌, ◌≤◌, length, is_some, codes, bytes_eq};
+ghost use Rattle.std.specs.Prelude.{◌≡◌, ◌+◌, ◌≤◌, length, codes, bytes_eq};
+ghost use Rattle.std.specs.Option.{option_copied};
 ghost use Rattle.std.specs.Result.{result_err, result_ok};
 ghost use Rattle.access_levels.specs.Spelling.{id_of};
 ghost use Rattle.generic_names.specs.Spelled.{first_qualifier};
@@ -17,7 +18,7 @@ use access_levels::Id;
 use class_profiles::{MOST_CLASS_PROFILES, MOST_PROFILES};
 use command_effects::dataset;
 use generic_names::{Pattern, first_qualifier};
-use racf_profiles::{FixedClass, View, class_facts};
+use racf_profiles::{FixedClass, Profile, View, class_facts};
 use row_tables::RowTables;
 
 /// The first qualifier of a data set profile is a user or a group.
@@ -79,11 +80,24 @@ fn check_classless(tables: &RowTables, global: bool, name: Option<Id>) -> Result
 }
 
 /// A class that is there has a profile of that name.
-#[tactic(auto, unfolding(crate::specs::ProfileConflicts::no_profile))]
 pub(super) fn check_profile(tables: &RowTables, class: Id, name: &Pattern) -> Result<(), Conflict>
     ensures { result_err result ≡ no_profile class name.now tables.now.rows }
 {
-    if has_class(tables, class) && !has_profile(tables, class, name) {
+    check_found(tables, class, name, tables.profile(class, name))
+}
+
+/// The same, where the profile of that name was looked up.
+#[tactic(auto, unfolding(crate::specs::ProfileConflicts::no_profile))]
+pub(super) fn check_found(
+    tables: &RowTables,
+    class: Id,
+    name: &Pattern,
+    found: Option<&Profile>,
+) -> Result<(), Conflict>
+    requires { option_copied found ≡ profile_of class name.now tables.now.rows }
+    ensures { result_err result ≡ no_profile class name.now tables.now.rows }
+{
+    if has_class(tables, class) && found.is_none() {
         return Err(Conflict::NoProfile(class, *name));
     }
     Ok(())
@@ -102,16 +116,6 @@ pub(super) fn check_resource_profile(
         return Ok(());
     }
     check_profile(tables, class, name)
-}
-
-/// Whether the class has a profile of that name.
-fn has_profile(tables: &RowTables, class: Id, name: &Pattern) -> bool
-    ensures { result ≡ is_some (profile_of class name.now tables.now.rows) }
-{
-    match tables.profile(class, name) {
-        Some(_) => true,
-        None => false,
-    }
 }
 
 /// There is no profile of that name.

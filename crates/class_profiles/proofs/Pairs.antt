@@ -102,7 +102,7 @@ length-paired : (ps : List Profile) → length (map entry_of ps) ≡ length ps
 length-paired [] = refl
 length-paired (p ∷ ps) = ap suc (length-paired ps)
 
-item-paired : (o : Option Profile) → option_map (λ (e : Entry Profile). e.item) (option_map entry_of o) ≡ o
+pub item-paired : (o : Option Profile) → option_map (λ (e : Entry Profile). e.item) (option_map entry_of o) ≡ o
 item-paired None = refl
 item-paired (Some p) = refl
 

@@ -122,8 +122,8 @@ impl ProfileTable {
         self.profiles.reserve(more)
     }
 
-    /// Puts a profile in the place of the one of its name, which is answered, or else at its place in the order. It takes
-    /// no memory.
+    /// Puts a profile in the place of the one of its name, which is answered, or else at its place in the order. It
+    /// takes no memory.
     pub fn put(&mut self, profile: Profile) -> Option<Profile>
         requires { CanPut self.old profile }
         ensures replaced { result ≡ find (is_profile profile.name) self.old.profiles }

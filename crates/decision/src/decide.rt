@@ -141,7 +141,7 @@ fn undecided(rule: Rule) -> Answer
 fn without_profile(options: &Options, class: Id) -> Answer
     ensures { result ≡ answer_without_profile options.now class }
 {
-    if class == FixedClass::Dataset.id() && options.protectall {
+    if is_dataset(class) && options.protectall {
         Answer {
             rule: Rule::ProtectAll,
             rc: 8,
@@ -216,5 +216,12 @@ fn last_case(warning: bool, standing: Level) -> Answer
 fn is_own(acee: &Acee, class: Id, name: &Resource) -> bool
     ensures { result ≡ (is_dataset class && bytes_eq (first_qualifier name.now.text) acee.now.user) }
 {
-    class == FixedClass::Dataset.id() && first_qualifier(name.text()) == acee.user.text()
+    is_dataset(class) && first_qualifier(name.text()) == acee.user.text()
+}
+
+/// Whether it is the class of data sets.
+fn is_dataset(class: Id) -> bool
+    ensures { result ≡ is_dataset class }
+{
+    class.text() == FixedClass::Dataset.name()
 }

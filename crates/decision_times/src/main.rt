@@ -3,7 +3,8 @@
 //!
 //! Rows that make what is asked:
 //! - `C command`: gives a command to the database, as IBMUSER in the group SYS1;
-//! - `I`: makes an image of all rows of the database as they stand, which the rows below read until the next `I` or `J`;
+//! - `I`: makes an image of all rows of the database as they stand, which the rows below read until the next `I` or
+//!   `J`;
 //! - `J`: takes the image in its place that the commands made, each of the one before;
 //! - `V user`, `V user group`: adds the ACEE of a user, which is known by its place from 0;
 //! - `Q place level class name`: adds a question: whether the user of the ACEE at that place may have that access;

@@ -8,7 +8,7 @@ abbrev pub Settles : List ℕ → List ℕ → Option (List ℕ) → Option (Lis
 Settles gathered rest before now =
     ((rest ≡ gathered) × (now ≡ before)) ⊎ ((rest ≡ []) × (now ≡ append_known before gathered))
 
--- No reply waits while the source is read: none waits any longer, or it was not read.
+-- Either no reply waits any longer, or the source was not read.
 abbrev pub IsPrompt : List ℕ → Reader → Reader → Type 0
 IsPrompt rest old new = (rest ≡ []) ⊎ KeepsSource old new
 

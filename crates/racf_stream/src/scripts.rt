@@ -109,6 +109,9 @@ fn run<S: Source, O: Sink, D: Disk>(
             Ok(Err(stop)) => return end(stop, stream, &mut replies, sink),
             Err(Failed) => return unless_failed(stream.has_failed(), Status::WriteFault),
         };
+        if item.is_none() {
+            continue 'item;
+        }
         let number = stream.number();
         match process_statement(alloc, stream, item, &mut replies, &mut room) {
             Ok(()) => {}

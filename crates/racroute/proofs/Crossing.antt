@@ -1,6 +1,7 @@
 -- What threads may share: a desk, a publisher and an office go from thread to thread, so they share the office behind
 -- its lock.
---     Racf-sync      a `&Racf` may be shared by threads where the disk, the two copies, their operation and the waiting may be sent, and the copies shared
+--     Racf-sync      a `&Racf` may be shared by threads where the disk, the two copies, their operation and the
+--                    waiting may be sent, and the copies shared
 use denote.RattleType.{RattleType}
 use denote.Param.Send.{IsSend, IsSync, sendable}
 use Rattle.std.proofs.Crossing.{crosses, frees, send, sync}

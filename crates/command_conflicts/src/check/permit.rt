@@ -55,7 +55,7 @@ fn is_unknown(tables: &RowTables, who: &Who) -> bool
     }
 }
 
-/// The profile's standard list is within the limit after PERMIT. The profile, in this test and the two behind it, is the
+/// The profile's standard list is within the limit after PERMIT. In this test and the two behind it the profile is the
 /// one that was looked up for the command.
 pub(super) fn check_standard_fits(
     tables: &RowTables,

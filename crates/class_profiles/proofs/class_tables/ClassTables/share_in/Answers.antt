@@ -6,20 +6,20 @@ use Rattle.racf_profiles.specs.Counts.{entries_in}
 use Rattle.class_profiles.proofs.Changes.{profiles-le, entries-le}
 use Rattle.class_profiles.proofs.class_tables.ClassTables.share_in.Goals as goal
 
-pub share_of-requires : goal.share_of-requires
-share_of-requires c =
+pub share_of_any-requires : goal.share_of_any-requires
+share_of_any-requires c =
     let le = entries-le c.args.class c.args.name.now c.args.self.now.classes in
-    let here = ap (λ (o : Option Profile). option_map_or entries_in o 0) c.in-Some.ensures in
+    let here = ap (λ (o : Option Profile). option_map_or entries_in o 0) c.profile.ensures in
     omega (arith, le, here, c.what_is_kept.ensures.entries)
 
-pub returns-in-Some-clause-few : goal.returns-in-Some-clause-few
-returns-in-Some-clause-few c =
+pub returns-clause-few : goal.returns-clause-few
+returns-clause-few c =
     let le = profiles-le c.args.class c.args.name.now c.args.self.now.classes in
-    let here = ap {B = ℕ} (λ (o : Option Profile). option_map_or (λ (p : Profile). 1) o 0) c.in-Some.ensures in
-    omega (arith, le, here, c.share_of.ensures.profiles)
+    let here = ap {B = ℕ} (λ (o : Option Profile). option_map_or (λ (p : Profile). 1) o 0) c.profile.ensures in
+    omega (arith, le, here, c.share_of_any.ensures.profiles)
 
-pub returns-in-Some-clause-few_entries : goal.returns-in-Some-clause-few_entries
-returns-in-Some-clause-few_entries c =
+pub returns-clause-few_entries : goal.returns-clause-few_entries
+returns-clause-few_entries c =
     let le = entries-le c.args.class c.args.name.now c.args.self.now.classes in
-    let here = ap (λ (o : Option Profile). option_map_or entries_in o 0) c.in-Some.ensures in
-    omega (arith, le, here, c.share_of.ensures.entries)
+    let here = ap (λ (o : Option Profile). option_map_or entries_in o 0) c.profile.ensures in
+    omega (arith, le, here, c.share_of_any.ensures.entries)

@@ -1,5 +1,5 @@
 -- The index puts the entry where the profile goes.
-use Rattle.std.proofs.Common.{◌≡◌, ◌≤◌, ◌+◌, ◌∙◌, List, None, Bool, ap, sym, subst, map, length, is_some, if◌then◌else◌, arith}
+use Rattle.std.proofs.Common.{◌≡◌, ◌≤◌, ◌∙◌, List, Option, None, ap, sym, subst, map, length, arith}
 use Rattle.std.specs.List.{find}
 use Rattle.std.specs.Option.{option_map}
 use Rattle.profile_index.specs.declared.entry.Entry.{Entry}
@@ -9,7 +9,7 @@ use Rattle.racf_profiles.specs.Lookup.{is_profile}
 use Rattle.racf_profiles.specs.Edits.{put_profile}
 use Rattle.racf_profiles.specs.Limits.{most_class_profiles}
 use Rattle.class_profiles.specs.Paired.{entry_of, items_of}
-use Rattle.class_profiles.proofs.Pairs.{kinds-paired, absent-profile, some-paired, put-items, put-kept}
+use Rattle.class_profiles.proofs.Pairs.{kinds-paired, absent-profile, find-paired, item-paired, put-items, put-kept}
 use Rattle.class_profiles.proofs.table.ProfileTable.put.Goals as goal
 
 pub put-requires-clause-room : goal.put-requires-clause-room
@@ -40,14 +40,18 @@ returns-clause-profiles c =
     put-items c.self.inside.kind p c.is_spelled.ensures is c.self.inside.profiles.entries c.put.new.self.entries c.self.invariant.paired c.self.invariant.lawful c.put.ensures.entries
     ∙ ap (λ v. put_profile p v.profiles) c.self.view_is
 
-pub returns-clause-spare : goal.returns-clause-spare
-returns-clause-spare c =
+pub returns-clause-replaced : goal.returns-clause-replaced
+returns-clause-replaced c =
     let name = c.args.profile.name in
     let ps = items_of c.self.inside.profiles.entries in
-    let found = ap is_some c.put.ensures.item
-    ∙ ap (λ (es : List (Entry Profile)). is_some (option_map (λ (e : Entry Profile). e.item) (find (has_name name) es))) c.self.invariant.paired
-    ∙ some-paired name ps ∙ ap (λ v. is_some (find (is_profile name) v.profiles)) c.self.view_is in
-    ap (λ (b : Bool). c.put.new.self.spare + (if b then 0 else 1)) (sym found) ∙ c.put.ensures.spare ∙ ap (λ v. v.spare) c.self.view_is
+    c.put.ensures.item
+    ∙ ap (λ (es : List (Entry Profile)). option_map (λ (e : Entry Profile). e.item) (find (has_name name) es)) c.self.invariant.paired
+    ∙ ap (λ (o : Option (Entry Profile)). option_map (λ (e : Entry Profile). e.item) o) (find-paired name ps)
+    ∙ item-paired (find (is_profile name) ps)
+    ∙ ap (λ v. find (is_profile name) v.profiles) c.self.view_is
+
+pub returns-clause-spare : goal.returns-clause-spare
+returns-clause-spare c = c.put.ensures.spare ∙ ap (λ v. v.spare) c.self.view_is
 
 pub returns-clause-lawful : goal.returns-clause-lawful
 returns-clause-lawful c = (invariant_of-self c).lawful

@@ -159,15 +159,29 @@ impl RowTables {
         Ok(())
     }
 
-    /// Makes room for this many rows of the kind that the edit adds, if it adds one.
+    /// Makes room for this many rows of the kind that the edit puts. That there is none counts only where it adds one,
+    /// which is looked up only then.
     fn reserve_for(&mut self, edit: &Edit, more: usize) -> Result<(), NoMemory>
         ensures kept { HasAtLeast self.old self.new }
         ensures room { OnOk result (HasRoomFor more (edit.now ∷ []) self.new) }
         ensures err { OnErr result (IsTrue (adds self.old.rows edit.now)) }
     {
-        if !self.adds(edit) {
-            return Ok(());
+        match self.reserve_kind(edit, more) {
+            Ok(()) => Ok(()),
+            Err(fault) => {
+                if self.adds(edit) {
+                    return Err(fault);
+                }
+                Ok(())
+            }
         }
+    }
+
+    /// Makes room for this many rows of the kind that the edit puts.
+    fn reserve_kind(&mut self, edit: &Edit, more: usize) -> Result<(), NoMemory>
+        ensures kept { HasAtLeast self.old self.new }
+        ensures room { OnOk result (HasRoomFor more (edit.now ∷ []) self.new) }
+    {
         match edit {
             Edit::PutUser(_) => self.users.reserve(more),
             Edit::PutGroup(_) => reserve_groups(&mut self.tree, more),

@@ -5,7 +5,7 @@ ghost use Rattle.std.specs.List.{starts_with};
 ghost use Rattle.std.specs.Option.{option_copied};
 ghost use Rattle.command_words.specs.Bytes.{upper};
 ghost use Rattle.command_words.specs.Tokens.{tokens, Word};
-ghost use Rattle.command_words.specs.ValuedWords.{valued_words, opens_value, faulty_at as first_faulty, is_nothing, IsValuedInReach};
+ghost use Rattle.command_words.specs.ValuedWords.{valued_words, faulty_at as first_faulty, is_nothing, IsValuedInReach};
 ghost use Rattle.command_words.specs.Pieces.{seen_valued};
 
 use crate::bytes::{folded, is_faulty};
@@ -39,25 +39,18 @@ impl<'a> Tokens<'a> {
             Piece::Close(place) => Some((ValuedWord::Parenthesis(place), rest)),
         }
     }
-
-    /// Whether a value of the word in front comes next.
-    pub fn opens_value(&self) -> bool
-        ensures { result ≡ opens_value (tokens self.now) }
-    {
-        match self.split_first() {
-            Some((Piece::Group(tied, _, _), _)) => tied,
-            Some((Piece::Open(tied, _, _), _)) => tied,
-            _ => false,
-        }
-    }
 }
 
-/// The word with the value behind it, which `rest` may begin with.
+/// The word with the value behind it, which `rest` may begin with. No word that stands there instead is scanned.
+#[tactic(auto, using(crate::proofs::Openings::alone_before))]
 fn behind_word<'a>(place: u32, word: &'a [u8], rest: Tokens<'a>) -> (ValuedWord<'a>, Tokens<'a>)
     requires { place + length word.now < 2 ^ 30 }
     ensures valued_words { valued_words (Word place word.now ∷ tokens rest.entry) ≡ seen_valued result.0 ∷ valued_words (tokens result.1) }
     ensures reach { IsValuedInReach (seen_valued result.0) }
 {
+    if !rest.opens_value() {
+        return (ValuedWord::Alone(place, word), rest);
+    }
     let Some((piece, behind)) = rest.split_first() else {
         return (ValuedWord::Alone(place, word), rest);
     };

@@ -3,6 +3,7 @@
 ghost use Rattle.std.specs.Prelude.{◌≡◌, ◌+◌, ◌<◌, ◌^◌, [], ◌∷◌, length, map, MatchOption, IfSome, bytes_eq, is_some, nat_eq};
 ghost use Rattle.std.specs.List.{starts_with};
 ghost use Rattle.std.specs.Option.{option_copied};
+ghost use Rattle.command_words.specs.declared.quoting.Quoting.TheVariants.{Ignored};
 ghost use Rattle.command_words.specs.Bytes.{upper};
 ghost use Rattle.command_words.specs.Tokens.{tokens, Word};
 ghost use Rattle.command_words.specs.ValuedWords.{valued_words, faulty_at as first_faulty, is_nothing, IsValuedInReach};
@@ -63,7 +64,34 @@ fn behind_word<'a>(place: u32, word: &'a [u8], rest: Tokens<'a>) -> (ValuedWord<
 
 /// The place of the first faulty byte of a word that begins at `place`. Where quotes count, those inside them are not
 /// looked at.
-pub fn faulty_at(mut quoting: Quoting, mut place: u32, word: &[u8]) -> Option<u32>
+pub fn faulty_at(quoting: Quoting, place: u32, word: &[u8]) -> Option<u32>
+    requires { place + length word.now < 2 ^ 30 }
+    ensures { result ≡ first_faulty quoting place word.now }
+{
+    match quoting {
+        Quoting::Ignored => plain_fault(place, word),
+        _ => quoted_fault(quoting, place, word),
+    }
+}
+
+/// The same where quotes are bytes like others, as they mostly are.
+fn plain_fault(mut place: u32, word: &[u8]) -> Option<u32>
+    requires { place + length word.now < 2 ^ 30 }
+    ensures { result ≡ first_faulty Ignored place word.now }
+{
+    let mut rest = word;
+    while let Some((byte, behind)) = rest.split_first() {
+        if is_faulty(*byte) {
+            return Some(place);
+        }
+        place += 1;
+        rest = behind;
+    }
+    None
+}
+
+/// The same where quotes may count.
+fn quoted_fault(mut quoting: Quoting, mut place: u32, word: &[u8]) -> Option<u32>
     requires { place + length word.now < 2 ^ 30 }
     ensures { result ≡ first_faulty quoting place word.now }
 {

@@ -56,8 +56,8 @@ fn behind_word<'a>(place: u32, word: &'a [u8], rest: Tokens<'a>) -> (ValuedWord<
         return (ValuedWord::Alone(place, word), rest);
     };
     match piece {
-        Piece::Group(true, _, value) => (ValuedWord::Valued(place, word, value), behind),
-        Piece::Open(true, _, open) => (ValuedWord::Unclosed(place, word, open), behind),
+        Piece::Group(_, _, value) => (ValuedWord::Valued(place, word, value), behind),
+        Piece::Open(_, _, open) => (ValuedWord::Unclosed(place, word, open), behind),
         _ => (ValuedWord::Alone(place, word), rest),
     }
 }

@@ -4,3 +4,4 @@ pub mod Spelled
 mod TokenRows
 pub mod BeforeFirst
 pub mod LineWordLaws
+pub mod Openings

@@ -1,5 +1,5 @@
 -- Words together with the values behind them.
-use Rattle.std.specs.Prelude.{ℕ, suc, List, [], ◌∷◌, Bool, true, false, ◌&&◌, not, if◌then◌else◌, Option, None, Some, length, ◌+◌, ◌<◌, ◌^◌}
+use Rattle.std.specs.Prelude.{ℕ, suc, List, [], ◌∷◌, Bool, true, false, ◌&&◌, not, ◌==◌, if◌then◌else◌, Option, None, Some, length, ◌+◌, ◌<◌, ◌^◌}
 use Rattle.command_words.specs.declared.quoting.Quoting.{Quoting}
 use Rattle.command_words.specs.Bytes.{is_faulty_byte}
 use Rattle.command_words.specs.Quotes.{after, hides}
@@ -34,6 +34,11 @@ opens_value (Word p w ∷ ts) = false
 opens_value (Group tied p t ∷ ts) = tied
 opens_value (Open tied p place ∷ ts) = tied
 opens_value (Close p ∷ ts) = false
+
+-- the same of bytes in front of which nothing parts words
+abbrev pub opens_at : Bool → List ℕ → Bool
+opens_at tied [] = false
+opens_at tied (b ∷ bs) = tied && b == 40
 
 -- The place of the first faulty byte of a word that begins at p. Where quotes count, those inside them are not looked
 -- at.

@@ -1,7 +1,7 @@
 //! The scans over bytes: separators, the rest of a word, the end of a value.
 
 ghost use Rattle.std.specs.Prelude.{◌≡◌, ◌+◌, ◌<◌, ◌≤◌, ◌^◌, length, take, drop, IfOk};
-ghost use Rattle.command_words.specs.declared.quoting.Quoting.TheVariants.{Outside};
+ghost use Rattle.command_words.specs.declared.quoting.Quoting.TheVariants.{Ignored, Outside};
 ghost use Rattle.command_words.specs.Quotes.{word_len as letters_of};
 ghost use Rattle.command_words.specs.Tokens.{tokens_from, group_end as end_of, BeginsWithNoGap};
 
@@ -32,7 +32,38 @@ pub fn past_gaps(
 }
 
 /// How many bytes from the front on still belong to a word.
-pub fn word_len(mut quoting: Quoting, mut place: u32, bytes: &[u8]) -> usize
+pub fn word_len(quoting: Quoting, place: u32, bytes: &[u8]) -> usize
+    requires { place + length bytes.now < 2 ^ 30 }
+    ensures value { result ≡ letters_of quoting place bytes.now }
+    ensures within { result ≤ length bytes.now }
+{
+    match quoting {
+        Quoting::Ignored => plain_len(place, bytes),
+        _ => quoted_len(quoting, place, bytes),
+    }
+}
+
+/// The same where quotes are bytes like others, as they mostly are.
+fn plain_len(mut place: u32, bytes: &[u8]) -> usize
+    requires { place + length bytes.now < 2 ^ 30 }
+    ensures value { result ≡ letters_of Ignored place bytes.now }
+    ensures within { result ≤ length bytes.now }
+{
+    let mut count = 0;
+    let mut rest = bytes;
+    while let Some((byte, behind)) = rest.split_first() {
+        if !is_word(*byte) {
+            return count;
+        }
+        place += 1;
+        count += 1;
+        rest = behind;
+    }
+    count
+}
+
+/// The same where quotes may count.
+fn quoted_len(mut quoting: Quoting, mut place: u32, bytes: &[u8]) -> usize
     requires { place + length bytes.now < 2 ^ 30 }
     ensures value { result ≡ letters_of quoting place bytes.now }
     ensures within { result ≤ length bytes.now }

@@ -1,7 +1,8 @@
 //! Words and values in parentheses, one at a time from the left.
 
-ghost use Rattle.std.specs.Prelude.{◌≡◌, ◌+◌, ◌<◌, ◌^◌, [], ◌∷◌, false, length};
+ghost use Rattle.std.specs.Prelude.{◌≡◌, ◌+◌, ◌<◌, ◌^◌, [], ◌∷◌, true, false, length, MatchOption};
 ghost use Rattle.command_words.specs.Tokens.{tokens, tokens_from, word_then, Close, BeginsWithNoGap, IsInReach};
+ghost use Rattle.command_words.specs.ValuedWords.{opens_value as value_opens, opens_at as opens_in_front};
 ghost use Rattle.command_words.specs.Quotes.{next_word};
 ghost use Rattle.command_words.specs.Pieces.{seen, PieceAt};
 
@@ -86,6 +87,25 @@ impl<'a> Tokens<'a> {
     {
         let (tied, place, bytes) = past_gaps(self.quoting, self.tied, self.place, self.bytes);
         piece_at(self.quoting, tied, place, bytes)
+    }
+
+    /// Whether a value of the word in front comes next.
+    #[tactic(auto, unfolding(crate::specs::Tokens::tokens))]
+    pub fn opens_value(&self) -> bool
+        ensures { result ≡ value_opens (tokens self.now) }
+    {
+        let (tied, _, bytes) = past_gaps(self.quoting, self.tied, self.place, self.bytes);
+        opens_at(tied, bytes)
+    }
+}
+
+/// Whether a value of the word in front begins at the first byte, which parts no words.
+fn opens_at(tied: bool, bytes: &[u8]) -> bool
+    ensures { result ≡ opens_in_front tied bytes.now }
+{
+    match bytes.first() {
+        Some(byte) => tied && *byte == b'(',
+        None => false,
     }
 }
 

@@ -3,9 +3,10 @@
 ghost use Rattle.std.specs.Prelude.{◌≡◌, ◌+◌, ◌<◌, ◌^◌, [], ◌∷◌, length, map, MatchOption, IfSome, bytes_eq, is_some, nat_eq};
 ghost use Rattle.std.specs.List.{starts_with};
 ghost use Rattle.std.specs.Option.{option_copied};
+ghost use Rattle.command_words.specs.declared.quoting.Quoting.TheVariants.{Ignored};
 ghost use Rattle.command_words.specs.Bytes.{upper};
 ghost use Rattle.command_words.specs.Tokens.{tokens, Word};
-ghost use Rattle.command_words.specs.ValuedWords.{valued_words, opens_value, faulty_at as first_faulty, is_nothing, IsValuedInReach};
+ghost use Rattle.command_words.specs.ValuedWords.{valued_words, faulty_at as first_faulty, is_nothing, IsValuedInReach};
 ghost use Rattle.command_words.specs.Pieces.{seen_valued};
 
 use crate::bytes::{folded, is_faulty};
@@ -39,38 +40,58 @@ impl<'a> Tokens<'a> {
             Piece::Close(place) => Some((ValuedWord::Parenthesis(place), rest)),
         }
     }
-
-    /// Whether a value of the word in front comes next.
-    pub fn opens_value(&self) -> bool
-        ensures { result ≡ opens_value (tokens self.now) }
-    {
-        match self.split_first() {
-            Some((Piece::Group(tied, _, _), _)) => tied,
-            Some((Piece::Open(tied, _, _), _)) => tied,
-            _ => false,
-        }
-    }
 }
 
-/// The word with the value behind it, which `rest` may begin with.
+/// The word with the value behind it, which `rest` may begin with. No word that stands there instead is scanned.
+#[tactic(auto, using(crate::proofs::Openings::alone_before))]
 fn behind_word<'a>(place: u32, word: &'a [u8], rest: Tokens<'a>) -> (ValuedWord<'a>, Tokens<'a>)
     requires { place + length word.now < 2 ^ 30 }
     ensures valued_words { valued_words (Word place word.now ∷ tokens rest.entry) ≡ seen_valued result.0 ∷ valued_words (tokens result.1) }
     ensures reach { IsValuedInReach (seen_valued result.0) }
 {
+    if !rest.opens_value() {
+        return (ValuedWord::Alone(place, word), rest);
+    }
     let Some((piece, behind)) = rest.split_first() else {
         return (ValuedWord::Alone(place, word), rest);
     };
     match piece {
-        Piece::Group(true, _, value) => (ValuedWord::Valued(place, word, value), behind),
-        Piece::Open(true, _, open) => (ValuedWord::Unclosed(place, word, open), behind),
+        Piece::Group(_, _, value) => (ValuedWord::Valued(place, word, value), behind),
+        Piece::Open(_, _, open) => (ValuedWord::Unclosed(place, word, open), behind),
         _ => (ValuedWord::Alone(place, word), rest),
     }
 }
 
 /// The place of the first faulty byte of a word that begins at `place`. Where quotes count, those inside them are not
 /// looked at.
-pub fn faulty_at(mut quoting: Quoting, mut place: u32, word: &[u8]) -> Option<u32>
+pub fn faulty_at(quoting: Quoting, place: u32, word: &[u8]) -> Option<u32>
+    requires { place + length word.now < 2 ^ 30 }
+    ensures { result ≡ first_faulty quoting place word.now }
+{
+    match quoting {
+        Quoting::Ignored => plain_fault(place, word),
+        _ => quoted_fault(quoting, place, word),
+    }
+}
+
+/// The same where quotes are bytes like others, as they mostly are.
+fn plain_fault(mut place: u32, word: &[u8]) -> Option<u32>
+    requires { place + length word.now < 2 ^ 30 }
+    ensures { result ≡ first_faulty Ignored place word.now }
+{
+    let mut rest = word;
+    while let Some((byte, behind)) = rest.split_first() {
+        if is_faulty(*byte) {
+            return Some(place);
+        }
+        place += 1;
+        rest = behind;
+    }
+    None
+}
+
+/// The same where quotes may count.
+fn quoted_fault(mut quoting: Quoting, mut place: u32, word: &[u8]) -> Option<u32>
     requires { place + length word.now < 2 ^ 30 }
     ensures { result ≡ first_faulty quoting place word.now }
 {

@@ -1,6 +1,6 @@
 use Rattle.std.proofs.Common.{◌≡◌, ◌+◌, length}
 use Rattle.command_words.specs.ValuedWords.{faulty_at}
-use Rattle.command_words.proofs.valued_words.faulty_at.Given as goal
+use Rattle.command_words.proofs.valued_words.quoted_fault.Given as goal
 
 abbrev pub invariant-loop-byte : goal.invariant-loop-byte
 invariant-loop-byte l = record {

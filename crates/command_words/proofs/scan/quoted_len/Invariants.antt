@@ -1,6 +1,6 @@
 use Rattle.std.proofs.Common.{◌≡◌, ◌+◌, length}
 use Rattle.command_words.specs.Quotes.{word_len}
-use Rattle.command_words.proofs.scan.word_len.Given as goal
+use Rattle.command_words.proofs.scan.quoted_len.Given as goal
 
 abbrev pub invariant-loop-byte : goal.invariant-loop-byte
 invariant-loop-byte l = record {

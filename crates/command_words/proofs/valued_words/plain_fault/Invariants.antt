@@ -1,0 +1,13 @@
+use Rattle.std.proofs.Common.{◌≡◌, ◌+◌, length}
+use Rattle.command_words.specs.declared.quoting.Quoting.TheVariants.{Ignored}
+use Rattle.command_words.specs.ValuedWords.{faulty_at}
+use Rattle.command_words.proofs.valued_words.plain_fault.Given as goal
+
+abbrev pub invariant-loop-byte : goal.invariant-loop-byte
+invariant-loop-byte l = record {
+  same : faulty_at Ignored l.place l.rest ≡ faulty_at Ignored l.fn.place l.word;
+  reach : l.place + length l.rest ≡ l.fn.place + length l.word;
+}
+
+abbrev pub decreases-loop-byte : goal.decreases-loop-byte
+decreases-loop-byte l = length l.rest

@@ -244,8 +244,8 @@ struct Share {
 /// What this profile adds to the counts, if there is one.
 fn share_of_any(profile: Option<&Profile>) -> Share
     requires { option_map_or entries_in (option_copied profile) 0 ≤ most_entries_in_all }
-    ensures profiles { result.profiles ≡ option_map_or (λ _. 1) (option_copied profile) 0 }
-    ensures entries { result.entries ≡ option_map_or entries_in (option_copied profile) 0 }
+    ensures profiles { result.profiles ≡ option_map_or (λ _. 1) (option_copied profile.entry) 0 }
+    ensures entries { result.entries ≡ option_map_or entries_in (option_copied profile.entry) 0 }
 {
     match profile {
         None => Share {

@@ -37,12 +37,12 @@ share_of-after-requires c =
     put-few law.not_both law.passed_on class items c.in-Some.place got.0 p at got.1 c.self.invariant.lawful can c.self.inside.entries (option_map_or entries_in (profile_in class p.name (rows_in items)) 0) c.self.invariant.entries_counted refl
 
 -- what was replaced is the profile of that name in the class
-replaced_of : (name : List ℕ) (items : List ClassWithRoom) (k : ℕ) (c : ClassWithRoom) (p : Profile) (gone : Option Profile) → IsAt (of_name name) items k → slice_get items k ≡ Some c
-    → gone ≡ find (is_profile p.name) c.row.profiles → gone ≡ profile_in name p.name (rows_in items)
-replaced_of name items k c p gone at got is = is ∙ sym (ap (λ (o : Option ClassRow). option_and_then (λ (r : ClassRow). find (is_profile p.name) r.profiles) o) (found-at name items k c at got))
+replaced_of : (name : List ℕ) (items : List ClassWithRoom) (k : ℕ) (c : ClassWithRoom) (p : Profile) (was : Option Profile) → IsAt (of_name name) items k → slice_get items k ≡ Some c
+    → was ≡ find (is_profile p.name) c.row.profiles → was ≡ profile_in name p.name (rows_in items)
+replaced_of name items k c p was at got is = is ∙ sym (ap (λ (o : Option ClassRow). option_and_then (λ (r : ClassRow). find (is_profile p.name) r.profiles) o) (found-at name items k c at got))
 
-pub put-requires : goal.put-requires
-put-requires c =
+pub put-replaced-requires : goal.put-replaced-requires
+put-replaced-requires c =
     let items = c.self.inside.classes.items in
     let at = placed c.args.class items c.deref.result.now c.in-Some.place c.deref.ensures.value c.in-Some.ensures in
     let got = read-at c.args.class items c.in-Some.place c.index_mut.result.now at c.index_mut.ensures.value in
@@ -57,7 +57,7 @@ share_of_any-before-requires c =
     let old = c.index_mut.result.now in
     let at = placed class items c.deref.result.now k c.deref.ensures.value c.in-Some.ensures in
     let got = read-at class items k old at c.index_mut.ensures.value in
-    let same = c.as_ref.ensures ∙ replaced_of class items k old p c.put.result at got c.put.ensures.replaced in
+    let same = c.as_ref.ensures.value ∙ replaced_of class items k old p c.put-replaced.result at got c.put-replaced.ensures.replaced in
     let here = ap {B = ℕ} (λ (o : Option Profile). option_map_or entries_in o 0) same in
     let le = entries-le class p.name (rows_in items) in
     omega (arith, here, le, c.self.invariant.entries_counted, c.self.invariant.few_entries)
@@ -71,10 +71,24 @@ overflow_sub-self c =
     let old = c.index_mut.result.now in
     let at = placed class items c.deref.result.now k c.deref.ensures.value c.in-Some.ensures in
     let got = read-at class items k old at c.index_mut.ensures.value in
-    let same = c.as_ref.ensures ∙ replaced_of class items k old p c.put.result at got c.put.ensures.replaced in
+    let same = c.as_ref.ensures.value ∙ replaced_of class items k old p c.put-replaced.result at got c.put-replaced.ensures.replaced in
     let here = ap {B = ℕ} (λ (o : Option Profile). option_map_or (λ (q : Profile). 1) o 0) same in
     let le = profiles-le class p.name (rows_in items) in
     omega (arith, c.share_of_any-before.ensures.profiles, here, le, c.self.invariant.counted)
+
+pub overflow_sub-self-2 : goal.overflow_sub-self-2
+overflow_sub-self-2 c =
+    let items = c.self.inside.classes.items in
+    let class = c.args.class in
+    let p = c.args.profile in
+    let k = c.in-Some.place in
+    let old = c.index_mut.result.now in
+    let at = placed class items c.deref.result.now k c.deref.ensures.value c.in-Some.ensures in
+    let got = read-at class items k old at c.index_mut.ensures.value in
+    let same = c.as_ref.ensures.value ∙ replaced_of class items k old p c.put-replaced.result at got c.put-replaced.ensures.replaced in
+    let here = ap {B = ℕ} (λ (o : Option Profile). option_map_or entries_in o 0) same in
+    let le = entries-le class p.name (rows_in items) in
+    omega (arith, c.share_of_any-before.ensures.entries, here, le, c.self.invariant.entries_counted)
 
 pub invariant_of-self : goal.invariant_of-self
 invariant_of-self c =
@@ -83,20 +97,20 @@ invariant_of-self c =
     let class = c.args.class in
     let k = c.in-Some.place in
     let old = c.index_mut.result.now in
-    let new = c.put.new.self in
+    let new = c.put-replaced.new.self in
     let p = c.args.profile in
     let at = placed class items c.deref.result.now k c.deref.ensures.value c.in-Some.ensures in
     let got = read-at class items k old at c.index_mut.ensures.value in
     let can = subst (λ (v : ClassList). CanPutIn v class p) (sym c.self.view_is) c.requires in
-    let same = c.as_ref.ensures ∙ replaced_of class items k old p c.put.result at got c.put.ensures.replaced in
+    let same = c.as_ref.ensures.value ∙ replaced_of class items k old p c.put-replaced.result at got c.put-replaced.ensures.replaced in
     let parted = c.share_of_any-before.ensures.profiles ∙ ap {B = ℕ} (λ (o : Option Profile). option_map_or (λ (q : Profile). 1) o 0) same in
     let entries_parted = c.share_of_any-before.ensures.entries ∙ ap {B = ℕ} (λ (o : Option Profile). option_map_or entries_in o 0) same in
     record {
-      lawful = put-lawful law.not_both law.passed_on class items k old p at got c.self.invariant.lawful can new c.put.ensures.row c.put.ensures.lawful;
-      counted = put-counted law.not_both law.passed_on class items k old p at got c.self.invariant.lawful can new c.put.ensures.row c.put.ensures.lawful c.self.inside.count c.share_of_any-before.result.profiles c.share_of-after.result.profiles c.self.inside.entries c.share_of_any-before.result.entries c.share_of-after.result.entries c.self.invariant.counted parted c.share_of-after.ensures.profiles c.self.invariant.entries_counted entries_parted c.share_of-after.ensures.entries;
-      entries_counted = put-entries_counted law.not_both law.passed_on class items k old p at got c.self.invariant.lawful can new c.put.ensures.row c.put.ensures.lawful c.self.inside.count c.share_of_any-before.result.profiles c.share_of-after.result.profiles c.self.inside.entries c.share_of_any-before.result.entries c.share_of-after.result.entries c.self.invariant.counted parted c.share_of-after.ensures.profiles c.self.invariant.entries_counted entries_parted c.share_of-after.ensures.entries;
-      few = put-few_profiles law.not_both law.passed_on class items k old p at got c.self.invariant.lawful can new c.put.ensures.row c.put.ensures.lawful c.self.inside.count c.share_of_any-before.result.profiles c.share_of-after.result.profiles c.self.inside.entries c.share_of_any-before.result.entries c.share_of-after.result.entries c.self.invariant.counted parted c.share_of-after.ensures.profiles c.self.invariant.entries_counted entries_parted c.share_of-after.ensures.entries;
-      few_entries = put-few_entries law.not_both law.passed_on class items k old p at got c.self.invariant.lawful can new c.put.ensures.row c.put.ensures.lawful c.self.inside.count c.share_of_any-before.result.profiles c.share_of-after.result.profiles c.self.inside.entries c.share_of_any-before.result.entries c.share_of-after.result.entries c.self.invariant.counted parted c.share_of-after.ensures.profiles c.self.invariant.entries_counted entries_parted c.share_of-after.ensures.entries;
+      lawful = put-lawful law.not_both law.passed_on class items k old p at got c.self.invariant.lawful can new c.put-replaced.ensures.row c.put-replaced.ensures.lawful;
+      counted = put-counted law.not_both law.passed_on class items k old p at got c.self.invariant.lawful can new c.put-replaced.ensures.row c.put-replaced.ensures.lawful c.self.inside.count c.share_of_any-before.result.profiles c.share_of-after.result.profiles c.self.inside.entries c.share_of_any-before.result.entries c.share_of-after.result.entries c.self.invariant.counted parted c.share_of-after.ensures.profiles c.self.invariant.entries_counted entries_parted c.share_of-after.ensures.entries;
+      entries_counted = put-entries_counted law.not_both law.passed_on class items k old p at got c.self.invariant.lawful can new c.put-replaced.ensures.row c.put-replaced.ensures.lawful c.self.inside.count c.share_of_any-before.result.profiles c.share_of-after.result.profiles c.self.inside.entries c.share_of_any-before.result.entries c.share_of-after.result.entries c.self.invariant.counted parted c.share_of-after.ensures.profiles c.self.invariant.entries_counted entries_parted c.share_of-after.ensures.entries;
+      few = put-few_profiles law.not_both law.passed_on class items k old p at got c.self.invariant.lawful can new c.put-replaced.ensures.row c.put-replaced.ensures.lawful c.self.inside.count c.share_of_any-before.result.profiles c.share_of-after.result.profiles c.self.inside.entries c.share_of_any-before.result.entries c.share_of-after.result.entries c.self.invariant.counted parted c.share_of-after.ensures.profiles c.self.invariant.entries_counted entries_parted c.share_of-after.ensures.entries;
+      few_entries = put-few_entries law.not_both law.passed_on class items k old p at got c.self.invariant.lawful can new c.put-replaced.ensures.row c.put-replaced.ensures.lawful c.self.inside.count c.share_of_any-before.result.profiles c.share_of-after.result.profiles c.self.inside.entries c.share_of_any-before.result.entries c.share_of-after.result.entries c.self.invariant.counted parted c.share_of-after.ensures.profiles c.self.invariant.entries_counted entries_parted c.share_of-after.ensures.entries;
     }
 
 pub returns-clause-classes : goal.returns-clause-classes
@@ -109,7 +123,7 @@ returns-clause-classes c =
     let at = placed class items c.deref.result.now k c.deref.ensures.value c.in-Some.ensures in
     let got = read-at class items k old at c.index_mut.ensures.value in
     let can = subst (λ (v : ClassList). CanPutIn v class c.args.profile) (sym c.self.view_is) c.requires in
-    put-rows law.not_both law.passed_on class items k old c.args.profile at got c.self.invariant.lawful can c.put.new.self c.put.ensures.row c.put.ensures.lawful
+    put-rows law.not_both law.passed_on class items k old c.args.profile at got c.self.invariant.lawful can c.put-replaced.new.self c.put-replaced.ensures.row c.put-replaced.ensures.lawful
     ∙ ap (λ (v : ClassList). at_class class (with_profile c.args.profile) v.classes) c.self.view_is
 
 pub returns-clause-others : goal.returns-clause-others
@@ -120,7 +134,7 @@ returns-clause-others c =
     let old = c.index_mut.result.now in
     let at = placed class items c.deref.result.now k c.deref.ensures.value c.in-Some.ensures in
     let got = read-at class items k old at c.index_mut.ensures.value in
-    λ other differs. room-other other items k old c.put.new.self got (ap (λ (r : ClassRow). r.name) c.put.ensures.row) (ap (λ n. bytes_eq n other) (name-at class items k old at got) ∙ differs)
+    λ other differs. room-other other items k old c.put-replaced.new.self got (ap (λ (r : ClassRow). r.name) c.put-replaced.ensures.row) (ap (λ n. bytes_eq n other) (name-at class items k old at got) ∙ differs)
     ∙ ap (λ (v : ClassList). room_in other v) c.self.view_is
 
 pub returns-in_default-clause-own : goal.returns-in_default-clause-own
@@ -133,10 +147,10 @@ returns-clause-own c =
     let class = c.args.class in
     let k = c.in-Some.place in
     let old = c.index_mut.result.now in
-    let new = c.put.new.self in
+    let new = c.put-replaced.new.self in
     let at = placed class items c.deref.result.now k c.deref.ensures.value c.in-Some.ensures in
     let got = read-at class items k old at c.index_mut.ensures.value in
     let before : room_in class c.args.self.now ≡ old.spare = ap (λ (v : ClassList). room_in class v) (sym c.self.view_is) ∙ room-at class items k old at got in
-    let after = room-set class items k old new at got (ap (λ (r : ClassRow). r.name) c.put.ensures.row) in
-    let less = at_most_one old.spare new.spare _ c.put.ensures.spare in
+    let after = room-set class items k old new at got (ap (λ (r : ClassRow). r.name) c.put-replaced.ensures.row) in
+    let less = at_most_one old.spare new.spare _ c.put-replaced.ensures.spare in
     omega (arith, before, after, less)

@@ -12,8 +12,8 @@ use crate::closing::{class_in, closed, is_late, late_closed};
 use crate::operands::{named, operands};
 use crate::table::{Operand, Position, VERBS, Verb};
 use command_values::{
-    Content, Context, Known, ParseFault, Scope, Syntax, ValueKind, Word, any_named, clean, held,
-    is_unclosed, one, unless_stray,
+    Content, Context, Known, ParseFault, ProfileName, Scope, Syntax, ValueKind, Word, any_named,
+    clean, held, is_unclosed, one, unless_stray,
 };
 use command_words::{Piece, Quoting, Tokens, is_spelled};
 use generic_names::Pattern;
@@ -116,11 +116,11 @@ fn behind(at: &Scope, kind: ValueKind, content: &Content) -> Scope
         },
         (ValueKind::DataSetProfile, Content::Profile(name)) => Known {
             class: at.known.class,
-            profile: Some(*name),
+            profile: Some(*name.pattern()),
         },
         (ValueKind::ClassProfile, Content::Profile(name)) => Known {
             class: at.known.class,
-            profile: Some(*name),
+            profile: Some(*name.pattern()),
         },
         _ => at.known,
     };
@@ -204,7 +204,7 @@ fn late(alloc: Global, at: Scope, verb: Verb, text: Tokens<'_>) -> Result<Parts,
     let name = late_name(alloc, &at, &slots, place, word)?;
     let slots = late_closed(&name, verb, slots)?;
     let mut positions = Vec::with_capacity(alloc, 1)?;
-    positions.push(Content::Profile(name))?;
+    positions.push(Content::Profile(ProfileName::new(alloc, name)?))?;
     Ok(Parts {
         verb,
         positions,

@@ -33,7 +33,7 @@ fn only_profile(words: &[Content]) -> Option<Pattern>
     ensures { result ≡ only_profile_in words.now }
 {
     match words {
-        [Content::Profile(name)] => Some(*name),
+        [Content::Profile(name)] => Some(*name.pattern()),
         _ => None,
     }
 }
@@ -43,7 +43,7 @@ fn class_and_profile(words: &[Content]) -> Option<(Id, Pattern)>
     ensures { result ≡ class_and_profile_in words.now }
 {
     match words {
-        [Content::Id(class), Content::Profile(name)] => Some((*class, *name)),
+        [Content::Id(class), Content::Profile(name)] => Some((*class, *name.pattern())),
         _ => None,
     }
 }

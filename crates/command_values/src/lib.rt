@@ -35,4 +35,4 @@ pub use value_kinds::ValueKind;
 pub use value_printing::push_content;
 pub use value_reading::{bare, one, value};
 pub use value_words::{clean, held, unless_stray};
-pub use values::{Content, Context, Ids, Known, MemberNames, Reset, Scope, Whos};
+pub use values::{Content, Context, Ids, Known, MemberNames, ProfileName, Reset, Scope, Whos};

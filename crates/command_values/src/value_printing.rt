@@ -250,7 +250,7 @@ pub fn push_content(out: &mut Vec<u8>, content: &Content) -> Result<(), AllocErr
         Content::Ids(ids) => push_ids(out, &ids.items),
         Content::Level(level) => out.extend_from_slice(level.name()),
         Content::Audit(rule) => push_audit(out, *rule),
-        Content::Profile(name) => push_profile(out, name),
+        Content::Profile(name) => push_profile(out, name.pattern()),
         Content::Reset(reset) => out.extend_from_slice(reset.name()),
         Content::Whos(whos) => push_whos(out, &whos.items),
         Content::When(condition) => push_port(out, condition),

@@ -19,7 +19,7 @@ use crate::named_words::{authority_named, group_named, id_named, level_named};
 use crate::profile_names::{class_profile, dataset_named};
 use crate::value_kinds::ValueKind;
 use crate::value_words::{held, unless_stray, word_of};
-use crate::values::{Content, Ids, RESETS, Reset, Scope};
+use crate::values::{Content, Ids, ProfileName, RESETS, Reset, Scope};
 use access_levels::{Id, Text};
 use command_words::{Quoting, Tokens, is_spelled};
 use generic_names::Pattern;
@@ -187,10 +187,12 @@ pub fn one(
         ValueKind::Name => Ok(Content::Name(name_named(alloc, word)?.ok_or(bad)?)),
         ValueKind::Level => Ok(Content::Level(level_named(word).ok_or(bad)?)),
         ValueKind::DataSetProfile => {
-            Ok(Content::Profile(dataset_named(alloc, at.issuer, word)?.ok_or(bad)?))
+            let name = dataset_named(alloc, at.issuer, word)?.ok_or(bad)?;
+            Ok(Content::Profile(ProfileName::new(alloc, name)?))
         }
         ValueKind::ClassProfile => {
-            Ok(Content::Profile(class_profile(alloc, at.known.class, word)?.ok_or(bad)?))
+            let name = class_profile(alloc, at.known.class, word)?.ok_or(bad)?;
+            Ok(Content::Profile(ProfileName::new(alloc, name)?))
         }
         ValueKind::Reset => Ok(Content::Reset(reset_named(word).ok_or(bad)?)),
         ValueKind::Failures => Ok(failures_named(word).ok_or(bad)?),

@@ -4,6 +4,7 @@ use crate::log_options::LogClauses;
 use access_levels::{Condition, GroupAuthority, Id, Level, Text, Who};
 use generic_names::{MemberName, Pattern};
 use racf_profiles::{AuditRule, Members};
+use std::alloc::{AllocError, Global};
 use std::marker::Model;
 
 /// Names in the order in which they were given.
@@ -48,6 +49,42 @@ impl Model for MemberNames {
     ghost Value = { List Spelled };
 
     ghost view = { λ names. names.items.items };
+}
+
+/// The name of a profile, seen by contracts as that name. It lies in memory of its own, since it takes many times the
+/// room of all the other values, which are moved often.
+#[derive(Drop)]
+pub struct ProfileName {
+    /// The name.
+    name: Box<Pattern>,
+}
+
+impl Model for ProfileName {
+    ghost use Rattle.generic_names.specs.Spelled.{Spelled};
+
+    ghost Value = { Spelled };
+
+    ghost view = { λ profile. profile.name.value };
+}
+
+impl ProfileName {
+    ghost use Rattle.std.specs.Prelude.{◌≡◌, IfOk};
+
+    /// The name in memory of its own.
+    pub fn new(alloc: Global, name: Pattern) -> Result<ProfileName, AllocError>
+        ensures { IfOk result (λ profile. profile ≡ name) }
+    {
+        Ok(ProfileName {
+            name: Box::new(alloc, name)?,
+        })
+    }
+
+    /// The name.
+    pub fn pattern(&self) -> &Pattern
+        ensures { result.now ≡ self.now }
+    {
+        &self.name
+    }
 }
 
 /// Which access lists PERMIT empties.
@@ -97,7 +134,7 @@ pub enum Content {
     /// Which accesses are logged.
     Audit(AuditRule),
     /// The name of a profile.
-    Profile(Pattern),
+    Profile(ProfileName),
     /// Which access lists are emptied.
     Reset(Reset),
     /// Users and groups, or `*`.

@@ -5,3 +5,4 @@ mod TokenRows
 pub mod BeforeFirst
 pub mod LineWordLaws
 pub mod Openings
+pub mod Spellings

@@ -1,6 +1,6 @@
 //! How far quotes hide the bytes of a text.
 
-ghost use Rattle.std.specs.Prelude.{◌≡◌};
+ghost use Rattle.std.specs.Prelude.{◌≡◌, ℕ, true};
 
 use crate::bytes::is_blank;
 
@@ -56,6 +56,17 @@ impl Quoting {
         match self {
             Quoting::Inside(_) => true,
             Quoting::InName(_) => true,
+            _ => false,
+        }
+    }
+
+    /// Whether the byte is neither a quote nor a parenthesis and stands outside quotes: it changes nothing, as most bytes
+    /// of values.
+    pub fn passes(self, byte: u8) -> bool
+        ensures { result ≡ true → (place depth : ℕ) → (after self place byte ≡ self) × (depth_after self byte depth ≡ depth) }
+    {
+        match self {
+            Quoting::Outside => byte > b')' || byte < b'\'',
             _ => false,
         }
     }

@@ -97,8 +97,10 @@ pub fn group_end(outer: u32, bytes: &[u8]) -> Result<u32, u32>
         if !quoting.hides() && *byte == b')' && depth == 0 {
             return Ok(place);
         }
-        depth = quoting.depth_after(*byte, depth);
-        quoting = quoting.after(place, *byte);
+        if !quoting.passes(*byte) {
+            depth = quoting.depth_after(*byte, depth);
+            quoting = quoting.after(place, *byte);
+        }
         place += 1;
         rest = behind;
     }

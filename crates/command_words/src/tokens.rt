@@ -85,6 +85,9 @@ impl<'a> Tokens<'a> {
     pub fn split_first(&self) -> Option<(Piece<'a>, Tokens<'a>)>
         ensures { PieceAt result (tokens self.now) }
     {
+        if self.bytes.is_empty() {
+            return None;
+        }
         let (tied, place, bytes) = past_gaps(self.quoting, self.tied, self.place, self.bytes);
         piece_at(self.quoting, tied, place, bytes)
     }

@@ -124,10 +124,14 @@ fn left_of<'a>(word: &[u8], spelling: &'a [u8]) -> Option<&'a [u8]>
     Some(left)
 }
 
-/// Whether the word, folded to upper case, is this spelling.
+/// Whether the word, folded to upper case, is this spelling. Most spellings are told apart by their lengths.
+#[tactic(auto, using(crate::proofs::Spellings::other_length))]
 pub fn is_spelled(word: &[u8], spelling: &[u8]) -> bool
     ensures { result ≡ bytes_eq (map upper word.now) spelling.now }
 {
+    if word.len() != spelling.len() {
+        return false;
+    }
     match left_of(word, spelling) {
         Some(left) => left.is_empty(),
         None => false,

@@ -55,6 +55,7 @@ pub fn named(rows: &[Operand], place: u32, word: &[u8]) -> Result<usize, Syntax>
 }
 
 /// The row at a place of the table.
+#[inline(always)]
 fn row(rows: &[Operand], k: usize) -> Operand
     requires { k < length rows.now }
     ensures { result ≡ row_at rows.now k }
@@ -63,6 +64,7 @@ fn row(rows: &[Operand], k: usize) -> Operand
 }
 
 /// The row that the word at `place` names, if its operand wasn't given before.
+#[inline(always)]
 fn slot_of(
     rows: &[Operand],
     slots: &[Option<Content>],
@@ -83,6 +85,7 @@ fn slot_of(
 }
 
 /// An operand: its row and its value.
+#[inline(always)]
 fn operand(
     alloc: Global,
     at: &Scope,

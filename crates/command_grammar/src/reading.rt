@@ -41,6 +41,7 @@ fn verb_named(word: &[u8]) -> Option<Verb>
 }
 
 /// The word in a positional place, unless quotes open it that nothing closes.
+#[inline(always)]
 fn bounded<'a>(kind: ValueKind, place: u32, word: &'a [u8]) -> Result<&'a [u8], Syntax>
     requires { place + length word.now < 2 ^ 30 }
     ensures { Finds (λ x. x.now) result (bounded_in kind place word.now) }
@@ -66,6 +67,7 @@ fn takes_quotes(kind: ValueKind) -> bool
 type Held<'a> = (u32, &'a [u8], Option<u32>);
 
 /// The word in a positional place, and the text behind it.
+#[inline(always)]
 fn placed<'a>(
     rows: &[Operand],
     wanted: Position,
@@ -91,6 +93,7 @@ fn placed<'a>(
 }
 
 /// A positional word's value, and the text behind it.
+#[inline(always)]
 fn position<'a>(
     alloc: Global,
     at: &Scope,
@@ -106,6 +109,7 @@ fn position<'a>(
 }
 
 /// What is known behind a positional word.
+#[inline(always)]
 fn behind(at: &Scope, kind: ValueKind, content: &Content) -> Scope
     ensures { result ≡ scope_behind at.now kind content.now }
 {
@@ -131,6 +135,7 @@ fn behind(at: &Scope, kind: ValueKind, content: &Content) -> Scope
 }
 
 /// All positional words, what they tell, and the text behind them.
+#[inline(always)]
 fn positions<'a>(
     alloc: Global,
     at: Scope,
@@ -153,6 +158,7 @@ fn positions<'a>(
 }
 
 /// What follows the command's name, where the name is judged at once.
+#[inline(always)]
 fn plain(alloc: Global, at: Scope, verb: Verb, text: Tokens<'_>) -> Result<Parts, ParseFault>
     ensures { Gives generic result (plain_at at verb (tokens text.entry)) }
 {
@@ -168,6 +174,7 @@ fn plain(alloc: Global, at: Scope, verb: Verb, text: Tokens<'_>) -> Result<Parts
 }
 
 /// The word of a profile's name that is judged later, with its place, and the text behind it.
+#[inline(always)]
 fn late_word<'a>(rows: &[Operand], text: &Tokens<'a>) -> Result<(u32, &'a [u8], Tokens<'a>), Syntax>
     ensures { Finds (λ x. (x.0, x.1.now, tokens x.2)) result (late_word_in rows.now (tokens text.now)) }
 {
@@ -180,6 +187,7 @@ fn late_word<'a>(rows: &[Operand], text: &Tokens<'a>) -> Result<(u32, &'a [u8], 
 }
 
 /// The profile of the class that the operands name.
+#[inline(always)]
 fn late_name(
     alloc: Global,
     at: &Scope,
@@ -195,6 +203,7 @@ fn late_name(
 }
 
 /// What follows the command's name, where the profile's name is judged when the whole text was read.
+#[inline(always)]
 fn late(alloc: Global, at: Scope, verb: Verb, text: Tokens<'_>) -> Result<Parts, ParseFault>
     ensures { Gives generic result (late_at at verb (tokens text.entry)) }
 {
@@ -213,6 +222,7 @@ fn late(alloc: Global, at: Scope, verb: Verb, text: Tokens<'_>) -> Result<Parts,
 }
 
 /// What follows the command's name.
+#[inline(always)]
 fn body(alloc: Global, at: Scope, verb: Verb, text: Tokens<'_>) -> Result<Parts, ParseFault>
     ensures { Gives generic result (body_at at verb (tokens text.entry)) }
 {
@@ -234,6 +244,7 @@ fn begins_with_name(verb: Verb) -> bool
 }
 
 /// The text behind the first word, where the second may be a name in quotes.
+#[inline(always)]
 fn behind_first(text: &[u8]) -> Tokens<'_>
     requires { length text.now ≤ 30000 }
     ensures { tokens result ≡ rest_behind (tokens (of_naming_command text.now)) }
@@ -246,6 +257,7 @@ fn behind_first(text: &[u8]) -> Tokens<'_>
 }
 
 /// The text behind the command's name, which `rest` is where no word in quotes may follow.
+#[inline(always)]
 fn behind_verb<'a>(verb: Verb, text: &'a [u8], rest: Tokens<'a>) -> Tokens<'a>
     requires { length text.now ≤ 30000 }
     ensures { tokens result ≡ (if may_begin_quoted (positions_of verb) then rest_behind (tokens (of_naming_command text.now)) else tokens rest.entry) }
@@ -258,6 +270,7 @@ fn behind_verb<'a>(verb: Verb, text: &'a [u8], rest: Tokens<'a>) -> Tokens<'a>
 }
 
 /// At the beginning nothing but the issuer is known.
+#[inline(always)]
 fn begun(at: &Context) -> Scope
     ensures { result ≡ scope_begun at.now }
 {

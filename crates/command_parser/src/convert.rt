@@ -19,6 +19,7 @@ use generic_names::Pattern;
 use std::alloc::Global;
 
 /// The only positional word, where it is a name.
+#[inline(always)]
 fn only_id(words: &[Content]) -> Option<Id>
     ensures { result ≡ only_id_in words.now }
 {
@@ -29,6 +30,7 @@ fn only_id(words: &[Content]) -> Option<Id>
 }
 
 /// The only positional word, where it is a profile.
+#[inline(always)]
 fn only_profile(words: &[Content]) -> Option<Pattern>
     ensures { result ≡ only_profile_in words.now }
 {
@@ -39,6 +41,7 @@ fn only_profile(words: &[Content]) -> Option<Pattern>
 }
 
 /// The two positional words, where they are a class and a profile.
+#[inline(always)]
 fn class_and_profile(words: &[Content]) -> Option<(Id, Pattern)>
     ensures { result ≡ class_and_profile_in words.now }
 {

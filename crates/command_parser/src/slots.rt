@@ -38,6 +38,7 @@ impl Slots {
     }
 
     /// The next slot.
+    #[inline(always)]
     #[tactic(auto, unfolding(crate::specs::Fields::front, crate::specs::Fields::behind))]
     fn take(&mut self) -> Option<Content>
         ensures value { result ≡ front self.old }
@@ -47,6 +48,7 @@ impl Slots {
     }
 
     /// Whether an operand was given that takes no value.
+    #[inline(always)]
     pub fn flag(&mut self) -> bool
         ensures value { result ≡ flag_in (front self.old) }
         ensures rest { self.new ≡ behind self.old }
@@ -55,6 +57,7 @@ impl Slots {
     }
 
     /// The ID that is in front.
+    #[inline(always)]
     pub fn id(&mut self) -> Option<Id>
         ensures value { result ≡ id_in (front self.old) }
         ensures rest { self.new ≡ behind self.old }
@@ -66,6 +69,7 @@ impl Slots {
     }
 
     /// The group authority that is in front.
+    #[inline(always)]
     pub fn authority(&mut self) -> Option<GroupAuthority>
         ensures value { result ≡ authority_in (front self.old) }
         ensures rest { self.new ≡ behind self.old }
@@ -77,6 +81,7 @@ impl Slots {
     }
 
     /// The user's name that is in front.
+    #[inline(always)]
     pub fn name(&mut self) -> Option<Text>
         ensures value { result ≡ name_in (front self.old) }
         ensures rest { self.new ≡ behind self.old }
@@ -88,6 +93,7 @@ impl Slots {
     }
 
     /// The IDs in front; none where there is no list.
+    #[inline(always)]
     pub fn ids(&mut self, alloc: Global) -> Ids
         ensures value { result ≡ ids_in (front self.old) }
         ensures rest { self.new ≡ behind self.old }
@@ -101,6 +107,7 @@ impl Slots {
     }
 
     /// The access level that is in front.
+    #[inline(always)]
     pub fn level(&mut self) -> Option<Level>
         ensures value { result ≡ level_in (front self.old) }
         ensures rest { self.new ≡ behind self.old }
@@ -112,6 +119,7 @@ impl Slots {
     }
 
     /// The audit rule that is in front.
+    #[inline(always)]
     pub fn audit(&mut self) -> Option<AuditRule>
         ensures value { result ≡ audit_in (front self.old) }
         ensures rest { self.new ≡ behind self.old }
@@ -123,6 +131,7 @@ impl Slots {
     }
 
     /// The value of RESET that is in front.
+    #[inline(always)]
     pub fn reset(&mut self) -> Option<Reset>
         ensures value { result ≡ reset_in (front self.old) }
         ensures rest { self.new ≡ behind self.old }
@@ -134,6 +143,7 @@ impl Slots {
     }
 
     /// The port of entry that is in front.
+    #[inline(always)]
     pub fn when(&mut self) -> Option<Condition>
         ensures value { result ≡ when_in (front self.old) }
         ensures rest { self.new ≡ behind self.old }
@@ -145,6 +155,7 @@ impl Slots {
     }
 
     /// The users and groups in front; none where there is no list.
+    #[inline(always)]
     pub fn whos(&mut self, alloc: Global) -> Whos
         ensures value { result ≡ whos_in (front self.old) }
         ensures rest { self.new ≡ behind self.old }
@@ -158,6 +169,7 @@ impl Slots {
     }
 
     /// The members in front; none where there is no list.
+    #[inline(always)]
     pub fn members(&mut self, alloc: Global) -> Members
         ensures value { result ≡ members_in (front self.old) }
         ensures rest { self.new ≡ behind self.old }
@@ -171,6 +183,7 @@ impl Slots {
     }
 
     /// The words of LOGOPTIONS in front; none where there is no list.
+    #[inline(always)]
     pub fn log_clauses(&mut self, alloc: Global) -> LogClauses
         ensures value { result ≡ log_clauses_in (front self.old) }
         ensures rest { self.new ≡ behind self.old }
@@ -184,6 +197,7 @@ impl Slots {
     }
 
     /// The names of members in front; none where there is no list.
+    #[inline(always)]
     pub fn member_names(&mut self, alloc: Global) -> MemberNames
         ensures value { result ≡ member_names_in (front self.old) }
         ensures rest { self.new ≡ behind self.old }

@@ -21,6 +21,7 @@ fn is_in_quotes(quoting: Quoting, word: &[u8]) -> bool
 }
 
 /// The place of the first faulty byte of a word that isn't in quotes.
+#[inline(always)]
 fn fault_in(quoting: Quoting, place: u32, word: &[u8]) -> Option<u32>
     requires { place + length word.now < 2 ^ 30 }
     ensures { result ≡ fault_in quoting place word.now }
@@ -32,6 +33,7 @@ fn fault_in(quoting: Quoting, place: u32, word: &[u8]) -> Option<u32>
 }
 
 /// The word, unless it has a faulty byte: that is refused at its place.
+#[inline(always)]
 pub fn clean<'a>(quoting: Quoting, place: u32, word: &'a [u8]) -> Result<&'a [u8], Syntax>
     requires { place + length word.now < 2 ^ 30 }
     ensures { Finds (λ x. x.now) result (clean quoting place word.now) }
@@ -56,6 +58,7 @@ pub fn refused_at(quoting: Quoting, item: ValuedWord<'_>) -> u32
 }
 
 /// A word that has no value, with its place.
+#[inline(always)]
 pub fn word_of<'a>(quoting: Quoting, item: ValuedWord<'a>) -> Result<(u32, &'a [u8]), Syntax>
     requires { IsValuedInReach (seen_valued item) }
     ensures { Finds (λ x. (x.0, x.1.now)) result (word_in quoting (seen_valued item.entry)) }
@@ -75,6 +78,7 @@ pub fn stray(quoting: Quoting, rest: &Tokens<'_>) -> Option<u32>
 }
 
 /// The value, unless something stands behind its word: that is refused at its place.
+#[inline(always)]
 pub fn unless_stray<T: Drop>(stray: Option<u32>, value: T) -> Result<T, Syntax>
     ensures { Finds (λ x. x) result (unless_stray_in stray value) }
 {
@@ -86,6 +90,7 @@ pub fn unless_stray<T: Drop>(stray: Option<u32>, value: T) -> Result<T, Syntax>
 
 /// The word of a value of one word: its place, its bytes, and the place of what stands behind it. Where there is no
 /// word the value is refused at `place`.
+#[inline(always)]
 pub fn held<'a>(
     quoting: Quoting,
     place: u32,

@@ -9,6 +9,7 @@ use crate::bytes::{is_gap, is_word};
 use crate::quoting::Quoting;
 
 /// The text without the separators in front: whether it is still tied to the word before, its place, its bytes.
+#[inline(always)]
 pub fn past_gaps(
     quoting: Quoting,
     mut tied: bool,
@@ -32,6 +33,7 @@ pub fn past_gaps(
 }
 
 /// How many bytes from the front on still belong to a word.
+#[inline(always)]
 pub fn word_len(quoting: Quoting, place: u32, bytes: &[u8]) -> usize
     requires { place + length bytes.now < 2 ^ 30 }
     ensures value { result ≡ letters_of quoting place bytes.now }
@@ -108,6 +110,7 @@ pub fn group_end(outer: u32, bytes: &[u8]) -> Result<u32, u32>
 }
 
 /// The bytes from the n-th on.
+#[inline(always)]
 pub fn behind(bytes: &[u8], n: usize) -> &[u8]
     requires { n ≤ length bytes.now }
     ensures { result.now ≡ drop n bytes.now }
@@ -116,6 +119,7 @@ pub fn behind(bytes: &[u8], n: usize) -> &[u8]
 }
 
 /// The first n bytes.
+#[inline(always)]
 pub fn front(bytes: &[u8], n: usize) -> &[u8]
     requires { n ≤ length bytes.now }
     ensures { result.now ≡ take n bytes.now }

@@ -68,6 +68,7 @@ impl<'a> Tokens<'a> {
     }
 
     /// All of the bytes, whose first place is 1.
+    #[inline(always)]
     fn from_start(quoting: Quoting, bytes: &'a [u8]) -> Tokens<'a>
         requires { length bytes.now < 2 ^ 29 }
         ensures { result ≡ record { quoting = quoting; tied = false; place = 1; bytes = bytes.now } }
@@ -81,6 +82,7 @@ impl<'a> Tokens<'a> {
     }
 
     /// The first piece, and the text behind it.
+    #[inline(always)]
     #[tactic(auto, unfolding(crate::specs::Tokens::tokens))]
     pub fn split_first(&self) -> Option<(Piece<'a>, Tokens<'a>)>
         ensures { PieceAt result (tokens self.now) }
@@ -93,6 +95,7 @@ impl<'a> Tokens<'a> {
     }
 
     /// Whether a value of the word in front comes next.
+    #[inline(always)]
     #[tactic(auto, unfolding(crate::specs::Tokens::tokens))]
     pub fn opens_value(&self) -> bool
         ensures { result ≡ value_opens (tokens self.now) }
@@ -103,6 +106,7 @@ impl<'a> Tokens<'a> {
 }
 
 /// Whether a value of the word in front begins at the first byte, which parts no words.
+#[inline(always)]
 fn opens_at(tied: bool, bytes: &[u8]) -> bool
     ensures { result ≡ opens_in_front tied bytes.now }
 {
@@ -113,6 +117,7 @@ fn opens_at(tied: bool, bytes: &[u8]) -> bool
 }
 
 /// The piece that begins at the first byte, which parts no words.
+#[inline(always)]
 fn piece_at<'a>(
     quoting: Quoting,
     tied: bool,
@@ -132,6 +137,7 @@ fn piece_at<'a>(
 }
 
 /// A closing parenthesis, behind which `rest` stands.
+#[inline(always)]
 #[tactic(auto, unfolding(crate::specs::Tokens::tokens))]
 fn closing<'a>(quoting: Quoting, place: u32, rest: &'a [u8]) -> (Piece<'a>, Tokens<'a>)
     requires { place + length rest.now + 1 < 2 ^ 30 }
@@ -150,6 +156,7 @@ fn closing<'a>(quoting: Quoting, place: u32, rest: &'a [u8]) -> (Piece<'a>, Toke
 }
 
 /// A value in parentheses, behind whose opening one `rest` stands.
+#[inline(always)]
 #[tactic(auto, unfolding(crate::specs::Tokens::tokens))]
 fn group<'a>(quoting: Quoting, tied: bool, place: u32, rest: &'a [u8]) -> (Piece<'a>, Tokens<'a>)
     requires { place + length rest.now + 1 < 2 ^ 30 }
@@ -185,6 +192,7 @@ fn group<'a>(quoting: Quoting, tied: bool, place: u32, rest: &'a [u8]) -> (Piece
 }
 
 /// A word that begins with `byte`, behind which `rest` stands; both are `bytes`.
+#[inline(always)]
 #[tactic(auto, unfolding(crate::specs::Tokens::tokens))]
 fn word<'a>(
     quoting: Quoting,

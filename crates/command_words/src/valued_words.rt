@@ -28,6 +28,7 @@ pub enum ValuedWord<'a> {
 
 impl<'a> Tokens<'a> {
     /// The first word with its value, and the text behind it.
+    #[inline(always)]
     pub fn split_valued(&self) -> Option<(ValuedWord<'a>, Tokens<'a>)>
         ensures valued_words { MatchOption result (valued_words (tokens self.now) ≡ []) (λ t. valued_words (tokens self.now) ≡ seen_valued t.0 ∷ valued_words (tokens t.1)) }
         ensures reach { IfSome result (λ t. IsValuedInReach (seen_valued t.0)) }
@@ -43,6 +44,7 @@ impl<'a> Tokens<'a> {
 }
 
 /// The word with the value behind it, which `rest` may begin with. No word that stands there instead is scanned.
+#[inline(always)]
 #[tactic(auto, using(crate::proofs::Openings::alone_before))]
 fn behind_word<'a>(place: u32, word: &'a [u8], rest: Tokens<'a>) -> (ValuedWord<'a>, Tokens<'a>)
     requires { place + length word.now < 2 ^ 30 }
@@ -64,6 +66,7 @@ fn behind_word<'a>(place: u32, word: &'a [u8], rest: Tokens<'a>) -> (ValuedWord<
 
 /// The place of the first faulty byte of a word that begins at `place`. Where quotes count, those inside them are not
 /// looked at.
+#[inline(always)]
 pub fn faulty_at(quoting: Quoting, place: u32, word: &[u8]) -> Option<u32>
     requires { place + length word.now < 2 ^ 30 }
     ensures { result ≡ first_faulty quoting place word.now }
@@ -108,6 +111,7 @@ fn quoted_fault(mut quoting: Quoting, mut place: u32, word: &[u8]) -> Option<u32
 }
 
 /// What is left of the spelling behind the word, where the word, folded to upper case, begins it.
+#[inline(always)]
 fn left_of<'a>(word: &[u8], spelling: &'a [u8]) -> Option<&'a [u8]>
     ensures begins { is_some result ≡ starts_with nat_eq spelling.now (map upper word.now) }
     ensures whole { is_nothing (option_copied result) ≡ bytes_eq (map upper word.now) spelling.now }

@@ -38,6 +38,7 @@ impl Parting {
     }
 
     /// The text without what parts words in front.
+    #[inline(always)]
     pub fn past(self, text: &[u8]) -> &[u8]
         ensures { result.now ≡ past self text.now }
     {
@@ -52,6 +53,7 @@ impl Parting {
     }
 
     /// The index of the first byte that ends a word.
+    #[inline(always)]
     fn first_end(self, text: &[u8]) -> Option<usize>
         ensures { result ≡ position (ends self) text.now }
     {
@@ -59,6 +61,7 @@ impl Parting {
     }
 
     /// The text as far as its first word goes, where it begins with one.
+    #[inline(always)]
     pub fn up_to_end(self, text: &[u8]) -> &[u8]
         ensures { result.now ≡ before_first (ends self) text.now }
     {
@@ -69,6 +72,7 @@ impl Parting {
     }
 
     /// The word that the text begins with.
+    #[inline(always)]
     pub fn first_word(self, text: &[u8]) -> &[u8]
         ensures { result.now ≡ first_word self text.now }
     {

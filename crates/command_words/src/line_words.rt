@@ -53,6 +53,7 @@ impl<'a> LineWords<'a> {
     }
 
     /// The first word, and those behind it.
+    #[inline(always)]
     pub fn split_first(&self) -> Option<(LineWord<'a>, LineWords<'a>)>
         ensures { SplitsFirst self.now result }
     {
@@ -103,6 +104,7 @@ fn word_length(bytes: &[u8]) -> usize
 }
 
 /// The word that the bytes begin with, which is at that place, and what is behind it.
+#[inline(always)]
 fn first_word<'a>(place: u32, bytes: &'a [u8]) -> Option<(LineWord<'a>, LineWords<'a>)>
     requires reach { place + length bytes.now < 2 ^ 30 }
     requires front { BeginsWithNoBlank bytes.now }

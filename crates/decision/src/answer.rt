@@ -18,6 +18,7 @@ pub struct Answer {
 
 impl Answer {
     /// Access is given.
+    #[inline(always)]
     pub(crate) fn allowed(rule: Rule, found: Level) -> Answer
         ensures { result ≡ else_case rule 0 found }
     {
@@ -25,6 +26,7 @@ impl Answer {
     }
 
     /// The decision without a profile.
+    #[inline(always)]
     pub(crate) fn decision(&self, generation: u64) -> Decision
         ensures { result ≡ decision_of generation None self.now }
     {
@@ -40,6 +42,7 @@ impl Answer {
     }
 
     /// The decision on a profile, with its name and what it asks to be logged.
+    #[inline(always)]
     pub(crate) fn decision_on(&self, facts: &Facts<'_>, generation: u64) -> Decision
         ensures { (p : Profile) → AreFacts p facts.now → result ≡ decision_of generation (Some p) self.now }
     {
@@ -56,6 +59,7 @@ impl Answer {
 }
 
 /// What the profile asks to be logged.
+#[inline(always)]
 fn audits_of(facts: &Facts<'_>) -> Audits
     ensures { (p : Profile) → AreFacts p facts.now → result ≡ audits_of p }
 {
@@ -66,6 +70,7 @@ fn audits_of(facts: &Facts<'_>) -> Audits
 }
 
 /// Whether the rule is that of a profile that only warns.
+#[inline(always)]
 fn is_warning(rule: &Rule) -> bool
     ensures { result ≡ is_warning rule.now }
 {

@@ -12,6 +12,7 @@ use seclabels::{Checks, Classified, Clearance, Label, check};
 
 /// Why the classification check of a profile fails, if it does. What isn't classified bars nobody, and then nothing is
 /// looked up.
+#[inline(always)]
 pub(crate) fn classified(
     image: &Image,
     acee: &Acee,
@@ -27,6 +28,7 @@ pub(crate) fn classified(
 }
 
 /// Whether the profile has no level, no category and no label.
+#[inline(always)]
 fn is_unclassified(facts: &Facts<'_>) -> bool
     ensures { (p : Profile) → AreFacts p facts.now → result ≡ true → (p.level ≡ 0) × ((p.categories ≡ 0) × (p.label ≡ None)) }
 {

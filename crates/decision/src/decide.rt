@@ -66,6 +66,7 @@ pub fn fastauth(image: &Image, acee: &Acee, request: &Request) -> Decision
 }
 
 /// The decision of the profile that covers the name, or that of the answer where none does.
+#[inline(always)]
 fn by_profile(image: &Image, acee: &Acee, request: &Request, without: &Answer) -> Decision
     ensures { result ≡ decided_after image.now.state image.now.generation acee.now request.now.class request.now.name request.now.asked None without.now (profile_for image.now.state request.now.class request.now.name) }
 {
@@ -82,6 +83,7 @@ fn by_profile(image: &Image, acee: &Acee, request: &Request, without: &Answer) -
 }
 
 /// The answer that comes before a profile is asked.
+#[inline(always)]
 fn class_answer(image: &Image, acee: &Acee, request: &Request) -> Option<Answer>
     ensures { result ≡ first_answer (cases_of_class image.now.state.rows acee.now request.now.class request.now.name request.now.asked) }
 {
@@ -115,6 +117,7 @@ fn global_answer(image: &Image, acee: &Acee, request: &Request) -> Option<Answer
 }
 
 /// The answer that comes before a profile is asked, in FASTAUTH.
+#[inline(always)]
 fn listed_class_answer(image: &Image, class: Id) -> Option<Answer>
     ensures { result ≡ first_answer (fast_cases_of_class image.now.state.rows class) }
 {
@@ -127,6 +130,7 @@ fn listed_class_answer(image: &Image, class: Id) -> Option<Answer>
 }
 
 /// Nothing is decided.
+#[inline(always)]
 fn undecided(rule: Rule) -> Answer
     ensures { result ≡ else_case rule 4 Level.NoAccess }
 {
@@ -138,6 +142,7 @@ fn undecided(rule: Rule) -> Answer
 }
 
 /// The answer where no profile covers the name.
+#[inline(always)]
 fn without_profile(options: &Options, class: Id) -> Answer
     ensures { result ≡ answer_without_profile options.now class }
 {
@@ -153,6 +158,7 @@ fn without_profile(options: &Options, class: Id) -> Answer
 }
 
 /// The answer of the profile that covers the name.
+#[inline(always)]
 fn with_profile(image: &Image, acee: &Acee, request: &Request, facts: &Facts<'_>) -> Answer
     ensures { (p : Profile) → AreFacts p facts.now → result ≡ answer_with_profile (classified image.now.state acee.now p request.now.asked) image.now.state.rows acee.now request.now.class request.now.name request.now.asked p }
 {
@@ -167,6 +173,7 @@ fn with_profile(image: &Image, acee: &Acee, request: &Request, facts: &Facts<'_>
 }
 
 /// The answer of the profile, where the classification check passes.
+#[inline(always)]
 fn unclassified(image: &Image, acee: &Acee, request: &Request, facts: &Facts<'_>) -> Answer
     ensures { (p : Profile) → AreFacts p facts.now → result ≡ answer_with_profile None image.now.state.rows acee.now request.now.class request.now.name request.now.asked p }
 {
@@ -191,6 +198,7 @@ fn unclassified(image: &Image, acee: &Acee, request: &Request, facts: &Facts<'_>
 }
 
 /// Whether OPERATIONS may give access: the class allows it, and there is no entry for the user or his groups.
+#[inline(always)]
 fn may_operate(class: Id, found: &Found) -> bool
     ensures { result ≡ (allows_operations class && is_open found.now) }
 {
@@ -198,6 +206,7 @@ fn may_operate(class: Id, found: &Found) -> bool
 }
 
 /// The answer where nothing gives access: a profile that only warns gives it then.
+#[inline(always)]
 fn last_case(warning: bool, standing: Level) -> Answer
     ensures { result ≡ unwrap_or (case warning Rule.Warning 0 standing) (else_case Rule.Insufficient 8 standing) }
 {
@@ -213,6 +222,7 @@ fn last_case(warning: bool, standing: Level) -> Answer
 }
 
 /// Whether the request is for the user's own data.
+#[inline(always)]
 fn is_own(acee: &Acee, class: Id, name: &Resource) -> bool
     ensures { result ≡ (is_dataset class && bytes_eq (first_qualifier name.now.text) acee.now.user) }
 {
@@ -220,6 +230,7 @@ fn is_own(acee: &Acee, class: Id, name: &Resource) -> bool
 }
 
 /// Whether it is the class of data sets.
+#[inline(always)]
 fn is_dataset(class: Id) -> bool
     ensures { result ≡ is_dataset class }
 {

@@ -13,6 +13,7 @@ use acee::Acee;
 use racf_profiles::Options;
 
 /// What a standard list gives to the user: by all his groups while GRPLIST is on, else by the current one alone.
+#[inline(always)]
 pub(crate) fn listed(options: &Options, acee: &Acee, list: &[Entry]) -> Found
     ensures { result ≡ lists.answered acee.now.user (considered options.now acee.now) acee.now.attributes.restricted list.now }
 {
@@ -25,6 +26,7 @@ pub(crate) fn listed(options: &Options, acee: &Acee, list: &[Entry]) -> Found
 }
 
 /// Whether neither the user nor one of his groups has an entry.
+#[inline(always)]
 pub(crate) fn is_open(found: &Found) -> bool
     ensures { result ≡ is_open found.now }
 {
@@ -32,6 +34,7 @@ pub(crate) fn is_open(found: &Found) -> bool
 }
 
 /// The answer of the standard list and of the universal access, where one of them suffices.
+#[inline(always)]
 pub(crate) fn entry_case(
     found: &Found,
     restricted: bool,
@@ -56,6 +59,7 @@ pub(crate) fn entry_case(
 }
 
 /// The answer of the universal access, where it suffices.
+#[inline(always)]
 fn uacc_case(restricted: bool, uacc: Level, asked: Level) -> Option<Answer>
     ensures { result ≡ uacc_case restricted uacc asked }
 {
@@ -67,6 +71,7 @@ fn uacc_case(restricted: bool, uacc: Level, asked: Level) -> Option<Answer>
 }
 
 /// The standing level: the entry's, and without one what everybody has.
+#[inline(always)]
 pub(crate) fn standing(found: &Found, restricted: bool, uacc: Level) -> Level
     ensures { result ≡ standing_with found.now restricted uacc }
 {
@@ -78,6 +83,7 @@ pub(crate) fn standing(found: &Found, restricted: bool, uacc: Level) -> Level
 }
 
 /// The level, or NONE for a RESTRICTED user.
+#[inline(always)]
 fn unless_restricted(restricted: bool, level: Level) -> Level
     ensures { result ≡ (if restricted then Level.NoAccess else level) }
 {
@@ -85,6 +91,7 @@ fn unless_restricted(restricted: bool, level: Level) -> Level
 }
 
 /// The higher of two levels.
+#[inline(always)]
 fn higher(level: Level, other: Level) -> Level
     ensures { result ≡ higher level other }
 {
@@ -96,6 +103,7 @@ fn higher(level: Level, other: Level) -> Level
 }
 
 /// The answer of the conditional list, where its entry suffices.
+#[inline(always)]
 pub(crate) fn conditional_case(
     options: &Options,
     acee: &Acee,
@@ -123,6 +131,7 @@ fn place_that_counts(options: &Options, acee: &Acee, list: &[CondEntry]) -> Opti
 }
 
 /// The answer of the conditional entry at a place, where it suffices.
+#[inline(always)]
 fn entry_at(list: &[CondEntry], place: usize, asked: Level) -> Option<Answer>
     ensures { result ≡ with (slice_get list.now place) (λ entry. case (suffices entry.level asked) (Rule.Conditional entry.condition) 0 entry.level) }
 {

@@ -20,8 +20,8 @@ goes step history = then_comes (step history.now) history
 abbrev pub Now : Option History → (Moment → Type 0) → Type 0
 Now told P = (history : History) → told ≡ Some history → P history.now
 
--- What a call that failed may have done: nothing; or all that it was to do is in doubt, and a read gives whatever a crash
--- might leave.
+-- What a call that failed may have done: nothing; or all that it was to do is in doubt, and a read gives whatever a
+-- crash might leave.
 pub data IsFaulty (step : Moment → Moment) (old new : History) : Type 0 where
   Nothing : new ≡ old → IsFaulty step old new
   InDoubt : (bytes : List ℕ) → IsImage (step old.now) bytes → new ≡ then_comes (reads_as bytes (step old.now)) old → IsFaulty step old new

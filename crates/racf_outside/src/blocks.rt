@@ -83,6 +83,7 @@ impl<S: Source> Blocks<S> {
     }
 
     /// The bytes at hand.
+    #[inline(always)]
     pub(crate) fn ready(&self) -> &[u8]
         ensures { result.now ≡ self.now.ready }
     {
@@ -90,6 +91,7 @@ impl<S: Source> Blocks<S> {
     }
 
     /// Leaves the first `count` of the bytes at hand behind.
+    #[inline(always)]
     pub(crate) fn pass(&mut self, count: usize)
         requires { count ≤ length self.old.ready }
         ensures ready { self.new.ready ≡ drop count self.old.ready }
@@ -101,6 +103,7 @@ impl<S: Source> Blocks<S> {
 
     /// Leaves the first `size` of the bytes at hand behind, and the one behind them, and gives those first where they
     /// lie.
+    #[inline(always)]
     pub(crate) fn take_line(&mut self, size: usize) -> &[u8]
         requires { size < length self.old.ready }
         ensures bytes { result.now ≡ take size self.old.ready }

@@ -136,8 +136,8 @@ impl<R: Files<File = File> + Drop> Model for FileDisk<R> {
 }
 
 impl<R: Files<File = File> + Drop> FileDisk<R> {
-    /// Opens the file at this path, a relative one from the folder that the program runs in, and syncs it. It is an error
-    /// where the file is locked, or is no regular file.
+    /// Opens the file at this path, a relative one from the folder that the program runs in, and syncs it. It is an
+    /// error where the file is locked, or is no regular file.
     pub fn open(alloc: Global, runtime: R, path: &str) -> io::Result<FileDisk<R>>
         ensures { IfOk result (λ disk. disk ≡ 0) }
     {

@@ -1,6 +1,6 @@
 //! The outside of the security manager: sources that bytes come from, sinks that bytes go to, the shelf of named inputs
-//! and outputs, the lines of an input, and disks. Each object counts its faults, and a call fails only where the count of
-//! its object rose.
+//! and outputs, the lines of an input, and disks. Each object counts its faults, and a call fails only where the count
+//! of its object rose.
 //!
 //! The principal type is `Shelf`: `FileShelf` is that of real files, `MemoryShelf` that of an embedder or a test, which
 //! tells what was written. `racf_run` works a stream between an input and an output of either.

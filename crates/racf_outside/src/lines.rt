@@ -73,6 +73,7 @@ impl<S: Source> Lines<S> {
 
     /// The next line, or the fault in its place. Takes no memory. Behind the end of the input each call answers `End`;
     /// behind a fault a call goes on after the bytes that were taken.
+    #[inline(always)]
     pub fn next(&mut self) -> Result<Line<'_>, LineFault>
         ensures* after { sem 𝓛 (Rests (the_row S.row S.Source) self.entry
             (λ new. Nexts result self.old new × (self.old.faults ≤ new.faults) × (new.passed ≤ 2 ^ 28)
@@ -90,6 +91,7 @@ impl<S: Source> Lines<S> {
     }
 
     /// Whether the end of the next line is at hand. Then the next call of `next` doesn't read the source.
+    #[inline(always)]
     pub fn holds_line(&self) -> bool
         ensures { result ≡ has_feed self.now.held }
     {
@@ -107,6 +109,7 @@ impl<S: Source> Lines<S> {
 }
 
 /// The bytes without the one carriage return that may end them.
+#[inline(always)]
 fn without_return(bytes: &[u8]) -> &[u8]
     ensures { result.now ≡ strip_last 13 bytes.now }
 {

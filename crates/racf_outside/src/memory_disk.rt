@@ -54,8 +54,8 @@ impl Model for MemoryDisk {
 }
 
 impl MemoryDisk {
-    /// A disk of these bytes, all of them durable, of whose calls those of the numbers `failing`, counted from 1, are to
-    /// fail. Takes the memory for a copy of the bytes.
+    /// A disk of these bytes, all of them durable, of whose calls those of the numbers `failing`, counted from 1, are
+    /// to fail. Takes the memory for a copy of the bytes.
     pub fn new(alloc: Global, bytes: Vec<u8>, failing: Vec<u64>) -> Result<MemoryDisk, AllocError>
         ensures first { IfOk result (λ disk. disk.first ≡ bytes.items) }
         ensures steps { IfOk result (λ disk. disk.steps ≡ []) }

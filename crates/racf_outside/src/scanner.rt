@@ -90,6 +90,7 @@ impl<S: Source> Scanner<S> {
 
     /// How many bytes the next line has, its line feed not counted, where it lies whole in the bytes at hand and isn't
     /// too long.
+    #[inline(always)]
     pub(crate) fn line_at_hand(&self) -> Option<usize>
         ensures { IfSome result (LiesAtHand self.now) }
     {
@@ -101,6 +102,7 @@ impl<S: Source> Scanner<S> {
     }
 
     /// Takes the next line, which lies whole in the bytes at hand, and gives its `size` bytes where they lie.
+    #[inline(always)]
     pub(crate) fn take_line(&mut self, size: usize) -> &[u8]
         requires { LiesAtHand self.old size }
         ensures bytes { result.now ≡ take size self.old.held }
@@ -174,6 +176,7 @@ impl<S: Source> Scanner<S> {
     }
 
     /// Whether a line ends in the bytes at hand.
+    #[inline(always)]
     pub(crate) fn holds_line(&self) -> bool
         ensures { result ≡ has_feed self.now.held }
     {
@@ -195,6 +198,7 @@ impl<S: Source> Scanner<S> {
 }
 
 /// The place of the first line feed.
+#[inline(always)]
 fn find_feed(bytes: &[u8]) -> Option<usize>
     ensures none { IfNone result (NoFeed bytes.now) }
     ensures some { IfSome result (IsFirstFeed bytes.now) }
@@ -203,6 +207,7 @@ fn find_feed(bytes: &[u8]) -> Option<usize>
 }
 
 /// Whether a line feed stands among the bytes.
+#[inline(always)]
 fn has_feed(bytes: &[u8]) -> bool
     ensures { result ≡ has_feed bytes.now }
 {

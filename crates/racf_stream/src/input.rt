@@ -17,6 +17,7 @@ use std::alloc::Global;
 /// The next statement; `None` where the next line is skipped. The lines of a command are joined. What is gathered is
 /// written before the source is read; where that fails, no statement is looked for. The line of a request or of an
 /// issuer is copied into `room`, whatever that holds, and takes memory only where it has too little.
+#[inline(always)]
 pub fn next_statement<S: Source, O: Sink>(
     kind: Kind,
     alloc: Global,
@@ -45,6 +46,7 @@ pub fn next_statement<S: Source, O: Sink>(
 }
 
 /// What the next line is behind the front of a command, or anew; at the input's end the command that is begun.
+#[inline(always)]
 fn next_role<S: Source>(
     kind: Kind,
     alloc: Global,
@@ -73,6 +75,7 @@ fn next_role<S: Source>(
 }
 
 /// What a line of text is.
+#[inline(always)]
 fn read_role(
     kind: Kind,
     alloc: Global,

@@ -41,6 +41,7 @@ pub enum LineRole {
 
 /// What a line of text is behind the front of a command, or anew. Takes memory for a command's text; that of a request
 /// goes into `room`.
+#[inline(always)]
 pub(crate) fn role_of(
     alloc: Global,
     kind: Kind,
@@ -57,6 +58,7 @@ pub(crate) fn role_of(
 }
 
 /// What a line of text is that begins anew.
+#[inline(always)]
 fn fresh_role(
     alloc: Global,
     kind: Kind,

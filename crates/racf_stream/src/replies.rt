@@ -43,6 +43,7 @@ impl Replies {
     }
 
     /// Whether nothing is gathered, so that the end of the next line needn't be looked for.
+    #[inline(always)]
     fn has_none(&self) -> bool
         ensures { IsTrue result → self.now ≡ [] }
     {
@@ -81,6 +82,7 @@ impl Replies {
 }
 
 /// Writes what is gathered where the source will be read for the next line.
+#[inline(always)]
 pub fn write_before_read<S: Source, O: Sink>(
     lines: &Lines<S>,
     replies: &mut Replies,

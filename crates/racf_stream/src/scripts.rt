@@ -126,6 +126,7 @@ fn run<S: Source, O: Sink, D: Disk>(
 
 /// Processes a statement, where there is one, and gathers its text. The memory of the statement's own text is left in
 /// `room`, for that of the next one.
+#[inline(always)]
 fn process_statement<D: Disk>(
     alloc: Global,
     stream: &mut Stream<D>,
@@ -146,6 +147,7 @@ fn process_statement<D: Disk>(
 
 /// Processes a statement, and gathers its text. Where memory is short, nothing more is gathered, and nothing else has
 /// changed.
+#[inline(always)]
 fn gather<D: Disk>(
     alloc: Global,
     stream: &mut Stream<D>,
@@ -165,6 +167,7 @@ fn gather<D: Disk>(
 }
 
 /// Writes what is gathered where a command was accepted, so that its reply doesn't wait.
+#[inline(always)]
 fn acknowledge<O: Sink, D: Disk>(
     number: u64,
     stream: &Stream<D>,

@@ -58,6 +58,7 @@ impl LineText {
     }
 
     /// These bytes, copied into `room`, which is left without memory. Whatever that held is gone.
+    #[inline(always)]
     fn copied(alloc: Global, text: &[u8], room: &mut Vec<u8>) -> Result<LineText, AllocError>
         ensures { IfOk result (λ line. line ≡ text.now) }
     {
@@ -79,6 +80,7 @@ impl Statement {
     ghost use Rattle.racf_stream.specs.Statements.{request_of};
 
     /// What the line of a request or of an issuer asks for. Its text is copied into `room`.
+    #[inline(always)]
     #[tactic(auto, unfolding(crate::specs::Statements::request_of))]
     pub(crate) fn request(
         alloc: Global,
@@ -95,6 +97,7 @@ impl Statement {
     }
 
     /// The memory of its text, for that of a later one.
+    #[inline(always)]
     pub(crate) fn into_room(self, alloc: Global) -> Vec<u8> {
         match self {
             Statement::Command(line) | Statement::Issuer(line) | Statement::Request(line) => {
@@ -106,6 +109,7 @@ impl Statement {
 }
 
 /// A line of blanks and tabs alone, or a comment, which `/*` begins.
+#[inline(always)]
 pub fn is_skipped(text: &[u8]) -> bool
     ensures { result ≡ is_skipped text.now }
 {
@@ -113,6 +117,7 @@ pub fn is_skipped(text: &[u8]) -> bool
 }
 
 /// A line of blanks and tabs alone.
+#[inline(always)]
 fn is_blank_line(text: &[u8]) -> bool
     ensures { result ≡ list_all is_blank_byte text.now }
 {
@@ -120,6 +125,7 @@ fn is_blank_line(text: &[u8]) -> bool
 }
 
 /// A line that is a statement by itself, and never goes on in the next line.
+#[inline(always)]
 pub(crate) fn stands_alone(kind: Kind, text: &[u8]) -> bool
     ensures { result ≡ stands_alone kind text.now }
 {
@@ -130,6 +136,7 @@ pub(crate) fn stands_alone(kind: Kind, text: &[u8]) -> bool
 }
 
 /// The line of a request or of the issuer: its first word, folded to upper case, says so.
+#[inline(always)]
 #[tactic(auto, unfolding(crate::specs::Statements::is_request))]
 fn is_request(text: &[u8]) -> bool
     ensures { result ≡ is_request text.now }
@@ -144,6 +151,7 @@ fn is_request(text: &[u8]) -> bool
 }
 
 /// The line that names the issuer.
+#[inline(always)]
 fn is_issuer(text: &[u8]) -> bool
     ensures { result ≡ is_issuer text.now }
 {

@@ -87,6 +87,7 @@ impl<D: Disk> Stream<D> {
     }
 
     /// Whether a disk failed a command.
+    #[inline(always)]
     pub(crate) fn has_failed(&self) -> bool
         ensures { result ≡ self.now.state.halted }
     {
@@ -94,6 +95,7 @@ impl<D: Disk> Stream<D> {
     }
 
     /// How many commands were accepted.
+    #[inline(always)]
     pub(crate) fn number(&self) -> u64
         ensures { result ≡ self.now.state.position.image.generation }
     {
@@ -167,6 +169,7 @@ impl<D: Disk> Stream<D> {
     }
 
     /// A request, answered by what its line says.
+    #[inline(always)]
     #[tactic(auto, unfolding(crate::specs::Stream::request))]
     fn request(
         &mut self,
@@ -182,6 +185,7 @@ impl<D: Disk> Stream<D> {
     }
 
     /// Answers a line of a request at the position as it stands.
+    #[inline(always)]
     fn answer(
         &mut self,
         alloc: Global,

@@ -84,6 +84,7 @@ fn write_numbered(number: u64, words: &[u8], out: &mut Vec<u8>) -> Result<(), Al
 }
 
 /// Writes a number, and a blank behind it.
+#[inline(always)]
 #[tactic(auto, using(audit_records::proofs::Keeping::keeps_on))]
 fn write_front(number: u64, out: &mut Vec<u8>) -> Result<(), AllocError>
     ensures text { OnOk result (out.new.items ≡ out.old.items ++ (decimal number ++ codes " ")) }
@@ -106,6 +107,7 @@ pub(crate) fn write_never(number: u64, out: &mut Vec<u8>) -> Result<(), AllocErr
 }
 
 /// Writes a number in decimal.
+#[inline(always)]
 #[tactic(auto, using(audit_records::proofs::Keeping::keeps_on))]
 fn write_number(number: u64, out: &mut Vec<u8>) -> Result<(), AllocError>
     ensures text { OnOk result (out.new.items ≡ out.old.items ++ decimal number) }
@@ -203,6 +205,7 @@ fn write_decision(
 }
 
 /// Writes the rule, and what belongs to it.
+#[inline(always)]
 #[tactic(auto, using(audit_records::proofs::Keeping::keeps_on))]
 fn write_rule(
     decision: &Decision,
@@ -330,6 +333,7 @@ fn write_category(number: u8, options: &Options, out: &mut Vec<u8>) -> Result<()
 }
 
 /// Writes the name of the profile, where there is one.
+#[inline(always)]
 #[tactic(auto, using(audit_records::proofs::Keeping::keeps_on))]
 fn write_profile(profile: &Option<Pattern>, out: &mut Vec<u8>) -> Result<(), AllocError>
     ensures text { OnOk result (out.new.items ≡ out.old.items ++ profile_words profile.now) }
@@ -345,6 +349,7 @@ fn write_profile(profile: &Option<Pattern>, out: &mut Vec<u8>) -> Result<(), All
 }
 
 /// Writes the profile, and the level that was found.
+#[inline(always)]
 #[tactic(auto, using(audit_records::proofs::Keeping::keeps_on))]
 fn write_found(decision: &Decision, out: &mut Vec<u8>) -> Result<(), AllocError>
     ensures text { OnOk result (out.new.items ≡ out.old.items ++ found_words decision.now) }
@@ -355,6 +360,7 @@ fn write_found(decision: &Decision, out: &mut Vec<u8>) -> Result<(), AllocError>
 }
 
 /// Writes a level.
+#[inline(always)]
 #[tactic(auto, using(audit_records::proofs::Keeping::keeps_on))]
 fn write_level(level: Level, out: &mut Vec<u8>) -> Result<(), AllocError>
     ensures text { OnOk result (out.new.items ≡ out.old.items ++ (codes " " ++ level_name level)) }

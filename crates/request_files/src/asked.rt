@@ -22,6 +22,7 @@ pub(crate) struct ResourceWord<'a> {
 
 impl ResourceWord<'_> {
     /// The name, or what is wrong with it.
+    #[inline(always)]
     pub(crate) fn read(&self) -> Result<Resource, NameFault>
         ensures name { result ≡ resource_of self.now.kind (folded self.now.text.now) }
         ensures kind { IfOk result (λ name. name.kind ≡ self.now.kind) }

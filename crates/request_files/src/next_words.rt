@@ -16,6 +16,7 @@ use command_words::LineWords;
 use generic_names::NameKind;
 
 /// An ID, and the words behind it.
+#[inline(always)]
 #[tactic(auto, unfolding(crate::specs::Grammar::next))]
 pub(crate) fn next_id<'a>(words: &LineWords<'a>) -> Result<(Id, LineWords<'a>), u32>
     ensures { result ≡ next id_in words.now }
@@ -44,6 +45,7 @@ pub(crate) fn next_number<'a>(words: &LineWords<'a>) -> Result<(u64, LineWords<'
 }
 
 /// The word that names a resource, whatever is wrong with it, and the words behind it.
+#[inline(always)]
 #[tactic(auto, unfolding(crate::specs::Grammar::next))]
 pub(crate) fn next_name<'a>(
     kind: NameKind,
@@ -60,6 +62,7 @@ pub(crate) fn next_name<'a>(
 }
 
 /// A level that may be asked for, and the words behind it.
+#[inline(always)]
 #[tactic(auto, unfolding(crate::specs::Grammar::next))]
 pub(crate) fn next_level<'a>(words: &LineWords<'a>) -> Result<(Level, LineWords<'a>), u32>
     ensures level { result ≡ next level_in words.now }
@@ -75,6 +78,7 @@ pub(crate) fn next_level<'a>(words: &LineWords<'a>) -> Result<(Level, LineWords<
 }
 
 /// What was said, unless a word is left.
+#[inline(always)]
 pub(crate) fn ended<T: Drop>(words: &LineWords, said: T) -> Result<T, u32>
     ensures { result ≡ ended words.now.words said }
 {

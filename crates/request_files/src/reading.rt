@@ -91,6 +91,7 @@ fn with_word(request: &VerifyRequest, word: LineWord) -> Result<VerifyRequest, u
 }
 
 /// AUTH and FASTAUTH: the name of an ACEE, a class, the name of a resource, and a level.
+#[inline(always)]
 #[tactic(auto, unfolding(crate::specs::Grammar::asked_by))]
 pub(crate) fn asked_by<'a>(words: &LineWords<'a>) -> Result<Asked<'a>, u32>
     ensures { asked_seen result ≡ asked_by words.now }

@@ -17,6 +17,7 @@ use generic_names::{NameFault, NameKind, Resource};
 type LongWord = FoldedWord<246>;
 
 /// The name with an ID's spelling that a word is. A word that needs no folding is read as it stands.
+#[inline(always)]
 #[tactic(auto, using(crate::proofs::Folding::id_stays))]
 pub(crate) fn id_word(word: &[u8]) -> Option<Id>
     ensures { result ≡ id_in word.now }
@@ -28,6 +29,7 @@ pub(crate) fn id_word(word: &[u8]) -> Option<Id>
 }
 
 /// The level that a word asks for: READ, UPDATE, CONTROL or ALTER.
+#[inline(always)]
 pub(crate) fn level_word(word: &[u8]) -> Option<Level>
     ensures level { result ≡ level_word word.now }
     ensures asked { IfSome result (λ level. IsTrue (may_be_asked level)) }
@@ -40,6 +42,7 @@ pub(crate) fn level_word(word: &[u8]) -> Option<Level>
 }
 
 /// The name of a resource, as a word spells it. A word that needs no folding is read as it stands.
+#[inline(always)]
 #[tactic(auto, using(crate::proofs::Folding::folded_stays))]
 pub(crate) fn name_word(kind: NameKind, word: &[u8]) -> Result<Resource, NameFault>
     ensures name { result ≡ resource_of kind (folded word.now) }
@@ -64,6 +67,7 @@ fn folded_name(kind: NameKind, word: &[u8]) -> Result<Resource, NameFault>
 }
 
 /// Whether no letter of a word is to be folded.
+#[inline(always)]
 fn is_folded(word: &[u8]) -> bool
     ensures { result ≡ list_all (λ byte. upper byte == byte) word.now }
 {

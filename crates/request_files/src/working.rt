@@ -26,6 +26,7 @@ use std::alloc::{AllocError, Global};
 /// # Errors
 ///
 /// `AllocError` alone, after which `acees` and `out` are as they were.
+#[inline(always)]
 pub fn respond(
     alloc: Global,
     line: &Result<RequestLine, LineRefusal>,
@@ -62,6 +63,7 @@ fn told(refusal: &LineRefusal, acees: &AceeTable) -> LineRefusal
 }
 
 /// Works what a line asks for.
+#[inline(always)]
 fn respond_to_line(
     alloc: Global,
     line: &RequestLine,
@@ -146,6 +148,7 @@ fn put(
 }
 
 /// AUTH.
+#[inline(always)]
 fn respond_to_auth(
     name: Id,
     request: &Request,
@@ -164,6 +167,7 @@ fn respond_to_auth(
 }
 
 /// FASTAUTH.
+#[inline(always)]
 fn respond_to_fastauth(
     name: Id,
     request: &Request,
@@ -182,6 +186,7 @@ fn respond_to_fastauth(
 }
 
 /// Answers a line with a decision on the image, for this ACEE and this request, and with its AUDIT line.
+#[inline(always)]
 fn answer_decision(
     image: &Image,
     acee: &Acee,

@@ -6,6 +6,7 @@ ghost use Rattle.command_conflicts.specs.Conflicts.{over};
 use crate::conflict::{Conflict, Limit};
 
 /// Refuses a count that is over its limit.
+#[inline(always)]
 pub(crate) fn check_count(kind: Limit, limit: usize, count: usize) -> Result<(), Conflict>
     ensures { result_err result ≡ over kind limit count }
 {
@@ -16,6 +17,7 @@ pub(crate) fn check_count(kind: Limit, limit: usize, count: usize) -> Result<(),
 }
 
 /// Refuses three counts that are together over their limit.
+#[inline(always)]
 pub(crate) fn check_sum(
     kind: Limit,
     limit: usize,

@@ -131,6 +131,7 @@ fn edits_of_alt_group(
 }
 
 /// One edit.
+#[inline(always)]
 pub(crate) fn one(alloc: Global, edit: Edit) -> Result<Vec<Edit>, NoMemory>
     ensures { IfOk result (λ edits. edits.items ≡ edit ∷ []) }
 {

@@ -26,6 +26,7 @@ const MOST_BYTES: u64 = 1 << 28;
 
 /// The outcome of a command over the rows, with this number of commands before it and the journal's last gate at this
 /// place: the record of it where it is accepted.
+#[inline(always)]
 #[tactic(auto, unfolding(crate::specs::Outcome::outcome_in))]
 pub(crate) fn outcome_in(
     alloc: Global,
@@ -55,6 +56,7 @@ pub(crate) fn outcome_in(
 }
 
 /// The command that the text spells where this issuer gives it, or its first fault.
+#[inline(always)]
 fn command_of_text(alloc: Global, id: Id, text: &[u8]) -> Result<Result<Command, Refusal>, NoMemory>
     ensures { IfOk result (λ read. read ≡ command_of_text id text.now) }
 {
@@ -68,6 +70,7 @@ fn command_of_text(alloc: Global, id: Id, text: &[u8]) -> Result<Result<Command,
 }
 
 /// Why a command is refused where its issuer gives it, if it is.
+#[inline(always)]
 fn refusal_of(gate: u64, number: u64, database: &Database, given: &CommandRecord) -> Option<Refusal>
     ensures { result ≡ refusal_of gate number database.now.rows given.now }
 {
@@ -84,6 +87,7 @@ fn refusal_of(gate: u64, number: u64, database: &Database, given: &CommandRecord
 }
 
 /// What the rules refuse a command for where its issuer gives it, if they do.
+#[inline(always)]
 pub(crate) fn rules_of(database: &Database, given: &CommandRecord) -> Option<Refusal>
     ensures { result ≡ rules_of database.now.rows given.now }
 {

@@ -24,6 +24,7 @@ impl RowTables {
     }
 
     /// Makes one edit.
+    #[inline(always)]
     fn make(&mut self, edit: Edit)
         requires { CanMake self.old edit }
         ensures { HasAtLeast (tables_after edit self.old) self.new }

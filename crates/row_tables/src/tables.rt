@@ -161,6 +161,7 @@ impl RowTables {
 
     /// Makes room for this many rows of the kind that the edit puts. That there is none counts only where it adds one,
     /// which is looked up only then.
+    #[inline(always)]
     fn reserve_for(&mut self, edit: &Edit, more: usize) -> Result<(), NoMemory>
         ensures kept { HasAtLeast self.old self.new }
         ensures room { OnOk result (HasRoomFor more (edit.now ∷ []) self.new) }
@@ -178,6 +179,7 @@ impl RowTables {
     }
 
     /// Makes room for this many rows of the kind that the edit puts.
+    #[inline(always)]
     fn reserve_kind(&mut self, edit: &Edit, more: usize) -> Result<(), NoMemory>
         ensures kept { HasAtLeast self.old self.new }
         ensures room { OnOk result (HasRoomFor more (edit.now ∷ []) self.new) }
@@ -191,6 +193,7 @@ impl RowTables {
     }
 
     /// Whether the edit puts a row that isn't there.
+    #[inline(always)]
     fn adds(&self, edit: &Edit) -> bool
         ensures { result ≡ adds self.now.rows edit.now }
     {

@@ -18,6 +18,7 @@ use racf_profiles::Profile;
 use row_tables::RowTables;
 
 /// Each ID that gets access is `*`, a user or a group.
+#[inline(always)]
 #[tactic(auto, unfolding(crate::specs::ProfileConflicts::no_permitted))]
 pub(super) fn check_permitted(tables: &RowTables, command: &Permit) -> Result<(), Conflict>
     ensures { result_err result ≡ no_permitted command.now.delete command.now.id tables.now.rows }
@@ -29,6 +30,7 @@ pub(super) fn check_permitted(tables: &RowTables, command: &Permit) -> Result<()
 }
 
 /// The same of each of them.
+#[inline(always)]
 fn check_whos(tables: &RowTables, whos: &[Who]) -> Result<(), Conflict>
     ensures { result_err result ≡ option_and_then named_unknown (find (is_unknown tables.now.rows) whos.now) }
 {
@@ -57,6 +59,7 @@ fn is_unknown(tables: &RowTables, who: &Who) -> bool
 
 /// The profile's standard list is within the limit after PERMIT. In this test and the two behind it the profile is the
 /// one that was looked up for the command.
+#[inline(always)]
 pub(super) fn check_standard_fits(
     tables: &RowTables,
     issuer: &Issuer,
@@ -77,6 +80,7 @@ pub(super) fn check_standard_fits(
 }
 
 /// The profile's conditional list is within the limit after PERMIT.
+#[inline(always)]
 pub(super) fn check_conditional_fits(
     tables: &RowTables,
     issuer: &Issuer,
@@ -97,6 +101,7 @@ pub(super) fn check_conditional_fits(
 }
 
 /// The entries of all lists are within the limit after PERMIT.
+#[inline(always)]
 pub(super) fn check_entries_fit(
     tables: &RowTables,
     issuer: &Issuer,
@@ -121,6 +126,7 @@ pub(super) fn check_entries_fit(
 }
 
 /// An ID that is refused.
+#[inline(always)]
 fn check_named(who: Who) -> Result<(), Conflict>
     ensures { result_err result ≡ named_unknown who }
 {

@@ -30,6 +30,7 @@ pub(super) fn check_first_qualifier(tables: &RowTables, name: &Pattern) -> Resul
 }
 
 /// The class is in the table.
+#[inline(always)]
 #[tactic(auto, unfolding(crate::specs::ProfileConflicts::no_such_class))]
 pub(super) fn check_class(tables: &RowTables, class: Id) -> Result<(), Conflict>
     ensures { result_err result ≡ no_such_class class tables.now.rows }
@@ -80,6 +81,7 @@ fn check_classless(tables: &RowTables, global: bool, name: Option<Id>) -> Result
 }
 
 /// A class that is there has a profile of that name.
+#[inline(always)]
 pub(super) fn check_profile(tables: &RowTables, class: Id, name: &Pattern) -> Result<(), Conflict>
     ensures { result_err result ≡ no_profile class name.now tables.now.rows }
 {
@@ -87,6 +89,7 @@ pub(super) fn check_profile(tables: &RowTables, class: Id, name: &Pattern) -> Re
 }
 
 /// The same, where the profile of that name was looked up.
+#[inline(always)]
 #[tactic(auto, unfolding(crate::specs::ProfileConflicts::no_profile))]
 pub(super) fn check_found(
     tables: &RowTables,
@@ -119,6 +122,7 @@ pub(super) fn check_resource_profile(
 }
 
 /// There is no profile of that name.
+#[inline(always)]
 #[tactic(auto, unfolding(crate::specs::ProfileConflicts::profile_taken))]
 pub(super) fn check_profile_free(
     tables: &RowTables,
@@ -134,6 +138,7 @@ pub(super) fn check_profile_free(
 }
 
 /// One more profile is within the limit of its class.
+#[inline(always)]
 pub(super) fn check_class_profiles_fit(tables: &RowTables, class: Id) -> Result<(), Conflict>
     ensures { result_err result ≡ over Limit.ClassProfiles most_class_profiles (length (profiles_in class tables.now.rows) + 1) }
 {
@@ -142,6 +147,7 @@ pub(super) fn check_class_profiles_fit(tables: &RowTables, class: Id) -> Result<
 }
 
 /// One more profile is within the limit of all classes.
+#[inline(always)]
 pub(super) fn check_profiles_fit(tables: &RowTables) -> Result<(), Conflict>
     ensures { result_err result ≡ over Limit.Profiles most_profiles (profile_count tables.now.rows.classes + 1) }
 {

@@ -47,6 +47,7 @@ pub(super) fn edits_of_alt_sd(
 }
 
 /// The edits of RDEFINE.
+#[inline(always)]
 pub(super) fn edits_of_r_define(
     alloc: Global,
     tables: &RowTables,
@@ -90,6 +91,7 @@ fn put_altered_resource(
 }
 
 /// The edits of PERMIT.
+#[inline(always)]
 pub(super) fn edits_of_permit(
     alloc: Global,
     tables: &RowTables,

@@ -14,6 +14,7 @@ use racf_profiles::{CondEntries, Entries, NoMemory, Profile};
 use std::alloc::{AllocError, Global};
 
 /// A profile after PERMIT.
+#[inline(always)]
 pub(crate) fn permitted_profile(
     alloc: Global,
     command: &Permit,

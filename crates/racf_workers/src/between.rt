@@ -59,6 +59,7 @@ impl Between {
 
     /// Answers a line on the image behind what the caller has seen, and gathers its text. Where memory is short,
     /// nothing more is gathered, and nothing else has changed.
+    #[inline(always)]
     #[tactic(auto, unfolding(crate::specs::RequestFile::outcome_at))]
     pub(crate) fn gather<J: Naming>(
         &mut self,

@@ -9,6 +9,7 @@ use racf_stream::{Stop, is_skipped};
 use request_files::{LineRefusal, RequestLine, read_line};
 
 /// What the next line asks for; `None` where it is skipped. It takes no memory.
+#[inline(always)]
 pub(crate) fn next_request<I: Source>(
     lines: &mut Lines<I>,
 ) -> Result<Option<Result<RequestLine, LineRefusal>>, Stop>
@@ -26,6 +27,7 @@ pub(crate) fn next_request<I: Source>(
 }
 
 /// What a line of text asks for, unless it is skipped.
+#[inline(always)]
 fn read_unskipped(text: &[u8]) -> Option<Result<RequestLine, LineRefusal>>
     ensures { IsRead (unskipped (Text text.now)) result }
 {

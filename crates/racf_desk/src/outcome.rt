@@ -1,7 +1,7 @@
 //! The outcome of a command: the tests in their order.
 ghost use Rattle.std.specs.Prelude.{◌≡◌, ◌+◌, ◌≤◌, ◌^◌, ◌↔◌, None, IfOk, IsTrue, length};
 ghost use Rattle.journal_records.specs.Spelling.{spelled};
-ghost use Rattle.racf_desk.specs.Outcome.{command_of_text, journal_full, outcome_in, refusal_of, rules_of};
+ghost use Rattle.racf_desk.specs.Outcome.{command_of_text, outcome_in, refusal_of, rules_of};
 
 use crate::issuers::issuer_of;
 use crate::refusal::Refusal;

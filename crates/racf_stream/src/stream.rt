@@ -1,6 +1,6 @@
 //! The state between two lines of a stream, and what each statement does to it.
 
-ghost use Rattle.std.specs.Prelude.{◌≡◌, ◌≤◌, ◌++◌, true, false, Some, OnOk, OnErr, IfOk, IfErr};
+ghost use Rattle.std.specs.Prelude.{◌≡◌, ◌≤◌, true, false, Some, OnOk, OnErr, IfOk, IfErr};
 ghost use Rattle.racf_outside.specs.Causes.{Rose};
 ghost use Rattle.racf_desk.specs.Durable.{LeavesIt};
 ghost use Rattle.racf_desk.specs.Made.{made_in};

@@ -1,7 +1,6 @@
 //! What stands between two lines of a request file.
 
 ghost use Rattle.std.specs.Prelude.{◌≡◌, [], false, OnOk, OnErr, IfOk};
-ghost use Rattle.command_history.specs.Reached.{reached};
 ghost use Rattle.request_files.specs.Seen.{line_read};
 
 use command_history::Naming;

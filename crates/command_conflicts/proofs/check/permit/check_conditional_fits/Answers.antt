@@ -1,5 +1,6 @@
 -- The count of the list that the step makes.
 use Rattle.std.proofs.Common.{◌∙◌, length, refl, sym, ap}
+use Rattle.std.specs.Option.{option_copied}
 use Rattle.racf_profiles.specs.declared.profiles.Profile.{Profile}
 use Rattle.racf_profiles.specs.Limits.{most_list_entries}
 use Rattle.command_effects.specs.PermitEffects.{permitted_profile, conditional_after}
@@ -13,11 +14,11 @@ pub returns-in-None : goal.returns-in-None
 unfolding conditional_full
 returns-in-None c =
     let p = c.args.command.now in
-    sym (ap (list_full (λ (q : Profile). length q.conditional)) (changed-none p.class p.profile (permitted_profile p) (λ q. refl) c.args.tables.now.rows (sym c.in-None.ensures)))
+    sym (ap (list_full (λ (q : Profile). length q.conditional)) (changed-none p.class p.profile (permitted_profile p) (λ q. refl) c.args.tables.now.rows (sym c.requires ∙ ap option_copied c.in-None.is)))
 
 pub returns-in-Some : goal.returns-in-Some
 unfolding conditional_full
 returns-in-Some c =
     let p = c.args.command.now in
     c.check_count.ensures ∙ ap (over Entries most_list_entries) (c.conditional_count.ensures ∙ ap (λ list. length (conditional_after p list)) (c.as_slice.ensures.value ∙ ap (λ (q : Profile). q.conditional) c.old.view_is))
-    ∙ sym (ap (list_full (λ (q : Profile). length q.conditional)) (changed-there p.class p.profile (permitted_profile p) (λ q. refl) c.args.tables.now.rows c.in-Some.old.now (sym c.in-Some.ensures)))
+    ∙ sym (ap (list_full (λ (q : Profile). length q.conditional)) (changed-there p.class p.profile (permitted_profile p) (λ q. refl) c.args.tables.now.rows c.in-Some.old.now (sym c.requires ∙ ap option_copied c.in-Some.is)))

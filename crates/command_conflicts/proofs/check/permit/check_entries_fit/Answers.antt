@@ -1,5 +1,6 @@
 -- The new entries count in place of the old ones.
 use Rattle.std.proofs.Common.{◌≡◌, ◌∙◌, ◌+◌, length, refl, sym, ap, arith}
+use Rattle.std.specs.Option.{option_copied}
 use Rattle.racf_profiles.specs.declared.profiles.Profile.{Profile}
 use Rattle.racf_profiles.specs.declared.rows.Rows.{Rows}
 use Rattle.racf_profiles.specs.Counts.{entry_count}
@@ -16,7 +17,7 @@ unfolding entries_full
 returns-in-None c =
     let p = c.args.command.now in
     let rows = c.args.tables.now.rows in
-    let same = changed-absent p.class p.profile (permitted_profile p) (λ q. refl) rows (sym c.in-None.ensures) in
+    let same = changed-absent p.class p.profile (permitted_profile p) (λ q. refl) rows (sym c.requires ∙ ap option_copied c.in-None.is) in
     sym (ap (λ (r : Rows). over AllEntries most_entries_in_all (entry_count r.classes)) same ∙ not_over AllEntries most_entries_in_all (entry_count rows.classes) c.what_is_kept.ensures.entries)
 
 pub returns-in-Some : goal.returns-in-Some
@@ -25,7 +26,7 @@ returns-in-Some c =
     let p = c.args.command.now in
     let rows = c.args.tables.now.rows in
     let old = c.in-Some.old.now in
-    let found = sym c.in-Some.ensures in
+    let found = sym c.requires ∙ ap option_copied c.in-Some.is in
     let counted = entry_count-changed p.class p.profile (permitted_profile p) (λ q. refl) rows old found c.puts_are_counted.ensures.entries c.what_is_kept.ensures.classes in
     let most = entries-le p.class p.profile (permitted_profile p) (λ q. refl) rows old found in
     let standard = c.standard_count.ensures ∙ ap (λ list. length (standard_after p list)) (c.as_slice.ensures.value ∙ ap (λ (q : Profile). q.standard) c.old.view_is) in

@@ -1,10 +1,14 @@
-use Rattle.std.proofs.Common.{◌≡◌, arith, refl}
+use Rattle.std.proofs.Common.{◌≡◌, ℕ, Bool, true, not, List, Option, None, Some, is_some, arith, refl, sym, subst}
 use Rattle.racf_desk.proofs.IdleLaws.{same_idle}
-use Rattle.racf_stream.specs.Durable.{fault_in}
+use Rattle.racf_desk.specs.Position.{Position}
+use Rattle.racf_stream.specs.declared.statement.Statement.{Statement}
+use Rattle.racf_stream.specs.Durable.{StreamOn, fault_in}
+use Rattle.racf_stream.specs.Processing.{Works}
 use Rattle.racf_stream.specs.Script.{stream}
 use Rattle.racf_stream.specs.Stream.{State}
 use Rattle.racf_stream.proofs.Walk.{Walk-settles}
 use Rattle.racf_stream.proofs.StreamWalk.{begun, new_runs, passed_none, goes_on, cut, stopped, failed_status, unanswered_at}
+use Rattle.racf_stream.proofs.Processing.{none_worked}
 use Rattle.racf_stream.proofs.Moments.{StaysAlong-none, moved, idle_still, no_fewer, halts}
 use Rattle.racf_stream.proofs.scripts.run.Goals as goal
 
@@ -57,6 +61,33 @@ pub returns-in-Err-process_statement-clause-idle : goal.returns-in-Err-process_s
 returns-in-Err-process_statement-clause-idle g c =
     idle_still g.D.Disk.tells g.D.Disk.faults c.args.stream.now.state.position c.args.lines.now.left c.args.stream.now.store c.item.stream c.process_statement.new.stream c.in-Ok-Ok.item
     c.process_statement.ensures.moves c.item.invariant.idle
+
+-- the next line is skipped
+none_is : (given : Option Statement) (told : Bool) → is_some given ≡ not told → told ≡ true → given ≡ None
+none_is None told is so = refl
+none_is (Some item) told is so = cc
+
+none_stays : {D : Type 0} (base : Position) (given : Option Statement) (s : StreamOn D) (gathered : List ℕ) → given ≡ None → Works base given s s gathered gathered
+none_stays base given s gathered none = subst (λ (o : Option Statement). Works base o s s gathered gathered) (sym none) (none_worked base s gathered)
+
+pub item-preserved-then-is_none : goal.item-preserved-then-is_none
+item-preserved-then-is_none g c =
+    let base = c.args.stream.now.state.position in
+    let takes = rw c.in-Ok-Ok.field-0-is at c.in-Ok-Ok.ensures.item in
+    let old = c.item.stream in
+    let none = none_is c.in-Ok-Ok.item c.is_none.result c.is_none.ensures c.if-is_none.true in
+    let before =
+    Walk-settles (stream (fault_in old) base) _ c.item.lines old.state _ _ _ c.item.replies c.next_statement.new.replies c.item.invariant.walk c.in-Ok-Ok.ensures.settled in
+    record {
+      walk = goes_on base c.in-Ok-Ok.item takes.0 _ c.item.lines c.next_statement.new.lines old old _ _ c.next_statement.new.replies c.next_statement.new.replies before takes.1 (none_stays base c.in-Ok-Ok.item old c.next_statement.new.replies none);
+      most = c.in-Ok-Ok.ensures.limit;
+      along = c.item.invariant.along;
+      idle = c.item.invariant.idle;
+      halted = c.item.invariant.halted;
+      source_faults = omega (arith, c.item.invariant.source_faults, c.next_statement.ensures.faults);
+      sink_faults = omega (arith, c.item.invariant.sink_faults, c.next_statement.ensures.cause.no_fewer);
+      disk_faults = c.item.invariant.disk_faults;
+    }
 
 pub item-preserved : goal.item-preserved
 item-preserved g c =

@@ -42,6 +42,11 @@ Outside-steady = record { open_to_all = refl; stays = λ p b h. rw h refl }
 pub BeforeName-steady : IsSteady BeforeName
 BeforeName-steady = record { open_to_all = refl; stays = λ p b h. refl }
 
+-- where quotes are bytes like others, the length of a word doesn't hang on its place
+pub ignored_anywhere : (p q : ℕ) (bs : List ℕ) → word_len Ignored p bs ≡ word_len Ignored q bs
+ignored_anywhere p q [] = refl
+ignored_anywhere p q (b ∷ bs) = rw (ignored_anywhere (suc p) (suc q) bs) refl
+
 -- what may follow a word
 abbrev pub EndsWord : List ℕ → Type 0
 EndsWord [] = Unit {0}

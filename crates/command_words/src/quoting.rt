@@ -60,10 +60,10 @@ impl Quoting {
         }
     }
 
-    /// Whether the byte is neither a quote nor a parenthesis and stands outside quotes: it changes nothing, as most bytes
-    /// of values.
-    pub fn passes(self, byte: u8) -> bool
-        ensures { result ≡ true → (place depth : ℕ) → (after self place byte ≡ self) × (depth_after self byte depth ≡ depth) }
+    /// Whether a byte is known to change nothing at a glance, as most bytes of values: one outside quotes that is neither
+    /// a quote nor a parenthesis. Where it says no, nothing is said.
+    pub(crate) fn passes(self, byte: u8) -> bool
+        ensures unchanged { result ≡ true → (place depth : ℕ) → (after self place byte ≡ self) × (depth_after self byte depth ≡ depth) }
     {
         match self {
             Quoting::Outside => byte > b')' || byte < b'\'',

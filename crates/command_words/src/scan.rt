@@ -34,21 +34,21 @@ pub fn past_gaps(
 
 /// How many bytes from the front on still belong to a word.
 #[inline(always)]
+#[tactic(auto, using(crate::proofs::Letters::ignored_anywhere))]
 pub fn word_len(quoting: Quoting, place: u32, bytes: &[u8]) -> usize
     requires { place + length bytes.now < 2 ^ 30 }
     ensures value { result ≡ letters_of quoting place bytes.now }
     ensures within { result ≤ length bytes.now }
 {
     match quoting {
-        Quoting::Ignored => plain_len(place, bytes),
+        Quoting::Ignored => plain_len(bytes),
         _ => quoted_len(quoting, place, bytes),
     }
 }
 
 /// The same where quotes are bytes like others, as they mostly are.
-fn plain_len(mut place: u32, bytes: &[u8]) -> usize
-    requires { place + length bytes.now < 2 ^ 30 }
-    ensures value { result ≡ letters_of Ignored place bytes.now }
+fn plain_len(bytes: &[u8]) -> usize
+    ensures value { result ≡ letters_of Ignored 0 bytes.now }
     ensures within { result ≤ length bytes.now }
 {
     let mut count = 0;
@@ -57,7 +57,6 @@ fn plain_len(mut place: u32, bytes: &[u8]) -> usize
         if !is_word(*byte) {
             return count;
         }
-        place += 1;
         count += 1;
         rest = behind;
     }

@@ -26,7 +26,6 @@ impl Answer {
     }
 
     /// The decision without a profile.
-    #[inline(always)]
     pub(crate) fn decision(&self, generation: u64) -> Decision
         ensures { result ≡ decision_of generation None self.now }
     {
@@ -42,7 +41,6 @@ impl Answer {
     }
 
     /// The decision on a profile, with its name and what it asks to be logged.
-    #[inline(always)]
     pub(crate) fn decision_on(&self, facts: &Facts<'_>, generation: u64) -> Decision
         ensures { (p : Profile) → AreFacts p facts.now → result ≡ decision_of generation (Some p) self.now }
     {

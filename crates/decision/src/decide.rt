@@ -66,7 +66,6 @@ pub fn fastauth(image: &Image, acee: &Acee, request: &Request) -> Decision
 }
 
 /// The decision of the profile that covers the name, or that of the answer where none does.
-#[inline(always)]
 fn by_profile(image: &Image, acee: &Acee, request: &Request, without: &Answer) -> Decision
     ensures { result ≡ decided_after image.now.state image.now.generation acee.now request.now.class request.now.name request.now.asked None without.now (profile_for image.now.state request.now.class request.now.name) }
 {

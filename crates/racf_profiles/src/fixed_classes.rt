@@ -4,7 +4,6 @@ ghost use Rattle.access_levels.specs.Spelling.{id_of};
 ghost use Rattle.racf_profiles.specs.LawfulProfiles.{kind_in};
 ghost use Rattle.racf_profiles.specs.ClassTable.{class_name, fixed_class, facts_of_class, class_table, facts_of, allows_operations};
 
-use crate::known::known_id;
 use access_levels::Id;
 use generic_names::NameKind;
 
@@ -101,7 +100,7 @@ impl FixedClass {
     pub fn id(self) -> Id
         ensures { result ≡ class_name self }
     {
-        known_id(self.name())
+        Id::known(self.name())
     }
 
     /// What the class allows.

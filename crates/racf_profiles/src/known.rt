@@ -1,6 +1,5 @@
 //! Identifiers that the product itself names.
-ghost use Rattle.std.specs.Prelude.{◌≡◌, Ok, codes};
-ghost use Rattle.access_levels.specs.Spelling.{id_of};
+ghost use Rattle.std.specs.Prelude.{◌≡◌, codes};
 
 use access_levels::Id;
 
@@ -8,20 +7,12 @@ use access_levels::Id;
 pub fn ibmuser() -> Id
     ensures { result ≡ codes "IBMUSER" }
 {
-    known_id(b"IBMUSER")
+    Id::known(b"IBMUSER")
 }
 
 /// The group that lies above all others.
 pub fn sys1() -> Id
     ensures { result ≡ codes "SYS1" }
 {
-    known_id(b"SYS1")
-}
-
-/// The identifier of a text that is known to spell one.
-pub(crate) fn known_id(text: &[u8]) -> Id
-    requires { id_of text.now ≡ Ok text.now }
-    ensures { result ≡ text.now }
-{
-    Id::known(text)
+    Id::known(b"SYS1")
 }

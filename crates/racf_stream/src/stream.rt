@@ -169,7 +169,6 @@ impl<D: Disk> Stream<D> {
     }
 
     /// A request, answered by what its line says.
-    #[inline(always)]
     #[tactic(auto, unfolding(crate::specs::Stream::request))]
     fn request(
         &mut self,
@@ -185,7 +184,6 @@ impl<D: Disk> Stream<D> {
     }
 
     /// Answers a line of a request at the position as it stands.
-    #[inline(always)]
     fn answer(
         &mut self,
         alloc: Global,

@@ -59,7 +59,6 @@ pub(crate) const LONGEST: usize = 4096;
 ///
 /// The first that fits of: `LineTooLong`, for more than 4,096 bytes; `BadLine`, with the place of the first word that
 /// doesn't fit, or the one behind the line where a word lacks; and `BadName`, where the words fit.
-#[inline(always)]
 #[tactic(auto, unfolding(crate::specs::Grammar::read))]
 pub fn read_line(line: &[u8]) -> Result<RequestLine, LineRefusal>
     ensures line { line_read result ≡ read line.now }
@@ -75,7 +74,6 @@ pub fn read_line(line: &[u8]) -> Result<RequestLine, LineRefusal>
 }
 
 /// What the words of a line ask for.
-#[inline(always)]
 #[tactic(auto, unfolding(crate::specs::Grammar::requested))]
 fn requested(words: &LineWords) -> Result<RequestLine, LineRefusal>
     ensures line { line_read result ≡ requested words.now }
@@ -88,7 +86,6 @@ fn requested(words: &LineWords) -> Result<RequestLine, LineRefusal>
 }
 
 /// What a line asks for that begins with this word, before the others.
-#[inline(always)]
 fn request_by(verb: LineWord, words: &LineWords) -> Result<RequestLine, LineRefusal>
     ensures line { line_read result ≡ request_by (folded verb.entry.text.now) verb.entry.place words.now }
     ensures refusals { IfErr result IsOfTheLine }
@@ -123,7 +120,6 @@ fn verify_line(words: &LineWords) -> Result<RequestLine, LineRefusal>
 }
 
 /// A line of AUTH.
-#[inline(always)]
 fn auth_line(words: &LineWords) -> Result<RequestLine, LineRefusal>
     ensures line { line_read result ≡ accessed Auth (asked_by words.now) }
     ensures refusals { IfErr result IsOfTheLine }
@@ -145,7 +141,6 @@ fn auth_line(words: &LineWords) -> Result<RequestLine, LineRefusal>
 }
 
 /// A line of FASTAUTH.
-#[inline(always)]
 fn fastauth_line(words: &LineWords) -> Result<RequestLine, LineRefusal>
     ensures line { line_read result ≡ accessed Fastauth (asked_by words.now) }
     ensures refusals { IfErr result IsOfTheLine }

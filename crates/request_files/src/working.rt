@@ -26,7 +26,6 @@ use std::alloc::{AllocError, Global};
 /// # Errors
 ///
 /// `AllocError` alone, after which `acees` and `out` are as they were.
-#[inline(always)]
 pub fn respond(
     alloc: Global,
     line: &Result<RequestLine, LineRefusal>,
@@ -63,7 +62,6 @@ fn told(refusal: &LineRefusal, acees: &AceeTable) -> LineRefusal
 }
 
 /// Works what a line asks for.
-#[inline(always)]
 fn respond_to_line(
     alloc: Global,
     line: &RequestLine,
@@ -148,7 +146,6 @@ fn put(
 }
 
 /// AUTH.
-#[inline(always)]
 fn respond_to_auth(
     name: Id,
     request: &Request,
@@ -167,7 +164,6 @@ fn respond_to_auth(
 }
 
 /// FASTAUTH.
-#[inline(always)]
 fn respond_to_fastauth(
     name: Id,
     request: &Request,
@@ -186,7 +182,6 @@ fn respond_to_fastauth(
 }
 
 /// Answers a line with a decision on the image, for this ACEE and this request, and with its AUDIT line.
-#[inline(always)]
 fn answer_decision(
     image: &Image,
     acee: &Acee,

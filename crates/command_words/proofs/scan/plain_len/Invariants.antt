@@ -5,8 +5,7 @@ use Rattle.command_words.proofs.scan.plain_len.Given as goal
 
 abbrev pub invariant-loop-byte : goal.invariant-loop-byte
 invariant-loop-byte l = record {
-  same : l.count + word_len Ignored l.place l.rest ≡ word_len Ignored l.fn.place l.bytes;
-  place : l.place ≡ l.fn.place + l.count;
+  same : l.count + word_len Ignored l.count l.rest ≡ word_len Ignored 0 l.bytes;
   reach : l.count + length l.rest ≡ length l.bytes;
 }
 

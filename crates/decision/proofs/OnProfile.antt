@@ -12,10 +12,10 @@ use Rattle.decision.specs.declared.outcome.Decision.{Decision}
 use Rattle.decision.specs.Classification.{classified}
 use Rattle.decision.specs.Table.{decision_of, decided_after, answer_with_profile}
 
-module _ (state : State) (generation : ℕ) (acee : Acee) (class : List ℕ) (name : Spelled) (asked : Level) (without : Answer) where
-  pub on_profile : (profile : Option Profile) (facts : Facts) (answer : Answer) (result : Decision) → IsSomeAnd profile (λ p. AreFacts p facts)
+module _ (state : State) (generation : ℕ) (acee : Acee) (class : List ℕ) (name : Spelled) (asked : Level) (before : Option Answer) (without : Answer) where
+  pub on_profile : (profile : Option Profile) (facts : Facts) (answer : Answer) (result : Decision) → before ≡ None → IsSomeAnd profile (λ p. AreFacts p facts)
       → ((p : Profile) → AreFacts p facts → answer ≡ answer_with_profile (classified state acee p asked) state.rows acee class name asked p)
       → ((p : Profile) → AreFacts p facts → result ≡ decision_of generation (Some p) answer)
-      → result ≡ decided_after state generation acee class name asked None without profile
-  on_profile None facts answer result h a d = absurd h
-  on_profile (Some p) facts answer result h a d = d p h ∙ ap (λ (answer : Answer). decision_of generation (Some p) answer) (a p h)
+      → result ≡ decided_after state generation acee class name asked before without profile
+  on_profile None facts answer result none h a d = absurd h
+  on_profile (Some p) facts answer result none h a d = rw none (d p h ∙ ap (λ (answer : Answer). decision_of generation (Some p) answer) (a p h))

@@ -6,10 +6,10 @@ ghost use Rattle.racf_profiles.specs.ClassTable.{allows_operations};
 ghost use Rattle.racf_profiles.specs.declared.profiles.Profile.{Profile};
 ghost use Rattle.racf_profiles.specs.Scope.{InScopeProfile};
 ghost use Rattle.group_tree.specs.ScopeTest.{is_profile_in_scope};
-ghost use Rattle.raclist_image.specs.Facts.{AreFacts};
+ghost use Rattle.raclist_image.specs.Facts.{AreFacts, AreFactsOf};
 ghost use Rattle.decision.specs.Steps.{is_open};
 ghost use Rattle.decision.specs.Classification.{profile_for, classified};
-ghost use Rattle.decision.specs.Table.{decided, fast_decided, decided_after, cases_of_class, fast_cases_of_class, first_answer, case, with, else_case, granted_to, is_dataset, answer_with_profile, answer_without_profile};
+ghost use Rattle.decision.specs.Table.{decided, fast_decided, cases_of_class, fast_cases_of_class, first_answer, case, with, else_case, granted_to, is_dataset, answer_with_profile, answer_without_profile};
 
 use crate::answer::Answer;
 use crate::classification::classified;
@@ -40,11 +40,14 @@ pub fn auth(image: &Image, acee: &Acee, request: &Request) -> Decision
 {
     groups_are_a_tree(image);
     scope_is_tested();
+    let generation = image.generation();
     if let Some(answer) = class_answer(image, acee, request) {
-        return answer.decision(image.generation());
+        return answer.decision(generation);
     }
-    let without = without_profile(image.options(), request.class);
-    by_profile(image, acee, request, &without)
+    match facts_for(image, request) {
+        None => without_profile(image.options(), request.class).decision(generation),
+        Some(facts) => with_profile(image, acee, request, &facts).decision_on(&facts, generation),
+    }
 }
 
 /// The same, answered from the listed copy of the class (z/OS Security Server RACROUTE Macro Reference, FASTAUTH). It
@@ -59,25 +62,24 @@ pub fn fastauth(image: &Image, acee: &Acee, request: &Request) -> Decision
 {
     groups_are_a_tree(image);
     scope_is_tested();
+    let generation = image.generation();
     if let Some(answer) = listed_class_answer(image, request.class) {
-        return answer.decision(image.generation());
+        return answer.decision(generation);
     }
-    by_profile(image, acee, request, &undecided(Rule::NoProfile))
+    match facts_for(image, request) {
+        None => undecided(Rule::NoProfile).decision(generation),
+        Some(facts) => with_profile(image, acee, request, &facts).decision_on(&facts, generation),
+    }
 }
 
-/// The decision of the profile that covers the name, or that of the answer where none does.
-fn by_profile(image: &Image, acee: &Acee, request: &Request, without: &Answer) -> Decision
-    ensures { result ≡ decided_after image.now.state image.now.generation acee.now request.now.class request.now.name request.now.asked None without.now (profile_for image.now.state request.now.class request.now.name) }
+/// What a decision reads of the profile that covers the name, where one does.
+#[inline(always)]
+fn facts_for<'a>(image: &'a Image, request: &Request) -> Option<Facts<'a>>
+    ensures { AreFactsOf (profile_for image.now.state request.now.class request.now.name) result }
 {
-    let generation = image.generation();
-    let Some(profiles) = image.effective(request.class) else {
-        return without.decision(generation);
-    };
-    match profiles.find(&request.name) {
-        None => without.decision(generation),
-        Some(facts) => {
-            with_profile(image, acee, request, &facts).decision_on(&facts, generation)
-        }
+    match image.effective(request.class) {
+        Some(profiles) => profiles.find(&request.name),
+        None => None,
     }
 }
 

@@ -20,6 +20,7 @@ mod next_words;
 mod numbers;
 mod operands;
 mod reading;
+mod said;
 mod spellings;
 mod working;
 

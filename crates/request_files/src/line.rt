@@ -1,15 +1,13 @@
 //! What a line asks for, and why it is refused.
 
 ghost use Rattle.std.specs.Prelude.{◌≡◌, IfErr};
-ghost use Rattle.request_files.specs.Grammar.{Auth, Fastauth, Delete, After, verify_line, made, accessed, request_by, requested, read, IsOfTheLine, verified_by, asked_by, deleted, number_after};
-ghost use Rattle.request_files.specs.Spellings.{folded};
+ghost use Rattle.request_files.specs.Grammar.{read, IsOfTheLine};
 ghost use Rattle.request_files.specs.Seen.{line_read};
 
-use crate::asked::Asked;
-use crate::reading::{asked_by, deleted, number_after, verified_by};
+use crate::said::said;
 use access_levels::Id;
 use acee::VerifyRequest;
-use command_words::{LineWord, LineWords, is_spelled};
+use command_words::LineWords;
 use decision::Request;
 use generic_names::NameFault;
 
@@ -70,115 +68,8 @@ pub fn read_line(line: &[u8]) -> Result<RequestLine, LineRefusal>
     if line.starts_with(b"/*") {
         return Ok(RequestLine::Skip);
     }
-    requested(&LineWords::of(line))
-}
-
-/// What the words of a line ask for.
-#[tactic(auto, unfolding(crate::specs::Grammar::requested))]
-fn requested(words: &LineWords) -> Result<RequestLine, LineRefusal>
-    ensures line { line_read result ≡ requested words.now }
-    ensures refusals { IfErr result IsOfTheLine }
-{
-    match words.split_first() {
-        Some((verb, rest)) => request_by(verb, &rest),
-        None => Ok(RequestLine::Skip),
-    }
-}
-
-/// What a line asks for that begins with this word, before the others.
-fn request_by(verb: LineWord, words: &LineWords) -> Result<RequestLine, LineRefusal>
-    ensures line { line_read result ≡ request_by (folded verb.entry.text.now) verb.entry.place words.now }
-    ensures refusals { IfErr result IsOfTheLine }
-{
-    if is_spelled(verb.text, b"VERIFY") {
-        return verify_line(words);
-    }
-    if is_spelled(verb.text, b"AUTH") {
-        return auth_line(words);
-    }
-    if is_spelled(verb.text, b"FASTAUTH") {
-        return fastauth_line(words);
-    }
-    if is_spelled(verb.text, b"DELETE") {
-        return delete_line(words);
-    }
-    if is_spelled(verb.text, b"*AFTER") {
-        return after_line(words);
-    }
-    Err(LineRefusal::BadLine(verb.place))
-}
-
-/// A line of VERIFY.
-fn verify_line(words: &LineWords) -> Result<RequestLine, LineRefusal>
-    ensures line { line_read result ≡ made verify_line (verified_by words.now) }
-    ensures refusals { IfErr result IsOfTheLine }
-{
-    match verified_by(words) {
-        Ok(verified) => Ok(RequestLine::Verify(verified.acee, verified.request)),
-        Err(place) => Err(LineRefusal::BadLine(place)),
-    }
-}
-
-/// A line of AUTH.
-fn auth_line(words: &LineWords) -> Result<RequestLine, LineRefusal>
-    ensures line { line_read result ≡ accessed Auth (asked_by words.now) }
-    ensures refusals { IfErr result IsOfTheLine }
-{
-    let asked = match asked_by(words) {
-        Ok(asked) => asked,
-        Err(place) => return Err(LineRefusal::BadLine(place)),
-    };
-    let Asked {
-        acee,
-        class,
-        name,
-        level: asked,
-    } = asked;
-    match name.read() {
-        Ok(name) => Ok(RequestLine::Auth(acee, Request { class, name, asked })),
-        Err(fault) => Err(LineRefusal::BadName(acee, fault)),
-    }
-}
-
-/// A line of FASTAUTH.
-fn fastauth_line(words: &LineWords) -> Result<RequestLine, LineRefusal>
-    ensures line { line_read result ≡ accessed Fastauth (asked_by words.now) }
-    ensures refusals { IfErr result IsOfTheLine }
-{
-    let asked = match asked_by(words) {
-        Ok(asked) => asked,
-        Err(place) => return Err(LineRefusal::BadLine(place)),
-    };
-    let Asked {
-        acee,
-        class,
-        name,
-        level: asked,
-    } = asked;
-    match name.read() {
-        Ok(name) => Ok(RequestLine::Fastauth(acee, Request { class, name, asked })),
-        Err(fault) => Err(LineRefusal::BadName(acee, fault)),
-    }
-}
-
-/// A line of DELETE.
-fn delete_line(words: &LineWords) -> Result<RequestLine, LineRefusal>
-    ensures line { line_read result ≡ made Delete (deleted words.now) }
-    ensures refusals { IfErr result IsOfTheLine }
-{
-    match deleted(words) {
-        Ok(acee) => Ok(RequestLine::Delete(acee)),
-        Err(place) => Err(LineRefusal::BadLine(place)),
-    }
-}
-
-/// A line of `*AFTER`.
-fn after_line(words: &LineWords) -> Result<RequestLine, LineRefusal>
-    ensures line { line_read result ≡ made After (number_after words.now) }
-    ensures refusals { IfErr result IsOfTheLine }
-{
-    match number_after(words) {
-        Ok(number) => Ok(RequestLine::After(number)),
+    match said(&LineWords::of(line)) {
+        Ok(said) => said.read(),
         Err(place) => Err(LineRefusal::BadLine(place)),
     }
 }

@@ -53,8 +53,8 @@ impl Asked<'_> {
     ghost use Rattle.request_files.specs.Seen.{request_seen, named_access};
 
     /// The request, once the name of the resource is read.
-    pub(crate) fn request(self) -> Result<Request, LineRefusal>
-        ensures request { request_seen result ≡ named_access self.entry }
+    pub(crate) fn request(&self) -> Result<Request, LineRefusal>
+        ensures request { request_seen result ≡ named_access self.now }
         ensures refusals { IfErr result IsOfTheLine }
     {
         let Asked {
@@ -62,7 +62,7 @@ impl Asked<'_> {
             class,
             name,
             level: asked,
-        } = self;
+        } = *self;
         match name.read() {
             Ok(name) => Ok(Request { class, name, asked }),
             Err(fault) => Err(LineRefusal::BadName(acee, fault)),

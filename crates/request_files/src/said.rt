@@ -31,18 +31,16 @@ pub(crate) enum SaidLine<'a> {
 
 impl SaidLine<'_> {
     /// What the line asks for, once the name of the resource is read.
-    pub(crate) fn read(self) -> Result<RequestLine, LineRefusal>
-        ensures line { line_read result ≡ said_line self.entry }
+    pub(crate) fn read(&self) -> Result<RequestLine, LineRefusal>
+        ensures line { line_read result ≡ said_line self.now }
         ensures refusals { IfErr result IsOfTheLine }
     {
         match self {
-            SaidLine::Verify(verified) => Ok(
-                RequestLine::Verify(verified.acee, verified.request),
-            ),
+            SaidLine::Verify(verified) => Ok(RequestLine::Verify(verified.acee, verified.request)),
             SaidLine::Auth(asked) => Ok(RequestLine::Auth(asked.acee, asked.request()?)),
             SaidLine::Fastauth(asked) => Ok(RequestLine::Fastauth(asked.acee, asked.request()?)),
-            SaidLine::Delete(acee) => Ok(RequestLine::Delete(acee)),
-            SaidLine::After(number) => Ok(RequestLine::After(number)),
+            SaidLine::Delete(acee) => Ok(RequestLine::Delete(*acee)),
+            SaidLine::After(number) => Ok(RequestLine::After(*number)),
             SaidLine::Skip => Ok(RequestLine::Skip),
         }
     }
@@ -69,10 +67,16 @@ fn said_by<'a>(verb: LineWord<'a>, words: &LineWords<'a>) -> Result<SaidLine<'a>
         return Ok(SaidLine::Verify(verified_by(words)?));
     }
     if is_spelled(verb.text, b"AUTH") {
-        return Ok(SaidLine::Auth(asked_by(words)?));
+        return match asked_by(words) {
+            Ok(asked) => Ok(SaidLine::Auth(asked)),
+            Err(place) => Err(place),
+        };
     }
     if is_spelled(verb.text, b"FASTAUTH") {
-        return Ok(SaidLine::Fastauth(asked_by(words)?));
+        return match asked_by(words) {
+            Ok(asked) => Ok(SaidLine::Fastauth(asked)),
+            Err(place) => Err(place),
+        };
     }
     if is_spelled(verb.text, b"DELETE") {
         return Ok(SaidLine::Delete(deleted(words)?));

@@ -1,12 +1,12 @@
 //! A stream from a source to a sink.
 
-ghost use Rattle.std.specs.Prelude.{ℕ, ◌≡◌, ◌≢◌, ◌<◌, ◌≤◌, true, false, None, IsTrue, IfSome, OnOk, OnErr, length};
+ghost use Rattle.std.specs.Prelude.{ℕ, ◌≡◌, ◌≢◌, ◌<◌, ◌≤◌, true, false, None, Some, IsTrue, IfSome, OnOk, OnErr, length};
 ghost use Rattle.std.specs.Io.KnownBytes.{append_known};
 ghost use Rattle.racf_outside.specs.Causes.{HasCause, Rose};
 ghost use Rattle.racf_outside.specs.Reader.{at_start};
 ghost use Rattle.racf_desk.specs.Durable.{LeavesIt, SameIdle};
 ghost use Rattle.racf_desk.specs.Position.{Position};
-ghost use Rattle.racf_stream.specs.Durable.{DoesOn, Moves, MovesBy, StaysAlong, fault_in};
+ghost use Rattle.racf_stream.specs.Durable.{DoesOn, Moves, StaysAlong, fault_in};
 ghost use Rattle.racf_stream.specs.Gathering.{IsCutShort, Settles};
 ghost use Rattle.racf_stream.specs.Runs.{Ran, longest_input};
 ghost use Rattle.racf_stream.specs.Script.{stream, stream as machine, fault_of, is_whole, script_output, script_status, StandsAt};
@@ -104,14 +104,14 @@ fn run<S: Source, O: Sink, D: Disk>(
     let mut replies = Replies::new(alloc);
     let mut room = Vec::new(alloc);
     'item: loop {
-        let item = match next_statement(Kind::Stream, alloc, lines, &mut replies, sink, &mut room) {
-            Ok(Ok(item)) => item,
+        let read = match next_statement(Kind::Stream, alloc, lines, &mut replies, sink, &mut room) {
+            Ok(Ok(read)) => read,
             Ok(Err(stop)) => return end(stop, stream, &mut replies, sink),
             Err(Failed) => return unless_failed(stream.has_failed(), Status::WriteFault),
         };
-        if item.is_none() {
+        let Some(item) = read else {
             continue 'item;
-        }
+        };
         let number = stream.number();
         match process_statement(alloc, stream, item, &mut replies, &mut room) {
             Ok(()) => {}
@@ -124,22 +124,19 @@ fn run<S: Source, O: Sink, D: Disk>(
     }
 }
 
-/// Processes a statement, where there is one, and gathers its text. The memory of the statement's own text is left in
-/// `room`, for that of the next one.
+/// Processes a statement, and gathers its text. The memory of the statement's own text is left in `room`, for that of
+/// the next one.
 #[inline(always)]
 fn process_statement<D: Disk>(
     alloc: Global,
     stream: &mut Stream<D>,
-    item: Option<Statement>,
+    item: Statement,
     replies: &mut Replies,
     room: &mut Vec<u8>,
 ) -> Result<(), AllocError>
-    ensures processes { (base : Position) → Processes base result item stream.old stream.new replies.old replies.new }
-    ensures moves { MovesBy D.tells D.faults item stream.old stream.new }
+    ensures processes { (base : Position) → Processes base result (Some item) stream.old stream.new replies.old replies.new }
+    ensures moves { Moves D.tells D.faults item stream.old stream.new }
 {
-    let Some(item) = item else {
-        return Ok(());
-    };
     let done = gather(alloc, stream, &item, replies);
     *room = item.into_room(alloc);
     done

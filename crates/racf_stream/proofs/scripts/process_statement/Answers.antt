@@ -1,5 +1,6 @@
+use Rattle.std.proofs.Common.{Some, refl}
 use Rattle.racf_stream.proofs.Processing.{worked_by}
 use Rattle.racf_stream.proofs.scripts.process_statement.Goals as goal
 
 pub returns-clause-processes : goal.returns-clause-processes
-returns-clause-processes g c = λ base. worked_by base c.gather-done.result c.in-Some.item c.args.item _ _ _ _ c.in-Some.is c.gather-done.ensures.ok c.gather-done.ensures.err
+returns-clause-processes g c = λ base. worked_by base c.gather-done.result c.args.item (Some c.args.item) _ _ _ _ refl c.gather-done.ensures.ok c.gather-done.ensures.err

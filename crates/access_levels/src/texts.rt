@@ -34,6 +34,13 @@ impl Text {
         })
     }
 
+    /// A text of these bytes, where they lie.
+    pub fn of_bytes(bytes: Vec<u8>) -> Text
+        ensures { result ≡ bytes.items }
+    {
+        Text { bytes }
+    }
+
     /// Its bytes.
     pub fn bytes(&self) -> &[u8]
         ensures { result.now ≡ self.now }

@@ -16,10 +16,10 @@ change_len Gone = 0
 change_len (One a) = 1
 change_len (Two a b) = 2
 
--- A page counts its items, of which there are some, has at most 64 parts, and keeps the last part, whose last item is
+-- A page counts its items, of which there are some, has at most 32 parts, and keeps the last part, whose last item is
 -- its own last.
 pub record IsPage {T : Type 0} (items : List T) (count parts : ℕ) (last : List T) : Type 0 where
   pub counted : count ≡ length items
   pub some : 0 < count
-  pub most : parts ≤ 64
+  pub most : parts ≤ 32
   pub ends : slice_get items (length items - 1) ≡ slice_get last (length last - 1)

@@ -1,6 +1,6 @@
 //! Lists of which a changed version shares all but what leads to the change.
 //!
-//! [`Pages`] is a list of items in pages of at most 64. A list never changes: [`Pages::with_inserted`],
+//! [`Pages`] is a list of items in pages of at most 32. A list never changes: [`Pages::with_inserted`],
 //! [`Pages::with_replaced`] and [`Pages::with_removed`] answer a list of their own, for which they copy one page at
 //! each of three levels, and the pages themselves have as many owners as there are lists. So an old version can be
 //! read on while a new one is made, and want of memory leaves it as it was. [`Pages::first`] searches by a [`Test`],

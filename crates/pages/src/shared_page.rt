@@ -14,10 +14,10 @@ use std::marker::{Model, PhantomData};
 use std::sync::Arc;
 
 /// The most parts of a page.
-const MOST: usize = 64;
+const MOST: usize = 32;
 
 /// The parts of a page that is packed.
-const PACKED: usize = 48;
+const PACKED: usize = 24;
 
 /// A page that versions of a list share. It has its own number of items beside it, so that a place is found by the
 /// numbers of the pages of one level, which stand in a row; and its last part, so that a step of a search goes to the
@@ -26,7 +26,7 @@ const PACKED: usize = 48;
 pub struct SharedPage<T: Drop, P: Part<T>> {
     /// How many items are below.
     len: usize,
-    /// At most 64 parts, with an item below at least.
+    /// At most 32 parts, with an item below at least.
     parts: Arc<Vec<P>>,
     /// The last of these parts.
     last: P,
@@ -51,7 +51,7 @@ impl<T: Drop, P: Part<T>> SharedPage<T, P> {
     /// The parts of a page.
     fn parts(&self) -> &[P]
         ensures items { flat_map P.items result.now ≡ self.now }
-        ensures most { length result.now ≤ 64 }
+        ensures most { length result.now ≤ 32 }
         ensures some { 0 < length self.now }
         ensures room { length self.now < 2 ^ 64 }
     {
@@ -61,7 +61,7 @@ impl<T: Drop, P: Part<T>> SharedPage<T, P> {
 
     /// A page of these parts, or none where they are empty.
     fn holding(alloc: Global, parts: Vec<P>) -> Result<Option<SharedPage<T, P>>, AllocError>
-        requires most { vec_len parts ≤ 64 }
+        requires most { vec_len parts ≤ 32 }
         requires room { length (flat_map P.items parts.items) < 2 ^ 64 }
         ensures { IfOk result (λ page. unwrap_or page [] ≡ flat_map P.items parts.items) }
     {
@@ -94,7 +94,7 @@ impl<T: Drop, P: Part<T>> SharedPage<T, P> {
 
     /// The parts as one page, or as two where they are too many for one.
     fn one_or_two(alloc: Global, mut parts: Vec<P>) -> Result<Change<SharedPage<T, P>>, AllocError>
-        requires most { vec_len parts ≤ 65 }
+        requires most { vec_len parts ≤ 33 }
         requires room { length (flat_map P.items parts.items) < 2 ^ 64 }
         ensures { IfOk result (λ change. change_items (λ page. page) change ≡ flat_map P.items parts.items) }
     {

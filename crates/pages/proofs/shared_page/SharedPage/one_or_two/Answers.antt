@@ -8,7 +8,7 @@ holding-requires-2-clause-room g c =
     let f = g.P.Part.items in
     let ps = c.args.parts.items in
     let whole = ap length (flat_map_halves f ps 32) in
-    let sum = length-append (flat_map f (take 32 ps)) (flat_map f (drop 32 ps)) in
+    let sum = length-append (flat_map f (take 16 ps)) (flat_map f (drop 16 ps)) in
     let is = ap (λ l. length (flat_map f l)) c.in_ok-back.ensures.items in
     omega (arith, whole, sum, is, c.requires.room)
 
@@ -17,7 +17,7 @@ holding-requires-3-clause-room g c =
     let f = g.P.Part.items in
     let ps = c.args.parts.items in
     let whole = ap length (flat_map_halves f ps 32) in
-    let sum = length-append (flat_map f (take 32 ps)) (flat_map f (drop 32 ps)) in
+    let sum = length-append (flat_map f (take 16 ps)) (flat_map f (drop 16 ps)) in
     let is = ap (λ l. length (flat_map f l)) c.in_ok-back.ensures.tail in
     omega (arith, whole, sum, is, c.requires.room)
 
@@ -26,5 +26,5 @@ returns g c =
     let f = g.P.Part.items in
     c.change_of-2.ensures
     ∙ ap (λ l. l ++ unwrap_or c.in_ok-holding-3.field-0 []) (c.in_ok-holding-2.ensures ∙ ap (λ l. flat_map f l) c.in_ok-back.ensures.items)
-    ∙ ap (λ l. flat_map f (take 32 c.args.parts.items) ++ l) (c.in_ok-holding-3.ensures ∙ ap (λ l. flat_map f l) c.in_ok-back.ensures.tail)
+    ∙ ap (λ l. flat_map f (take 16 c.args.parts.items) ++ l) (c.in_ok-holding-3.ensures ∙ ap (λ l. flat_map f l) c.in_ok-back.ensures.tail)
     ∙ flat_map_halves f c.args.parts.items 32

@@ -135,7 +135,7 @@ fn edits_of_alt_group(
 pub(crate) fn one(alloc: Global, edit: Edit) -> Result<Vec<Edit>, NoMemory>
     ensures { IfOk result (λ edits. edits.items ≡ edit ∷ []) }
 {
-    let mut edits = Vec::new(alloc);
+    let mut edits = Vec::with_capacity(alloc, 1)?;
     edits.push(edit)?;
     Ok(edits)
 }

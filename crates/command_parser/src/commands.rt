@@ -82,6 +82,14 @@ impl Command {
     {
         &self.text
     }
+
+    /// Its canonical text, which is all that is kept of the command.
+    pub fn into_text(self) -> Vec<u8>
+        ensures { result.items ≡ canonical self }
+    {
+        let Command { fields: _, text } = self;
+        text
+    }
 }
 
 /// What the text spells.

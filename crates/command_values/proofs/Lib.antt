@@ -10,6 +10,7 @@ pub mod LogOptionsLawful
 pub mod LogOptionsAgain
 pub mod AuditAgain
 pub mod EntriesAgain
+pub mod NamedWhos
 pub mod MemberParts
 pub mod MembersAgain
 pub mod ValueAgain

@@ -1,20 +1,19 @@
 //! Whose entries PERMIT means, and at which port of entry.
 
-ghost use Rattle.std.specs.Prelude.{◌≡◌, IfOk, map};
+ghost use Rattle.std.specs.Prelude.{◌≡◌, [], IfOk, Ok, map};
 ghost use Rattle.std.specs.Str.{bytes_eq};
 ghost use Rattle.std.specs.Prelude.{codes};
 ghost use Rattle.access_levels.specs.declared.entries.Who.TheVariants.{Named};
 ghost use Rattle.command_words.specs.Tokens.{tokens};
 ghost use Rattle.command_words.specs.ValuedWords.{valued_words, IsValuedInReach};
 ghost use Rattle.command_words.specs.Pieces.{seen_valued};
-ghost use Rattle.command_values.specs.Results.{Gives, Finds};
+ghost use Rattle.command_values.specs.Results.{◌>>=◌ as and_then, Gives, Finds};
 ghost use Rattle.command_values.specs.Entries.{star_alone, port_name as name_in, port_of as port_in_item, port as port_in};
-ghost use Rattle.command_values.specs.Values.{whos as whos_in};
+ghost use Rattle.command_values.specs.Values.{names, whos as whos_in};
+ghost use Rattle.command_values.specs.declared.value_kinds.ValueKind.TheVariants as kinds;
 
 use crate::faults::{ParseFault, Syntax};
 use crate::named_words::{id_named, port_class_named};
-use crate::value_kinds::ValueKind;
-use crate::value_reading::names;
 use crate::value_words::{clean, held, refused_at, stray, unless_stray, word_of};
 use crate::values::Whos;
 use access_levels::{Condition, Id, Who};
@@ -57,13 +56,18 @@ pub fn port(place: u32, inner: Tokens<'_>) -> Result<Condition, Syntax>
     unless_stray(stray(Quoting::Ignored, &rest), condition)
 }
 
-/// The users and groups of these names.
-fn named(alloc: Global, ids: &[Id]) -> Result<Whos, AllocError>
-    ensures { IfOk result (λ whos. whos ≡ map Named ids.now) }
+/// The users and groups of a list.
+#[tactic(auto, using(crate::proofs::NamedWhos::named_whos))]
+fn named(alloc: Global, inner: Tokens<'_>) -> Result<Whos, ParseFault>
+    ensures { Gives (λ whos. whos) result (and_then (names kinds.Ids [] (valued_words (tokens inner.entry))) (λ ids. Ok (map Named ids))) }
 {
-    let mut items = Vec::with_capacity(alloc, ids.len())?;
-    for id in ids {
-        items.push(Who::Named(*id))?;
+    let mut items = Vec::new(alloc);
+    let mut left = inner;
+    while let Some((item, rest)) = left.split_valued() {
+        let (place, word) = word_of(Quoting::Ignored, item)?;
+        let id = id_named(word).ok_or(Syntax::BadValue(place))?;
+        items.push(Who::Named(id))?;
+        left = rest;
     }
     Ok(Whos { items })
 }
@@ -93,8 +97,7 @@ pub fn whos(alloc: Global, place: u32, inner: Tokens<'_>) -> Result<Whos, ParseF
     };
     let (_, word) = word_of(Quoting::Ignored, item)?;
     if !is_star(word) {
-        let ids = names(alloc, ValueKind::Ids, inner)?;
-        return Ok(named(alloc, &ids.items)?);
+        return named(alloc, inner);
     }
     match stray(Quoting::Ignored, &rest) {
         Some(place) => Err(ParseFault::Syntax(Syntax::BadValue(place))),

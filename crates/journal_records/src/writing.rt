@@ -16,14 +16,15 @@ pub fn write(item: &CommandRecord, out: &mut Vec<u8>) -> Result<(), NoMemory>
     ensures err { OnErr result (out.new.items ≡ out.old.items) }
 {
     let length = content_length(item);
-    let mut bytes = Vec::with_capacity(*out.allocator(), 4 + length as usize)?;
+    out.reserve(4 + length as usize)?;
     let mut number = [0; 4];
     BigEndian::write_u32(&mut number, length);
-    bytes.extend_from_slice(&number)?;
-    bytes.extend_from_slice(&filled(&item.issuer.id))?;
-    bytes.extend_from_slice(&filled(&item.issuer.group))?;
-    bytes.extend_from_slice(item.command.text())?;
-    out.extend_from_slice(&bytes)
+    // There is room for all of it.
+    out.extend_from_slice(&number).unwrap();
+    out.extend_from_slice(&filled(&item.issuer.id)).unwrap();
+    out.extend_from_slice(&filled(&item.issuer.group)).unwrap();
+    out.extend_from_slice(item.command.text()).unwrap();
+    Ok(())
 }
 
 /// How many bytes follow the length.

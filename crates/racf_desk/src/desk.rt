@@ -237,7 +237,7 @@ impl<D: Disk> Desk<D> {
         };
         // Its record is one of the journal, and short.
         is_recorded(&given);
-        let Ok(ready) = make(alloc, &mut self.database, &self.image, &given) else {
+        let Ok(ready) = make(alloc, &mut self.database, &self.image, given) else {
             return Err(Reply::NoMemory);
         };
         self.made = Some(Snapshot::of(&ready));

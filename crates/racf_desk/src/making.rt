@@ -2,7 +2,6 @@
 ghost use Rattle.std.specs.Prelude.{◌≡◌, Some, None, IfOk};
 ghost use Rattle.std.specs.Arc.{arc_value};
 ghost use Rattle.racf_profiles.specs.Edits.{changed};
-ghost use Rattle.command_parser.specs.Canonical.{canonical};
 ghost use Rattle.journal_records.specs.Spelling.{spelled};
 ghost use Rattle.racf_desk.specs.Outcome.{rules_of, number_spent};
 ghost use Rattle.racf_desk.specs.Images.{IsImageOf};
@@ -10,7 +9,6 @@ ghost use Rattle.racf_desk.specs.Made.{made_at, made_in, IsRecorded};
 
 use crate::answers::Ready;
 use access_levels::Text;
-use command_parser::Command;
 use journal_records::laws::{lengths_are_those_of_the_texts, written_is_read};
 use journal_records::{CommandRecord, write};
 use racf_database::Database;
@@ -25,12 +23,12 @@ pub(crate) fn make(
     alloc: Global,
     database: &mut Database,
     image: &Arc<Image>,
-    given: &CommandRecord,
+    given: CommandRecord,
 ) -> Result<Ready, NoMemory>
     requires image { IsImageOf database.old.rows (arc_value image.now) }
-    requires rules { rules_of database.old.rows given.now ≡ None }
+    requires rules { rules_of database.old.rows given ≡ None }
     requires numbered { number_spent (arc_value image.now).generation ≡ None }
-    ensures made { IfOk result (λ ready. made_in ready ≡ made_at (arc_value image.now) given.now) }
+    ensures made { IfOk result (λ ready. made_in ready ≡ made_at (arc_value image.now) given) }
     ensures behind { IfOk result (λ ready. IsImageOf (changed ready.change.edits database.old.rows) (arc_value ready.image)) }
     ensures prepared { IfOk result (λ ready. database.new.prepared ≡ Some ready.change) }
     ensures rows { database.new.rows ≡ database.old.rows }
@@ -38,25 +36,18 @@ pub(crate) fn make(
     // The rows of the state behind the edits are those behind them.
     rows_are_changed();
     let number = image.generation() + 1;
-    let text = canonical_text(alloc, &given.command)?;
-    let entry = entry_of(alloc, given)?;
+    let entry = entry_of(alloc, &given)?;
     let change = database.prepare(alloc, &given.issuer, &given.command)?;
     let image = image.after(alloc, &change, number)?;
+    let CommandRecord { issuer, command } = given;
     Ok(Ready {
         number,
-        issuer: given.issuer,
-        text,
+        issuer,
+        text: Text::of_bytes(command.into_text()),
         entry,
         change,
         image,
     })
-}
-
-/// The canonical text of a command.
-fn canonical_text(alloc: Global, command: &Command) -> Result<Text, NoMemory>
-    ensures { IfOk result (λ text. text ≡ canonical command.now) }
-{
-    Text::of(alloc, command.text())
 }
 
 /// The bytes of the record.
@@ -65,7 +56,7 @@ fn entry_of(alloc: Global, given: &CommandRecord) -> Result<Text, NoMemory>
 {
     let mut entry = Vec::new(alloc);
     write(given, &mut entry)?;
-    Text::of(alloc, entry.as_slice())
+    Ok(Text::of_bytes(entry))
 }
 
 /// The record of every command can be kept. It does nothing: its contract is what it is for.

@@ -129,8 +129,8 @@ impl<D: Disk> Stream<D> {
         }
     }
 
-    /// A command, which is given at the desk. What it takes is made, and what will be told stands whole, before a disk
-    /// is asked.
+    /// A command, which is given at the desk. What it takes is made, and there is room for what will be told, before a
+    /// disk is asked.
     #[tactic(auto, unfolding(crate::specs::Stream::command))]
     fn command(
         &mut self,
@@ -144,7 +144,7 @@ impl<D: Disk> Stream<D> {
     {
         let NamedIssuer { id, group } = self.issuer;
         match self.desk.judge(alloc, id, group, text.as_slice()) {
-            Ok(ready) => settle(alloc, &mut self.desk, ready, out),
+            Ok(ready) => settle(&mut self.desk, ready, out),
             Err(Judgement::Refused(_, why)) => self.refuse(Refusal::Command(why), out),
             Err(Judgement::Halted(number)) => Reply::Halted.write_line(number, out),
             Err(Judgement::Accepted(_) | Judgement::DiskFault(_) | Judgement::NoMemory) => {
@@ -211,9 +211,8 @@ impl<D: Disk> Stream<D> {
     }
 }
 
-/// Puts a command that is accepted on the disks and installs it, once each reply that it may get stands whole.
+/// Puts a command that is accepted on the disks and installs it, once there is room for each reply that it may get.
 fn settle<D: Disk>(
-    alloc: Global,
     desk: &mut Desk<D>,
     ready: Ready,
     out: &mut Vec<u8>,
@@ -226,15 +225,13 @@ fn settle<D: Disk>(
     ensures cause { desk.new.halted ≡ true → Rose (D.faults desk.old.store.journal.disk) (D.faults desk.new.store.journal.disk) }
     ensures no_fewer { D.faults desk.old.store.journal.disk ≤ D.faults desk.new.store.journal.disk }
 {
-    let mut failed = Vec::with_capacity(alloc, out.len().saturating_add(LONGEST_LINE))?;
-    failed.extend_from_slice(out.as_slice())?;
-    Reply::DiskFault.write_line(desk.number(), &mut failed)?;
-    Reply::Accepted.write_line(ready.number, out)?;
+    out.reserve(LONGEST_LINE)?;
     match desk.commit(&ready) {
         Ok(()) => {
-            desk.install(ready);
+            let number = desk.install(ready);
+            Reply::Accepted.write_line(number, out).unwrap();
         }
-        Err(Failed) => *out = failed,
+        Err(Failed) => Reply::DiskFault.write_line(desk.number(), out).unwrap(),
     }
     Ok(())
 }

@@ -12,14 +12,14 @@ use Rattle.racf_desk.proofs.making.make.Goals as goal
 pub returns-clause-made : goal.returns-clause-made
 returns-clause-made c =
     let position = arc_value c.args.image.now in
-    let given = c.args.given.now in
+    let given = c.args.given in
     let change = c.in_ok-change.change in
     let same = c.requires.image.same in
     let edits = c.in_ok-change.ensures.edits ∙ sym (ap (edits_of given.issuer given.command) same) in
     let made = ap (changed change.edits) same ∙ c.in_ok-change.ensures.step ∙ sym (ap (step given.issuer given.command) same) in
     let seen = ap (λ (i : Imaged). i.state) c.deref-2.ensures in
-    made_is position given (c.generation-number.result + 1) c.in_ok-text.text c.in_ok-entry.entry change (arc_value c.in_ok-image.image)
-    (ap (λ n. n + 1) (c.generation-number.ensures ∙ ap (λ (i : Imaged). i.generation) c.deref.ensures)) c.in_ok-text.ensures c.in_ok-entry.ensures edits
+    made_is position given (c.generation-number.result + 1) c.of_bytes.result c.in_ok-entry.entry change (arc_value c.in_ok-image.image)
+    (ap (λ n. n + 1) (c.generation-number.ensures ∙ ap (λ (i : Imaged). i.generation) c.deref.ensures)) (c.of_bytes.ensures ∙ c.into_text.ensures) c.in_ok-entry.ensures edits
     (c.in_ok-image.ensures
     ∙ ap (λ (s : State). record { state = s; generation = c.generation-number.result + 1 })
     (ap (changed_state change.edits) seen ∙ behind given change.edits position.state edits made (c.rows_are_changed.ensures change.edits position.state) c.in_ok-change.ensures.listed))

@@ -1,6 +1,9 @@
 //! Images that were taken.
+ghost use Rattle.std.specs.Prelude.{◌≡◌};
+ghost use Rattle.std.specs.Arc.{arc_value};
 
 use raclist_image::Image;
+use std::marker::Model;
 use std::sync::Arc;
 
 /// An image that was taken. Later commands leave it as it is.
@@ -9,14 +12,27 @@ pub struct TakenImage {
     image: Arc<Image>,
 }
 
+impl Model for TakenImage {
+    ghost use Rattle.std.specs.Arc.{arc_value};
+    ghost use Rattle.raclist_image.specs.Imaged.{Imaged};
+
+    ghost Value = { Imaged };
+
+    ghost view = { λ taken. arc_value taken.image };
+}
+
 impl TakenImage {
     /// An image that has one more owner now.
-    pub(crate) fn of(image: Arc<Image>) -> TakenImage {
+    pub(crate) fn of(image: Arc<Image>) -> TakenImage
+        ensures { result ≡ arc_value image }
+    {
         TakenImage { image }
     }
 
     /// The image.
-    pub fn image(&self) -> &Image {
+    pub fn image(&self) -> &Image
+        ensures { result.now ≡ self.now }
+    {
         &self.image
     }
 }

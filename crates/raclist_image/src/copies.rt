@@ -99,7 +99,7 @@ impl CopyList {
     pub(crate) fn share(&self, alloc: Global) -> Result<CopyList, NoMemory>
         ensures { IfOk result (λ list. list ≡ self.now) }
     {
-        let mut copies = Vec::new(alloc);
+        let mut copies = Vec::with_capacity(alloc, self.copies.len())?;
         for copy in &self.copies {
             copies.push(copy.share()?)?;
         }

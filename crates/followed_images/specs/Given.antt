@@ -1,5 +1,5 @@
 -- What a command makes of an image.
-use Rattle.std.specs.Prelude.{◌≡◌, ℕ, ◌+◌, ◌-◌, ◌^◌, min, List, None, Some, codes}
+use Rattle.std.specs.Prelude.{◌≡◌, ℕ, ◌+◌, ◌-◌, ◌^◌, min, List, None, Some, codes, refl}
 use Rattle.racf_profiles.specs.State.{restart, changed_state}
 use Rattle.racf_profiles.specs.NewDatabase.{new_database}
 use Rattle.command_parser.specs.declared.commands.Issuer.{Issuer}
@@ -11,9 +11,9 @@ use Rattle.raclist_image.specs.Imaged.{Imaged}
 use Rattle.followed_images.specs.declared.followed.Outcome.{Outcome}
 use Rattle.followed_images.specs.declared.followed.Outcome.TheVariants.{Accepted, Faulty, Refused}
 
--- Each command is given by IBMUSER, in the group SYS1.
+-- Each command is given by IBMUSER, in the group SYS1, whose name is spelled as that of a group.
 abbrev pub giver : Issuer
-giver = record { id = codes "IBMUSER"; group = codes "SYS1" }
+giver = record { id = codes "IBMUSER"; group = codes "SYS1"; group_spelled = refl }
 
 -- The image of a new database.
 abbrev pub first_image : Imaged

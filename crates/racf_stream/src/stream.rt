@@ -212,11 +212,7 @@ impl<D: Disk> Stream<D> {
 }
 
 /// Puts a command that is accepted on the disks and installs it, once there is room for each reply that it may get.
-fn settle<D: Disk>(
-    desk: &mut Desk<D>,
-    ready: Ready,
-    out: &mut Vec<u8>,
-) -> Result<(), AllocError>
+fn settle<D: Disk>(desk: &mut Desk<D>, ready: Ready, out: &mut Vec<u8>) -> Result<(), AllocError>
     requires made { desk.old.made ≡ Some (made_in ready) }
     requires running { desk.old.halted ≡ false }
     requires settled { desk.old.committed ≡ false }

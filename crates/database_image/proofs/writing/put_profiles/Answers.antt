@@ -1,0 +1,9 @@
+use Rattle.std.proofs.Common.{arith}
+use Rattle.std.proofs.lemmas.Grind.{common_steps}
+use Rattle.database_image.proofs.writing.put_profiles.Goals as goal
+
+pub loop-row-preserved : goal.loop-row-preserved
+loop-row-preserved c = record {
+  bytes = grind (arith, common_steps);
+  spelled = grind (arith, common_steps);
+}

@@ -60,11 +60,16 @@ def profiles(count, users):
     return [profile(f"Q{i // 100:03}.P{i:05}.**".encode(), i, users) for i in range(count)]
 
 
-def image(part):
-    """The image of a database of so many parts of the limits."""
-    users, groups, count = USERS // part, GROUPS // part, PROFILES // part
+def image_of(users, groups, count):
+    """The image of a database with so many users, groups and profiles of each of two classes. One of one user, one group and
+    no profile is that of a new database."""
     filled = {"DATASET": profiles(count, users), "FACILITY": profiles(count, users)}
     classes = [name(title) + number(1, title == "DATASET") + number(1, 0) + listed(4, filled.get(title, []))
                for title in CLASSES]
     return (number(1, 0) + listed(2, []) + listed(4, [group(i) for i in range(groups)])
             + listed(4, [user(i, groups) for i in range(users)]) + listed(2, classes))
+
+
+def image(part):
+    """The image of a database of so many parts of the limits."""
+    return image_of(USERS // part, GROUPS // part, PROFILES // part)

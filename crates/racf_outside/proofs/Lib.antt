@@ -1,4 +1,5 @@
 pub mod Bytes
+mod Doubts
 mod HeldLaws
 mod ImageRows
 pub mod ImageTests

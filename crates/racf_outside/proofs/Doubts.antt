@@ -1,11 +1,11 @@
 -- A call of a disk in memory that is done by half is one in doubt.
-use Rattle.std.proofs.Common.{ℕ, ◌≡◌, List, [], take, length, Option, None, Some, false, refl, sym, subst, ap}
-use Rattle.std.specs.Prelude.{◌/◌, Result, Ok, Err, OnErr}
+use Rattle.std.proofs.Common.{ℕ, ◌≡◌, List, [], take, Some, false, refl, sym, subst, ap}
+use Rattle.std.specs.Prelude.{Result, Ok, Err, OnErr}
 use Rattle.std.proofs.lemmas.Option.{none-some}
 use Rattle.racf_outside.specs.Calls.{no_calls}
 use Rattle.racf_outside.specs.Disk.{History, then_comes, goes, IsFaulty, InDoubt, Faulty}
 use Rattle.racf_outside.specs.DiskLaws.{settled_is_an_image, half_is_an_image, cut_is_an_image}
-use Rattle.racf_outside.specs.MemoryDisk.{DiskInMemory, Replay, half_written, takes, begins, replayed, history_of}
+use Rattle.racf_outside.specs.MemoryDisk.{DiskInMemory, Replay, half_written, takes, begins, replayed}
 use Rattle.racf_outside.specs.Moments.{Moment, IsImage, written, cut_to, reads_as}
 use Rattle.racf_outside.specs.declared.memory_disk.Step.{Step}
 use Rattle.racf_outside.specs.declared.memory_disk.Step.TheVariants.{Cut, Lost}

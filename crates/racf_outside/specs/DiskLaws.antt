@@ -1,5 +1,5 @@
 -- That a disk as it reads is one of its images, for the disks of this crate.
-use Rattle.std.specs.Prelude.{ℕ, ◌+◌, ◌-◌, ◌/◌, ◌≡◌, ◌<◌, ◌≤◌, ◌⊎◌, Bool, true, false, not, ◌&&◌, ◌||◌, nat_lt, List, [], ◌∷◌, ◌++◌, length, take, drop, get_or, None, Some}
+use Rattle.std.specs.Prelude.{ℕ, zero, suc, ◌+◌, ◌-◌, ◌/◌, ◌≡◌, ◌<◌, ◌≤◌, ◌⊎◌, Bool, true, false, not, ◌&&◌, ◌||◌, nat_lt, List, [], ◌∷◌, ◌++◌, length, take, drop, get_or, None, Some}
 use Rattle.std.proofs.Common.{refl, sym, subst, ap, ◌∙◌, arith, inl, inr, length-append, length-drop}
 use Rattle.std.proofs.lemmas.Bool.{true≢false, ltb-true, ltb-false}
 use Rattle.std.proofs.lemmas.List.{length-take, get_or_append_left, get_or-append_right, get_or-take, get_or-drop}
@@ -7,6 +7,7 @@ use Rattle.std.proofs.lemmas.Option.{none-some}
 use Rattle.racf_outside.specs.Moments.{Moment, IsImage, is_written, durable, written, cut_to, synced, reads_as}
 use Rattle.racf_outside.specs.Disk.{History}
 use Rattle.racf_outside.specs.MemoryDisk.{DiskInMemory, Replay, half_written, takes, begins, replayed, history_of, settled_of}
+use Rattle.racf_outside.specs.ReadOnlyDisk.{DiskReadOnly, synced_times, moments_of}
 use Rattle.racf_outside.specs.declared.memory_disk.Step.{Step}
 use Rattle.racf_outside.specs.declared.memory_disk.Step.TheVariants.{Wrote, WroteHalf, Cut, Synced, Lost}
 
@@ -159,3 +160,20 @@ pub cut_is_an_image : (end : ℕ) (disk : DiskInMemory) → IsImage (cut_to end 
 cut_is_an_image end disk =
     let m : Moment = (history_of disk).now in
     between_reads (cut_to end m) (between_cut end m (sound_disk disk).between)
+
+-- what a disk that is only read gives at each moment is what it holds
+pub reads_what_it_holds : (count : ℕ) (bytes : List ℕ) → (synced_times count bytes).now ≡ durable bytes
+reads_what_it_holds zero bytes = refl
+reads_what_it_holds (suc count) bytes = ap synced (reads_what_it_holds count bytes)
+
+-- a disk that is only read
+pub held_is_an_image : (disk : DiskReadOnly) (history : History) → Some (moments_of disk) ≡ Some history → IsImage history.now history.now.bytes
+held_is_an_image disk history told =
+    let still : IsBetween (durable disk.bytes) = record { shortest = omega arith; longest = omega arith } in
+    subst (λ h. IsImage h.now h.now.bytes) (same_history (moments_of disk) history told)
+    (subst (λ m. IsImage m m.bytes) (sym (reads_what_it_holds disk.syncs disk.bytes)) (between_reads (durable disk.bytes) still))
+
+-- what a read of it gives is what it holds
+pub held_bytes : (disk : DiskReadOnly) (history : History) → Some (moments_of disk) ≡ Some history → history.now.bytes ≡ disk.bytes
+held_bytes disk history told =
+    sym (ap (λ h. h.now.bytes) (same_history (moments_of disk) history told)) ∙ ap (λ m. m.bytes) (reads_what_it_holds disk.syncs disk.bytes)

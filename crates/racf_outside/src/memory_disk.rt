@@ -168,6 +168,7 @@ impl Disk for MemoryDisk {
         // It fails only where it is told to, and does nothing.
         ensures failed { FailsAsTold false self.old.calls self.new.calls (is_err result) }
         ensures nothing { DidNothing self.old self.new }
+        ensures doubting { self.new.doubting ≡ self.old.doubting }
     {
         self.calls.call()?;
         Ok(fill(&self.bytes, at as usize, into))
@@ -266,7 +267,7 @@ impl Disk for MemoryDisk {
 }
 
 /// Moves the bytes from a place on into the front of `into`, as many as fit, and answers how many.
-fn fill(bytes: &[u8], at: usize, into: &mut [u8]) -> usize
+pub(crate) fn fill(bytes: &[u8], at: usize, into: &mut [u8]) -> usize
     ensures count { result ≡ min (length into.new) (length bytes.now - at) }
     ensures found { take result into.new ≡ take result (drop at bytes.now) }
 {

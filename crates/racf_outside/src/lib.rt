@@ -2,13 +2,13 @@
 //! and outputs, the lines of an input, disks and clocks. Each object counts its faults, and a call fails only where the
 //! count of its object rose.
 //!
-//! The principal type is `Shelf`: `MemoryShelf` is that of an embedder or a test, which tells what was written. `racf_run`
-//! works a stream between an input and an output of any. Who embeds a shelf of another kind counts its faults in
-//! `Faults`, and lends its outputs by `Outputs`.
+//! The principal type is `Shelf`: `MemoryShelf` is that of an embedder or a test, which tells what was written.
+//! `racf_run` works a stream between an input and an output of any. Who embeds a shelf of another kind counts its faults
+//! in `Faults`, and lends its outputs by `Outputs`.
 //!
 //! A `Disk` outlives the program: `MemoryDisk` is one in memory, which tells what a read gives and what a crash may
-//! leave at each moment, and `ReadOnlyDisk` one that takes no write. A `Clock` says what moment it is: `Steady` gives one
-//! number alone.
+//! leave at each moment, and `ReadOnlyDisk` one that takes no write. A `Clock` says what moment it is: `Steady` gives
+//! one number alone.
 //!
 //! The shelf of real files, the disk that is a real file and the real clock are adapters, and lie in the crate
 //! `racf_files`.

@@ -1,6 +1,7 @@
 //! Disks: a table of calls that are to fail, and each form once.
 
-use racf_outside::{Disk, Failed, FileDisk, MemoryDisk, NeverDisk};
+use racf_files::FileDisk;
+use racf_outside::{Disk, Failed, MemoryDisk, NeverDisk};
 use std::fs;
 use std::process::Abort;
 

@@ -32,14 +32,14 @@ impl Slot {
 
 /// The outputs by their names. The newest of a name counts; they are searched one by one.
 #[derive(Drop)]
-pub(crate) struct Outputs {
+pub struct Outputs {
     /// The newest first.
     pub(crate) slots: Vec<Slot>,
 }
 
 impl Outputs {
     /// No output.
-    pub(crate) fn new(alloc: Global) -> Outputs
+    pub fn new(alloc: Global) -> Outputs
         ensures { result.slots.items ≡ [] }
     {
         Outputs {
@@ -48,7 +48,7 @@ impl Outputs {
     }
 
     /// Lends a new output of this name.
-    pub(crate) fn lend(&mut self, alloc: Global, name: &str) -> Result<(), AllocError>
+    pub fn lend(&mut self, alloc: Global, name: &str) -> Result<(), AllocError>
         ensures opened { OnOk result (Opens name.now (is_lent self.old) (is_lent self.new)) }
         ensures others { OnOk result (SameOthers name.now (output_of self.old) (output_of self.new)) }
         ensures err { OnErr result (self.new.slots.items ≡ self.old.slots.items) }
@@ -63,7 +63,7 @@ impl Outputs {
     }
 
     /// Takes a lent output back, with its bytes where they are to be kept. Takes no memory.
-    pub(crate) fn give_back(&mut self, name: &str, bytes: Option<Vec<u8>>)
+    pub fn give_back(&mut self, name: &str, bytes: Option<Vec<u8>>)
         requires { is_lent self.old name.now ≡ true }
         ensures bytes { output_of self.new name.now ≡ option_map (λ kept. kept.items) bytes }
         ensures closed { Closes name.now (is_lent self.old) (is_lent self.new) }
@@ -78,7 +78,7 @@ impl Outputs {
     }
 
     /// The bytes that were given back under this name, where they are kept and it isn't lent again.
-    pub(crate) fn bytes(&self, name: &str) -> Option<&[u8]>
+    pub fn bytes(&self, name: &str) -> Option<&[u8]>
         ensures { option_copied result ≡ output_of self.now name.now }
     {
         match self.find(name) {

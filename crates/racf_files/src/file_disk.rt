@@ -3,9 +3,7 @@
 ghost use Rattle.std.specs.Prelude.{◌≡◌, ◌≤◌, length, None, IfOk};
 ghost use Rattle.racf_outside.specs.DiskLaws.{untold_reads_an_image};
 
-use crate::disk::Disk;
-use crate::faults::Faults;
-use crate::streams::Failed;
+use racf_outside::{Disk, Failed, Faults};
 use std::alloc::Global;
 use std::fs::{File, OpenOptions, TryLockError};
 use std::io;

@@ -3,11 +3,8 @@
 ghost use Rattle.std.specs.Prelude.{◌≡◌, ◌≤◌, length, false, None, IfOk};
 ghost use Rattle.racf_outside.specs.Slots.{is_lent};
 
-use crate::faults::Faults;
 use crate::file_identity::{FileIdentity, OpenInputs, identity_of};
-use crate::outputs::Outputs;
-use crate::shelf::Shelf;
-use crate::streams::{Failed, Sink, Source};
+use racf_outside::{Failed, Faults, Outputs, Shelf, Sink, Source};
 use std::alloc::Global;
 use std::fs::{File, OpenFile, OpenOptions};
 use std::io::{Read, Write};

@@ -6,7 +6,8 @@ ghost use Rattle.racf_outside.specs.Causes.{Rose, TakesOver};
 use crate::streams::Failed;
 use std::marker::Model;
 
-/// A count of faults, which stays at 2^64 - 1 once it is there.
+/// A count of faults, which stays at 2^64 - 1 once it is there. Each source, sink, shelf and disk counts its own by one
+/// of these: a call that fails answers what `count` gives, so that it fails only where the count rose.
 #[derive(Drop)]
 pub struct Faults {
     /// How many faults.

@@ -2,11 +2,14 @@
 //! and outputs, the lines of an input, and disks. Each object counts its faults, and a call fails only where the count
 //! of its object rose.
 //!
-//! The principal type is `Shelf`: `FileShelf` is that of real files, `MemoryShelf` that of an embedder or a test, which
-//! tells what was written. `racf_run` works a stream between an input and an output of either.
+//! The principal type is `Shelf`: `MemoryShelf` is that of an embedder or a test, which tells what was written. `racf_run`
+//! works a stream between an input and an output of any. Who embeds a shelf of another kind counts its faults in
+//! `Faults`, and lends its outputs by `Outputs`.
 //!
-//! A `Disk` outlives the program: `FileDisk` is a real file, `MemoryDisk` one in memory, which tells what a read gives
-//! and what a crash may leave at each moment.
+//! A `Disk` outlives the program: `MemoryDisk` is one in memory, which tells what a read gives and what a crash may
+//! leave at each moment.
+//!
+//! The shelf of real files and the disk that is a real file are adapters, and lie in the crate `racf_files`.
 //!
 //! ```text
 //! let mut shelf = MemoryShelf::new(alloc, failing);

@@ -80,10 +80,15 @@ impl Asking {
         };
     }
 
-    /// Takes what was typed. Where it asks for the words they are printed, and it isn't for who reads.
+    /// Takes what was typed. Where it asks for the words they are printed, and it isn't for who reads. Behind the end the
+    /// line of the prompt is ended.
     pub(crate) fn is_answered<R: Eprint>(&mut self, terminal: &R, typed: &[u8]) -> bool {
+        if typed.is_empty() {
+            let _ = eprintln!(terminal; "");
+            return false;
+        }
         let Some(line) = typed.strip_suffix(b"\n") else {
-            self.is_fresh = typed.is_empty();
+            self.is_fresh = false;
             return false;
         };
         if self.is_fresh && line.trim_ascii() == QUESTION {

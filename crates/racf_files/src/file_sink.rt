@@ -13,6 +13,25 @@ use std::io::Write;
 use std::marker::Model;
 use std::rt::Files;
 
+/// Standard output in a dialogue at a terminal.
+#[derive(Drop)]
+pub(crate) struct Shown<R: Print + Drop> {
+    /// Where it is printed.
+    pub(crate) runtime: R,
+    /// What was.
+    pub(crate) printed: Printed,
+}
+
+impl<R: Print + Drop> Shown<R> {
+    /// Prints, and looks for the number in front of the line.
+    fn write(&mut self, bytes: &[u8]) -> io::Result<usize>
+        ensures { IfOk result (λ n. n ≤ length bytes.now) }
+    {
+        self.printed.take(bytes);
+        self.runtime.write_some(bytes)
+    }
+}
+
 /// Where bytes go.
 #[derive(Drop)]
 pub(crate) enum Target<R: Files<File = File> + Print + Drop> {
@@ -21,7 +40,7 @@ pub(crate) enum Target<R: Files<File = File> + Print + Drop> {
     /// Standard output.
     Standard(R),
     /// Standard output, in a dialogue at a terminal.
-    Dialogue(R, Printed),
+    Dialogue(Shown<R>),
 }
 
 impl<R: Files<File = File> + Print + Drop> Target<R> {
@@ -32,10 +51,7 @@ impl<R: Files<File = File> + Print + Drop> Target<R> {
         match self {
             Target::File(file) => file.write(bytes),
             Target::Standard(runtime) => runtime.write_some(bytes),
-            Target::Dialogue(runtime, printed) => {
-                printed.take(bytes);
-                runtime.write_some(bytes)
-            }
+            Target::Dialogue(shown) => shown.write(bytes),
         }
     }
 }

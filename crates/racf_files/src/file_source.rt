@@ -16,6 +16,33 @@ use std::rt::Files;
 /// The longest input.
 const LONGEST: u64 = 1 << 28;
 
+/// Standard input in a dialogue at a terminal.
+#[derive(Drop)]
+pub(crate) struct Typed<R: Files<File = File> + Input + Drop> {
+    /// What is typed.
+    pub(crate) reader: R::Reader,
+    /// Where it is asked for.
+    pub(crate) terminal: R,
+    /// What is asked.
+    pub(crate) asking: Asking,
+}
+
+impl<R: Files<File = File> + Input + Eprint + Drop> Typed<R> {
+    /// Reads what is typed next that isn't answered at the terminal itself.
+    fn read(&mut self, into: &mut [u8]) -> io::Result<usize>
+        ensures { IfOk result (λ n. n ≤ length into.new) }
+    {
+        for _ in 0..u64::MAX {
+            self.asking.prompt(&self.terminal);
+            let count = self.reader.read(into)?;
+            if !self.asking.is_answered(&self.terminal, &into[..count]) {
+                return Ok(count);
+            }
+        }
+        Ok(0)
+    }
+}
+
 /// Where bytes come from.
 #[derive(Drop)]
 pub(crate) enum Origin<R: Files<File = File> + Input + Drop> {
@@ -24,7 +51,7 @@ pub(crate) enum Origin<R: Files<File = File> + Input + Drop> {
     /// Standard input.
     Standard(R::Reader),
     /// Standard input, in a dialogue at a terminal.
-    Dialogue(R::Reader, R, Asking),
+    Dialogue(Typed<R>),
 }
 
 impl<R: Files<File = File> + Input + Eprint + Drop> Origin<R> {
@@ -35,28 +62,9 @@ impl<R: Files<File = File> + Input + Eprint + Drop> Origin<R> {
         match self {
             Origin::File(file) => file.read(into),
             Origin::Standard(reader) => reader.read(into),
-            Origin::Dialogue(reader, terminal, asking) => read_typed(reader, terminal, asking, into),
+            Origin::Dialogue(typed) => typed.read(into),
         }
     }
-}
-
-/// Reads what is typed next that isn't answered at the terminal itself.
-fn read_typed<I: Read, R: Eprint>(
-    reader: &mut I,
-    terminal: &R,
-    asking: &mut Asking,
-    into: &mut [u8],
-) -> io::Result<usize>
-    ensures { IfOk result (λ n. n ≤ length into.new) }
-{
-    for _ in 0..u64::MAX {
-        asking.prompt(terminal);
-        let count = reader.read(into)?;
-        if !asking.is_answered(terminal, &into[..count]) {
-            return Ok(count);
-        }
-    }
-    Ok(0)
 }
 
 /// What is known of what was read.

@@ -4,11 +4,11 @@ ghost use Rattle.std.specs.Prelude.{◌≡◌, IfOk};
 
 use crate::dialogue::{Asking, LastNumber, Printed};
 use crate::file_identity::FileIdentity;
-use crate::file_sink::{FileSink, Target};
-use crate::file_source::{FileSource, Origin};
+use crate::file_sink::{FileSink, Shown, Target};
+use crate::file_source::{FileSource, Origin, Typed};
 use crate::opening::{OpenInput, OpenOutput};
 use crate::planned::{Open, OpenFiles, Plan, Role, Trouble, trouble_with};
-use crate::progress::Progress;
+use crate::progress::{Phase, Progress};
 use crate::guard::Guard;
 use crate::reasons::Reason;
 use std::alloc::{AllocError, Global};
@@ -105,13 +105,15 @@ impl<R: Files<File = File> + Input + Print + Eprint + Clone + Drop> ShelfFiles<R
 
     /// Who is told what is read of an input.
     fn told(&self, opened: &OpenInput) -> Result<Option<Progress>, AllocError> {
-        match &self.progress {
-            Some(progress) if self.dialogue.is_none() => {
-                progress.expect(opened.length);
-                Ok(Some(progress.share()?))
-            }
-            _ => Ok(None),
+        let Some(progress) = &self.progress else {
+            return Ok(None);
+        };
+        if self.dialogue.is_some() {
+            progress.begin(Phase::Quiet);
+            return Ok(None);
         }
+        progress.expect(opened.length);
+        Ok(Some(progress.share()?))
     }
 
     /// What is read of an input.
@@ -128,7 +130,11 @@ impl<R: Files<File = File> + Input + Print + Eprint + Clone + Drop> ShelfFiles<R
         match &self.dialogue {
             Some(dialogue) => {
                 let asking = Asking::new(dialogue.last.share()?, dialogue.words);
-                Ok(Origin::Dialogue(reader, self.open.runtime.clone()?, asking))
+                Ok(Origin::Dialogue(Typed {
+                    reader,
+                    terminal: self.open.runtime.clone()?,
+                    asking,
+                }))
             }
             None => Ok(Origin::Standard(reader)),
         }
@@ -186,7 +192,10 @@ impl<R: Files<File = File> + Input + Print + Eprint + Clone + Drop> ShelfFiles<R
         }
         let runtime = self.open.runtime.clone()?;
         match &self.dialogue {
-            Some(dialogue) => Ok(Target::Dialogue(runtime, Printed::new(dialogue.last.share()?))),
+            Some(dialogue) => Ok(Target::Dialogue(Shown {
+                runtime,
+                printed: Printed::new(dialogue.last.share()?),
+            })),
             None => Ok(Target::Standard(runtime)),
         }
     }

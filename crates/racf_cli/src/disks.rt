@@ -5,6 +5,7 @@ use racf_outside::Two;
 use std::alloc::AllocError;
 use std::fs;
 use std::fs::File;
+use std::io::ErrorKind;
 use std::rt::Files;
 
 /// The files of the database, in the folder that the program runs in.
@@ -21,6 +22,19 @@ where
 /// The first of the disks that may hold a database: a regular file that isn't empty.
 pub(crate) fn first_that_holds<R: Files>(rt: &R) -> Option<&'static str> {
     DISKS.iter().find(|name| holds_anything(rt, name)).copied()
+}
+
+/// The first of the disks that isn't there.
+pub(crate) fn first_missing<R: Files>(rt: &R) -> Option<&'static str> {
+    DISKS.iter().find(|name| is_missing(rt, name)).copied()
+}
+
+/// Whether there is nothing of this name.
+fn is_missing<R: Files>(rt: &R, name: &str) -> bool {
+    match fs::symlink_metadata(rt, name) {
+        Ok(_) => false,
+        Err(error) => error.kind() == ErrorKind::NotFound,
+    }
 }
 
 /// Whether a name is that of a regular file that isn't empty.

@@ -12,8 +12,10 @@ pub(crate) struct Found {
     pub(crate) unopened: Vec<Trouble>,
     /// Why a call of each disk failed.
     pub(crate) disks: [Option<Reason>; 2],
-    /// Either disk holds anything.
-    pub(crate) has_files: bool,
+    /// The first disk that holds anything.
+    pub(crate) holding: Option<&'static str>,
+    /// The first disk that isn't there.
+    pub(crate) missing: Option<&'static str>,
 }
 
 /// Says how a run ended, where it didn't end well: the words of the status, in a line of its own.
@@ -38,7 +40,7 @@ pub(crate) fn say_why(
     match status {
         Status::Done | Status::Refusals => {}
         Status::Usage => say_usage(rt, words),
-        Status::NotFormatted => say_no_database(rt, found.has_files),
+        Status::NotFormatted => say_no_database(rt, found),
         Status::Damaged(_) => say_damaged(rt),
         Status::ReadFault
         | Status::WriteFault
@@ -56,13 +58,13 @@ fn say_usage(rt: &impl Eprint, words: &[String]) {
     };
 }
 
-/// Says that there is no database.
-fn say_no_database(rt: &impl Eprint, has_files: bool) {
+/// Says that there is no database: of two files of which one lacks, which one.
+fn say_no_database(rt: &impl Eprint, found: &Found) {
     let [first, second] = DISKS;
-    let _ = if has_files {
-        eprintln!(rt; "racf: {first}, {second}: no database")
-    } else {
-        eprintln!(rt; "racf: no database in this folder: racf init makes one")
+    let _ = match (found.holding, found.missing) {
+        (None, _) => eprintln!(rt; "racf: no database in this folder: racf init makes one"),
+        (Some(_), Some(missing)) => eprintln!(rt; "racf: {missing}: no such file"),
+        (Some(_), None) => eprintln!(rt; "racf: {first}, {second}: no database"),
     };
 }
 

@@ -1,7 +1,8 @@
 //! The top call over the real files, disks and standard streams.
 
-use crate::disks::{guard, open_disks, reasons, take_away, tell_disks};
-use crate::disks::{DISKS, first_that_holds};
+use crate::disks::{
+    DISKS, first_missing, first_that_holds, guard, open_disks, reasons, take_away, tell_disks,
+};
 use crate::explaining::{Found, say_disk, say_status, say_why};
 use crate::help::TYPED;
 use crate::watching::{end, watch};
@@ -37,7 +38,8 @@ pub(crate) fn nothing_found(alloc: Global) -> Found {
     Found {
         unopened: Vec::new(alloc),
         disks: [None, None],
-        has_files: false,
+        holding: None,
+        missing: None,
     }
 }
 
@@ -200,7 +202,8 @@ fn conclude(
     say_status(rt, status);
     let mut found = nothing_found(rt.alloc());
     found.disks = disks;
-    found.has_files = first_that_holds(rt).is_some();
+    found.holding = first_that_holds(rt);
+    found.missing = first_missing(rt);
     if let Ok(unopened) = shelf.unopened() {
         found.unopened = unopened;
     }

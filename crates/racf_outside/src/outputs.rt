@@ -55,9 +55,9 @@ impl Slot {
     }
 }
 
-/// The outputs of a shelf by their names: which are lent, and what was given back. The newest of a name counts; they are
-/// searched one by one. A shelf lends an output here where its `sink` opens one, and takes it back where it is given
-/// back; what is lent is then what is open.
+/// The outputs of a shelf by their names: which are lent, and what was given back. The newest of a name counts; they
+/// are searched one by one. A shelf lends an output here where its `sink` opens one, and takes it back where it is
+/// given back; what is lent is then what is open.
 #[derive(Drop)]
 pub struct Outputs {
     /// The newest first.

@@ -2,8 +2,8 @@
 
 use racf_files::FileShelf;
 use racf_outside::{
-    Failed, Failing, Line, LineFault, Lines, MemoryShelf, MemorySource, NeverSink,
-    NeverSource, Shelf, Sink, Source,
+    Failed, Failing, Line, LineFault, Lines, MemoryShelf, MemorySource, NeverSink, NeverSource,
+    Shelf, Sink, Source,
 };
 use std::alloc::Global;
 use std::fs;

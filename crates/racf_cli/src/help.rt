@@ -58,7 +58,8 @@ Blank lines and lines that begin with /* are skipped. The exit status is 0, or 4
 long. From 8 on standard error says it, and behind it, line by line, which files it is about, and why.";
 
 /// What a line `?` is answered at a terminal.
-pub(crate) const TYPED: &str = "commands: ADDUSER ALTUSER DELUSER ADDGROUP ALTGROUP DELGROUP CONNECT REMOVE ADDSD ALTDSD DELDSD
+pub(crate) const TYPED: &str =
+    "commands: ADDUSER ALTUSER DELUSER ADDGROUP ALTGROUP DELGROUP CONNECT REMOVE ADDSD ALTDSD DELDSD
           RDEFINE RALTER RDELETE PERMIT SETROPTS; one goes on in the next line behind - or +
 *ISSUER user [GROUP(group)]
 VERIFY acee user [GROUP(group)] [TERMINAL(name)] [CONSOLE(name)] [JESINPUT(name)] [APPCPORT(name)] [APPL(name)]

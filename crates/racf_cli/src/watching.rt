@@ -58,11 +58,7 @@ pub(crate) fn end<T: Threads>(rt: &T, watcher: Option<Watcher>) {
 }
 
 /// Tells how far the work has come, twice a second, until it ends; then the line is emptied.
-fn tell_until<T: Wait + Eprint>(
-    rt: &T,
-    ended: &AtomicU64,
-    progress: &Progress,
-) {
+fn tell_until<T: Wait + Eprint>(rt: &T, ended: &AtomicU64, progress: &Progress) {
     let mut has_told = false;
     for count in 1..u64::MAX {
         ended.park_timeout(rt, 0, Duration::from_millis(PAUSE));
@@ -85,7 +81,11 @@ fn tell<T: Eprint>(rt: &T, count: u64, progress: &Progress) -> bool {
         Phase::Writing => eprint!(rt; "\rracf: writing a checkpoint, {seconds} s\x1b[K"),
         Phase::Reading => {
             let (read, whole) = progress.bytes();
-            eprint!(rt; "\rracf: {read} of {whole} bytes read, {seconds} s\x1b[K")
+            if read < whole {
+                eprint!(rt; "\rracf: {read} of {whole} bytes read, {seconds} s\x1b[K")
+            } else {
+                eprint!(rt; "\rracf: {read} bytes read, {seconds} s\x1b[K")
+            }
         }
     };
     true

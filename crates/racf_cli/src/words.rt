@@ -59,9 +59,8 @@ pub(crate) fn are_standard(words: &[String]) -> bool {
 pub(crate) fn script_names(words: &[String]) -> Option<(&str, &str)> {
     match words {
         [verb, input, output] if verb.as_str() == SCRIPT => Some((input.as_str(), output.as_str())),
-        [verb, option, _, input, output] if verb.as_str() == SCRIPT && option.as_str() == ISSUER => {
-            Some((input.as_str(), output.as_str()))
-        }
+        [verb, option, _, input, output] if verb.as_str() == SCRIPT && option.as_str() == ISSUER =>
+            { Some((input.as_str(), output.as_str())) }
         _ => None,
     }
 }
@@ -69,7 +68,8 @@ pub(crate) fn script_names(words: &[String]) -> Option<(&str, &str)> {
 /// The names of the decks and the request files, where the words are those of a run.
 pub(crate) fn run_names(words: &[String]) -> &[String] {
     match words {
-        [verb, option, _, _, names @ ..] if verb.as_str() == RUN && option.as_str() == ISSUER => names,
+        [verb, option, _, _, names @ ..] if verb.as_str() == RUN && option.as_str() == ISSUER =>
+            names,
         [verb, _, names @ ..] if verb.as_str() == RUN => names,
         _ => &[],
     }

@@ -8,12 +8,11 @@ use crate::paths::{behind_standard, sync_folder};
 use crate::reasons::Reason;
 use crate::size_bound::{fits, size_bound};
 use std::alloc::Global;
-use std::fs;
 use std::fs::{File, OpenOptions, TryLockError};
-use std::io;
 use std::io::ErrorKind;
 use std::os::unix::fs::{FileExt, OpenOptionsExt};
 use std::rt::Files;
+use std::{fs, io};
 
 /// Of a file no more is read than the longest database has, and one byte, which shows that it is too long.
 pub(crate) const MOST_BYTES: u64 = (1 << 28) + 1;

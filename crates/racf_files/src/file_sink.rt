@@ -9,7 +9,7 @@ use crate::size_bound::fits;
 use racf_outside::{Failed, Faults, Sink};
 use std::fs::File;
 use std::io;
-use std::io::Write;
+use std::io::{ErrorKind, Write};
 use std::marker::Model;
 use std::rt::Files;
 
@@ -41,6 +41,8 @@ pub(crate) enum Target<R: Files<File = File> + Print + Drop> {
     Standard(R),
     /// Standard output, in a dialogue at a terminal.
     Dialogue(Shown<R>),
+    /// What isn't open: each write fails.
+    Nothing,
 }
 
 impl<R: Files<File = File> + Print + Drop> Target<R> {
@@ -52,6 +54,7 @@ impl<R: Files<File = File> + Print + Drop> Target<R> {
             Target::File(file) => file.write(bytes),
             Target::Standard(runtime) => runtime.write_some(bytes),
             Target::Dialogue(shown) => shown.write(bytes),
+            Target::Nothing => Err(io::Error::from(ErrorKind::Unsupported)),
         }
     }
 }
@@ -101,11 +104,7 @@ impl<R: Files<File = File> + Print + Drop> Model for FileSink<R> {
 
 impl<R: Files<File = File> + Print + Drop> FileSink<R> {
     /// Nothing was written yet.
-    pub(crate) fn new(
-        target: Target<R>,
-        identity: Option<FileIdentity>,
-        room: Room,
-    ) -> FileSink<R>
+    pub(crate) fn new(target: Target<R>, identity: Option<FileIdentity>, room: Room) -> FileSink<R>
         ensures { result ≡ 0 }
     {
         FileSink {

@@ -36,7 +36,7 @@ mod reasons;
 mod size_bound;
 mod standard;
 
-pub use clock::seconds_now;
+pub use clock::RealClock;
 pub use file_disk::{FileDisk, open_both};
 pub use file_identity::{FileIdentity, identity_at};
 pub use file_shelf::FileShelf;

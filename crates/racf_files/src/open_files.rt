@@ -6,10 +6,10 @@ use crate::dialogue::{Asking, LastNumber, Printed};
 use crate::file_identity::FileIdentity;
 use crate::file_sink::{FileSink, Shown, Target};
 use crate::file_source::{FileSource, Origin, Typed};
+use crate::guard::Guard;
 use crate::opening::{OpenInput, OpenOutput};
 use crate::planned::{Open, OpenFiles, Plan, Role, Trouble, trouble_with};
 use crate::progress::{Phase, Progress};
-use crate::guard::Guard;
 use crate::reasons::Reason;
 use std::alloc::{AllocError, Global};
 use std::fs::File;
@@ -63,7 +63,11 @@ impl<R: Files<File = File> + Input + Print + Eprint + Clone + Drop> ShelfFiles<R
     }
 
     /// The words name these.
-    pub(crate) fn plan(&mut self, input: Option<&str>, output: Option<&str>) -> Result<(), AllocError> {
+    pub(crate) fn plan(
+        &mut self,
+        input: Option<&str>,
+        output: Option<&str>,
+    ) -> Result<(), AllocError> {
         self.plan.add(self.open.alloc, input, output)
     }
 
@@ -146,11 +150,11 @@ impl<R: Files<File = File> + Input + Print + Eprint + Clone + Drop> ShelfFiles<R
         ensures { IfOk result (λ sink. sink ≡ 0) }
     {
         self.plan.open(&mut self.open);
-        let opened = match self.plan.take_output(name) {
-            Some(found) => found?,
-            None => self.open_output(name)?,
+        let (opened, is_emptied) = match self.plan.take_output(name) {
+            Some(found) => (found?, !self.plan.has_failed()),
+            None => (self.open_output(name)?, true),
         };
-        if !self.plan.has_failed() {
+        if is_emptied {
             self.empty(name, &opened)?;
         }
         let (identity, room) = (opened.identity, opened.room);
@@ -186,7 +190,11 @@ impl<R: Files<File = File> + Input + Print + Eprint + Clone + Drop> ShelfFiles<R
             identity: _,
             room: _,
             is_made: _,
+            is_skipped,
         } = opened;
+        if is_skipped {
+            return Ok(Target::Nothing);
+        }
         if let Some(file) = file {
             return Ok(Target::File(file));
         }

@@ -44,6 +44,21 @@ pub(crate) struct OpenOutput {
     pub(crate) room: Room,
     /// It wasn't there before.
     pub(crate) is_made: bool,
+    /// It wasn't opened, since nothing will be written.
+    pub(crate) is_skipped: bool,
+}
+
+impl OpenOutput {
+    /// An output that isn't opened.
+    pub(crate) fn skipped() -> OpenOutput {
+        OpenOutput {
+            file: None,
+            identity: None,
+            room: Room::endless(),
+            is_made: false,
+            is_skipped: true,
+        }
+    }
 }
 
 /// Opens standard input. It is no file of the database, and no folder.
@@ -106,8 +121,8 @@ pub(crate) fn open_standard_output<R: Files<File = File>>(
     let mut room = Room::endless();
     if let Some(identity) = identity {
         guard.refuse_output(files, identity)?;
-        if let Ok(mut file) = open_again(files, identity) {
-            refuse_held(&mut file, true)?;
+        if let Ok(again) = open_again(files, identity) {
+            refuse_held(&again)?;
         }
         room = Room {
             at: length,
@@ -119,14 +134,24 @@ pub(crate) fn open_standard_output<R: Files<File = File>>(
         identity,
         room,
         is_made: false,
+        is_skipped: false,
     })
 }
 
 /// Opens the file that standard output is once more, to look into it.
-fn open_again<R: Files<File = File>>(files: &R, identity: FileIdentity) -> Result<File, Reason> {
-    let file = behind_standard(File::open(files, STANDARD_OUTPUT)?)?;
-    if identity_of(&file.metadata()?) == Some(identity) {
-        Ok(file)
+fn open_again<R: Files<File = File>>(files: &R, wanted: FileIdentity) -> Result<Writing, Reason> {
+    let (file, is_readable) = match File::open(files, STANDARD_OUTPUT) {
+        Ok(file) => (file, true),
+        Err(_) => {
+            let file = OpenOptions::new()
+                .append(true)
+                .open(files, STANDARD_OUTPUT)?;
+            (file, false)
+        }
+    };
+    let again = open_for_writing(file, is_readable, false)?;
+    if identity_of(&again.file.metadata()?) == Some(wanted) {
+        Ok(again)
     } else {
         Err(Reason::Replaced)
     }
@@ -140,14 +165,14 @@ pub(crate) fn open_named_output<R: Files<File = File> + Eprint>(
     guard: &Guard,
     name: &str,
 ) -> Result<OpenOutput, Reason> {
-    let mut opened = open_writing(files, name)?;
+    let opened = open_writing(files, name)?;
     let metadata = opened.file.metadata()?;
     let identity = identity_of(&metadata);
     let mut room = Room::endless();
     if let Some(identity) = identity {
         let refused = guard.refuse_output(files, identity);
         refuse_made(files, name, opened.is_made, refused)?;
-        refuse_held(&mut opened.file, opened.is_readable)?;
+        refuse_held(&opened)?;
         room.bound = size_bound(alloc, files);
     }
     Ok(OpenOutput {
@@ -155,6 +180,7 @@ pub(crate) fn open_named_output<R: Files<File = File> + Eprint>(
         identity,
         room,
         is_made: opened.is_made,
+        is_skipped: false,
     })
 }
 
@@ -214,7 +240,11 @@ fn open_regular<R: Files<File = File>>(files: &R, name: &str) -> Result<Writing,
     match OpenOptions::new().read(true).write(true).open(files, name) {
         Ok(file) => open_for_writing(file, true, false),
         Err(error) if error.kind() == ErrorKind::PermissionDenied => {
-            open_for_writing(OpenOptions::new().write(true).open(files, name)?, false, false)
+            open_for_writing(
+                OpenOptions::new().write(true).open(files, name)?,
+                false,
+                false,
+            )
         }
         Err(error) => Err(Reason::from(error)),
     }
@@ -245,13 +275,13 @@ fn open_for_writing(file: File, is_readable: bool, is_made: bool) -> Result<Writ
 
 /// An error where another program holds a file locked, or where it begins as a file of a database does. The lock is tried
 /// and let go.
-fn refuse_held(file: &mut File, is_readable: bool) -> Result<(), Reason> {
-    match file.try_lock() {
-        Ok(()) => file.unlock()?,
+fn refuse_held(opened: &Writing) -> Result<(), Reason> {
+    match opened.file.try_lock() {
+        Ok(()) => opened.file.unlock()?,
         Err(TryLockError::WouldBlock) => return Err(Reason::Locked),
         Err(TryLockError::Error(_)) => {}
     }
-    if is_readable && begins_as_database(file) {
+    if opened.is_readable && begins_as_database(&opened.file) {
         return Err(Reason::LikeDatabase);
     }
     Ok(())
@@ -266,9 +296,23 @@ fn begins_as_database(file: &File) -> bool {
     }
 }
 
+/// Whether a name is that of a pipe, whose opening may wait for its other end. Those of the system's own folders are open
+/// already.
+pub(crate) fn is_pipe<R: Files>(files: &R, name: &str) -> bool {
+    match fs::metadata(files, name) {
+        Ok(metadata) => is_named_pipe(name, &metadata),
+        Err(_) => false,
+    }
+}
+
+/// Whether what a name leads to is a pipe that has this name.
+fn is_named_pipe(name: &str, metadata: &Metadata) -> bool {
+    metadata.file_type().is_fifo() && !name.starts_with("/dev/") && !name.starts_with("/proc/")
+}
+
 /// Names a pipe on standard error before it is opened, since that may wait for its other end.
 fn name_pipe<R: Eprint>(terminal: &R, name: &str, metadata: &Metadata) {
-    if metadata.file_type().is_fifo() {
+    if is_named_pipe(name, metadata) {
         let _ = eprintln!(terminal; "racf: {name}: a pipe, which waits for its other end");
     }
 }

@@ -3,7 +3,7 @@
 use crate::file_identity::FileIdentity;
 use crate::guard::Guard;
 use crate::opening::{
-    OpenInput, OpenOutput, open_named_input, open_named_output, open_standard_input,
+    OpenInput, OpenOutput, is_pipe, open_named_input, open_named_output, open_standard_input,
     open_standard_output, take_away,
 };
 use crate::reasons::Reason;
@@ -179,18 +179,25 @@ impl Plan {
     }
 
     /// Opens all of them where that wasn't done: inputs first, then outputs, of which none is emptied. Where one can't be
-    /// opened, what was made is taken away.
+    /// opened no pipe is waited for any more, and what was made is taken away.
     pub(crate) fn open<R: Files<File = File> + Eprint + Drop>(&mut self, open: &mut Open<R>) {
         if self.is_opened {
             return;
         }
         self.is_opened = true;
         for input in self.inputs.iter_mut().flatten() {
+            if self.has_failed && is_pipe(&open.runtime, input.name.as_str()) {
+                continue;
+            }
             let found = open.open_input(input.name.as_str());
             self.has_failed |= found.is_err();
             input.found = Some(found);
         }
         for output in self.outputs.iter_mut().flatten() {
+            if self.has_failed && is_pipe(&open.runtime, output.name.as_str()) {
+                output.found = Some(Ok(OpenOutput::skipped()));
+                continue;
+            }
             let found = open.open_output(output.name.as_str());
             self.has_failed |= found.is_err();
             output.found = Some(found);

@@ -5,16 +5,16 @@ use crate::file_identity::{FileIdentity, identity_of};
 use crate::lost_mark::leave_mark;
 use crate::paths::behind_standard;
 use crate::reasons::{DiskTrouble, Reason, of_disk};
-use racf_outside::Two;
+use racf_outside::{ReadOnlyDisk, Two};
 use std::alloc::Global;
 use std::fs::{File, TryLockError};
 use std::rt::Files;
 
-/// What a file of a database holds, and which file it is.
+/// A file of a database that was read, and which file it is.
 #[derive(Drop)]
 pub struct ReadAlone {
-    /// Its bytes, at most 2^28 + 1.
-    pub bytes: Vec<u8>,
+    /// The disk of its bytes, at most 2^28 + 1.
+    pub disk: ReadOnlyDisk,
     /// Which file it is; `None` where none is there.
     pub identity: Option<FileIdentity>,
 }
@@ -44,7 +44,7 @@ fn read_file<R: Files<File = File>>(
 ) -> Result<ReadAlone, Reason> {
     let Some(file) = file else {
         return Ok(ReadAlone {
-            bytes: Vec::new(alloc),
+            disk: ReadOnlyDisk::new(Vec::new(alloc)),
             identity: None,
         });
     };
@@ -58,7 +58,7 @@ fn read_file<R: Files<File = File>>(
     let count = read_all(file, 0, &mut bytes)?;
     bytes.truncate(count);
     Ok(ReadAlone {
-        bytes,
+        disk: ReadOnlyDisk::new(bytes),
         identity: identity_of(&metadata),
     })
 }

@@ -1,9 +1,8 @@
 //! Why a file can't be used.
 
 use std::alloc::AllocError;
-use std::fmt;
-use std::io;
 use std::io::ErrorKind;
+use std::{fmt, io};
 
 /// The system's number of the error that a descriptor isn't open for what is asked.
 const NOT_OPEN: i32 = 9;

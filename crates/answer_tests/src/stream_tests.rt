@@ -5,8 +5,9 @@ ghost use Rattle.racf_stream.specs.Script.{is_whole};
 
 use crate::desk_tests::{never_disks, new_desk};
 use racf_desk::Desk;
+use racf_files::FileShelf;
 use racf_outside::{
-    Disk, Failed, Failing, FileShelf, MemoryDisk, MemoryShelf, MemorySink, MemorySource, NeverDisk,
+    Disk, Failed, Failing, MemoryDisk, MemoryShelf, MemorySink, MemorySource, NeverDisk,
     Shelf, Source, Two,
 };
 use racf_run::{Idle, Status, racf, script};

@@ -33,7 +33,7 @@ pub(crate) enum Asked {
 }
 
 /// What the words ask for.
-pub(crate) fn asked(words: &[String]) -> Asked {
+pub(crate) fn asked_for(words: &[String]) -> Asked {
     match words {
         [word] if word.as_str() == "--help" => Asked::Help,
         [word] if word.as_str() == "--version" => Asked::Version,

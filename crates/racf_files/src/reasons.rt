@@ -10,7 +10,7 @@ const NOT_OPEN: i32 = 9;
 /// Why a file can't be opened, read or written.
 #[derive(Clone, Copy, Debug)]
 pub enum Reason {
-    /// It isn't there.
+    /// It isn't there, or no folder is where its path has one.
     NoSuchFile,
     /// The system doesn't permit it.
     PermissionDenied,
@@ -55,7 +55,7 @@ pub enum Reason {
 impl From<io::Error> for Reason {
     fn from(error: io::Error) -> Reason {
         match error.kind() {
-            ErrorKind::NotFound => Reason::NoSuchFile,
+            ErrorKind::NotFound | ErrorKind::NotADirectory => Reason::NoSuchFile,
             ErrorKind::PermissionDenied => Reason::PermissionDenied,
             ErrorKind::IsADirectory => Reason::Folder,
             ErrorKind::StorageFull | ErrorKind::QuotaExceeded => Reason::NoRoom,

@@ -7,10 +7,11 @@ use Rattle.racf_outside.specs.Reader.{Reader}
 use Rattle.racf_desk.specs.Position.{Position}
 use Rattle.racf_desk.specs.declared.refusal.Refusal.{Refusal as OfCommand}
 use Rattle.request_files.specs.declared.issuer_line.NamedIssuer.{NamedIssuer}
-use Rattle.request_files.specs.declared.line.LineRefusal.{LineRefusal}
-use Rattle.request_files.specs.IssuerLines.{issuer_of_line}
+use Rattle.racf_stream.specs.declared.issuer.Issuing.{Issuing}
 use Rattle.racf_stream.specs.declared.statement.Statement.{Statement}
 use Rattle.racf_stream.specs.declared.statement.Statement.TheVariants as item
+use Rattle.racf_stream.specs.declared.reply.Refusal.{Refusal}
+use Rattle.racf_stream.specs.IssuerLines.{issuer_named}
 use Rattle.racf_stream.specs.Stream.{State, Answer, number_of, new_stream, fails_behind, fail, accept, halt, answer_outcome, outcome_of, command, issue_by, request, answer, step, text}
 use Rattle.racf_stream.specs.Script.{stream, fault_at}
 use Rattle.racf_stream.specs.Runs.{after, output}
@@ -57,7 +58,7 @@ command_keeps text s = by s.halted
     by true = record { grows = omega arith; runs = λ h. h }
     by false = outcome_keeps (outcome_of text s) s
 
-issuer_keeps : (read : Result NamedIssuer LineRefusal) (s : State) → Keeps s (issue_by read s)
+issuer_keeps : (read : Result NamedIssuer Refusal) (s : State) → Keeps s (issue_by read s)
 issuer_keeps (Ok issuer) s = record { grows = omega arith; runs = λ h. h }
 issuer_keeps (Err why) s = record { grows = omega arith; runs = λ h. h }
 
@@ -67,7 +68,7 @@ request_keeps text s = record { grows = omega arith; runs = λ h. h }
 
 answer_keeps : (i : Statement) (s : State) → Keeps s (answer None i s)
 answer_keeps (item.Command text) s = command_keeps text s
-answer_keeps (item.Issuer text) s = issuer_keeps (issuer_of_line text) s
+answer_keeps (item.Issuer text) s = issuer_keeps (issuer_named s.issuing text) s
 answer_keeps (item.Request text) s = request_keeps text s
 answer_keeps item.LineTooLong s = record { grows = omega arith; runs = λ h. h }
 
@@ -85,12 +86,12 @@ step_grows i s = subst (λ t. number_of s ≤ number_of t) (sym (step_is None i 
 step_runs : (i : Statement) (s : State) → s.halted ≡ false → (step None i s).halted ≡ false
 step_runs i s h = subst (λ (t : State). t.halted ≡ false) (sym (step_is None i s)) ((answer_keeps i s).runs h)
 
-all_grow : (base : Position) (items : List Statement) (s : State) → number_of s ≤ number_of (after (stream None base) items s)
-all_grow base [] s = omega arith
-all_grow base (i ∷ items) s = let first = step_grows i s in let rest = all_grow base items (step None i s) in omega (arith, first, rest)
+all_grow : (issuing : Issuing) (base : Position) (items : List Statement) (s : State) → number_of s ≤ number_of (after (stream None issuing base) items s)
+all_grow issuing base [] s = omega arith
+all_grow issuing base (i ∷ items) s = let first = step_grows i s in let rest = all_grow issuing base items (step None i s) in omega (arith, first, rest)
 
 -- ---- the statements before the command that is failed
-module _ (failed : ℕ) (base : Position) where
+module _ (failed : ℕ) (issuing : Issuing) (base : Position) where
   step_agrees : (i : Statement) (s : State) → s.halted ≡ false → number_of (step None i s) ≤ failed → answer (Some failed) i s ≡ answer None i s
   step_agrees i s runs h = answer_agrees failed i s runs (subst (λ t. number_of t ≤ failed) (step_is None i s) h)
 
@@ -100,30 +101,30 @@ module _ (failed : ℕ) (base : Position) where
   same_text : (i : Statement) (s : State) → s.halted ≡ false → number_of (step None i s) ≤ failed → text (Some failed) i s ≡ text None i s
   same_text i s runs h = text_is (Some failed) i s ∙ ap (λ (a : Answer). a.text) (step_agrees i s runs h) ∙ sym (text_is None i s)
 
-  first_below : (i : Statement) (items : List Statement) (s : State) → number_of (after (stream None base) items (step None i s)) ≤ failed → number_of (step None i s) ≤ failed
-  first_below i items s h = let rest = all_grow base items (step None i s) in omega (arith, rest, h)
+  first_below : (i : Statement) (items : List Statement) (s : State) → number_of (after (stream None issuing base) items (step None i s)) ≤ failed → number_of (step None i s) ≤ failed
+  first_below i items s h = let rest = all_grow issuing base items (step None i s) in omega (arith, rest, h)
 
-  same_state : (items : List Statement) (s : State) → s.halted ≡ false → number_of (after (stream None base) items s) ≤ failed → after (stream (Some failed) base) items s ≡ after (stream None base) items s
+  same_state : (items : List Statement) (s : State) → s.halted ≡ false → number_of (after (stream None issuing base) items s) ≤ failed → after (stream (Some failed) issuing base) items s ≡ after (stream None issuing base) items s
   same_state [] s runs h = refl
   same_state (i ∷ items) s runs h =
-      ap (after (stream (Some failed) base) items) (same_step i s runs (first_below i items s h)) ∙ same_state items (step None i s) (step_runs i s runs) h
+      ap (after (stream (Some failed) issuing base) items) (same_step i s runs (first_below i items s h)) ∙ same_state items (step None i s) (step_runs i s runs) h
 
-  same_output : (items : List Statement) (s : State) → s.halted ≡ false → number_of (after (stream None base) items s) ≤ failed → output (stream (Some failed) base) items s ≡ output (stream None base) items s
+  same_output : (items : List Statement) (s : State) → s.halted ≡ false → number_of (after (stream None issuing base) items s) ≤ failed → output (stream (Some failed) issuing base) items s ≡ output (stream None issuing base) items s
   same_output [] s runs h = refl
   same_output (i ∷ items) s runs h =
       let below = first_below i items s h in
-      ap (λ bytes. bytes ++ output (stream (Some failed) base) items (step (Some failed) i s)) (same_text i s runs below)
-      ∙ ap (λ t. text None i s ++ output (stream (Some failed) base) items t) (same_step i s runs below)
+      ap (λ bytes. bytes ++ output (stream (Some failed) issuing base) items (step (Some failed) i s)) (same_text i s runs below)
+      ∙ ap (λ t. text None i s ++ output (stream (Some failed) issuing base) items t) (same_step i s runs below)
       ∙ ap (λ bytes. text None i s ++ bytes) (same_output items (step None i s) (step_runs i s runs) h)
 
-  new_runs : (new_stream base).halted ≡ false
+  new_runs : (new_stream issuing base).halted ≡ false
   unfolding new_stream
   new_runs = refl
 
   -- so a run without a fault is one that has the fault before it
-  before_fault : (source : Option (List ℕ)) (reader : Reader) (s : State) (before now : Option (List ℕ)) (gathered : List ℕ) → number_of s ≤ failed → Walk (stream None base) source reader s before now gathered → Walk (stream (Some failed) base) source reader s before now gathered
+  before_fault : (source : Option (List ℕ)) (reader : Reader) (s : State) (before now : Option (List ℕ)) (gathered : List ℕ) → number_of s ≤ failed → Walk (stream None issuing base) source reader s before now gathered → Walk (stream (Some failed) issuing base) source reader s before now gathered
   before_fault source reader s before now gathered h w =
-      let below : number_of (after (stream None base) w.done (new_stream base)) ≤ failed = subst (λ t. number_of t ≤ failed) w.state h in
+      let below : number_of (after (stream None issuing base) w.done (new_stream issuing base)) ≤ failed = subst (λ t. number_of t ≤ failed) w.state h in
       record {
         read = w.read;
         done = w.done;
@@ -131,10 +132,10 @@ module _ (failed : ℕ) (base : Position) where
         counted = w.counted;
         goes_on = w.goes_on;
         last = w.last;
-        state = w.state ∙ sym (same_state w.done (new_stream base) new_runs below);
+        state = w.state ∙ sym (same_state w.done (new_stream issuing base) new_runs below);
         written = w.written;
         gained = w.gained;
-        whole = same_output w.done (new_stream base) new_runs below ∙ w.whole;
+        whole = same_output w.done (new_stream issuing base) new_runs below ∙ w.whole;
       }
 
 -- ---- behind a disk that failed
@@ -148,7 +149,7 @@ unfolding command
 command_rests fault text s halted =
     subst (Rests s) (sym (ap (λ b. cond b (halt s) (answer_outcome fault (outcome_of text s) s)) halted)) (record { number = refl; halted = refl })
 
-issuer_rests : (read : Result NamedIssuer LineRefusal) (s : State) → Rests s (issue_by read s)
+issuer_rests : (read : Result NamedIssuer Refusal) (s : State) → Rests s (issue_by read s)
 issuer_rests (Ok issuer) s = record { number = refl; halted = refl }
 issuer_rests (Err why) s = record { number = refl; halted = refl }
 
@@ -158,7 +159,7 @@ request_rests text s = record { number = refl; halted = refl }
 
 answer_rests : (fault : Option ℕ) (i : Statement) (s : State) → s.halted ≡ true → Rests s (answer fault i s)
 answer_rests fault (item.Command text) s halted = command_rests fault text s halted
-answer_rests fault (item.Issuer text) s halted = issuer_rests (issuer_of_line text) s
+answer_rests fault (item.Issuer text) s halted = issuer_rests (issuer_named s.issuing text) s
 answer_rests fault (item.Request text) s halted = request_rests text s
 answer_rests fault item.LineTooLong s halted = record { number = refl; halted = refl }
 
@@ -181,20 +182,20 @@ command_grows fault text s = by s.halted
 
 answer_grows : (fault : Option ℕ) (i : Statement) (s : State) → number_of s ≤ number_of (answer fault i s).state
 answer_grows fault (item.Command text) s = command_grows fault text s
-answer_grows fault (item.Issuer text) s = (issuer_keeps (issuer_of_line text) s).grows
+answer_grows fault (item.Issuer text) s = (issuer_keeps (issuer_named s.issuing text) s).grows
 answer_grows fault (item.Request text) s = (request_keeps text s).grows
 answer_grows fault item.LineTooLong s = omega arith
 
 -- ---- a statement by which a disk may fail
 -- A run with the fault that the state before the statement tells is one with the fault that the state behind it tells.
-pub fault_of_next : (base : Position) (source : Option (List ℕ)) (reader : Reader) (i : Statement) (s t : State) (before now : Option (List ℕ)) (gathered : List ℕ)
+pub fault_of_next : (issuing : Issuing) (base : Position) (source : Option (List ℕ)) (reader : Reader) (i : Statement) (s t : State) (before now : Option (List ℕ)) (gathered : List ℕ)
     → t ≡ (answer (fault_at t.halted (number_of t)) i s).state
-    → Walk (stream (fault_at s.halted (number_of s)) base) source reader s before now gathered
-    → Walk (stream (fault_at t.halted (number_of t)) base) source reader s before now gathered
-fault_of_next base source reader i s t before now gathered is w = by s.halted t.halted refl refl
+    → Walk (stream (fault_at s.halted (number_of s)) issuing base) source reader s before now gathered
+    → Walk (stream (fault_at t.halted (number_of t)) issuing base) source reader s before now gathered
+fault_of_next issuing base source reader i s t before now gathered is w = by s.halted t.halted refl refl
   where
     walk : Option ℕ → Type 0
-    walk fault = Walk (stream fault base) source reader s before now gathered
+    walk fault = Walk (stream fault issuing base) source reader s before now gathered
 
     grown : number_of s ≤ number_of t
     grown = subst (λ u. number_of s ≤ number_of u) (sym is) (answer_grows (fault_at t.halted (number_of t)) i s)
@@ -212,4 +213,4 @@ fault_of_next base source reader i s t before now gathered is w = by s.halted t.
         subst walk (ap (λ h. fault_at h (number_of s)) was ∙ sym (ap (λ h. fault_at h (number_of t)) now)) w
     by false true was now =
         subst walk (sym (ap (λ h. fault_at h (number_of t)) now))
-        (before_fault (number_of t) base source reader s before _ gathered grown (subst walk (ap (λ h. fault_at h (number_of s)) was) w))
+        (before_fault (number_of t) issuing base source reader s before _ gathered grown (subst walk (ap (λ h. fault_at h (number_of s)) was) w))

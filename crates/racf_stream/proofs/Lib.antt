@@ -7,6 +7,7 @@ pub mod Stops
 pub mod MarkLaws
 pub mod Settled
 pub mod CommandLaws
+pub mod IssuingLaws
 pub mod FrontLaws
 pub mod StatementLaws
 pub mod Pieces

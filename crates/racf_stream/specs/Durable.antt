@@ -11,6 +11,7 @@ use Rattle.racf_desk.specs.Position.{Position}
 use Rattle.racf_desk.specs.Recovery.{StandsFor}
 use Rattle.request_files.specs.declared.acees.NamedAcee.{NamedAcee}
 use Rattle.request_files.specs.declared.issuer_line.NamedIssuer.{NamedIssuer}
+use Rattle.racf_stream.specs.declared.issuer.Issuing.{Issuing}
 use Rattle.racf_stream.specs.declared.reply.Reply.TheVariants.{Accepted, DiskFault}
 use Rattle.racf_stream.specs.declared.statement.Statement.{Statement}
 use Rattle.racf_stream.specs.Replies.{reply_line}
@@ -23,10 +24,10 @@ pub record StreamOn (D : Type 0) : Type 0 where
   pub state : State
   pub store : StoreOn D
 
-abbrev pub stream_on : {D : Type 0} → DeskOn D → NamedIssuer → Bool → List NamedAcee → StreamOn D
-stream_on desk issuer has_refused acees =
+abbrev pub stream_on : {D : Type 0} → DeskOn D → Issuing → NamedIssuer → Bool → List NamedAcee → StreamOn D
+stream_on desk issuing issuer has_refused acees =
     record {
-      state = record { position = desk.position; issuer = issuer; has_refused = has_refused; acees = acees; halted = desk.halted };
+      state = record { position = desk.position; issuing = issuing; issuer = issuer; has_refused = has_refused; acees = acees; halted = desk.halted };
       store = desk.store;
     }
 
@@ -74,16 +75,16 @@ pub record Settles {D : Type 0} (tells : D → Option History) (desk now : DeskO
   pub idle : SameIdle desk.store now.store
 
 -- Two files stand for the position behind the first statements of an input, whichever these are.
-pub record StandsForFront (base : Position) (source : Option (List ℕ)) (first second : List ℕ) : Type 0 where
+pub record StandsForFront (issuing : Issuing) (base : Position) (source : Option (List ℕ)) (first second : List ℕ) : Type 0 where
   pub read : List ℕ
   pub more : Option (List ℕ)
   pub given : source ≡ prepend_known read more
   pub done : List Statement
   pub begins : BeginsWith statements read more done
-  pub stands : StandsFor (after (stream None base) done (new_stream base)).position first second
+  pub stands : StandsFor (after (stream None issuing base) done (new_stream issuing base)).position first second
 
 -- At every moment of a stream from that input, from a base on, a crash leaves what stands for the position behind some
 -- front of its statements. The disk that doesn't count stays as it is.
-abbrev pub StaysAlong : {D : Type 0} → (tells : D → Option History) → (base : Position) → (source : Option (List ℕ)) → (old new : StoreOn D) → Type 0
-StaysAlong tells base source old new =
-    StaysIn (BesideIdle (idle_of tells old) (StandsForFront base source)) (tells old.journal.disk) (tells new.journal.disk)
+abbrev pub StaysAlong : {D : Type 0} → (tells : D → Option History) → Issuing → (base : Position) → (source : Option (List ℕ)) → (old new : StoreOn D) → Type 0
+StaysAlong tells issuing base source old new =
+    StaysIn (BesideIdle (idle_of tells old) (StandsForFront issuing base source)) (tells old.journal.disk) (tells new.journal.disk)

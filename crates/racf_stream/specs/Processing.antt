@@ -3,6 +3,7 @@ use Rattle.std.specs.Prelude.{◌≡◌, ◌⊎◌, ◌++◌, ℕ, Bool, Option,
 use Rattle.std.specs.Option.{option_to_list}
 use Rattle.std.specs.Io.KnownBytes.{append_known}
 use Rattle.racf_desk.specs.Position.{Position}
+use Rattle.racf_stream.specs.declared.issuer.Issuing.{Issuing}
 use Rattle.racf_stream.specs.declared.statement.Statement.{Statement}
 use Rattle.racf_stream.specs.declared.stopping.Stop.{Stop}
 use Rattle.racf_stream.specs.declared.stopping.Stop.TheVariants as stop
@@ -14,14 +15,14 @@ use Rattle.racf_stream.specs.Runs.{after, output, whole_status}
 use Rattle.racf_stream.specs.Script.{stream}
 
 -- A statement, where there is one, was worked from the one state to the other, and its text was gathered.
-pub record Works {D : Type 0} (base : Position) (item : Option Statement) (s t : StreamOn D) (gathered now : List ℕ) : Type 0 where
-  pub state : t.state ≡ after (stream (fault_in t) base) (option_to_list item) s.state
-  pub text : now ≡ gathered ++ output (stream (fault_in t) base) (option_to_list item) s.state
+pub record Works {D : Type 0} (issuing : Issuing) (base : Position) (item : Option Statement) (s t : StreamOn D) (gathered now : List ℕ) : Type 0 where
+  pub state : t.state ≡ after (stream (fault_in t) issuing base) (option_to_list item) s.state
+  pub text : now ≡ gathered ++ output (stream (fault_in t) issuing base) (option_to_list item) s.state
 
 -- Or memory ran out, and nothing has changed.
-abbrev pub Processes : {T E D : Type 0} → Position → Result T E → Option Statement → (s t : StreamOn D) → (gathered now : List ℕ) → Type 0
-Processes base (Ok done) item s t gathered now = Works base item s t gathered now
-Processes base (Err fault) item s t gathered now = (t ≡ s) × (now ≡ gathered)
+abbrev pub Processes : {T E D : Type 0} → Issuing → Position → Result T E → Option Statement → (s t : StreamOn D) → (gathered now : List ℕ) → Type 0
+Processes issuing base (Ok done) item s t gathered now = Works issuing base item s t gathered now
+Processes issuing base (Err fault) item s t gathered now = (t ≡ s) × (now ≡ gathered)
 
 -- the status of a run that stops so, where a disk failed or not, and some line was refused or none
 abbrev pub unless_failed : (failed : Bool) → Status → Status

@@ -2,6 +2,7 @@ use Rattle.std.proofs.Common.{◌≡◌, ℕ, List, Option, None, Some, arith, r
 use Rattle.racf_outside.specs.Disk.{History}
 use Rattle.racf_desk.proofs.IdleLaws.{same_idle}
 use Rattle.racf_desk.specs.Position.{Position}
+use Rattle.racf_stream.specs.declared.issuer.Issuing.{Issuing}
 use Rattle.racf_stream.specs.declared.statement.Statement.{Statement}
 use Rattle.racf_stream.specs.Durable.{StreamOn, Moves, MovesBy, fault_in}
 use Rattle.racf_stream.specs.Processing.{Works}
@@ -15,11 +16,11 @@ use Rattle.racf_stream.proofs.scripts.run.Goals as goal
 
 pub item-init : goal.item-init
 item-init g c =
-    let runs = new_runs c.args.stream.now.state.position c.args.stream.now.state c.requires.new in
+    let runs = new_runs c.args.stream.now.state.issuing c.args.stream.now.state.position c.args.stream.now.state c.requires.new in
     record {
-      walk = begun c.args.stream.now.state.position c.args.lines.now c.args.stream.now.state _ c.new-replies.result c.requires.begins c.requires.new c.new-replies.ensures;
+      walk = begun c.args.stream.now.state.issuing c.args.stream.now.state.position c.args.lines.now c.args.stream.now.state _ c.new-replies.result c.requires.begins c.requires.new c.new-replies.ensures;
       most = passed_none c.args.lines.now c.requires.begins;
-      along = StaysAlong-none g.D.Disk.tells c.args.stream.now.state.position c.args.lines.now.left c.args.stream.now.store (c.is_at_rest.ensures runs);
+      along = StaysAlong-none g.D.Disk.tells c.args.stream.now.state.issuing c.args.stream.now.state.position c.args.lines.now.left c.args.stream.now.store (c.is_at_rest.ensures runs);
       idle = same_idle c.args.stream.now.store c.args.stream.now.store refl;
       halted = λ halted. cc;
       source_faults = omega arith;
@@ -30,15 +31,16 @@ item-init g c =
 -- no item came
 pub returns-in-Ok-Err-clause-ran : goal.returns-in-Ok-Err-clause-ran
 returns-in-Ok-Err-clause-ran g c =
+    let issuing = c.args.stream.now.state.issuing in
     let base = c.args.stream.now.state.position in
-    stopped base (λ (s : State). c.item.stream.state ≡ s) c.args.lines.now.left c.item.lines c.next_statement.new.lines c.item.stream.state _ _ _ c.next_statement.new.replies
-    (Walk-settles (stream (fault_in c.item.stream) base) _ c.item.lines c.item.stream.state _ _ _ c.item.replies c.next_statement.new.replies c.item.invariant.walk c.in-Ok-Err.ensures.settled)
+    stopped issuing base (λ (s : State). c.item.stream.state ≡ s) c.args.lines.now.left c.item.lines c.next_statement.new.lines c.item.stream.state _ _ _ c.next_statement.new.replies
+    (Walk-settles (stream (fault_in c.item.stream) issuing base) _ c.item.lines c.item.stream.state _ _ _ c.item.replies c.next_statement.new.replies c.item.invariant.walk c.in-Ok-Err.ensures.settled)
     refl c.in-Ok-Err.stop c.end.result (rw c.in-Ok-Err.field-0-is at c.in-Ok-Err.ensures.item) c.in-Ok-Err.ensures.limit c.end.ensures.ended
 
 -- what is gathered couldn't be written
 pub returns-in-Err-clause-ran : goal.returns-in-Err-clause-ran
 returns-in-Err-clause-ran g c =
-    cut c.args.stream.now.state.position (λ (s : State). c.item.stream.state ≡ s) c.args.lines.now.left c.item.lines c.next_statement.new.lines c.item.stream.state _ _ _ c.item.replies
+    cut c.args.stream.now.state.issuing c.args.stream.now.state.position (λ (s : State). c.item.stream.state ≡ s) c.args.lines.now.left c.item.lines c.next_statement.new.lines c.item.stream.state _ _ _ c.item.replies
     c.item.invariant.walk refl c.unless_failed.result c.in-Err.ensures.front
     (failed_status c.unless_failed.result c.has_failed.result c.item.stream.state.halted c.unless_failed.ensures c.has_failed.ensures)
 
@@ -46,44 +48,47 @@ returns-in-Err-clause-ran g c =
 given_moves : {D : Type 0} (tells : D → Option History) (faults : D → ℕ) (given : Option Statement) (item : Statement) (s t : StreamOn D) → given ≡ Some item → Moves tells faults item s t → MovesBy tells faults given s t
 given_moves tells faults given item s t is moves = rw is moves
 
-given_works : {D : Type 0} (base : Position) (given : Option Statement) (item : Statement) (s t : StreamOn D) (gathered now : List ℕ) → given ≡ Some item → Works base (Some item) s t gathered now → Works base given s t gathered now
-given_works base given item s t gathered now is works = rw is works
+given_works : {D : Type 0} (issuing : Issuing) (base : Position) (given : Option Statement) (item : Statement) (s t : StreamOn D) (gathered now : List ℕ) → given ≡ Some item → Works issuing base (Some item) s t gathered now → Works issuing base given s t gathered now
+given_works issuing base given item s t gathered now is works = rw is works
 
 -- memory ran out
 pub returns-in-Err-process_statement-clause-ran : goal.returns-in-Err-process_statement-clause-ran
 returns-in-Err-process_statement-clause-ran g c =
+    let issuing = c.args.stream.now.state.issuing in
     let base = c.args.stream.now.state.position in
-    unanswered_at base c.args.lines.now.left c.item.lines c.next_statement.new.lines.left c.item.stream c.process_statement.new.stream _ _ _ c.next_statement.new.replies c.process_statement.new.replies c.end-in-Err-process_statement.result
-    (Walk-settles (stream (fault_in c.item.stream) base) _ c.item.lines c.item.stream.state _ _ _ c.item.replies c.next_statement.new.replies c.item.invariant.walk c.in-Ok-Ok.ensures.settled)
-    (c.in-Err-process_statement.ensures.processes base) c.end-in-Err-process_statement.ensures.ended
+    unanswered_at issuing base c.args.lines.now.left c.item.lines c.next_statement.new.lines.left c.item.stream c.process_statement.new.stream _ _ _ c.next_statement.new.replies c.process_statement.new.replies c.end-in-Err-process_statement.result
+    (Walk-settles (stream (fault_in c.item.stream) issuing base) _ c.item.lines c.item.stream.state _ _ _ c.item.replies c.next_statement.new.replies c.item.invariant.walk c.in-Ok-Ok.ensures.settled)
+    (c.in-Err-process_statement.ensures.processes issuing base) c.end-in-Err-process_statement.ensures.ended
 
 pub returns-in-Err-process_statement-clause-moments : goal.returns-in-Err-process_statement-clause-moments
 returns-in-Err-process_statement-clause-moments g c =
+    let issuing = c.args.stream.now.state.issuing in
     let base = c.args.stream.now.state.position in
     let takes = rw c.in-Ok-Ok.field-0-is at c.in-Ok-Ok.ensures.item in
-    moved g.D.Disk.tells g.D.Disk.faults base c.args.lines.now.left c.args.stream.now.store c.item.stream c.process_statement.new.stream c.item.lines c.next_statement.new.lines c.in-Ok-Ok.read takes.0 _ _ c.next_statement.new.replies
-    (Walk-settles (stream (fault_in c.item.stream) base) _ c.item.lines c.item.stream.state _ _ _ c.item.replies c.next_statement.new.replies c.item.invariant.walk c.in-Ok-Ok.ensures.settled)
+    moved g.D.Disk.tells g.D.Disk.faults issuing base c.args.lines.now.left c.args.stream.now.store c.item.stream c.process_statement.new.stream c.item.lines c.next_statement.new.lines c.in-Ok-Ok.read takes.0 _ _ c.next_statement.new.replies
+    (Walk-settles (stream (fault_in c.item.stream) issuing base) _ c.item.lines c.item.stream.state _ _ _ c.item.replies c.next_statement.new.replies c.item.invariant.walk c.in-Ok-Ok.ensures.settled)
     takes.1 c.item.invariant.idle (given_moves g.D.Disk.tells g.D.Disk.faults c.in-Ok-Ok.read c.in-Some.item c.item.stream c.process_statement.new.stream c.in-Some.is c.process_statement.ensures.moves) c.item.invariant.along
 
 pub returns-in-Err-process_statement-clause-idle : goal.returns-in-Err-process_statement-clause-idle
 returns-in-Err-process_statement-clause-idle g c =
-    idle_still g.D.Disk.tells g.D.Disk.faults c.args.stream.now.state.position c.args.lines.now.left c.args.stream.now.store c.item.stream c.process_statement.new.stream c.in-Ok-Ok.read
+    idle_still g.D.Disk.tells g.D.Disk.faults c.args.stream.now.state.issuing c.args.stream.now.state.position c.args.lines.now.left c.args.stream.now.store c.item.stream c.process_statement.new.stream c.in-Ok-Ok.read
     (given_moves g.D.Disk.tells g.D.Disk.faults c.in-Ok-Ok.read c.in-Some.item c.item.stream c.process_statement.new.stream c.in-Some.is c.process_statement.ensures.moves) c.item.invariant.idle
 
 -- the next line is skipped
-none_stays : {D : Type 0} (base : Position) (given : Option Statement) (s : StreamOn D) (gathered : List ℕ) → given ≡ None → Works base given s s gathered gathered
-none_stays base given s gathered none = subst (λ (o : Option Statement). Works base o s s gathered gathered) (sym none) (none_worked base s gathered)
+none_stays : {D : Type 0} (issuing : Issuing) (base : Position) (given : Option Statement) (s : StreamOn D) (gathered : List ℕ) → given ≡ None → Works issuing base given s s gathered gathered
+none_stays issuing base given s gathered none = subst (λ (o : Option Statement). Works issuing base o s s gathered gathered) (sym none) (none_worked issuing base s gathered)
 
 pub item-preserved-in_default : goal.item-preserved-in_default
 item-preserved-in_default g c =
+    let issuing = c.args.stream.now.state.issuing in
     let base = c.args.stream.now.state.position in
     let takes = rw c.in-Ok-Ok.field-0-is at c.in-Ok-Ok.ensures.item in
     let old = c.item.stream in
     let none = c.in_default.is in
     let before =
-    Walk-settles (stream (fault_in old) base) _ c.item.lines old.state _ _ _ c.item.replies c.next_statement.new.replies c.item.invariant.walk c.in-Ok-Ok.ensures.settled in
+    Walk-settles (stream (fault_in old) issuing base) _ c.item.lines old.state _ _ _ c.item.replies c.next_statement.new.replies c.item.invariant.walk c.in-Ok-Ok.ensures.settled in
     record {
-      walk = goes_on base c.in-Ok-Ok.read takes.0 _ c.item.lines c.next_statement.new.lines old old _ _ c.next_statement.new.replies c.next_statement.new.replies before takes.1 (none_stays base c.in-Ok-Ok.read old c.next_statement.new.replies none);
+      walk = goes_on issuing base c.in-Ok-Ok.read takes.0 _ c.item.lines c.next_statement.new.lines old old _ _ c.next_statement.new.replies c.next_statement.new.replies before takes.1 (none_stays issuing base c.in-Ok-Ok.read old c.next_statement.new.replies none);
       most = c.in-Ok-Ok.ensures.limit;
       along = c.item.invariant.along;
       idle = c.item.invariant.idle;
@@ -95,6 +100,7 @@ item-preserved-in_default g c =
 
 pub item-preserved : goal.item-preserved
 item-preserved g c =
+    let issuing = c.args.stream.now.state.issuing in
     let base = c.args.stream.now.state.position in
     let first = c.args.stream.now.store in
     let takes = rw c.in-Ok-Ok.field-0-is at c.in-Ok-Ok.ensures.item in
@@ -102,42 +108,44 @@ item-preserved g c =
     let new = c.process_statement.new.stream in
     let moves = given_moves g.D.Disk.tells g.D.Disk.faults c.in-Ok-Ok.read c.in-Some.item old new c.in-Some.is c.process_statement.ensures.moves in
     let before =
-    Walk-settles (stream (fault_in old) base) _ c.item.lines old.state _ _ _ c.item.replies c.next_statement.new.replies c.item.invariant.walk c.in-Ok-Ok.ensures.settled in
+    Walk-settles (stream (fault_in old) issuing base) _ c.item.lines old.state _ _ _ c.item.replies c.next_statement.new.replies c.item.invariant.walk c.in-Ok-Ok.ensures.settled in
     let worked =
-    goes_on base c.in-Ok-Ok.read takes.0 _ c.item.lines c.next_statement.new.lines old new _ _ c.next_statement.new.replies c.process_statement.new.replies before takes.1 (given_works base c.in-Ok-Ok.read c.in-Some.item old new c.next_statement.new.replies c.process_statement.new.replies c.in-Some.is (c.in-Ok.ensures.processes base)) in
+    goes_on issuing base c.in-Ok-Ok.read takes.0 _ c.item.lines c.next_statement.new.lines old new _ _ c.next_statement.new.replies c.process_statement.new.replies before takes.1 (given_works issuing base c.in-Ok-Ok.read c.in-Some.item old new c.next_statement.new.replies c.process_statement.new.replies c.in-Some.is (c.in-Ok.ensures.processes issuing base)) in
     record {
-      walk = Walk-settles (stream (fault_in new) base) _ c.next_statement.new.lines new.state _ _ _ c.process_statement.new.replies c.acknowledge.new.replies worked c.in-Ok-acknowledge.ensures.settled;
+      walk = Walk-settles (stream (fault_in new) issuing base) _ c.next_statement.new.lines new.state _ _ _ c.process_statement.new.replies c.acknowledge.new.replies worked c.in-Ok-acknowledge.ensures.settled;
       most = c.in-Ok-Ok.ensures.limit;
-      along = moved g.D.Disk.tells g.D.Disk.faults base c.args.lines.now.left first old new c.item.lines c.next_statement.new.lines c.in-Ok-Ok.read takes.0 _ _ c.next_statement.new.replies before takes.1 c.item.invariant.idle moves c.item.invariant.along;
-      idle = idle_still g.D.Disk.tells g.D.Disk.faults base c.args.lines.now.left first old new c.in-Ok-Ok.read moves c.item.invariant.idle;
-      halted = halts g.D.Disk.tells g.D.Disk.faults base c.args.lines.now.left first old new c.in-Ok-Ok.read moves c.item.invariant.disk_faults c.item.invariant.halted;
+      along = moved g.D.Disk.tells g.D.Disk.faults issuing base c.args.lines.now.left first old new c.item.lines c.next_statement.new.lines c.in-Ok-Ok.read takes.0 _ _ c.next_statement.new.replies before takes.1 c.item.invariant.idle moves c.item.invariant.along;
+      idle = idle_still g.D.Disk.tells g.D.Disk.faults issuing base c.args.lines.now.left first old new c.in-Ok-Ok.read moves c.item.invariant.idle;
+      halted = halts g.D.Disk.tells g.D.Disk.faults issuing base c.args.lines.now.left first old new c.in-Ok-Ok.read moves c.item.invariant.disk_faults c.item.invariant.halted;
       source_faults = omega (arith, c.item.invariant.source_faults, c.next_statement.ensures.faults);
       sink_faults = omega (arith, c.item.invariant.sink_faults, c.next_statement.ensures.cause.no_fewer, c.acknowledge.ensures.cause.no_fewer);
-      disk_faults = no_fewer g.D.Disk.tells g.D.Disk.faults base c.args.lines.now.left first old new c.in-Ok-Ok.read moves c.item.invariant.disk_faults;
+      disk_faults = no_fewer g.D.Disk.tells g.D.Disk.faults issuing base c.args.lines.now.left first old new c.in-Ok-Ok.read moves c.item.invariant.disk_faults;
     }
 
 -- a reply couldn't be written
 pub returns-in-Err-acknowledge-clause-ran : goal.returns-in-Err-acknowledge-clause-ran
 returns-in-Err-acknowledge-clause-ran g c =
+    let issuing = c.args.stream.now.state.issuing in
     let base = c.args.stream.now.state.position in
     let takes = rw c.in-Ok-Ok.field-0-is at c.in-Ok-Ok.ensures.item in
     let new = c.process_statement.new.stream in
-    cut base (λ (s : State). new.state ≡ s) c.args.lines.now.left c.next_statement.new.lines c.next_statement.new.lines new.state _ _ _ c.process_statement.new.replies
-    (goes_on base c.in-Ok-Ok.read takes.0 _ c.item.lines c.next_statement.new.lines c.item.stream new _ _ c.next_statement.new.replies c.process_statement.new.replies
-    (Walk-settles (stream (fault_in c.item.stream) base) _ c.item.lines c.item.stream.state _ _ _ c.item.replies c.next_statement.new.replies c.item.invariant.walk c.in-Ok-Ok.ensures.settled)
-    takes.1 (given_works base c.in-Ok-Ok.read c.in-Some.item c.item.stream new c.next_statement.new.replies c.process_statement.new.replies c.in-Some.is (c.in-Ok.ensures.processes base)))
+    cut issuing base (λ (s : State). new.state ≡ s) c.args.lines.now.left c.next_statement.new.lines c.next_statement.new.lines new.state _ _ _ c.process_statement.new.replies
+    (goes_on issuing base c.in-Ok-Ok.read takes.0 _ c.item.lines c.next_statement.new.lines c.item.stream new _ _ c.next_statement.new.replies c.process_statement.new.replies
+    (Walk-settles (stream (fault_in c.item.stream) issuing base) _ c.item.lines c.item.stream.state _ _ _ c.item.replies c.next_statement.new.replies c.item.invariant.walk c.in-Ok-Ok.ensures.settled)
+    takes.1 (given_works issuing base c.in-Ok-Ok.read c.in-Some.item c.item.stream new c.next_statement.new.replies c.process_statement.new.replies c.in-Some.is (c.in-Ok.ensures.processes issuing base)))
     refl c.unless_failed-in-Err-acknowledge.result c.in-Err-acknowledge.ensures.front
     (failed_status c.unless_failed-in-Err-acknowledge.result c.has_failed-in-Err-acknowledge.result new.state.halted c.unless_failed-in-Err-acknowledge.ensures c.has_failed-in-Err-acknowledge.ensures)
 
 pub returns-in-Err-acknowledge-clause-moments : goal.returns-in-Err-acknowledge-clause-moments
 returns-in-Err-acknowledge-clause-moments g c =
+    let issuing = c.args.stream.now.state.issuing in
     let base = c.args.stream.now.state.position in
     let takes = rw c.in-Ok-Ok.field-0-is at c.in-Ok-Ok.ensures.item in
-    moved g.D.Disk.tells g.D.Disk.faults base c.args.lines.now.left c.args.stream.now.store c.item.stream c.process_statement.new.stream c.item.lines c.next_statement.new.lines c.in-Ok-Ok.read takes.0 _ _ c.next_statement.new.replies
-    (Walk-settles (stream (fault_in c.item.stream) base) _ c.item.lines c.item.stream.state _ _ _ c.item.replies c.next_statement.new.replies c.item.invariant.walk c.in-Ok-Ok.ensures.settled)
+    moved g.D.Disk.tells g.D.Disk.faults issuing base c.args.lines.now.left c.args.stream.now.store c.item.stream c.process_statement.new.stream c.item.lines c.next_statement.new.lines c.in-Ok-Ok.read takes.0 _ _ c.next_statement.new.replies
+    (Walk-settles (stream (fault_in c.item.stream) issuing base) _ c.item.lines c.item.stream.state _ _ _ c.item.replies c.next_statement.new.replies c.item.invariant.walk c.in-Ok-Ok.ensures.settled)
     takes.1 c.item.invariant.idle (given_moves g.D.Disk.tells g.D.Disk.faults c.in-Ok-Ok.read c.in-Some.item c.item.stream c.process_statement.new.stream c.in-Some.is c.process_statement.ensures.moves) c.item.invariant.along
 
 pub returns-in-Err-acknowledge-clause-idle : goal.returns-in-Err-acknowledge-clause-idle
 returns-in-Err-acknowledge-clause-idle g c =
-    idle_still g.D.Disk.tells g.D.Disk.faults c.args.stream.now.state.position c.args.lines.now.left c.args.stream.now.store c.item.stream c.process_statement.new.stream c.in-Ok-Ok.read
+    idle_still g.D.Disk.tells g.D.Disk.faults c.args.stream.now.state.issuing c.args.stream.now.state.position c.args.lines.now.left c.args.stream.now.store c.item.stream c.process_statement.new.stream c.in-Ok-Ok.read
     (given_moves g.D.Disk.tells g.D.Disk.faults c.in-Ok-Ok.read c.in-Some.item c.item.stream c.process_statement.new.stream c.in-Some.is c.process_statement.ensures.moves) c.item.invariant.idle

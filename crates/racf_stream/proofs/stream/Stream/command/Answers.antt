@@ -11,9 +11,9 @@ pub returns-in-Ok-clause-ok : goal.returns-in-Ok-clause-ok
 returns-in-Ok-clause-ok g c =
     let desk = c.self.inside.desk in
     let issuer = c.self.inside.issuer in
-    let stream = stream_on c.settle.new.desk issuer c.self.inside.has_refused c.self.inside.acees in
+    let stream = stream_on c.settle.new.desk c.self.inside.issuing issuer c.self.inside.has_refused c.self.inside.acees in
     subst (λ (x : StreamOn g.row.D.Denot). OnOk c.settle.result (DoesOn (command (fault_in stream) c.args.text.now) x stream c.args.out.now.items c.settle.new.out.items)) c.self.view_is
-    (settles_command c.settle.result g.D.Disk.tells issuer c.self.inside.has_refused c.self.inside.acees c.args.text.now desk c.judge.new.self c.settle.new.desk (made_in c.in-Ok.ready) c.args.out.now.items c.settle.new.out.items
+    (settles_command c.settle.result g.D.Disk.tells c.self.inside.issuing issuer c.self.inside.has_refused c.self.inside.acees c.args.text.now desk c.judge.new.self c.settle.new.desk (made_in c.in-Ok.ready) c.args.out.now.items c.settle.new.out.items
     c.in-Ok.ensures.running
     (subst (λ (bytes : List ℕ). made_of_outcome desk.position.image (outcome desk.position issuer.id issuer.group bytes) ≡ Ok (made_in c.in-Ok.ready)) c.as_slice.ensures c.in-Ok.ensures.accepted)
     c.in-Ok.ensures.made c.settle.ensures.ok)

@@ -16,6 +16,8 @@ pub mod Processing
 pub mod Settling
 pub mod StreamWalk
 pub mod Moments
+pub mod Doubt
+pub mod Ending
 pub mod ScriptLaws
 pub mod Resting
 pub mod PrintedLaws

@@ -11,7 +11,7 @@ use Rattle.racf_stream.specs.declared.issuer.Issuing.{Issuing}
 use Rattle.racf_stream.specs.declared.statement.Statement.{Statement}
 use Rattle.racf_stream.specs.declared.status.Status.{Status}
 use Rattle.racf_stream.specs.declared.status.Status.TheVariants.{Done, Refusals, Usage, ReadFault, WriteFault, DiskFault, NotFormatted, Damaged, NoMemory, InputTooLong}
-use Rattle.racf_stream.specs.Durable.{StreamOn, StandsIn, StaysAlong, fault_in}
+use Rattle.racf_stream.specs.Durable.{StreamOn, StandsIn, StaysAlong, LeavesInDoubt, fault_in}
 use Rattle.racf_stream.specs.Runs.{Machine, after, output, longest_input, Ran, Wrote, WroteAll, whole_status, status_of}
 use Rattle.racf_stream.specs.Script.{stream, fault_at, fault_of, is_whole, script_output, script_status, StandsAt}
 use Rattle.racf_stream.specs.Stream.{State, number_of, new_stream}
@@ -35,8 +35,8 @@ unfolding new_stream
 stands_new issuing desk running settled = record { position = refl; halted = running; settled = settled }
 
 -- what stands behind a run has a weaker property
-pub Ran-weaker : {S I : Type 0} (m : Machine S I) (P Q : S → Type 0) (status : Status) (source left before now : Option (List ℕ)) → ((s : S) → P s → Q s) → Ran m P status source left before now → Ran m Q status source left before now
-Ran-weaker m P Q status source left before now weaker r =
+pub Ran-weaker : {S I : Type 0} (m : Machine S I) (P Q : S → Type 0) (R W : Type 0) (status : Status) (source left before now : Option (List ℕ)) → ((s : S) → P s → Q s) → Ran m P R W status source left before now → Ran m Q R W status source left before now
+Ran-weaker m P Q R W status source left before now weaker r =
     record {
       read = r.read;
       more = r.more;
@@ -50,17 +50,17 @@ Ran-weaker m P Q status source left before now weaker r =
     }
 
 -- the run of a stream as one of the desk
-pub ran_script : {D : Type 0} (desk : DeskOn D) (s t : StreamOn D) (issuing : Issuing) (base : Position) (status : Status) (source left before now : Option (List ℕ))
-    → Ran (stream (fault_in t) s.state.issuing s.state.position) (λ (x : State). t.state ≡ x) status source left before now → s.state.issuing ≡ issuing → s.state.position ≡ base → StandsIn desk t
-    → Ran (stream (fault_of desk) issuing base) (StandsAt desk) status source left before now
-ran_script desk s t issuing base status source left before now r given at stands =
+pub ran_script : {D : Type 0} (desk : DeskOn D) (s t : StreamOn D) (issuing : Issuing) (base : Position) (R W : Type 0) (status : Status) (source left before now : Option (List ℕ))
+    → Ran (stream (fault_in t) s.state.issuing s.state.position) (λ (x : State). t.state ≡ x) R W status source left before now → s.state.issuing ≡ issuing → s.state.position ≡ base → StandsIn desk t
+    → Ran (stream (fault_of desk) issuing base) (StandsAt desk) R W status source left before now
+ran_script desk s t issuing base R W status source left before now r given at stands =
     let fault : fault_in t ≡ fault_of desk =
     ap (λ h. fault_at h (number_of t.state)) (sym stands.halted) ∙ ap (λ (p : Position). fault_at desk.halted p.image.generation) (sym stands.position) in
     let stood : StandsAt desk t.state = record { position = stands.position; halted = stands.halted; settled = stands.settled } in
-    subst (λ b. Ran (stream (fault_of desk) issuing b) (StandsAt desk) status source left before now) at
-    (subst (λ i. Ran (stream (fault_of desk) i s.state.position) (StandsAt desk) status source left before now) given
-    (subst (λ f. Ran (stream f s.state.issuing s.state.position) (StandsAt desk) status source left before now) fault
-    (Ran-weaker (stream (fault_in t) s.state.issuing s.state.position) (λ (x : State). t.state ≡ x) (StandsAt desk) status source left before now (λ x is. subst (StandsAt desk) is stood) r)))
+    subst (λ b. Ran (stream (fault_of desk) issuing b) (StandsAt desk) R W status source left before now) at
+    (subst (λ i. Ran (stream (fault_of desk) i s.state.position) (StandsAt desk) R W status source left before now) given
+    (subst (λ f. Ran (stream f s.state.issuing s.state.position) (StandsAt desk) R W status source left before now) fault
+    (Ran-weaker (stream (fault_in t) s.state.issuing s.state.position) (λ (x : State). t.state ≡ x) (StandsAt desk) R W status source left before now (λ x is. subst (StandsAt desk) is stood) r)))
 
 -- ---- what was read of a source that tells its bytes
 read_all : (source more : Option (List ℕ)) (read : List ℕ) → source ≡ prepend_known read more → IsAtEnd more → IfSome source (λ bytes. read ≡ bytes)
@@ -102,22 +102,22 @@ all_wrote desk issuing base status source more before now read worked written is
     (λ bytes same. subst (λ (xs : List ℕ). (now ≡ append_known before (script_output None issuing base xs)) × (status ≡ script_status None issuing base xs)) same (gained ∙ ap (append_known before) text, state))
     (read_all source more read given w.ended)
 
-pub ran_whole : {D : Type 0} (desk : DeskOn D) (issuing : Issuing) (base : Position) (status : Status) (source left before now : Option (List ℕ)) → IsTrue (is_whole status) → Ran (stream (fault_of desk) issuing base) (StandsAt desk) status source left before now
+pub ran_whole : {D : Type 0} (desk : DeskOn D) (issuing : Issuing) (base : Position) (R W : Type 0) (status : Status) (source left before now : Option (List ℕ)) → IsTrue (is_whole status) → Ran (stream (fault_of desk) issuing base) (StandsAt desk) R W status source left before now
     → IfSome source (λ bytes. (now ≡ append_known before (script_output None issuing base bytes)) × (status ≡ script_status None issuing base bytes))
-ran_whole desk issuing base Done source left before now is r = all_wrote desk issuing base Done source r.more before now r.read r.worked r.written is r.given r.gained r.stands r.wrote
-ran_whole desk issuing base Refusals source left before now is r = all_wrote desk issuing base Refusals source r.more before now r.read r.worked r.written is r.given r.gained r.stands r.wrote
-ran_whole desk issuing base Usage source left before now is r = cc
-ran_whole desk issuing base ReadFault source left before now is r = cc
-ran_whole desk issuing base WriteFault source left before now is r = cc
-ran_whole desk issuing base DiskFault source left before now is r = cc
-ran_whole desk issuing base NotFormatted source left before now is r = cc
-ran_whole desk issuing base (Damaged place) source left before now is r = cc
-ran_whole desk issuing base NoMemory source left before now is r = cc
-ran_whole desk issuing base InputTooLong source left before now is r = cc
+ran_whole desk issuing base R W Done source left before now is r = all_wrote desk issuing base Done source r.more before now r.read r.worked r.written is r.given r.gained r.stands r.wrote
+ran_whole desk issuing base R W Refusals source left before now is r = all_wrote desk issuing base Refusals source r.more before now r.read r.worked r.written is r.given r.gained r.stands r.wrote
+ran_whole desk issuing base R W Usage source left before now is r = cc
+ran_whole desk issuing base R W ReadFault source left before now is r = cc
+ran_whole desk issuing base R W WriteFault source left before now is r = cc
+ran_whole desk issuing base R W DiskFault source left before now is r = cc
+ran_whole desk issuing base R W NotFormatted source left before now is r = cc
+ran_whole desk issuing base R W (Damaged place) source left before now is r = cc
+ran_whole desk issuing base R W NoMemory source left before now is r = cc
+ran_whole desk issuing base R W InputTooLong source left before now is r = cc
 
-pub ran_too_long : {S I : Type 0} (m : Machine S I) (P : S → Type 0) (status : Status) (source left before now : Option (List ℕ)) → Ran m P status source left before now → status ≡ InputTooLong → IfSome source (λ bytes. longest_input < length bytes)
-ran_too_long m P status source left before now r is =
-    let long = subst (λ (x : Status). Wrote m x r.read r.more left r.worked r.written) is r.wrote in
+pub ran_too_long : {S I : Type 0} (m : Machine S I) (P : S → Type 0) (R W : Type 0) (status : Status) (source left before now : Option (List ℕ)) → Ran m P R W status source left before now → status ≡ InputTooLong → IfSome source (λ bytes. longest_input < length bytes)
+ran_too_long m P R W status source left before now r is =
+    let long = subst (λ (x : Status). Wrote m R W x r.read r.more left r.worked r.written) is r.wrote in
     read_more source r.more r.read r.given long.too_long
 
 -- what every crash leaves, of the same input, base and stores under other names
@@ -132,3 +132,13 @@ along_as {D = D} tells given issuing at base known source old first new last is_
 -- and the disk that doesn't count
 pub idle_as : {D : Type 0} (old first new last : StoreOn D) → old ≡ first → new ≡ last → SameIdle old new → SameIdle first last
 idle_as old first new last is_old is_new idle = subst (λ o. SameIdle o last) is_old (subst (λ n. SameIdle old n) is_new idle)
+
+-- and the command that is in doubt
+pub doubt_as : {D : Type 0} (tells : D → Option History) (given issuing : Issuing) (at base : Position) (known source : Option (List ℕ)) (old new : StoreOn D) (there position : Position) → given ≡ issuing → at ≡ base → known ≡ source → old ≡ new → there ≡ position
+    → LeavesInDoubt tells given at known old there → LeavesInDoubt tells issuing base source new position
+doubt_as {D = D} tells given issuing at base known source old new there position is_given is_at is_known is_store is_there doubt =
+    subst (λ (i : Issuing). LeavesInDoubt tells i base source new position) is_given
+    (subst (λ (b : Position). LeavesInDoubt tells given b source new position) is_at
+    (subst (λ (k : Option (List ℕ)). LeavesInDoubt tells given at k new position) is_known
+    (subst (λ (o : StoreOn D). LeavesInDoubt tells given at known o position) is_store
+    (subst (λ (p : Position). LeavesInDoubt tells given at known old p) is_there doubt))))

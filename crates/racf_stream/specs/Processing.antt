@@ -34,9 +34,9 @@ stop_status stop.ReadFault failed refused = unless_failed failed ReadFault
 stop_status stop.InputTooLong failed refused = InputTooLong
 stop_status stop.NoMemory failed refused = NoMemory
 
--- What is gathered when a run stops is written, and the status is that of the stop; or the write fails, and the status
--- says so.
-abbrev pub Ends : Stop → (failed refused : Bool) → Status → List ℕ → Option (List ℕ) → Option (List ℕ) → Type 0
-Ends stop failed refused status gathered before now =
+-- What is gathered when a run stops is written, and the status is that of the stop; or the write fails, as
+-- `write_failed` says, and the status tells that.
+abbrev pub Ends : (write_failed : Type 0) → Stop → (failed refused : Bool) → Status → List ℕ → Option (List ℕ) → Option (List ℕ) → Type 0
+Ends write_failed stop failed refused status gathered before now =
     ((status ≡ stop_status stop failed refused) × (now ≡ append_known before gathered))
-    ⊎ ((status ≡ unless_failed failed WriteFault) × IsCutShort gathered before now)
+    ⊎ ((status ≡ unless_failed failed WriteFault) × write_failed × IsCutShort gathered before now)

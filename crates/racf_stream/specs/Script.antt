@@ -10,7 +10,7 @@ use Rattle.racf_stream.specs.declared.statement.Statement.{Statement}
 use Rattle.racf_stream.specs.declared.status.Status.{Status}
 use Rattle.racf_stream.specs.declared.status.Status.TheVariants.{Done, Refusals}
 use Rattle.racf_stream.specs.Joining.{items_of, whole_items_of}
-use Rattle.racf_stream.specs.Stream.{State, new_stream, step, text}
+use Rattle.racf_stream.specs.Stream.{State, number_of, new_stream, step, text}
 use Rattle.racf_stream.specs.Runs.{Input, Machine, after, output, status_of}
 
 -- the statements of an input of this kind are those of its lines
@@ -38,6 +38,7 @@ stream fault issuing base = record {
   text = text fault;
   has_refused = λ s. s.has_refused;
   has_failed = λ s. s.halted;
+  accepted = number_of;
 }
 
 -- what is written for a whole input

@@ -42,16 +42,12 @@ impl<D: Disk> Model for Stream<D> {
 
 impl<D: Disk> Stream<D> {
     ghost use Rattle.request_files.specs.Seen.{line_read};
-    ghost use Rattle.racf_stream.specs.Durable.{Moves, Stays, StandsIn, fault_in, DoesOn};
+    ghost use Rattle.racf_stream.specs.Durable.{Moves, Fails, Stays, StandsIn, fault_in, DoesOn};
     ghost use Rattle.racf_stream.specs.Stream.{new_stream, answer, answer_line, request, refuse, command, name_issuer};
 
     /// The state before the first line. Where memory is short, the desk is given back.
     #[tactic(auto, unfolding(crate::specs::Stream::new_stream))]
-    pub(crate) fn new(
-        alloc: Global,
-        desk: Desk<D>,
-        issuing: Issuing,
-    ) -> Result<Stream<D>, Desk<D>>
+    pub(crate) fn new(alloc: Global, desk: Desk<D>, issuing: Issuing) -> Result<Stream<D>, Desk<D>>
         requires running { desk.halted ≡ false }
         requires settled { desk.committed ≡ false }
         ensures state { IfOk result (λ stream. stream ≡ record { state = new_stream issuing desk.position; store = desk.store }) }
@@ -126,6 +122,7 @@ impl<D: Disk> Stream<D> {
         ensures ok { OnOk result (DoesOn (answer (fault_in self.new) item.now) self.old self.new out.old.items out.new.items) }
         ensures err { OnErr result (self.new ≡ self.old) }
         ensures moves { Moves D.tells D.faults item.now self.old self.new }
+        ensures fails { self.old.state.halted ≡ false → self.new.state.halted ≡ true → Fails D.tells item.now self.old self.new }
     {
         match item {
             Statement::Command(text) => self.command(alloc, text, out),
@@ -147,15 +144,16 @@ impl<D: Disk> Stream<D> {
         ensures ok { OnOk result (DoesOn (command (fault_in self.new) text.now) self.old self.new out.old.items out.new.items) }
         ensures err { OnErr result (self.new ≡ self.old) }
         ensures moves { Moves D.tells D.faults (Statement.Command text.now) self.old self.new }
+        ensures fails { self.old.state.halted ≡ false → self.new.state.halted ≡ true → Fails D.tells (Statement.Command text.now) self.old self.new }
     {
         let NamedIssuer { id, group } = self.issuer;
         match self.desk.judge(alloc, id, group, text.as_slice()) {
             Ok(ready) => settle(&mut self.desk, ready, out),
             Err(Judgement::Refused(_, why)) => self.refuse(Refusal::Command(why), out),
             Err(Judgement::Halted(number)) => Reply::Halted.write_line(number, out),
-            Err(Judgement::Accepted(_) | Judgement::DiskFault(_) | Judgement::NoMemory) => {
-                Err(AllocError)
-            }
+            Err(Judgement::NoMemory) => Err(AllocError),
+            // What `judge` answers in place of a command is none of these two.
+            Err(Judgement::Accepted(_) | Judgement::DiskFault(_)) => Err(AllocError),
         }
     }
 

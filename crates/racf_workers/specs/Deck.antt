@@ -31,6 +31,14 @@ told_line (reply.Halted number) = reply_line number printed.Halted
 told_line (reply.DiskFault number) = reply_line number printed.DiskFault
 told_line reply.NoMemory = []
 
+-- the command was accepted
+abbrev pub is_acceptance : Reply → Bool
+is_acceptance (reply.Accepted number) = true
+is_acceptance (reply.Refused number why) = false
+is_acceptance (reply.Halted number) = false
+is_acceptance (reply.DiskFault number) = false
+is_acceptance reply.NoMemory = false
+
 -- the command was refused
 abbrev pub is_refusal : Reply → Bool
 is_refusal (reply.Accepted number) = false
@@ -154,6 +162,7 @@ deck_machine base issuing seen pass schedule = record {
   text = text_at base;
   has_refused = λ s. s.has_refused;
   has_failed = λ s. s.has_failed;
+  accepted = λ s. s.pass.commands;
 }
 
 -- ---- what the commands met
@@ -171,18 +180,24 @@ Course base (turn ∷ turns) = IsRight base turn × Course base turns
 
 -- ---- a whole deck
 
--- Behind the commands that were given: each turn was right; the pass has counted them and no more; where a disk failed
--- one, the history has ended so; and all that was seen is a beginning of what the caller has seen now. It is the same,
--- unless memory ran out at a command that was not accepted.
+-- some of these commands was told that a disk failed it, or an earlier one
+abbrev pub any_failure : List Turn → Bool
+any_failure [] = false
+any_failure (turn ∷ turns) = is_failure turn.met.reply || any_failure turns
+
+-- Behind the commands that were given: each turn was right; the pass has counted them and no more; a disk failed one
+-- exactly where a line says DISKFAULT or HALTED, and then the history has ended so; and all that was seen is a beginning
+-- of what the caller has seen now. It is the same, unless memory ran out at a command that was not accepted.
 pub record Stands (base : Position) (status : Status) (now : List Event) (pass : Passing) (s : DeckState) : Type 0 where
   pub course : Course base s.turns
   pub counts : s.pass ≡ pass
+  pub fails : s.has_failed ≡ any_failure s.turns
   pub failed : s.has_failed ≡ true → mark_of s.seen ≡ Some true
   pub later : Extends s.seen now
   pub exact : status ≢ NoMemory → status ≢ WriteFault → s.seen ≡ now
 
 -- The output of a deck is what its commands were told, each behind some list of the history that extends what its
 -- caller had seen then, and what its other lines print.
-pub record Gives (base : Position) (issuing : Issuing) (before after : List Event) (pass back : Passing) (status : Status) (source left sunk now : Option (List ℕ)) : Type 0 where
+pub record Gives (base : Position) (issuing : Issuing) (before after : List Event) (pass back : Passing) (read_failed write_failed : Type 0) (status : Status) (source left sunk now : Option (List ℕ)) : Type 0 where
   pub schedule : List Met
-  pub ran : Ran (deck_machine base issuing before pass schedule) (Stands base status after back) status source left sunk now
+  pub ran : Ran (deck_machine base issuing before pass schedule) (Stands base status after back) read_failed write_failed status source left sunk now

@@ -1,12 +1,13 @@
 //! A deck, from its first line to its last.
 
-ghost use Rattle.std.specs.Prelude.{ℕ, ◌≡◌, ◌≢◌, ◌≤◌, ◌<◌, true, Some, IfSome, OnOk, OnErr, length};
+ghost use Rattle.std.specs.Prelude.{ℕ, ◌≡◌, ◌≢◌, ◌≤◌, ◌<◌, true, Some, IfOk, IfSome, OnOk, OnErr, false, length};
 ghost use Rattle.racf_outside.specs.Causes.{HasCause, Rose};
 ghost use Rattle.racf_outside.specs.Reader.{at_start};
 ghost use Rattle.command_history.specs.Events.{Extends, mark_of};
-ghost use Rattle.racf_stream.specs.Gathering.{IsCutShort, Settles};
+ghost use Rattle.racf_stream.specs.Gathering.{Acknowledges, IsCutShort};
 ghost use Rattle.racf_stream.specs.Processing.{Ends};
 ghost use Rattle.racf_stream.specs.Runs.{longest_input};
+ghost use Rattle.racf_stream.specs.Status.{code_of};
 ghost use Rattle.racf_workers.specs.Deck.{Gives};
 ghost use Rattle.racf_workers.specs.Giving.{Keeps, WorksItem, WorksNext};
 
@@ -58,7 +59,9 @@ pub fn give_commands<
     worker: u32,
 ) -> (Status, I)
     // Which bytes were read, what the commands met, and what was written, wherever it stopped.
-    ensures gives { Gives J.base issuing caller.old.events caller.new.events pass.old pass.new result.0 (I.left source) (I.left result.1) (K.taken sink.old) (K.taken sink.new) }
+    ensures gives { Gives J.base issuing caller.old.events caller.new.events pass.old pass.new
+        (Rose (I.faults source) (I.faults result.1)) (Rose (K.faults sink.old) (K.faults sink.new))
+        result.0 (I.left source) (I.left result.1) (K.taken sink.old) (K.taken sink.new) }
     ensures later { Extends caller.old.events caller.new.events }
 
     // Why it stopped.
@@ -67,6 +70,7 @@ pub fn give_commands<
     ensures read_fault { result.0 ≡ Status.ReadFault → Rose (I.faults source) (I.faults result.1) }
     ensures write_fault { result.0 ≡ Status.WriteFault → Rose (K.faults sink.old) (K.faults sink.new) }
     ensures disk_fault { result.0 ≡ Status.DiskFault → mark_of caller.new.events ≡ Some true }
+    ensures halted_status { pass.old.faults < pass.new.faults → 20 ≤ code_of result.0 }
     ensures too_long { result.0 ≡ Status.InputTooLong → IfSome (I.left source) (λ bytes. longest_input < length bytes) }
 
     ensures source_faults { I.faults source ≤ I.faults result.1 }
@@ -109,7 +113,9 @@ fn run<
     worker: u32,
 ) -> Status
     requires begins { lines.old ≡ at_start lines.old.left lines.old.faults }
-    ensures gives { Gives J.base issuing caller.old.events caller.new.events pass.old pass.new result lines.old.left lines.new.left (K.taken sink.old) (K.taken sink.new) }
+    ensures gives { Gives J.base issuing caller.old.events caller.new.events pass.old pass.new
+        (Rose lines.old.faults lines.new.faults) (Rose (K.faults sink.old) (K.faults sink.new))
+        result lines.old.left lines.new.left (K.taken sink.old) (K.taken sink.new) }
     ensures later { Extends caller.old.events caller.new.events }
     ensures read_fault { result ≡ Status.ReadFault → Rose lines.old.faults lines.new.faults }
     ensures write_fault { result ≡ Status.WriteFault → Rose (K.faults sink.old) (K.faults sink.new) }
@@ -129,7 +135,16 @@ fn run<
         };
         number += 1;
         gate.before(worker, number);
-        let accepted = match work(rt, alloc, racf, caller, pass, item, &mut state, &mut replies) {
+        let accepted = match work(
+            rt,
+            alloc,
+            racf,
+            caller,
+            pass,
+            item,
+            &mut state,
+            &mut replies,
+        ) {
             Ok(accepted) => accepted,
             Err(_) => return end(Stop::NoMemory, &state, &mut replies, sink),
         };
@@ -164,6 +179,7 @@ fn work<
     replies: &mut Replies,
 ) -> Result<bool, AllocError>
     ensures works { OnOk result (WorksNext J.base item caller.old.events caller.new.events pass.old pass.new state.old state.new replies.old replies.new) }
+    ensures accepted { IfOk result (λ accepted. accepted ≡ false → pass.new.commands ≡ pass.old.commands) }
     ensures kept { OnErr result (Keeps pass.old pass.new state.old state.new replies.old replies.new) }
     ensures later { Extends caller.old.events caller.new.events }
 {
@@ -195,6 +211,7 @@ fn gather<
     replies: &mut Replies,
 ) -> Result<bool, AllocError>
     ensures works { OnOk result (WorksItem J.base item.now caller.old.events caller.new.events pass.old pass.new state.old state.new replies.old replies.new) }
+    ensures accepted { IfOk result (λ accepted. accepted ≡ false → pass.new.commands ≡ pass.old.commands) }
     ensures kept { OnErr result (Keeps pass.old pass.new state.old state.new replies.old replies.new) }
     ensures later { Extends caller.old.events caller.new.events }
 {
@@ -208,7 +225,7 @@ fn gather<
 
 /// Writes what is gathered where a command was accepted, so that its reply doesn't wait.
 fn acknowledge<K: Sink>(accepted: bool, replies: &mut Replies, sink: &mut K) -> Result<(), Failed>
-    ensures settled { OnOk result (Settles replies.old replies.new (K.taken sink.old) (K.taken sink.new)) }
+    ensures settled { OnOk result (Acknowledges (accepted ≡ false) replies.old replies.new (K.taken sink.old) (K.taken sink.new)) }
     ensures front { OnErr result (IsCutShort replies.old (K.taken sink.old) (K.taken sink.new)) }
     ensures cause { HasCause (K.faults sink.old) (K.faults sink.new) result }
 {
@@ -220,7 +237,7 @@ fn acknowledge<K: Sink>(accepted: bool, replies: &mut Replies, sink: &mut K) -> 
 
 /// Ends a run that stops so: writes what is gathered, and tells the status.
 fn end<K: Sink>(stop: Stop, state: &Giving, replies: &mut Replies, sink: &mut K) -> Status
-    ensures ended { Ends stop state.now.has_failed state.now.has_refused result replies.old (K.taken sink.old) (K.taken sink.new) }
+    ensures ended { Ends (Rose (K.faults sink.old) (K.faults sink.new)) stop state.now.has_failed state.now.has_refused result replies.old (K.taken sink.old) (K.taken sink.new) }
     ensures read_fault { result ≡ Status.ReadFault → stop ≡ Stop.ReadFault }
     ensures write_fault { result ≡ Status.WriteFault → Rose (K.faults sink.old) (K.faults sink.new) }
     ensures disk_fault { result ≡ Status.DiskFault → state.now.has_failed ≡ true }

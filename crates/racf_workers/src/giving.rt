@@ -1,6 +1,6 @@
 //! What stands between two lines of a deck.
 
-ghost use Rattle.std.specs.Prelude.{◌≡◌, OnOk, OnErr};
+ghost use Rattle.std.specs.Prelude.{◌≡◌, false, IfOk, OnOk, OnErr};
 ghost use Rattle.command_history.specs.Events.{Extends};
 
 use crate::telling::{is_accepted, is_failure, is_refusal, write_reply};
@@ -93,6 +93,7 @@ impl Giving {
         out: &mut Vec<u8>,
     ) -> Result<bool, AllocError>
         ensures works { OnOk result (WorksItem J.base item.now caller.old.events caller.new.events pass.old pass.new self.old self.new out.old.items out.new.items) }
+        ensures accepted { IfOk result (λ accepted. accepted ≡ false → pass.new.commands ≡ pass.old.commands) }
         ensures kept { OnErr result ((pass.new ≡ pass.old) × (self.new ≡ self.old)) }
         ensures later { Extends caller.old.events caller.new.events }
     {
@@ -128,6 +129,7 @@ impl Giving {
         out: &mut Vec<u8>,
     ) -> Result<bool, AllocError>
         ensures works { OnOk result (Commands J.base text.now caller.old.events caller.new.events pass.old pass.new self.old self.new out.old.items out.new.items) }
+        ensures accepted { IfOk result (λ accepted. accepted ≡ false → pass.new.commands ≡ pass.old.commands) }
         ensures kept { OnErr result ((pass.new ≡ pass.old) × (self.new ≡ self.old)) }
         ensures later { Extends caller.old.events caller.new.events }
     {

@@ -7,8 +7,8 @@ use crate::desk_tests::{never_disks, new_desk};
 use racf_desk::Desk;
 use racf_files::FileShelf;
 use racf_outside::{
-    Disk, Failed, Failing, MemoryDisk, MemoryShelf, MemorySink, MemorySource, NeverDisk,
-    Shelf, Source, Two,
+    Disk, Failed, Failing, MemoryDisk, MemoryShelf, MemorySink, MemorySource, NeverDisk, Shelf,
+    Source, Two,
 };
 use racf_run::{Idle, Status, racf, script};
 use std::alloc::Global;

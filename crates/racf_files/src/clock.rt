@@ -6,8 +6,8 @@ use racf_outside::Clock;
 use std::io;
 use std::time::{Clock as SystemClock, SystemTime, UNIX_EPOCH};
 
-/// The clock of the system: the whole seconds since 1970. Nothing is claimed of what it gives. Where it tells no time, or
-/// one before, that is 0.
+/// The clock of the system: the whole seconds since 1970. Nothing is claimed of what it gives. Where it tells no time,
+/// or one before, that is 0.
 #[derive(Drop)]
 pub struct RealClock<R: SystemClock + Drop> {
     /// What reads it.

@@ -80,8 +80,8 @@ impl Asking {
         };
     }
 
-    /// Takes what was typed. Where it asks for the words they are printed, and it isn't for who reads. Behind the end the
-    /// line of the prompt is ended.
+    /// Takes what was typed. Where it asks for the words they are printed, and it isn't for who reads. Behind the end
+    /// the line of the prompt is ended.
     pub(crate) fn is_answered<R: Eprint>(&mut self, terminal: &R, typed: &[u8]) -> bool {
         if typed.is_empty() {
             let _ = eprintln!(terminal; "");

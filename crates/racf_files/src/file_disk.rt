@@ -17,8 +17,8 @@ use std::rt::Files;
 /// another disk of this one, isn't opened, and none is opened through a symbolic link. A sync waits for the device;
 /// behind one that failed none succeeds, until the file is opened again.
 ///
-/// A file that isn't there is an empty disk. It is made at the first write, for its owner alone, and its folder is synced
-/// then.
+/// A file that isn't there is an empty disk. It is made at the first write, for its owner alone, and its folder is
+/// synced then.
 ///
 /// Nothing is claimed of what the system, the file system and the device do: that they keep to what a disk promises is
 /// trusted.

@@ -17,10 +17,11 @@ use std::rt::Files;
 /// The shelf of the files that a path names, a relative one from the folder that the program runs in. The name `-` is
 /// standard input or standard output.
 ///
-/// Nothing is lost by it. An output that is an open input, an open output or a file of the database, whatever other name
-/// it has, isn't opened, and so isn't one that another program holds locked or that begins as a file of a database does:
-/// that is a fault. What the words of a run name is opened in two steps: all of it at the first call, inputs first, then
-/// outputs as they are; and each output is emptied when it is handed out, unless one of all these can't be opened.
+/// Nothing is lost by it. An output that is an open input, an open output or a file of the database, whatever other
+/// name it has, isn't opened, and so isn't one that another program holds locked or that begins as a file of a database
+/// does: that is a fault. What the words of a run name is opened in two steps: all of it at the first call, inputs
+/// first, then outputs as they are; and each output is emptied when it is handed out, unless one of all these can't be
+/// opened.
 #[derive(Drop)]
 pub struct FileShelf<R: Files<File = File> + Input + Print + Eprint + Clone + Drop> {
     /// Where the memory for names is from.

@@ -61,8 +61,8 @@ impl Guard {
         Ok(())
     }
 
-    /// An error where an output is a disk or a mark. It is asked once the output is there, so that it is found too where
-    /// the disk wasn't there before.
+    /// An error where an output is a disk or a mark. It is asked once the output is there, so that it is found too
+    /// where the disk wasn't there before.
     pub(crate) fn refuse_output<R: Files<File = File>>(
         &self,
         files: &R,

@@ -157,8 +157,8 @@ fn open_again<R: Files<File = File>>(files: &R, wanted: FileIdentity) -> Result<
     }
 }
 
-/// Opens an output, which keeps what it holds until it is emptied. As a regular file it is no file of a database, and no
-/// other program holds it locked. A pipe or a device may be open several times.
+/// Opens an output, which keeps what it holds until it is emptied. As a regular file it is no file of a database, and
+/// no other program holds it locked. A pipe or a device may be open several times.
 pub(crate) fn open_named_output<R: Files<File = File> + Eprint>(
     alloc: Global,
     files: &R,
@@ -273,8 +273,8 @@ fn open_for_writing(file: File, is_readable: bool, is_made: bool) -> Result<Writ
     })
 }
 
-/// An error where another program holds a file locked, or where it begins as a file of a database does. The lock is tried
-/// and let go.
+/// An error where another program holds a file locked, or where it begins as a file of a database does. The lock is
+/// tried and let go.
 fn refuse_held(opened: &Writing) -> Result<(), Reason> {
     match opened.file.try_lock() {
         Ok(()) => opened.file.unlock()?,
@@ -296,8 +296,8 @@ fn begins_as_database(file: &File) -> bool {
     }
 }
 
-/// Whether a name is that of a pipe, whose opening may wait for its other end. Those of the system's own folders are open
-/// already.
+/// Whether a name is that of a pipe, whose opening may wait for its other end. Those of the system's own folders are
+/// open already.
 pub(crate) fn is_pipe<R: Files>(files: &R, name: &str) -> bool {
     match fs::metadata(files, name) {
         Ok(metadata) => is_named_pipe(name, &metadata),

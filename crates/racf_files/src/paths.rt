@@ -11,8 +11,8 @@ use std::rt::Files;
 /// The descriptors up to this one are the standard streams.
 const STANDARD_ERROR: i32 = 2;
 
-/// The file, at a descriptor behind those of the standard streams: what is meant for one that is closed must not land in
-/// it.
+/// The file, at a descriptor behind those of the standard streams: what is meant for one that is closed must not land
+/// in it.
 pub(crate) fn behind_standard(file: File) -> io::Result<File> {
     if file.as_raw_fd() <= STANDARD_ERROR {
         file.try_clone()

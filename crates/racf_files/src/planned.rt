@@ -178,8 +178,8 @@ impl Plan {
         Ok(())
     }
 
-    /// Opens all of them where that wasn't done: inputs first, then outputs, of which none is emptied. Where one can't be
-    /// opened no pipe is waited for any more, and what was made is taken away.
+    /// Opens all of them where that wasn't done: inputs first, then outputs, of which none is emptied. Where one can't
+    /// be opened no pipe is waited for any more, and what was made is taken away.
     pub(crate) fn open<R: Files<File = File> + Eprint + Drop>(&mut self, open: &mut Open<R>) {
         if self.is_opened {
             return;

@@ -6,9 +6,10 @@ ghost use Rattle.racf_stream.specs.Script.{is_whole};
 use crate::desk_tests::{never_disks, new_desk};
 use access_levels::Id;
 use racf_desk::Desk;
+use racf_files::FileShelf;
 use racf_outside::{
-    Disk, Failed, Failing, FileShelf, MemoryDisk, MemoryShelf, MemorySink, MemorySource, NeverDisk,
-    Shelf, Source, Two,
+    Disk, Failed, Failing, MemoryDisk, MemoryShelf, MemorySink, MemorySource, NeverDisk, Shelf,
+    Source, Two,
 };
 use racf_run::{Idle, Status, racf, script};
 use racf_stream::Issuing;

@@ -119,8 +119,17 @@ impl<D: Disk> Store<D> {
         ensures first_no_fewer { MatchResult result (λ loaded. D.faults disks.first ≤ D.faults (disk_on Side.First loaded.store)) (λ back. D.faults disks.first ≤ D.faults back.0.first) }
         ensures second_no_fewer { MatchResult result (λ loaded. D.faults disks.second ≤ D.faults (disk_on Side.Second loaded.store)) (λ back. D.faults disks.second ≤ D.faults back.0.second) }
     {
-        let loaded = Store::find(alloc, disks)?.open()?;
-        Ok(loaded)
+        let (found, rows) = Store::find(alloc, disks)?;
+        let number = found.number();
+        let start = found.start();
+        let (store, records) = found.open()?;
+        Ok(Loaded {
+            store,
+            rows,
+            number,
+            start,
+            records,
+        })
     }
 
     /// Appends a record. After `Ok` every crash keeps it, and at every moment before a crash leaves files that say the

@@ -68,8 +68,12 @@ const START: usize = 346;
 /// How many bytes a record takes with its gate.
 const STEP: usize = 32;
 
-/// How many calls an opening makes of each disk: a sync, and reads up to one that gives nothing.
-const OPENING: u64 = 3;
+/// How many calls an opening makes of the disk that counts: a sync, a read of what tells that it counts, and reads up
+/// to one that gives nothing.
+const OPENING: u64 = 4;
+
+/// How many calls it makes of the other disk.
+const IDLE_OPENING: u64 = 2;
 
 /// The output where the third accepted command fails.
 const THIRD_FAILS: &str = "1 ACCEPTED
@@ -269,7 +273,7 @@ fn streams_end(rt: HostRuntime) {
         disks,
         ended,
         output: written,
-    } = run_stream(&rt, (OPENING + 29, OPENING + 1), &input(&rt), (0, 0));
+    } = run_stream(&rt, (OPENING + 29, IDLE_OPENING + 1), &input(&rt), (0, 0));
     assert!(rt; ended == Some((Status::Refusals, false, STANDS[7])));
     assert!(rt; written.as_slice() == output(&rt, 7).as_bytes());
     assert!(rt; output(&rt, 2).as_str() == THIRD_FAILS);
@@ -278,12 +282,12 @@ fn streams_end(rt: HostRuntime) {
     assert_stands(&rt, disks.first.bytes(), 7);
 }
 
-/// Opening takes three calls of each disk, of which none changes it.
+/// Opening takes four calls of the disk that counts, and two of the other, of which none changes it.
 #[test]
 fn openings_stop(rt: HostRuntime) {
     let new = held_bytes(&rt, &Held::First(EMPTY));
     for failing in 1..=OPENING {
-        for (first, second) in [(failing, 0), (0, failing)] {
+        for (first, second) in [(failing, 0), (0, failing.min(IDLE_OPENING))] {
             let run = run_stream(&rt, (first, second), &input(&rt), (0, 0));
             let faults = [run.disks.first.faults(), run.disks.second.faults()];
             assert!(rt; run.ended.is_none() && run.output.is_empty());

@@ -59,8 +59,45 @@ struct Row {
     stands: [Stand; 2],
 }
 
-/// The calls that an opening makes of a disk at rest: a sync, and reads up to one that gives nothing.
-const OPEN: &[Call] = &[Call::Sync, Call::Read, Call::Read];
+/// The calls that an opening makes of a disk that counts and is at rest: a sync, a read of what tells that it counts, and
+/// reads up to one that gives nothing.
+const OPEN: &[Call] = &[Call::Sync, Call::Read, Call::Read, Call::Read];
+
+/// Those that it makes of the other disk.
+const IDLE: &[Call] = &[Call::Sync, Call::Read];
+
+/// The calls by which a file whose head gate is open is made one without a checkpoint, and a first one is written.
+const FIRST: &[Call] = &[
+    Call::Sync,
+    Call::Read,
+    Call::Read,
+    Call::Write(8, 9),
+    Call::Sync,
+    Call::Cut,
+    Call::Sync,
+    Call::Write(0, 9),
+    Call::Sync,
+    Call::Read,
+    Call::Cut,
+    Call::Write(9, 33),
+    Call::Write(33, 347),
+    Call::Sync,
+    Call::Write(8, 9),
+    Call::Sync,
+];
+
+/// The same without the first one.
+const BARED: &[Call] = &[
+    Call::Sync,
+    Call::Read,
+    Call::Read,
+    Call::Write(8, 9),
+    Call::Sync,
+    Call::Cut,
+    Call::Sync,
+    Call::Write(0, 9),
+    Call::Sync,
+];
 
 /// Where a desk stands behind none of the commands, behind one, two and three.
 const NONE: Stand = (0, [false, false, false]);
@@ -71,29 +108,23 @@ const TWO: Stand = (2, [true, true, false]);
 
 const THREE: Stand = (3, [true, true, true]);
 
-/// The rows, of which each but the first two begins where the one before it ended.
-const ROWS: [Row; 7] = [
+/// The rows, of which each but the first three begins where the one before it ended.
+const ROWS: [Row; 8] = [
     // both files are made ones without a checkpoint, and the first gets one
     Row {
         deed: Deed::Format,
         held: [Held::First(JOE), Held::First(EMPTY)],
         left: [Held::First(EMPTY), Held::Bytes(BARE)],
-        calls: [
-            &[
-                Call::Write(0, 9),
-                Call::Cut,
-                Call::Sync,
-                Call::Read,
-                Call::Write(9, 33),
-                Call::Write(33, 347),
-                Call::Cut,
-                Call::Sync,
-                Call::Write(8, 9),
-                Call::Sync,
-            ],
-            &[Call::Write(0, 9), Call::Cut, Call::Sync],
-        ],
+        calls: [FIRST, BARED],
         stands: [ONE, NONE],
+    },
+    // of two checkpoints the older one goes first
+    Row {
+        deed: Deed::Format,
+        held: [Held::First(JOE), Held::Second(BOB)],
+        left: [Held::First(EMPTY), Held::Bytes(BARE)],
+        calls: [FIRST, BARED],
+        stands: [TWO, NONE],
     },
     // bytes behind the closed gate are cut off, and the gate is written
     Row {
@@ -108,12 +139,13 @@ const ROWS: [Row; 7] = [
                 Call::Sync,
                 Call::Read,
                 Call::Read,
+                Call::Read,
                 Call::Cut,
                 Call::Sync,
                 Call::Write(378, 379),
                 Call::Sync,
             ],
-            OPEN,
+            IDLE,
         ],
         stands: [ONE, ONE],
     },
@@ -126,12 +158,13 @@ const ROWS: [Row; 7] = [
                 Call::Sync,
                 Call::Read,
                 Call::Read,
+                Call::Read,
                 Call::Write(347, 379),
                 Call::Sync,
                 Call::Write(346, 347),
                 Call::Sync,
             ],
-            OPEN,
+            IDLE,
         ],
         stands: [NONE, ONE],
     },
@@ -146,10 +179,9 @@ const ROWS: [Row; 7] = [
                 Call::Sync,
                 Call::Read,
                 Call::Read,
-                Call::Read,
+                Call::Cut,
                 Call::Write(9, 33),
                 Call::Write(33, 427),
-                Call::Cut,
                 Call::Sync,
                 Call::Write(8, 9),
                 Call::Sync,
@@ -162,9 +194,10 @@ const ROWS: [Row; 7] = [
         held: [Held::First(JOE), Held::Second(EMPTY)],
         left: [Held::First(JOE), Held::Second(BOB)],
         calls: [
-            OPEN,
+            IDLE,
             &[
                 Call::Sync,
+                Call::Read,
                 Call::Read,
                 Call::Read,
                 Call::Write(427, 459),
@@ -185,12 +218,11 @@ const ROWS: [Row; 7] = [
                 Call::Sync,
                 Call::Read,
                 Call::Read,
-                Call::Read,
                 Call::Write(8, 9),
                 Call::Sync,
+                Call::Cut,
                 Call::Write(9, 33),
                 Call::Write(33, 507),
-                Call::Cut,
                 Call::Sync,
                 Call::Write(8, 9),
                 Call::Sync,
@@ -208,12 +240,13 @@ const ROWS: [Row; 7] = [
                 Call::Sync,
                 Call::Read,
                 Call::Read,
+                Call::Read,
                 Call::Write(507, 539),
                 Call::Sync,
                 Call::Write(506, 507),
                 Call::Sync,
             ],
-            OPEN,
+            IDLE,
         ],
         stands: [TWO, THREE],
     },
@@ -271,6 +304,14 @@ impl Failing<'_> {
     fn calls(&self) -> &'static [Call] {
         let [first, second] = self.row.calls;
         if self.second { second } else { first }
+    }
+
+    /// How many of them are those of an opening.
+    fn opening(&self) -> usize {
+        match self.calls().get(3) {
+            Some(Call::Read) => OPEN.len(),
+            _ => IDLE.len(),
+        }
     }
 
     /// The call at this place, counted from 0; behind the last a read.
@@ -461,7 +502,7 @@ fn wanted(failing: &Failing<'_>, place: usize) -> Ended {
     let [before, behind] = failing.row.stands;
     if place >= failing.calls().len() {
         Ended::Well(behind)
-    } else if matches!(failing.row.deed, Deed::Format | Deed::Load) || place < OPEN.len() {
+    } else if matches!(failing.row.deed, Deed::Format | Deed::Load) || place < failing.opening() {
         Ended::NoDesk
     } else {
         Ended::Halted(before)

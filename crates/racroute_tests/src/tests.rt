@@ -53,12 +53,12 @@ fn each_reply_has_its_number_in_threads(rt: HostRuntime) -> Result<(), Fail> {
     Ok(())
 }
 
-/// A new database takes ten calls of its first disk, and a command four: the sixteenth is of the second command.
+/// A new database takes fourteen calls of its first disk, and a command four: the twentieth is of the second command.
 #[test]
 fn a_disk_fault_ends_the_history(rt: HostRuntime) -> Result<(), Fail> {
     let alloc = rt.alloc();
     let disks = Two {
-        first: MemoryDisk::new(alloc, Vec::new(alloc), Vec::from_slice(alloc, &[16])?)?,
+        first: MemoryDisk::new(alloc, Vec::new(alloc), Vec::from_slice(alloc, &[20])?)?,
         second: MemoryDisk::new(alloc, Vec::new(alloc), Vec::new(alloc))?,
     };
     match Desk::format(alloc, disks) {

@@ -138,7 +138,7 @@ fn halted_desks_take_no_more(rt: HostRuntime) {
 
 /// A new desk that is given `AU JOE`, compacted, and given `AU BOB`, where that call of the second disk fails, or none:
 /// what the compaction and the last command are answered, and where the desk stands. A new desk takes seven calls of
-/// that disk, the compaction as many, and the command four.
+/// that disk, the compaction seven, and the command four.
 const COMPACTED: [(u64, Result<(), StoreFault>, Answer, Stand); 15] = [
     (
         8,
@@ -213,7 +213,7 @@ fn assert_compacts(
     let stands = stand_of(&desk);
     let halted = desk.halted();
     let disks = desk.into_disks();
-    let fails = (1..19).contains(&failing);
+    let fails = (1..15).contains(&failing);
     assert!(rt;
         first == Answer::Accepted(1) && compaction == wanted,
         "at call {failing}"

@@ -147,7 +147,7 @@ const OPENED: [Run; 14] = [
         None,
         NEW_PAIR,
     ),
-    // a disk that fails at a sync, a cut, a write, and last: the second file is made bare before the first
+    // a disk that fails at a write, a cut or a sync
     (
         INIT,
         LETTERS,
@@ -169,7 +169,7 @@ const OPENED: [Run; 14] = [
     (
         INIT,
         LETTERS,
-        (6, 0),
+        (5, 0),
         "",
         (Status::DiskFault, 20),
         None,
@@ -178,7 +178,7 @@ const OPENED: [Run; 14] = [
     (
         INIT,
         LETTERS,
-        (0, 6),
+        (0, 1),
         "",
         (Status::DiskFault, 20),
         None,
@@ -257,7 +257,7 @@ const WORKED: [Run; 14] = [
     (
         SCRIPT,
         NEW_PAIR,
-        (3, 0),
+        (4, 0),
         "AU JOE",
         (Status::DiskFault, 20),
         None,
@@ -266,7 +266,7 @@ const WORKED: [Run; 14] = [
     (
         SCRIPT,
         NEW_PAIR,
-        (0, 3),
+        (0, 2),
         "AU JOE",
         (Status::DiskFault, 20),
         None,
@@ -275,7 +275,7 @@ const WORKED: [Run; 14] = [
     (
         SCRIPT,
         NEW_PAIR,
-        (6, 0),
+        (5, 0),
         "AU JOE\nVERIFY A IBMUSER\nAX",
         (Status::DiskFault, 20),
         Some("0 DISKFAULT\n0 0 VERIFIED\n0 HALTED\n"),
@@ -284,7 +284,7 @@ const WORKED: [Run; 14] = [
     (
         COMPACT,
         JOE_PAIR,
-        (0, 3),
+        (0, 2),
         "",
         (Status::DiskFault, 20),
         None,
@@ -293,7 +293,7 @@ const WORKED: [Run; 14] = [
     (
         COMPACT,
         JOE_PAIR,
-        (0, 10),
+        (0, 9),
         "",
         (Status::DiskFault, 20),
         None,

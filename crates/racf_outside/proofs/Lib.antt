@@ -1,6 +1,4 @@
 pub mod Bytes
-mod Doubts
-mod HalfRows
 mod HeldLaws
 mod ImageRows
 pub mod ImageTests

@@ -2,8 +2,10 @@
 use Rattle.std.proofs.Common.{◌≡◌, ℕ, zero, suc, ◌+◌, ◌<◌, false, List, [], ◌∷◌, ◌++◌, map, length, refl, sym, ◌∙◌, ap, arith}
 use Rattle.std.specs.Prelude.{Option}
 use Rattle.std.specs.List.{sum_by}
+use Rattle.std.proofs.lemmas.List.Elements.{All-nil}
 use Rattle.std.proofs.lemmas.List.Sums.{sum_by-cons}
 use Rattle.racf_desk.specs.Position.{Position}
+use Rattle.command_history.specs.declared.events.Accepted.{Accepted}
 use Rattle.command_history.specs.Events.{all_of, Extends}
 use Rattle.racroute.specs.Core.{Passing}
 use Rattle.racf_stream.specs.declared.status.Status.TheVariants as statuses
@@ -85,6 +87,7 @@ module _ {I K : Type 0} (left : I → Option (List ℕ)) (reads : I → ℕ) (ta
         file_workers = map idle requests;
         are_decks = decks_ran left reads taken writes base [] false (map idle decks) (passes_from 0 (length decks)) (decks_gave 0 decks) (none_counted (length decks) 0);
         are_files = are_files requests;
+        of_decks = All-nil (λ (entry : Accepted). entry.deck < length decks);
         decks_are = given_again decks;
         requests_are = given_again requests;
         outs_are = ap (map (λ (w : Worked I K). w.back)) (sym both) ∙ back_again (decks ++ requests);

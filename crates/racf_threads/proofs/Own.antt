@@ -1,8 +1,8 @@
 -- In a run in which as many commands were accepted as there are entries, the entries of each deck are exactly those of
 -- its accepted commands.
-use Rattle.std.proofs.Common.{◌≡◌, ℕ, suc, ◌≤◌, Bool, List, [], ◌∷◌, length, refl, sym, ◌∙◌, ap, subst, arith}
+use Rattle.std.proofs.Common.{◌≡◌, ℕ, suc, ◌+◌, ◌<◌, ◌≤◌, Bool, List, [], ◌∷◌, length, refl, sym, ◌∙◌, ap, subst, arith}
 use Rattle.std.specs.Prelude.{Option}
-use Rattle.std.specs.List.{sum_by}
+use Rattle.std.specs.List.{All, sum_by}
 use Rattle.std.proofs.lemmas.List.Sums.{sum_by-cons}
 use Rattle.racf_desk.specs.Position.{Position}
 use Rattle.command_history.specs.declared.events.Accepted.{Accepted}
@@ -15,7 +15,7 @@ use Rattle.racf_stream.specs.declared.status.Status.{Status}
 use Rattle.racf_workers.proofs.DeckLaws.{stays_marked}
 use Rattle.racf_threads.specs.Outputs.{entries_by, made_in, state_of, DeckRan}
 use Rattle.racf_threads.specs.Together.{Worked, AreDecks}
-use Rattle.racf_threads.proofs.Entries.{IsWithin, within_later, count_from, count_all, count_split}
+use Rattle.racf_threads.proofs.Entries.{IsWithin, within_later, count_from, count_all, count_split, all_below}
 use Rattle.racf_threads.proofs.Turns.{KeptAt, kept_behind}
 use Rattle.racf_threads.proofs.Gave.{DeckGave, DecksGave}
 
@@ -86,6 +86,24 @@ module _ {I K : Type 0} (left : I → Option (List ℕ)) (reads : I → ℕ) (ta
           ran_from (suc deck) workers backs gave.3 others,
         )
 
+    -- Behind these decks there are no more entries than were not counted.
+    left_behind : (deck : ℕ) (workers : List (Worked I K)) (backs : List Passing) → DecksGave left reads taken writes base whole deck workers backs
+        → count_from (deck + length workers) (entries_of whole) + sum_by (λ (b : Passing). b.commands) backs ≤ count_from deck (entries_of whole)
+    left_behind deck [] [] gave =
+        let same : count_from (deck + 0) (entries_of whole) ≡ count_from deck (entries_of whole) = ap (λ (n : ℕ). count_from n (entries_of whole)) (omega arith) in
+        omega arith
+    left_behind deck [] (back ∷ backs) gave = absurd gave
+    left_behind deck (w ∷ workers) [] gave = absurd gave
+    left_behind deck (w ∷ workers) (back ∷ backs) gave =
+        let first = fits base whole deck back w.status (left w.given.0) (left w.back.0) (taken w.given.1) (taken w.back.1) gave.0 in
+        let rest = left_behind (suc deck) workers backs gave.3 in
+        let split = count_split deck (entries_of whole) in
+        let sum = sum_by-cons (λ (b : Passing). b.commands) back backs in
+        let moved : deck + suc (length workers) ≡ suc deck + length workers = omega arith in
+        let next : count_from (deck + suc (length workers)) (entries_of whole) ≡ count_from (suc deck + length workers) (entries_of whole) =
+        ap (λ (n : ℕ). count_from n (entries_of whole)) moved in
+        omega arith
+
     faults_from : (deck : ℕ) (workers : List (Worked I K)) (backs : List Passing) → DecksGave left reads taken writes base whole deck workers backs
         → sum_by (λ (w : Worked I K). w.faults) workers ≡ sum_by (λ (b : Passing). b.faults) backs
     faults_from deck [] [] gave = refl
@@ -104,6 +122,18 @@ module _ {I K : Type 0} (left : I → Option (List ℕ)) (reads : I → ℕ) (ta
   decks_ran entries halted workers backs gave counts =
       let all = ap (count_from 0) (entries_of_all entries halted) ∙ count_all entries in
       ran_from (all_of entries halted) 0 workers backs gave (omega arith)
+
+  -- Each entry is of one of these decks.
+  pub of_decks : (entries : List Accepted) (halted : Bool) (workers : List (Worked I K)) (backs : List Passing) (count : ℕ) → length workers ≡ count
+      → DecksGave left reads taken writes base (all_of entries halted) 0 workers backs
+      → sum_by (λ (b : Passing). b.commands) backs ≡ length entries → All (λ (entry : Accepted). entry.deck < count) entries
+  of_decks entries halted workers backs count are gave counts =
+      let all = ap (count_from 0) (entries_of_all entries halted) ∙ count_all entries in
+      let left = left_behind (all_of entries halted) 0 workers backs gave in
+      let all_decks : 0 + length workers ≡ count = omega arith in
+      let here : count_from (0 + length workers) (entries_of (all_of entries halted)) ≡ count_from count entries =
+      ap (λ (n : ℕ). count_from n (entries_of (all_of entries halted))) all_decks ∙ ap (count_from count) (entries_of_all entries halted) in
+      all_below count entries (omega arith)
 
   -- As many of their commands were failed by a disk as their passes have counted.
   pub faults_ran : (entries : List Accepted) (halted : Bool) (workers : List (Worked I K)) (backs : List Passing) → DecksGave left reads taken writes base (all_of entries halted) 0 workers backs

@@ -2,6 +2,7 @@
 use Rattle.std.proofs.Common.{◌≡◌, ℕ, zero, suc, ◌+◌, ◌≤◌, nat_lt, Bool, true, false, List, [], ◌∷◌, ◌++◌, map, length, Some, None, inl, inr, refl, sym, ◌∙◌, ap, subst, arith, append-nil, add-zero}
 use Rattle.std.specs.Prelude.{Option, ◌⊎◌, if◌then◌else◌}
 use Rattle.std.specs.List.{All, AllZip, cons_option, filter_map, sum_by}
+use Rattle.std.proofs.lemmas.List.{length-map}
 use Rattle.std.proofs.lemmas.List.Elements.{All-head, All-tail}
 use Rattle.racf_desk.specs.Position.{Position}
 use Rattle.command_history.specs.declared.events.Accepted.{Accepted}
@@ -18,7 +19,7 @@ use Rattle.racf_threads.specs.Outputs.{new_pass}
 use Rattle.racf_threads.specs.Together.{Worked, AreFiles, RunsTogether, greater, greatest}
 use Rattle.racf_threads.specs.Working.{Working, new_worker, new_workers, Gave, Answered, HasWorked}
 use Rattle.racf_threads.proofs.Gave.{DecksGave}
-use Rattle.racf_threads.proofs.Own.{decks_ran, faults_ran}
+use Rattle.racf_threads.proofs.Own.{decks_ran, of_decks, faults_ran}
 
 -- ---- passes
 
@@ -183,6 +184,8 @@ module _ {I K : Type 0} (left : I → Option (List ℕ)) (reads : I → ℕ) (ta
         file_workers = f.workers;
         are_decks = decks_ran left reads taken writes base entries halted d.workers d.backs d.gave (subst (λ (l : List Passing). sum_by (λ (p : Passing). p.commands) l ≡ length entries) backs_are commands);
         are_files = f.are;
+        of_decks = of_decks left reads taken writes base entries halted d.workers d.backs (length decks) (sym (length-map (λ (w : Worked I K). w.given) d.workers) ∙ ap length d.given_are) d.gave
+            (subst (λ (l : List Passing). sum_by (λ (p : Passing). p.commands) l ≡ length entries) backs_are commands);
         decks_are = d.given_are;
         requests_are = f.given_are;
         outs_are = over_both (λ (w : Worked I K). w.back) d.workers f.workers ∙ sym (d.outs ∙ ap (λ (l : List (I × K)). map (λ (w : Worked I K). w.back) d.workers ++ l) f.outs);

@@ -1,6 +1,6 @@
 -- A run of decks and request files: one history, of which each output tells a part.
-use Rattle.std.specs.Prelude.{◌≡◌, ℕ, suc, nat_lt, Bool, false, List, [], ◌∷◌, ◌++◌, map, Option, if◌then◌else◌}
-use Rattle.std.specs.List.{sum_by}
+use Rattle.std.specs.Prelude.{◌≡◌, ℕ, suc, ◌<◌, nat_lt, Bool, false, List, [], ◌∷◌, ◌++◌, length, map, Option, if◌then◌else◌}
+use Rattle.std.specs.List.{All, sum_by}
 use Rattle.racf_desk.specs.Position.{Position}
 use Rattle.command_history.specs.declared.events.Accepted.{Accepted}
 use Rattle.command_history.specs.declared.events.Event.{Event}
@@ -55,13 +55,15 @@ module _ {I K : Type 0} (left : I → Option (List ℕ)) (reads : I → ℕ) (ta
   AreFiles whole (w ∷ workers) = IsFile whole w × AreFiles whole workers
 
   -- A run whose history is these entries, and has ended so: each output is that of its worker, in one and the same
-  -- history; all that was given is given back, in its order, decks before request files; the status is the greatest of
-  -- the workers'; and of all lines one says DISKFAULT where a disk failed a command, else none.
+  -- history, each entry of which is of one of these decks; all that was given is given back, in its order, decks before
+  -- request files; the status is the greatest of the workers'; and of all lines one says DISKFAULT where a disk failed a
+  -- command, else none.
   pub record RunsTogether (entries : List Accepted) (halted : Bool) (status : Status) (decks requests outs : List (I × K)) : Type 0 where
     pub deck_workers : List (Worked I K)
     pub file_workers : List (Worked I K)
     pub are_decks : AreDecks (all_of entries halted) 0 deck_workers
     pub are_files : AreFiles (all_of entries halted) file_workers
+    pub of_decks : All (λ entry. entry.deck < length decks) entries
     pub decks_are : map (λ w. w.given) deck_workers ≡ decks
     pub requests_are : map (λ w. w.given) file_workers ≡ requests
     pub outs_are : map (λ w. w.back) (deck_workers ++ file_workers) ≡ outs

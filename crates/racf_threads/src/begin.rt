@@ -206,8 +206,40 @@ fn ran<
     }
 }
 
-/// Each worker works in a thread of its own where one can be made; else one after another, decks first.
+/// Each worker works in a thread of its own where one can be made; else behind others, in a thread that is there. A
+/// thread works the later ones of its workers first, and request files may wait for decks, which wait for nobody: so
+/// the list is turned round meanwhile, and each request file is worked behind the decks of its thread.
 fn side_by_side<
+    J: Naming + Send + Sync,
+    T: Absorb<O> + Drop + Send + Sync,
+    O: Opens<Note<J>> + Send,
+    Q: Wait + Drop + Send,
+    S: Ledger + Send,
+    F: Ledger + Send,
+    P: Ledger + Send,
+    I: Source + Send,
+    K: Sink + Send,
+    D: Disk + Send,
+    G: Gate + Sync,
+    R: Wait + Threads + Sync,
+>(
+    rt: &R,
+    alloc: Global,
+    racf: &Racf<J, T, O, Q, S, F, P, D>,
+    workers: &mut [Worker<J, S, F, P, I, K>],
+    gate: &G,
+)
+    requires { 0 < length workers.old }
+    ensures { AllZip (HasWorked I.left I.faults K.taken K.faults J.base) workers.old workers.new }
+{
+    workers.reverse();
+    in_threads(rt, alloc, racf, workers, gate);
+    workers.reverse();
+}
+
+/// Each worker works in a thread of its own where one can be made; else in one that is there, behind the later ones
+/// that are worked in it.
+fn in_threads<
     J: Naming + Send + Sync,
     T: Absorb<O> + Drop + Send + Sync,
     O: Opens<Note<J>> + Send,

@@ -1,13 +1,14 @@
 -- What a run of files says under their names, and what its faults come of.
 use Rattle.std.proofs.Common.{◌≡◌, ◌≢◌, ◌≤◌, ◌<◌, ◌+◌, ℕ, suc, Bool, true, false, ◌&&◌, List, [], ◌∷◌, ◌++◌, length, map, take, drop, refl, sym, ◌∙◌, ap, subst, arith, inl, inr, ⊎_elim}
-use Rattle.std.specs.Prelude.{◌⊎◌, Option, nat_le, nat_lt, cond}
-use Rattle.std.specs.List.{sum_by}
+use Rattle.std.specs.Prelude.{◌⊎◌, Option, IfSome, nat_le, nat_lt, cond}
+use Rattle.std.specs.List.{All, sum_by}
 use Rattle.std.proofs.lemmas.Bool.{leb-true, false≢true}
 use Rattle.std.proofs.lemmas.List.{map-append, length-map, length-take-le, take_all, take-append-drop}
 use Rattle.std.proofs.lemmas.List.Sums.{sum_by-cons}
 use Rattle.racf_outside.specs.Causes.{Rose}
 use Rattle.racf_outside.specs.Disk.{History}
 use Rattle.racf_outside.specs.Shelf.{told}
+use Rattle.racf_outside.proofs.Rises.{Rose-later}
 use Rattle.racf_checkpoint.specs.Stored.{pick}
 use Rattle.racf_desk.specs.Position.{Position}
 use Rattle.command_history.specs.declared.events.Accepted.{Accepted}
@@ -17,12 +18,13 @@ use Rattle.command_history.specs.Reached.{reached, AreLegal}
 use Rattle.racroute.specs.Disks.{StandAt, StaysAlong}
 use Rattle.racf_stream.specs.Status.{code_of}
 use Rattle.racf_stream.specs.declared.status.Status.{Status}
-use Rattle.racf_stream.specs.declared.status.Status.TheVariants.{Done, Usage, ReadFault, WriteFault, DiskFault}
-use Rattle.racf_threads.specs.Outputs.{DeckRan, FileRan}
+use Rattle.racf_stream.specs.declared.status.Status.TheVariants.{Done, Usage, ReadFault, WriteFault, DiskFault, NotFormatted, Damaged, NoMemory, InputTooLong}
+use Rattle.racf_stream.specs.Runs.{longest_input}
+use Rattle.racf_threads.specs.Outputs.{DeckRan, FileRan, StopsFor}
 use Rattle.racf_threads.specs.Together.{Worked, HasStopped, AreDecks, AreFiles, RunsTogether, greater, greatest}
 use Rattle.racf_run.proofs.OpeningLaws.{AreNew-length}
-use Rattle.racf_run.specs.Opening.{output_name, is_among, are_distinct, AreNew, AreKept, OthersStay, RoseFor}
-use Rattle.racf_run.specs.Racf.{OpensNone, OpenedDisks}
+use Rattle.racf_run.specs.Opening.{output_name, is_among, are_distinct, IsNew, AreNew, AreKept, OthersStay, RoseFor}
+use Rattle.racf_run.specs.Racf.{IsUnsound, OpensNone, OpenedDisks, RoseEither, FaultCounts}
 use Rattle.racf_run.specs.Running.{are_run_words, are_apart, Named, DecksNamed, FilesNamed, NamedRan, unopened_status}
 use Rattle.racf_run.specs.declared.opening.Unopened.{Unopened}
 use Rattle.racf_run.specs.declared.opening.Unopened.TheVariants.{Input, Output}
@@ -85,6 +87,33 @@ pub unopened_ends : (why : Unopened) → (unopened_status why ≢ Usage) × (uno
 unopened_ends Input = (λ (e : ReadFault ≡ Usage). cc, λ (e : ReadFault ≡ DiskFault). cc)
 unopened_ends Output = (λ (e : WriteFault ≡ Usage). cc, λ (e : WriteFault ≡ DiskFault). cc)
 
+-- Of a file that had counted nothing, where the shelf's count rose if it has counted one since.
+stops_named : (status : Status) (source given : Option (List ℕ)) (reads reads_now writes writes_now : ℕ) (before now : FaultCounts)
+    → StopsFor status source reads reads_now writes writes_now → source ≡ given → reads ≡ 0 → writes ≡ 0
+    → (0 < reads_now → Rose before.reads now.reads) → (0 < writes_now → Rose before.writes now.writes) → before.reads ≤ now.reads → before.writes ≤ now.writes
+    → StopsFor status given before.reads now.reads before.writes now.writes
+stops_named status source given reads reads_now writes writes_now before now stops is no_reads no_writes reads_rose writes_rose more_reads more_writes =
+    record {
+      usage = stops.usage;
+      formatted = stops.formatted;
+      undamaged = stops.undamaged;
+      read_fault = λ e. reads_rose (rose_from_none reads_now (subst (λ (n : ℕ). Rose n reads_now) no_reads (stops.read_fault e)));
+      write_fault = λ e. writes_rose (rose_from_none writes_now (subst (λ (n : ℕ). Rose n writes_now) no_writes (stops.write_fault e)));
+      too_long = subst (λ (bytes : Option (List ℕ)). status ≡ InputTooLong → IfSome bytes (λ known. longest_input < length known)) is stops.too_long;
+      no_fewer_reads = more_reads;
+      no_fewer_writes = more_writes;
+    }
+
+-- Counted from before on, and of the first ones and of those behind.
+pub RoseFor-earlier : {A : Type 0} (faults : A → ℕ) (a b c : ℕ) (items : List A) → a ≤ b → RoseFor faults b c items → RoseFor faults a c items
+RoseFor-earlier faults a b c [] le rose = tt
+RoseFor-earlier faults a b c (x ∷ items) le rose = (λ some. Rose-later a b c le (rose.0 some), RoseFor-earlier faults a b c items le rose.1)
+
+RoseFor-split : {A : Type 0} (faults : A → ℕ) (a b : ℕ) (xs ys : List A) → RoseFor faults a b (xs ++ ys) → RoseFor faults a b xs × RoseFor faults a b ys
+RoseFor-split faults a b [] ys rose = (tt, rose)
+RoseFor-split faults a b (x ∷ xs) ys rose =
+    let rest = RoseFor-split faults a b xs ys rose.1 in ((rose.0, rest.0), rest.1)
+
 -- ---- files and names
 module _ {I K : Type 0} (left : I → Option (List ℕ)) (reads : I → ℕ) (taken : K → Option (List ℕ)) (writes : K → ℕ) (tells : Bool) (input output : List ℕ → Option (List ℕ)) where
   -- those in front, and those behind
@@ -127,45 +156,64 @@ module _ {I K : Type 0} (left : I → Option (List ℕ)) (reads : I → ℕ) (ta
   named_faults [] (w ∷ ws) h = absurd h
   named_faults (name ∷ names) [] h = absurd h
 
-  module _ (base : Position) (whole : List Event) where
+  module _ (base : Position) (whole : List Event) (before now : FaultCounts) (more_reads : before.reads ≤ now.reads) (more_writes : before.writes ≤ now.writes) where
+    abbrev ReadsRose : List (I × K) → Type 0
+    ReadsRose = RoseFor (λ (file : I × K). reads file.0) before.reads now.reads
+
+    abbrev WritesRose : List (I × K) → Type 0
+    WritesRose = RoseFor (λ (file : I × K). writes file.1) before.writes now.writes
+
+    named_stops : (name : List ℕ) (w : Worked I K) → IsNew left reads taken writes tells (input name) w.given → HasStopped left reads taken writes base w
+        → (0 < reads w.back.0 → Rose before.reads now.reads) → (0 < writes w.back.1 → Rose before.writes now.writes)
+        → StopsFor w.status (input name) before.reads now.reads before.writes now.writes
+    named_stops name w new stops reads_rose writes_rose =
+        stops_named w.status (left w.given.0) (input name) (reads w.given.0) (reads w.back.0) (writes w.given.1) (writes w.back.1) before now stops new.bytes new.no_reads new.no_writes reads_rose writes_rose more_reads more_writes
+
     named_decks : (deck : ℕ) (names : List (List ℕ)) (ws : List (Worked I K)) → AreNew left reads taken writes tells input names (map (λ w. w.given) ws) → AreKept taken output names (map (λ w. w.back) ws)
-        → AreDecks left reads taken writes base whole deck ws → DecksNamed base whole tells input output deck (named names ws)
-    named_decks deck [] [] h k decks = tt
-    named_decks deck (name ∷ names) (w ∷ ws) h k decks = (
+        → ReadsRose (map (λ w. w.back) ws) → WritesRose (map (λ w. w.back) ws)
+        → AreDecks left reads taken writes base whole deck ws → DecksNamed base whole before now tells input output deck (named names ws)
+    named_decks deck [] [] h k r q decks = tt
+    named_decks deck (name ∷ names) (w ∷ ws) h k r q decks = (
       (
         left w.back.0,
         subst (λ (o : Option (List ℕ)). DeckRan base whole deck w.faults w.status (input name) (left w.back.0) (told tells []) o) (sym k.0)
             (subst (λ (o : Option (List ℕ)). DeckRan base whole deck w.faults w.status (input name) (left w.back.0) o (taken w.back.1)) h.0.empty
             (subst (λ (o : Option (List ℕ)). DeckRan base whole deck w.faults w.status o (left w.back.0) (taken w.given.1) (taken w.back.1)) h.0.bytes decks.0.0)),
       ),
-      named_decks (suc deck) names ws h.1 k.1 decks.1,
+      named_stops name w h.0 decks.0.1 r.0 q.0,
+      named_decks (suc deck) names ws h.1 k.1 r.1 q.1 decks.1,
     )
-    named_decks deck [] (w ∷ ws) h k decks = absurd h
-    named_decks deck (name ∷ names) [] h k decks = absurd h
+    named_decks deck [] (w ∷ ws) h k r q decks = absurd h
+    named_decks deck (name ∷ names) [] h k r q decks = absurd h
 
     named_files : (names : List (List ℕ)) (ws : List (Worked I K)) → AreNew left reads taken writes tells input names (map (λ w. w.given) ws) → AreKept taken output names (map (λ w. w.back) ws)
-        → AreFiles left reads taken writes base whole ws → FilesNamed base whole tells input output (named names ws)
-    named_files [] [] h k files = tt
-    named_files (name ∷ names) (w ∷ ws) h k files = (
+        → ReadsRose (map (λ w. w.back) ws) → WritesRose (map (λ w. w.back) ws)
+        → AreFiles left reads taken writes base whole ws → FilesNamed base whole before now tells input output (named names ws)
+    named_files [] [] h k r q files = tt
+    named_files (name ∷ names) (w ∷ ws) h k r q files = (
       (
         left w.back.0,
         subst (λ (o : Option (List ℕ)). FileRan base whole w.status (input name) (left w.back.0) (told tells []) o) (sym k.0)
             (subst (λ (o : Option (List ℕ)). FileRan base whole w.status (input name) (left w.back.0) o (taken w.back.1)) h.0.empty
             (subst (λ (o : Option (List ℕ)). FileRan base whole w.status o (left w.back.0) (taken w.given.1) (taken w.back.1)) h.0.bytes files.0.0)),
       ),
-      named_files names ws h.1 k.1 files.1,
+      named_stops name w h.0 files.0.1 r.0 q.0,
+      named_files names ws h.1 k.1 r.1 q.1 files.1,
     )
-    named_files [] (w ∷ ws) h k files = absurd h
-    named_files (name ∷ names) [] h k files = absurd h
+    named_files [] (w ∷ ws) h k r q files = absurd h
+    named_files (name ∷ names) [] h k r q files = absurd h
 
   -- ---- a run, under names
-  pub named_run : (opened : OpenedDisks) (first second : Option History) (base : Position) (entries : List Accepted) (halted : Bool) (status : Status) (decks : ℕ) (names : List (List ℕ)) (files outs : List (I × K)) (old : List ℕ → Option (List ℕ))
+  pub named_run : (opened : OpenedDisks) (first second : Option History) (before now : FaultCounts) (base : Position) (entries : List Accepted) (halted : Bool) (status : Status) (decks : ℕ) (names : List (List ℕ)) (files outs : List (I × K)) (old : List ℕ → Option (List ℕ))
       → decks ≤ length files → AreNew left reads taken writes tells input names files → AreKept taken output names outs
       → RunsTogether left reads taken writes base entries halted status (take decks files) (drop decks files) outs
+      → before.reads ≤ now.reads → before.writes ≤ now.writes
+      → RoseFor (λ file. reads file.0) before.reads now.reads outs → RoseFor (λ file. writes file.1) before.writes now.writes outs
+      → (halted ≡ true → RoseEither before.first now.first before.second now.second)
       → AreLegal base entries → StandAt halted first second (reached base (all_of entries halted)) → StaysAlong base (all_of entries halted) opened.idle opened.live (pick opened.idle.side first second)
       → pick opened.idle.side second first ≡ opened.idle.told → OthersStay names old output
-      → NamedRan opened first second base tells status (record { decks = decks; names = names }) input old output
-  named_run opened first second base entries halted status decks names files outs old enough new kept together legal stand moments idle others =
+      → NamedRan opened first second before now base tells status (record { decks = decks; names = names }) input old output
+  named_run opened first second before now base entries halted status decks names files outs old enough new kept together more_reads more_writes reads_rose writes_rose rose legal stand moments idle others =
       let dw = together.deck_workers in
       let fw = together.file_workers in
       let givens : files ≡ map (λ w. w.given) dw ++ map (λ w. w.given) fw =
@@ -180,13 +228,22 @@ module _ {I K : Type 0} (left : I → Option (List ℕ)) (reads : I → ℕ) (ta
       let keeps : AreKept taken output (take decks names) (map (λ w. w.back) dw) × AreKept taken output (drop decks names) (map (λ w. w.back) fw) =
       subst (λ (n : ℕ). AreKept taken output (take n names) (map (λ (w : Worked I K). w.back) dw) × AreKept taken output (drop n names) (map (λ (w : Worked I K). w.back) fw)) back_count
       (AreKept-split left reads taken writes tells input output names (map (λ w. w.back) dw) (map (λ w. w.back) fw) (subst (AreKept taken output names) backs kept)) in
+      let failed_reads =
+      RoseFor-split (λ (file : I × K). reads file.0) before.reads now.reads (map (λ w. w.back) dw) (map (λ w. w.back) fw)
+      (subst (RoseFor (λ (file : I × K). reads file.0) before.reads now.reads) backs reads_rose) in
+      let failed_writes =
+      RoseFor-split (λ (file : I × K). writes file.1) before.writes now.writes (map (λ w. w.back) dw) (map (λ w. w.back) fw)
+      (subst (RoseFor (λ (file : I × K). writes file.1) before.writes now.writes) backs writes_rose) in
       record {
         entries = entries;
         halted = halted;
         decks = named (take decks names) dw;
         files = named (drop decks names) fw;
-        are_decks = named_decks base (all_of entries halted) 0 (take decks names) dw news.0 keeps.0 together.are_decks;
-        are_files = named_files base (all_of entries halted) (drop decks names) fw news.1 keeps.1 together.are_files;
+        are_decks =
+            named_decks base (all_of entries halted) before now more_reads more_writes 0 (take decks names) dw news.0 keeps.0 failed_reads.0 failed_writes.0 together.are_decks;
+        are_files =
+            named_files base (all_of entries halted) before now more_reads more_writes (drop decks names) fw news.1 keeps.1 failed_reads.1 failed_writes.1 together.are_files;
+        of_decks = subst (λ (n : ℕ). All (λ (entry : Accepted). entry.deck < n) entries) (length-take-le decks files enough) together.of_decks;
         deck_names_are = named_names (take decks names) dw news.0;
         file_names_are = named_names (drop decks names) fw news.1;
         status_is =
@@ -196,6 +253,7 @@ module _ {I K : Type 0} (left : I → Option (List ℕ)) (reads : I → ℕ) (ta
             ∙ ap (λ xs. map (λ (w : Named). w.status) (named (take decks names) dw) ++ xs) (sym (named_statuses (drop decks names) fw news.1))
             ∙ sym (map-append (λ (w : Named). w.status) (named (take decks names) dw) (named (drop decks names) fw)));
         one_fault = named_faults (take decks names) dw news.0 ∙ together.one_fault;
+        rose = rose;
         legal = legal;
         stand = stand;
         moments = moments;
@@ -221,12 +279,11 @@ module _ {I K : Type 0} (left : I → Option (List ℕ)) (reads : I → ℕ) (ta
   stopped_append [] ys h k = k
   stopped_append (x ∷ xs) ys h k = (h.0, stopped_append xs ys h.1 k)
 
-  no_usage : (ws : List (Worked I K)) → AreStopped ws → greatest (map (λ w. w.status) ws) ≢ Usage
-  no_usage [] h e = absurd (none e)
-    where
-      none : Done ≡ Usage → ⊥
-      none f = cc
-  no_usage (w ∷ ws) h e = ⊎_elim h.0.usage (no_usage ws h.1) (greater_is w.status (greatest (map (λ (v : Worked I K). v.status) ws)) Usage e)
+  -- with a status that none of them has none of them ends
+  no_status : (s : Status) → Done ≢ s → ((w : Worked I K) → HasStopped left reads taken writes base w → w.status ≢ s) → (ws : List (Worked I K)) → AreStopped ws → greatest (map (λ w. w.status) ws) ≢ s
+  no_status s done none [] h e = done e
+  no_status s done none (w ∷ ws) h e =
+      ⊎_elim (none w h.0) (no_status s done none ws h.1) (greater_is w.status (greatest (map (λ (v : Worked I K). v.status) ws)) s e)
 
   module _ (tells : Bool) (input : List ℕ → Option (List ℕ)) (before now : ℕ) where
     reads_of : (names : List (List ℕ)) (ws : List (Worked I K)) → AreStopped ws → AreNew left reads taken writes tells input names (map (λ w. w.given) ws) → greatest (map (λ w. w.status) ws) ≡ ReadFault
@@ -283,7 +340,15 @@ module _ {I K : Type 0} (left : I → Option (List ℕ)) (reads : I → ℕ) (ta
     run_names tells input names n is new = let count : n ≡ length names = run_count tells input names n is new in take_all n names (omega arith)
 
     pub run_no_usage : status ≢ Usage
-    run_no_usage e = no_usage (together.deck_workers ++ together.file_workers) all_stopped (sym together.status_is ∙ e)
+    run_no_usage e =
+        no_status Usage (λ (f : Done ≡ Usage). cc) (λ w h. h.usage) (together.deck_workers ++ together.file_workers) all_stopped (sym together.status_is ∙ e)
+
+    -- and what could not be opened was not run
+    pub run_sound : IsUnsound status → ⊥
+    run_sound (inl e) =
+        no_status NotFormatted (λ (f : Done ≡ NotFormatted). cc) (λ w h. h.formatted) (together.deck_workers ++ together.file_workers) all_stopped (sym together.status_is ∙ e)
+    run_sound (inr e) =
+        no_status (Damaged e.0) (λ (f : Done ≡ Damaged e.0). cc) (λ w h. h.undamaged e.0) (together.deck_workers ++ together.file_workers) all_stopped (sym together.status_is ∙ e.1)
 
     pub run_reads : (tells : Bool) (input : List ℕ → Option (List ℕ)) (names : List (List ℕ)) (before now : ℕ) → AreNew left reads taken writes tells input names files
         → RoseFor (λ (file : I × K). reads file.0) before now outs → status ≡ ReadFault → Rose before now

@@ -1,11 +1,12 @@
 -- The words of the command line, and what the program does to the shelf and to the database on the disks.
-use Rattle.std.specs.Prelude.{◌≡◌, ◌⊎◌, ℕ, Bool, true, false, ◌||◌, ◌&&◌, not, Option, Some, None, IfSome, Result, Ok, Err, List, [], ◌∷◌, codes, if◌then◌else◌}
+use Rattle.std.specs.Prelude.{◌≡◌, ◌≢◌, ◌⊎◌, ◌≤◌, ℕ, Bool, true, false, ◌||◌, ◌&&◌, not, Option, Some, None, IfSome, Result, Ok, Err, List, [], ◌∷◌, codes, if◌then◌else◌}
 use Rattle.std.specs.Str.{bytes_eq}
 use Rattle.racf_outside.specs.Causes.{Rose}
 use Rattle.racf_outside.specs.Crashes.{StaysIn}
 use Rattle.racf_outside.specs.declared.streams.Failed.{Failed}
 use Rattle.racf_outside.specs.Disk.{History}
 use Rattle.racf_outside.specs.Shelf.{told, SameBytes, SameOthers}
+use Rattle.racf_journal.specs.Opening.{OnlySynced}
 use Rattle.racf_checkpoint.specs.declared.fault.StoreFault.{StoreFault}
 use Rattle.racf_checkpoint.specs.declared.fault.StoreFault.TheVariants as fault
 use Rattle.racf_checkpoint.specs.Stored.{StoreOn, NowRead, StaysPossible, pick}
@@ -146,16 +147,45 @@ EndsOn first second s = s.halted ≡ false → LeavesBoth first second (StandsFo
 abbrev pub RoseEither : (first next_first second next_second : ℕ) → Type 0
 RoseEither first next_first second next_second = Rose first next_first ⊎ Rose second next_second
 
+-- How many faults were counted: of the inputs and the outputs of a shelf, and of two disks.
+pub record FaultCounts : Type 0 where
+  pub reads : ℕ
+  pub writes : ℕ
+  pub first : ℕ
+  pub second : ℕ
+
+abbrev pub fault_counts : (reads writes first second : ℕ) → FaultCounts
+fault_counts reads writes first second = record { reads = reads; writes = writes; first = first; second = second }
+
+-- None of these counts is greater than it is then.
+pub record AreNoMore (before now : FaultCounts) : Type 0 where
+  pub reads : before.reads ≤ now.reads
+  pub writes : before.writes ≤ now.writes
+  pub first : before.first ≤ now.first
+  pub second : before.second ≤ now.second
+
 -- The desk stands where the state says, and, unless a disk failed, so do its disks.
 pub record EndsAt {D : Type 0} (tells : D → Option History) (desk : DeskOn D) (s : State) : Type 0 where
   pub stands : StandsAt desk s
   pub leaves : s.halted ≡ false → LeavesIt tells desk.store s.position
 
--- The database couldn't be opened, for this fault, and nothing of the shelf was.
-pub record OpensNoDatabase {S : Type 0} (first second : Option History) (status : Status) (old new : S) : Type 0 where
+-- The disks hold no database, or one that is damaged.
+abbrev pub IsUnsound : Status → Type 0
+IsUnsound status = (status ≡ NotFormatted) ⊎ ((place : ℕ) × (status ≡ Damaged place))
+
+-- The database couldn't be opened, for this fault. At every moment since a crash leaves of each disk what was possible
+-- before; and unless a disk failed, both were only synced.
+pub record StaysUnopened (first second next_first next_second : Option History) (status : Status) : Type 0 where
   pub why : StoreFault
   pub is_status : status ≡ opening_status why
   pub refused : NowRead first second (Refuses why)
+  pub first_moments : StaysPossible first next_first
+  pub second_moments : StaysPossible second next_second
+  pub only_synced : why ≢ fault.DiskFault → OnlySynced first next_first × OnlySynced second next_second
+
+-- The database couldn't be opened, and nothing of the shelf was.
+pub record OpensNoDatabase {S : Type 0} (first second next_first next_second : Option History) (status : Status) (old new : S) : Type 0 where
+  pub unopened : StaysUnopened first second next_first next_second status
   pub kept : new ≡ old
 
 -- The database was opened at a position, and then this was run from there on.
@@ -171,6 +201,12 @@ pub record OpenedDisks : Type 0 where
 
 abbrev pub opened_on : {D : Type 0} → (tells : D → Option History) → StoreOn D → OpenedDisks
 opened_on tells store = record { live = tells store.journal.disk; idle = idle_of tells store }
+
+-- Nothing was run on disks that told `opened`: they tell that still, and a crash leaves what stands for the position.
+pub record StandsStill (opened : OpenedDisks) (first second : Option History) (base : Position) : Type 0 where
+  pub stand : LeavesBoth first second (StandsFor base)
+  pub first_is : first ≡ pick opened.idle.side opened.live opened.idle.told
+  pub second_is : second ≡ pick opened.idle.side opened.idle.told opened.live
 
 -- Until then a crash left of each disk what was possible before.
 pub record OpensOn (first second : Option History) (opened : OpenedDisks) : Type 0 where

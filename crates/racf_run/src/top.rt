@@ -4,16 +4,16 @@ ghost use Rattle.std.specs.Prelude.{ℕ, ◌≡◌, ◌≢◌, ◌⊎◌, ◌↔
 ghost use Rattle.std.specs.Option.{option_map};
 ghost use Rattle.racf_outside.specs.Causes.{Rose};
 ghost use Rattle.racf_outside.specs.Shelf.{SameBytes};
+ghost use Rattle.racf_journal.specs.Opening.{OnlySynced};
 ghost use Rattle.racf_desk.specs.Position.{first_position};
 ghost use Rattle.racf_desk.specs.Durable.{LeavesBoth, SameIdle};
 ghost use Rattle.racf_desk.specs.Recovery.{StandsFor};
 ghost use Rattle.racf_stream.specs.Durable.{StaysAlong};
 ghost use Rattle.racf_run.specs.Racf.{script_files, is_init, opening_status, RunsOnShelf, MakesOnShelf, IsWholeOutput, OpensNone};
-ghost use Rattle.racf_run.specs.Racf.{OpensNoDatabase, OpensDatabase, OpenedDisks, OpensOn, EndsOn, EndsAt, MovesAlong, RoseEither};
+ghost use Rattle.racf_run.specs.Racf.{IsUnsound, OpensNoDatabase, OpensDatabase, OpenedDisks, OpensOn, StandsStill, EndsOn, EndsAt, MovesAlong, RoseEither, fault_counts};
 ghost use Rattle.racf_run.specs.Compacting.{is_compact, EndsCompact, MovesToCompact};
 ghost use Rattle.racf_run.specs.Making.{make_words, most_users};
 ghost use Rattle.racf_run.specs.Running.{run_words, NamedRan, RunsFiles};
-ghost use Rattle.racroute.specs.Disks.{StandAt};
 ghost use Rattle.racf_stream.specs.Runs.{longest_input};
 ghost use Rattle.racf_stream.specs.Script.{is_whole};
 
@@ -78,7 +78,7 @@ where
     // The database is opened, or why not. Which calls are made of the shelf then, in which order, what the outputs tell
     // afterwards, wherever the stream stopped, and what every crash leaves of the disks behind it.
     ensures runs { IfSome (script_files (map string_bytes words.now)) (λ files.
-        OpensNoDatabase (D.tells disks.first) (D.tells disks.second) result.0 shelf.old shelf.new
+        OpensNoDatabase (D.tells disks.first) (D.tells disks.second) (D.tells result.1.first) (D.tells result.1.second) result.0 shelf.old shelf.new
         ⊎ OpensDatabase (D.tells disks.first) (D.tells disks.second) (λ base.
         RunsOnShelf F.source_gives F.sink_gives F.take_back_gives F.give_back_gives F.tells F.output
         (EndsOn (D.tells result.1.first) (D.tells result.1.second)) base
@@ -96,12 +96,14 @@ where
     // The database is opened, or why not; then all files, or why not; and then decks and request files are worked side
     // by side, over one history, of which each output tells a part.
     ensures runs_together { IfSome (run_words (map string_bytes words.now)) (λ asked.
-        OpensNoDatabase (D.tells disks.first) (D.tells disks.second) result.0 shelf.old shelf.new
+        OpensNoDatabase (D.tells disks.first) (D.tells disks.second) (D.tells result.1.first) (D.tells result.1.second) result.0 shelf.old shelf.new
         ⊎ OpensDatabase (D.tells disks.first) (D.tells disks.second) (λ base.
         (opened : OpenedDisks) × OpensOn (D.tells disks.first) (D.tells disks.second) opened
         × RunsFiles F.source_gives F.sink_gives F.take_back_gives F.give_back_gives F.tells F.output
-        (NamedRan opened (D.tells result.1.first) (D.tells result.1.second) base F.tells result.0 asked (F.input shelf.old) (F.output shelf.old) (F.output shelf.new))
-        (StandAt false (D.tells result.1.first) (D.tells result.1.second) base)
+        (NamedRan opened (D.tells result.1.first) (D.tells result.1.second)
+        (fault_counts (F.source_faults shelf.old) (F.sink_faults shelf.old) (D.faults disks.first) (D.faults disks.second))
+        (fault_counts (F.source_faults shelf.new) (F.sink_faults shelf.new) (D.faults result.1.first) (D.faults result.1.second)) base F.tells result.0 asked (F.input shelf.old) (F.output shelf.old) (F.output shelf.new))
+        (StandsStill opened (D.tells result.1.first) (D.tells result.1.second) base)
         result.0 asked.names shelf.old shelf.new)) }
 
     ensures makes { IfSome (make_words (map string_bytes words.now)) (λ asked.
@@ -116,7 +118,7 @@ where
     // The database is opened, or why not; and then a checkpoint of it is written, or a disk failed, or memory ran out.
     // At every moment a crash leaves what stands for the database as it was opened.
     ensures compacts { is_compact (map string_bytes words.now) ≡ true →
-        OpensNoDatabase (D.tells disks.first) (D.tells disks.second) result.0 shelf.old shelf.new
+        OpensNoDatabase (D.tells disks.first) (D.tells disks.second) (D.tells result.1.first) (D.tells result.1.second) result.0 shelf.old shelf.new
         ⊎ OpensDatabase (D.tells disks.first) (D.tells disks.second)
         (EndsCompact (D.tells disks.first) (D.tells disks.second) (D.tells result.1.first) (D.tells result.1.second) result.0) }
     ensures compact_moments { is_compact (map string_bytes words.now) ≡ true →
@@ -134,7 +136,8 @@ where
     ensures not_too_long { IsTrue (is_whole result.0) → IfSome (script_files (map string_bytes words.now)) (λ files.
         IfSome (F.input shelf.old files.input) (λ bytes. length bytes ≤ longest_input)) }
 
-    // What stays.
+    // What stays. A database that is damaged, or none, is only synced.
+    ensures only_synced { IsUnsound result.0 → OnlySynced (D.tells disks.first) (D.tells result.1.first) × OnlySynced (D.tells disks.second) (D.tells result.1.second) }
     ensures untouched { (result.0 ≡ Status.Usage) ⊎ IsSome (make_words (map string_bytes words.now)) → result.1 ≡ disks }
     ensures inputs { SameBytes (F.input shelf.old) (F.input shelf.new) }
     ensures handed_back { OpensNone (F.is_open shelf.old) (F.is_open shelf.new) }
@@ -196,7 +199,7 @@ fn script_on<F: Shelf, D: Disk>(
     shelf: &mut F,
     disks: Two<D>,
 ) -> (Status, Two<D>)
-    ensures runs { OpensNoDatabase (D.tells disks.first) (D.tells disks.second) result.0 shelf.old shelf.new
+    ensures runs { OpensNoDatabase (D.tells disks.first) (D.tells disks.second) (D.tells result.1.first) (D.tells result.1.second) result.0 shelf.old shelf.new
         ⊎ OpensDatabase (D.tells disks.first) (D.tells disks.second) (λ base.
         RunsOnShelf F.source_gives F.sink_gives F.take_back_gives F.give_back_gives F.tells F.output
         (EndsOn (D.tells result.1.first) (D.tells result.1.second)) base
@@ -205,6 +208,7 @@ fn script_on<F: Shelf, D: Disk>(
         IsWholeOutput base F.tells result.0 (F.input shelf.old input.now) (F.output shelf.new output.now)) }
     ensures moments { MovesAlong (D.tells disks.first) (D.tells disks.second) (F.input shelf.old input.now) (D.tells result.1.first) (D.tells result.1.second) }
     ensures usage { result.0 ≢ Status.Usage }
+    ensures only_synced { IsUnsound result.0 → OnlySynced (D.tells disks.first) (D.tells result.1.first) × OnlySynced (D.tells disks.second) (D.tells result.1.second) }
     ensures read_fault { result.0 ≡ Status.ReadFault → Rose (F.source_faults shelf.old) (F.source_faults shelf.new) }
     ensures write_fault { result.0 ≡ Status.WriteFault → Rose (F.sink_faults shelf.old) (F.sink_faults shelf.new) }
     ensures disk_fault { result.0 ≡ Status.DiskFault → RoseEither (D.faults disks.first) (D.faults result.1.first) (D.faults disks.second) (D.faults result.1.second) }

@@ -1,8 +1,9 @@
-use Rattle.std.proofs.Common.{inl, inr}
+use Rattle.std.proofs.Common.{inl, inr, refl, subst}
 use Rattle.std.proofs.Math.Nat.{le_trans}
+use Rattle.racf_run.proofs.Unsound.{no_disk_fault, is_neither}
 use Rattle.racf_run.proofs.DiskLaws.{ends_on, either_later, rose_along, no_fewer_along}
 use Rattle.racf_run.proofs.TopLaws.{RunsOnShelf-weaker, script_along}
-use Rattle.racf_run.specs.Racf.{EndsAt, EndsOn}
+use Rattle.racf_run.specs.Racf.{IsUnsound, EndsAt, EndsOn}
 use Rattle.racf_run.proofs.top.script_on.Goals as goal
 
 pub returns-in-Ok-clause-runs : goal.returns-in-Ok-clause-runs
@@ -42,6 +43,28 @@ returns-in-Ok-clause-second_faults g c =
     le_trans c.in-Ok.ensures.second_no_fewer
     (no_fewer_along g.D.Disk.faults c.in-Ok.desk.store c.script_between-status.result.1.store c.into_disks.result.first c.into_disks.result.second
     (record { first = c.into_disks.ensures.first; second = c.into_disks.ensures.second }) c.script_between-status.ensures.idle c.script_between-status.ensures.disk_faults).1
+
+pub returns-in-Ok-clause-only_synced : goal.returns-in-Ok-clause-only_synced
+returns-in-Ok-clause-only_synced g c = λ e.
+    absurd (is_neither c.script_between-status.result.0 c.script_between-status.ensures.no_other.1 c.script_between-status.ensures.undamaged e)
+
+pub returns-in-Err-clause-runs : goal.returns-in-Err-clause-runs
+returns-in-Err-clause-runs g c =
+    inl (record {
+      unopened =
+          record {
+            why = c.in-Err.why;
+            is_status = c.opening_status.ensures;
+            refused = c.in-Err.ensures.fault;
+            first_moments = c.in-Err.ensures.first_moments;
+            second_moments = c.in-Err.ensures.second_moments;
+            only_synced = c.in-Err.ensures.untouched;
+          };
+      kept = refl;
+    })
+
+pub returns-in-Err-clause-only_synced : goal.returns-in-Err-clause-only_synced
+returns-in-Err-clause-only_synced g c = λ e. c.in-Err.ensures.untouched (no_disk_fault c.in-Err.why (subst IsUnsound c.opening_status.ensures e))
 
 pub returns-in-Err-clause-moments : goal.returns-in-Err-clause-moments
 returns-in-Err-clause-moments g c = inl (c.in-Err.ensures.first_moments, c.in-Err.ensures.second_moments)

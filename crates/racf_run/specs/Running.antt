@@ -14,19 +14,23 @@ use Rattle.command_history.specs.Reached.{reached, AreLegal}
 use Rattle.racroute.specs.Disks.{StandAt, StaysAlong}
 use Rattle.racroute.specs.Kept.{fault_count}
 use Rattle.request_files.specs.Spellings.{number_word}
+use Rattle.racf_stream.specs.declared.issuer.Issuing.{Issuing}
+use Rattle.racf_stream.specs.declared.issuer.Issuing.TheVariants.{Free}
 use Rattle.racf_stream.specs.declared.status.Status.{Status}
 use Rattle.racf_stream.specs.declared.status.Status.TheVariants.{ReadFault, WriteFault, NoMemory}
 use Rattle.racf_threads.specs.Outputs.{DeckRan, FileRan, StopsFor}
 use Rattle.racf_threads.specs.Together.{greatest}
 use Rattle.racf_run.specs.declared.opening.Unopened.{Unopened}
 use Rattle.racf_run.specs.declared.opening.Unopened.TheVariants.{Input, Output}
+use Rattle.racf_run.specs.Issuers.{is_issuer_word, fixed_issuer}
 use Rattle.racf_run.specs.Opening.{output_name, is_among, are_distinct, Opened, Returned, OpensNeither, OthersStay, AreEmpty}
 use Rattle.racf_run.specs.Racf.{FaultCounts, OpenedDisks, RoseEither}
 
 -- ---- the words
 
--- how many of the names are decks, and the names: decks, then request files
+-- who gives the commands of the decks; how many of the names are decks; and the names: decks, then request files
 pub record RunWords : Type 0 where
+  pub issuing : Issuing
   pub decks : ℕ
   pub names : List (List ℕ)
 
@@ -47,13 +51,24 @@ are_run_words decks names =
     nat_le 1 decks && nat_le decks 4 && nat_le decks (length names) && nat_le (length names) (decks + 16)
     && are_distinct names && are_apart (map output_name names) names
 
-abbrev pub if_run : List (List ℕ) → ℕ → Option RunWords
-if_run names decks = if are_run_words decks names then Some (record { decks = decks; names = names }) else None
+abbrev pub if_run : Issuing → List (List ℕ) → ℕ → Option RunWords
+if_run issuing names decks = if are_run_words decks names then Some (record { issuing = issuing; decks = decks; names = names }) else None
 
--- `run K NAME..`
+-- K NAME..
+abbrev pub run_behind : Issuing → List (List ℕ) → Option RunWords
+run_behind issuing (count ∷ names) = option_and_then (if_run issuing names) (number_word count)
+run_behind issuing [] = None
+
+-- what stands behind the verb: with `--issuer ID` in front that user alone gives the commands
+abbrev pub run_issued : List (List ℕ) → Option RunWords
+run_issued (word ∷ id ∷ words) =
+    if is_issuer_word word then option_and_then (λ issuing. run_behind issuing words) (fixed_issuer id) else run_behind Free (word ∷ id ∷ words)
+run_issued words = run_behind Free words
+
+-- `run K NAME..`, or `run --issuer ID K NAME..`
 abbrev pub run_words : List (List ℕ) → Option RunWords
-run_words (verb ∷ count ∷ names) = if bytes_eq verb (codes "run") then option_and_then (if_run names) (number_word count) else None
-run_words others = None
+run_words (verb ∷ words) = if bytes_eq verb (codes "run") then run_issued words else None
+run_words [] = None
 
 -- ---- the files
 

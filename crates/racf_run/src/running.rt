@@ -39,7 +39,7 @@ where
         ⊎ OpensDatabase (D.tells disks.first) (D.tells disks.second) (λ base. (opened : OpenedDisks) × OpensOn (D.tells disks.first) (D.tells disks.second) opened × RunsFiles F.source_gives F.sink_gives F.take_back_gives F.give_back_gives F.tells F.output
         (NamedRan opened (D.tells result.1.first) (D.tells result.1.second)
         (fault_counts (F.source_faults shelf.old) (F.sink_faults shelf.old) (D.faults disks.first) (D.faults disks.second))
-        (fault_counts (F.source_faults shelf.new) (F.sink_faults shelf.new) (D.faults result.1.first) (D.faults result.1.second)) base F.tells result.0 (record { decks = asked.entry.decks; names = map string_bytes asked.entry.names.now })
+        (fault_counts (F.source_faults shelf.new) (F.sink_faults shelf.new) (D.faults result.1.first) (D.faults result.1.second)) base F.tells result.0 (record { issuing = asked.entry.issuing; decks = asked.entry.decks; names = map string_bytes asked.entry.names.now })
         (F.input shelf.old) (F.output shelf.old) (F.output shelf.new))
         (StandsStill opened (D.tells result.1.first) (D.tells result.1.second) base)
         result.0 (map string_bytes asked.entry.names.now) shelf.old shelf.new) }
@@ -80,7 +80,7 @@ where
         → AreNoMore before (fault_counts (F.source_faults shelf.old) (F.sink_faults shelf.old) (D.faults (disk_on Side.First desk.store)) (D.faults (disk_on Side.Second desk.store)))
         → RunsFiles F.source_gives F.sink_gives F.take_back_gives F.give_back_gives F.tells F.output
         (NamedRan (opened_on D.tells desk.store) (D.tells result.1.first) (D.tells result.1.second)
-        before (fault_counts (F.source_faults shelf.new) (F.sink_faults shelf.new) (D.faults result.1.first) (D.faults result.1.second)) desk.position F.tells result.0 (record { decks = asked.entry.decks; names = map string_bytes asked.entry.names.now })
+        before (fault_counts (F.source_faults shelf.new) (F.sink_faults shelf.new) (D.faults result.1.first) (D.faults result.1.second)) desk.position F.tells result.0 (record { issuing = asked.entry.issuing; decks = asked.entry.decks; names = map string_bytes asked.entry.names.now })
         (F.input shelf.old) (F.output shelf.old) (F.output shelf.new))
         (StandsStill (opened_on D.tells desk.store) (D.tells result.1.first) (D.tells result.1.second) desk.position)
         result.0 (map string_bytes asked.entry.names.now) shelf.old shelf.new }
@@ -136,7 +136,7 @@ where
         → AreNew F.In.left F.In.faults F.Out.taken F.Out.faults F.tells input (map string_bytes asked.entry.names.now) files.items
         → OthersStay (map string_bytes asked.entry.names.now) before (F.output shelf.old)
         → NamedRan (opened_on D.tells desk.store) (D.tells result.1.first) (D.tells result.1.second)
-        counts (fault_counts (F.source_faults shelf.new) (F.sink_faults shelf.new) (D.faults result.1.first) (D.faults result.1.second)) desk.position F.tells result.0 (record { decks = asked.entry.decks; names = map string_bytes asked.entry.names.now })
+        counts (fault_counts (F.source_faults shelf.new) (F.sink_faults shelf.new) (D.faults result.1.first) (D.faults result.1.second)) desk.position F.tells result.0 (record { issuing = asked.entry.issuing; decks = asked.entry.decks; names = map string_bytes asked.entry.names.now })
         input before (F.output shelf.new) }
     ensures returned { ReturnsSome F.source_gives F.sink_gives F.take_back_gives F.give_back_gives (map string_bytes asked.entry.names.now) shelf.old shelf.new }
     ensures usage { result.0 ≢ Status.Usage }
@@ -158,7 +158,7 @@ where
         first: _,
         accepted: _,
         halted: _,
-    } = run_files(rt, alloc, desk, files, asked.decks, gate);
+    } = run_files(rt, alloc, desk, files, asked.decks, asked.issuing, gate);
     return_files(shelf, asked.names, outputs, outs);
     (status, disks)
 }

@@ -5,9 +5,9 @@ use Rattle.std.specs.List.{AllZip}
 use Rattle.std.proofs.lemmas.List.{reverse-append, reverse-reverse}
 use Rattle.std.proofs.lemmas.List.Elements.{AllZip-push}
 
--- what a closure captures, four by four, as a lemma for `search`
-pub each_of_four : {A B C D : Type 0} → A → B → C → D → A × (B × (C × (D × Unit {0})))
-each_of_four a b c d = (a, (b, (c, (d, tt))))
+-- what a closure captures, all five, as a lemma for `search`
+pub each_of_five : {A B C D E : Type 0} → A → B → C → D → E → A × (B × (C × (D × (E × Unit {0}))))
+each_of_five a b c d e = (a, (b, (c, (d, (e, tt)))))
 
 module _ {X : Type 0} (R : X → X → Type 0) where
   -- the same at each place, as of the whole lists

@@ -11,6 +11,7 @@ use Rattle.command_history.specs.Events.{all_of, mark_of, Extends}
 use Rattle.raclist_snapshots.specs.Publishing.{Seeing}
 use Rattle.racroute.specs.Core.{Passing, new_passes}
 use Rattle.racroute.specs.Kept.{fault_count}
+use Rattle.racf_stream.specs.declared.issuer.Issuing.{Issuing}
 use Rattle.racf_stream.specs.declared.status.Status.{Status}
 use Rattle.racf_stream.specs.declared.status.Status.TheVariants as statuses
 use Rattle.racf_stream.specs.Status.{code_of}
@@ -73,12 +74,12 @@ either_of one other status = by (nat_lt (code_of one) (code_of other))
     by true is = inr is
     by false is = inl is
 
-module _ {I K : Type 0} (left : I → Option (List ℕ)) (reads : I → ℕ) (taken : K → Option (List ℕ)) (writes : K → ℕ) (base : Position) where
-  gave_of : (pass : Passing) (given : I × K) (new : Working I K) → HasWorked left reads taken writes base (new_worker (Some pass) given) new → Gave left reads taken writes base pass given (new_worker (Some pass) given) new
+module _ {I K : Type 0} (left : I → Option (List ℕ)) (reads : I → ℕ) (taken : K → Option (List ℕ)) (writes : K → ℕ) (base : Position) (issuing : Issuing) where
+  gave_of : (pass : Passing) (given : I × K) (new : Working I K) → HasWorked left reads taken writes base issuing (new_worker (Some pass) given) new → Gave left reads taken writes base issuing pass given (new_worker (Some pass) given) new
   unfolding HasWorked
   gave_of pass given new did = did
 
-  answered_of : (given : I × K) (new : Working I K) → HasWorked left reads taken writes base (new_worker None given) new → Answered left reads taken writes base given (new_worker None given) new
+  answered_of : (given : I × K) (new : Working I K) → HasWorked left reads taken writes base issuing (new_worker None given) new → Answered left reads taken writes base issuing given (new_worker None given) new
   unfolding HasWorked
   answered_of given new did = did
 
@@ -104,7 +105,7 @@ module _ {I K : Type 0} (left : I → Option (List ℕ)) (reads : I → ℕ) (ta
 
   pub record Files (whole : List Event) (requests : List (I × K)) (news : List (Working I K)) : Type 0 where
     pub workers : List (Worked I K)
-    pub are : AreFiles left reads taken writes base whole workers
+    pub are : AreFiles left reads taken writes base issuing whole workers
     pub given_are : map (λ w. w.given) workers ≡ requests
     pub outs : filter_map (λ w. w.files) news ≡ map (λ w. w.back) workers
     pub ends : filter_map (λ w. w.end) news ≡ []
@@ -133,7 +134,7 @@ module _ {I K : Type 0} (left : I → Option (List ℕ)) (reads : I → ℕ) (ta
     pub workers : List (Worked I K)
     pub backs : List Passing
     pub rest : List (Working I K)
-    pub gave : DecksGave left reads taken writes base whole deck workers backs
+    pub gave : DecksGave left reads taken writes base issuing whole deck workers backs
     pub given_are : map (λ w. w.given) workers ≡ decks
     pub did : AllZip (HasWorked left reads taken writes base) (new_workers [] requests) rest
     pub seen : Later whole rest
@@ -170,7 +171,7 @@ module _ {I K : Type 0} (left : I → Option (List ℕ)) (reads : I → ℕ) (ta
       → All (λ (caller : Seeing). Extends caller.events (all_of entries halted)) (map (λ w. w.caller) news)
       → sum_by (λ (p : Passing). p.commands) (filter_map (λ w. w.end) news) ≡ length entries
       → sum_by (λ (p : Passing). p.faults) (filter_map (λ w. w.end) news) ≡ fault_count halted
-      → RunsTogether left reads taken writes base entries halted (greatest (map (λ w. w.status) news)) decks requests (filter_map (λ w. w.files) news)
+      → RunsTogether left reads taken writes base issuing entries halted (greatest (map (λ w. w.status) news)) decks requests (filter_map (λ w. w.files) news)
   runs entries halted decks requests news did seen commands faults =
       let whole = all_of entries halted in
       let from = subst (λ (l : List Passing). AllZip (HasWorked left reads taken writes base) (new_workers l (decks ++ requests)) news) (passes_are (length decks)) did in
@@ -182,15 +183,15 @@ module _ {I K : Type 0} (left : I → Option (List ℕ)) (reads : I → ℕ) (ta
       record {
         deck_workers = d.workers;
         file_workers = f.workers;
-        are_decks = decks_ran left reads taken writes base entries halted d.workers d.backs d.gave (subst (λ (l : List Passing). sum_by (λ (p : Passing). p.commands) l ≡ length entries) backs_are commands);
+        are_decks = decks_ran left reads taken writes base issuing entries halted d.workers d.backs d.gave (subst (λ (l : List Passing). sum_by (λ (p : Passing). p.commands) l ≡ length entries) backs_are commands);
         are_files = f.are;
-        of_decks = of_decks left reads taken writes base entries halted d.workers d.backs (length decks) (sym (length-map (λ (w : Worked I K). w.given) d.workers) ∙ ap length d.given_are) d.gave
+        of_decks = of_decks left reads taken writes base issuing entries halted d.workers d.backs (length decks) (sym (length-map (λ (w : Worked I K). w.given) d.workers) ∙ ap length d.given_are) d.gave
             (subst (λ (l : List Passing). sum_by (λ (p : Passing). p.commands) l ≡ length entries) backs_are commands);
         decks_are = d.given_are;
         requests_are = f.given_are;
         outs_are = over_both (λ (w : Worked I K). w.back) d.workers f.workers ∙ sym (d.outs ∙ ap (λ (l : List (I × K)). map (λ (w : Worked I K). w.back) d.workers ++ l) f.outs);
         status_is = ap greatest statuses_are;
-        one_fault = faults_ran left reads taken writes base entries halted d.workers d.backs d.gave (subst (λ (l : List Passing). sum_by (λ (p : Passing). p.faults) l ≡ fault_count halted) backs_are faults);
+        one_fault = faults_ran left reads taken writes base issuing entries halted d.workers d.backs d.gave (subst (λ (l : List Passing). sum_by (λ (p : Passing). p.faults) l ≡ fault_count halted) backs_are faults);
       }
 
   -- As many passes are handed in as there are decks.

@@ -12,6 +12,7 @@ ghost use Rattle.command_history.specs.Reached.{reached, AreLegal};
 ghost use Rattle.racroute.specs.Core.{new_passes};
 ghost use Rattle.racroute.specs.Disks.{StandAt, StaysAlong};
 ghost use Rattle.racroute.specs.Kept.{fault_count};
+ghost use Rattle.racf_stream.specs.declared.issuer.Issuing.{Issuing};
 ghost use Rattle.racf_threads.specs.Together.{RunsTogether};
 ghost use Rattle.racf_threads.specs.Working.{HasWorked};
 
@@ -23,7 +24,7 @@ use command_history::{Naming, Opened};
 use left_right::Absorb;
 use racf_desk::Desk;
 use racf_outside::{Disk, Sink, Source};
-use racf_stream::Status;
+use racf_stream::{Issuing, Status};
 use racf_workers::Gate;
 use raclist_image::Image;
 use raclist_snapshots::{Caller, Note, Opens, snapshots};
@@ -53,6 +54,7 @@ pub(crate) fn begun<
     desk: Desk<D>,
     decks: u32,
     files: Vec<(I, K)>,
+    issuing: Issuing,
     gate: &G,
 ) -> Result<Ran<I, K, D>, (Desk<D>, Vec<(I, K)>)>
     requires book { opened.0 ≡ J.book }
@@ -68,7 +70,7 @@ pub(crate) fn begun<
     requires commands { (blanks.0.name ≡ S.name) × (blanks.0.parts ≡ S.parts) × (S.parts ≡ decks + 1) }
     requires failed { (blanks.1.name ≡ F.name) × (blanks.1.parts ≡ F.parts) × (F.parts ≡ decks + 1) }
     requires out { (blanks.2.name ≡ P.name) × (blanks.2.parts ≡ P.parts) × (P.parts ≡ decks + 1) }
-    ensures together { IfOk result (λ ran. RunsTogether I.left I.faults K.taken K.faults J.base ran.accepted.items ran.halted ran.status (take decks files.items) (drop decks files.items) ran.outs.items) }
+    ensures together { IfOk result (λ ran. RunsTogether I.left I.faults K.taken K.faults J.base issuing ran.accepted.items ran.halted ran.status (take decks files.items) (drop decks files.items) ran.outs.items) }
     ensures legal { IfOk result (λ ran. AreLegal J.base ran.accepted.items) }
     ensures first { IfOk result (λ ran. ran.first ≡ number_at J.base) }
     ensures disks { IfOk result (λ ran. StandAt ran.halted (D.tells ran.disks.first) (D.tells ran.disks.second) (reached J.base (all_of ran.accepted.items ran.halted))) }
@@ -92,7 +94,7 @@ pub(crate) fn begun<
         Err(_) => return Err((desk, files)),
     };
     match Racf::<J, _, _, _, S, F, P, D>::start(alloc, publisher, blanks, desk, decks) {
-        Ok((racf, passes)) => Ok(ran(rt, alloc, racf, callers, passes, decks, files, room, gate)),
+        Ok((racf, passes)) => Ok(ran(rt, alloc, racf, callers, passes, decks, files, room, issuing, gate)),
         Err(desk) => {
             room.give_back();
             Err((desk, files))
@@ -108,7 +110,7 @@ pub(crate) fn unbegun<I: Source, K: Sink, D: Disk>(
 ) -> Ran<I, K, D>
     requires running { desk.halted ≡ false }
     requires settled { desk.committed ≡ false }
-    ensures together { (decks : ℕ) → 0 < vec_len outs → RunsTogether I.left I.faults K.taken K.faults desk.position result.accepted.items result.halted result.status (take decks outs.items) (drop decks outs.items) result.outs.items }
+    ensures together { (decks : ℕ) (issuing : Issuing) → 0 < vec_len outs → RunsTogether I.left I.faults K.taken K.faults desk.position issuing result.accepted.items result.halted result.status (take decks outs.items) (drop decks outs.items) result.outs.items }
     ensures outs { result.outs.items ≡ outs.items }
     ensures status { result.status ≡ Status.NoMemory }
     ensures none { result.accepted.items ≡ [] }
@@ -158,6 +160,7 @@ fn ran<
     decks: u32,
     files: Vec<(I, K)>,
     room: Room<J, S, F, P, I, K>,
+    issuing: Issuing,
     gate: &G,
 ) -> Ran<I, K, D>
     requires new { All (λ caller. caller ≡ record { events = []; learned = 0 }) callers.items }
@@ -170,7 +173,7 @@ fn ran<
     requires left { (room.left.callers.items ≡ []) × (vec_len files ≤ vec_capacity room.left.callers) }
     requires ends { (room.left.ends.items ≡ []) × (vec_len files ≤ vec_capacity room.left.ends) }
     requires outs { (room.left.outs.items ≡ []) × (vec_len files ≤ vec_capacity room.left.outs) }
-    ensures together { RunsTogether I.left I.faults K.taken K.faults J.base result.accepted.items result.halted result.status (take decks files.items) (drop decks files.items) result.outs.items }
+    ensures together { RunsTogether I.left I.faults K.taken K.faults J.base issuing result.accepted.items result.halted result.status (take decks files.items) (drop decks files.items) result.outs.items }
     ensures legal { AreLegal J.base result.accepted.items }
     ensures first { result.first ≡ number_at J.base }
     ensures disks { StandAt result.halted (D.tells result.disks.first) (D.tells result.disks.second) (reached J.base (all_of result.accepted.items result.halted)) }
@@ -183,7 +186,7 @@ fn ran<
 {
     let Room { workers, left } = room;
     let mut workers = seat(callers, passes, files, workers);
-    side_by_side(rt, alloc, &racf, workers.as_mut_slice(), gate);
+    side_by_side(rt, alloc, &racf, workers.as_mut_slice(), issuing, gate);
     let (left, status) = gather(workers, left);
     let Left {
         callers,
@@ -227,13 +230,14 @@ fn side_by_side<
     alloc: Global,
     racf: &Racf<J, T, O, Q, S, F, P, D>,
     workers: &mut [Worker<J, S, F, P, I, K>],
+    issuing: Issuing,
     gate: &G,
 )
     requires { 0 < length workers.old }
-    ensures { AllZip (HasWorked I.left I.faults K.taken K.faults J.base) workers.old workers.new }
+    ensures { AllZip (HasWorked I.left I.faults K.taken K.faults J.base issuing) workers.old workers.new }
 {
     workers.reverse();
-    in_threads(rt, alloc, racf, workers, gate);
+    in_threads(rt, alloc, racf, workers, issuing, gate);
     workers.reverse();
 }
 
@@ -257,10 +261,11 @@ fn in_threads<
     alloc: Global,
     racf: &Racf<J, T, O, Q, S, F, P, D>,
     workers: &mut [Worker<J, S, F, P, I, K>],
+    issuing: Issuing,
     gate: &G,
 )
     requires { 0 < length workers.old }
-    ensures { AllZip (HasWorked I.left I.faults K.taken K.faults J.base) workers.old workers.new }
+    ensures { AllZip (HasWorked I.left I.faults K.taken K.faults J.base issuing) workers.old workers.new }
 {
     let threads = workers.len();
     for_each_mut(
@@ -268,8 +273,8 @@ fn in_threads<
         workers,
         threads,
         &|_, worker: &mut Worker<J, S, F, P, I, K>|
-            ensures { HasWorked I.left I.faults K.taken K.faults J.base worker.entry.now worker.exit.now }
-        { worker.work(rt, alloc, racf, gate) },
+            ensures { HasWorked I.left I.faults K.taken K.faults J.base issuing worker.entry.now worker.exit.now }
+        { worker.work(rt, alloc, racf, issuing, gate) },
     );
 }
 

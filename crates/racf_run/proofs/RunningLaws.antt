@@ -25,7 +25,7 @@ use Rattle.racf_threads.specs.Together.{Worked, HasStopped, AreDecks, AreFiles, 
 use Rattle.racf_run.proofs.OpeningLaws.{AreNew-length}
 use Rattle.racf_run.specs.Opening.{output_name, is_among, are_distinct, IsNew, AreNew, AreKept, OthersStay, RoseFor}
 use Rattle.racf_run.specs.Racf.{IsUnsound, OpensNone, OpenedDisks, RoseEither, FaultCounts}
-use Rattle.racf_run.specs.Running.{are_run_words, are_apart, Named, DecksNamed, FilesNamed, NamedRan, unopened_status}
+use Rattle.racf_run.specs.Running.{are_run_words, are_apart, Named, NamedStops, DecksNamed, FilesNamed, NamedRan, unopened_status}
 use Rattle.racf_run.specs.declared.opening.Unopened.{Unopened}
 use Rattle.racf_run.specs.declared.opening.Unopened.TheVariants.{Input, Output}
 
@@ -87,23 +87,6 @@ pub unopened_ends : (why : Unopened) → (unopened_status why ≢ Usage) × (uno
 unopened_ends Input = (λ (e : ReadFault ≡ Usage). cc, λ (e : ReadFault ≡ DiskFault). cc)
 unopened_ends Output = (λ (e : WriteFault ≡ Usage). cc, λ (e : WriteFault ≡ DiskFault). cc)
 
--- Of a file that had counted nothing, where the shelf's count rose if it has counted one since.
-stops_named : (status : Status) (source given : Option (List ℕ)) (reads reads_now writes writes_now : ℕ) (before now : FaultCounts)
-    → StopsFor status source reads reads_now writes writes_now → source ≡ given → reads ≡ 0 → writes ≡ 0
-    → (0 < reads_now → Rose before.reads now.reads) → (0 < writes_now → Rose before.writes now.writes) → before.reads ≤ now.reads → before.writes ≤ now.writes
-    → StopsFor status given before.reads now.reads before.writes now.writes
-stops_named status source given reads reads_now writes writes_now before now stops is no_reads no_writes reads_rose writes_rose more_reads more_writes =
-    record {
-      usage = stops.usage;
-      formatted = stops.formatted;
-      undamaged = stops.undamaged;
-      read_fault = λ e. reads_rose (rose_from_none reads_now (subst (λ (n : ℕ). Rose n reads_now) no_reads (stops.read_fault e)));
-      write_fault = λ e. writes_rose (rose_from_none writes_now (subst (λ (n : ℕ). Rose n writes_now) no_writes (stops.write_fault e)));
-      too_long = subst (λ (bytes : Option (List ℕ)). status ≡ InputTooLong → IfSome bytes (λ known. longest_input < length known)) is stops.too_long;
-      no_fewer_reads = more_reads;
-      no_fewer_writes = more_writes;
-    }
-
 -- Counted from before on, and of the first ones and of those behind.
 pub RoseFor-earlier : {A : Type 0} (faults : A → ℕ) (a b c : ℕ) (items : List A) → a ≤ b → RoseFor faults b c items → RoseFor faults a c items
 RoseFor-earlier faults a b c [] le rose = tt
@@ -129,34 +112,35 @@ module _ {I K : Type 0} (left : I → Option (List ℕ)) (reads : I → ℕ) (ta
   AreKept-split [] (x ∷ xs) ys h = absurd h
 
 -- workers under these names
-abbrev named : {I K : Type 0} → List (List ℕ) → List (Worked I K) → List Named
-named [] workers = []
-named (name ∷ names) [] = []
-named (name ∷ names) (w ∷ workers) = record { name = name; status = w.status; faults = w.faults } ∷ named names workers
+abbrev named : {I K : Type 0} → (reads : I → ℕ) → (writes : K → ℕ) → List (List ℕ) → List (Worked I K) → List Named
+named reads writes [] workers = []
+named reads writes (name ∷ names) [] = []
+named reads writes (name ∷ names) (w ∷ workers) =
+    record { name = name; status = w.status; faults = w.faults; reads = reads w.back.0; writes = writes w.back.1 } ∷ named reads writes names workers
 
 module _ {I K : Type 0} (left : I → Option (List ℕ)) (reads : I → ℕ) (taken : K → Option (List ℕ)) (writes : K → ℕ) (tells : Bool) (input output : List ℕ → Option (List ℕ)) where
-  named_names : (names : List (List ℕ)) (ws : List (Worked I K)) → AreNew left reads taken writes tells input names (map (λ w. w.given) ws) → map (λ w. w.name) (named names ws) ≡ names
+  named_names : (names : List (List ℕ)) (ws : List (Worked I K)) → AreNew left reads taken writes tells input names (map (λ w. w.given) ws) → map (λ w. w.name) (named reads writes names ws) ≡ names
   named_names [] [] h = refl
   named_names (name ∷ names) (w ∷ ws) h = ap (λ ns. name ∷ ns) (named_names names ws h.1)
   named_names [] (w ∷ ws) h = absurd h
   named_names (name ∷ names) [] h = absurd h
 
-  named_statuses : (names : List (List ℕ)) (ws : List (Worked I K)) → AreNew left reads taken writes tells input names (map (λ w. w.given) ws) → map (λ w. w.status) (named names ws) ≡ map (λ (w : Worked I K). w.status) ws
+  named_statuses : (names : List (List ℕ)) (ws : List (Worked I K)) → AreNew left reads taken writes tells input names (map (λ w. w.given) ws) → map (λ w. w.status) (named reads writes names ws) ≡ map (λ (w : Worked I K). w.status) ws
   named_statuses [] [] h = refl
   named_statuses (name ∷ names) (w ∷ ws) h = ap (λ ss. w.status ∷ ss) (named_statuses names ws h.1)
   named_statuses [] (w ∷ ws) h = absurd h
   named_statuses (name ∷ names) [] h = absurd h
 
-  named_faults : (names : List (List ℕ)) (ws : List (Worked I K)) → AreNew left reads taken writes tells input names (map (λ w. w.given) ws) → sum_by (λ w. w.faults) (named names ws) ≡ sum_by (λ (w : Worked I K). w.faults) ws
+  named_faults : (names : List (List ℕ)) (ws : List (Worked I K)) → AreNew left reads taken writes tells input names (map (λ w. w.given) ws) → sum_by (λ w. w.faults) (named reads writes names ws) ≡ sum_by (λ (w : Worked I K). w.faults) ws
   named_faults [] [] h = refl
   named_faults (name ∷ names) (w ∷ ws) h =
-      sum_by-cons (λ (v : Named). v.faults) (record { name = name; status = w.status; faults = w.faults }) (named names ws)
+      sum_by-cons (λ (v : Named). v.faults) (record { name = name; status = w.status; faults = w.faults; reads = reads w.back.0; writes = writes w.back.1 }) (named reads writes names ws)
       ∙ ap (λ n. w.faults + n) (named_faults names ws h.1)
       ∙ sym (sum_by-cons (λ (v : Worked I K). v.faults) w ws)
   named_faults [] (w ∷ ws) h = absurd h
   named_faults (name ∷ names) [] h = absurd h
 
-  module _ (base : Position) (whole : List Event) (before now : FaultCounts) (more_reads : before.reads ≤ now.reads) (more_writes : before.writes ≤ now.writes) where
+  module _ (base : Position) (whole : List Event) (before now : FaultCounts) where
     abbrev ReadsRose : List (I × K) → Type 0
     ReadsRose = RoseFor (λ (file : I × K). reads file.0) before.reads now.reads
 
@@ -165,13 +149,20 @@ module _ {I K : Type 0} (left : I → Option (List ℕ)) (reads : I → ℕ) (ta
 
     named_stops : (name : List ℕ) (w : Worked I K) → IsNew left reads taken writes tells (input name) w.given → HasStopped left reads taken writes base w
         → (0 < reads w.back.0 → Rose before.reads now.reads) → (0 < writes w.back.1 → Rose before.writes now.writes)
-        → StopsFor w.status (input name) before.reads now.reads before.writes now.writes
+        → NamedStops base whole before now tells input output (record { name = name; status = w.status; faults = w.faults; reads = reads w.back.0; writes = writes w.back.1 })
     named_stops name w new stops reads_rose writes_rose =
-        stops_named w.status (left w.given.0) (input name) (reads w.given.0) (reads w.back.0) (writes w.given.1) (writes w.back.1) before now stops new.bytes new.no_reads new.no_writes reads_rose writes_rose more_reads more_writes
+        record {
+          stops =
+              subst (λ (n : ℕ). StopsFor w.status (input name) 0 (reads w.back.0) n (writes w.back.1)) new.no_writes
+              (subst (λ (n : ℕ). StopsFor w.status (input name) n (reads w.back.0) (writes w.given.1) (writes w.back.1)) new.no_reads
+              (subst (λ (o : Option (List ℕ)). StopsFor w.status o (reads w.given.0) (reads w.back.0) (writes w.given.1) (writes w.back.1)) new.bytes stops));
+          reads_rose = reads_rose;
+          writes_rose = writes_rose;
+        }
 
     named_decks : (deck : ℕ) (names : List (List ℕ)) (ws : List (Worked I K)) → AreNew left reads taken writes tells input names (map (λ w. w.given) ws) → AreKept taken output names (map (λ w. w.back) ws)
         → ReadsRose (map (λ w. w.back) ws) → WritesRose (map (λ w. w.back) ws)
-        → AreDecks left reads taken writes base whole deck ws → DecksNamed base whole before now tells input output deck (named names ws)
+        → AreDecks left reads taken writes base whole deck ws → DecksNamed base whole before now tells input output deck (named reads writes names ws)
     named_decks deck [] [] h k r q decks = tt
     named_decks deck (name ∷ names) (w ∷ ws) h k r q decks = (
       (
@@ -188,7 +179,7 @@ module _ {I K : Type 0} (left : I → Option (List ℕ)) (reads : I → ℕ) (ta
 
     named_files : (names : List (List ℕ)) (ws : List (Worked I K)) → AreNew left reads taken writes tells input names (map (λ w. w.given) ws) → AreKept taken output names (map (λ w. w.back) ws)
         → ReadsRose (map (λ w. w.back) ws) → WritesRose (map (λ w. w.back) ws)
-        → AreFiles left reads taken writes base whole ws → FilesNamed base whole before now tells input output (named names ws)
+        → AreFiles left reads taken writes base whole ws → FilesNamed base whole before now tells input output (named reads writes names ws)
     named_files [] [] h k r q files = tt
     named_files (name ∷ names) (w ∷ ws) h k r q files = (
       (
@@ -207,13 +198,12 @@ module _ {I K : Type 0} (left : I → Option (List ℕ)) (reads : I → ℕ) (ta
   pub named_run : (opened : OpenedDisks) (first second : Option History) (before now : FaultCounts) (base : Position) (entries : List Accepted) (halted : Bool) (status : Status) (decks : ℕ) (names : List (List ℕ)) (files outs : List (I × K)) (old : List ℕ → Option (List ℕ))
       → decks ≤ length files → AreNew left reads taken writes tells input names files → AreKept taken output names outs
       → RunsTogether left reads taken writes base entries halted status (take decks files) (drop decks files) outs
-      → before.reads ≤ now.reads → before.writes ≤ now.writes
       → RoseFor (λ file. reads file.0) before.reads now.reads outs → RoseFor (λ file. writes file.1) before.writes now.writes outs
       → (halted ≡ true → RoseEither before.first now.first before.second now.second)
       → AreLegal base entries → StandAt halted first second (reached base (all_of entries halted)) → StaysAlong base (all_of entries halted) opened.idle opened.live (pick opened.idle.side first second)
       → pick opened.idle.side second first ≡ opened.idle.told → OthersStay names old output
       → NamedRan opened first second before now base tells status (record { decks = decks; names = names }) input old output
-  named_run opened first second before now base entries halted status decks names files outs old enough new kept together more_reads more_writes reads_rose writes_rose rose legal stand moments idle others =
+  named_run opened first second before now base entries halted status decks names files outs old enough new kept together reads_rose writes_rose rose legal stand moments idle others =
       let dw = together.deck_workers in
       let fw = together.file_workers in
       let givens : files ≡ map (λ w. w.given) dw ++ map (λ w. w.given) fw =
@@ -237,12 +227,12 @@ module _ {I K : Type 0} (left : I → Option (List ℕ)) (reads : I → ℕ) (ta
       record {
         entries = entries;
         halted = halted;
-        decks = named (take decks names) dw;
-        files = named (drop decks names) fw;
+        decks = named reads writes (take decks names) dw;
+        files = named reads writes (drop decks names) fw;
         are_decks =
-            named_decks base (all_of entries halted) before now more_reads more_writes 0 (take decks names) dw news.0 keeps.0 failed_reads.0 failed_writes.0 together.are_decks;
+            named_decks base (all_of entries halted) before now 0 (take decks names) dw news.0 keeps.0 failed_reads.0 failed_writes.0 together.are_decks;
         are_files =
-            named_files base (all_of entries halted) before now more_reads more_writes (drop decks names) fw news.1 keeps.1 failed_reads.1 failed_writes.1 together.are_files;
+            named_files base (all_of entries halted) before now (drop decks names) fw news.1 keeps.1 failed_reads.1 failed_writes.1 together.are_files;
         of_decks = subst (λ (n : ℕ). All (λ (entry : Accepted). entry.deck < n) entries) (length-take-le decks files enough) together.of_decks;
         deck_names_are = named_names (take decks names) dw news.0;
         file_names_are = named_names (drop decks names) fw news.1;
@@ -250,8 +240,8 @@ module _ {I K : Type 0} (left : I → Option (List ℕ)) (reads : I → ℕ) (ta
             together.status_is ∙ ap greatest
             (map-append (λ (w : Worked I K). w.status) dw fw
             ∙ ap (λ xs. xs ++ map (λ (w : Worked I K). w.status) fw) (sym (named_statuses (take decks names) dw news.0))
-            ∙ ap (λ xs. map (λ (w : Named). w.status) (named (take decks names) dw) ++ xs) (sym (named_statuses (drop decks names) fw news.1))
-            ∙ sym (map-append (λ (w : Named). w.status) (named (take decks names) dw) (named (drop decks names) fw)));
+            ∙ ap (λ xs. map (λ (w : Named). w.status) (named reads writes (take decks names) dw) ++ xs) (sym (named_statuses (drop decks names) fw news.1))
+            ∙ sym (map-append (λ (w : Named). w.status) (named reads writes (take decks names) dw) (named reads writes (drop decks names) fw)));
         one_fault = named_faults (take decks names) dw news.0 ∙ together.one_fault;
         rose = rose;
         legal = legal;

@@ -2,6 +2,7 @@
 use Rattle.std.specs.Prelude.{◌≡◌, ◌⊎◌, ℕ, ◌+◌, ◌<◌, suc, nat_le, Bool, true, ◌&&◌, not, Option, Some, None, option_and_then, Result, List, [], ◌∷◌, ◌++◌, length, take, drop, map, codes, if◌then◌else◌}
 use Rattle.std.specs.List.{All, sum_by}
 use Rattle.std.specs.Str.{bytes_eq}
+use Rattle.racf_outside.specs.Causes.{Rose}
 use Rattle.racf_outside.specs.declared.streams.Failed.{Failed}
 use Rattle.racf_outside.specs.Disk.{History}
 use Rattle.racf_outside.specs.Shelf.{told}
@@ -72,18 +73,24 @@ run_words [] = None
 
 -- ---- the files
 
--- A worker's name, how it ended, and for a deck how many of its commands a disk failed.
+-- A worker's name, how it ended, for a deck how many of its commands a disk failed, and how many faults were counted of
+-- its input and of its output.
 pub record Named : Type 0 where
   pub name : List ℕ
   pub status : Status
   pub faults : ℕ
+  pub reads : ℕ
+  pub writes : ℕ
 
 -- The run began at `base`, and its history is `whole`; `input` is what an input has to give, and `output` what the
 -- output that was given back under a name holds, which was new and empty. The faults that were counted of the shelf
--- were `before`, and are `now`: each worker stopped for one of its causes.
+-- were `before`, and are `now`.
 module _ (base : Position) (whole : List Event) (before now : FaultCounts) (tells : Bool) (input output : List ℕ → Option (List ℕ)) where
-  abbrev pub NamedStops : Named → Type 0
-  NamedStops w = StopsFor w.status (input w.name) before.reads now.reads before.writes now.writes
+  -- A worker stopped for one of its causes; where its input or its output failed, the shelf has counted it.
+  pub record NamedStops (w : Named) : Type 0 where
+    pub stops : StopsFor w.status (input w.name) 0 w.reads 0 w.writes
+    pub reads_rose : 0 < w.reads → Rose before.reads now.reads
+    pub writes_rose : 0 < w.writes → Rose before.writes now.writes
 
   -- the decks, which number from this one on
   abbrev pub DecksNamed : (deck : ℕ) → List Named → Type 0

@@ -1,5 +1,4 @@
 use Rattle.std.proofs.Common.{◌≤◌, ℕ, List, length, map, string_bytes, vec_len, sym, ◌∙◌, subst, arith}
-use Rattle.std.proofs.Math.Nat.{le_trans}
 use Rattle.std.proofs.lemmas.List.{length-map}
 use Rattle.command_history.specs.Events.{all_of}
 use Rattle.racf_desk.specs.Durable.{idle_of}
@@ -56,7 +55,7 @@ returns-clause-ran g c input before counts no_more new others =
     counts (fault_counts (g.F.Shelf.source_faults c.return_files.new.shelf) (g.F.Shelf.sink_faults c.return_files.new.shelf) (g.D.Disk.faults c.run_files-status.result.disks.first) (g.D.Disk.faults c.run_files-status.result.disks.second))
     c.args.desk.position c.run_files-status.result.accepted.items c.run_files-status.result.halted c.run_files-status.result.status c.args.asked.decks names c.args.files.items c.run_files-status.result.outs.items before
     enough new (subst (λ (ns : List (List ℕ)). AreKept g.F.Out.Sink.taken (g.F.Shelf.output c.return_files.new.shelf) ns c.run_files-status.result.outs.items) (run_names g.F.In.Source.left g.F.In.Source.faults g.F.Out.Sink.taken g.F.Out.Sink.faults c.args.desk.position c.run_files-status.result.accepted.items c.run_files-status.result.halted c.run_files-status.result.status c.args.asked.decks c.args.files.items c.run_files-status.result.outs.items c.run_files-status.ensures.together g.F.Shelf.tells (g.F.Shelf.input c.args.shelf.now) (map string_bytes c.args.asked.names.now) (vec_len c.run_files-status.result.outs) c.run_files-status.result.outs.ok.0 c.requires.new) c.return_files.ensures.kept)
-    c.run_files-status.ensures.together (le_trans no_more.reads c.return_files.ensures.no_fewer_reads) (le_trans no_more.writes c.return_files.ensures.no_fewer_writes)
+    c.run_files-status.ensures.together
     (RoseFor-earlier (λ file. g.F.In.Source.faults file.0) counts.reads (g.F.Shelf.source_faults c.args.shelf.now) (g.F.Shelf.source_faults c.return_files.new.shelf) c.run_files-status.result.outs.items no_more.reads c.return_files.ensures.reads_rose)
     (RoseFor-earlier (λ file. g.F.Out.Sink.faults file.1) counts.writes (g.F.Shelf.sink_faults c.args.shelf.now) (g.F.Shelf.sink_faults c.return_files.new.shelf) c.run_files-status.result.outs.items no_more.writes c.return_files.ensures.writes_rose)
     (λ h. either_later _ _ _ _ _ _ no_more.first no_more.second

@@ -17,6 +17,7 @@ use Rattle.command_history.specs.Events.{all_of}
 use Rattle.command_history.specs.Reached.{reached, AreLegal}
 use Rattle.racroute.specs.Disks.{StandAt, StaysAlong}
 use Rattle.racf_stream.specs.Status.{code_of}
+use Rattle.racf_stream.specs.declared.issuer.Issuing.{Issuing}
 use Rattle.racf_stream.specs.declared.status.Status.{Status}
 use Rattle.racf_stream.specs.declared.status.Status.TheVariants.{Done, Usage, ReadFault, WriteFault, DiskFault, NotFormatted, Damaged, NoMemory, InputTooLong}
 use Rattle.racf_stream.specs.Runs.{longest_input}
@@ -140,16 +141,16 @@ module _ {I K : Type 0} (left : I → Option (List ℕ)) (reads : I → ℕ) (ta
   named_faults [] (w ∷ ws) h = absurd h
   named_faults (name ∷ names) [] h = absurd h
 
-  module _ (base : Position) (whole : List Event) (before now : FaultCounts) where
+  module _ (base : Position) (issuing : Issuing) (whole : List Event) (before now : FaultCounts) where
     abbrev ReadsRose : List (I × K) → Type 0
     ReadsRose = RoseFor (λ (file : I × K). reads file.0) before.reads now.reads
 
     abbrev WritesRose : List (I × K) → Type 0
     WritesRose = RoseFor (λ (file : I × K). writes file.1) before.writes now.writes
 
-    named_stops : (name : List ℕ) (w : Worked I K) → IsNew left reads taken writes tells (input name) w.given → HasStopped left reads taken writes base w
+    named_stops : (name : List ℕ) (w : Worked I K) → IsNew left reads taken writes tells (input name) w.given → HasStopped left reads taken writes base issuing w
         → (0 < reads w.back.0 → Rose before.reads now.reads) → (0 < writes w.back.1 → Rose before.writes now.writes)
-        → NamedStops base whole before now tells input output (record { name = name; status = w.status; faults = w.faults; reads = reads w.back.0; writes = writes w.back.1 })
+        → NamedStops base issuing whole before now tells input output (record { name = name; status = w.status; faults = w.faults; reads = reads w.back.0; writes = writes w.back.1 })
     named_stops name w new stops reads_rose writes_rose =
         record {
           stops =
@@ -162,14 +163,16 @@ module _ {I K : Type 0} (left : I → Option (List ℕ)) (reads : I → ℕ) (ta
 
     named_decks : (deck : ℕ) (names : List (List ℕ)) (ws : List (Worked I K)) → AreNew left reads taken writes tells input names (map (λ w. w.given) ws) → AreKept taken output names (map (λ w. w.back) ws)
         → ReadsRose (map (λ w. w.back) ws) → WritesRose (map (λ w. w.back) ws)
-        → AreDecks left reads taken writes base whole deck ws → DecksNamed base whole before now tells input output deck (named reads writes names ws)
+        → AreDecks left reads taken writes base issuing whole deck ws → DecksNamed base issuing whole before now tells input output deck (named reads writes names ws)
     named_decks deck [] [] h k r q decks = tt
     named_decks deck (name ∷ names) (w ∷ ws) h k r q decks = (
       (
         left w.back.0,
-        subst (λ (o : Option (List ℕ)). DeckRan base whole deck w.faults w.status (input name) (left w.back.0) (told tells []) o) (sym k.0)
-            (subst (λ (o : Option (List ℕ)). DeckRan base whole deck w.faults w.status (input name) (left w.back.0) o (taken w.back.1)) h.0.empty
-            (subst (λ (o : Option (List ℕ)). DeckRan base whole deck w.faults w.status o (left w.back.0) (taken w.given.1) (taken w.back.1)) h.0.bytes decks.0.0)),
+        subst (λ (n : ℕ). DeckRan base issuing whole deck w.faults (Rose 0 (reads w.back.0)) (Rose n (writes w.back.1)) w.status (input name) (left w.back.0) (told tells []) (output (output_name name))) h.0.no_writes
+            (subst (λ (n : ℕ). DeckRan base issuing whole deck w.faults (Rose n (reads w.back.0)) (Rose (writes w.given.1) (writes w.back.1)) w.status (input name) (left w.back.0) (told tells []) (output (output_name name))) h.0.no_reads
+            (subst (λ (o : Option (List ℕ)). DeckRan base issuing whole deck w.faults (Rose (reads w.given.0) (reads w.back.0)) (Rose (writes w.given.1) (writes w.back.1)) w.status (input name) (left w.back.0) (told tells []) o) (sym k.0)
+            (subst (λ (o : Option (List ℕ)). DeckRan base issuing whole deck w.faults (Rose (reads w.given.0) (reads w.back.0)) (Rose (writes w.given.1) (writes w.back.1)) w.status (input name) (left w.back.0) o (taken w.back.1)) h.0.empty
+            (subst (λ (o : Option (List ℕ)). DeckRan base issuing whole deck w.faults (Rose (reads w.given.0) (reads w.back.0)) (Rose (writes w.given.1) (writes w.back.1)) w.status o (left w.back.0) (taken w.given.1) (taken w.back.1)) h.0.bytes decks.0.0)))),
       ),
       named_stops name w h.0 decks.0.1 r.0 q.0,
       named_decks (suc deck) names ws h.1 k.1 r.1 q.1 decks.1,
@@ -179,14 +182,16 @@ module _ {I K : Type 0} (left : I → Option (List ℕ)) (reads : I → ℕ) (ta
 
     named_files : (names : List (List ℕ)) (ws : List (Worked I K)) → AreNew left reads taken writes tells input names (map (λ w. w.given) ws) → AreKept taken output names (map (λ w. w.back) ws)
         → ReadsRose (map (λ w. w.back) ws) → WritesRose (map (λ w. w.back) ws)
-        → AreFiles left reads taken writes base whole ws → FilesNamed base whole before now tells input output (named reads writes names ws)
+        → AreFiles left reads taken writes base issuing whole ws → FilesNamed base issuing whole before now tells input output (named reads writes names ws)
     named_files [] [] h k r q files = tt
     named_files (name ∷ names) (w ∷ ws) h k r q files = (
       (
         left w.back.0,
-        subst (λ (o : Option (List ℕ)). FileRan base whole w.status (input name) (left w.back.0) (told tells []) o) (sym k.0)
-            (subst (λ (o : Option (List ℕ)). FileRan base whole w.status (input name) (left w.back.0) o (taken w.back.1)) h.0.empty
-            (subst (λ (o : Option (List ℕ)). FileRan base whole w.status o (left w.back.0) (taken w.given.1) (taken w.back.1)) h.0.bytes files.0.0)),
+        subst (λ (n : ℕ). FileRan base whole (Rose 0 (reads w.back.0)) (Rose n (writes w.back.1)) w.status (input name) (left w.back.0) (told tells []) (output (output_name name))) h.0.no_writes
+            (subst (λ (n : ℕ). FileRan base whole (Rose n (reads w.back.0)) (Rose (writes w.given.1) (writes w.back.1)) w.status (input name) (left w.back.0) (told tells []) (output (output_name name))) h.0.no_reads
+            (subst (λ (o : Option (List ℕ)). FileRan base whole (Rose (reads w.given.0) (reads w.back.0)) (Rose (writes w.given.1) (writes w.back.1)) w.status (input name) (left w.back.0) (told tells []) o) (sym k.0)
+            (subst (λ (o : Option (List ℕ)). FileRan base whole (Rose (reads w.given.0) (reads w.back.0)) (Rose (writes w.given.1) (writes w.back.1)) w.status (input name) (left w.back.0) o (taken w.back.1)) h.0.empty
+            (subst (λ (o : Option (List ℕ)). FileRan base whole (Rose (reads w.given.0) (reads w.back.0)) (Rose (writes w.given.1) (writes w.back.1)) w.status o (left w.back.0) (taken w.given.1) (taken w.back.1)) h.0.bytes files.0.0)))),
       ),
       named_stops name w h.0 files.0.1 r.0 q.0,
       named_files names ws h.1 k.1 r.1 q.1 files.1,
@@ -195,15 +200,15 @@ module _ {I K : Type 0} (left : I → Option (List ℕ)) (reads : I → ℕ) (ta
     named_files (name ∷ names) [] h k r q files = absurd h
 
   -- ---- a run, under names
-  pub named_run : (opened : OpenedDisks) (first second : Option History) (before now : FaultCounts) (base : Position) (entries : List Accepted) (halted : Bool) (status : Status) (decks : ℕ) (names : List (List ℕ)) (files outs : List (I × K)) (old : List ℕ → Option (List ℕ))
+  pub named_run : (opened : OpenedDisks) (first second : Option History) (before now : FaultCounts) (base : Position) (issuing : Issuing) (entries : List Accepted) (halted : Bool) (status : Status) (decks : ℕ) (names : List (List ℕ)) (files outs : List (I × K)) (old : List ℕ → Option (List ℕ))
       → decks ≤ length files → AreNew left reads taken writes tells input names files → AreKept taken output names outs
-      → RunsTogether left reads taken writes base entries halted status (take decks files) (drop decks files) outs
+      → RunsTogether left reads taken writes base issuing entries halted status (take decks files) (drop decks files) outs
       → RoseFor (λ file. reads file.0) before.reads now.reads outs → RoseFor (λ file. writes file.1) before.writes now.writes outs
       → (halted ≡ true → RoseEither before.first now.first before.second now.second)
       → AreLegal base entries → StandAt halted first second (reached base (all_of entries halted)) → StaysAlong base (all_of entries halted) opened.idle opened.live (pick opened.idle.side first second)
       → pick opened.idle.side second first ≡ opened.idle.told → OthersStay names old output
-      → NamedRan opened first second before now base tells status (record { decks = decks; names = names }) input old output
-  named_run opened first second before now base entries halted status decks names files outs old enough new kept together reads_rose writes_rose rose legal stand moments idle others =
+      → NamedRan opened first second before now base tells status (record { issuing = issuing; decks = decks; names = names }) input old output
+  named_run opened first second before now base issuing entries halted status decks names files outs old enough new kept together reads_rose writes_rose rose legal stand moments idle others =
       let dw = together.deck_workers in
       let fw = together.file_workers in
       let givens : files ≡ map (λ w. w.given) dw ++ map (λ w. w.given) fw =
@@ -230,9 +235,9 @@ module _ {I K : Type 0} (left : I → Option (List ℕ)) (reads : I → ℕ) (ta
         decks = named reads writes (take decks names) dw;
         files = named reads writes (drop decks names) fw;
         are_decks =
-            named_decks base (all_of entries halted) before now 0 (take decks names) dw news.0 keeps.0 failed_reads.0 failed_writes.0 together.are_decks;
+            named_decks base issuing (all_of entries halted) before now 0 (take decks names) dw news.0 keeps.0 failed_reads.0 failed_writes.0 together.are_decks;
         are_files =
-            named_files base (all_of entries halted) before now (drop decks names) fw news.1 keeps.1 failed_reads.1 failed_writes.1 together.are_files;
+            named_files base issuing (all_of entries halted) before now (drop decks names) fw news.1 keeps.1 failed_reads.1 failed_writes.1 together.are_files;
         of_decks = subst (λ (n : ℕ). All (λ (entry : Accepted). entry.deck < n) entries) (length-take-le decks files enough) together.of_decks;
         deck_names_are = named_names (take decks names) dw news.0;
         file_names_are = named_names (drop decks names) fw news.1;
@@ -243,6 +248,7 @@ module _ {I K : Type 0} (left : I → Option (List ℕ)) (reads : I → ℕ) (ta
             ∙ ap (λ xs. map (λ (w : Named). w.status) (named reads writes (take decks names) dw) ++ xs) (sym (named_statuses (drop decks names) fw news.1))
             ∙ sym (map-append (λ (w : Named). w.status) (named reads writes (take decks names) dw) (named reads writes (drop decks names) fw)));
         one_fault = named_faults (take decks names) dw news.0 ∙ together.one_fault;
+        halted_status = together.halted_status;
         rose = rose;
         legal = legal;
         stand = stand;
@@ -252,16 +258,16 @@ module _ {I K : Type 0} (left : I → Option (List ℕ)) (reads : I → ℕ) (ta
       }
 
 -- ---- what faults come of
-module _ {I K : Type 0} (left : I → Option (List ℕ)) (reads : I → ℕ) (taken : K → Option (List ℕ)) (writes : K → ℕ) (base : Position) where
+module _ {I K : Type 0} (left : I → Option (List ℕ)) (reads : I → ℕ) (taken : K → Option (List ℕ)) (writes : K → ℕ) (base : Position) (issuing : Issuing) where
   abbrev AreStopped : List (Worked I K) → Type 0
   AreStopped [] = Unit {0}
-  AreStopped (w ∷ ws) = HasStopped left reads taken writes base w × AreStopped ws
+  AreStopped (w ∷ ws) = HasStopped left reads taken writes base issuing w × AreStopped ws
 
-  stopped_decks : (whole : List Event) (deck : ℕ) (ws : List (Worked I K)) → AreDecks left reads taken writes base whole deck ws → AreStopped ws
+  stopped_decks : (whole : List Event) (deck : ℕ) (ws : List (Worked I K)) → AreDecks left reads taken writes base issuing whole deck ws → AreStopped ws
   stopped_decks whole deck [] h = tt
   stopped_decks whole deck (w ∷ ws) h = (h.0.1, stopped_decks whole (suc deck) ws h.1)
 
-  stopped_files : (whole : List Event) (ws : List (Worked I K)) → AreFiles left reads taken writes base whole ws → AreStopped ws
+  stopped_files : (whole : List Event) (ws : List (Worked I K)) → AreFiles left reads taken writes base issuing whole ws → AreStopped ws
   stopped_files whole [] h = tt
   stopped_files whole (w ∷ ws) h = (h.0.1, stopped_files whole ws h.1)
 
@@ -270,7 +276,7 @@ module _ {I K : Type 0} (left : I → Option (List ℕ)) (reads : I → ℕ) (ta
   stopped_append (x ∷ xs) ys h k = (h.0, stopped_append xs ys h.1 k)
 
   -- with a status that none of them has none of them ends
-  no_status : (s : Status) → Done ≢ s → ((w : Worked I K) → HasStopped left reads taken writes base w → w.status ≢ s) → (ws : List (Worked I K)) → AreStopped ws → greatest (map (λ w. w.status) ws) ≢ s
+  no_status : (s : Status) → Done ≢ s → ((w : Worked I K) → HasStopped left reads taken writes base issuing w → w.status ≢ s) → (ws : List (Worked I K)) → AreStopped ws → greatest (map (λ w. w.status) ws) ≢ s
   no_status s done none [] h e = done e
   no_status s done none (w ∷ ws) h e =
       ⊎_elim (none w h.0) (no_status s done none ws h.1) (greater_is w.status (greatest (map (λ (v : Worked I K). v.status) ws)) s e)
@@ -305,7 +311,7 @@ module _ {I K : Type 0} (left : I → Option (List ℕ)) (reads : I → ℕ) (ta
     writes_of (name ∷ names) [] h new e rose = absurd new
 
   -- a run as a whole
-  module _ (entries : List Accepted) (halted : Bool) (status : Status) (decks : ℕ) (files outs : List (I × K)) (together : RunsTogether left reads taken writes base entries halted status (take decks files) (drop decks files) outs) where
+  module _ (entries : List Accepted) (halted : Bool) (status : Status) (decks : ℕ) (files outs : List (I × K)) (together : RunsTogether left reads taken writes base issuing entries halted status (take decks files) (drop decks files) outs) where
     all_stopped : AreStopped (together.deck_workers ++ together.file_workers)
     all_stopped =
         stopped_append together.deck_workers together.file_workers (stopped_decks (all_of entries halted) 0 together.deck_workers together.are_decks) (stopped_files (all_of entries halted) together.file_workers together.are_files)

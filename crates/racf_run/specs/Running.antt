@@ -1,5 +1,5 @@
 -- The words `run K NAME..`, and what the program does to the shelf and to the database for them.
-use Rattle.std.specs.Prelude.{◌≡◌, ◌⊎◌, ℕ, ◌+◌, ◌<◌, suc, nat_le, Bool, true, ◌&&◌, not, Option, Some, None, option_and_then, Result, List, [], ◌∷◌, ◌++◌, length, take, drop, map, codes, if◌then◌else◌}
+use Rattle.std.specs.Prelude.{◌≡◌, ◌⊎◌, ℕ, ◌+◌, ◌<◌, ◌≤◌, suc, nat_le, Bool, true, ◌&&◌, not, Option, Some, None, option_and_then, Result, List, [], ◌∷◌, ◌++◌, length, take, drop, map, codes, if◌then◌else◌}
 use Rattle.std.specs.List.{All, sum_by}
 use Rattle.std.specs.Str.{bytes_eq}
 use Rattle.racf_outside.specs.Causes.{Rose}
@@ -19,6 +19,7 @@ use Rattle.racf_stream.specs.declared.issuer.Issuing.{Issuing}
 use Rattle.racf_stream.specs.declared.issuer.Issuing.TheVariants.{Free}
 use Rattle.racf_stream.specs.declared.status.Status.{Status}
 use Rattle.racf_stream.specs.declared.status.Status.TheVariants.{ReadFault, WriteFault, NoMemory}
+use Rattle.racf_stream.specs.Status.{code_of}
 use Rattle.racf_threads.specs.Outputs.{DeckRan, FileRan, StopsFor}
 use Rattle.racf_threads.specs.Together.{greatest}
 use Rattle.racf_run.specs.declared.opening.Unopened.{Unopened}
@@ -82,10 +83,10 @@ pub record Named : Type 0 where
   pub reads : ℕ
   pub writes : ℕ
 
--- The run began at `base`, and its history is `whole`; `input` is what an input has to give, and `output` what the
+-- The run began at `base`, `issuing` says who gave the commands of its decks, and its history is `whole`; `input` is what an input has to give, and `output` what the
 -- output that was given back under a name holds, which was new and empty. The faults that were counted of the shelf
 -- were `before`, and are `now`.
-module _ (base : Position) (whole : List Event) (before now : FaultCounts) (tells : Bool) (input output : List ℕ → Option (List ℕ)) where
+module _ (base : Position) (issuing : Issuing) (whole : List Event) (before now : FaultCounts) (tells : Bool) (input output : List ℕ → Option (List ℕ)) where
   -- A worker stopped for one of its causes; where its input or its output failed, the shelf has counted it.
   pub record NamedStops (w : Named) : Type 0 where
     pub stops : StopsFor w.status (input w.name) 0 w.reads 0 w.writes
@@ -96,19 +97,19 @@ module _ (base : Position) (whole : List Event) (before now : FaultCounts) (tell
   abbrev pub DecksNamed : (deck : ℕ) → List Named → Type 0
   DecksNamed deck [] = Unit {0}
   DecksNamed deck (w ∷ workers) =
-      ((left : Option (List ℕ)) × DeckRan base whole deck w.faults w.status (input w.name) left (told tells []) (output (output_name w.name)))
+      ((left : Option (List ℕ)) × DeckRan base issuing whole deck w.faults (Rose 0 w.reads) (Rose 0 w.writes) w.status (input w.name) left (told tells []) (output (output_name w.name)))
       × NamedStops w × DecksNamed (suc deck) workers
 
   abbrev pub FilesNamed : List Named → Type 0
   FilesNamed [] = Unit {0}
   FilesNamed (w ∷ workers) =
-      ((left : Option (List ℕ)) × FileRan base whole w.status (input w.name) left (told tells []) (output (output_name w.name)))
+      ((left : Option (List ℕ)) × FileRan base whole (Rose 0 w.reads) (Rose 0 w.writes) w.status (input w.name) left (told tells []) (output (output_name w.name)))
       × NamedStops w × FilesNamed workers
 
 -- Decks and request files of these names were worked: the output of each is that of its worker, in one and the same
 -- history, whose entries are those of these decks and legal from the base on. The status is the greatest of the
--- workers', and of all lines one says DISKFAULT where a disk failed a command, else none; then the count of its faults
--- has risen. Whatever a crash now leaves of both disks stands for the
+-- workers', and of all lines one says DISKFAULT where a disk failed a command, else none; then the status tells it, or is
+-- greater, and the count of its faults has risen. Whatever a crash now leaves of both disks stands for the
 -- position behind that history; and at every moment since the disks told `opened`, for where some beginning of it
 -- leads, or for one command more that a disk failed; the disk that doesn't count stays as it is. The outputs told `old`
 -- before and tell `new` now, and those of other names are as they were.
@@ -117,13 +118,14 @@ pub record NamedRan (opened : OpenedDisks) (first second : Option History) (befo
   pub halted : Bool
   pub decks : List Named
   pub files : List Named
-  pub are_decks : DecksNamed base (all_of entries halted) before now tells input new 0 decks
-  pub are_files : FilesNamed base (all_of entries halted) before now tells input new files
+  pub are_decks : DecksNamed base asked.issuing (all_of entries halted) before now tells input new 0 decks
+  pub are_files : FilesNamed base asked.issuing (all_of entries halted) before now tells input new files
   pub of_decks : All (λ entry. entry.deck < asked.decks) entries
   pub deck_names_are : map (λ w. w.name) decks ≡ deck_names asked
   pub file_names_are : map (λ w. w.name) files ≡ request_names asked
   pub status_is : status ≡ greatest (map (λ w. w.status) (decks ++ files))
   pub one_fault : sum_by (λ w. w.faults) decks ≡ fault_count halted
+  pub halted_status : halted ≡ true → 20 ≤ code_of status
   pub rose : halted ≡ true → RoseEither before.first now.first before.second now.second
   pub legal : AreLegal base entries
   pub stand : StandAt halted first second (reached base (all_of entries halted))

@@ -67,7 +67,7 @@ module _ {I K : Type 0} (left : I → Option (List ℕ)) (reads : I → ℕ) (ta
   decks_gave : (deck : ℕ) (decks : List (I × K)) → DecksGave left reads taken writes base issuing (all_of [] false) deck (map idle decks) (passes_from deck (length decks))
   decks_gave deck [] = tt
   decks_gave deck (given ∷ decks) = (
-    record { seen = []; gives = none_given base issuing [] (new_pass deck) (ReadFailed left reads taken writes base issuing (idle given)) (WriteFailed left reads taken writes base issuing (idle given)) (left given.0) (left given.0) (taken given.1); later = seen_nothing },
+    record { seen = []; gives = none_given base issuing [] (new_pass deck) (ReadFailed left reads taken writes base issuing (idle given)) (WriteFailed left reads taken writes base issuing (idle given)) (left given.0) (left given.0) (taken given.1); later = seen_nothing; told = λ some. absurd (omega arith) },
     stopped given,
     refl,
     decks_gave (suc deck) decks,
@@ -93,5 +93,6 @@ module _ {I K : Type 0} (left : I → Option (List ℕ)) (reads : I → ℕ) (ta
         requests_are = given_again requests;
         outs_are = ap (map (λ (w : Worked I K). w.back)) (sym both) ∙ back_again (decks ++ requests);
         status_is = no_memory (decks ++ requests) some ∙ ap (λ (l : List (Worked I K)). greatest (map (λ w. w.status) l)) both;
+        halted_status = λ halts. absurd (cc);
         one_fault = faults_ran left reads taken writes base issuing [] false (map idle decks) (passes_from 0 (length decks)) (decks_gave 0 decks) (none_failed (length decks) 0);
       }

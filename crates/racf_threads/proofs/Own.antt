@@ -1,7 +1,7 @@
 -- In a run in which as many commands were accepted as there are entries, the entries of each deck are exactly those of
 -- its accepted commands.
-use Rattle.std.proofs.Common.{◌≡◌, ℕ, suc, ◌+◌, ◌<◌, ◌≤◌, Bool, List, [], ◌∷◌, length, refl, sym, ◌∙◌, ap, subst, arith}
-use Rattle.std.specs.Prelude.{Option}
+use Rattle.std.proofs.Common.{◌≡◌, ℕ, zero, suc, ◌+◌, ◌<◌, ◌≤◌, Bool, List, [], ◌∷◌, ◌++◌, map, length, inl, inr, refl, sym, ◌∙◌, ap, subst, arith}
+use Rattle.std.specs.Prelude.{Option, ◌⊎◌}
 use Rattle.std.specs.List.{All, sum_by}
 use Rattle.std.proofs.lemmas.List.Sums.{sum_by-cons}
 use Rattle.racf_desk.specs.Position.{Position}
@@ -13,9 +13,11 @@ use Rattle.racroute.specs.Core.{Passing}
 use Rattle.racroute.specs.Kept.{fault_count}
 use Rattle.racf_stream.specs.declared.issuer.Issuing.{Issuing}
 use Rattle.racf_stream.specs.declared.status.Status.{Status}
+use Rattle.racf_stream.specs.Status.{code_of}
 use Rattle.racf_workers.proofs.DeckLaws.{stays_marked}
 use Rattle.racf_threads.specs.Outputs.{entries_by, made_in, state_of, DeckRan}
-use Rattle.racf_threads.specs.Together.{Worked, ReadFailed, WriteFailed, AreDecks}
+use Rattle.racf_threads.specs.Together.{Worked, ReadFailed, WriteFailed, AreDecks, greatest}
+use Rattle.racf_threads.proofs.Statuses.{one_of}
 use Rattle.racf_threads.proofs.Entries.{IsWithin, within_later, count_from, count_all, count_split, all_below}
 use Rattle.racf_threads.proofs.Turns.{KeptAt, kept_behind}
 use Rattle.racf_threads.proofs.Gave.{DeckGave, DecksGave}
@@ -51,6 +53,7 @@ module _ (base : Position) (issuing : Issuing) (whole : List Event) (deck : ℕ)
         later = gave.later;
         own = within_whole.whole (subst (λ (n : ℕ). length (entries_by deck (entries_of whole)) ≤ n) commands_are le);
         counted = sym at_end.failed ∙ (ap (λ (p : Passing). p.faults) gave.gives.ran.stands.counts ∙ sym faults_are);
+        told = λ some. gave.told (omega arith);
         failed = λ h. stays_marked (state_of gave.gives).seen whole seen_before (gave.gives.ran.stands.failed h);
       }
 
@@ -116,6 +119,21 @@ module _ {I K : Type 0} (left : I → Option (List ℕ)) (reads : I → ℕ) (ta
         let sum = sum_by-cons (λ (b : Passing). b.faults) back backs in
         let sum_now = sum_by-cons (λ (v : Worked I K). v.faults) w workers in
         omega arith
+
+  -- Where a disk failed one of their commands, the greatest status tells it, or is greater.
+  pub halted_told : (whole : List Event) (deck : ℕ) (workers others : List (Worked I K)) (backs : List Passing) → DecksGave left reads taken writes base issuing whole deck workers backs
+      → 0 < sum_by (λ (w : Worked I K). w.faults) workers → 20 ≤ code_of (greatest (map (λ (w : Worked I K). w.status) (workers ++ others)))
+  halted_told whole deck [] others backs gave some = absurd (omega arith)
+  halted_told whole deck (w ∷ workers) others [] gave some = absurd gave
+  halted_told whole deck (w ∷ workers) others (back ∷ backs) gave some =
+      let rest = greatest (map (λ (v : Worked I K). v.status) (workers ++ others)) in
+      let sum = sum_by-cons (λ (v : Worked I K). v.faults) w workers in
+      one_of w.status rest (is_some w.faults (sum_by (λ (v : Worked I K). v.faults) workers) (omega arith)
+      (λ here. gave.0.told (let same = gave.2 in omega arith)) (halted_told whole (suc deck) workers others backs gave.3))
+    where
+      is_some : (n m : ℕ) → 0 < n + m → {A B : Type 0} → (0 < n → A) → (0 < m → B) → A ⊎ B
+      is_some zero m some f g = inr (g (omega arith))
+      is_some (suc n) m some f g = inl (f (omega arith))
 
   -- The decks of a run whose passes have counted as many accepted commands as there are entries.
   pub decks_ran : (entries : List Accepted) (halted : Bool) (workers : List (Worked I K)) (backs : List Passing) → DecksGave left reads taken writes base issuing (all_of entries halted) 0 workers backs

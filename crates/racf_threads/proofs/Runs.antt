@@ -20,7 +20,7 @@ use Rattle.racf_threads.specs.Outputs.{new_pass}
 use Rattle.racf_threads.specs.Together.{Worked, AreFiles, RunsTogether, greater, greatest}
 use Rattle.racf_threads.specs.Working.{Working, new_worker, new_workers, Gave, Answered, HasWorked}
 use Rattle.racf_threads.proofs.Gave.{DecksGave}
-use Rattle.racf_threads.proofs.Own.{decks_ran, of_decks, faults_ran}
+use Rattle.racf_threads.proofs.Own.{decks_ran, of_decks, faults_ran, halted_told}
 
 -- ---- passes
 
@@ -155,7 +155,7 @@ module _ {I K : Type 0} (left : I → Option (List ℕ)) (reads : I → ℕ) (ta
         workers = w ∷ more.workers;
         backs = one.counted ∷ more.backs;
         rest = more.rest;
-        gave = (record { seen = new.caller.events; gives = one.gives; later = seen.0 }, one.stops, refl, more.gave);
+        gave = (record { seen = new.caller.events; gives = one.gives; later = seen.0; told = one.told }, one.stops, refl, more.gave);
         given_are = ap (λ (l : List (I × K)). given ∷ l) more.given_are;
         did = more.did;
         seen = more.seen;
@@ -180,6 +180,8 @@ module _ {I K : Type 0} (left : I → Option (List ℕ)) (reads : I → ℕ) (ta
       let backs_are : filter_map (λ (w : Working I K). w.end) news ≡ d.backs = d.ends ∙ (ap (λ (l : List Passing). d.backs ++ l) f.ends ∙ append-nil d.backs) in
       let statuses_are : map (λ (w : Working I K). w.status) news ≡ map (λ (w : Worked I K). w.status) (d.workers ++ f.workers) =
       d.status ∙ (ap (λ (l : List Status). map (λ (w : Worked I K). w.status) d.workers ++ l) f.status ∙ sym (over_both (λ (w : Worked I K). w.status) d.workers f.workers)) in
+      let one_fault : sum_by (λ (w : Worked I K). w.faults) d.workers ≡ fault_count halted =
+      faults_ran left reads taken writes base issuing entries halted d.workers d.backs d.gave (subst (λ (l : List Passing). sum_by (λ (p : Passing). p.faults) l ≡ fault_count halted) backs_are faults) in
       record {
         deck_workers = d.workers;
         file_workers = f.workers;
@@ -191,7 +193,9 @@ module _ {I K : Type 0} (left : I → Option (List ℕ)) (reads : I → ℕ) (ta
         requests_are = f.given_are;
         outs_are = over_both (λ (w : Worked I K). w.back) d.workers f.workers ∙ sym (d.outs ∙ ap (λ (l : List (I × K)). map (λ (w : Worked I K). w.back) d.workers ++ l) f.outs);
         status_is = ap greatest statuses_are;
-        one_fault = faults_ran left reads taken writes base issuing entries halted d.workers d.backs d.gave (subst (λ (l : List Passing). sum_by (λ (p : Passing). p.faults) l ≡ fault_count halted) backs_are faults);
+        one_fault = one_fault;
+        halted_status = λ halts.
+            halted_told left reads taken writes base issuing whole 0 d.workers f.workers d.backs d.gave (let one = one_fault ∙ ap fault_count halts in omega arith);
       }
 
   -- As many passes are handed in as there are decks.

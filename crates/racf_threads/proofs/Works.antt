@@ -1,5 +1,5 @@
 -- What one worker did, put together of what its calls ensure.
-use Rattle.std.proofs.Common.{◌≡◌, ◌≢◌, ℕ, true, List, Some, None, refl, sym, subst}
+use Rattle.std.proofs.Common.{◌≡◌, ◌≢◌, ◌<◌, ◌≤◌, ℕ, true, List, Some, None, refl, sym, subst}
 use Rattle.std.specs.Prelude.{Option}
 use Rattle.racf_outside.specs.Causes.{Rose}
 use Rattle.racf_desk.specs.Position.{Position}
@@ -10,6 +10,7 @@ use Rattle.racroute.specs.Core.{Passing}
 use Rattle.racf_stream.specs.declared.issuer.Issuing.{Issuing}
 use Rattle.racf_stream.specs.declared.status.Status.{Status}
 use Rattle.racf_stream.specs.declared.status.Status.TheVariants as statuses
+use Rattle.racf_stream.specs.Status.{code_of}
 use Rattle.racf_workers.specs.Deck.{Gives}
 use Rattle.racf_workers.specs.RequestFile.{Answers}
 use Rattle.racf_threads.specs.Outputs.{StopsFor}
@@ -30,13 +31,13 @@ module _ {I K : Type 0} (left : I → Option (List ℕ)) (reads : I → ℕ) (ta
       → old.pass ≡ Some pass → old.files ≡ Some given → old.caller.events ≡ seen
       → new ≡ record { caller = caller; pass = rest; end = Some counted; files = Some back; status = status }
       → Gives base issuing seen caller.events pass counted (Rose (reads given.0) (reads back.0)) (Rose (writes given.1) (writes back.1)) status (left given.0) (left back.0) (taken given.1) (taken back.1)
-      → (status ≡ statuses.DiskFault → mark_of caller.events ≡ Some true)
+      → (status ≡ statuses.DiskFault → mark_of caller.events ≡ Some true) → (pass.faults < counted.faults → 20 ≤ code_of status)
       → StopsFor status (left given.0) (reads given.0) (reads back.0) (writes given.1) (writes back.1) → HasWorked left reads taken writes base issuing old new
-  gave old new pass counted rest given back seen caller status pass_is files_are seen_is new_is gives failed stops =
+  gave old new pass counted rest given back seen caller status pass_is files_are seen_is new_is gives failed told stops =
       let done : Working I K = record { caller = caller; pass = rest; end = Some counted; files = Some back; status = status } in
       let G : Working I K → Type 0 = λ w. Gave left reads taken writes base issuing pass given old w in
       let at_done : G done =
-      record { back = back; counted = counted; files_are = refl; end_is = refl; failed = failed; gives = rw seen_is gives; stops = stops } in
+      record { back = back; counted = counted; files_are = refl; end_is = refl; failed = failed; told = told; gives = rw seen_is gives; stops = stops } in
       by_kind old new (Some pass) (Some given) pass_is files_are (subst G (sym new_is) at_done)
 
   pub answered : (old new : Working I K) (rest end : Option Passing) (given back : I × K) (seen : List Event) (caller : Seeing) (status : Status)

@@ -12,6 +12,7 @@ use Rattle.racf_stream.specs.declared.issuer.Issuing.{Issuing}
 use Rattle.racf_stream.specs.declared.status.Status.{Status}
 use Rattle.racf_stream.specs.declared.status.Status.TheVariants as statuses
 use Rattle.racf_stream.specs.Runs.{after, longest_input}
+use Rattle.racf_stream.specs.Status.{code_of}
 use Rattle.racf_workers.specs.Deck.{DeckState, Turn, new_deck, deck_machine, Gives}
 use Rattle.racf_workers.specs.RequestFile.{Answers}
 
@@ -61,7 +62,7 @@ state_of {base} {issuing} {before} {pass = pass} gives = after (deck_machine bas
 -- its sink, failed. Its output is what its commands were told, each behind
 -- some list that extends what its caller had seen then, and what the caller saw is a beginning of the whole. The deck's
 -- entries are exactly those of its accepted commands. So many of its lines say DISKFAULT, and one that says so, or
--- HALTED, stands only where a disk has failed a command.
+-- HALTED, stands only where a disk has failed a command; the status of one that says DISKFAULT tells it, or is greater.
 pub record DeckRan (base : Position) (issuing : Issuing) (whole : List Event) (deck faults : ℕ) (read_failed write_failed : Type 0) (status : Status) (source left sunk now : Option (List ℕ)) : Type 0 where
   pub seen : List Event
   pub back : Passing
@@ -70,6 +71,7 @@ pub record DeckRan (base : Position) (issuing : Issuing) (whole : List Event) (d
   pub own : entries_by deck (entries_of whole) ≡ made_in (state_of gives).turns
   pub counted : faults_in (state_of gives).turns ≡ faults
   pub failed : (state_of gives).has_failed ≡ true → mark_of whole ≡ Some true
+  pub told : 0 < faults → 20 ≤ code_of status
 
 -- The worker of a request file in such a run. Its output is what its lines print, each answered at some front of the
 -- history that its caller had seen then; the fronts only grow, and are beginnings of the whole.

@@ -1,5 +1,5 @@
 -- A run of decks and request files: one history, of which each output tells a part.
-use Rattle.std.specs.Prelude.{◌≡◌, ℕ, suc, ◌<◌, nat_lt, Bool, false, List, [], ◌∷◌, ◌++◌, length, map, Option, if◌then◌else◌}
+use Rattle.std.specs.Prelude.{◌≡◌, ℕ, suc, ◌<◌, ◌≤◌, nat_lt, Bool, true, false, List, [], ◌∷◌, ◌++◌, length, map, Option, if◌then◌else◌}
 use Rattle.std.specs.List.{All, sum_by}
 use Rattle.racf_outside.specs.Causes.{Rose}
 use Rattle.racf_desk.specs.Position.{Position}
@@ -67,7 +67,7 @@ module _ {I K : Type 0} (left : I → Option (List ℕ)) (reads : I → ℕ) (ta
   -- A run whose history is these entries, and has ended so: each output is that of its worker, in one and the same
   -- history, each entry of which is of one of these decks; all that was given is given back, in its order, decks before
   -- request files; the status is the greatest of the workers'; and of all lines one says DISKFAULT where a disk failed a
-  -- command, else none.
+  -- command, else none, and then the status tells it, or is greater.
   pub record RunsTogether (entries : List Accepted) (halted : Bool) (status : Status) (decks requests outs : List (I × K)) : Type 0 where
     pub deck_workers : List (Worked I K)
     pub file_workers : List (Worked I K)
@@ -79,6 +79,7 @@ module _ {I K : Type 0} (left : I → Option (List ℕ)) (reads : I → ℕ) (ta
     pub outs_are : map (λ w. w.back) (deck_workers ++ file_workers) ≡ outs
     pub status_is : status ≡ greatest (map (λ w. w.status) (deck_workers ++ file_workers))
     pub one_fault : sum_by (λ w. w.faults) deck_workers ≡ fault_count halted
+    pub halted_status : halted ≡ true → 20 ≤ code_of status
 
 -- There was no memory for the list of outputs: nothing was read, written or accepted, and no output is given back.
 pub record HasNoRoom {I K : Type 0} (entries : List Accepted) (halted : Bool) (status : Status) (outs : List (I × K)) : Type 0 where

@@ -17,7 +17,7 @@ returns-in-Some-take g c =
     c.self.inside.caller.events c.give-status.new.caller c.give-status.result.0
     (sym (ap (λ (w : Working g.row.I.Denot g.row.K.Denot). w.pass) is) ∙ (sym c.take-2.ensures.value ∙ c.in-Some-take.is))
     (sym (ap (λ (w : Working g.row.I.Denot g.row.K.Denot). w.files) is) ∙ (sym c.take.ensures.value ∙ c.in-Some.is))
-    (sym (ap (λ (w : Working g.row.I.Denot g.row.K.Denot). w.caller.events) is)) c.leave.ensures c.give-status.ensures.gives c.give-status.ensures.failed c.give-status.ensures.stops
+    (sym (ap (λ (w : Working g.row.I.Denot g.row.K.Denot). w.caller.events) is)) c.leave.ensures c.give-status.ensures.gives c.give-status.ensures.failed c.give-status.ensures.told c.give-status.ensures.stops
 
 -- a request file
 pub returns-in-None : goal.returns-in-None

@@ -4,12 +4,14 @@ ghost use Rattle.racf_run.specs.Racf.{script_files, IsWholeOutput, OpensDatabase
 ghost use Rattle.racf_stream.specs.Script.{is_whole};
 
 use crate::desk_tests::{never_disks, new_desk};
+use access_levels::Id;
 use racf_desk::Desk;
 use racf_outside::{
     Disk, Failed, Failing, FileShelf, MemoryDisk, MemoryShelf, MemorySink, MemorySource, NeverDisk,
     Shelf, Source, Two,
 };
 use racf_run::{Idle, Status, racf, script};
+use racf_stream::Issuing;
 use std::alloc::Global;
 use std::process::Abort;
 use std::sync::Wait;
@@ -235,17 +237,18 @@ fn source(rt: &(impl AllocGlobal + Abort), bytes: &[u8], read: u64) -> MemorySou
     MemorySource::new(bytes, numbers(rt, read))
 }
 
-/// The status and the output of a stream at a desk that nothing happened at.
+/// The status and the output of a stream at a desk that nothing happened at, whose commands are given so.
 fn worked(
     alloc: Global,
     desk: Desk<NeverDisk>,
     source: MemorySource,
     mut sink: MemorySink,
+    issuing: Issuing,
 ) -> (Status, Vec<u8>)
     requires running { desk.halted ≡ false }
     requires settled { desk.committed ≡ false }
 {
-    let (status, _source, desk) = script(alloc, source, &mut sink, desk);
+    let (status, _source, desk) = script(alloc, source, &mut sink, desk, issuing);
     let _ = desk.into_disks();
     (status, sink.into_bytes())
 }
@@ -259,7 +262,7 @@ fn ends(rt: &(impl AllocGlobal + Abort), stream: Worked<'_>) -> bool {
     let (input, read, write, output, wanted) = stream;
     let source = source(rt, input, read);
     let sink = MemorySink::new(rt.alloc(), numbers(rt, write));
-    let (status, written) = worked(rt.alloc(), new_desk(rt), source, sink);
+    let (status, written) = worked(rt.alloc(), new_desk(rt), source, sink, Issuing::Free);
     status == wanted && written.as_slice() == output.as_bytes()
 }
 
@@ -352,7 +355,14 @@ const TYPED: &[u8] = b"VERIFY A IBMUSER\nVERIFY B IBMUSER\nVERIFY C IBMUSER\n";
 fn is_replied_first(rt: &(impl AllocGlobal + Abort), write: u64, read: u64, length: usize) -> bool {
     let inner = source(rt, TYPED, read);
     let mut sink = MemorySink::new(rt.alloc(), numbers(rt, write));
-    let (status, source, desk) = script(rt.alloc(), Typed { inner }, &mut sink, new_desk(rt));
+    let desk = new_desk(rt);
+    let (status, source, desk) = script(
+        rt.alloc(),
+        Typed { inner },
+        &mut sink,
+        desk,
+        Issuing::Free,
+    );
     let _ = desk.into_disks();
     status == Status::WriteFault && source.inner.faults() == 0 && sink.bytes().len() == length
 }
@@ -369,8 +379,72 @@ fn replies_before_it_reads_again(rt: HostRuntime) {
 fn is_refused_at_last(rt: &(impl AllocGlobal + Abort), input: &str, last: &[u8]) -> bool {
     let source = source(rt, input.as_bytes(), 0);
     let sink = MemorySink::new(rt.alloc(), Vec::new(rt.alloc()));
-    let (status, written) = worked(rt.alloc(), new_desk(rt), source, sink);
+    let (status, written) = worked(rt.alloc(), new_desk(rt), source, sink, Issuing::Free);
     status == Status::Refusals && written.as_slice().ends_with(last)
+}
+
+/// A stream whose issuer is fixed: his ID, the input, its output, and how it ends.
+type Given<'a> = (&'a [u8], &'a str, &'a str, Status);
+
+/// Where the issuer is fixed, no line names another, whatever follows its first word; a command that goes on takes such
+/// a line as its own; and whether he is a user is judged at each command.
+const GIVEN: [Given; 4] = [
+    (
+        b"ANN",
+        "AU BOB\n*ISSUER IBMUSER\nAU BOB\n*issuer\n*ISSUER A,B\nVERIFY A IBMUSER\n",
+        "0 REFUSED ISSUERUNKNOWN ANN\n0 REFUSED ISSUERFIXED\n0 REFUSED ISSUERUNKNOWN ANN\n0 REFUSED ISSUERFIXED\n0 REFUSED ISSUERFIXED\n0 0 VERIFIED\n",
+        Status::Refusals,
+    ),
+    (
+        b"IBMUSER",
+        "AU ANN\n*ISSUER ANN\nAU BOB\n",
+        "1 ACCEPTED\n1 REFUSED ISSUERFIXED\n2 ACCEPTED\n",
+        Status::Refusals,
+    ),
+    (
+        b"IBMUSER",
+        "AU -\n*ISSUER ANN\n",
+        "0 REFUSED SYNTAX BADVALUE 4\n",
+        Status::Refusals,
+    ),
+    (
+        b"ANN",
+        "/* x\nVERIFY A IBMUSER\n",
+        "0 0 VERIFIED\n",
+        Status::Done,
+    ),
+];
+
+/// Whether the stream ends so.
+fn is_given(rt: &(impl AllocGlobal + Abort), given: Given<'_>) -> bool {
+    let (id, input, output, wanted) = given;
+    let issuing = Issuing::Fixed(Id::read(id).expect(rt, "a lawful ID"));
+    let source = source(rt, input.as_bytes(), 0);
+    let sink = MemorySink::new(rt.alloc(), Vec::new(rt.alloc()));
+    let (status, written) = worked(rt.alloc(), new_desk(rt), source, sink, issuing);
+    status == wanted && written.as_slice() == output.as_bytes()
+}
+
+#[test]
+fn one_gives_all_commands(rt: HostRuntime) {
+    for given in &GIVEN {
+        assert!(rt; is_given(&rt, *given));
+    }
+}
+
+#[test]
+fn a_long_line_is_told_so_where_the_issuer_is_fixed(rt: HostRuntime) {
+    let mut input = String::from_str(rt.alloc(), "*ISSUER ").expect(&rt, "memory");
+    for _ in 0..4096 {
+        assert!(rt; input.push('A').is_ok());
+    }
+    let given = (
+        b"ANN".as_slice(),
+        input.as_str(),
+        "0 REFUSED LINETOOLONG\n",
+        Status::Refusals,
+    );
+    assert!(rt; is_given(&rt, given));
 }
 
 /// Commands that make 7,999 groups beside SYS1, and one more.
@@ -424,6 +498,6 @@ fn gives_up_wherever_memory_is_refused(rt: HostRuntime) {
     let Ok(desk) = Desk::format(rt.alloc(), never_disks()) else {
         return;
     };
-    let (status, written) = worked(rt.alloc(), desk, source, sink);
+    let (status, written) = worked(rt.alloc(), desk, source, sink, Issuing::Free);
     assert!(rt; is_whole_or_front(status, written.as_slice()));
 }

@@ -6,6 +6,7 @@ use crate::layout_tests::{Opened, Stand, open_desk, stand_of};
 use racf_desk::Desk;
 use racf_outside::{MemoryDisk, MemorySink, MemorySource, Two};
 use racf_run::{Status, script};
+use racf_stream::Issuing;
 use std::process::Abort;
 
 /// What a line of the stream is.
@@ -178,7 +179,13 @@ fn run_stream(
     let new = held_bytes(rt, &Held::First(EMPTY));
     match Desk::open(rt.alloc(), disks_of(rt, &new, BARE, failing)) {
         Ok(desk) => {
-            let (status, _source, desk) = script(rt.alloc(), source, &mut sink, desk);
+            let (status, _source, desk) = script(
+                rt.alloc(),
+                source,
+                &mut sink,
+                desk,
+                Issuing::Free,
+            );
             let ended = Some((status, desk.halted(), stand_of(&desk)));
             Worked {
                 disks: desk.into_disks(),

@@ -3,14 +3,14 @@ use Rattle.std.proofs.Common.{◌≡◌, ℕ, Bool, true, false, List, Result, O
 use Rattle.std.specs.Prelude.{unwrap_or, if◌then◌else◌}
 use Rattle.std.specs.Result.{result_ok}
 use Rattle.journal_records.specs.declared.record.CommandRecord.{CommandRecord}
-use Rattle.racf_desk.specs.declared.refusal.Refusal.{Refusal}
+use Rattle.racf_desk.specs.declared.refusal.Refusal.{Refusal as OfCommand}
 use Rattle.racf_desk.specs.Position.{position_after}
 use Rattle.request_files.specs.declared.issuer_line.NamedIssuer.{NamedIssuer}
-use Rattle.request_files.specs.declared.line.LineRefusal.{LineRefusal}
-use Rattle.request_files.specs.IssuerLines.{issuer_of_line}
+use Rattle.racf_stream.specs.declared.reply.Refusal.{Refusal}
 use Rattle.racf_stream.specs.declared.reply.Reply.TheVariants.{Halted}
 use Rattle.racf_stream.specs.declared.statement.Statement.{Statement}
 use Rattle.racf_stream.specs.declared.statement.Statement.TheVariants as item
+use Rattle.racf_stream.specs.IssuerLines.{issuer_named}
 use Rattle.racf_stream.specs.Replies.{reply_line}
 use Rattle.racf_stream.specs.Stream as s
 use Rattle.racf_stream.specs.Stream.{Answer, number_of, fails_behind, fail, accept, halt, answer_outcome, outcome_of, issue_by}
@@ -37,7 +37,7 @@ module _ (turn : Turn) where
   command_told text is runs = ap (λ (a : Answer). a.text) (unless_halted text is runs)
 
   -- where the outcome leads, unless a disk fails the command
-  led_by : (o : Result CommandRecord Refusal) → (answer_outcome turn.fault o turn.before).state.halted ≡ false
+  led_by : (o : Result CommandRecord OfCommand) → (answer_outcome turn.fault o turn.before).state.halted ≡ false
       → (answer_outcome turn.fault o turn.before).state.position ≡ position_after turn.before.position o
   led_by (Ok given) h = by (fails_behind turn.fault (number_of turn.before)) h
     where
@@ -64,11 +64,11 @@ module _ (turn : Turn) where
   halted_state text is halts = ap (λ (a : Answer). a.state) (where_halted text is halts)
 
   -- whom the line of an issuer leaves
-  issued_by : (read : Result NamedIssuer LineRefusal) → (issue_by read turn.before).state.issuer ≡ unwrap_or (result_ok read) turn.before.issuer
+  issued_by : (read : Result NamedIssuer Refusal) → (issue_by read turn.before).state.issuer ≡ unwrap_or (result_ok read) turn.before.issuer
   issued_by (Ok issuer) = refl
   issued_by (Err why) = refl
 
-  pub issuer_named : (line : List ℕ) → turn.item ≡ item.Issuer line → (behind turn).issuer ≡ unwrap_or (result_ok (issuer_of_line line)) turn.before.issuer
+  pub issuer_left : (line : List ℕ) → turn.item ≡ item.Issuer line → (behind turn).issuer ≡ unwrap_or (result_ok (issuer_named turn.before.issuing line)) turn.before.issuer
   unfolding s.step
-  issuer_named line is =
-      ap (λ (i : Statement). (s.answer turn.fault i turn.before).state.issuer) is ∙ issued_by (issuer_of_line line)
+  issuer_left line is =
+      ap (λ (i : Statement). (s.answer turn.fault i turn.before).state.issuer) is ∙ issued_by (issuer_named turn.before.issuing line)

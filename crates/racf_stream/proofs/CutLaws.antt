@@ -1,5 +1,5 @@
 -- A front of the output of some items is the output of the first of them, and a front of the next one's text.
-use Rattle.std.proofs.Common.{◌≡◌, ℕ, ◌+◌, ◌-◌, ◌<◌, ◌≤◌, ltb, Bool, true, false, List, [], ◌∷◌, ◌++◌, length, take, refl, sym, ◌∙◌, ap, subst, arith, append_assoc, length-append}
+use Rattle.std.proofs.Common.{◌≡◌, ℕ, ◌+◌, ◌-◌, ◌<◌, ◌≤◌, ltb, Bool, true, false, List, [], ◌∷◌, ◌++◌, length, take, refl, sym, ◌∙◌, ap, arith, append_assoc, length-append}
 use Rattle.std.proofs.lemmas.Bool.{ltb-true, ltb-false}
 use Rattle.std.proofs.lemmas.List.{take-append-le}
 use Rattle.std.proofs.Math.Seq.{take-append-add}
@@ -42,12 +42,3 @@ front_of m (item ∷ items) s n h = by_text (λ k l. front_of m items (m.step it
     by_text later false e =
         let past : length (m.text item s) ≤ n = ltb-false n (length (m.text item s)) e in
         in_later m item items s n past (later (n - length (m.text item s)) (omega (arith, h, length-append (m.text item s) (output m items (m.step item s)))))
-
--- what was written of an output that is cut short in its rest
-pub cut_in : {S I : Type 0} (m : Machine S I) (items : List I) (s : S) (written gathered : List ℕ) (count : ℕ) → output m items s ≡ written ++ gathered → count < length gathered → IsFrontOf m items s (written ++ take count gathered)
-cut_in m items s written gathered count whole short =
-    let n : ℕ = length written + count in
-    let size : length (output m items s) ≡ length written + length gathered = ap length whole ∙ length-append written gathered in
-    let front : take n (output m items s) ≡ written ++ take count gathered =
-    ap (take n) whole ∙ take-append-add written gathered count in
-    subst (λ (bytes : List ℕ). IsFrontOf m items s bytes) front (front_of m items s n (omega (arith, size, short)))

@@ -22,14 +22,13 @@ use Rattle.request_files.specs.Acees.{acee_named, put_refusal}
 use Rattle.request_files.specs.Grammar.{Access, Line, Verify, Auth, Fastauth, Delete, After, Skip, read}
 use Rattle.request_files.specs.Worked as request
 use Rattle.request_files.specs.declared.issuer_line.NamedIssuer.{NamedIssuer}
-use Rattle.request_files.specs.IssuerLines.{issuer_of_line}
 use Rattle.racf_desk.specs.declared.refusal.Refusal.{Refusal as OfCommand}
 use Rattle.racf_stream.specs.declared.statement.Statement.{Statement}
 use Rattle.racf_stream.specs.declared.statement.Statement.TheVariants as item
 use Rattle.racf_stream.specs.declared.reply.Refusal.{Refusal}
 use Rattle.racf_stream.specs.declared.reply.Refusal.TheVariants as refusal
 use Rattle.racf_stream.specs.Replies.{refusal_words, reply_line}
-use Rattle.racf_stream.specs.IssuerLines.{issuer_refusal}
+use Rattle.racf_stream.specs.IssuerLines.{issuer_named}
 use Rattle.racf_stream.specs.Stream as s
 use Rattle.racf_stream.specs.Stream.{State, Answer, number_of}
 use Rattle.racf_stream.specs.Printed.{says_failed}
@@ -166,9 +165,9 @@ unfolding s.command
 says_command fault text before =
     says_either before before.halted (s.halt before) (s.answer_outcome fault (s.outcome_of text before) before) (says_halt before) (says_outcome fault (s.outcome_of text before) before)
 
-says_issue : (read : Result NamedIssuer LineRefusal) (before : State) → Says before (s.issue_by read before)
+says_issue : (read : Result NamedIssuer Refusal) (before : State) → Says before (s.issue_by read before)
 says_issue (Ok issuer) before = says_other before [] refl
-says_issue (Err why) before = says_refuse (issuer_refusal why) before
+says_issue (Err why) before = says_refuse why before
 
 says_request : (text : List ℕ) (before : State) → Says before (s.request text before)
 unfolding s.request
@@ -179,7 +178,7 @@ says_request text before =
 says_answer : (fault : Option ℕ) (i : Statement) (before : State) → Says before (s.answer fault i before)
 says_answer fault (item.Command text) before = says_command fault text before
 says_answer fault (item.Request text) before = says_request text before
-says_answer fault (item.Issuer text) before = says_issue (issuer_of_line text) before
+says_answer fault (item.Issuer text) before = says_issue (issuer_named before.issuing text) before
 says_answer fault item.LineTooLong before = says_refuse refusal.LineTooLong before
 
 pub item_fails : (fault : Option ℕ) (i : Statement) (before : State) → (s.step fault i before).halted ≡ (before.halted || says_failed (s.text fault i before))

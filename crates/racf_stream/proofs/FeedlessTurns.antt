@@ -29,6 +29,8 @@ use Rattle.request_files.specs.Answers.{numbered, refused_words, verified_words,
 use Rattle.request_files.specs.Grammar.{Access, Line, Verify, Auth, Fastauth, Delete, After, Skip, read}
 use Rattle.request_files.specs.Worked as request
 use Rattle.lawful_commands.proofs.RowLists.{all-push}
+use Rattle.racf_stream.specs.declared.issuer.Issuing.{Issuing}
+use Rattle.racf_stream.specs.declared.issuer.Issuing.TheVariants.{Free, Fixed}
 use Rattle.racf_stream.specs.declared.statement.Statement.{Statement}
 use Rattle.racf_stream.specs.declared.statement.Statement.TheVariants as item
 use Rattle.racf_stream.specs.declared.reply.Refusal.{Refusal}
@@ -38,12 +40,12 @@ use Rattle.journal_records.specs.declared.record.CommandRecord.{CommandRecord}
 use Rattle.racf_desk.specs.Outcome.{found_command, command_of_text}
 use Rattle.racf_desk.specs.Position.{Position}
 use Rattle.racf_stream.specs.Replies.{refusal_words, reply_line}
-use Rattle.racf_stream.specs.IssuerLines.{issuer_refusal}
+use Rattle.racf_stream.specs.IssuerLines.{issuer_refusal, named_or_refused, issuer_named, first_issuer}
 use Rattle.racf_stream.specs.Stream as s
 use Rattle.racf_stream.specs.Stream.{State, Answer, number_of}
-use Rattle.racf_stream.specs.Printed.{Turn, turns, input_turns, printed, behind, audit_text, PrintsItsLines}
+use Rattle.racf_stream.specs.Printed.{Turn, turns, input_turns, printed, behind, audit_text, IsSpelled, PrintsItsLines}
 use Rattle.racf_stream.specs.Script.{statements}
-use Rattle.racf_stream.proofs.Feedless.{IsFeedless, decimal-feedless, either, if-map, if-found}
+use Rattle.racf_stream.proofs.Feedless.{IsFeedless, id-feedless, decimal-feedless, either, if-map, if-found}
 use Rattle.racf_stream.proofs.FeedlessRows.{IsFeedlessState}
 use Rattle.racf_stream.proofs.FeedlessOutcomes.{IsFeedlessOutcome, IsFeedlessAccepted, IsFeedlessCommand, syntax-words, outcome-feedless, behind-feedless}
 use Rattle.racf_stream.proofs.FeedlessDecisions.{IsFeedlessAcee, decided-words, fast_decided-words, audit-words, verified-acee}
@@ -207,9 +209,22 @@ issuer_refusal-words : (why : LineRefusal) → IsFeedless (refusal_words (issuer
 issuer_refusal-words (BadLine place) = decimal-feedless place
 issuer_refusal-words other = refl
 
-prints-issue : (read : Result NamedIssuer LineRefusal) (before : State) → IfOk read IsFeedlessNamed → IsGood before → Prints (s.issue_by read before)
+-- Whom a line names, or the words of its refusal.
+abbrev IsFeedlessIssue : Result NamedIssuer Refusal → Type 0
+IsFeedlessIssue (Ok issuer) = IsFeedlessNamed issuer
+IsFeedlessIssue (Err why) = IsFeedless (refusal_words why)
+
+issued-feedless : (read : Result NamedIssuer LineRefusal) → IfOk read IsFeedlessNamed → IsFeedlessIssue (named_or_refused read)
+issued-feedless (Ok issuer) h = h
+issued-feedless (Err why) h = issuer_refusal-words why
+
+named-feedless : (issuing : Issuing) (line : List ℕ) → IsFeedlessIssue (issuer_named issuing line)
+named-feedless Free line = issued-feedless (issuer_of_line line) (issuer-feedless line)
+named-feedless (Fixed id) line = refl
+
+prints-issue : (read : Result NamedIssuer Refusal) (before : State) → IsFeedlessIssue read → IsGood before → Prints (s.issue_by read before)
 prints-issue (Ok issuer) before h good = record { lines = inl refl; good = record { state = good.state; issuer = h.id; group = h.group; acees = good.acees } }
-prints-issue (Err why) before h good = prints-refuse (issuer_refusal why) before (issuer_refusal-words why) good
+prints-issue (Err why) before h good = prints-refuse why before h good
 
 -- ---- the turns of an input
 no_feed : (words : List ℕ) → IsFeedless words → NoFeed words
@@ -231,6 +246,15 @@ its_lines turn (inr (inr (inl is))) =
     })))
 its_lines turn (inr (inr (inr never))) = inr (inr (inr never))
 
+-- the first issuer
+first-feedless : (issuing : Issuing) → IsSpelled issuing → IsFeedless (first_issuer issuing).id
+first-feedless Free h = refl
+first-feedless (Fixed id) h = id-feedless id h
+
+first-group : (issuing : Issuing) → IfSome (first_issuer issuing).group IsFeedless
+first-group Free = tt
+first-group (Fixed id) = tt
+
 -- where the fields of a command that a text spells are lawful
 module _ (lawful : (issuer text : List ℕ) (c : CommandFields) → command_in issuer text ≡ Some c → AreLawfulFields c) (failed : Option ℕ) where
   command-read : (id text : List ℕ) → IsFeedlessCommand (command_of_text id text)
@@ -249,7 +273,7 @@ module _ (lawful : (issuer text : List ℕ) (c : CommandFields) → command_in i
 
   prints-answer : (i : Statement) (before : State) → IsGood before → Prints (s.answer failed i before)
   prints-answer (item.Command text) before good = prints-command text before good
-  prints-answer (item.Issuer text) before good = prints-issue (issuer_of_line text) before (issuer-feedless text) good
+  prints-answer (item.Issuer text) before good = prints-issue (issuer_named before.issuing text) before (named-feedless before.issuing text) good
   prints-answer (item.Request text) before good = prints-request text before good
   prints-answer item.LineTooLong before good = prints-refuse refusal.LineTooLong before refl good
 
@@ -261,7 +285,7 @@ module _ (lawful : (issuer text : List ℕ) (c : CommandFields) → command_in i
       (its_lines (record { fault = failed; item = i; before = before }) prints.lines, turns-from items (s.step failed i before) prints.good)
 
   -- from a base on whose names hold no line feed
-  pub each_line : (base : Position) (bytes : List ℕ) → IsFeedlessState base.image.state → AllByRecursion PrintsItsLines (input_turns failed base bytes)
+  pub each_line : (issuing : Issuing) (base : Position) (bytes : List ℕ) → IsSpelled issuing → IsFeedlessState base.image.state → AllByRecursion PrintsItsLines (input_turns failed issuing base bytes)
   unfolding s.new_stream
-  each_line base bytes are =
-      turns-from (statements.items bytes) (s.new_stream base) (record { state = are; issuer = refl; group = tt; acees = tt })
+  each_line issuing base bytes spelled are =
+      turns-from (statements.items bytes) (s.new_stream issuing base) (record { state = are; issuer = first-feedless issuing spelled; group = first-group issuing; acees = tt })

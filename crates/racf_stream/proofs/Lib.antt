@@ -7,6 +7,7 @@ pub mod Stops
 pub mod MarkLaws
 pub mod Settled
 pub mod CommandLaws
+pub mod IssuingLaws
 pub mod FrontLaws
 pub mod StatementLaws
 pub mod Pieces
@@ -15,6 +16,8 @@ pub mod Processing
 pub mod Settling
 pub mod StreamWalk
 pub mod Moments
+pub mod Doubt
+pub mod Ending
 pub mod ScriptLaws
 pub mod Resting
 pub mod PrintedLaws

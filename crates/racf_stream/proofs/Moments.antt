@@ -12,80 +12,81 @@ use Rattle.racf_desk.specs.Durable.{SameIdle, IdleDisk, idle_of, BesideIdle, Lea
 use Rattle.racf_desk.proofs.IdleLaws.{same_idle, same_idle-then, same_idle-told, beside-weaker}
 use Rattle.racf_desk.specs.Position.{Position}
 use Rattle.racf_desk.specs.Recovery.{StandsFor, StandsForEither}
+use Rattle.racf_stream.specs.declared.issuer.Issuing.{Issuing}
 use Rattle.racf_stream.specs.declared.statement.Statement.{Statement}
 use Rattle.racf_stream.specs.Durable.{StreamOn, MovesBy, StandsForFront, StaysAlong}
 use Rattle.racf_stream.specs.NextStatement.{TakesStatements}
 use Rattle.racf_stream.specs.Runs.{output}
 use Rattle.racf_stream.specs.Script.{stream, statements, fault_at}
 use Rattle.racf_stream.specs.Stream.{State, number_of, new_stream, answer, step}
-use Rattle.racf_stream.proofs.Faults.{step_is}
+use Rattle.racf_stream.proofs.Faults.{step_is, step_few}
 use Rattle.racf_stream.proofs.Walk.{Walk, Walk-none, Walk-items, Walk-first}
 use Rattle.racf_stream.proofs.StreamWalk.{StreamWalk}
 
 -- where the stream is, some front of the statements led
-stands_walked : (base : Position) (source : Option (List ℕ)) (reader : Reader) (s : State) (before now : Option (List ℕ)) (gathered : List ℕ) → Walk (stream None base) source reader s before now gathered
-    → (position : Position) → position ≡ s.position → (one other : List ℕ) → StandsFor position one other → StandsForFront base source one other
-stands_walked base source reader s before now gathered w position is one other stands =
+stands_walked : (issuing : Issuing) (base : Position) (source : Option (List ℕ)) (reader : Reader) (slack : ℕ) (s : State) (before now : Option (List ℕ)) (gathered : List ℕ) → Walk (stream None issuing base) source reader slack s before now gathered
+    → (position : Position) → position ≡ s.position → (one other : List ℕ) → StandsFor position one other → StandsForFront issuing base source one other
+stands_walked issuing base source reader slack s before now gathered w position is one other stands =
     record {
       read = w.read;
       more = reader.unread;
       given = w.given;
       done = w.done;
-      begins = Walk-first (stream None base) source reader s before now gathered w;
+      begins = Walk-first (stream None issuing base) source reader slack s before now gathered w;
       stands = subst (λ p. StandsFor p one other) (is ∙ ap (λ (x : State). x.position) w.state) stands;
     }
 
-new_position : (base : Position) → base ≡ (new_stream base).position
+new_position : (issuing : Issuing) (base : Position) → base ≡ (new_stream issuing base).position
 unfolding new_stream
-new_position base = refl
+new_position issuing base = refl
 
 -- before the first statement
-pub StaysAlong-none : {D : Type 0} (tells : D → Option History) (base : Position) (source : Option (List ℕ)) (store : StoreOn D) → LeavesIt tells store base → StaysAlong tells base source store store
-StaysAlong-none tells base source store leaves =
-    let front : (one other : List ℕ) → StandsFor base one other → StandsForFront base source one other =
-    stands_walked base source (at_start source 0) (new_stream base) None None [] (Walk-none (stream None base) source None 0) base (new_position base) in
-    StaysIn-none (BesideIdle (idle_of tells store) (StandsForFront base source)) (tells store.journal.disk)
-    (λ h told. Leaves-weaker (BesideIdle (idle_of tells store) (StandsFor base)) (BesideIdle (idle_of tells store) (StandsForFront base source)) h.now
-    (beside-weaker (idle_of tells store) (StandsFor base) (StandsForFront base source) front) (leaves h told))
+pub StaysAlong-none : {D : Type 0} (tells : D → Option History) (issuing : Issuing) (base : Position) (source : Option (List ℕ)) (store : StoreOn D) → LeavesIt tells store base → StaysAlong tells issuing base source store store
+StaysAlong-none tells issuing base source store leaves =
+    let front : (one other : List ℕ) → StandsFor base one other → StandsForFront issuing base source one other =
+    stands_walked issuing base source (at_start source 0) 0 (new_stream issuing base) None None [] (Walk-none (stream None issuing base) source None 0) base (new_position issuing base) in
+    StaysIn-none (BesideIdle (idle_of tells store) (StandsForFront issuing base source)) (tells store.journal.disk)
+    (λ h told. Leaves-weaker (BesideIdle (idle_of tells store) (StandsFor base)) (BesideIdle (idle_of tells store) (StandsForFront issuing base source)) h.now
+    (beside-weaker (idle_of tells store) (StandsFor base) (StandsForFront issuing base source) front) (leaves h told))
 
-module _ {D : Type 0} (tells : D → Option History) (faults : D → ℕ) (base : Position) (source : Option (List ℕ)) (first : StoreOn D) (s t : StreamOn D) where
+module _ {D : Type 0} (tells : D → Option History) (faults : D → ℕ) (issuing : Issuing) (base : Position) (source : Option (List ℕ)) (first : StoreOn D) (s t : StreamOn D) where
   -- nothing was done to the disks
-  same_store : t.store ≡ s.store → StaysAlong tells base source first s.store → StaysAlong tells base source first t.store
-  same_store is along = subst (λ (store : StoreOn D). StaysAlong tells base source first store) (sym is) along
+  same_store : t.store ≡ s.store → StaysAlong tells issuing base source first s.store → StaysAlong tells issuing base source first t.store
+  same_store is along = subst (λ (store : StoreOn D). StaysAlong tells issuing base source first store) (sym is) along
 
   -- a command stands on them, or doesn't
   one_more : (old new : Reader) (item : Statement) (bytes : List ℕ) (before now : Option (List ℕ)) (gathered : List ℕ)
-      → Walk (stream None base) source old s.state before now gathered → TakesStatements statements (item ∷ []) bytes old new → SameIdle first s.store
-      → StaysEither tells s.store t.store s.state.position (answer None item s.state).state.position → StaysAlong tells base source first s.store → StaysAlong tells base source first t.store
+      → Walk (stream None issuing base) source old 0 s.state before now gathered → TakesStatements statements (item ∷ []) bytes old new → SameIdle first s.store
+      → StaysEither tells s.store t.store s.state.position (answer None item s.state).state.position → StaysAlong tells issuing base source first s.store → StaysAlong tells issuing base source first t.store
   one_more old new item bytes before now gathered w takes idle either along =
-      let m = stream None base in
+      let m = stream None issuing base in
       let next : State = step None item s.state in
       let is : (answer None item s.state).state.position ≡ next.position = ap (λ (x : State). x.position) (sym (step_is None item s.state)) in
-      let behind : Walk m source new next before now (gathered ++ output m (item ∷ []) s.state) = Walk-items m (item ∷ []) bytes source old new s.state next before now gathered (gathered ++ output m (item ∷ []) s.state) w takes refl refl in
-      let front : (one other : List ℕ) → StandsForEither s.state.position (answer None item s.state).state.position one other → StandsForFront base source one other =
-      by_either s.state.position (answer None item s.state).state.position (stands_walked base source old s.state before now gathered w s.state.position refl) (stands_walked base source new next before now (gathered ++ output m (item ∷ []) s.state) behind (answer None item s.state).state.position is) in
+      let behind : Walk m source new 1 next before now (gathered ++ output m (item ∷ []) s.state) = Walk-items m (item ∷ []) bytes source old new 0 1 s.state next before now gathered (gathered ++ output m (item ∷ []) s.state) w takes refl refl (let few = step_few None item s.state in omega (arith, few)) in
+      let front : (one other : List ℕ) → StandsForEither s.state.position (answer None item s.state).state.position one other → StandsForFront issuing base source one other =
+      by_either s.state.position (answer None item s.state).state.position (stands_walked issuing base source old 0 s.state before now gathered w s.state.position refl) (stands_walked issuing base source new 1 next before now (gathered ++ output m (item ∷ []) s.state) behind (answer None item s.state).state.position is) in
       StaysIn-joined along
-      (StaysIn-weaker (BesideIdle (idle_of tells first) (StandsForFront base source)) either
-      (λ h told one p. beside-weaker (idle_of tells first) (StandsForEither s.state.position (answer None item s.state).state.position) (StandsForFront base source) front one
+      (StaysIn-weaker (BesideIdle (idle_of tells first) (StandsForFront issuing base source)) either
+      (λ h told one p. beside-weaker (idle_of tells first) (StandsForEither s.state.position (answer None item s.state).state.position) (StandsForFront issuing base source) front one
       (subst (λ (d : IdleDisk). BesideIdle d (StandsForEither s.state.position (answer None item s.state).state.position) one) (same_idle-told tells first s.store idle) p)))
     where
-      by_either : (p q : Position) → ((one other : List ℕ) → StandsFor p one other → StandsForFront base source one other) → ((one other : List ℕ) → StandsFor q one other → StandsForFront base source one other)
-          → (one other : List ℕ) → StandsForEither p q one other → StandsForFront base source one other
+      by_either : (p q : Position) → ((one other : List ℕ) → StandsFor p one other → StandsForFront issuing base source one other) → ((one other : List ℕ) → StandsFor q one other → StandsForFront issuing base source one other)
+          → (one other : List ℕ) → StandsForEither p q one other → StandsForFront issuing base source one other
       by_either p q l r one other (inl x) = l one other x
       by_either p q l r one other (inr x) = r one other x
 
   -- a statement, where there is one
   pub moved : (old new : Reader) (given : Option Statement) (bytes : List ℕ) (before now : Option (List ℕ)) (gathered : List ℕ)
-      → StreamWalk base source old s.state before now gathered → TakesStatements statements (option_to_list given) bytes old new → SameIdle first s.store
-      → MovesBy tells faults given s t → StaysAlong tells base source first s.store → StaysAlong tells base source first t.store
+      → StreamWalk issuing base source old 0 s.state before now gathered → TakesStatements statements (option_to_list given) bytes old new → SameIdle first s.store
+      → MovesBy tells faults given s t → StaysAlong tells issuing base source first s.store → StaysAlong tells issuing base source first t.store
   moved old new None bytes before now gathered w takes idle is along = same_store (ap (λ (x : StreamOn D). x.store) is) along
   moved old new (Some item) bytes before now gathered w takes idle moves along = by moves.moments
     where
-      by : (t.store ≡ s.store) ⊎ ((s.state.halted ≡ false) × StaysEither tells s.store t.store s.state.position (answer None item s.state).state.position) → StaysAlong tells base source first t.store
+      by : (t.store ≡ s.store) ⊎ ((s.state.halted ≡ false) × StaysEither tells s.store t.store s.state.position (answer None item s.state).state.position) → StaysAlong tells issuing base source first t.store
       by (inl is) = same_store is along
       by (inr either) =
           one_more old new item bytes before now gathered
-          (subst (λ fault. Walk (stream fault base) source old s.state before now gathered) (ap (λ h. fault_at h (number_of s.state)) either.0) w) takes idle either.1 along
+          (subst (λ fault. Walk (stream fault issuing base) source old 0 s.state before now gathered) (ap (λ h. fault_at h (number_of s.state)) either.0) w) takes idle either.1 along
 
   pub idle_still : (given : Option Statement) → MovesBy tells faults given s t → SameIdle first s.store → SameIdle first t.store
   idle_still None is idle = same_idle-then first s.store t.store idle (same_idle s.store t.store (ap (λ (x : StreamOn D). x.store) is))

@@ -31,8 +31,7 @@ use Rattle.racf_stream.specs.declared.reply.Refusal.{Refusal}
 use Rattle.racf_stream.specs.declared.reply.Refusal.TheVariants as refusal
 use Rattle.racf_stream.specs.Replies.{refusal_words, reply_line}
 use Rattle.request_files.specs.declared.issuer_line.NamedIssuer.{NamedIssuer}
-use Rattle.request_files.specs.IssuerLines.{issuer_of_line}
-use Rattle.racf_stream.specs.IssuerLines.{issuer_refusal}
+use Rattle.racf_stream.specs.IssuerLines.{issuer_named}
 use Rattle.racf_stream.specs.Stream as s
 use Rattle.racf_stream.specs.Stream.{State, Answer, number_of}
 use Rattle.racf_stream.specs.Printed.{behind_blank, says_refused}
@@ -215,9 +214,9 @@ unfolding s.command
 says_command fault text before =
     says_either before before.halted (s.halt before) (s.answer_outcome fault (s.outcome_of text before) before) (says_halt before) (says_outcome fault (s.outcome_of text before) before)
 
-says_issue : (read : Result NamedIssuer LineRefusal) (before : State) → Says before (s.issue_by read before)
+says_issue : (read : Result NamedIssuer Refusal) (before : State) → Says before (s.issue_by read before)
 says_issue (Ok issuer) before = sym (or-false before.has_refused)
-says_issue (Err why) before = says_refuse (issuer_refusal why) before
+says_issue (Err why) before = says_refuse why before
 
 says_with : (o : request.Outcome) (before : State) → Tells o → Says before (s.answer_with o before)
 says_with o before t = ap (λ b. before.has_refused || b) t
@@ -230,7 +229,7 @@ says_request text before =
 says_answer : (fault : Option ℕ) (i : Statement) (before : State) → Says before (s.answer fault i before)
 says_answer fault (item.Command text) before = says_command fault text before
 says_answer fault (item.Request text) before = says_request text before
-says_answer fault (item.Issuer text) before = says_issue (issuer_of_line text) before
+says_answer fault (item.Issuer text) before = says_issue (issuer_named before.issuing text) before
 says_answer fault item.LineTooLong before = says_refuse refusal.LineTooLong before
 
 pub item_says : (fault : Option ℕ) (i : Statement) (before : State) → (s.step fault i before).has_refused ≡ (before.has_refused || says_refused (s.text fault i before))

@@ -25,6 +25,8 @@ use Rattle.journal_records.specs.Spelling.{spelled}
 use Rattle.racf_stream.specs.Statements.{request_of, is_request}
 use Rattle.racf_stream.specs.Replies.{reply_line}
 use Rattle.racf_stream.specs.Script.{statements_of, script_output, script_status}
+use Rattle.racf_stream.specs.declared.issuer.Issuing.{Issuing}
+use Rattle.racf_stream.specs.declared.issuer.Issuing.TheVariants.{Free, Fixed}
 use Rattle.racf_stream.specs.Stream.{new_stream, request, command, step, text}
 use Rattle.access_levels.specs.Number.{as_number}
 use Rattle.command_words.specs.LineWords.{words_at}
@@ -40,14 +42,17 @@ use Rattle.decision.specs.Classification.{classified}
 use Rattle.decision.specs.Table.{decided, fast_decided}
 use Rattle.decision.specs.Verify.{verified}
 
--- From a new database on the stream prints this, and ends so, where a disk fails the command that is accepted behind so
--- many, or none fails.
-record PrintsFailing (fault : Option ℕ) (input output : List ℕ) (status : Status) : Type 0 where
-  prints : script_output fault first_position input ≡ output
-  ends : script_status fault first_position input ≡ status
+-- From a new database on the stream prints this, and ends so, where its commands are given so, and a disk fails the one
+-- that is accepted behind so many, or none fails.
+record PrintsGiven (fault : Option ℕ) (issuing : Issuing) (input output : List ℕ) (status : Status) : Type 0 where
+  prints : script_output fault issuing first_position input ≡ output
+  ends : script_status fault issuing first_position input ≡ status
+
+abbrev PrintsFailing : (fault : Option ℕ) → (input output : List ℕ) → (status : Status) → Type 0
+PrintsFailing fault input output status = PrintsGiven fault Free input output status
 
 abbrev Prints : (input output : List ℕ) → (status : Status) → Type 0
-Prints input output status = PrintsFailing None input output status
+Prints input output status = PrintsGiven None Free input output status
 
 -- A profile, an ACEE, and what may be answered of them.
 first : Prints
@@ -148,6 +153,15 @@ issuers : Prints
     Refusals
 unfolding digits canon form_in parsed front behind command_of tokens is_root has_subgroup has_connected has_profile meets cycle owner_not_superior default_group last_special users_full groups_full connections_full user_full add_user_conflicts alt_user_conflicts del_user_conflicts add_group_conflicts alt_group_conflicts del_group_conflicts connect_conflicts remove_conflicts no_first_qualifier no_permitted no_such_class no_resource_class no_global_class no_profile profile_taken not_generic class_profiles_full profiles_full standard_full conditional_full entries_full members_full no_resource_profile add_sd_requirements add_sd_limits r_define_requirements r_define_limits categories_full alt_sd_conflicts del_sd_conflicts r_alter_conflicts r_delete_conflicts permit_conflicts no_user no_group no_owner no_named_group no_class name_taken not_connected default_not_connected unknown_level unknown_category never_category unknown_label add_user_requirements alt_user_requirements del_user_requirements add_group_requirements alt_group_requirements del_group_requirements connect_requirements remove_requirements add_sd_needs r_define_needs alt_sd_requirements del_sd_requirements r_alter_requirements r_delete_requirements permit_requirements is_met need outcome_in issuer_by issuer_of_line request_of is_request reply_line spelled canonical statements_of new_stream request command step text as_number next deleted number_after asked_by verified_by requested read words_at answer_line audited logged audit_line granted acee_of decided verified classified image_of image options group user connection class
 issuers = record { prints = refl; ends = refl }
+
+-- A fixed issuer gives every command, and each line of an issuer is refused, whatever follows; one that is too long is
+-- told so.
+fixed : PrintsGiven None (Fixed (codes "ANN"))
+    (codes "AU BOB\n*ISSUER IBMUSER\n*issuer\n*ISSUER A,B\nAU BOB\n")
+    (codes "0 REFUSED ISSUERUNKNOWN ANN\n0 REFUSED ISSUERFIXED\n0 REFUSED ISSUERFIXED\n0 REFUSED ISSUERFIXED\n0 REFUSED ISSUERUNKNOWN ANN\n")
+    Refusals
+unfolding digits canon form_in parsed front behind command_of tokens is_root has_subgroup has_connected has_profile meets cycle owner_not_superior default_group last_special users_full groups_full connections_full user_full add_user_conflicts alt_user_conflicts del_user_conflicts add_group_conflicts alt_group_conflicts del_group_conflicts connect_conflicts remove_conflicts no_first_qualifier no_permitted no_such_class no_resource_class no_global_class no_profile profile_taken not_generic class_profiles_full profiles_full standard_full conditional_full entries_full members_full no_resource_profile add_sd_requirements add_sd_limits r_define_requirements r_define_limits categories_full alt_sd_conflicts del_sd_conflicts r_alter_conflicts r_delete_conflicts permit_conflicts no_user no_group no_owner no_named_group no_class name_taken not_connected default_not_connected unknown_level unknown_category never_category unknown_label add_user_requirements alt_user_requirements del_user_requirements add_group_requirements alt_group_requirements del_group_requirements connect_requirements remove_requirements add_sd_needs r_define_needs alt_sd_requirements del_sd_requirements r_alter_requirements r_delete_requirements permit_requirements is_met need outcome_in issuer_by issuer_of_line request_of is_request reply_line spelled canonical statements_of new_stream request command step text as_number next deleted number_after asked_by verified_by requested read words_at answer_line audited logged audit_line granted acee_of decided verified classified image_of image options group user connection class
+fixed = record { prints = refl; ends = refl }
 
 -- A disk fails the second command: those behind it are told so, and requests are answered on.
 failed : PrintsFailing (Some 1)

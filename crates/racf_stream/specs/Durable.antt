@@ -1,32 +1,35 @@
 -- A stream whose desk stands on disks: what its statements do to them, and what every crash leaves.
-use Rattle.std.specs.Prelude.{◌≡◌, ◌⊎◌, ◌++◌, ◌≤◌, ℕ, Bool, true, false, Option, None, Some, List}
+use Rattle.std.specs.Prelude.{◌≡◌, ◌⊎◌, ◌++◌, ◌∷◌, [], ◌≤◌, ℕ, Bool, true, false, Option, None, Some, List, Ok}
 use Rattle.std.specs.Io.KnownBytes.{prepend_known}
 use Rattle.racf_outside.specs.Causes.{Rose}
-use Rattle.racf_outside.specs.Crashes.{StaysIn}
-use Rattle.racf_outside.specs.Disk.{History}
+use Rattle.racf_outside.specs.Crashes.{Leaves, StaysIn}
+use Rattle.racf_outside.specs.Disk.{History, Now}
 use Rattle.racf_checkpoint.specs.Stored.{StoreOn}
 use Rattle.racf_desk.specs.Durable.{SameIdle, idle_of, BesideIdle, StaysEither}
 use Rattle.racf_desk.specs.Made.{Made, DeskOn, installed}
-use Rattle.racf_desk.specs.Position.{Position}
-use Rattle.racf_desk.specs.Recovery.{StandsFor}
+use Rattle.racf_desk.specs.Position.{Position, position_behind}
+use Rattle.racf_desk.specs.Recovery.{StandsFor, StandsForEither}
+use Rattle.journal_records.specs.declared.record.CommandRecord.{CommandRecord}
 use Rattle.request_files.specs.declared.acees.NamedAcee.{NamedAcee}
 use Rattle.request_files.specs.declared.issuer_line.NamedIssuer.{NamedIssuer}
+use Rattle.racf_stream.specs.declared.issuer.Issuing.{Issuing}
 use Rattle.racf_stream.specs.declared.reply.Reply.TheVariants.{Accepted, DiskFault}
 use Rattle.racf_stream.specs.declared.statement.Statement.{Statement}
+use Rattle.racf_stream.specs.declared.statement.Statement.TheVariants.{Command}
 use Rattle.racf_stream.specs.Replies.{reply_line}
 use Rattle.racf_stream.specs.Runs.{BeginsWith, after}
 use Rattle.racf_stream.specs.Script.{stream, statements, fault_at}
-use Rattle.racf_stream.specs.Stream.{State, Answer, number_of, new_stream, answer}
+use Rattle.racf_stream.specs.Stream.{State, Answer, number_of, outcome_of, new_stream, answer, text}
 
 -- The state of a stream, and the store that its desk stands on.
 pub record StreamOn (D : Type 0) : Type 0 where
   pub state : State
   pub store : StoreOn D
 
-abbrev pub stream_on : {D : Type 0} → DeskOn D → NamedIssuer → Bool → List NamedAcee → StreamOn D
-stream_on desk issuer has_refused acees =
+abbrev pub stream_on : {D : Type 0} → DeskOn D → Issuing → NamedIssuer → Bool → List NamedAcee → StreamOn D
+stream_on desk issuing issuer has_refused acees =
     record {
-      state = record { position = desk.position; issuer = issuer; has_refused = has_refused; acees = acees; halted = desk.halted };
+      state = record { position = desk.position; issuing = issuing; issuer = issuer; has_refused = has_refused; acees = acees; halted = desk.halted };
       store = desk.store;
     }
 
@@ -61,6 +64,16 @@ pub record Moves {D : Type 0} (tells : D → Option History) (faults : D → ℕ
   pub cause : s.state.halted ≡ false → t.state.halted ≡ true → Rose (faults s.store.journal.disk) (faults t.store.journal.disk)
   pub no_fewer : faults s.store.journal.disk ≤ faults t.store.journal.disk
 
+-- A disk failed a statement: it is a command that is accepted where the stream stands, and at every moment a crash leaves
+-- what stands for the position before it or for the one behind it.
+pub record Fails {D : Type 0} (tells : D → Option History) (item : Statement) (s t : StreamOn D) : Type 0 where
+  pub line : List ℕ
+  pub is_command : item ≡ Command line
+  pub accepted : CommandRecord
+  pub outcome : outcome_of line s.state ≡ Ok accepted
+  pub stays : t.state.position ≡ s.state.position
+  pub moments : StaysEither tells s.store t.store s.state.position (position_behind s.state.position accepted)
+
 -- What a statement does to them, where there is one.
 abbrev pub MovesBy : {D : Type 0} → (tells : D → Option History) → (faults : D → ℕ) → Option Statement → (s t : StreamOn D) → Type 0
 MovesBy tells faults None s t = t ≡ s
@@ -74,16 +87,45 @@ pub record Settles {D : Type 0} (tells : D → Option History) (desk now : DeskO
   pub idle : SameIdle desk.store now.store
 
 -- Two files stand for the position behind the first statements of an input, whichever these are.
-pub record StandsForFront (base : Position) (source : Option (List ℕ)) (first second : List ℕ) : Type 0 where
+pub record StandsForFront (issuing : Issuing) (base : Position) (source : Option (List ℕ)) (first second : List ℕ) : Type 0 where
   pub read : List ℕ
   pub more : Option (List ℕ)
   pub given : source ≡ prepend_known read more
   pub done : List Statement
   pub begins : BeginsWith statements read more done
-  pub stands : StandsFor (after (stream None base) done (new_stream base)).position first second
+  pub stands : StandsFor (after (stream None issuing base) done (new_stream issuing base)).position first second
 
 -- At every moment of a stream from that input, from a base on, a crash leaves what stands for the position behind some
 -- front of its statements. The disk that doesn't count stays as it is.
-abbrev pub StaysAlong : {D : Type 0} → (tells : D → Option History) → (base : Position) → (source : Option (List ℕ)) → (old new : StoreOn D) → Type 0
-StaysAlong tells base source old new =
-    StaysIn (BesideIdle (idle_of tells old) (StandsForFront base source)) (tells old.journal.disk) (tells new.journal.disk)
+abbrev pub StaysAlong : {D : Type 0} → (tells : D → Option History) → Issuing → (base : Position) → (source : Option (List ℕ)) → (old new : StoreOn D) → Type 0
+StaysAlong tells issuing base source old new =
+    StaysIn (BesideIdle (idle_of tells old) (StandsForFront issuing base source)) (tells old.journal.disk) (tells new.journal.disk)
+
+-- The command of an input, from a base on, that a disk failed, and the position behind it: it is accepted behind these
+-- statements, which lead to this position, and it is told DISKFAULT.
+pub record CommandInDoubt (issuing : Issuing) (base : Position) (source : Option (List ℕ)) (position next : Position) : Type 0 where
+  pub read : List ℕ
+  pub more : Option (List ℕ)
+  pub given : source ≡ prepend_known read more
+  pub done : List Statement
+  pub line : List ℕ
+  pub begins : BeginsWith statements read more (done ++ Command line ∷ [])
+  pub before : State
+  pub before_is : before ≡ after (stream None issuing base) done (new_stream issuing base)
+  pub position_is : position ≡ before.position
+  pub accepted : CommandRecord
+  pub outcome : outcome_of line before ≡ Ok accepted
+  pub told : text (Some (number_of before)) (Command line) before ≡ reply_line (number_of before) DiskFault
+  pub next_is : next ≡ position_behind position accepted
+
+-- Whatever a crash now leaves of both disks stands for the one position or for the other.
+abbrev pub LeavesEither : {D : Type 0} → (tells : D → Option History) → StoreOn D → (position next : Position) → Type 0
+LeavesEither tells store position next =
+    Now (tells store.journal.disk) (Leaves (BesideIdle (idle_of tells store) (StandsForEither position next)))
+
+-- Behind a disk that failed: a crash leaves what stands for the position of the accepted commands, or for the one behind
+-- these and the command that was told DISKFAULT.
+pub record LeavesInDoubt {D : Type 0} (tells : D → Option History) (issuing : Issuing) (base : Position) (source : Option (List ℕ)) (store : StoreOn D) (position : Position) : Type 0 where
+  pub next : Position
+  pub in_doubt : CommandInDoubt issuing base source position next
+  pub leaves : LeavesEither tells store position next

@@ -8,6 +8,11 @@ abbrev pub Settles : List ℕ → List ℕ → Option (List ℕ) → Option (Lis
 Settles gathered rest before now =
     ((rest ≡ gathered) × (now ≡ before)) ⊎ ((rest ≡ []) × (now ≡ append_known before gathered))
 
+-- Behind an item all that was gathered was written; or it is gathered still, and then no command was accepted.
+abbrev pub Acknowledges : (none_accepted : Type 0) → List ℕ → List ℕ → Option (List ℕ) → Option (List ℕ) → Type 0
+Acknowledges none_accepted gathered rest before now =
+    (none_accepted × (rest ≡ gathered) × (now ≡ before)) ⊎ ((rest ≡ []) × (now ≡ append_known before gathered))
+
 -- Either no reply waits any longer, or the source was not read.
 abbrev pub IsPrompt : List ℕ → Reader → Reader → Type 0
 IsPrompt rest old new = (rest ≡ []) ⊎ KeepsSource old new

@@ -3,6 +3,9 @@ use Rattle.std.specs.Prelude.{◌≡◌, ◌⊎◌, ℕ, ◌==◌, nat_eq, Bool,
 use Rattle.std.specs.List.{starts_with, onto_first}
 use Rattle.racf_outside.specs.Lines.{NoFeed}
 use Rattle.request_files.specs.Answers.{numbered, never_line}
+use Rattle.command_parser.specs.LawfulFields.{IsId}
+use Rattle.racf_stream.specs.declared.issuer.Issuing.{Issuing}
+use Rattle.racf_stream.specs.declared.issuer.Issuing.TheVariants.{Free, Fixed}
 use Rattle.racf_stream.specs.declared.statement.Statement.{Statement}
 use Rattle.racf_desk.specs.Position.{Position}
 use Rattle.racf_desk.specs.Recovery.{standing}
@@ -21,12 +24,17 @@ turns fault [] s = []
 turns fault (item ∷ items) s = record { fault = fault; item = item; before = s } ∷ turns fault items (step fault item s)
 
 -- the turns of a whole input, from a position on
-abbrev pub input_turns : (fault : Option ℕ) → (base : Position) → List ℕ → List Turn
-input_turns fault base bytes = turns fault (statements.items bytes) (new_stream base)
+abbrev pub input_turns : (fault : Option ℕ) → Issuing → (base : Position) → List ℕ → List Turn
+input_turns fault issuing base bytes = turns fault (statements.items bytes) (new_stream issuing base)
 
 -- Some two files stand for this position: where the records behind the checkpoint that counts lead.
 abbrev pub IsReached : Position → Type 0
 IsReached base = (first : List ℕ) × (second : List ℕ) × (standing first second ≡ Ok base)
+
+-- A fixed issuer's ID is spelled as one, as every value of `Id` is.
+abbrev pub IsSpelled : Issuing → Type 0
+IsSpelled Free = Unit {0}
+IsSpelled (Fixed id) = IsId id
 
 -- what is printed at a turn, and what stands behind it
 abbrev pub printed : Turn → List ℕ

@@ -10,6 +10,7 @@ use Rattle.racf_stream.specs.declared.reply.Reply.TheVariants.{Accepted, Refused
 abbrev pub refusal_words : Refusal → List ℕ
 refusal_words (refusal.Command why) = words.refusal_words why
 refusal_words refusal.LineTooLong = codes "LINETOOLONG"
+refusal_words refusal.IssuerFixed = codes "ISSUERFIXED"
 
 abbrev pub reply_words : Reply → List ℕ
 reply_words Accepted = codes "ACCEPTED"

@@ -1,6 +1,6 @@
 -- How a machine works through a source of bytes, and what stands wherever it stops. No command is named here: streams,
 -- decks and request files have these definitions in common, each with a machine of its own.
-use Rattle.std.specs.Prelude.{◌≡◌, ◌⊎◌, ℕ, ◌^◌, ◌<◌, ◌≤◌, Bool, Option, IfSome, List, [], ◌∷◌, ◌++◌, length, take, if◌then◌else◌}
+use Rattle.std.specs.Prelude.{◌≡◌, ◌⊎◌, ℕ, ◌+◌, ◌^◌, ◌<◌, ◌≤◌, Bool, true, false, Option, IfSome, List, [], ◌∷◌, ◌++◌, length, take, if◌then◌else◌}
 use Rattle.std.specs.Io.KnownBytes.{prepend_known, append_known, IsAtEnd}
 use Rattle.racf_stream.specs.declared.status.Status.{Status}
 use Rattle.racf_stream.specs.declared.status.Status.TheVariants.{Done, Refusals, ReadFault, WriteFault, DiskFault, NoMemory, InputTooLong}
@@ -23,6 +23,8 @@ pub record Machine (S Item : Type 0) : Type 0 where
   -- whether a line was refused so far, and whether a disk failed
   pub has_refused : S → Bool
   pub has_failed : S → Bool
+  -- how many commands were accepted so far
+  pub accepted : S → ℕ
 
 -- what stands after these items
 abbrev pub after : {S Item : Type 0} → Machine S Item → List Item → S → S
@@ -65,7 +67,8 @@ pub record WroteAll {S Item : Type 0} (m : Machine S Item) (status : Status) (re
   pub is_status : status ≡ status_of m (after m worked m.start)
 
 -- A read failed: the output is that of the items which had ended, and nothing more was taken from the source.
-pub record WroteToReadFault {S Item : Type 0} (m : Machine S Item) (read : List ℕ) (more left : Option (List ℕ)) (worked : List Item) (written : List ℕ) : Type 0 where
+pub record WroteToReadFault {S Item : Type 0} (m : Machine S Item) (read_failed : Type 0) (read : List ℕ) (more left : Option (List ℕ)) (worked : List Item) (written : List ℕ) : Type 0 where
+  pub cause : read_failed
   pub kept : more ≡ left
   pub all : worked ≡ m.input.whole_items read
   pub whole : written ≡ output m worked m.start
@@ -76,36 +79,46 @@ pub record WroteToLongest {S Item : Type 0} (m : Machine S Item) (read : List �
   pub all : worked ≡ m.input.whole_items (take longest_input read)
   pub whole : written ≡ output m worked m.start
 
--- A write failed: the output is that of the items before one that was worked, and a front of that one's text.
-pub record WroteToWriteFault {S Item : Type 0} (m : Machine S Item) (worked : List Item) (written : List ℕ) : Type 0 where
+-- A write failed: the output is that of the items before one that was worked, and a front of that one's text. From that
+-- one on at most one command was accepted, so that none was behind a command whose own reply was cut.
+pub record WroteToWriteFault {S Item : Type 0} (m : Machine S Item) (write_failed : Type 0) (worked : List Item) (written : List ℕ) : Type 0 where
+  pub cause : write_failed
   pub done : List Item
   pub last : Item
   pub others : List Item
   pub count : ℕ
   pub parts : worked ≡ done ++ last ∷ others
   pub front : written ≡ output m done m.start ++ take count (m.text last (after m done m.start))
+  pub few : m.accepted (after m worked m.start) ≤ m.accepted (after m done m.start) + 1
 
 -- A disk failed a command, and the input was read to its end; or a read failed later, or a write.
-abbrev pub WroteFailing : {S Item : Type 0} → Machine S Item → List ℕ → Option (List ℕ) → Option (List ℕ) → List Item → List ℕ → Type 0
-WroteFailing m read more left worked written =
+abbrev pub WroteFailing : {S Item : Type 0} → Machine S Item → (read_failed write_failed : Type 0) → List ℕ → Option (List ℕ) → Option (List ℕ) → List Item → List ℕ → Type 0
+WroteFailing m read_failed write_failed read more left worked written =
     WroteAll m DiskFault read more worked written
-    ⊎ (WroteToReadFault m read more left worked written ⊎ WroteToWriteFault m worked written)
+    ⊎ (WroteToReadFault m read_failed read more left worked written ⊎ WroteToWriteFault m write_failed worked written)
+
+-- Whether a disk had failed a command, behind these items.
+abbrev pub HasFailed : {S Item : Type 0} → Machine S Item → Bool → List Item → Type 0
+HasFailed m failed worked = m.has_failed (after m worked m.start) ≡ failed
 
 -- What was written when a run stopped with a status, in which these items were worked: `read` was taken of the input,
--- `more` was to come, and the source has `left`. Where memory ran out, that was before the next item.
-abbrev pub Wrote : {S Item : Type 0} → Machine S Item → Status → List ℕ → Option (List ℕ) → Option (List ℕ) → List Item → List ℕ → Type 0
-Wrote m Done read more left worked written = WroteAll m Done read more worked written
-Wrote m Refusals read more left worked written = WroteAll m Refusals read more worked written
-Wrote m ReadFault read more left worked written = WroteToReadFault m read more left worked written
-Wrote m InputTooLong read more left worked written = WroteToLongest m read worked written
-Wrote m NoMemory read more left worked written = written ≡ output m worked m.start
-Wrote m WriteFault read more left worked written = WroteToWriteFault m worked written
-Wrote m DiskFault read more left worked written = WroteFailing m read more left worked written
-Wrote m other read more left worked written = ⊥
+-- `more` was to come, and the source has `left`. Where memory ran out, that was before the next item. A read or a write
+-- that failed is told only where no disk had failed a command, and else the disk. `read_failed` and `write_failed` say
+-- that the source, or the sink, failed in this time.
+abbrev pub Wrote : {S Item : Type 0} → Machine S Item → (read_failed write_failed : Type 0) → Status → List ℕ → Option (List ℕ) → Option (List ℕ) → List Item → List ℕ → Type 0
+Wrote m read_failed write_failed Done read more left worked written = WroteAll m Done read more worked written
+Wrote m read_failed write_failed Refusals read more left worked written = WroteAll m Refusals read more worked written
+Wrote m read_failed write_failed ReadFault read more left worked written = HasFailed m false worked × WroteToReadFault m read_failed read more left worked written
+Wrote m read_failed write_failed InputTooLong read more left worked written = WroteToLongest m read worked written
+Wrote m read_failed write_failed NoMemory read more left worked written = written ≡ output m worked m.start
+Wrote m read_failed write_failed WriteFault read more left worked written = HasFailed m false worked × WroteToWriteFault m write_failed worked written
+Wrote m read_failed write_failed DiskFault read more left worked written = HasFailed m true worked × WroteFailing m read_failed write_failed read more left worked written
+Wrote m read_failed write_failed other read more left worked written = ⊥
 
 -- A run from a source to a sink. The source had `source` to give and has `left` now; the sink held `before` and holds
--- `now`. What stands behind the items that were worked has P.
-pub record Ran {S Item : Type 0} (m : Machine S Item) (P : S → Type 0) (status : Status) (source left before now : Option (List ℕ)) : Type 0 where
+-- `now`. What stands behind the items that were worked has P. It stops before the end of its input, or of its output,
+-- only where the source or the sink failed, which `read_failed` and `write_failed` say, or with a greater status.
+pub record Ran {S Item : Type 0} (m : Machine S Item) (P : S → Type 0) (read_failed write_failed : Type 0) (status : Status) (source left before now : Option (List ℕ)) : Type 0 where
   pub read : List ℕ
   pub more : Option (List ℕ)
   pub worked : List Item
@@ -114,4 +127,4 @@ pub record Ran {S Item : Type 0} (m : Machine S Item) (P : S → Type 0) (status
   pub gained : now ≡ append_known before written
   pub begins : BeginsWith m.input read more worked
   pub stands : P (after m worked m.start)
-  pub wrote : Wrote m status read more left worked written
+  pub wrote : Wrote m read_failed write_failed status read more left worked written

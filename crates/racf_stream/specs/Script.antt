@@ -3,13 +3,14 @@ use Rattle.std.specs.Prelude.{◌≡◌, ℕ, Bool, true, false, Option, None, S
 use Rattle.racf_outside.specs.Lines.{lines, whole_lines}
 use Rattle.racf_desk.specs.Position.{Position}
 use Rattle.racf_desk.specs.Made.{DeskOn}
+use Rattle.racf_stream.specs.declared.issuer.Issuing.{Issuing}
 use Rattle.racf_stream.specs.declared.statement.Kind.{Kind}
 use Rattle.racf_stream.specs.declared.statement.Kind.TheVariants as kind
 use Rattle.racf_stream.specs.declared.statement.Statement.{Statement}
 use Rattle.racf_stream.specs.declared.status.Status.{Status}
 use Rattle.racf_stream.specs.declared.status.Status.TheVariants.{Done, Refusals}
 use Rattle.racf_stream.specs.Joining.{items_of, whole_items_of}
-use Rattle.racf_stream.specs.Stream.{State, new_stream, step, text}
+use Rattle.racf_stream.specs.Stream.{State, number_of, new_stream, step, text}
 use Rattle.racf_stream.specs.Runs.{Input, Machine, after, output, status_of}
 
 -- the statements of an input of this kind are those of its lines
@@ -27,24 +28,27 @@ statements = statements_of kind.Stream
 abbrev pub deck_statements : Input Statement
 deck_statements = statements_of kind.Deck
 
--- The stream from a position on. No disk fails, or one fails the command that is accepted behind so many.
-abbrev pub stream : (fault : Option ℕ) → (base : Position) → Machine State Statement
-stream fault base = record {
+-- The stream from a position on, whose commands are given so. No disk fails, or one fails the command that is accepted
+-- behind so many.
+abbrev pub stream : (fault : Option ℕ) → Issuing → (base : Position) → Machine State Statement
+stream fault issuing base = record {
   input = statements;
-  start = new_stream base;
+  start = new_stream issuing base;
   step = step fault;
   text = text fault;
   has_refused = λ s. s.has_refused;
   has_failed = λ s. s.halted;
+  accepted = number_of;
 }
 
 -- what is written for a whole input
-abbrev pub script_output : (fault : Option ℕ) → (base : Position) → List ℕ → List ℕ
-script_output fault base bytes = output (stream fault base) (statements.items bytes) (new_stream base)
+abbrev pub script_output : (fault : Option ℕ) → Issuing → (base : Position) → List ℕ → List ℕ
+script_output fault issuing base bytes = output (stream fault issuing base) (statements.items bytes) (new_stream issuing base)
 
 -- the status behind a whole input
-abbrev pub script_status : (fault : Option ℕ) → (base : Position) → List ℕ → Status
-script_status fault base bytes = status_of (stream fault base) (after (stream fault base) (statements.items bytes) (new_stream base))
+abbrev pub script_status : (fault : Option ℕ) → Issuing → (base : Position) → List ℕ → Status
+script_status fault issuing base bytes =
+    status_of (stream fault issuing base) (after (stream fault issuing base) (statements.items bytes) (new_stream issuing base))
 
 -- an input was read to its end, and no disk failed
 abbrev pub is_whole : Status → Bool

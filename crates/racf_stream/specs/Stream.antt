@@ -1,5 +1,6 @@
 -- The stream: what stands between two lines, and the answer to each statement.
 use Rattle.std.specs.Prelude.{ℕ, ◌+◌, ◌==◌, Bool, true, false, ◌||◌, Option, None, Some, Result, Ok, Err, List, [], if◌then◌else◌}
+use Rattle.racf_stream.specs.declared.issuer.Issuing.{Issuing}
 use Rattle.racf_stream.specs.declared.statement.Statement.{Statement}
 use Rattle.racf_stream.specs.declared.statement.Statement.TheVariants as item
 use Rattle.racf_stream.specs.declared.reply.Refusal.{Refusal}
@@ -13,15 +14,16 @@ use Rattle.request_files.specs.declared.acees.NamedAcee.{NamedAcee}
 use Rattle.request_files.specs.declared.issuer_line.NamedIssuer.{NamedIssuer}
 use Rattle.request_files.specs.declared.line.LineRefusal.{LineRefusal}
 use Rattle.request_files.specs.Grammar.{Line, read}
-use Rattle.request_files.specs.IssuerLines.{issuer_of_line}
 use Rattle.request_files.specs.Worked.{Outcome, worked}
 use Rattle.racf_stream.specs.Replies.{reply_line}
-use Rattle.racf_stream.specs.IssuerLines.{first_issuer, issuer_refusal}
+use Rattle.racf_stream.specs.IssuerLines.{first_issuer, issuer_named}
 
 -- The position is that of the desk: the number of accepted commands, and the rows that they led to. Beside it stand who
--- gives the commands, the ACEEs in use, each under its name, and whether a disk failed a command.
+-- gives the commands, and whether lines may name him; the ACEEs in use, each under its name; and whether a disk failed a
+-- command.
 pub record State : Type 0 where
   pub position : Position
+  pub issuing : Issuing
   pub issuer : NamedIssuer
   pub has_refused : Bool
   pub acees : List NamedAcee
@@ -31,8 +33,9 @@ pub record State : Type 0 where
 abbrev pub number_of : State → ℕ
 number_of s = s.position.image.generation
 
-unfoldable pub new_stream : Position → State
-new_stream base = record { position = base; issuer = first_issuer; has_refused = false; acees = []; halted = false }
+unfoldable pub new_stream : Issuing → Position → State
+new_stream issuing base =
+    record { position = base; issuing = issuing; issuer = first_issuer issuing; has_refused = false; acees = []; halted = false }
 
 -- A statement is answered by a text, and leaves a state.
 pub record Answer : Type 0 where
@@ -82,13 +85,13 @@ unfoldable pub command : (fault : Option ℕ) → List ℕ → State → Answer
 command fault text s = if s.halted then halt s else answer_outcome fault (outcome_of text s) s
 
 -- A line that names an issuer who fits prints nothing, whoever he is: he is judged at each command. One that doesn't
--- fit is refused, and the issuer stays.
-abbrev pub issue_by : Result NamedIssuer LineRefusal → State → Answer
+-- fit, and each one where he is fixed, is refused, and the issuer stays.
+abbrev pub issue_by : Result NamedIssuer Refusal → State → Answer
 issue_by (Ok issuer) s = record { state = record s { issuer = issuer }; text = [] }
-issue_by (Err why) s = refuse (issuer_refusal why) s
+issue_by (Err why) s = refuse why s
 
 abbrev pub name_issuer : List ℕ → State → Answer
-name_issuer text s = issue_by (issuer_of_line text) s
+name_issuer text s = issue_by (issuer_named s.issuing text) s
 
 -- the answer to each statement
 abbrev pub answer : (fault : Option ℕ) → Statement → State → Answer

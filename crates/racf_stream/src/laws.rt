@@ -15,12 +15,15 @@ ghost use Rattle.racf_stream.specs.declared.statement.Statement.TheVariants.{Com
 ghost use Rattle.racf_stream.specs.Runs.{after};
 ghost use Rattle.racf_stream.specs.Runs.{whole_status};
 ghost use Rattle.racf_stream.specs.Replies.{reply_line};
-ghost use Rattle.racf_stream.specs.declared.reply.Reply.TheVariants.{Halted};
+ghost use Rattle.racf_stream.specs.declared.reply.Reply.TheVariants.{Halted, Refused};
 ghost use Rattle.racf_stream.specs.Script.{statements, stream, script_output, script_status};
-ghost use Rattle.request_files.specs.IssuerLines.{issuer_of_line};
+ghost use Rattle.racf_stream.specs.IssuerLines.{first_issuer, issuer_named};
+ghost use Rattle.racf_stream.specs.declared.issuer.Issuing.{Issuing};
+ghost use Rattle.racf_stream.specs.declared.issuer.Issuing.TheVariants.{Fixed};
+ghost use Rattle.racf_stream.specs.declared.reply.Refusal.TheVariants.{IssuerFixed};
 ghost use Rattle.racf_stream.specs.Stream.{new_stream, number_of, step, answer_outcome, outcome_of};
 ghost use Rattle.racf_desk.specs.Position.{Position, position_after};
-ghost use Rattle.racf_stream.specs.Printed.{Turn, IsReached, input_turns, turns, printed, behind, PrintsItsLines, printed_lines, split_lines};
+ghost use Rattle.racf_stream.specs.Printed.{Turn, IsReached, IsSpelled, input_turns, turns, printed, behind, PrintsItsLines, printed_lines, split_lines};
 ghost use Rattle.racf_stream.specs.Printed.{says_failed, says_refused};
 
 use command_parser::laws::{fields_of_a_text_are_lawful, one_command_is_spelled};
@@ -30,15 +33,16 @@ use journal_records::laws::{canonical_texts_are_of_commands, fields_are_of_ident
 /// prints nothing, or one line, or the line of a decision and an AUDIT line behind it, so that the lines of the output
 /// are those that are printed at the turns. The state at a statement's turn is that behind the statements before it.
 pub fn an_item_prints_its_lines()
-    ensures whole { (fault : Option ℕ) (base : Position) (bytes : List ℕ) →
-        script_output fault base bytes ≡ concat (map printed (input_turns fault base bytes)) }
-    ensures line { (fault : Option ℕ) (base : Position) (bytes : List ℕ) → IsReached base → AllByRecursion PrintsItsLines (input_turns fault base bytes) }
-    ensures lines { (fault : Option ℕ) (base : Position) (bytes : List ℕ) → IsReached base →
-        split_lines (script_output fault base bytes) ≡ flat_map printed_lines (input_turns fault base bytes) }
-    ensures state { (fault : Option ℕ) (base : Position) (bytes : List ℕ) (done more : List Statement) (item : Statement) →
+    ensures whole { (fault : Option ℕ) (issuing : Issuing) (base : Position) (bytes : List ℕ) →
+        script_output fault issuing base bytes ≡ concat (map printed (input_turns fault issuing base bytes)) }
+    ensures line { (fault : Option ℕ) (issuing : Issuing) (base : Position) (bytes : List ℕ) → IsReached base → IsSpelled issuing →
+        AllByRecursion PrintsItsLines (input_turns fault issuing base bytes) }
+    ensures lines { (fault : Option ℕ) (issuing : Issuing) (base : Position) (bytes : List ℕ) → IsReached base → IsSpelled issuing →
+        split_lines (script_output fault issuing base bytes) ≡ flat_map printed_lines (input_turns fault issuing base bytes) }
+    ensures state { (fault : Option ℕ) (issuing : Issuing) (base : Position) (bytes : List ℕ) (done more : List Statement) (item : Statement) →
         statements.items bytes ≡ done ++ item ∷ more →
-        let before = after (stream fault base) done (new_stream base) in
-        input_turns fault base bytes ≡ turns fault done (new_stream base) ++ record { fault = fault; item = item; before = before } ∷ turns fault more (step fault item before) }
+        let before = after (stream fault issuing base) done (new_stream issuing base) in
+        input_turns fault issuing base bytes ≡ turns fault done (new_stream issuing base) ++ record { fault = fault; item = item; before = before } ∷ turns fault more (step fault item before) }
 {
     one_command_is_spelled();
     fields_of_a_text_are_lawful();
@@ -67,14 +71,14 @@ pub fn requests_are_decided()
 /// A run over a whole input ends with the status of a failed disk exactly where a line of its output says DISKFAULT,
 /// and else with that of refusals exactly where one says REFUSED or NEVER.
 pub fn the_status_is_what_the_lines_say()
-    ensures { (fault : Option ℕ) (base : Position) (bytes : List ℕ) → script_status fault base bytes ≡
-        whole_status (list_any says_failed (map printed (input_turns fault base bytes))) (list_any says_refused (map printed (input_turns fault base bytes))) }
+    ensures { (fault : Option ℕ) (issuing : Issuing) (base : Position) (bytes : List ℕ) → script_status fault issuing base bytes ≡
+        whole_status (list_any says_failed (map printed (input_turns fault issuing base bytes))) (list_any says_refused (map printed (input_turns fault issuing base bytes))) }
 {}
 
 /// Unless a disk has failed, a command has its outcome at the position of its turn, where the issuer of its turn gives
 /// it: that is printed, and, where no disk fails it, the position behind the turn is the one behind that outcome.
 /// Behind a disk that failed every command is told so, and the position stays. A line of an issuer who fits is the
-/// issuer of the next turns; one that doesn't fit changes no issuer.
+/// issuer of the next turns; one that doesn't fit, or any where he is fixed, changes no issuer.
 pub fn commands_are_judged()
     ensures told { (turn : Turn) (text : List ℕ) → turn.item ≡ Command text → turn.before.halted ≡ false →
         printed turn ≡ (answer_outcome turn.fault (outcome_of text turn.before) turn.before).text }
@@ -83,5 +87,14 @@ pub fn commands_are_judged()
     ensures halted { (turn : Turn) (text : List ℕ) → turn.item ≡ Command text → turn.before.halted ≡ true →
         (printed turn ≡ reply_line (number_of turn.before) Halted) × (behind turn ≡ turn.before) }
     ensures named { (turn : Turn) (line : List ℕ) → turn.item ≡ Issuer line →
-        (behind turn).issuer ≡ unwrap_or (result_ok (issuer_of_line line)) turn.before.issuer }
+        (behind turn).issuer ≡ unwrap_or (result_ok (issuer_named turn.before.issuing line)) turn.before.issuer }
+{}
+
+/// Where the issuer is fixed, he gives each command of the input, and each line of an issuer is refused, and changes
+/// nothing else.
+pub fn a_fixed_issuer_stays()
+    ensures stays { (fault : Option ℕ) (id : List ℕ) (base : Position) (bytes : List ℕ) →
+        AllByRecursion (λ (turn : Turn). turn.before.issuer ≡ first_issuer (Fixed id)) (input_turns fault (Fixed id) base bytes) }
+    ensures refuses { (turn : Turn) (id line : List ℕ) → turn.item ≡ Issuer line → turn.before.issuing ≡ Fixed id →
+        (printed turn ≡ reply_line (number_of turn.before) (Refused IssuerFixed)) × (behind turn ≡ record turn.before { has_refused = true }) }
 {}

@@ -9,7 +9,7 @@
 //!
 //! ```text
 //! let desk = Desk::open(alloc, disks)?;
-//! let (status, source, desk) = script(alloc, source, &mut sink, desk);
+//! let (status, source, desk) = script(alloc, source, &mut sink, desk, Issuing::Free);
 //! std::process::exit(status.code())
 //! ```
 #![tactic(auto)]
@@ -28,7 +28,7 @@ mod stopping;
 mod stream;
 
 pub use input::next_statement;
-pub use issuer::{first_issuer, issuer_refusal};
+pub use issuer::{Issuing, first_issuer, issuer_named};
 pub use replies::{Replies, write_all, write_before_read};
 pub use reply::{LONGEST_LINE, Refusal, Reply};
 pub use scripts::script;

@@ -17,6 +17,8 @@ pub enum Refusal {
     Command(OfCommand),
     /// A line of more than 4,096 bytes.
     LineTooLong,
+    /// A line that would name an issuer, where he is fixed.
+    IssuerFixed,
 }
 
 /// What is printed for a line, after the number.
@@ -40,6 +42,7 @@ impl Refusal {
         match self {
             Refusal::Command(why) => why.write(out),
             Refusal::LineTooLong => out.extend_from_slice(b"LINETOOLONG"),
+            Refusal::IssuerFixed => out.extend_from_slice(b"ISSUERFIXED"),
         }
     }
 }

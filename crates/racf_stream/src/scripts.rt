@@ -6,14 +6,17 @@ ghost use Rattle.racf_outside.specs.Causes.{HasCause, Rose};
 ghost use Rattle.racf_outside.specs.Reader.{at_start};
 ghost use Rattle.racf_desk.specs.Durable.{LeavesIt, SameIdle};
 ghost use Rattle.racf_desk.specs.Position.{Position};
-ghost use Rattle.racf_stream.specs.Durable.{DoesOn, Moves, StaysAlong, fault_in};
-ghost use Rattle.racf_stream.specs.Gathering.{IsCutShort, Settles};
+ghost use Rattle.racf_stream.specs.Durable.{DoesOn, Fails, LeavesInDoubt, Moves, StaysAlong, fault_in};
+ghost use Rattle.racf_stream.specs.Gathering.{Acknowledges, IsCutShort};
 ghost use Rattle.racf_stream.specs.Runs.{Ran, longest_input};
 ghost use Rattle.racf_stream.specs.Script.{stream, stream as machine, fault_of, is_whole, script_output, script_status, StandsAt};
 ghost use Rattle.racf_stream.specs.Processing.{Ends, Processes};
-ghost use Rattle.racf_stream.specs.Stream.{answer, new_stream};
+ghost use Rattle.racf_stream.specs.Status.{code_of};
+ghost use Rattle.racf_stream.specs.Stream.{answer, new_stream, number_of};
+ghost use Rattle.racf_stream.specs.declared.issuer.Issuing.{Issuing};
 
 use crate::input::next_statement;
+use crate::issuer::Issuing;
 use crate::replies::Replies;
 use crate::statement::{Kind, Statement};
 use crate::status::Status;
@@ -29,27 +32,32 @@ use std::alloc::{AllocError, Global};
 /// a source that gives line after line has the reply to each before it is asked for the next one. At most those of the
 /// lines of one block of the input wait, and each stands whole in memory before a part of it is written, and before a
 /// disk is asked. Where a disk fails a command, the requests behind it are answered on, and every further command is
-/// told so. Time grows with the input's length, and for each line with what the database takes to work its command.
+/// told so. Where the issuer is fixed, every line that would name one is refused. Time grows with the input's length, and
+/// for each line with what the database takes to work its command.
 pub fn script<S: Source, O: Sink, D: Disk>(
     alloc: Global,
     source: S,
     sink: &mut O,
     desk: Desk<D>,
+    issuing: Issuing,
 ) -> (Status, S, Desk<D>)
     requires running { desk.halted ≡ false }
     requires settled { desk.committed ≡ false }
 
     // Which bytes were read, what was written for them, and where the desk stands, wherever it stopped.
-    ensures ran { Ran (stream (fault_of result.2) desk.position) (StandsAt result.2) result.0 (S.left source) (S.left result.1) (O.taken sink.old) (O.taken sink.new) }
+    ensures ran { Ran (stream (fault_of result.2) issuing desk.position) (StandsAt result.2)
+        (Rose (S.faults source) (S.faults result.1)) (Rose (O.faults sink.old) (O.faults sink.new))
+        result.0 (S.left source) (S.left result.1) (O.taken sink.old) (O.taken sink.new) }
 
     // Where the input was read to its end and no disk failed, all of its output was written, and nothing else.
     ensures whole { IsTrue (is_whole result.0) → IfSome (S.left source) (λ bytes.
-        (O.taken sink.new ≡ append_known (O.taken sink.old) (script_output None desk.position bytes)) × (result.0 ≡ script_status None desk.position bytes)) }
+        (O.taken sink.new ≡ append_known (O.taken sink.old) (script_output None issuing desk.position bytes)) × (result.0 ≡ script_status None issuing desk.position bytes)) }
 
-    // What every crash leaves: meanwhile what stands for the position behind some front of the statements, and then,
-    // unless a disk failed, for that of the desk.
-    ensures moments { StaysAlong D.tells desk.position (S.left source) desk.store result.2.store }
+    // What every crash leaves: meanwhile what stands for the position behind some front of the statements, and then for
+    // that of the desk; or, where a disk failed, for this one or the one behind the command that was told so.
+    ensures moments { StaysAlong D.tells issuing desk.position (S.left source) desk.store result.2.store }
     ensures leaves { result.2.halted ≡ false → LeavesIt D.tells result.2.store result.2.position }
+    ensures in_doubt { result.2.halted ≡ true → LeavesInDoubt D.tells issuing desk.position (S.left source) result.2.store result.2.position }
     ensures idle { SameIdle desk.store result.2.store }
 
     // Why it stopped.
@@ -59,6 +67,7 @@ pub fn script<S: Source, O: Sink, D: Disk>(
     ensures write_fault { result.0 ≡ Status.WriteFault → Rose (O.faults sink.old) (O.faults sink.new) }
     ensures disk_fault { result.0 ≡ Status.DiskFault → result.2.halted ≡ true }
     ensures halted { result.2.halted ≡ true → Rose (D.faults desk.store.journal.disk) (D.faults result.2.store.journal.disk) }
+    ensures halted_status { result.2.halted ≡ true → 20 ≤ code_of result.0 }
     ensures too_long { result.0 ≡ Status.InputTooLong → IfSome (S.left source) (λ bytes. longest_input < length bytes) }
     ensures not_too_long { IsTrue (is_whole result.0) → IfSome (S.left source) (λ bytes. length bytes ≤ longest_input) }
 
@@ -71,7 +80,7 @@ pub fn script<S: Source, O: Sink, D: Disk>(
         Err(source) => return (Status::NoMemory, source, desk),
         Ok(lines) => lines,
     };
-    match Stream::new(alloc, desk) {
+    match Stream::new(alloc, desk, issuing) {
         Err(desk) => (Status::NoMemory, lines.into_source(), desk),
         Ok(mut stream) => {
             let status = run(alloc, &mut lines, &mut stream, sink);
@@ -88,9 +97,13 @@ fn run<S: Source, O: Sink, D: Disk>(
     sink: &mut O,
 ) -> Status
     requires begins { lines.old ≡ at_start lines.old.left lines.old.faults }
-    requires new { stream.old.state ≡ new_stream stream.old.state.position }
-    ensures ran { Ran (machine (fault_in stream.new) stream.old.state.position) (λ s. stream.new.state ≡ s) result lines.old.left lines.new.left (O.taken sink.old) (O.taken sink.new) }
-    ensures moments { StaysAlong D.tells stream.old.state.position lines.old.left stream.old.store stream.new.store }
+    requires new { stream.old.state ≡ new_stream stream.old.state.issuing stream.old.state.position }
+    ensures ran { Ran (machine (fault_in stream.new) stream.old.state.issuing stream.old.state.position) (λ s. stream.new.state ≡ s)
+        (Rose lines.old.faults lines.new.faults) (Rose (O.faults sink.old) (O.faults sink.new))
+        result lines.old.left lines.new.left (O.taken sink.old) (O.taken sink.new) }
+    ensures moments { StaysAlong D.tells stream.old.state.issuing stream.old.state.position lines.old.left stream.old.store stream.new.store }
+    ensures in_doubt { stream.new.state.halted ≡ true →
+        LeavesInDoubt D.tells stream.old.state.issuing stream.old.state.position lines.old.left stream.new.store stream.new.state.position }
     ensures idle { SameIdle stream.old.store stream.new.store }
     ensures read_fault { result ≡ Status.ReadFault → Rose lines.old.faults lines.new.faults }
     ensures write_fault { result ≡ Status.WriteFault → Rose (O.faults sink.old) (O.faults sink.new) }
@@ -134,8 +147,9 @@ fn process_statement<D: Disk>(
     replies: &mut Replies,
     room: &mut Vec<u8>,
 ) -> Result<(), AllocError>
-    ensures processes { (base : Position) → Processes base result (Some item) stream.old stream.new replies.old replies.new }
+    ensures processes { (issuing : Issuing) (base : Position) → Processes issuing base result (Some item) stream.old stream.new replies.old replies.new }
     ensures moves { Moves D.tells D.faults item stream.old stream.new }
+    ensures fails { stream.old.state.halted ≡ false → stream.new.state.halted ≡ true → Fails D.tells item stream.old stream.new }
 {
     let done = gather(alloc, stream, &item, replies);
     *room = item.into_room(alloc);
@@ -154,6 +168,7 @@ fn gather<D: Disk>(
     ensures ok { OnOk result (DoesOn (answer (fault_in stream.new) item.now) stream.old stream.new replies.old replies.new) }
     ensures err { OnErr result ((replies.new ≡ replies.old) × (stream.new ≡ stream.old)) }
     ensures moves { Moves D.tells D.faults item.now stream.old stream.new }
+    ensures fails { stream.old.state.halted ≡ false → stream.new.state.halted ≡ true → Fails D.tells item.now stream.old stream.new }
 {
     let room = replies.room()?;
     let done = stream.process(alloc, item, room);
@@ -171,7 +186,7 @@ fn acknowledge<O: Sink, D: Disk>(
     replies: &mut Replies,
     sink: &mut O,
 ) -> Result<(), Failed>
-    ensures settled { OnOk result (Settles replies.old replies.new (O.taken sink.old) (O.taken sink.new)) }
+    ensures settled { OnOk result (Acknowledges (number_of stream.now.state ≡ number) replies.old replies.new (O.taken sink.old) (O.taken sink.new)) }
     ensures front { OnErr result (IsCutShort replies.old (O.taken sink.old) (O.taken sink.new)) }
     ensures cause { HasCause (O.faults sink.old) (O.faults sink.new) result }
 {
@@ -188,7 +203,7 @@ fn end<O: Sink, D: Disk>(
     replies: &mut Replies,
     sink: &mut O,
 ) -> Status
-    ensures ended { Ends stop stream.now.state.halted stream.now.state.has_refused result replies.old (O.taken sink.old) (O.taken sink.new) }
+    ensures ended { Ends (Rose (O.faults sink.old) (O.faults sink.new)) stop stream.now.state.halted stream.now.state.has_refused result replies.old (O.taken sink.old) (O.taken sink.new) }
     ensures read_fault { result ≡ Status.ReadFault → stop ≡ Stop.ReadFault }
     ensures write_fault { result ≡ Status.WriteFault → Rose (O.faults sink.old) (O.faults sink.new) }
     ensures disk_fault { result ≡ Status.DiskFault → stream.now.state.halted ≡ true }

@@ -30,7 +30,7 @@ pub fn end_run<O: Sink>(
     replies: &mut Replies,
     sink: &mut O,
 ) -> Status
-    ensures ended { Ends stop failed refused result replies.old (O.taken sink.old) (O.taken sink.new) }
+    ensures ended { Ends (Rose (O.faults sink.old) (O.faults sink.new)) stop failed refused result replies.old (O.taken sink.old) (O.taken sink.new) }
     ensures read_fault { result ≡ Status.ReadFault → stop ≡ Stop.ReadFault }
     ensures write_fault { result ≡ Status.WriteFault → Rose (O.faults sink.old) (O.faults sink.new) }
     ensures disk_fault { result ≡ Status.DiskFault → failed ≡ true }

@@ -6,14 +6,12 @@ ghost use Rattle.racf_desk.specs.Durable.{LeavesIt};
 ghost use Rattle.racf_desk.specs.Made.{made_in};
 ghost use Rattle.racf_stream.specs.Durable.{Settles};
 
-use crate::issuer::{first_issuer, issuer_refusal};
+use crate::issuer::{Issuing, first_issuer, issuer_named};
 use crate::reply::{LONGEST_LINE, Refusal, Reply};
 use crate::statement::{LineText, Statement};
 use racf_desk::{Desk, Ready, Reply as Judgement};
 use racf_outside::{Disk, Failed};
-use request_files::{
-    AceeTable, LineRefusal, NamedIssuer, RequestLine, read_issuer, read_line, respond,
-};
+use request_files::{AceeTable, LineRefusal, NamedIssuer, RequestLine, read_line, respond};
 use std::alloc::{AllocError, Global};
 use std::marker::Model;
 
@@ -21,6 +19,8 @@ use std::marker::Model;
 pub(crate) struct Stream<D: Disk> {
     /// The database, with the image of its rows and the number of the commands that led to them.
     desk: Desk<D>,
+    /// Whether lines may name who gives the commands, or he is fixed.
+    issuing: Issuing,
     /// Who gives the commands.
     issuer: NamedIssuer,
     /// Some line was refused.
@@ -35,22 +35,22 @@ impl<D: Disk> Model for Stream<D> {
 
     ghost Value = { StreamOn D };
 
-    ghost view = { λ s. stream_on s.desk s.issuer s.has_refused s.acees };
+    ghost view = { λ s. stream_on s.desk s.issuing s.issuer s.has_refused s.acees };
 
     ghost invariant = { λ s. s.desk.committed ≡ false };
 }
 
 impl<D: Disk> Stream<D> {
     ghost use Rattle.request_files.specs.Seen.{line_read};
-    ghost use Rattle.racf_stream.specs.Durable.{Moves, Stays, StandsIn, fault_in, DoesOn};
+    ghost use Rattle.racf_stream.specs.Durable.{Moves, Fails, Stays, StandsIn, fault_in, DoesOn};
     ghost use Rattle.racf_stream.specs.Stream.{new_stream, answer, answer_line, request, refuse, command, name_issuer};
 
     /// The state before the first line. Where memory is short, the desk is given back.
     #[tactic(auto, unfolding(crate::specs::Stream::new_stream))]
-    pub(crate) fn new(alloc: Global, desk: Desk<D>) -> Result<Stream<D>, Desk<D>>
+    pub(crate) fn new(alloc: Global, desk: Desk<D>, issuing: Issuing) -> Result<Stream<D>, Desk<D>>
         requires running { desk.halted ≡ false }
         requires settled { desk.committed ≡ false }
-        ensures state { IfOk result (λ stream. stream ≡ record { state = new_stream desk.position; store = desk.store }) }
+        ensures state { IfOk result (λ stream. stream ≡ record { state = new_stream issuing desk.position; store = desk.store }) }
         ensures back { IfErr result (λ back. back ≡ desk) }
     {
         let Ok(acees) = AceeTable::new(alloc) else {
@@ -58,7 +58,8 @@ impl<D: Disk> Stream<D> {
         };
         Ok(Stream {
             desk,
-            issuer: first_issuer(),
+            issuer: first_issuer(&issuing),
+            issuing,
             has_refused: false,
             acees,
         })
@@ -72,6 +73,7 @@ impl<D: Disk> Stream<D> {
         self.desk.is_at_rest();
         let Stream {
             desk,
+            issuing: _,
             issuer: _,
             has_refused: _,
             acees: _,
@@ -120,6 +122,7 @@ impl<D: Disk> Stream<D> {
         ensures ok { OnOk result (DoesOn (answer (fault_in self.new) item.now) self.old self.new out.old.items out.new.items) }
         ensures err { OnErr result (self.new ≡ self.old) }
         ensures moves { Moves D.tells D.faults item.now self.old self.new }
+        ensures fails { self.old.state.halted ≡ false → self.new.state.halted ≡ true → Fails D.tells item.now self.old self.new }
     {
         match item {
             Statement::Command(text) => self.command(alloc, text, out),
@@ -141,15 +144,16 @@ impl<D: Disk> Stream<D> {
         ensures ok { OnOk result (DoesOn (command (fault_in self.new) text.now) self.old self.new out.old.items out.new.items) }
         ensures err { OnErr result (self.new ≡ self.old) }
         ensures moves { Moves D.tells D.faults (Statement.Command text.now) self.old self.new }
+        ensures fails { self.old.state.halted ≡ false → self.new.state.halted ≡ true → Fails D.tells (Statement.Command text.now) self.old self.new }
     {
         let NamedIssuer { id, group } = self.issuer;
         match self.desk.judge(alloc, id, group, text.as_slice()) {
             Ok(ready) => settle(&mut self.desk, ready, out),
             Err(Judgement::Refused(_, why)) => self.refuse(Refusal::Command(why), out),
             Err(Judgement::Halted(number)) => Reply::Halted.write_line(number, out),
-            Err(Judgement::Accepted(_) | Judgement::DiskFault(_) | Judgement::NoMemory) => {
-                Err(AllocError)
-            }
+            Err(Judgement::NoMemory) => Err(AllocError),
+            // What `judge` answers in place of a command is none of these two.
+            Err(Judgement::Accepted(_) | Judgement::DiskFault(_)) => Err(AllocError),
         }
     }
 
@@ -159,12 +163,12 @@ impl<D: Disk> Stream<D> {
         ensures err { OnErr result (self.new ≡ self.old) }
         ensures stays { Stays self.old self.new }
     {
-        match read_issuer(text.as_slice()) {
+        match issuer_named(&self.issuing, text.as_slice()) {
             Ok(issuer) => {
                 self.issuer = issuer;
                 Ok(())
             }
-            Err(why) => self.refuse(issuer_refusal(&why), out),
+            Err(why) => self.refuse(why, out),
         }
     }
 

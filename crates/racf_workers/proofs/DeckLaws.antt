@@ -10,7 +10,7 @@ use Rattle.command_history.specs.Events.{Extends, is_ended, mark_of}
 use Rattle.racroute.specs.Core.{Passing}
 use Rattle.racroute.specs.Replies.{Given, given_by, Says}
 use Rattle.racf_workers.specs.Deck.{Met, counted, is_refusal, is_failure, told_line}
-use Rattle.racf_workers.specs.Giving.{Issuing, Commands, told_of}
+use Rattle.racf_workers.specs.Giving.{Giving, Commands, told_of}
 
 -- the pass counts what the reply says
 pub says_counted : (base : Position) (given : Given) (told : Reply) (before behind : List Event) (pass back : Passing) → Says base given told before behind pass back → back ≡ counted told pass
@@ -21,7 +21,7 @@ says_counted base given (reply.DiskFault number) before behind pass back s = s.c
 says_counted base given reply.NoMemory before behind pass back s = s.kept
 
 -- A command was given, and what it was told stands behind what was there.
-pub commanded : (base : Position) (text shown : List ℕ) (told : Reply) (seen front : List Event) (pass back : Passing) (old new : Issuing) (gathered mid now : List ℕ)
+pub commanded : (base : Position) (text shown : List ℕ) (told : Reply) (seen front : List Event) (pass back : Passing) (old new : Giving) (gathered mid now : List ℕ)
     → ((before : List Event) × Extends seen before × Says base (given_by old.issuer.id old.issuer.group shown) told before front pass back) → shown ≡ text
     → told ≢ reply.NoMemory → new ≡ told_of told old → mid ≡ gathered → now ≡ mid ++ told_line told
     → Commands base text seen front pass back old new gathered now
@@ -45,13 +45,13 @@ commanded base text shown told seen front pass back old new gathered mid now say
     }
 
 -- what stands behind a reply, by what was remembered of it
-pub told_state : (told : Reply) (old : Issuing) (refused failed : Bool) → refused ≡ (old.has_refused || is_refusal told) → failed ≡ (old.has_failed || is_failure told)
-    → record { issuer = old.issuer; has_refused = refused; has_failed = failed } ≡ told_of told old
+pub told_state : (told : Reply) (old : Giving) (refused failed : Bool) → refused ≡ (old.has_refused || is_refusal told) → failed ≡ (old.has_failed || is_failure told)
+    → record { issuing = old.issuing; issuer = old.issuer; has_refused = refused; has_failed = failed } ≡ told_of told old
 told_state told old refused failed r f =
     ap (λ (x : Bool). new_with x failed) r ∙ ap (λ (x : Bool). new_with (old.has_refused || is_refusal told) x) f
   where
-    new_with : Bool → Bool → Issuing
-    new_with x y = record { issuer = old.issuer; has_refused = x; has_failed = y }
+    new_with : Bool → Bool → Giving
+    new_with x y = record { issuing = old.issuing; issuer = old.issuer; has_refused = x; has_failed = y }
 
 -- ---- disks that failed
 marked_last : (events : List Event) → is_ended events ≡ false → mark_of (events ++ Ended true ∷ []) ≡ Some true

@@ -2,6 +2,8 @@
 use Rattle.std.proofs.Common.{◌≡◌, ◌≢◌, ℕ, ◌+◌, ◌≤◌, ◌<◌, ◌^◌, Bool, false, List, [], ◌∷◌, ◌++◌, length, None, Some, Ok, Err, inl, inr, refl, sym, ◌∙◌, ap, subst, arith, append-nil, length-append}
 use Rattle.std.specs.Prelude.{Option, Result, IfSome}
 use Rattle.std.specs.Option.{option_to_list}
+use Rattle.std.specs.Io.KnownBytes.{append_known}
+use Rattle.racf_outside.specs.Causes.{Rose}
 use Rattle.racf_outside.specs.Lines as text
 use Rattle.racf_outside.specs.Reader.{Reader, at_start}
 use Rattle.racf_desk.specs.Position.{Position}
@@ -18,14 +20,14 @@ use Rattle.racf_stream.specs.Gathering.{Settles, IsCutShort}
 use Rattle.racf_stream.specs.NextStatement.{TakesStatements}
 use Rattle.racf_stream.specs.Processing.{Ends}
 use Rattle.racf_stream.specs.Runs.{longest_input}
-use Rattle.racf_stream.proofs.Walk.{Walk, Walk-none, Walk-items, Walk-settles, none_read}
+use Rattle.racf_stream.proofs.Walk.{Walk, Grows, Walk-none, Walk-items, Walk-settles, Ran-causes, none_read}
 use Rattle.racf_stream.proofs.Stops as stops
 use Rattle.racf_stream.proofs.ScriptLaws.{ran_too_long}
 use Rattle.racf_workers.specs.Lines.{asked, request_lines, IsRead, NextsRequest}
 use Rattle.racf_workers.specs.RequestFile.{Turn, FileState, file_state, new_file, turn_of, outcome_at, answered, step, text_at, request_machine, IsRight, Course, Stands, Answers}
 use Rattle.racf_workers.specs.Answering.{Between, Gathers, AnswersAt, AnswersNext, Skips}
 use Rattle.racf_workers.proofs.LineLaws.{no_lines}
-use Rattle.racf_workers.proofs.Lengthened.{with_more, after_more, output_more, turns_after}
+use Rattle.racf_workers.proofs.Lengthened.{with_more, after_more, output_more, output_behind, turns_after}
 
 abbrev state_at : Between → List Turn → List Event → List (List Event) → FileState
 state_at state turns seen fronts = file_state state.acees state.has_refused turns seen fronts
@@ -35,7 +37,7 @@ state_at state turns seen fronts = file_state state.acees state.has_refused turn
 pub record FileWalk (base : Position) (before seen : List Event) (source : Option (List ℕ)) (reader : Reader) (state : Between) (sunk now : Option (List ℕ)) (gathered : List ℕ) : Type 0 where
   pub fronts : List (List Event)
   pub turns : List Turn
-  pub walk : Walk (request_machine base before fronts) source reader (state_at state turns seen []) sunk now gathered
+  pub walk : Walk (request_machine base before fronts) source reader 0 (state_at state turns seen []) sunk now gathered
   pub course : Course base turns
   pub counted : length turns ≡ length fronts
 
@@ -52,18 +54,19 @@ settles base before seen source reader state sunk now then gathered rest w s =
     record {
       fronts = w.fronts;
       turns = w.turns;
-      walk = Walk-settles (request_machine base before w.fronts) source reader (state_at state w.turns seen []) sunk now then gathered rest w.walk s;
+      walk = Walk-settles (request_machine base before w.fronts) source reader 0 (state_at state w.turns seen []) sunk now then gathered rest w.walk s;
       course = w.course;
       counted = w.counted;
     }
 
 -- ---- one more front
 lengthened : (base : Position) (before seen : List Event) (source : Option (List ℕ)) (reader : Reader) (state : Between) (sunk now : Option (List ℕ)) (gathered : List ℕ) (fronts more : List (List Event)) (turns : List Turn) → length turns ≡ length fronts
-    → Walk (request_machine base before fronts) source reader (state_at state turns seen []) sunk now gathered → Walk (request_machine base before (fronts ++ more)) source reader (state_at state turns seen more) sunk now gathered
+    → Walk (request_machine base before fronts) source reader 0 (state_at state turns seen []) sunk now gathered → Walk (request_machine base before (fronts ++ more)) source reader 0 (state_at state turns seen more) sunk now gathered
 unfolding with_more
 lengthened base before seen source reader state sunk now gathered fronts more turns counted w =
     let size : length turns ≡ 0 + length w.done = ap (λ (s : FileState). length s.turns) w.state ∙ turns_after base before fronts w.done (new_file before fronts) in
     let few : length w.done ≤ length fronts = omega (arith, size, counted) in
+    let parts : length w.done ≡ length w.told + length w.waiting = ap length w.parts ∙ length-append w.told w.waiting in
     record {
       read = w.read;
       done = w.done;
@@ -72,9 +75,12 @@ lengthened base before seen source reader state sunk now gathered fronts more tu
       goes_on = w.goes_on;
       last = w.last;
       state = ap (with_more more) w.state ∙ sym (after_more base before fronts more w.done [] false [] before fronts few);
-      written = w.written;
-      gained = w.gained;
-      whole = output_more base before fronts more w.done [] false [] before fronts few ∙ w.whole;
+      told = w.told;
+      waiting = w.waiting;
+      parts = w.parts;
+      gained = w.gained ∙ ap (append_known sunk) (sym (output_more base before fronts more w.told [] false [] before fronts (omega (arith, few, parts))));
+      whole = w.whole ∙ sym (output_behind base before fronts more w.told w.waiting [] false [] before fronts (omega (arith, few, parts)));
+      few = omega arith;
     }
 
 course_more : (base : Position) (turns : List Turn) (turn : Turn) → Course base turns → IsRight base turn → Course base (turns ++ turn ∷ [])
@@ -108,10 +114,10 @@ answers_line base before seen front l bytes source old new s t sunk now then gat
       fronts = v.fronts ++ front ∷ [];
       turns = v.turns ++ turn ∷ [];
       walk =
-          Walk-items m (l ∷ []) bytes source old new start (state_at t (v.turns ++ turn ∷ []) front []) sunk then a.rest more
+          Walk-items m (l ∷ []) bytes source old new 0 0 start (state_at t (v.turns ++ turn ∷ []) front []) sunk then a.rest more
           (lengthened base before seen source old s sunk then a.rest v.fronts (front ∷ []) v.turns v.counted v.walk) takes
           (step_is base l s t v.turns seen front a.rest more a.gathers)
-          (text_is base l s t v.turns seen front a.rest more a.gathers);
+          (text_is base l s t v.turns seen front a.rest more a.gathers) (omega arith);
       course = course_more base v.turns turn v.course (record { later = later; moved = a.moved });
       counted = omega (arith, v.counted, length-append v.turns (turn ∷ []), length-append v.fronts (front ∷ []));
     }
@@ -121,7 +127,7 @@ skips_line : (base : Position) (before seen front : List Event) (bytes : List �
     → FileWalk base before front source new t sunk then more
 skips_line base before seen front bytes source old new s t sunk now then gathered more w takes k =
     let m = request_machine base before w.fronts in
-    let walk = Walk-items m [] bytes source old new (state_at s w.turns seen []) (state_at s w.turns seen []) sunk now gathered gathered w.walk takes refl (sym (append-nil gathered)) in
+    let walk = Walk-items m [] bytes source old new 0 0 (state_at s w.turns seen []) (state_at s w.turns seen []) sunk now gathered gathered w.walk takes refl (sym (append-nil gathered)) (omega arith) in
     let here : FileWalk base before seen source new s sunk now gathered = record { fronts = w.fronts; turns = w.turns; walk = walk; course = w.course; counted = w.counted } in
     subst (λ (e : List Event). FileWalk base before e source new t sunk then more) (sym k.front_is)
     (subst (λ (x : Between). FileWalk base before seen source new x sunk then more) (sym k.state)
@@ -149,62 +155,72 @@ passes_more told old new nexts = let some = nexts.2.some in let counted = nexts.
 pub same_events : (events : List Event) → Extends events events
 same_events events = record { prefix = ([], append-nil events); whole = λ ended. refl }
 
-module _ (base : Position) (before seen last : List Event) (source : Option (List ℕ)) (old new : Reader) (state : Between) (sunk now then : Option (List ℕ)) (gathered : List ℕ) (w : FileWalk base before seen source old state sunk now gathered) where
+-- no line is a command
+grows : (base : Position) (before : List Event) (fronts : List (List Event)) → Grows (request_machine base before fronts)
+grows base before fronts line s = omega arith
+
+-- R and W are why a read or a write may fail.
+module _ (base : Position) (before seen last : List Event) (R W : Type 0) (source : Option (List ℕ)) (old new : Reader) (state : Between) (sunk now then : Option (List ℕ)) (gathered : List ℕ) (w : FileWalk base before seen source old state sunk now gathered) where
   -- no line came
-  pub stopped : (refused : Bool) → refused ≡ state.has_refused → last ≡ seen → (why : Stop) (status : Status) → NextsRequest (Err why) old new → new.passed ≤ 2 ^ 28 → Ends why false refused status gathered now then → Answers base before last status source new.left sunk then
-  stopped refused is same why status h limit ends =
+  pub stopped : (refused : Bool) → refused ≡ state.has_refused → last ≡ seen → (why : Stop) (status : Status) → NextsRequest (Err why) old new → new.passed ≤ 2 ^ 28 → (Rose old.faults new.faults → R) → Ends W why false refused status gathered now then → Answers base before last R W status source new.left sunk then
+  stopped refused is same why status h limit read ends =
       let later : Extends seen last = subst (λ (e : List Event). Extends seen e) (sym same) (same_events seen) in
       record {
         fronts = w.fronts;
         ran =
-            stops.stopped (request_machine base before w.fronts) (Stands base status last) source old new (state_at state w.turns seen []) sunk now then gathered w.walk
-            (record { course = w.course; later = later; exact = λ _ _. sym same }) no_lines why status h limit
-            (subst (λ (r : Bool). Ends why false r status gathered now then) is ends);
+            stops.stopped (request_machine base before w.fronts) (Stands base status last) R W source old new 0 (state_at state w.turns seen []) sunk now then gathered w.walk
+            (record { course = w.course; later = later; exact = λ _ _. sym same }) (grows base before w.fronts) (omega arith) no_lines why status h limit read
+            (subst (λ (r : Bool). Ends W why false r status gathered now then) is ends);
       }
 
   -- what is gathered couldn't be written
-  pub cut : Extends seen last → IsCutShort gathered now then → Answers base before last WriteFault source new.left sunk then
-  cut later short =
+  pub cut : Extends seen last → W → IsCutShort gathered now then → Answers base before last R W WriteFault source new.left sunk then
+  cut later why short =
       record {
         fronts = w.fronts;
         ran =
-            stops.cut (request_machine base before w.fronts) (Stands base WriteFault last) source old new (state_at state w.turns seen []) sunk now then gathered w.walk
-            (record { course = w.course; later = later; exact = λ _ h. absurd (h refl) }) WriteFault short refl;
+            stops.cut (request_machine base before w.fronts) (Stands base WriteFault last) R W source old new 0 (state_at state w.turns seen []) sunk now then gathered w.walk
+            (record { course = w.course; later = later; exact = λ _ h. absurd (h refl) }) (grows base before w.fronts) (omega arith) why WriteFault short refl;
       }
 
   -- memory ran out before the line was answered
-  unanswered_by : Extends seen last → (status : Status) → Ends stop.NoMemory false state.has_refused status gathered now then → Answers base before last status source new.left sunk then
+  pub unanswered_by : Extends seen last → (status : Status) → Ends W stop.NoMemory false state.has_refused status gathered now then → Answers base before last R W status source new.left sunk then
   unanswered_by later status ends =
       record {
         fronts = w.fronts;
         ran =
-            stops.unanswered (request_machine base before w.fronts) (Stands base status last) source old new (state_at state w.turns seen []) sunk now then gathered w.walk
-            (record { course = w.course; later = later; exact = by ends }) status ends;
+            stops.unanswered (request_machine base before w.fronts) (Stands base status last) R W source old new 0 (state_at state w.turns seen []) sunk now then gathered w.walk
+            (record { course = w.course; later = later; exact = by ends }) (grows base before w.fronts) (omega arith) status ends;
       }
     where
-      by : Ends stop.NoMemory false state.has_refused status gathered now then → status ≢ NoMemory → status ≢ WriteFault → seen ≡ last
+      by : Ends W stop.NoMemory false state.has_refused status gathered now then → status ≢ NoMemory → status ≢ WriteFault → seen ≡ last
       by (inl h) not_memory not_write = absurd (not_memory h.0)
       by (inr h) not_memory not_write = absurd (not_write h.0)
 
 -- likewise where it is known that nothing has changed, but that what is gathered may have been written before a wait
-pub unanswered : (base : Position) (before seen last : List Event) (source : Option (List ℕ)) (old new : Reader) (s t : Between) (sunk now mid then : Option (List ℕ)) (gathered more : List ℕ) (refused : Bool) (status : Status)
-    → FileWalk base before seen source old s sunk now gathered → (t ≡ s) × Settles gathered more now mid → Extends seen last → refused ≡ t.has_refused → Ends stop.NoMemory false refused status more mid then
-    → Answers base before last status source new.left sunk then
-unanswered base before seen last source old new s t sunk now mid then gathered more refused status w same later is ends =
-    unanswered_by base before seen last source old new s sunk mid then more (settles base before seen source old s sunk now mid gathered more w same.1) later status
-    (subst (λ (r : Bool). Ends stop.NoMemory false r status more mid then) (is ∙ ap (λ (x : Between). x.has_refused) same.0) ends)
+pub unanswered : (base : Position) (before seen last : List Event) (R W : Type 0) (source : Option (List ℕ)) (old new : Reader) (s t : Between) (sunk now mid then : Option (List ℕ)) (gathered more : List ℕ) (refused : Bool) (status : Status)
+    → FileWalk base before seen source old s sunk now gathered → (t ≡ s) × Settles gathered more now mid → Extends seen last → refused ≡ t.has_refused → Ends W stop.NoMemory false refused status more mid then
+    → Answers base before last R W status source new.left sunk then
+unanswered base before seen last R W source old new s t sunk now mid then gathered more refused status w same later is ends =
+    unanswered_by base before seen last R W source old new s sunk mid then more (settles base before seen source old s sunk now mid gathered more w same.1) later status
+    (subst (λ (r : Bool). Ends W stop.NoMemory false r status more mid then) (is ∙ ap (λ (x : Between). x.has_refused) same.0) ends)
 
 -- nothing was read
-pub none_answered : (base : Position) (seen : List Event) (source left sunk : Option (List ℕ)) → Answers base seen seen NoMemory source left sunk sunk
-none_answered base seen source left sunk =
+pub none_answered : (base : Position) (seen : List Event) (R W : Type 0) (source left sunk : Option (List ℕ)) → Answers base seen seen R W NoMemory source left sunk sunk
+none_answered base seen R W source left sunk =
     record {
       fronts = [];
-      ran = none_read (request_machine base seen []) (Stands base NoMemory seen) source left sunk (record { course = tt; later = same_events seen; exact = λ _ _. refl });
+      ran = none_read (request_machine base seen []) (Stands base NoMemory seen) R W source left sunk (record { course = tt; later = same_events seen; exact = λ _ _. refl });
     }
 
 -- a line doesn't end within the longest input
-pub too_long : (base : Position) (before after : List Event) (status : Status) (source known left sunk now : Option (List ℕ)) → Answers base before after status source left sunk now → source ≡ known → status ≡ InputTooLong → IfSome known (λ bytes. longest_input < length bytes)
-too_long base before after status source known left sunk now a same is =
+pub too_long : (base : Position) (before after : List Event) (R W : Type 0) (status : Status) (source known left sunk now : Option (List ℕ)) → Answers base before after R W status source left sunk now → source ≡ known → status ≡ InputTooLong → IfSome known (λ bytes. longest_input < length bytes)
+too_long base before after R W status source known left sunk now a same is =
     let P : Option (List ℕ) → Type 0 = λ given. IfSome given (λ bytes. longest_input < length bytes) in
-    let long : P source = ran_too_long (request_machine base before a.fronts) (Stands base status after) status source left sunk now a.ran is in
+    let long : P source = ran_too_long (request_machine base before a.fronts) (Stands base status after) R W status source left sunk now a.ran is in
     subst P same long
+
+-- a run of the same file, by weaker causes
+pub answers-causes : (base : Position) (before after : List Event) (R R2 W W2 : Type 0) (status : Status) (source left sunk now : Option (List ℕ)) → (R → R2) → (W → W2) → Answers base before after R W status source left sunk now → Answers base before after R2 W2 status source left sunk now
+answers-causes base before after R R2 W W2 status source left sunk now r w a =
+    record { fronts = a.fronts; ran = Ran-causes (request_machine base before a.fronts) (Stands base status after) R R2 W W2 status source left sunk now r w a.ran }

@@ -36,6 +36,18 @@ module _ (base : Position) (before : List Event) (all more : List (List Event)) 
       let outcome = answered base turn in
       ap (λ bytes. outcome.text ++ bytes) (output_more lines outcome.acees (refused || outcome.refused) (turns ++ turn ∷ []) front fronts (omega arith))
 
+  -- likewise behind other lines
+  pub output_behind : (told lines : List text.Line) (acees : List NamedAcee) (refused : Bool) (turns : List Turn) (seen : List Event) (fronts : List (List Event)) → length told + length lines ≤ length fronts
+      → output (request_machine base before (all ++ more)) lines (after (request_machine base before (all ++ more)) told (file_state acees refused turns seen (fronts ++ more)))
+      ≡ output (request_machine base before all) lines (after (request_machine base before all) told (file_state acees refused turns seen fronts))
+  unfolding step
+  output_behind [] lines acees refused turns seen fronts h = output_more lines acees refused turns seen fronts (omega arith)
+  output_behind (l ∷ told) lines acees refused turns seen [] h = absurd (omega arith)
+  output_behind (l ∷ told) lines acees refused turns seen (front ∷ fronts) h =
+      let turn = turn_of l (file_state acees refused turns seen (front ∷ fronts)) in
+      let outcome = answered base turn in
+      output_behind told lines outcome.acees (refused || outcome.refused) (turns ++ turn ∷ []) front fronts (omega arith)
+
 -- each line has its turn
 pub turns_after : (base : Position) (before : List Event) (all : List (List Event)) (lines : List text.Line) (s : FileState) → length (after (request_machine base before all) lines s).turns ≡ length s.turns + length lines
 unfolding step

@@ -8,8 +8,7 @@ use Rattle.command_history.specs.Events.{Extends, mark_of}
 use Rattle.racroute.specs.Core.{Passing, number_behind}
 use Rattle.racroute.specs.Replies.{Given, given_by, Says}
 use Rattle.request_files.specs.declared.issuer_line.NamedIssuer.{NamedIssuer}
-use Rattle.request_files.specs.declared.line.LineRefusal.{LineRefusal}
-use Rattle.request_files.specs.IssuerLines.{issuer_of_line}
+use Rattle.racf_stream.specs.declared.issuer.Issuing.{Issuing}
 use Rattle.racf_stream.specs.declared.reply.Refusal.{Refusal}
 use Rattle.racf_stream.specs.declared.reply.Refusal.TheVariants as refusal
 use Rattle.racf_stream.specs.declared.reply.Reply.TheVariants as printed
@@ -17,7 +16,7 @@ use Rattle.racf_stream.specs.declared.statement.Statement.{Statement}
 use Rattle.racf_stream.specs.declared.statement.Statement.TheVariants as item
 use Rattle.racf_stream.specs.declared.status.Status.{Status}
 use Rattle.racf_stream.specs.declared.status.Status.TheVariants.{NoMemory, WriteFault}
-use Rattle.racf_stream.specs.IssuerLines.{first_issuer, issuer_refusal}
+use Rattle.racf_stream.specs.IssuerLines.{first_issuer, issuer_named}
 use Rattle.racf_stream.specs.Replies.{reply_line}
 use Rattle.racf_stream.specs.Runs.{Machine, Ran}
 use Rattle.racf_stream.specs.Script.{deck_statements}
@@ -31,6 +30,14 @@ told_line (reply.Refused number why) = reply_line number (printed.Refused (refus
 told_line (reply.Halted number) = reply_line number printed.Halted
 told_line (reply.DiskFault number) = reply_line number printed.DiskFault
 told_line reply.NoMemory = []
+
+-- the command was accepted
+abbrev pub is_acceptance : Reply → Bool
+is_acceptance (reply.Accepted number) = true
+is_acceptance (reply.Refused number why) = false
+is_acceptance (reply.Halted number) = false
+is_acceptance (reply.DiskFault number) = false
+is_acceptance reply.NoMemory = false
 
 -- the command was refused
 abbrev pub is_refusal : Reply → Bool
@@ -71,10 +78,11 @@ pub record Turn : Type 0 where
   pub pass : Passing
   pub met : Met
 
--- What stands between two lines: who gives the commands, whether a line was refused, whether a disk failed a command,
--- what the pass has counted, and what has been seen of the history. `schedule` is what the commands to come meet, which
+-- What stands between two lines: who gives the commands, and whether lines may name him; whether a line was refused;
+-- whether a disk failed a command; what the pass has counted; and what has been seen of the history. `schedule` is what the commands to come meet, which
 -- the threads of a run make; `turns` are those of the commands so far.
 pub record DeckState : Type 0 where
+  pub issuing : Issuing
   pub issuer : NamedIssuer
   pub has_refused : Bool
   pub has_failed : Bool
@@ -84,9 +92,9 @@ pub record DeckState : Type 0 where
   pub schedule : List Met
 
 -- before the first line
-abbrev pub new_deck : List Event → Passing → List Met → DeckState
-new_deck seen pass schedule =
-    record { issuer = first_issuer; has_refused = false; has_failed = false; pass = pass; seen = seen; turns = []; schedule = schedule }
+abbrev pub new_deck : Issuing → List Event → Passing → List Met → DeckState
+new_deck issuing seen pass schedule =
+    record { issuing = issuing; issuer = first_issuer issuing; has_refused = false; has_failed = false; pass = pass; seen = seen; turns = []; schedule = schedule }
 
 -- what the next command meets: where that isn't told, nothing
 abbrev pub first_met : List Event → List Met → Met
@@ -106,6 +114,7 @@ turn_of text s =
 abbrev pub behind_command : Turn → DeckState → DeckState
 behind_command turn s =
     record {
+      issuing = s.issuing;
       issuer = s.issuer;
       has_refused = s.has_refused || is_refusal turn.met.reply;
       has_failed = s.has_failed || is_failure turn.met.reply;
@@ -115,8 +124,9 @@ behind_command turn s =
       schedule = behind_first s.schedule;
     }
 
--- A line that names an issuer who fits prints nothing. One that doesn't fit is refused, and the issuer stays.
-abbrev pub behind_issuer : Result NamedIssuer LineRefusal → DeckState → DeckState
+-- A line that names an issuer who fits prints nothing. One that doesn't fit, and each one where he is fixed, is refused,
+-- and the issuer stays.
+abbrev pub behind_issuer : Result NamedIssuer Refusal → DeckState → DeckState
 behind_issuer (Ok issuer) s = record s { issuer = issuer }
 behind_issuer (Err why) s = record s { has_refused = true }
 
@@ -124,34 +134,35 @@ behind_issuer (Err why) s = record s { has_refused = true }
 abbrev pub refused_line : Position → List Event → Refusal → List ℕ
 refused_line base seen why = reply_line (number_behind base seen) (printed.Refused why)
 
-abbrev pub issuer_text : Position → List Event → Result NamedIssuer LineRefusal → List ℕ
+abbrev pub issuer_text : Position → List Event → Result NamedIssuer Refusal → List ℕ
 issuer_text base seen (Ok issuer) = []
-issuer_text base seen (Err why) = refused_line base seen (issuer_refusal why)
+issuer_text base seen (Err why) = refused_line base seen why
 
 -- What stands behind a statement. In a deck there are no requests: what begins as one is a command.
 unfoldable pub step : Statement → DeckState → DeckState
 step (item.Command text) s = behind_command (turn_of text s) s
 step (item.Request text) s = behind_command (turn_of text s) s
-step (item.Issuer text) s = behind_issuer (issuer_of_line text) s
+step (item.Issuer text) s = behind_issuer (issuer_named s.issuing text) s
 step item.LineTooLong s = record s { has_refused = true }
 
 -- what is printed for it: for a command, what it was told
 unfoldable pub text_at : Position → Statement → DeckState → List ℕ
 text_at base (item.Command text) s = told_line (turn_of text s).met.reply
 text_at base (item.Request text) s = told_line (turn_of text s).met.reply
-text_at base (item.Issuer text) s = issuer_text base s.seen (issuer_of_line text)
+text_at base (item.Issuer text) s = issuer_text base s.seen (issuer_named s.issuing text)
 text_at base item.LineTooLong s = refused_line base s.seen refusal.LineTooLong
 
--- A deck whose commands meet this, one after another, given by somebody who had seen so much, with a pass that had
+-- A deck whose commands meet this, one after another, given so, by somebody who had seen so much, with a pass that had
 -- counted so much.
-abbrev pub deck_machine : (base : Position) → (seen : List Event) → (pass : Passing) → (schedule : List Met) → Machine DeckState Statement
-deck_machine base seen pass schedule = record {
+abbrev pub deck_machine : (base : Position) → Issuing → (seen : List Event) → (pass : Passing) → (schedule : List Met) → Machine DeckState Statement
+deck_machine base issuing seen pass schedule = record {
   input = deck_statements;
-  start = new_deck seen pass schedule;
+  start = new_deck issuing seen pass schedule;
   step = step;
   text = text_at base;
   has_refused = λ s. s.has_refused;
   has_failed = λ s. s.has_failed;
+  accepted = λ s. s.pass.commands;
 }
 
 -- ---- what the commands met
@@ -169,18 +180,24 @@ Course base (turn ∷ turns) = IsRight base turn × Course base turns
 
 -- ---- a whole deck
 
--- Behind the commands that were given: each turn was right; the pass has counted them and no more; where a disk failed
--- one, the history has ended so; and all that was seen is a beginning of what the caller has seen now. It is the same,
--- unless memory ran out at a command that was not accepted.
+-- some of these commands was told that a disk failed it, or an earlier one
+abbrev pub any_failure : List Turn → Bool
+any_failure [] = false
+any_failure (turn ∷ turns) = is_failure turn.met.reply || any_failure turns
+
+-- Behind the commands that were given: each turn was right; the pass has counted them and no more; a disk failed one
+-- exactly where a line says DISKFAULT or HALTED, and then the history has ended so; and all that was seen is a beginning
+-- of what the caller has seen now. It is the same, unless memory ran out at a command that was not accepted.
 pub record Stands (base : Position) (status : Status) (now : List Event) (pass : Passing) (s : DeckState) : Type 0 where
   pub course : Course base s.turns
   pub counts : s.pass ≡ pass
+  pub fails : s.has_failed ≡ any_failure s.turns
   pub failed : s.has_failed ≡ true → mark_of s.seen ≡ Some true
   pub later : Extends s.seen now
   pub exact : status ≢ NoMemory → status ≢ WriteFault → s.seen ≡ now
 
 -- The output of a deck is what its commands were told, each behind some list of the history that extends what its
 -- caller had seen then, and what its other lines print.
-pub record Gives (base : Position) (before after : List Event) (pass back : Passing) (status : Status) (source left sunk now : Option (List ℕ)) : Type 0 where
+pub record Gives (base : Position) (issuing : Issuing) (before after : List Event) (pass back : Passing) (read_failed write_failed : Type 0) (status : Status) (source left sunk now : Option (List ℕ)) : Type 0 where
   pub schedule : List Met
-  pub ran : Ran (deck_machine base before pass schedule) (Stands base status after back) status source left sunk now
+  pub ran : Ran (deck_machine base issuing before pass schedule) (Stands base status after back) read_failed write_failed status source left sunk now

@@ -83,6 +83,7 @@ request_machine base seen fronts = record {
   text = text_at base;
   has_refused = λ s. s.has_refused;
   has_failed = λ s. false;
+  accepted = λ s. 0;
 }
 
 -- ---- the fronts
@@ -126,6 +127,6 @@ pub record Stands (base : Position) (status : Status) (now : List Event) (s : Fi
 
 -- The output of a request file is what its lines print, each answered at some front of the history that its caller had
 -- seen then; the fronts only grow, from what the caller had seen before.
-pub record Answers (base : Position) (before after : List Event) (status : Status) (source left sunk now : Option (List ℕ)) : Type 0 where
+pub record Answers (base : Position) (before after : List Event) (read_failed write_failed : Type 0) (status : Status) (source left sunk now : Option (List ℕ)) : Type 0 where
   pub fronts : List (List Event)
-  pub ran : Ran (request_machine base before fronts) (Stands base status after) status source left sunk now
+  pub ran : Ran (request_machine base before fronts) (Stands base status after) read_failed write_failed status source left sunk now

@@ -11,7 +11,8 @@
 //!
 //! ```text
 //! let (status, source) = answer_requests(rt, alloc, &racf, &mut caller, source, &mut sink, &Idle, 0);
-//! let (status, source) = give_commands(rt, alloc, &racf, &mut caller, &mut pass, source, &mut sink, &Idle, 1);
+//! let (status, source) =
+//!     give_commands(rt, alloc, &racf, &mut caller, &mut pass, source, &mut sink, Issuing::Free, &Idle, 1);
 //! ```
 #![tactic(auto)]
 
@@ -19,7 +20,7 @@ mod answering;
 mod between;
 mod decks;
 mod gate;
-mod issuing;
+mod giving;
 mod reading;
 mod requests;
 mod telling;

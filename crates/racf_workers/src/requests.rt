@@ -51,7 +51,9 @@ pub fn answer_requests<
     worker: u32,
 ) -> (Status, I)
     // Which bytes were read, and what was written for them, wherever it stopped.
-    ensures answers { Answers J.base caller.old.events caller.new.events result.0 (I.left source) (I.left result.1) (K.taken sink.old) (K.taken sink.new) }
+    ensures answers { Answers J.base caller.old.events caller.new.events
+        (Rose (I.faults source) (I.faults result.1)) (Rose (K.faults sink.old) (K.faults sink.new))
+        result.0 (I.left source) (I.left result.1) (K.taken sink.old) (K.taken sink.new) }
     ensures later { Extends caller.old.events caller.new.events }
 
     // Why it stopped.
@@ -106,7 +108,9 @@ fn run<
 ) -> Status
     requires begins { lines.old ≡ at_start lines.old.left lines.old.faults }
     requires new { state.old ≡ record { acees = []; has_refused = false } }
-    ensures answers { Answers J.base caller.old.events caller.new.events result lines.old.left lines.new.left (K.taken sink.old) (K.taken sink.new) }
+    ensures answers { Answers J.base caller.old.events caller.new.events
+        (Rose lines.old.faults lines.new.faults) (Rose (K.faults sink.old) (K.faults sink.new))
+        result lines.old.left lines.new.left (K.taken sink.old) (K.taken sink.new) }
     ensures later { Extends caller.old.events caller.new.events }
     ensures disk_fault { result ≢ Status.DiskFault }
     ensures read_fault { result ≡ Status.ReadFault → Rose lines.old.faults lines.new.faults }

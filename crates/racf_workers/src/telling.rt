@@ -2,7 +2,7 @@
 
 ghost use Rattle.std.specs.Prelude.{◌≡◌, ◌≢◌, ◌+◌, ◌≤◌, ◌++◌, true, OnOk, OnErr, vec_len, vec_capacity};
 ghost use Rattle.racf_stream.specs.Replies.{longest_line};
-ghost use Rattle.racf_workers.specs.Deck.{told_line, is_refusal, is_failure};
+ghost use Rattle.racf_workers.specs.Deck.{told_line, is_acceptance, is_refusal, is_failure};
 ghost use Rattle.racf_workers.specs.Giving.{may_be_lost};
 
 use racf_desk::Reply;
@@ -10,7 +10,9 @@ use racf_stream::{Refusal, Reply as Printed};
 use std::alloc::AllocError;
 
 /// Whether a command was accepted, so that its reply is to be written at once.
-pub(crate) fn is_accepted(reply: &Reply) -> bool {
+pub(crate) fn is_accepted(reply: &Reply) -> bool
+    ensures { result ≡ is_acceptance reply.now }
+{
     matches!(reply, Reply::Accepted(_))
 }
 

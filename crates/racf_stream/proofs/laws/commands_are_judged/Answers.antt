@@ -1,4 +1,4 @@
-use Rattle.racf_stream.proofs.CommandLaws.{command_told, command_moved, halted_text, halted_state, issuer_named}
+use Rattle.racf_stream.proofs.CommandLaws.{command_told, command_moved, halted_text, halted_state, issuer_left}
 use Rattle.racf_stream.proofs.laws.commands_are_judged.Goals as goal
 
 -- what a command prints is its outcome's answer
@@ -15,4 +15,4 @@ returns-clause-halted c = λ turn text is halts. (halted_text turn text is halts
 
 -- a line of an issuer who fits is the issuer of the next statements
 pub returns-clause-named : goal.returns-clause-named
-returns-clause-named c = issuer_named
+returns-clause-named c = issuer_left

@@ -6,7 +6,7 @@ use Rattle.racf_workers.proofs.decks.run.Given as goal
 abbrev pub invariant-item : goal.invariant-item
 invariant-item g l =
     record {
-      walk : DeckWalk g.J.Naming.base l.fn.caller.events l.caller.events l.fn.pass l.pass l.fn.lines.left l.lines l.state (g.K.Sink.taken l.fn.sink) (g.K.Sink.taken l.sink) l.replies;
+      walk : DeckWalk g.J.Naming.base l.fn.issuing l.fn.caller.events l.caller.events l.fn.pass l.pass l.fn.lines.left l.lines 0 l.state (g.K.Sink.taken l.fn.sink) (g.K.Sink.taken l.sink) l.replies;
       most : l.lines.passed ≤ 2 ^ 28;
       counted : l.number ≤ l.lines.passed;
       later : Extends l.fn.caller.events l.caller.events;

@@ -1,6 +1,6 @@
 //! What stands between two lines of a deck.
 
-ghost use Rattle.std.specs.Prelude.{◌≡◌, OnOk, OnErr};
+ghost use Rattle.std.specs.Prelude.{◌≡◌, false, IfOk, OnOk, OnErr};
 ghost use Rattle.command_history.specs.Events.{Extends};
 
 use crate::telling::{is_accepted, is_failure, is_refusal, write_reply};
@@ -8,11 +8,12 @@ use command_history::Naming;
 use left_right::Absorb;
 use racf_outside::Disk;
 use racf_stream::{
-    LONGEST_LINE, LineText, Refusal, Reply as Printed, Statement, first_issuer, issuer_refusal,
+    Issuing, LONGEST_LINE, LineText, Refusal, Reply as Printed, Statement, first_issuer,
+    issuer_named,
 };
 use raclist_snapshots::{Caller, Note, Opens};
 use racroute::{DeckPass, Racf};
-use request_files::{NamedIssuer, read_issuer};
+use request_files::NamedIssuer;
 use std::alloc::{AllocError, Global};
 use std::marker::Model;
 use std::sync::Wait;
@@ -20,7 +21,9 @@ use std::sync::ledger::Ledger;
 
 /// What stands between two lines of a deck, but for what its caller has seen and its pass has counted.
 #[derive(Drop)]
-pub(crate) struct Issuing {
+pub(crate) struct Giving {
+    /// Whether lines may name who gives the commands, or he is fixed.
+    issuing: Issuing,
     /// Who gives the commands.
     issuer: NamedIssuer,
     /// Some line was refused.
@@ -29,24 +32,25 @@ pub(crate) struct Issuing {
     has_failed: bool,
 }
 
-impl Model for Issuing {
-    ghost use Rattle.racf_workers.specs.Giving.{Issuing as State};
+impl Model for Giving {
+    ghost use Rattle.racf_workers.specs.Giving.{Giving as State};
 
     ghost Value = { State };
 
-    ghost view = { λ s. record { issuer = s.issuer; has_refused = s.has_refused; has_failed = s.has_failed } };
+    ghost view = { λ s. record { issuing = s.issuing; issuer = s.issuer; has_refused = s.has_refused; has_failed = s.has_failed } };
 }
 
-impl Issuing {
-    ghost use Rattle.request_files.specs.IssuerLines.{issuer_of_line};
-    ghost use Rattle.racf_workers.specs.Giving.{new_issuing, Commands, NamesIssuer, Refuses, WorksItem};
+impl Giving {
+    ghost use Rattle.racf_stream.specs.IssuerLines.{issuer_named};
+    ghost use Rattle.racf_workers.specs.Giving.{new_giving, Commands, NamesIssuer, Refuses, WorksItem};
 
     /// Before the first line.
-    pub(crate) fn new() -> Issuing
-        ensures { result ≡ new_issuing }
+    pub(crate) fn new(issuing: Issuing) -> Giving
+        ensures { result ≡ new_giving issuing }
     {
-        Issuing {
-            issuer: first_issuer(),
+        Giving {
+            issuer: first_issuer(&issuing),
+            issuing,
             has_refused: false,
             has_failed: false,
         }
@@ -89,6 +93,7 @@ impl Issuing {
         out: &mut Vec<u8>,
     ) -> Result<bool, AllocError>
         ensures works { OnOk result (WorksItem J.base item.now caller.old.events caller.new.events pass.old pass.new self.old self.new out.old.items out.new.items) }
+        ensures accepted { IfOk result (λ accepted. accepted ≡ false → pass.new.commands ≡ pass.old.commands) }
         ensures kept { OnErr result ((pass.new ≡ pass.old) × (self.new ≡ self.old)) }
         ensures later { Extends caller.old.events caller.new.events }
     {
@@ -124,6 +129,7 @@ impl Issuing {
         out: &mut Vec<u8>,
     ) -> Result<bool, AllocError>
         ensures works { OnOk result (Commands J.base text.now caller.old.events caller.new.events pass.old pass.new self.old self.new out.old.items out.new.items) }
+        ensures accepted { IfOk result (λ accepted. accepted ≡ false → pass.new.commands ≡ pass.old.commands) }
         ensures kept { OnErr result ((pass.new ≡ pass.old) × (self.new ≡ self.old)) }
         ensures later { Extends caller.old.events caller.new.events }
     {
@@ -145,15 +151,15 @@ impl Issuing {
         text: &LineText,
         out: &mut Vec<u8>,
     ) -> Result<bool, AllocError>
-        ensures works { OnOk result (NamesIssuer J.base (issuer_of_line text.now) caller.now.events self.old self.new out.old.items out.new.items) }
+        ensures works { OnOk result (NamesIssuer J.base (issuer_named self.old.issuing text.now) caller.now.events self.old self.new out.old.items out.new.items) }
         ensures kept { OnErr result (self.new ≡ self.old) }
     {
-        match read_issuer(text.as_slice()) {
+        match issuer_named(&self.issuing, text.as_slice()) {
             Ok(issuer) => {
                 self.issuer = issuer;
                 Ok(false)
             }
-            Err(why) => self.refuse(caller, issuer_refusal(&why), out),
+            Err(why) => self.refuse(caller, why, out),
         }
     }
 

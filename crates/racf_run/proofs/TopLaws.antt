@@ -43,9 +43,9 @@ ends_at : {D : Type 0} (tells : D → Option History) (issuing : Issuing) (base 
 ends_at tells issuing base input desk leaves in_doubt s stands = (
   ap (λ h. fault_at h desk.position.image.generation) stands.halted ∙ ap (λ (p : Position). fault_at s.halted p.image.generation) stands.position,
   record {
-      stands = stands;
-      leaves = λ h. subst (LeavesIt tells desk.store) stands.position (leaves (stands.halted ∙ h));
-      in_doubt = λ h. subst (LeavesInDoubt tells issuing base input desk.store) stands.position (in_doubt (stands.halted ∙ h));
+    stands = stands;
+    leaves = λ h. subst (LeavesIt tells desk.store) stands.position (leaves (stands.halted ∙ h));
+    in_doubt = λ h. subst (LeavesInDoubt tells issuing base input desk.store) stands.position (in_doubt (stands.halted ∙ h));
   },
 )
 

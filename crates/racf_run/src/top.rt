@@ -153,7 +153,14 @@ where
     ensures second_faults { D.faults disks.second ≤ D.faults result.1.second }
 {
     if let Some(files) = script_files(words) {
-        return script_on(alloc, files.issuing, files.input, files.output, shelf, disks);
+        return script_on(
+            alloc,
+            files.issuing,
+            files.input,
+            files.output,
+            shelf,
+            disks,
+        );
     }
     if let Some(asked) = run_words(words) {
         return run_on(rt, alloc, asked, shelf, disks, gate);
@@ -335,8 +342,17 @@ fn script_files(words: &[String]) -> Option<Files<'_>>
     ensures { option_map (λ files. record { issuing = files.issuing; input = files.input.now; output = files.output.now }) result ≡ script_files (map string_bytes words.now) }
 {
     match words {
-        [verb, input, output] if verb.as_str() == "script" => files_of(Issuing::Free, input.as_str(), output.as_str()),
-        [verb, word, id, input, output] if verb.as_str() == "script" && is_issuer_word(word.as_str()) => files_of(fixed_issuer(id.as_str())?, input.as_str(), output.as_str()),
+        [verb, input, output] if verb.as_str() == "script" => files_of(
+            Issuing::Free,
+            input.as_str(),
+            output.as_str(),
+        ),
+        [verb, word, id, input, output]
+            if verb.as_str() == "script" && is_issuer_word(word.as_str()) => files_of(
+            fixed_issuer(id.as_str())?,
+            input.as_str(),
+            output.as_str(),
+        ),
         _ => None,
     }
 }

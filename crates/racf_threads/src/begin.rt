@@ -94,7 +94,9 @@ pub(crate) fn begun<
         Err(_) => return Err((desk, files)),
     };
     match Racf::<J, _, _, _, S, F, P, D>::start(alloc, publisher, blanks, desk, decks) {
-        Ok((racf, passes)) => Ok(ran(rt, alloc, racf, callers, passes, decks, files, room, issuing, gate)),
+        Ok((racf, passes)) => Ok(ran(
+            rt, alloc, racf, callers, passes, decks, files, room, issuing, gate,
+        )),
         Err(desk) => {
             room.give_back();
             Err((desk, files))

@@ -193,9 +193,9 @@ module _ (base : Position) (issuing : Issuing) (before seen : List Event) (first
   goes_on None bytes front back old new next s t sunk now gathered more w takes later a few =
       apart [] s [] bytes front back old new next s t sunk now gathered more (λ all turns rest. refl) (λ all turns rest. refl) refl w takes a
   goes_on (Some (item.Command text)) bytes front back old new next s t sunk now gathered more w takes later a few =
-      commanded (item.Command text) text front back bytes old new s t sunk now gathered more (λ d. refl) (λ d. refl) w takes later a few
+      commanded (item.Command text) text front back bytes old new next s t sunk now gathered more (λ d. refl) (λ d. refl) w takes later a few
   goes_on (Some (item.Request text)) bytes front back old new next s t sunk now gathered more w takes later a few =
-      commanded (item.Request text) text front back bytes old new s t sunk now gathered more (λ d. refl) (λ d. refl) w takes later a few
+      commanded (item.Request text) text front back bytes old new next s t sunk now gathered more (λ d. refl) (λ d. refl) w takes later a few
   goes_on (Some (item.Issuer text)) bytes front back old new next s t sunk now gathered more w takes later a few =
       named text (issuer_named s.issuing text) bytes front back old new next s t sunk now gathered more refl w takes a
   goes_on (Some item.LineTooLong) bytes front back old new next s t sunk now gathered more w takes later a few =

@@ -341,20 +341,20 @@ fn is_init(words: &[String]) -> bool
 fn script_files(words: &[String]) -> Option<Files<'_>>
     ensures { option_map (λ files. record { issuing = files.issuing; input = files.input.now; output = files.output.now }) result ≡ script_files (map string_bytes words.now) }
 {
-    match words {
-        [verb, input, output] if verb.as_str() == "script" => files_of(
-            Issuing::Free,
-            input.as_str(),
-            output.as_str(),
-        ),
-        [verb, word, id, input, output]
-            if verb.as_str() == "script" && is_issuer_word(word.as_str()) => files_of(
-            fixed_issuer(id.as_str())?,
-            input.as_str(),
-            output.as_str(),
-        ),
-        _ => None,
+    if let [verb, input, output] = words {
+        if verb.as_str() != "script" {
+            return None;
+        }
+        return files_of(Issuing::Free, input.as_str(), output.as_str());
     }
+    let [verb, word, id, input, output] = words else {
+        return None;
+    };
+    if verb.as_str() != "script" || !is_issuer_word(word.as_str()) {
+        return None;
+    }
+    let issuing = fixed_issuer(id.as_str())?;
+    files_of(issuing, input.as_str(), output.as_str())
 }
 
 /// The files of these names, where they differ or are both `-`.

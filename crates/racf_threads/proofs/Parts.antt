@@ -39,11 +39,11 @@ module _ {I K : Type 0} (left : I → Option (List ℕ)) (reads : I → ℕ) (ta
   -- The workers of these files have worked, and the office is closed.
   module _ (entries : List Accepted) (halted : Bool) (decks : ℕ) (passes : List Passing) (files : List (I × K)) (olds news : List (Working I K))
       (few : decks ≤ length files) (passes_are : passes ≡ new_passes decks) (olds_are : olds ≡ new_workers passes files)
-      (did : AllZip (HasWorked left reads taken writes base) olds news) where
-    from_seats : AllZip (HasWorked left reads taken writes base) (new_workers (new_passes decks) files) news
+      (did : AllZip (HasWorked left reads taken writes base issuing) olds news) where
+    from_seats : AllZip (HasWorked left reads taken writes base issuing) (new_workers (new_passes decks) files) news
     from_seats =
-        let at_seats = subst (λ (l : List (Working I K)). AllZip (HasWorked left reads taken writes base) l news) olds_are did in
-        subst (λ (l : List Passing). AllZip (HasWorked left reads taken writes base) (new_workers l files) news) passes_are at_seats
+        let at_seats = subst (λ (l : List (Working I K)). AllZip (HasWorked left reads taken writes base issuing) l news) olds_are did in
+        subst (λ (l : List Passing). AllZip (HasWorked left reads taken writes base issuing) (new_workers l files) news) passes_are at_seats
 
     -- Each deck has handed its pass in.
     pub handed_in : length (filter_map (λ w. w.end) news) ≡ decks
@@ -60,7 +60,7 @@ module _ {I K : Type 0} (left : I → Option (List ℕ)) (reads : I → ℕ) (ta
         let cut : (new_workers (new_passes decks) files ≡ new_workers (new_passes (length (take decks files))) (take decks files ++ drop decks files)) =
         ap (λ (n : ℕ). new_workers (new_passes n) files) (sym (taken_count decks files few))
         ∙ ap (λ (l : List (I × K)). new_workers (new_passes (length (take decks files))) l) (sym (take-append-drop decks files)) in
-        let whole = subst (λ (l : List (Working I K)). AllZip (HasWorked left reads taken writes base) l news) cut from_seats in
+        let whole = subst (λ (l : List (Working I K)). AllZip (HasWorked left reads taken writes base issuing) l news) cut from_seats in
         let all = subst (λ (l : List Seeing). All (λ (caller : Seeing). Extends caller.events (all_of entries halted)) l) callers_are seen in
         let counted = subst (λ (l : List Passing). sum_by (λ (p : Passing). p.commands) l ≡ length entries) ends_were commands in
         let failing = subst (λ (l : List Passing). sum_by (λ (p : Passing). p.faults) l ≡ fault_count halted) ends_were faults in
@@ -76,6 +76,16 @@ module _ {I K : Type 0} (left : I → Option (List ℕ)) (reads : I → ℕ) (ta
         let marked = failed left reads taken writes base issuing (all_of entries halted) (new_passes decks) files news from_seats (later (all_of entries halted) news all) (sym status_is ∙ is) in
         let halts : Some halted ≡ Some true = sym (mark_of_all entries halted) ∙ marked in
         cc
+
+  -- What was run over one list was run over the two that it is made of.
+  pub over_two : (entries : List Accepted) (halted : Bool) (status : Status) (decks requests files outs : List (I × K)) (count : ℕ) → files ≡ decks ++ requests → count ≡ length decks
+      → RunsTogether left reads taken writes base issuing entries halted status (take count files) (drop count files) outs
+      → RunsTogether left reads taken writes base issuing entries halted status decks requests outs
+  over_two entries halted status decks requests files outs count files_are count_is ran =
+      subst (λ (l : List (I × K)). RunsTogether left reads taken writes base issuing entries halted status l requests outs) (first_part decks requests)
+      (subst (λ (l : List (I × K)). RunsTogether left reads taken writes base issuing entries halted status (take (length decks) (decks ++ requests)) l outs) (last_part decks requests)
+      (subst (λ (n : ℕ). RunsTogether left reads taken writes base issuing entries halted status (take n (decks ++ requests)) (drop n (decks ++ requests)) outs) count_is
+      (subst (λ (l : List (I × K)). RunsTogether left reads taken writes base issuing entries halted status (take count l) (drop count l) outs) files_are ran)))
 
   -- There was no memory for it.
   pub idle_over : (decks : ℕ) (files outs : List (I × K)) (status : Status) (entries : List Accepted) (halted : Bool) → 0 < length files → outs ≡ files → status ≡ statuses.NoMemory → entries ≡ [] → halted ≡ false

@@ -84,7 +84,7 @@ module _ {I K : Type 0} (left : I → Option (List ℕ)) (reads : I → ℕ) (ta
   answered_of given new did = did
 
   -- Where one ended by a disk fault, the history has ended so.
-  pub failed : (whole : List Event) (passes : List Passing) (files : List (I × K)) (news : List (Working I K)) → AllZip (HasWorked left reads taken writes base) (new_workers passes files) news → Later whole news
+  pub failed : (whole : List Event) (passes : List Passing) (files : List (I × K)) (news : List (Working I K)) → AllZip (HasWorked left reads taken writes base issuing) (new_workers passes files) news → Later whole news
       → greatest (map (λ w. w.status) news) ≡ statuses.DiskFault → mark_of whole ≡ Some true
   failed whole passes [] [] did seen is = cc
   failed whole passes [] (new ∷ news) did seen is = absurd did
@@ -111,7 +111,7 @@ module _ {I K : Type 0} (left : I → Option (List ℕ)) (reads : I → ℕ) (ta
     pub ends : filter_map (λ w. w.end) news ≡ []
     pub status : map (λ w. w.status) news ≡ map (λ w. w.status) workers
 
-  files : (whole : List Event) (requests : List (I × K)) (news : List (Working I K)) → AllZip (HasWorked left reads taken writes base) (new_workers [] requests) news → Later whole news → Files whole requests news
+  files : (whole : List Event) (requests : List (I × K)) (news : List (Working I K)) → AllZip (HasWorked left reads taken writes base issuing) (new_workers [] requests) news → Later whole news → Files whole requests news
   files whole [] [] did seen = record { workers = []; are = tt; given_are = refl; outs = refl; ends = refl; status = refl }
   files whole [] (new ∷ news) did seen = absurd did
   files whole (given ∷ requests) [] did seen = absurd did
@@ -136,14 +136,14 @@ module _ {I K : Type 0} (left : I → Option (List ℕ)) (reads : I → ℕ) (ta
     pub rest : List (Working I K)
     pub gave : DecksGave left reads taken writes base issuing whole deck workers backs
     pub given_are : map (λ w. w.given) workers ≡ decks
-    pub did : AllZip (HasWorked left reads taken writes base) (new_workers [] requests) rest
+    pub did : AllZip (HasWorked left reads taken writes base issuing) (new_workers [] requests) rest
     pub seen : Later whole rest
     pub outs : filter_map (λ w. w.files) news ≡ map (λ w. w.back) workers ++ filter_map (λ w. w.files) rest
     pub ends : filter_map (λ w. w.end) news ≡ backs ++ filter_map (λ w. w.end) rest
     pub status : map (λ w. w.status) news ≡ map (λ w. w.status) workers ++ map (λ w. w.status) rest
 
   decks_of : (whole : List Event) (deck : ℕ) (decks requests : List (I × K)) (news : List (Working I K))
-      → AllZip (HasWorked left reads taken writes base) (new_workers (passes_from deck (length decks)) (decks ++ requests)) news → Later whole news → Decks whole deck decks requests news
+      → AllZip (HasWorked left reads taken writes base issuing) (new_workers (passes_from deck (length decks)) (decks ++ requests)) news → Later whole news → Decks whole deck decks requests news
   decks_of whole deck [] requests news did seen =
       record { workers = []; backs = []; rest = news; gave = tt; given_are = refl; did = did; seen = seen; outs = refl; ends = refl; status = refl }
   decks_of whole deck (given ∷ decks) requests [] did seen = absurd did
@@ -167,14 +167,14 @@ module _ {I K : Type 0} (left : I → Option (List ℕ)) (reads : I → ℕ) (ta
   -- ---- a whole run
 
   pub runs : (entries : List Accepted) (halted : Bool) (decks requests : List (I × K)) (news : List (Working I K))
-      → AllZip (HasWorked left reads taken writes base) (new_workers (new_passes (length decks)) (decks ++ requests)) news
+      → AllZip (HasWorked left reads taken writes base issuing) (new_workers (new_passes (length decks)) (decks ++ requests)) news
       → All (λ (caller : Seeing). Extends caller.events (all_of entries halted)) (map (λ w. w.caller) news)
       → sum_by (λ (p : Passing). p.commands) (filter_map (λ w. w.end) news) ≡ length entries
       → sum_by (λ (p : Passing). p.faults) (filter_map (λ w. w.end) news) ≡ fault_count halted
       → RunsTogether left reads taken writes base issuing entries halted (greatest (map (λ w. w.status) news)) decks requests (filter_map (λ w. w.files) news)
   runs entries halted decks requests news did seen commands faults =
       let whole = all_of entries halted in
-      let from = subst (λ (l : List Passing). AllZip (HasWorked left reads taken writes base) (new_workers l (decks ++ requests)) news) (passes_are (length decks)) did in
+      let from = subst (λ (l : List Passing). AllZip (HasWorked left reads taken writes base issuing) (new_workers l (decks ++ requests)) news) (passes_are (length decks)) did in
       let d = decks_of whole 0 decks requests news from (later whole news seen) in
       let f = files whole requests d.rest d.did d.seen in
       let backs_are : filter_map (λ (w : Working I K). w.end) news ≡ d.backs = d.ends ∙ (ap (λ (l : List Passing). d.backs ++ l) f.ends ∙ append-nil d.backs) in
@@ -199,7 +199,7 @@ module _ {I K : Type 0} (left : I → Option (List ℕ)) (reads : I → ℕ) (ta
       }
 
   -- As many passes are handed in as there are decks.
-  pub ends_are : (passes : List Passing) (files : List (I × K)) (news : List (Working I K)) → length passes ≤ length files → AllZip (HasWorked left reads taken writes base) (new_workers passes files) news
+  pub ends_are : (passes : List Passing) (files : List (I × K)) (news : List (Working I K)) → length passes ≤ length files → AllZip (HasWorked left reads taken writes base issuing) (new_workers passes files) news
       → length (filter_map (λ w. w.end) news) ≡ length passes
   ends_are passes [] [] few did = omega arith
   ends_are passes [] (new ∷ news) few did = absurd did

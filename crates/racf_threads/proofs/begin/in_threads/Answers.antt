@@ -1,8 +1,9 @@
 use denote.Param.{param}
-use denote.Param.Send.{param_sync, arg_sync, recorded_sync, struct_sync, enum_sync, shr_sync}
+use denote.Param.Send.{param_sync, arg_sync, recorded_sync, struct_sync, shr_sync}
 use Rattle.std.proofs.Crossing.{sync}
 use Rattle.racroute.proofs.Crossing.{Racf-sync}
 use Rattle.std.proofs.Common.{slice_index_or}
+use Rattle.racf_stream.proofs.issuer.Issuing.TheSendSync as issuing
 use Rattle.racf_threads.specs.Working.{Working, HasWorked}
 use Rattle.racf_threads.proofs.Captures.{each_of_five, at_each, carried}
 use Rattle.racf_threads.proofs.begin.in_threads.Goals as goal
@@ -22,4 +23,4 @@ for_each_mut-requires-sync-F g c κs within =
     g.J.Naming g.T.Absorb g.S.Ledger g.F.Ledger g.P.Ledger g.D.Disk b.send-T b.sync-T b.send-O b.send-Q b.send-D in
     let rt = b.sync-R in
     let gate = b.sync-G in
-    search (param_sync, arg_sync, recorded_sync, struct_sync, enum_sync, shr_sync, sync, each_of_five) depth 20
+    search (param_sync, arg_sync, recorded_sync, struct_sync, shr_sync, sync, issuing.the_sync, each_of_five) depth 20

@@ -1,4 +1,6 @@
 pub mod Bytes
+mod Doubts
+mod HalfRows
 mod HeldLaws
 mod ImageRows
 pub mod ImageTests

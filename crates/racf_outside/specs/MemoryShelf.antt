@@ -2,14 +2,14 @@
 use Rattle.std.specs.Prelude.{ℕ, ◌≡◌, false, List, is_none, is_err, IfOk, Result}
 use Rattle.racf_outside.specs.Calls.{CallsMade, no_calls, FailsAsTold}
 use Rattle.racf_outside.specs.Memory.{MemoryInput, MemoryOutput}
+use Rattle.racf_outside.specs.Slots.{KeptOutput}
 use Rattle.racf_outside.specs.Stored.{input_of, failing_of}
 use Rattle.racf_outside.specs.declared.memory_shelf.Inputs.{Inputs}
-use Rattle.racf_outside.specs.declared.outputs.Outputs.{Outputs}
 use Rattle.racf_outside.specs.declared.streams.Failed.{Failed}
 
 pub record ShelfInMemory : Type 0 where
   pub inputs : Inputs
-  pub outputs : Outputs
+  pub outputs : List KeptOutput
   pub failing_writes : List ℕ  -- the numbers, from 1, of the writes to each output that are to fail
   pub sources : CallsMade  -- the openings of inputs
   pub sinks : CallsMade  -- the openings of outputs

@@ -6,9 +6,10 @@ ghost use Rattle.racf_outside.specs.Causes.{Rose, TakesOver};
 use crate::streams::Failed;
 use std::marker::Model;
 
-/// A count of faults, which stays at 2^64 - 1 once it is there.
+/// A count of faults, which stays at 2^64 - 1 once it is there. Each source, sink, shelf and disk counts its own by one
+/// of these: a call that fails answers what `count` gives, so that it fails only where the count rose.
 #[derive(Drop)]
-pub(crate) struct Faults {
+pub struct Faults {
     /// How many faults.
     number: u64,
 }
@@ -23,21 +24,21 @@ impl Model for Faults {
 
 impl Faults {
     /// No fault.
-    pub(crate) fn new() -> Faults
+    pub fn new() -> Faults
         ensures { result ≡ 0 }
     {
         Faults { number: 0 }
     }
 
     /// How many.
-    pub(crate) fn number(&self) -> u64
+    pub fn number(&self) -> u64
         ensures { result ≡ self.now }
     {
         self.number
     }
 
     /// Counts a fault.
-    pub(crate) fn count(&mut self) -> Failed
+    pub fn count(&mut self) -> Failed
         ensures rose { Rose self.old self.new }
         ensures no_fewer { self.old ≤ self.new }
     {
@@ -46,7 +47,7 @@ impl Faults {
     }
 
     /// Counts one fault where what is handed back counted any.
-    pub(crate) fn take_over(&mut self, handed: u64)
+    pub fn take_over(&mut self, handed: u64)
         ensures { TakesOver handed self.old self.new }
     {
         if handed > 0 {

@@ -1,6 +1,0 @@
--- What came lies within the buffer.
-use Rattle.std.proofs.Common.{◌≤◌, length}
-use Rattle.racf_outside.proofs.file_disk.read_all.Given as goal
-
-abbrev pub invariant-loop : goal.invariant-loop
-invariant-loop l = l.count ≤ length l.into

@@ -187,7 +187,7 @@ module _ {I K : Type 0} (left : I → Option (List ℕ)) (reads : I → ℕ) (ta
         file_workers = f.workers;
         are_decks = decks_ran left reads taken writes base issuing entries halted d.workers d.backs d.gave (subst (λ (l : List Passing). sum_by (λ (p : Passing). p.commands) l ≡ length entries) backs_are commands);
         are_files = f.are;
-        of_decks = of_decks left reads taken writes base issuing entries halted d.workers d.backs (length decks) (sym (length-map (λ (w : Worked I K). w.given) d.workers) ∙ ap length d.given_are) d.gave
+        of_decks = of_decks left reads taken writes base issuing entries halted d.workers d.backs (length decks) (sym (length-map d.workers (λ (w : Worked I K). w.given)) ∙ ap length d.given_are) d.gave
             (subst (λ (l : List Passing). sum_by (λ (p : Passing). p.commands) l ≡ length entries) backs_are commands);
         decks_are = d.given_are;
         requests_are = f.given_are;
@@ -195,7 +195,8 @@ module _ {I K : Type 0} (left : I → Option (List ℕ)) (reads : I → ℕ) (ta
         status_is = ap greatest statuses_are;
         one_fault = one_fault;
         halted_status = λ halts.
-            halted_told left reads taken writes base issuing whole 0 d.workers f.workers d.backs d.gave (let one = one_fault ∙ ap fault_count halts in omega arith);
+            subst (λ (l : List Status). 20 ≤ code_of (greatest l)) (sym statuses_are)
+            (halted_told left reads taken writes base issuing whole 0 d.workers f.workers d.backs d.gave (let one = one_fault ∙ ap fault_count halts in omega arith));
       }
 
   -- As many passes are handed in as there are decks.

@@ -19,7 +19,7 @@ def new_folder():
 
 def init(program, folder):
     """Makes a new database in the folder, whatever its files held."""
-    subprocess.run([program, "init"], cwd=folder, stdin=subprocess.DEVNULL, check=True, timeout=60)
+    subprocess.run([program, "init", "over"], cwd=folder, stdin=subprocess.DEVNULL, check=True, timeout=60)
 
 
 def record(text, issuer="IBMUSER", group="SYS1"):

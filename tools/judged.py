@@ -56,13 +56,15 @@ class Placed:
         self.number, self.lines, self.printed, self.issuer = number, lines, printed, issuer
 
 
-def renamed(lines):
-    """A deck's command as the stream has it: one whose first word is that of a request begins with no command's word."""
+def in_stream(lines):
+    """A deck's command as the stream has it: one whose first word is that of a request begins with no command's word, and one that
+    goes on where the deck ends has an empty line behind it."""
     word = statements.first_word(statements.text_of(lines[0]))
-    if word not in statements.REQUESTS - {"*ISSUER"}:
-        return lines
-    at = lines[0].upper().index(word.encode())
-    return [lines[0][:at] + NO_COMMAND + lines[0][at + len(word):], *lines[1:]]
+    if word in statements.REQUESTS - {"*ISSUER"}:
+        at = lines[0].upper().index(word.encode())
+        lines = [lines[0][:at] + NO_COMMAND + lines[0][at + len(word):], *lines[1:]]
+    goes_on = word != "*ISSUER" and len(lines[-1]) <= statements.LONGEST_LINE and statements.goes_on(statements.text_of(lines[-1]))
+    return [*lines, b""] if goes_on else lines
 
 
 class Deck:
@@ -82,7 +84,7 @@ class Deck:
             if answer is None:
                 self.unanswered.append((lines, issuer))
                 continue
-            self.place(number_of(answer), renamed(lines), answer, issuer)
+            self.place(number_of(answer), in_stream(lines), answer, issuer)
         self.end(next(answers, None), is_cut)
 
     def place(self, number, lines, answer, issuer):
@@ -130,7 +132,7 @@ class Requests:
             self.rise(int(number))
             self.last = int(number)
         else:
-            self.rise(after)
+            self.lowest = max(self.lowest, after)
         return True
 
     def rise(self, number):
@@ -220,7 +222,7 @@ def unacknowledged(program, before, disks, first, accepted, decks, number):
     earlier = {earlier: placed for earlier, placed in accepted.items() if earlier < number}
     for deck in decks:
         for lines, issuer in deck.unanswered:
-            placed = Placed(number, renamed(lines), [b"%d ACCEPTED" % number], issuer)
+            placed = Placed(number, in_stream(lines), [b"%d ACCEPTED" % number], issuer)
             stream, wanted = merged(first, {**earlier, number: placed}, [])
             printed, front = worked(program, before, stream)
             if printed == wanted and begin_with(disks, front):

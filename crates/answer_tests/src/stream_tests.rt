@@ -6,9 +6,10 @@ ghost use Rattle.racf_stream.specs.Script.{is_whole};
 use crate::desk_tests::{never_disks, new_desk};
 use access_levels::Id;
 use racf_desk::Desk;
+use racf_files::FileShelf;
 use racf_outside::{
-    Disk, Failed, Failing, FileShelf, MemoryDisk, MemoryShelf, MemorySink, MemorySource, NeverDisk,
-    Shelf, Source, Two,
+    Disk, Failed, Failing, MemoryDisk, MemoryShelf, MemorySink, MemorySource, NeverDisk, Shelf,
+    Source, Two,
 };
 use racf_run::{Idle, Status, racf, script};
 use racf_stream::Issuing;
@@ -386,9 +387,9 @@ fn is_refused_at_last(rt: &(impl AllocGlobal + Abort), input: &str, last: &[u8])
 /// A stream whose issuer is fixed: his ID, the input, its output, and how it ends.
 type Given<'a> = (&'a [u8], &'a str, &'a str, Status);
 
-/// Where the issuer is fixed, no line names another, whatever follows its first word; a command that goes on takes such
-/// a line as its own; and whether he is a user is judged at each command.
-const GIVEN: [Given; 4] = [
+/// Where the issuer is fixed, no line names another, whatever follows its first word; and whether he is a user is judged
+/// at each command.
+const GIVEN: [Given; 3] = [
     (
         b"ANN",
         "AU BOB\n*ISSUER IBMUSER\nAU BOB\n*issuer\n*ISSUER A,B\nVERIFY A IBMUSER\n",
@@ -399,12 +400,6 @@ const GIVEN: [Given; 4] = [
         b"IBMUSER",
         "AU ANN\n*ISSUER ANN\nAU BOB\n",
         "1 ACCEPTED\n1 REFUSED ISSUERFIXED\n2 ACCEPTED\n",
-        Status::Refusals,
-    ),
-    (
-        b"IBMUSER",
-        "AU -\n*ISSUER ANN\n",
-        "0 REFUSED SYNTAX BADVALUE 4\n",
         Status::Refusals,
     ),
     (

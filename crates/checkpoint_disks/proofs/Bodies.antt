@@ -1,6 +1,6 @@
 -- What a crash leaves while all behind a closed head gate is written.
 use Rattle.std.proofs.Common.{ℕ, ◌+◌, ◌<◌, ◌≤◌, ◌≡◌, ◌∙◌, false, not, ◌&&◌, ◌||◌, ltb, List, [], ◌++◌, length, take, drop, get_or, refl, sym, ap, subst, arith, append_assoc, length-append}
-use Rattle.std.proofs.lemmas.List.{take_at, take-take, take-append-le, take-append-drop, length-take}
+use Rattle.std.proofs.lemmas.List.{take_at, drop_all, append-nil, take-take, take-append-le, take-append-drop, length-take}
 use Rattle.std.proofs.lemmas.Bool.{lt-ltb}
 use Rattle.racf_outside.specs.Crashes.{Leaves}
 use Rattle.racf_outside.specs.Moments.{Moment, is_written, durable, written, cut_to, synced}
@@ -55,12 +55,13 @@ written_behind at front rest bytes m is size =
 
 pub record Writes (head rest : List ℕ) (m : Moment) : Type 0 where
   pub first : Leaves IsClosed m
-  pub fields : Leaves IsClosed (written 9 head m)
-  pub within : 33 ≤ length (written 9 head m).bytes
-  pub whole : Leaves IsClosed (written 33 rest (written 9 head m))
-  pub cut : Leaves IsClosed (cut_to (33 + length rest) (written 33 rest (written 9 head m)))
-  pub kept : Leaves IsClosed (synced (cut_to (33 + length rest) (written 33 rest (written 9 head m))))
-  pub holds : HoldsBody (head ++ rest) (synced (cut_to (33 + length rest) (written 33 rest (written 9 head m))))
+  pub cut : Leaves IsClosed (cut_to 9 m)
+  pub behind : 9 ≤ length (cut_to 9 m).bytes
+  pub fields : Leaves IsClosed (written 9 head (cut_to 9 m))
+  pub within : 33 ≤ length (written 9 head (cut_to 9 m)).bytes
+  pub whole : Leaves IsClosed (written 33 rest (written 9 head (cut_to 9 m)))
+  pub kept : Leaves IsClosed (synced (written 33 rest (written 9 head (cut_to 9 m))))
+  pub holds : HoldsBody (head ++ rest) (synced (written 33 rest (written 9 head (cut_to 9 m))))
 
 module _ (gate : ℕ) (body head rest : List ℕ) (closed : gate ≡ 1 → ⊥) (size : length head ≡ 24) where
   abbrev front : List ℕ
@@ -69,54 +70,56 @@ module _ (gate : ℕ) (body head rest : List ℕ) (closed : gate ≡ 1 → ⊥) 
   abbrev resting : Moment
   resting = durable (with_head gate body)
 
+  abbrev cut : Moment
+  cut = cut_to 9 resting
+
   abbrev begun : Moment
-  begun = written 9 head resting
+  begun = written 9 head cut
 
   abbrev put : Moment
   put = written 33 rest begun
 
-  abbrev ended : Moment
-  ended = cut_to (33 + length rest) put
-
-  begun_bytes : begun.bytes ≡ (front ++ head) ++ drop (9 + length head) (with_head gate body)
-  begun_bytes = written_behind 9 front body head resting refl refl
+  begun_bytes : begun.bytes ≡ front ++ head
+  begun_bytes =
+      written_behind 9 front [] head cut refl refl
+      ∙ ap (λ (l : List ℕ). (front ++ head) ++ l) (drop_all (9 + length head) front (omega arith))
+      ∙ append-nil (front ++ head)
 
   front_size : length (front ++ head) ≡ 33
   front_size = omega (arith, length-append front head)
 
-  begun_size : 33 ≤ length begun.bytes
-  begun_size = omega (arith, ap length begun_bytes, length-append (front ++ head) (drop (9 + length head) (with_head gate body)), front_size)
+  begun_size : length begun.bytes ≡ 33
+  begun_size = ap length begun_bytes ∙ front_size
 
-  put_bytes : put.bytes ≡ ((front ++ head) ++ rest) ++ drop (33 + length rest) begun.bytes
-  put_bytes = written_behind 33 (front ++ head) (drop (9 + length head) (with_head gate body)) rest begun begun_bytes front_size
-
-  ended_bytes : ended.bytes ≡ with_head gate (head ++ rest)
-  ended_bytes =
-      ap (take (33 + length rest)) put_bytes
-      ∙ take_at ((front ++ head) ++ rest) (drop (33 + length rest) begun.bytes) (33 + length rest) (omega (arith, length-append (front ++ head) rest, front_size))
+  put_bytes : put.bytes ≡ with_head gate (head ++ rest)
+  put_bytes =
+      written_behind 33 (front ++ head) [] rest begun (begun_bytes ∙ sym (append-nil (front ++ head))) front_size
+      ∙ ap (λ (l : List ℕ). ((front ++ head) ++ rest) ++ l) (drop_all (33 + length rest) begun.bytes (omega (arith, begun_size)))
+      ∙ append-nil ((front ++ head) ++ rest)
       ∙ append_assoc front head rest
 
   f_resting : Fronted front resting
   f_resting = record { is = refl; short = omega arith; untouched = λ place below. refl }
 
+  f_cut : Fronted front cut
+  f_cut = fronted_cut front 9 resting (omega arith) f_resting
+
   f_begun : Fronted front begun
-  f_begun = fronted_written front head 9 resting (omega arith) (omega arith) f_resting
+  f_begun = fronted_written front head 9 cut (omega arith) (omega arith) f_cut
 
   f_put : Fronted front put
-  f_put = fronted_written front rest 33 begun (omega arith) begun_size f_begun
-
-  f_ended : Fronted front ended
-  f_ended = fronted_cut front (33 + length rest) put (omega arith) f_put
+  f_put = fronted_written front rest 33 begun (omega arith) (omega (arith, begun_size)) f_begun
 
   writes_here : Writes head rest resting
   writes_here = record {
     first = fronted_leaves gate resting closed f_resting;
+    cut = fronted_leaves gate cut closed f_cut;
+    behind = omega arith;
     fields = fronted_leaves gate begun closed f_begun;
-    within = begun_size;
+    within = omega (arith, begun_size);
     whole = fronted_leaves gate put closed f_put;
-    cut = fronted_leaves gate ended closed f_ended;
-    kept = fronted_leaves gate (synced ended) closed (fronted_synced front ended refl f_ended);
-    holds = subst (λ (l : List ℕ). HoldsBody (head ++ rest) (durable l)) (sym ended_bytes) (record { held = holds_with gate (head ++ rest) closed; is = refl });
+    kept = fronted_leaves gate (synced put) closed (fronted_synced front put refl f_put);
+    holds = subst (λ (l : List ℕ). HoldsBody (head ++ rest) (durable l)) (sym put_bytes) (record { held = holds_with gate (head ++ rest) closed; is = refl });
   }
 
 pub writes : (head rest : List ℕ) (m : Moment) → length head ≡ 24 → HoldsClosed m → Writes head rest m

@@ -1,5 +1,5 @@
 -- How the moments of the steps join, and what they say of two disks.
-use Rattle.std.proofs.Common.{ℕ, ◌-◌, ◌<◌, ◌≡◌, ◌∙◌, inl, inr, List, [], ◌∷◌, ◌++◌, length, Option, Ok, refl, sym, ap, subst, arith, length-append}
+use Rattle.std.proofs.Common.{ℕ, ◌≡◌, ◌∙◌, inl, inr, List, [], ◌∷◌, ◌++◌, length, Option, Ok, refl, sym, ap, subst}
 use Rattle.racf_profiles.specs.declared.rows.Rows.{Rows}
 use Rattle.database_image.specs.Image.{image_of}
 use Rattle.racf_outside.specs.Crashes.{Leaves, StaysIn}
@@ -31,14 +31,10 @@ opening_is before body a b s = StaysIn-weaker (IsOneOf before (with_head 1 body)
     one_of before body file (inr same) = inr same
 
 -- the bytes of a new file
-pub new_body_is : (epoch number size : ℕ) (rows : Rows) (head rest : List ℕ) → head ≡ fields epoch number size → rest ≡ image_of rows ++ 0 ∷ [] → size ≡ length rest - 1 → head ++ rest ≡ new_body epoch number rows
+pub new_body_is : (epoch number : ℕ) (rows : Rows) (head rest : List ℕ) → head ≡ fields epoch number (length (image_of rows)) → rest ≡ image_of rows ++ 0 ∷ [] → head ++ rest ≡ new_body epoch number rows
 unfolding new_body
-new_body_is epoch number size rows head rest front back of =
-    let n : size ≡ length (image_of rows) = omega (arith, ap length back, length-append (image_of rows) (0 ∷ [])) in
-    ap (λ (l : List ℕ). l ++ rest) (front ∙ ap (fields epoch number) n) ∙ ap (λ (l : List ℕ). fields epoch number (length (image_of rows)) ++ l) back
-
-pub image_fits : (rows : Rows) (rest : List ℕ) (most : ℕ) → rest ≡ image_of rows ++ 0 ∷ [] → length rest < most → length (image_of rows) < most
-image_fits rows rest most back fits = omega (arith, ap length back, length-append (image_of rows) (0 ∷ []))
+new_body_is epoch number rows head rest front back =
+    ap (λ (l : List ℕ). l ++ rest) front ∙ ap (λ (l : List ℕ). fields epoch number (length (image_of rows)) ++ l) back
 
 pub files_are : (before body made : List ℕ) (a b : Option History) → body ≡ made → StaysIn (IsOneOf before (with_head 1 body)) a b → StaysIn (IsOneOf before (with_head 1 made)) a b
 files_are before body made a b same s = subst (λ (l : List ℕ). StaysIn (IsOneOf before (with_head 1 l)) a b) same s

@@ -12,7 +12,7 @@ use Rattle.racf_journal.specs.Kept.{ReadsAs}
 use Rattle.racf_journal.specs.Reading.{Reading, reading, spelled, walk}
 use Rattle.checkpoint_disks.specs.declared.counting.Side.{Side}
 use Rattle.checkpoint_disks.specs.declared.counting.Side.TheVariants.{First, Second}
-use Rattle.checkpoint_disks.specs.Files.{is_formatted, head_is_open, number_at, epoch_of, head_of, rows_read, records_read, CheckpointRead, contents}
+use Rattle.checkpoint_disks.specs.Files.{is_formatted, head_is_open, number_at, epoch_of, head_of, rows_read, ends_within, records_read, CheckpointRead, contents}
 use Rattle.checkpoint_disks.specs.Counting.{which, file_on}
 use Rattle.checkpoint_disks.specs.Compacting.{with_head, fields, new_body, new_file, new_checkpoint, with_image, with_records, Counts, IsHeld, IsBare, IsOneOf, said_beside, CountsBeside, SaysEither}
 use Rattle.checkpoint_disks.proofs.Contents.{reading_behind, contents-whole}
@@ -21,14 +21,18 @@ use Rattle.checkpoint_disks.proofs.Contents.{reading_behind, contents-whole}
 neither : (a b : Bool) → a ≡ false → b ≡ false → (a || b) ≡ false
 neither a b p q = rw (p, q)
 
-head_read : (file : List ℕ) (epoch number size : ℕ) → epoch_of file ≡ epoch → number_at 17 file ≡ number → number_at 25 file ≡ size → 0 < epoch → number ≤ 2 ^ 62 → 33 ≤ length file → size ≤ length file - 33
+head_read : (file : List ℕ) (epoch number size : ℕ) → epoch_of file ≡ epoch → number_at 17 file ≡ number → number_at 25 file ≡ size → 0 < epoch → number ≤ 2 ^ 62 → 33 ≤ length file → size ≤ length file - 33 → length file ≤ 2 ^ 28
     → head_of file ≡ Ok (record { epoch = epoch; number = number; start = 33 + size })
 unfolding head_of
-head_read file epoch number size e n s positive most long within =
+head_read file epoch number size e n s positive most long within short =
     rw (e, n, s) (
-    cond-false (eqb epoch 0) _ _ (ne_eqb epoch 0 (λ z. absurd (omega arith)))
+    cond-false (ltb (2 ^ 28) (length file)) _ _ (le-ltb (2 ^ 28) (length file) short)
+    ∙ cond-false (eqb epoch 0) _ _ (ne_eqb epoch 0 (λ z. absurd (omega arith)))
     ∙ cond-false (ltb (length file) 25 || ltb (2 ^ 62) number) _ _ (neither _ _ (le-ltb (length file) 25 (omega arith)) (le-ltb (2 ^ 62) number most))
     ∙ cond-false (ltb (length file) 33 || ltb (length file - 33) size) _ _ (neither _ _ (le-ltb (length file) 33 long) (le-ltb (length file - 33) size within)))
+
+within_is : (found : Reading) → found.gate < 2 ^ 28 → ends_within found ≡ Ok found
+within_is found within = cond-true (ltb found.gate (2 ^ 28)) _ _ (lt-ltb found.gate (2 ^ 28) within)
 
 -- a file of these fields and this image, whatever stands behind them
 module _ (epoch number : ℕ) (rows : Rows) (rest : List ℕ) where
@@ -67,22 +71,22 @@ module _ (epoch number : ℕ) (rows : Rows) (rest : List ℕ) where
   unfolding fields
   end_is = sym (drop-drop size 33 whole) ∙ drop_at image rest size refl
 
-  module _ (stored : rows_of image ≡ Ok rows) (positive : 0 < epoch) (epoch_fits : epoch < 2 ^ 64) (number_fits : number ≤ 2 ^ 62) (size_fits : size < 2 ^ 64) where
+  module _ (stored : rows_of image ≡ Ok rows) (positive : 0 < epoch) (epoch_fits : epoch < 2 ^ 64) (number_fits : number ≤ 2 ^ 62) (short : length whole ≤ 2 ^ 28) where
     whole_head : head_of whole ≡ Ok (record { epoch = epoch; number = number; start = 33 + size })
-    whole_head = head_read whole epoch number size (epoch_is epoch_fits) (number_is (omega arith)) (size_is size_fits) positive number_fits (omega (arith, whole_length)) (omega (arith, whole_length))
+    whole_head = head_read whole epoch number size (epoch_is epoch_fits) (number_is (omega arith)) (size_is (omega (arith, whole_length, short))) positive number_fits (omega (arith, whole_length)) (omega (arith, whole_length)) short
 
     whole_rows : rows_read (rows_of (slice_range whole 33 (33 + size))) ≡ Ok rows
     whole_rows = ap (λ bytes. rows_read (rows_of bytes)) image_is ∙ ap rows_read stored
 
-    pub whole_says : (found : Reading) → reading (33 + size) whole ≡ Ok found
+    pub whole_says : (found : Reading) → reading (33 + size) whole ≡ Ok found → found.gate < 2 ^ 28
         → contents whole ≡ Ok (record { epoch = epoch; number = number; rows = rows; start = 33 + size; records = found.records; gate = found.gate })
-    whole_says found reads = contents-whole whole (record { epoch = epoch; number = number; start = 33 + size }) rows found whole_head whole_rows (ap records_read reads)
+    whole_says found reads within = contents-whole whole (record { epoch = epoch; number = number; start = 33 + size }) rows found whole_head whole_rows (ap records_read reads ∙ within_is found within)
 
 -- records behind an image
-pub journal_says : (epoch number : ℕ) (rows : Rows) (records : List (List ℕ)) (file : List ℕ) → rows_of (image_of rows) ≡ Ok rows → 0 < epoch → epoch < 2 ^ 64 → number ≤ 2 ^ 62 → length (image_of rows) < 2 ^ 64
-    → ReadsAs (with_image epoch number rows) records file → contents file ≡ Ok (with_records epoch number rows records)
+pub journal_says : (epoch number : ℕ) (rows : Rows) (records : List (List ℕ)) (file : List ℕ) → rows_of (image_of rows) ≡ Ok rows → 0 < epoch → epoch < 2 ^ 64 → number ≤ 2 ^ 62
+    → (33 + length (image_of rows)) + length (spelled records) < 2 ^ 28 → length file ≤ 2 ^ 28 → ReadsAs (with_image epoch number rows) records file → contents file ≡ Ok (with_records epoch number rows records)
 unfolding fields
-journal_says epoch number rows records file stored positive epoch_fits number_fits size_fits reads =
+journal_says epoch number rows records file stored positive epoch_fits number_fits fits short reads =
     let front : List ℕ = with_image epoch number rows in
     let rest : List ℕ = drop (length front) file in
     let size : length front ≡ 33 + length (image_of rows) = omega arith in
@@ -90,7 +94,7 @@ journal_says epoch number rows records file stored positive epoch_fits number_fi
     let found : Reading = record { records = records; gate = (33 + length (image_of rows)) + length (spelled records) } in
     let read : reading (33 + length (image_of rows)) (front ++ rest) ≡ Ok found =
     ap (λ n. reading n (front ++ rest)) (sym size) ∙ ap (reading (length front)) (sym split) ∙ reads.reads ∙ ap (λ n. Ok (record { records = records; gate = n + length (spelled records) })) size in
-    ap contents split ∙ whole_says epoch number rows rest stored positive epoch_fits number_fits size_fits found read
+    ap contents split ∙ whole_says epoch number rows rest stored positive epoch_fits number_fits (subst (λ (l : List ℕ). length l ≤ 2 ^ 28) split short) found read fits
 
 -- and its file counts
 pub journal_counts : (epoch number : ℕ) (rows : Rows) (records : List (List ℕ)) (file : List ℕ) → epoch < 2 ^ 64 → ReadsAs (with_image epoch number rows) records file → Counts epoch file
@@ -110,12 +114,12 @@ new_epoch : (epoch number : ℕ) (rows : Rows) → epoch < 2 ^ 64 → epoch_of (
 unfolding new_body
 new_epoch epoch number rows fits = epoch_is epoch number rows (0 ∷ []) fits
 
-pub new_says : (epoch number : ℕ) (rows : Rows) → rows_of (image_of rows) ≡ Ok rows → 0 < epoch → epoch < 2 ^ 64 → number ≤ 2 ^ 62 → length (image_of rows) < 2 ^ 64 → contents (new_file epoch number rows) ≡ Ok (new_checkpoint epoch number rows)
-unfolding new_body
+pub new_says : (epoch number : ℕ) (rows : Rows) → rows_of (image_of rows) ≡ Ok rows → 0 < epoch → epoch < 2 ^ 64 → number ≤ 2 ^ 62 → 34 + length (image_of rows) ≤ 2 ^ 28 → contents (new_file epoch number rows) ≡ Ok (new_checkpoint epoch number rows)
+unfolding new_body fields
 new_says epoch number rows stored positive epoch_fits number_fits size_fits =
     let start : ℕ = 33 + length (image_of rows) in
-    whole_says epoch number rows (0 ∷ []) stored positive epoch_fits number_fits size_fits (record { records = []; gate = start })
-    (reading_behind start (new_file epoch number rows) (omega arith) ∙ ap (walk 0 start) (end_is epoch number rows (0 ∷ [])))
+    whole_says epoch number rows (0 ∷ []) stored positive epoch_fits number_fits (omega (arith, whole_length epoch number rows (0 ∷ []), size_fits)) (record { records = []; gate = start })
+    (reading_behind start (new_file epoch number rows) (omega arith) ∙ ap (walk 0 start) (end_is epoch number rows (0 ∷ []))) (omega (arith, size_fits))
 
 -- ---- beside another file
 -- an open file of a greater epoch counts
@@ -180,7 +184,7 @@ counts_beside_bare side file live bare g p some = elim (cases_Bool (head_is_open
   | inr closed ↦ counts_alone side file live bare.formatted closed g p
 ]
 
-pub new_says_beside : (side : Side) (live before : List ℕ) (epoch number : ℕ) (rows : Rows) → CountsBeside side before live epoch → rows_of (image_of rows) ≡ Ok rows → epoch < 2 ^ 64 → number ≤ 2 ^ 62 → length (image_of rows) < 2 ^ 64
+pub new_says_beside : (side : Side) (live before : List ℕ) (epoch number : ℕ) (rows : Rows) → CountsBeside side before live epoch → rows_of (image_of rows) ≡ Ok rows → epoch < 2 ^ 64 → number ≤ 2 ^ 62 → 34 + length (image_of rows) ≤ 2 ^ 28
     → said_beside side (new_file epoch number rows) live ≡ Ok (new_checkpoint epoch number rows)
 new_says_beside side live before epoch number rows counts stored fits most room =
     let below : epoch_of live < epoch_of (new_file epoch number rows) = subst (λ n. epoch_of live < n) (sym (new_epoch epoch number rows fits)) counts.below in

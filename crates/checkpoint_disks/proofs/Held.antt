@@ -137,8 +137,9 @@ pub held : (file : List ℕ) (head : Head) (rows : Rows) (records : List (List �
     → 0 < head.epoch → head.epoch ≡ epoch_of file → (head.number ≤ 2 ^ 62) × (head.number ≡ number_at 17 file) → head.start ≡ 33 + number_at 25 file → head.start ≤ length file
     → IsStored rows × (slice_range file 33 head.start ≡ image_of rows)
     → walk 0 head.start (take (length file - head.start) (drop head.start file)) ≡ Ok (record { records = records; gate = gate })
+    → length file ≤ 2 ^ 28 → gate < 2 ^ 28
     → IsHeld (record { epoch = head.epoch; number = head.number; rows = rows; start = head.start; records = records; gate = gate }) file
-held file head rows records gate bytes formatted opened some epoch number start within image read =
+held file head rows records gate bytes formatted opened some epoch number start within image read short fits =
     let size : ℕ = number_at 25 file in
     let inside : 33 + size ≤ length file = omega (arith, start, within) in
     let epoch_at : head.epoch ≡ number_at 9 file = epoch ∙ epoch_read file (omega (arith, inside)) in
@@ -155,9 +156,11 @@ held file head rows records gate bytes formatted opened some epoch number start 
         number = number.0;
         stored = image.0;
         size = subst (λ n. n < 2 ^ 64) size_of (field_fits file bytes 25);
+        fits = fits;
         is = places_are head.epoch head.number head.start gate rows records (start ∙ ap (λ n. 33 + n) size_of) s.to;
       };
       counts = record { formatted = formatted; opened = opened; epoch_is = sym epoch };
+      short = short;
       reads = record {
         front_stays = ap (λ n. take n file) (long ∙ start) ∙ front_is file head.epoch head.number size rows bytes formatted opened epoch_at number.1 refl inside image_at;
         reads = ap (λ n. reading n file) long ∙ reads ∙ ap (λ n. Ok (record { records = records; gate = n })) (s.to ∙ ap (λ n. n + length (spelled records)) (sym long));

@@ -64,6 +64,7 @@ pub record IsCheckpoint (read : CheckpointRead) : Type 0 where
   pub number : read.number ≤ 2 ^ 62
   pub stored : IsStored read.rows
   pub size : length (image_of read.rows) < 2 ^ 64
+  pub fits : read.gate < 2 ^ 28
   pub is : read ≡ with_records read.epoch read.number read.rows read.records
 
 -- A file counts with an epoch, beside those that have a lower one.
@@ -72,11 +73,12 @@ pub record Counts (epoch : ℕ) (file : List ℕ) : Type 0 where
   pub opened : head_is_open file ≡ true
   pub epoch_is : epoch_of file ≡ epoch
 
--- What was read is held: the fields, the image of the rows and the records.
+-- What was read is held: the fields, the image of the rows and the records, in a file that isn't too long.
 pub record IsHeld (read : CheckpointRead) (file : List ℕ) : Type 0 where
   pub lawful : IsCheckpoint read
   pub counts : Counts read.epoch file
   pub reads : ReadsAs (with_image read.epoch read.number read.rows) read.records file
+  pub short : length file ≤ 2 ^ 28
 
 -- ---- one disk
 

@@ -30,24 +30,33 @@ number_at place file = big_number 8 (drop place file)
 unfoldable pub epoch_of : (file : List ℕ) → ℕ
 epoch_of file = if nat_lt (length file) 17 then 0 else number_at 9 file
 
--- The fields in front of the image: the epoch, which isn't 0; the number at place 17, which is at most 2^62; the
+-- A file of more than 2^28 bytes says nothing: it is damaged there. Of a file only one byte more is read.
+abbrev pub is_long : (file : List ℕ) → Bool
+is_long file = nat_lt (2 ^ 28) (length file)
+
+-- The fields in front of the image of a file that isn't too long: the epoch, which isn't 0; the number at place 17, which is at most 2^62; the
 -- image's length at place 25, which doesn't reach past the file's end. The first that isn't whole or isn't so is the
 -- fault.
 unfoldable pub head_of : (file : List ℕ) → Result Head CheckpointFault
 head_of file =
-    if epoch_of file == 0 then Err (Damaged 9)
+    if is_long file then Err (Damaged (2 ^ 28))
+    else (if epoch_of file == 0 then Err (Damaged 9)
     else (if nat_lt (length file) 25 || nat_lt (2 ^ 62) (number_at 17 file) then Err (Damaged 17)
     else (if nat_lt (length file) 33 || nat_lt (length file - 33) (number_at 25 file) then Err (Damaged 25)
-    else Ok (record { epoch = epoch_of file; number = number_at 17 file; start = 33 + number_at 25 file })))
+    else Ok (record { epoch = epoch_of file; number = number_at 17 file; start = 33 + number_at 25 file }))))
 
 -- the rows of the image, whose places are told from the file's beginning
 abbrev pub rows_read : Result Rows ℕ → Result Rows CheckpointFault
 rows_read (Ok rows) = Ok rows
 rows_read (Err place) = Err (Damaged (33 + place))
 
--- the records of the journal behind the image: its one fault is an open gate without a whole record
+-- A journal whose closed gate has no room within the first 2^28 bytes is damaged there.
+abbrev pub ends_within : Reading → Result Reading CheckpointFault
+ends_within found = if nat_lt found.gate (2 ^ 28) then Ok found else Err (Damaged (2 ^ 28))
+
+-- the records of the journal behind the image: its other fault is an open gate without a whole record
 abbrev pub records_read : Result Reading JournalFault → Result Reading CheckpointFault
-records_read (Ok found) = Ok found
+records_read (Ok found) = ends_within found
 records_read (Err (journal.Damaged place)) = Err (Damaged place)
 records_read (Err _) = Err NotFormatted
 

@@ -1,6 +1,6 @@
 //! Which of two files counts.
 
-ghost use Rattle.std.specs.Prelude.{◌≡◌, nat_lt, true, Some, IfOk, OnOk};
+ghost use Rattle.std.specs.Prelude.{◌≡◌, ◌⊎◌, ◌&&◌, nat_lt, true, false, Some, None, Err, IfOk, IfErr, OnOk};
 ghost use Rattle.checkpoint_disks.specs.Files.{is_formatted, epoch_of, Answers};
 ghost use Rattle.checkpoint_disks.specs.Counting.{which, file_on, said, as_read};
 ghost use Rattle.checkpoint_disks.specs.Compacting.{IsHeld};
@@ -19,8 +19,11 @@ pub enum Side {
     Second,
 }
 
-/// Which of two files counts, by their bytes, if one does: of those with an open head gate the one of the greater
-/// epoch, on equal epochs the first.
+/// How many bytes of a file tell which of two counts.
+pub const TELLING: usize = 17;
+
+/// Which of two files counts, by their first 17 bytes at least, if one does: of those with an open head gate the one of
+/// the greater epoch, on equal epochs the first.
 pub fn which(first: &[u8], second: &[u8]) -> Option<Side>
     ensures { result ≡ which first.now second.now }
 {
@@ -43,7 +46,26 @@ fn is_below(first: &[u8], second: &[u8]) -> bool
     epoch_of(first) < epoch_of(second)
 }
 
-/// The checkpoint that two files say, and on which side it stands.
+/// The side of the file that counts, by the first 17 bytes of two files at least.
+///
+/// # Errors
+///
+/// `NotFormatted` where a file doesn't begin as it has to, or none counts.
+pub fn side_that_counts(first: &[u8], second: &[u8]) -> Result<Side, CheckpointFault>
+    ensures counts { IfOk result (λ side. which first.now second.now ≡ Some side) }
+    ensures formatted { OnOk result ((is_formatted first.now ≡ true) × (is_formatted second.now ≡ true)) }
+    ensures nothing { IfErr result (λ why. ((is_formatted first.now && is_formatted second.now) ≡ false) ⊎ (which first.now second.now ≡ None)) }
+    ensures says_nothing { IfErr result (λ why. said first.now second.now ≡ Err why) }
+    ensures fault { IfErr result (λ why. why ≡ CheckpointFault.NotFormatted) }
+{
+    if !is_formatted(first) || !is_formatted(second) {
+        return Err(CheckpointFault::NotFormatted);
+    }
+    which(first, second).ok_or(CheckpointFault::NotFormatted)
+}
+
+/// The checkpoint that two files say, and on which side it stands. Of the one that doesn't count the first 17 bytes are
+/// enough.
 ///
 /// # Errors
 ///
@@ -58,12 +80,7 @@ pub fn read_pair(
     ensures formatted { OnOk result ((is_formatted first.now ≡ true) × (is_formatted second.now ≡ true)) }
     ensures held { IfOk result (λ read. IsHeld (as_read read.1) (file_on read.0 first.now second.now)) }
 {
-    if !is_formatted(first) || !is_formatted(second) {
-        return Err(CheckpointFault::NotFormatted);
-    }
-    let Some(side) = which(first, second) else {
-        return Err(CheckpointFault::NotFormatted);
-    };
+    let side = side_that_counts(first, second)?;
     let file = file_on(side, first, second);
     Ok((side, read_file(alloc, file)?))
 }

@@ -6,6 +6,7 @@ ghost use Rattle.checkpoint_disks.specs.Files.{is_formatted, head_is_open, epoch
 use crate::fault::CheckpointFault;
 use crate::layout::{EPOCH, HEAD, IMAGE, LENGTH, MAGIC, MOST_NUMBER, NUMBER, OPEN};
 use byteorder::{BigEndian, ByteOrder};
+use racf_journal::MOST_BYTES;
 
 /// What stands in front of an image.
 #[derive(Drop)]
@@ -62,7 +63,11 @@ pub(crate) fn read_head(bytes: &[u8]) -> Result<Head, CheckpointFault>
     ensures size { IfOk result (λ head. head.start ≡ 33 + number_at 25 bytes.now) }
     ensures behind { IfOk result (λ head. 33 ≤ head.start) }
     ensures within { IfOk result (λ head. head.start ≤ length bytes.now) }
+    ensures short { IfOk result (λ head. length bytes.now ≤ 2 ^ 28) }
 {
+    if bytes.len() as u64 > MOST_BYTES {
+        return Err(CheckpointFault::Damaged(MOST_BYTES));
+    }
     let epoch = epoch_of(bytes);
     if epoch == 0 {
         return Err(CheckpointFault::Damaged(EPOCH as u64));

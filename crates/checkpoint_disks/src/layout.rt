@@ -3,6 +3,9 @@
 /// What each file begins with.
 pub(crate) const MAGIC: [u8; 8] = *b"RACFDB01";
 
+/// The file of a disk that has no checkpoint: its first eight bytes, and a closed head gate.
+pub(crate) const BARE: [u8; 9] = *b"RACFDB01\0";
+
 /// The place of the head gate.
 pub(crate) const HEAD: u64 = 8;
 

@@ -1,6 +1,6 @@
 //! A checkpoint, read from the bytes of a file.
 
-ghost use Rattle.std.specs.Prelude.{◌≡◌, ◌+◌, ◌<◌, ◌^◌, ◌⊎◌, true, Ok, length, IfOk};
+ghost use Rattle.std.specs.Prelude.{◌≡◌, ◌+◌, ◌<◌, ◌≤◌, ◌^◌, ◌⊎◌, true, Ok, length, IfOk, IfErr};
 ghost use Rattle.database_image.specs.Image.{image_of, rows_of, IsStored};
 ghost use Rattle.racf_journal.specs.Reading.{walk};
 ghost use Rattle.checkpoint_disks.specs.Files.{is_formatted, head_is_open, contents, rows_read, records_read, Answers};
@@ -12,7 +12,7 @@ use crate::heads::read_head;
 use crate::layout::IMAGE;
 use access_levels::Text;
 use database_image::ImageFault;
-use racf_journal::{FoundRecords, JournalFault, read_records};
+use racf_journal::{FoundRecords, JournalFault, MOST_BYTES, read_records};
 use racf_profiles::Rows;
 use std::alloc::Global;
 
@@ -37,8 +37,9 @@ pub struct Checkpoint {
 ///
 /// # Errors
 ///
-/// `Damaged` at the first field that has no lawful value: a field in front of the image, then one within it, then an
-/// open gate without a whole record. `NoMemory` where there was no room for the rows and the records.
+/// `Damaged` at 2^28 where the file has more bytes; else at the first field that has no lawful value: a field in front of
+/// the image, then one within it, then an open gate without a whole record; and at 2^28 where the last gate has no room
+/// before it. `NoMemory` where there was no room for the rows and the records.
 pub fn read_file(alloc: Global, bytes: &[u8]) -> Result<Checkpoint, CheckpointFault>
     ensures contents { Answers as_read result (contents bytes.now) }
     ensures held { is_formatted bytes.now ≡ true → head_is_open bytes.now ≡ true → IfOk result (λ read. IsHeld (as_read read) bytes.now) }
@@ -72,13 +73,26 @@ fn read_rows(alloc: Global, image: &[u8]) -> Result<Rows, CheckpointFault>
 fn read_journal(alloc: Global, bytes: &[u8], start: u64) -> Result<FoundRecords, CheckpointFault>
     requires { start + length bytes.now < 2 ^ 64 }
     ensures read { Answers (λ found. record { records = found.records.items; gate = found.gate }) result (records_read (walk 0 start bytes.now)) }
+    ensures room { IfOk result (λ found. found.gate < 2 ^ 28) }
     ensures walked { IfOk result (λ found. walk 0 start bytes.now ≡ Ok (record { records = found.records.items; gate = found.gate })) }
 {
     match read_records(alloc, bytes, start) {
-        Ok(found) => Ok(found),
+        Ok(found) => with_room(found),
         Err(JournalFault::Damaged(place)) => Err(CheckpointFault::Damaged(place)),
         Err(_) => Err(CheckpointFault::NoMemory),
     }
+}
+
+/// The records, where the gate behind them is one of the bytes that a file may have.
+fn with_room(found: FoundRecords) -> Result<FoundRecords, CheckpointFault>
+    ensures kept { IfOk result (λ kept. kept ≡ found) }
+    ensures room { IfOk result (λ kept. kept.gate < 2 ^ 28) }
+    ensures full { IfErr result (λ why. (why ≡ CheckpointFault.Damaged (2 ^ 28)) × (2 ^ 28 ≤ found.gate)) }
+{
+    if found.gate >= MOST_BYTES {
+        return Err(CheckpointFault::Damaged(MOST_BYTES));
+    }
+    Ok(found)
 }
 
 /// The fault at a place of the image. No image is so long that its place wouldn't fit.

@@ -12,7 +12,8 @@ use crate::layout::{CLOSED, EPOCH, HEAD, IMAGE, OPEN};
 use racf_outside::{Disk, Failed};
 
 /// Makes these bytes all that stands behind the head gate, and opens that. The gate is closed before anything behind it
-/// changes, and opened only once all behind it is kept.
+/// changes, and opened only once all behind it is kept. What stood behind it is cut off first, so that a disk that has
+/// no room for both has room for what is written.
 pub(crate) fn write_behind<D: Disk>(disk: &mut D, fields: &[u8], rest: &[u8]) -> Result<(), Failed>
     requires idle { Now (D.tells disk.old) IsIdle }
     requires fields { length fields.now ≡ 24 }
@@ -63,7 +64,7 @@ fn is_closed(gate: &[u8]) -> bool
     !gate.is_empty() && gate[0] != OPEN
 }
 
-/// Writes all from place 9 on behind a head gate that is closed.
+/// Cuts off all from place 9 on, behind a head gate that is closed, and writes it anew.
 fn write_body<D: Disk>(disk: &mut D, fields: &[u8], rest: &[u8]) -> Result<(), Failed>
     requires closed { Now (D.tells disk.old) HoldsClosed }
     requires fields { length fields.now ≡ 24 }
@@ -72,9 +73,9 @@ fn write_body<D: Disk>(disk: &mut D, fields: &[u8], rest: &[u8]) -> Result<(), F
     ensures moments { StaysIn IsClosed (D.tells disk.old) (D.tells disk.new) }
     ensures cause { HasCause (D.faults disk.old) (D.faults disk.new) result }
 {
+    disk.cut(EPOCH as u64)?;
     disk.write_at(EPOCH as u64, fields)?;
     disk.write_at(IMAGE as u64, rest)?;
-    disk.cut(IMAGE as u64 + rest.len() as u64)?;
     disk.sync()?; // now the checkpoint is kept, and doesn't count
     Ok(())
 }

@@ -1,44 +1,9 @@
-//! The longest text of a command, the fields that a command shows, and its issuer.
+//! The fields that a command shows, and its issuer.
 
 use access_levels::Id;
-use command_parser::{AddUser, CommandFields, Issuer, ParseFault, Syntax, parse, print};
-use std::alloc::Global;
+use command_parser::{AddUser, CommandFields, Issuer, parse, print};
 use std::process::Abort;
 use std::test::Fail;
-
-/// The length of the canonical text of a command of `length` bytes that adds categories, or none where it is too long.
-fn length_read(alloc: Global, start: &[u8], length: usize) -> Result<Option<usize>, Fail> {
-    let mut text = Vec::from_slice(alloc, start)?;
-    for i in 0..length {
-        if text.len() >= length.saturating_sub(1) {
-            break;
-        }
-        text.push(if i % 2 == 0 { b'A' } else { b' ' })?;
-    }
-    text.push(b')')?;
-    match parse(alloc, Id::read(b"JOE")?, &text) {
-        Ok(command) => Ok(Some(command.text().len())),
-        Err(ParseFault::Syntax(Syntax::TextTooLong)) => Ok(None),
-        Err(_) => Ok(Some(0)),
-    }
-}
-
-#[test]
-fn keeps_to_the_longest_text(rt: HostRuntime) -> Result<(), Fail> {
-    assert_eq!(rt;
-        length_read(rt.alloc(), b"ADDUSER U ADDCATEGORY(", 30_000)?,
-        Some(30_000)
-    );
-    assert_eq!(rt;
-        length_read(rt.alloc(), b"ADDUSER U ADDCATEGORY(", 30_001)?,
-        None
-    );
-    assert_eq!(rt;
-        length_read(rt.alloc(), b"AU U ADDCATEGORY(", 30_000)?,
-        None
-    );
-    Ok(())
-}
 
 fn assert_fields(rt: &impl Abort, user: &AddUser) {
     assert_eq!(rt; user.user.text(), b"U2".as_slice());

@@ -1,6 +1,7 @@
 //! Disks: a table of calls that are to fail, and each form once.
 
-use racf_outside::{Disk, Failed, FileDisk, MemoryDisk, NeverDisk};
+use racf_files::{FileDisk, LOST, RealClock, open_both, read_both};
+use racf_outside::{Clock, Disk, Failed, MemoryDisk, NeverDisk};
 use std::fs;
 use std::process::Abort;
 
@@ -90,4 +91,47 @@ fn files_are_disks(rt: HostRuntime) {
     drop(disk);
     assert!(rt; opened(&rt, "file.disk").is_some());
     assert!(rt; fs::remove_file(&rt, "file.disk").is_ok());
+}
+
+/// Both files are opened together, and made good where the mark lies there; one alone isn't opened then.
+#[test]
+fn two_files_are_opened(rt: HostRuntime) {
+    let names = ["both.one", "both.two"];
+    let Ok(mut disks) = open_both(rt.alloc(), &rt, names) else {
+        panic!(rt; "no disks")
+    };
+    assert!(rt;
+        disks.first.write_at(0, b"ONE").is_ok() && disks.second.write_at(0, b"TWO").is_ok()
+    );
+    assert!(rt;
+        disks.first.identity().is_some() && disks.first.identity() != disks.second.identity()
+    );
+    assert!(rt;
+        open_both(rt.alloc(), &rt, names).is_err() && read_both(rt.alloc(), &rt, names).is_err()
+    );
+    drop(disks);
+    assert!(rt; fs::write(&rt, LOST, "").is_ok() && opened(&rt, "both.one").is_none());
+    assert!(rt; open_both(rt.alloc(), &rt, names).is_ok() && fs::metadata(&rt, LOST).is_err());
+    assert!(rt; opened(&rt, "both.one").is_some());
+    let Ok(mut read) = read_both(rt.alloc(), &rt, names) else {
+        panic!(rt; "not read")
+    };
+    let mut into = [0u8; 8];
+    assert!(rt; read.first.disk.read(0, &mut into) == Ok(3) && &into[..3] == b"ONE".as_slice());
+    assert!(rt; read.second.disk.read(1, &mut into) == Ok(2) && &into[..2] == b"WO".as_slice());
+    assert!(rt; read.first.disk.write_at(0, b"X").is_err() && read.second.disk.sync().is_ok());
+    assert!(rt; read.first.identity.is_some() && opened(&rt, "both.two").is_some());
+    for name in names {
+        assert!(rt; fs::remove_file(&rt, name).is_ok());
+    }
+    assert!(rt; read_both(rt.alloc(), &rt, names).is_ok());
+}
+
+/// The real clock gives a moment between the years 2020 and 2200.
+#[test]
+fn the_clock_gives_seconds(rt: HostRuntime) {
+    let clock = RealClock::new(rt.clone().expect(&rt, "a runtime"));
+    let now = clock.now();
+    assert!(rt; 1_577_836_800 < now && now < 7_258_118_400);
+    assert!(rt; now <= clock.now());
 }

@@ -1,8 +1,9 @@
 //! Tables of inputs and their lines, and each form once.
 
+use racf_files::FileShelf;
 use racf_outside::{
-    Failed, Failing, FileShelf, Line, LineFault, Lines, MemoryShelf, MemorySource, NeverSink,
-    NeverSource, Shelf, Sink, Source,
+    Failed, Failing, Line, LineFault, Lines, MemoryShelf, MemorySource, NeverSink, NeverSource,
+    Shelf, Sink, Source,
 };
 use std::alloc::Global;
 use std::fs;

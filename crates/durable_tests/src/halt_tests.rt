@@ -65,35 +65,35 @@ fn judged(alloc: Global, desk: &mut Desk<MemoryDisk>, text: &[u8]) -> Answer
 }
 
 /// The call of the first disk that fails; what is answered to `AU JOE`, `AU BOB` and `AX`, which is no command; and
-/// where the desk stands behind them. A new desk takes ten calls, and each accepted command four.
+/// where the desk stands behind them. A new desk takes fourteen calls, and each accepted command four.
 const HALTS: [(u64, [Answer; 3], Stand); 6] = [
     (
-        11,
-        [Answer::DiskFault(0), Answer::Halted(0), Answer::Halted(0)],
-        (0, [false; 3]),
-    ),
-    (
-        14,
-        [Answer::DiskFault(0), Answer::Halted(0), Answer::Halted(0)],
-        (0, [false; 3]),
-    ),
-    (
         15,
-        [Answer::Accepted(1), Answer::DiskFault(1), Answer::Halted(1)],
-        (1, [true, false, false]),
-    ),
-    (
-        17,
-        [Answer::Accepted(1), Answer::DiskFault(1), Answer::Halted(1)],
-        (1, [true, false, false]),
+        [Answer::DiskFault(0), Answer::Halted(0), Answer::Halted(0)],
+        (0, [false; 3]),
     ),
     (
         18,
+        [Answer::DiskFault(0), Answer::Halted(0), Answer::Halted(0)],
+        (0, [false; 3]),
+    ),
+    (
+        19,
         [Answer::Accepted(1), Answer::DiskFault(1), Answer::Halted(1)],
         (1, [true, false, false]),
     ),
     (
-        19,
+        21,
+        [Answer::Accepted(1), Answer::DiskFault(1), Answer::Halted(1)],
+        (1, [true, false, false]),
+    ),
+    (
+        22,
+        [Answer::Accepted(1), Answer::DiskFault(1), Answer::Halted(1)],
+        (1, [true, false, false]),
+    ),
+    (
+        23,
         [Answer::Accepted(1), Answer::Accepted(2), Answer::Other],
         (2, [true, true, false]),
     ),
@@ -114,7 +114,7 @@ fn assert_halts(rt: &(impl AllocGlobal + Abort), failing: u64, answers: [Answer;
     let disks = desk.into_disks();
     assert!(rt; [first, second, third] == answers, "at call {failing}");
     assert!(rt;
-        halted == (failing < 19) && stands == stand,
+        halted == (failing < 23) && stands == stand,
         "at call {failing}"
     );
     assert!(rt;
@@ -137,33 +137,9 @@ fn halted_desks_take_no_more(rt: HostRuntime) {
 }
 
 /// A new desk that is given `AU JOE`, compacted, and given `AU BOB`, where that call of the second disk fails, or none:
-/// what the compaction and the last command are answered, and where the desk stands. A new desk takes three calls of
-/// that disk, the compaction seven, and the command four.
+/// what the compaction and the last command are answered, and where the desk stands. A new desk takes seven calls of
+/// that disk, the compaction as many, and the command four.
 const COMPACTED: [(u64, Result<(), StoreFault>, Answer, Stand); 15] = [
-    (
-        4,
-        Err(StoreFault::DiskFault),
-        Answer::Halted(1),
-        (1, [true, false, false]),
-    ),
-    (
-        5,
-        Err(StoreFault::DiskFault),
-        Answer::Halted(1),
-        (1, [true, false, false]),
-    ),
-    (
-        6,
-        Err(StoreFault::DiskFault),
-        Answer::Halted(1),
-        (1, [true, false, false]),
-    ),
-    (
-        7,
-        Err(StoreFault::DiskFault),
-        Answer::Halted(1),
-        (1, [true, false, false]),
-    ),
     (
         8,
         Err(StoreFault::DiskFault),
@@ -182,13 +158,37 @@ const COMPACTED: [(u64, Result<(), StoreFault>, Answer, Stand); 15] = [
         Answer::Halted(1),
         (1, [true, false, false]),
     ),
-    (11, Ok(()), Answer::DiskFault(1), (1, [true, false, false])),
-    (12, Ok(()), Answer::DiskFault(1), (1, [true, false, false])),
-    (13, Ok(()), Answer::DiskFault(1), (1, [true, false, false])),
-    (14, Ok(()), Answer::DiskFault(1), (1, [true, false, false])),
-    (15, Ok(()), Answer::Accepted(2), (2, [true, true, false])),
-    (16, Ok(()), Answer::Accepted(2), (2, [true, true, false])),
-    (17, Ok(()), Answer::Accepted(2), (2, [true, true, false])),
+    (
+        11,
+        Err(StoreFault::DiskFault),
+        Answer::Halted(1),
+        (1, [true, false, false]),
+    ),
+    (
+        12,
+        Err(StoreFault::DiskFault),
+        Answer::Halted(1),
+        (1, [true, false, false]),
+    ),
+    (
+        13,
+        Err(StoreFault::DiskFault),
+        Answer::Halted(1),
+        (1, [true, false, false]),
+    ),
+    (
+        14,
+        Err(StoreFault::DiskFault),
+        Answer::Halted(1),
+        (1, [true, false, false]),
+    ),
+    (15, Ok(()), Answer::DiskFault(1), (1, [true, false, false])),
+    (16, Ok(()), Answer::DiskFault(1), (1, [true, false, false])),
+    (17, Ok(()), Answer::DiskFault(1), (1, [true, false, false])),
+    (18, Ok(()), Answer::DiskFault(1), (1, [true, false, false])),
+    (19, Ok(()), Answer::Accepted(2), (2, [true, true, false])),
+    (20, Ok(()), Answer::Accepted(2), (2, [true, true, false])),
+    (21, Ok(()), Answer::Accepted(2), (2, [true, true, false])),
     (0, Ok(()), Answer::Accepted(2), (2, [true, true, false])),
 ];
 
@@ -213,7 +213,7 @@ fn assert_compacts(
     let stands = stand_of(&desk);
     let halted = desk.halted();
     let disks = desk.into_disks();
-    let fails = (1..15).contains(&failing);
+    let fails = (1..19).contains(&failing);
     assert!(rt;
         first == Answer::Accepted(1) && compaction == wanted,
         "at call {failing}"

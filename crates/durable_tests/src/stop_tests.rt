@@ -59,8 +59,11 @@ struct Row {
     stands: [Stand; 2],
 }
 
-/// The calls that an opening makes of a disk at rest: a sync, and reads up to one that gives nothing.
-const OPEN: &[Call] = &[Call::Sync, Call::Read, Call::Read];
+/// The calls that an opening makes of the disk that doesn't count: a sync, and reads of what tells that.
+const LOOKED: &[Call] = &[Call::Sync, Call::Read, Call::Read];
+
+/// Those that it makes of the disk that counts, at rest: then it reads the file, up to a read that gives nothing.
+const OPEN: &[Call] = &[Call::Sync, Call::Read, Call::Read, Call::Read, Call::Read];
 
 /// Where a desk stands behind none of the commands, behind one, two and three.
 const NONE: Stand = (0, [false, false, false]);
@@ -71,27 +74,82 @@ const TWO: Stand = (2, [true, true, false]);
 
 const THREE: Stand = (3, [true, true, true]);
 
-/// The rows, of which each but the first two begins where the one before it ended.
-const ROWS: [Row; 7] = [
-    // both files are made ones without a checkpoint, and the first gets one
+/// The rows, of which each but the first three begins where the one before it ended.
+const ROWS: [Row; 8] = [
+    // both files are made ones without a checkpoint, the older one first, and the first gets one: the older database, that of JOE
+    // alone, is never there
+    Row {
+        deed: Deed::Format,
+        held: [Held::First(JOE), Held::Second(BOB)],
+        left: [Held::First(EMPTY), Held::Bytes(BARE)],
+        calls: [
+            &[
+                Call::Sync,
+                Call::Read,
+                Call::Read,
+                Call::Write(8, 9),
+                Call::Sync,
+                Call::Cut,
+                Call::Sync,
+                Call::Write(0, 9),
+                Call::Sync,
+                Call::Read,
+                Call::Cut,
+                Call::Write(9, 33),
+                Call::Write(33, 347),
+                Call::Sync,
+                Call::Write(8, 9),
+                Call::Sync,
+            ],
+            &[
+                Call::Sync,
+                Call::Read,
+                Call::Read,
+                Call::Write(8, 9),
+                Call::Sync,
+                Call::Cut,
+                Call::Sync,
+                Call::Write(0, 9),
+                Call::Sync,
+            ],
+        ],
+        stands: [TWO, NONE],
+    },
+    // of two of one epoch the first counts
     Row {
         deed: Deed::Format,
         held: [Held::First(JOE), Held::First(EMPTY)],
         left: [Held::First(EMPTY), Held::Bytes(BARE)],
         calls: [
             &[
-                Call::Write(0, 9),
-                Call::Cut,
                 Call::Sync,
                 Call::Read,
+                Call::Read,
+                Call::Write(8, 9),
+                Call::Sync,
+                Call::Cut,
+                Call::Sync,
+                Call::Write(0, 9),
+                Call::Sync,
+                Call::Read,
+                Call::Cut,
                 Call::Write(9, 33),
                 Call::Write(33, 347),
-                Call::Cut,
                 Call::Sync,
                 Call::Write(8, 9),
                 Call::Sync,
             ],
-            &[Call::Write(0, 9), Call::Cut, Call::Sync],
+            &[
+                Call::Sync,
+                Call::Read,
+                Call::Read,
+                Call::Write(8, 9),
+                Call::Sync,
+                Call::Cut,
+                Call::Sync,
+                Call::Write(0, 9),
+                Call::Sync,
+            ],
         ],
         stands: [ONE, NONE],
     },
@@ -108,12 +166,14 @@ const ROWS: [Row; 7] = [
                 Call::Sync,
                 Call::Read,
                 Call::Read,
+                Call::Read,
+                Call::Read,
                 Call::Cut,
                 Call::Sync,
                 Call::Write(378, 379),
                 Call::Sync,
             ],
-            OPEN,
+            LOOKED,
         ],
         stands: [ONE, ONE],
     },
@@ -126,12 +186,14 @@ const ROWS: [Row; 7] = [
                 Call::Sync,
                 Call::Read,
                 Call::Read,
+                Call::Read,
+                Call::Read,
                 Call::Write(347, 379),
                 Call::Sync,
                 Call::Write(346, 347),
                 Call::Sync,
             ],
-            OPEN,
+            LOOKED,
         ],
         stands: [NONE, ONE],
     },
@@ -147,9 +209,9 @@ const ROWS: [Row; 7] = [
                 Call::Read,
                 Call::Read,
                 Call::Read,
+                Call::Cut,
                 Call::Write(9, 33),
                 Call::Write(33, 427),
-                Call::Cut,
                 Call::Sync,
                 Call::Write(8, 9),
                 Call::Sync,
@@ -162,9 +224,11 @@ const ROWS: [Row; 7] = [
         held: [Held::First(JOE), Held::Second(EMPTY)],
         left: [Held::First(JOE), Held::Second(BOB)],
         calls: [
-            OPEN,
+            LOOKED,
             &[
                 Call::Sync,
+                Call::Read,
+                Call::Read,
                 Call::Read,
                 Call::Read,
                 Call::Write(427, 459),
@@ -175,7 +239,7 @@ const ROWS: [Row; 7] = [
         ],
         stands: [ONE, TWO],
     },
-    // the other file has an older checkpoint, whose head gate is closed first
+    // the other file has an older checkpoint, whose head gate is closed and which is cut off first
     Row {
         deed: Deed::Compact,
         held: [Held::First(JOE), Held::Second(BOB)],
@@ -188,9 +252,9 @@ const ROWS: [Row; 7] = [
                 Call::Read,
                 Call::Write(8, 9),
                 Call::Sync,
+                Call::Cut,
                 Call::Write(9, 33),
                 Call::Write(33, 507),
-                Call::Cut,
                 Call::Sync,
                 Call::Write(8, 9),
                 Call::Sync,
@@ -208,12 +272,14 @@ const ROWS: [Row; 7] = [
                 Call::Sync,
                 Call::Read,
                 Call::Read,
+                Call::Read,
+                Call::Read,
                 Call::Write(507, 539),
                 Call::Sync,
                 Call::Write(506, 507),
                 Call::Sync,
             ],
-            OPEN,
+            LOOKED,
         ],
         stands: [TWO, THREE],
     },
@@ -271,6 +337,17 @@ impl Failing<'_> {
     fn calls(&self) -> &'static [Call] {
         let [first, second] = self.row.calls;
         if self.second { second } else { first }
+    }
+
+    /// How many of them an opening makes.
+    fn opening(&self) -> usize {
+        let reads = self.calls().iter().skip(1);
+        let front = reads.take_while(|call| matches!(call, Call::Read)).count();
+        if front.saturating_add(1) >= OPEN.len() {
+            OPEN.len()
+        } else {
+            LOOKED.len()
+        }
     }
 
     /// The call at this place, counted from 0; behind the last a read.
@@ -461,7 +538,7 @@ fn wanted(failing: &Failing<'_>, place: usize) -> Ended {
     let [before, behind] = failing.row.stands;
     if place >= failing.calls().len() {
         Ended::Well(behind)
-    } else if matches!(failing.row.deed, Deed::Format | Deed::Load) || place < OPEN.len() {
+    } else if matches!(failing.row.deed, Deed::Format | Deed::Load) || place < failing.opening() {
         Ended::NoDesk
     } else {
         Ended::Halted(before)
@@ -489,8 +566,7 @@ fn assert_says(
         Deed::Format if opened => found == Ok(behind) && says == Ok((0, 0)),
         Deed::Format => match found {
             Ok(stand) => stand == before || stand == behind,
-            Err(StoreFault::NotFormatted | StoreFault::Damaged(_)) => true,
-            Err(_) => false,
+            Err(fault) => fault == StoreFault::NotFormatted,
         },
         Deed::Load => found == Ok(before) && says == Ok((0, 1)),
         Deed::Compact if opened => found == Ok(before) && says == Ok((before.0, 0)),

@@ -7,19 +7,17 @@ use Rattle.racf_outside.specs.Disk.{History, Now}
 use Rattle.racf_outside.specs.Moments.{Moment, durable}
 use Rattle.racf_outside.proofs.Images.{durable-leaves}
 use Rattle.racf_outside.proofs.Runs.{StaysIn-none, StaysIn-weaker}
-use Rattle.racf_journal.specs.Kept.{ReadsAs}
-use Rattle.racf_journal.proofs.Rests.{rest_leaves}
 use Rattle.racf_profiles.specs.declared.rows.Rows.{Rows}
 use Rattle.checkpoint_disks.specs.declared.counting.Side.{Side}
 use Rattle.checkpoint_disks.specs.declared.counting.Side.TheVariants.{First, Second}
 use Rattle.checkpoint_disks.specs.Files.{head_is_open, epoch_of, CheckpointRead}
 use Rattle.checkpoint_disks.specs.Files.{contents as file_contents}
 use Rattle.checkpoint_disks.specs.Counting.{which, said}
-use Rattle.checkpoint_disks.specs.Compacting.{with_image, Counts, IsOneOf, CountsBeside, said_beside, first_of, second_of, new_file, new_checkpoint}
+use Rattle.checkpoint_disks.specs.Compacting.{Counts, IsOneOf, CountsBeside, said_beside, first_of, second_of, new_file, new_checkpoint}
 use Rattle.checkpoint_disks.specs.Compacting.{SaysEither as FileSaysEither}
 use Rattle.racf_checkpoint.specs.Contents.{as_stored, SaysEither}
 use Rattle.racf_checkpoint.specs.Stored.{IsStored, IsPassedOver, Beside, other}
-use Rattle.racf_checkpoint.proofs.Saying.{RecordsAreRead, said_counts, contents_are, reads_counts}
+use Rattle.racf_checkpoint.proofs.Saying.{RecordsAreRead, said_counts, ReadsShort, gate_fits, rest_short, contents_are, reads_counts}
 
 -- ---- the live disk
 
@@ -32,14 +30,13 @@ pub record Live (epoch : ℕ) (kept : CheckpointRead) (m : Moment) : Type 0 wher
 
 pub live_is : RecordsAreRead → (epoch start gate : ℕ) (kept : CheckpointRead) (m : Moment) → IsStored epoch start gate kept m → Live epoch kept m
 live_is law epoch start gate kept m s =
-    let front : List ℕ = with_image kept.epoch kept.number kept.rows in
     let still : m ≡ durable m.bytes = s.rest.is ∙ ap (λ (n : Moment). durable n.bytes) (sym s.rest.is) in
-    let image_is = subst (Leaves (ReadsAs front kept.records)) still (rest_leaves front start gate kept.records m s.rest) in
-    let reads : ReadsAs front kept.records m.bytes = image_is.each m.bytes (record { no_shorter = omega arith; no_longer = omega arith; stays = λ place within kept_place. refl }) in
+    let image_is = subst (Leaves (ReadsShort kept kept.records)) still (rest_short kept start gate m s.lawful s.rest) in
+    let reads : ReadsShort kept kept.records m.bytes = image_is.each m.bytes (record { no_shorter = omega arith; no_longer = omega arith; stays = λ place within kept_place. refl }) in
     record {
       durable = still;
-      counts = subst (λ n. Counts n m.bytes) s.is_of (reads_counts law kept kept.records m.bytes s.lawful reads);
-      says = contents_are law kept kept.records m.bytes s.lawful reads ∙ ap (λ (read : CheckpointRead). Ok read) (sym s.lawful.is);
+      counts = subst (λ n. Counts n m.bytes) s.is_of (reads_counts law kept kept.records m.bytes s.lawful reads.reads);
+      says = contents_are law kept kept.records m.bytes s.lawful (gate_fits kept s.lawful) reads ∙ ap (λ (read : CheckpointRead). Ok read) (sym s.lawful.is);
       some = omega (arith, s.lawful.some, s.is_of);
     }
 

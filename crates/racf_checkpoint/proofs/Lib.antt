@@ -1,6 +1,7 @@
 mod Appending
 mod Compacting
 mod Finding
+mod Formats
 mod New
 mod Saying
 pub mod Syncing

@@ -27,8 +27,9 @@ new_is epoch number rows =
     let same : 33 + length (image_of rows) ≡ (33 + length (image_of rows)) + 0 = omega arith in
     ap (λ n. record { epoch = epoch; number = number; rows = rows; start = 33 + length (image_of rows); records = []; gate = n }) same
 
-pub new_lawful : (epoch number : ℕ) (rows : Rows) → 0 < epoch → epoch < 2 ^ 64 → number ≤ 2 ^ 62 → AreStored rows → length (image_of rows) < 2 ^ 64 → IsCheckpoint (new_checkpoint epoch number rows)
-new_lawful epoch number rows some fits most stored size = record { some = some; epoch = fits; number = most; stored = stored; size = size; is = new_is epoch number rows }
+pub new_lawful : (epoch number : ℕ) (rows : Rows) → 0 < epoch → epoch < 2 ^ 64 → number ≤ 2 ^ 62 → AreStored rows → 34 + length (image_of rows) ≤ 2 ^ 28 → IsCheckpoint (new_checkpoint epoch number rows)
+new_lawful epoch number rows some fits most stored short =
+    record { some = some; epoch = fits; number = most; stored = stored; size = omega (arith, short); fits = omega (arith, short); is = new_is epoch number rows }
 
 pub new_rests : (epoch number start : ℕ) (rows : Rows) (m : Moment) → start ≡ 33 + length (image_of rows) → m ≡ durable (new_file epoch number rows) → IsAtRest (with_image epoch number rows) start start [] m
 new_rests epoch number start rows m at is =
@@ -42,15 +43,15 @@ pub new_stored : (epoch number start : ℕ) (rows : Rows) (told : Option History
 new_stored epoch number start rows told lawful at done h e = record { is_of = refl; lawful = lawful; rest = new_rests epoch number start rows h.now at (done h e) }
 
 -- behind a compaction
-pub made_lawful : (epoch next start number : ℕ) (rows : Rows) → next ≡ epoch + 1 → next < 2 ^ 64 → start < 2 ^ 64 → number ≤ 2 ^ 62 → AreStored rows → start ≡ 33 + length (image_of rows) → IsCheckpoint (new_checkpoint (epoch + 1) number rows)
-made_lawful epoch next start number rows above fits few most stored at =
-    subst (λ n. IsCheckpoint (new_checkpoint n number rows)) above (new_lawful next number rows (omega (arith, above)) fits most stored (omega (arith, at, few)))
+pub made_lawful : (epoch next number : ℕ) (rows : Rows) → next ≡ epoch + 1 → next < 2 ^ 64 → 34 + length (image_of rows) ≤ 2 ^ 28 → number ≤ 2 ^ 62 → AreStored rows → IsCheckpoint (new_checkpoint (epoch + 1) number rows)
+made_lawful epoch next number rows above fits short most stored =
+    subst (λ n. IsCheckpoint (new_checkpoint n number rows)) above (new_lawful next number rows (omega (arith, above)) fits most stored short)
 
-pub made_stored : (epoch next start number : ℕ) (rows : Rows) (made : Option History) → next ≡ epoch + 1 → next < 2 ^ 64 → start < 2 ^ 64 → number ≤ 2 ^ 62 → AreStored rows → start ≡ 33 + length (image_of rows)
+pub made_stored : (epoch next start number : ℕ) (rows : Rows) (made : Option History) → next ≡ epoch + 1 → next < 2 ^ 64 → 34 + length (image_of rows) ≤ 2 ^ 28 → number ≤ 2 ^ 62 → AreStored rows → start ≡ 33 + length (image_of rows)
     → Now made (λ m. m ≡ durable (new_file next number rows)) → Now made (IsStored next start start (new_checkpoint (epoch + 1) number rows))
-made_stored epoch next start number rows made above fits few most stored at done =
+made_stored epoch next start number rows made above fits short most stored at done =
     subst (λ n. Now made (IsStored next start start (new_checkpoint n number rows))) above
-    (new_stored next number start rows made (new_lawful next number rows (omega (arith, above)) fits most stored (omega (arith, at, few))) at done)
+    (new_stored next number start rows made (new_lawful next number rows (omega (arith, above)) fits most stored short) at done)
 
 -- ---- a new database
 
@@ -83,7 +84,7 @@ new_database_stored found = (found (image_of new_database) new_database (bytes_a
 
 -- its checkpoint, and that on the first disk
 pub first_lawful : AreStored new_database → IsCheckpoint (new_checkpoint 1 0 new_database)
-first_lawful stored = new_lawful 1 0 new_database (omega arith) (omega arith) (omega arith) stored new_size
+first_lawful stored = new_lawful 1 0 new_database (omega arith) (omega arith) (omega arith) stored (omega (arith, new_long))
 
 pub first_stored : (start : ℕ) (rows : Rows) (told : Option History) → AreStored new_database → rows ≡ new_database → start ≡ 33 + length (image_of rows) → Now told (λ m. m ≡ durable (new_file 1 0 rows))
     → Now told (IsStored 1 start start (new_checkpoint 1 0 new_database))

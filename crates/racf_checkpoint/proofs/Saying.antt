@@ -1,14 +1,15 @@
 -- What two files say, where one counts and the other is passed over.
-use Rattle.std.proofs.Common.{ℕ, ◌<◌, ◌≤◌, ◌^◌, ◌≡◌, ◌∙◌, cond, ◌&&◌, List, length, Option, None, Some, Result, Ok, Err, refl, sym, ap, subst}
+use Rattle.std.proofs.Common.{ℕ, ◌+◌, ◌<◌, ◌≤◌, ◌^◌, ◌≡◌, ◌∙◌, cond, ◌&&◌, List, [], ◌∷◌, ◌++◌, length, Option, None, Some, Result, Ok, Err, refl, sym, ap, subst, arith, length-append}
 use Rattle.std.proofs.lemmas.Bool.{cond-true, and_from}
 use Rattle.racf_outside.specs.Crashes.{Leaves}
 use Rattle.racf_outside.specs.Disk.{History, Now}
-use Rattle.racf_outside.specs.Moments.{Moment}
-use Rattle.racf_outside.proofs.Images.{durable-leaves}
+use Rattle.racf_outside.specs.Moments.{Moment, IsImage}
+use Rattle.racf_outside.proofs.Images.{only, durable-leaves}
 use Rattle.racf_outside.proofs.Runs.{Leaves-weaker}
 use Rattle.racf_profiles.specs.declared.rows.Rows.{Rows}
 use Rattle.database_image.specs.Image.{image_of, IsStored as AreStored}
-use Rattle.racf_journal.specs.Kept.{ReadsAs}
+use Rattle.racf_journal.specs.Kept.{IsAtRest, ReadsAs}
+use Rattle.racf_journal.specs.Reading.{spelled}
 use Rattle.racf_journal.proofs.Rests.{rest_leaves}
 use Rattle.checkpoint_disks.specs.declared.counting.Side.{Side}
 use Rattle.checkpoint_disks.specs.declared.counting.Side.TheVariants.{First, Second}
@@ -18,13 +19,14 @@ use Rattle.checkpoint_disks.specs.Files.{is_formatted, head_is_open, epoch_of, C
 use Rattle.checkpoint_disks.specs.Files.{contents as file_contents}
 use Rattle.checkpoint_disks.specs.Counting.{which, counted, said}
 use Rattle.checkpoint_disks.specs.Compacting.{with_image, with_records, IsCheckpoint, Counts, first_of, second_of}
+use Rattle.checkpoint_disks.proofs.Held.{image_long}
 use Rattle.racf_checkpoint.specs.Contents.{as_stored, Says}
 use Rattle.racf_checkpoint.specs.Stored.{IsStored, IsPassedOver, Beside, SaysAs}
 
 -- the law of the crate below: a journal's records behind an image are said, and their file counts
 pub record RecordsAreRead : Type 0 where
-  pub says : (epoch number : ℕ) (rows : Rows) (records : List (List ℕ)) (file : List ℕ) → AreStored rows → 0 < epoch → epoch < 2 ^ 64 → number ≤ 2 ^ 62 → length (image_of rows) < 2 ^ 64
-      → ReadsAs (with_image epoch number rows) records file → file_contents file ≡ Ok (with_records epoch number rows records)
+  pub says : (epoch number : ℕ) (rows : Rows) (records : List (List ℕ)) (file : List ℕ) → AreStored rows → 0 < epoch → epoch < 2 ^ 64 → number ≤ 2 ^ 62
+      → (33 + length (image_of rows)) + length (spelled records) < 2 ^ 28 → length file ≤ 2 ^ 28 → ReadsAs (with_image epoch number rows) records file → file_contents file ≡ Ok (with_records epoch number rows records)
   pub counts : (epoch number : ℕ) (rows : Rows) (records : List (List ℕ)) (file : List ℕ) → epoch < 2 ^ 64 → ReadsAs (with_image epoch number rows) records file → Counts epoch file
 
 -- a file that counts says what the two say
@@ -36,24 +38,61 @@ said_counts Second epoch live idle p c =
     cond-true (is_formatted idle.bytes && is_formatted live) (counted idle.bytes live (which idle.bytes live)) (Err NotFormatted) (and_from (is_formatted idle.bytes) (is_formatted live) p.at_rest.formatted c.formatted)
     ∙ ap (counted idle.bytes live) (p.counts live c.opened c.epoch_is)
 
+-- ---- that they are within the bound of a file
+
+-- where the gate behind these records stands
+abbrev pub gate_of : CheckpointRead → (records : List (List ℕ)) → ℕ
+gate_of kept records = (33 + length (image_of kept.rows)) + length (spelled records)
+
+-- the gate of a checkpoint is one of the bytes that a file may have
+pub gate_fits : (kept : CheckpointRead) → IsCheckpoint kept → gate_of kept kept.records < 2 ^ 28
+gate_fits kept c = subst (λ n. n < 2 ^ 28) (ap (λ (read : CheckpointRead). read.gate) c.is) c.fits
+
+-- a file of records behind an image ends with that gate
+pub rest_size : (kept : CheckpointRead) (records : List (List ℕ)) (start gate : ℕ) (m : Moment) → IsAtRest (with_image kept.epoch kept.number kept.rows) start gate records m
+    → (gate ≡ gate_of kept records) × (length m.bytes ≡ gate + 1)
+rest_size kept records start gate m rest =
+    let front : List ℕ = with_image kept.epoch kept.number kept.rows in
+    let long : length front ≡ 33 + length (image_of kept.rows) = image_long kept.epoch kept.number kept.rows in (
+      omega (arith, rest.to, rest.from, long),
+      omega (arith, ap (λ (n : Moment). length n.bytes) rest.is, length-append (front ++ spelled records) (0 ∷ []), length-append front (spelled records), rest.to, rest.from),
+    )
+
+-- a file that is read as these records, and isn't too long
+pub record ReadsShort (kept : CheckpointRead) (records : List (List ℕ)) (file : List ℕ) : Type 0 where
+  pub reads : ReadsAs (with_image kept.epoch kept.number kept.rows) records file
+  pub short : length file ≤ 2 ^ 28
+
+pub rest_short : (kept : CheckpointRead) (start gate : ℕ) (m : Moment) → IsCheckpoint kept → IsAtRest (with_image kept.epoch kept.number kept.rows) start gate kept.records m → Leaves (ReadsShort kept kept.records) m
+rest_short kept start gate m c rest = record {
+  each = λ image i.
+      let size = rest_size kept kept.records start gate m rest in
+      let bytes : List ℕ = with_image kept.epoch kept.number kept.rows ++ spelled kept.records ++ 0 ∷ [] in
+      let is : image ≡ bytes = only bytes image (subst (λ n. IsImage n image) rest.is i) in
+      record {
+        reads = (rest_leaves (with_image kept.epoch kept.number kept.rows) start gate kept.records m rest).each image i;
+        short = omega (arith, ap length is, ap (λ (n : Moment). length n.bytes) rest.is, size.0, size.1, gate_fits kept c);
+      };
+}
+
 module _ (law : RecordsAreRead) where
   -- what these records are read as
-  pub contents_are : (kept : CheckpointRead) (records : List (List ℕ)) (file : List ℕ) → IsCheckpoint kept → ReadsAs (with_image kept.epoch kept.number kept.rows) records file
+  pub contents_are : (kept : CheckpointRead) (records : List (List ℕ)) (file : List ℕ) → IsCheckpoint kept → gate_of kept records < 2 ^ 28 → ReadsShort kept records file
       → file_contents file ≡ Ok (with_records kept.epoch kept.number kept.rows records)
-  contents_are kept records file c r = law.says kept.epoch kept.number kept.rows records file c.stored c.some c.epoch c.number c.size r
+  contents_are kept records file c fits r = law.says kept.epoch kept.number kept.rows records file c.stored c.some c.epoch c.number fits r.short r.reads
 
   pub reads_counts : (kept : CheckpointRead) (records : List (List ℕ)) (file : List ℕ) → IsCheckpoint kept → ReadsAs (with_image kept.epoch kept.number kept.rows) records file → Counts kept.epoch file
   reads_counts kept records file c r = law.counts kept.epoch kept.number kept.rows records file c.epoch r
 
   -- beside a file that is passed over
   pub reads_says : (side : Side) (epoch : ℕ) (kept : CheckpointRead) (records : List (List ℕ)) (file : List ℕ) (idle : Moment) → IsCheckpoint kept → kept.epoch ≡ epoch → IsPassedOver side epoch idle
-      → ReadsAs (with_image kept.epoch kept.number kept.rows) records file → Says (with_records kept.epoch kept.number kept.rows records) (first_of side file idle.bytes) (second_of side file idle.bytes)
-  reads_says side epoch kept records file idle c at p r =
-      ap as_stored (said_counts side epoch file idle p (subst (λ e. Counts e file) at (reads_counts kept records file c r)) ∙ contents_are kept records file c r)
+      → gate_of kept records < 2 ^ 28 → ReadsShort kept records file → Says (with_records kept.epoch kept.number kept.rows records) (first_of side file idle.bytes) (second_of side file idle.bytes)
+  reads_says side epoch kept records file idle c at p fits r =
+      ap as_stored (said_counts side epoch file idle p (subst (λ e. Counts e file) at (reads_counts kept records file c r.reads)) ∙ contents_are kept records file c fits r)
 
   pub kept_says : (side : Side) (epoch : ℕ) (kept : CheckpointRead) (file : List ℕ) (idle : Moment) → IsCheckpoint kept → kept.epoch ≡ epoch → IsPassedOver side epoch idle
-      → ReadsAs (with_image kept.epoch kept.number kept.rows) kept.records file → Says kept (first_of side file idle.bytes) (second_of side file idle.bytes)
-  kept_says side epoch kept file idle c at p r = reads_says side epoch kept kept.records file idle c at p r ∙ ap (λ (read : CheckpointRead). Ok read) (sym c.is)
+      → ReadsShort kept kept.records file → Says kept (first_of side file idle.bytes) (second_of side file idle.bytes)
+  kept_says side epoch kept file idle c at p r = reads_says side epoch kept kept.records file idle c at p (gate_fits kept c) r ∙ ap (λ (read : CheckpointRead). Ok read) (sym c.is)
 
 -- beside whatever a crash leaves of a disk that is passed over
 pub beside_passed : (side : Side) (epoch : ℕ) (told : Option History) (P : (first second : List ℕ) → Type 0) (file : List ℕ) → Now told (IsPassedOver side epoch)
@@ -67,9 +106,9 @@ beside_passed side epoch told P file passed p h e =
 pub stored_says : RecordsAreRead → (side : Side) (epoch start gate : ℕ) (kept : CheckpointRead) (live : Moment) (idle : Option History) → IsStored epoch start gate kept live → Now idle (IsPassedOver side epoch)
     → Leaves (Beside side idle (Says kept)) live
 stored_says law side epoch start gate kept live idle s passed =
-    Leaves-weaker (ReadsAs (with_image kept.epoch kept.number kept.rows) kept.records) (Beside side idle (Says kept)) live
+    Leaves-weaker (ReadsShort kept kept.records) (Beside side idle (Says kept)) live
     (λ file r. beside_passed side epoch idle (Says kept) file passed (λ m p. kept_says law side epoch kept file m s.lawful s.is_of p r))
-    (rest_leaves (with_image kept.epoch kept.number kept.rows) start gate kept.records live s.rest)
+    (rest_short kept start gate live s.lawful s.rest)
 
 -- ---- files that say the same beside every other
 

@@ -1,5 +1,5 @@
 -- What is seen of the bytes of two files.
-use Rattle.std.proofs.Common.{ℕ, ◌+◌, ◌<◌, ◌≤◌, ◌^◌, ◌≡◌, ◌≢◌, Bool, true, false, cond, ◌&&◌, List, length, drop, Option, None, Some, Result, Ok, Err, ◌⊎◌, inl, inr, ap, arith, length-append, length-drop}
+use Rattle.std.proofs.Common.{ℕ, ◌+◌, ◌<◌, ◌≤◌, ◌^◌, ◌≡◌, ◌≢◌, Bool, true, false, cond, ltb, ◌&&◌, List, length, drop, Option, None, Some, Result, Ok, Err, ◌⊎◌, inl, inr, ap, arith, length-append, length-drop}
 use Rattle.std.specs.List.{slice_range}
 use Rattle.racf_profiles.specs.declared.rows.Rows.{Rows}
 use Rattle.database_image.specs.Image.{rows_of}
@@ -43,14 +43,14 @@ no_disk-then (Err why) next p q = λ e. let same : why ≡ DiskFault = cc in p (
 
 no_disk-head : (file : List ℕ) → NoDisk (head_of file)
 unfolding head_of
-no_disk-head file = no_disk-either _ _ _ (no_disk-damaged 9) (no_disk-either _ _ _ (no_disk-damaged 17) (no_disk-either _ _ _ (no_disk-damaged 25) (no_disk-ok _)))
+no_disk-head file = no_disk-either _ _ _ (no_disk-damaged (2 ^ 28)) (no_disk-either _ _ _ (no_disk-damaged 9) (no_disk-either _ _ _ (no_disk-damaged 17) (no_disk-either _ _ _ (no_disk-damaged 25) (no_disk-ok _))))
 
 no_disk-rows : (rows : Result Rows ℕ) → NoDisk (rows_read rows)
 no_disk-rows (Ok rows) e = cc
 no_disk-rows (Err place) e = cc
 
 no_disk-records : (found : Result Reading JournalFault) → NoDisk (records_read found)
-no_disk-records (Ok found) e = cc
+no_disk-records (Ok found) e = no_disk-either (ltb found.gate (2 ^ 28)) (Ok found) (Err (Damaged (2 ^ 28))) (no_disk-ok found) (no_disk-damaged (2 ^ 28)) e
 no_disk-records (Err journal.DiskFault) e = cc
 no_disk-records (Err journal.NotFormatted) e = cc
 no_disk-records (Err (journal.Damaged place)) e = cc

@@ -27,7 +27,7 @@ pub synced_stays : (a b : Option History) → OnlySynced a b → StaysPossible a
 synced_stays a b s before was =
     ends (ok synced (starts (WasPossible before) a (λ h e. possible_now before h.now (was h e))) s.is (λ h e. synced-leaves (WasPossible before) h.now (s.was_left h e) (possible_now before h.now (was h e))))
 
-possible_before : (m before : Moment) → m ≡ before → IsImage m m.bytes → (file : List ℕ) → WasPossible (synced m) file → WasPossible before file
+pub possible_before : (m before : Moment) → m ≡ before → IsImage m m.bytes → (file : List ℕ) → WasPossible (synced m) file → WasPossible before file
 possible_before m before same law file w =
     let image_is : w.image ≡ m.bytes = only m.bytes w.image w.was_left in
     record { image = w.image; was_left = subst (λ n. IsImage n w.image) same (subst (IsImage m) (sym image_is) law); says = w.says }

@@ -1,5 +1,5 @@
 -- What is known of two disks that were read.
-use Rattle.std.specs.Prelude.{ℕ, ◌≡◌, ◌<◌, ◌^◌, true, List, length, drop, Option, Some, Ok}
+use Rattle.std.specs.Prelude.{ℕ, ◌+◌, ◌≡◌, ◌<◌, ◌^◌, true, List, length, take, drop, Option, Some, Ok}
 use Rattle.racf_outside.specs.Disk.{History, Now}
 use Rattle.racf_outside.specs.Moments.{Moment, durable}
 use Rattle.racf_journal.specs.Opening.{FoundOn as JournalFoundOn}
@@ -8,7 +8,7 @@ use Rattle.checkpoint_disks.specs.declared.counting.Side.{Side}
 use Rattle.checkpoint_disks.specs.Files.{CheckpointRead, is_formatted}
 use Rattle.checkpoint_disks.specs.Counting.{which, file_on, said}
 use Rattle.checkpoint_disks.specs.Compacting.{IsCheckpoint, IsHeld}
-use Rattle.racf_checkpoint.specs.Stored.{IsPassedOver}
+use Rattle.racf_checkpoint.specs.Stored.{IsPassedOver, pick}
 
 -- A store that was read and isn't open yet, as data: the journal on the disk that counts, the other disk, the side of
 -- the one that counts, and its checkpoint.
@@ -52,10 +52,11 @@ pub record IsSaid (one two : List ℕ) (side : Side) (kept : CheckpointRead) (en
   pub end_is : end ≡ drop kept.gate (file_on side one two)
   pub room : length (file_on side one two) < 2 ^ 64
 
--- The same of all that two disks hold, and a crash changes none of it.
+-- The same of what was read of two disks, on which a crash changes nothing: of the one that counts all up to one byte
+-- more than a file may have, of the other what tells which counts.
 pub record IsSeen (first second : Option History) (side : Side) (kept : CheckpointRead) (end : List ℕ) : Type 0 where
   pub one : List ℕ
   pub two : List ℕ
-  pub first_holds : Now first (λ m. m ≡ durable one)
-  pub second_holds : Now second (λ m. m ≡ durable two)
+  pub first_holds : Now first (λ m. (m ≡ durable m.bytes) × (one ≡ take (pick side (2 ^ 28 + 1) 17) m.bytes))
+  pub second_holds : Now second (λ m. (m ≡ durable m.bytes) × (two ≡ take (pick side 17 (2 ^ 28 + 1)) m.bytes))
   pub said : IsSaid one two side kept end

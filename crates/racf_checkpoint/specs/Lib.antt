@@ -1,3 +1,4 @@
 pub mod Contents
 pub mod Finding
+pub mod Formatting
 pub mod Stored

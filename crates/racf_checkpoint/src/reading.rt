@@ -1,22 +1,25 @@
 //! How two disks are read.
 
-ghost use Rattle.std.specs.Prelude.{◌≤◌, ◌≡◌, ◌≢◌, ◌⊎◌, length, drop, Err, IfOk, IfErr, OnOk, OnErr};
+ghost use Rattle.std.specs.Prelude.{◌+◌, ◌≤◌, ◌≡◌, ◌≢◌, ◌⊎◌, ◌^◌, length, take, drop, Some, Err, IfOk, IfErr, OnOk, OnErr};
 ghost use Rattle.racf_outside.specs.Causes.{Rose};
 ghost use Rattle.racf_outside.specs.Disk.{Now};
 ghost use Rattle.racf_outside.specs.Moments.{durable};
 ghost use Rattle.racf_journal.specs.Opening.{OnlySynced};
-ghost use Rattle.checkpoint_disks.specs.Counting.{as_read};
+ghost use Rattle.checkpoint_disks.specs.Counting.{which, as_read};
 ghost use Rattle.racf_checkpoint.specs.Contents.{contents, Refuses, IsCausedByOne};
-ghost use Rattle.racf_checkpoint.specs.Stored.{NowRead, StaysPossible};
+ghost use Rattle.racf_checkpoint.specs.Stored.{NowRead, StaysPossible, pick};
 ghost use Rattle.racf_checkpoint.specs.Finding.{IsSaid, IsSeen};
 ghost use Rattle.racf_checkpoint.specs.declared.fault.StoreFault.TheVariants as fault;
 
 use crate::fault::StoreFault;
 use access_levels::Text;
-use checkpoint_disks::{Checkpoint, Side, file_on, read_pair};
-use racf_journal::read_from;
+use checkpoint_disks::{Checkpoint, Side, TELLING, file_on, read_pair, side_that_counts};
+use racf_journal::{MOST_BYTES, read_front};
 use racf_outside::{Disk, Failed};
 use std::alloc::{AllocError, Global};
+
+/// How many bytes are read of the file that counts: one more than it may have.
+const MOST_READ: usize = MOST_BYTES as usize + 1;
 
 /// What is seen on two disks.
 #[derive(Drop)]
@@ -51,7 +54,7 @@ pub(crate) fn read_disks<D: Disk>(
 }
 
 /// Syncs both disks, the first one first.
-fn sync_both<D: Disk>(first: &mut D, second: &mut D) -> Result<(), Failed>
+pub(crate) fn sync_both<D: Disk>(first: &mut D, second: &mut D) -> Result<(), Failed>
     ensures synced { OnOk result (OnlySynced (D.tells first.old) (D.tells first.new) × OnlySynced (D.tells second.old) (D.tells second.new)) }
     ensures moments { StaysPossible (D.tells first.old) (D.tells first.new) × StaysPossible (D.tells second.old) (D.tells second.new) }
     ensures cause { OnErr result (Rose (D.faults first.old) (D.faults first.new) ⊎ Rose (D.faults second.old) (D.faults second.new)) }
@@ -75,10 +78,48 @@ fn look<D: Disk>(alloc: Global, first: &mut D, second: &mut D) -> Result<Seen, S
     ensures first_no_fewer { D.faults first.old ≤ D.faults first.new }
     ensures second_no_fewer { D.faults second.old ≤ D.faults second.new }
 {
-    let one = read_from(alloc, first, 0)?;
-    let two = read_from(alloc, second, 0)?;
-    let seen = see(alloc, &one, &two)?;
+    let parts = read_parts(alloc, first, second)?;
+    let seen = see(alloc, &parts.one, &parts.two)?;
     Ok(seen)
+}
+
+/// What was read of two files.
+#[derive(Drop)]
+struct Parts {
+    /// Which of them counts.
+    side: Side,
+    /// The first one's bytes: where it counts up to one more than a file may have, else those that tell that.
+    one: Vec<u8>,
+    /// The second one's.
+    two: Vec<u8>,
+}
+
+/// Reads of both disks what tells which counts, and the file that does.
+fn read_parts<D: Disk>(alloc: Global, first: &mut D, second: &mut D) -> Result<Parts, StoreFault>
+    ensures first_part { IfOk result (λ parts. Now (D.tells first.old) (λ m. parts.one.items ≡ take (pick parts.side (2 ^ 28 + 1) 17) m.bytes)) }
+    ensures second_part { IfOk result (λ parts. Now (D.tells second.old) (λ m. parts.two.items ≡ take (pick parts.side 17 (2 ^ 28 + 1)) m.bytes)) }
+    ensures counts { IfOk result (λ parts. NowRead (D.tells first.old) (D.tells second.old) (λ one two. which one two ≡ Some parts.side)) }
+    ensures short { IfOk result (λ parts. length (pick parts.side parts.two.items parts.one.items) ≤ 17) }
+    ensures kept { (D.tells first.new ≡ D.tells first.old) × (D.tells second.new ≡ D.tells second.old) }
+    ensures fault { IfErr result (λ why. NowRead (D.tells first.old) (D.tells second.old) (Refuses why)) }
+    ensures no_other { IfErr result (λ why. why ≢ fault.Full) }
+    ensures cause { IfErr result (IsCausedByOne (D.faults first.old) (D.faults first.new) (D.faults second.old) (D.faults second.new)) }
+    ensures first_no_fewer { D.faults first.old ≤ D.faults first.new }
+    ensures second_no_fewer { D.faults second.old ≤ D.faults second.new }
+{
+    let one = read_front(alloc, first, TELLING)?;
+    let two = read_front(alloc, second, TELLING)?;
+    let side = side_that_counts(&one, &two)?;
+    match side {
+        Side::First => {
+            let one = read_front(alloc, first, MOST_READ)?;
+            Ok(Parts { side, one, two })
+        }
+        Side::Second => {
+            let two = read_front(alloc, second, MOST_READ)?;
+            Ok(Parts { side, one, two })
+        }
+    }
 }
 
 /// What the bytes of two files say.

@@ -14,16 +14,15 @@ ghost use Rattle.checkpoint_disks.specs.declared.counting.Side.{Side};
 ghost use Rattle.checkpoint_disks.specs.Files.{CheckpointRead};
 ghost use Rattle.checkpoint_disks.specs.Compacting.{new_checkpoint, with_records, IsCheckpoint};
 ghost use Rattle.racf_checkpoint.specs.Contents.{Says, SaysEither, and_record, Refuses, IsCaused, IsCausedByOne, IsOfAppend};
+ghost use Rattle.racf_checkpoint.specs.Formatting.{StaysFormatting, StaysBaring};
 ghost use Rattle.racf_checkpoint.specs.Stored.{Stores, IsReady, IsStored, IsPassedOver, NowRead, Beside, StaysPossible, disk_on, other};
 
 use crate::fault::StoreFault;
-use crate::formatting::write_bare;
-use crate::laws::a_new_database_is_stored;
+use crate::formatting::write_first;
 use crate::sides::{in_order, other};
 use access_levels::Text;
 use checkpoint_disks::Side;
 use checkpoint_disks::laws::records_are_read_behind_an_image;
-use database_image::laws::stored_rows_are_lawful;
 use racf_journal::Journal;
 use racf_outside::{Disk, Two};
 use racf_profiles::Rows;
@@ -65,8 +64,10 @@ pub struct Loaded<D: Disk> {
 }
 
 impl<D: Disk> Store<D> {
-    /// Makes a new store of two disks, whatever they held: the first has a checkpoint of a new database. A crash
-    /// meanwhile may leave anything of them. Where that fails, both are handed back.
+    /// Makes a new store of two disks, whatever they held: the first has a checkpoint of a new database. At every moment
+    /// a crash leaves each file as it was, or one that says nothing, or the new one. The file that doesn't count goes
+    /// before the other, so that the two never say an older database. Where that fails, both are handed back; for want of
+    /// memory nothing was done.
     pub fn format(alloc: Global, disks: Two<D>) -> Result<Store<D>, (Two<D>, StoreFault)>
         ensures stores { IfOk result (λ store. Stores D.tells store (new_checkpoint 1 0 new_database)) }
         ensures ready { IfOk result (λ store. IsReady D.tells store) }
@@ -74,7 +75,11 @@ impl<D: Disk> Store<D> {
         ensures epoch { IfOk result (λ store. store.epoch ≡ 1) }
         ensures start { IfOk result (λ store. store.journal.start ≡ 33 + length (image_of new_database)) }
         ensures gate { IfOk result (λ store. store.journal.gate ≡ store.journal.start) }
+        ensures first_moments { MatchResult result (λ store. StaysFormatting (D.tells disks.first) (D.tells (disk_on Side.First store))) (λ back. StaysFormatting (D.tells disks.first) (D.tells back.0.first)) }
+        ensures second_moments { MatchResult result (λ store. StaysBaring (D.tells disks.second) (D.tells (disk_on Side.Second store))) (λ back. StaysBaring (D.tells disks.second) (D.tells back.0.second)) }
+
         ensures fault { IfErr result (λ back. (back.1 ≡ StoreFault.DiskFault) ⊎ (back.1 ≡ StoreFault.NoMemory)) }
+        ensures memory { IfErr result (λ back. back.1 ≡ StoreFault.NoMemory → (back.0.first ≡ disks.first) × (back.0.second ≡ disks.second)) }
         ensures cause { IfErr result (λ back. IsCausedByOne (D.faults disks.first) (D.faults back.0.first) (D.faults disks.second) (D.faults back.0.second) back.1) }
         ensures first_no_fewer { MatchResult result (λ store. D.faults disks.first ≤ D.faults (disk_on Side.First store)) (λ back. D.faults disks.first ≤ D.faults back.0.first) }
         ensures second_no_fewer { MatchResult result (λ store. D.faults disks.second ≤ D.faults (disk_on Side.Second store)) (λ back. D.faults disks.second ≤ D.faults back.0.second) }
@@ -114,8 +119,17 @@ impl<D: Disk> Store<D> {
         ensures first_no_fewer { MatchResult result (λ loaded. D.faults disks.first ≤ D.faults (disk_on Side.First loaded.store)) (λ back. D.faults disks.first ≤ D.faults back.0.first) }
         ensures second_no_fewer { MatchResult result (λ loaded. D.faults disks.second ≤ D.faults (disk_on Side.Second loaded.store)) (λ back. D.faults disks.second ≤ D.faults back.0.second) }
     {
-        let loaded = Store::find(alloc, disks)?.open()?;
-        Ok(loaded)
+        let (found, rows) = Store::find(alloc, disks)?;
+        let number = found.number();
+        let start = found.start();
+        let (store, records) = found.open()?;
+        Ok(Loaded {
+            store,
+            rows,
+            number,
+            start,
+            records,
+        })
     }
 
     /// Appends a record. After `Ok` every crash keeps it, and at every moment before a crash leaves files that say the
@@ -220,24 +234,4 @@ impl<D: Disk> Store<D> {
         } = self;
         in_order(side, journal.into_disk(), idle)
     }
-}
-
-/// Makes both files ones without a checkpoint, and writes that of a new database on the first. The place of its journal
-/// is answered.
-fn write_first<D: Disk>(alloc: Global, first: &mut D, second: &mut D) -> Result<u64, StoreFault>
-    ensures start { IfOk result (λ start. start ≡ 33 + length (image_of new_database)) }
-    ensures stored { IfOk result (λ start. Now (D.tells first.new) (IsStored 1 start start (new_checkpoint 1 0 new_database))) }
-    ensures passed { OnOk result (Now (D.tells second.new) (IsPassedOver Side.First 1)) }
-    ensures fault { IfErr result (λ why. (why ≡ StoreFault.DiskFault) ⊎ (why ≡ StoreFault.NoMemory)) }
-    ensures cause { IfErr result (IsCausedByOne (D.faults first.old) (D.faults first.new) (D.faults second.old) (D.faults second.new)) }
-    ensures first_no_fewer { D.faults first.old ≤ D.faults first.new }
-    ensures second_no_fewer { D.faults second.old ≤ D.faults second.new }
-{
-    a_new_database_is_stored();
-    stored_rows_are_lawful();
-    let rows = Rows::new_database(alloc)?;
-    write_bare(first)?;
-    write_bare(second)?;
-    let start = checkpoint_disks::compact(alloc, first, 1, 0, &rows)?;
-    Ok(start)
 }

@@ -1,5 +1,5 @@
 -- What a desk keeps on its disks: how an append leads them on, and what crashes leave.
-use Rattle.std.proofs.Common.{◌≡◌, ℕ, ◌+◌, ◌-◌, ◌<◌, ◌≤◌, ◌^◌, Bool, true, false, cond, ltb, List, [], ◌∷◌, ◌++◌, length, Option, Some, None, Result, Ok, Err, ◌⊎◌, inl, inr, refl, sym, ◌∙◌, ap, subst, arith}
+use Rattle.std.proofs.Common.{◌≡◌, ℕ, ◌+◌, ◌-◌, ◌<◌, ◌≤◌, ◌^◌, Bool, true, false, cond, ltb, List, [], ◌∷◌, ◌++◌, length, Option, Some, None, Result, Ok, Err, ◌⊎◌, inl, inr, refl, sym, ◌∙◌, ap, subst, arith, length-append}
 use Rattle.std.specs.Prelude.{nat_lt, min, MatchOption, IsSome}
 use Rattle.std.specs.Option.{option_map}
 use Rattle.std.specs.Arc.{arc_value}
@@ -12,7 +12,7 @@ use Rattle.racf_outside.proofs.Runs.{Leaves-weaker, StaysIn-none, StaysIn-weaker
 use Rattle.racf_profiles.specs.Edits.{changed}
 use Rattle.racf_profiles.specs.declared.rows.Rows.{Rows}
 use Rattle.database_image.specs.Image.{image_of}
-use Rattle.racf_journal.specs.Reading.{IsRecord}
+use Rattle.racf_journal.specs.Reading.{IsRecord, spelled as spelled_records}
 use Rattle.checkpoint_disks.specs.declared.counting.Side.{Side}
 use Rattle.checkpoint_disks.specs.declared.counting.Side.TheVariants.{First, Second}
 use Rattle.checkpoint_disks.specs.Files.{CheckpointRead}
@@ -182,17 +182,25 @@ append_stays tells old new position made stands leads moves =
     (standing_by_either position next kept (and_record kept made.entry) stands.leads (leads kept stands.lawful stands.leads)))
 
 -- a checkpoint with one record more
-one_more : (kept : CheckpointRead) (next : List ℕ) → IsCheckpoint kept → IsCheckpoint (and_record kept next)
-one_more kept next lawful = record { some = lawful.some; epoch = lawful.epoch; number = lawful.number; stored = lawful.stored; size = lawful.size; is = refl }
+spelled_more : (records : List (List ℕ)) (next : List ℕ) → length (spelled_records (records ++ next ∷ [])) ≡ length (spelled_records records) + (1 + length next)
+spelled_more [] next = omega (arith, length-append next [])
+spelled_more (first ∷ records) next = omega (arith, spelled_more records next, length-append first (spelled_records records), length-append first (spelled_records (records ++ next ∷ [])))
+
+gate_more : (kept : CheckpointRead) (next : List ℕ) (gate : ℕ) → IsCheckpoint kept → gate ≡ kept.gate → gate + 1 + length next ≡ (and_record kept next).gate
+gate_more kept next gate lawful at = let ends : kept.gate ≡ (33 + length (image_of kept.rows)) + length (spelled_records kept.records) = ap (λ (read : CheckpointRead). read.gate) lawful.is in omega (arith, at, ends, spelled_more kept.records next)
+
+one_more : (kept : CheckpointRead) (next : List ℕ) → IsCheckpoint kept → (and_record kept next).gate < 2 ^ 28 → IsCheckpoint (and_record kept next)
+one_more kept next lawful fits = record { some = lawful.some; epoch = lawful.epoch; number = lawful.number; stored = lawful.stored; size = lawful.size; fits = fits; is = refl }
 
 -- Behind it the store stands at the next.
 append_stands : {D : Type 0} (tells : D → Option History) (old new : StoreOn D) (position : Position) (made : Made) → StandsThere tells old position → Leads position made
-    → Appended tells old new made.entry → StandsThere tells new (installed position made)
-append_stands tells old new position made stands leads done = record {
+    → (position.gate + 1) + (length made.entry + 1) ≤ 2 ^ 28 → Appended tells old new made.entry → StandsThere tells new (installed position made)
+append_stands tells old new position made stands leads fits done = record {
   gate = done.gate ∙ ap (λ n. n + 1 + length made.entry) stands.gate;
   kept = and_record stands.kept made.entry;
+  ends = gate_more stands.kept made.entry position.gate stands.lawful stands.ends;
   epoch = stands.epoch ∙ sym done.epoch;
-  lawful = one_more stands.kept made.entry stands.lawful;
+  lawful = one_more stands.kept made.entry stands.lawful (omega (arith, fits, gate_more stands.kept made.entry position.gate stands.lawful stands.ends));
   stores = done.keeps stands.kept stands.stores;
   leads = leads stands.kept stands.lawful stands.leads;
 }
@@ -244,7 +252,7 @@ commit_stands : {D : Type 0} (tells : D → Option History) (desk : Inside D) (s
     → (contents_of desk).made ≡ Some made → desk.halted ≡ false → desk.committed ≡ false → bytes ≡ made.entry → Appended tells desk.store store bytes
     → StandsThere tells store (installed (contents_of desk).position made)
 commit_stands tells desk store made bytes kept is runs settled same appended =
-    append_stands tells desk.store store (contents_of desk).position made (kept_stands tells desk kept settled runs) (kept_ready tells desk made kept is).leads
+    append_stands tells desk.store store (contents_of desk).position made (kept_stands tells desk kept settled runs) (kept_ready tells desk made kept is).leads (kept_ready tells desk made kept is).fits
     (subst (Appended tells desk.store store) same appended)
 
 pub commit_leaves : {D : Type 0} → StoredIsSaid → (tells : D → Option History) (desk : Inside D) (store : StoreOn D) (seen : DeskOn D) (made : Made) (bytes : List ℕ) → IsKept tells desk → contents_of desk ≡ seen
@@ -369,6 +377,7 @@ compact_stands {D} tells old new position number rows stands counts same done = 
     by (inl below) = record {
       gate = refl;
       kept = new_checkpoint (old.epoch + 1) number rows;
+      ends = done.gate below ∙ done.start below;
       epoch = sym (done.epoch below);
       lawful = done.lawful below;
       stores = done.done below;

@@ -75,6 +75,7 @@ pub stands_there : {D : Type 0} (tells : D → Option History) (store : StoreOn 
 stands_there tells store kept position lawful stores counts at ends leads = record {
   gate = at ∙ counted kept lawful ∙ sym ends;
   kept = kept;
+  ends = ends ∙ sym (counted kept lawful);
   epoch = sym counts;
   lawful = lawful;
   stores = stores;
@@ -91,6 +92,7 @@ pub stands_first : {D : Type 0} (tells : D → Option History) (store : StoreOn 
 stands_first tells store position is lawful stores counts at = record {
   gate = at;
   kept = new_checkpoint 1 0 new_database;
+  ends = ap (λ (p : Position). p.gate) is;
   epoch = sym counts;
   lawful = lawful;
   stores = stores;

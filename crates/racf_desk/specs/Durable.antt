@@ -19,6 +19,7 @@ LeadTo position kept = recovered kept ≡ Ok (restarted position)
 pub record StandsThere {D : Type 0} (tells : D → Option History) (store : StoreOn D) (position : Position) : Type 0 where
   pub gate : store.journal.gate ≡ position.gate
   pub kept : CheckpointRead
+  pub ends : position.gate ≡ kept.gate
   pub epoch : kept.epoch ≡ store.epoch
   pub lawful : IsCheckpoint kept
   pub stores : Stores tells store kept

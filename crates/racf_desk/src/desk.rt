@@ -12,9 +12,7 @@ use crate::making::{is_recorded, make};
 use crate::outcome::outcome_in;
 use crate::recovery::{Recovered, new_database, recover};
 use access_levels::Id;
-use racf_checkpoint::{
-    Loaded, Store, StoreFault, a_new_database_is_stored, what_is_stored_is_said,
-};
+use racf_checkpoint::{Store, StoreFault, a_new_database_is_stored, what_is_stored_is_said};
 use racf_database::Database;
 use racf_outside::{Disk, Failed, Two};
 use raclist_image::Image;
@@ -65,14 +63,16 @@ impl<D: Disk> Desk<D> {
     ghost use Rattle.racf_desk.specs.Durable.{LeavesIt, LeavesCheckpoint, SameIdle, SaysEpoch, StandsThere, StaysEither, StaysThere};
     ghost use Rattle.racf_desk.specs.Images.{IsImageOf};
 
-    /// A desk over a new database, whatever the disks held: the first has a checkpoint of it. A crash meanwhile may
-    /// leave anything of both. Where that fails, both are handed back.
+    /// A desk over a new database, whatever the disks held: the first has a checkpoint of it. A crash meanwhile leaves
+    /// what both said, nothing, or the new database, and never an older one. Where it fails, both are handed back; for
+    /// want of memory nothing was done.
     pub fn format(alloc: Global, disks: Two<D>) -> Result<Desk<D>, (Two<D>, StoreFault)>
         ensures desk { IfOk result (λ desk. desk ≡ is_fresh first_position desk.store) }
         ensures leaves { IfOk result (λ desk. LeavesIt D.tells desk.store first_position) }
         ensures side { IfOk result (λ desk. desk.store.side ≡ Side.First) }
         ensures epoch { IfOk result (λ desk. desk.store.epoch ≡ 1) }
         ensures fault { IfErr result (λ back. (back.1 ≡ StoreFault.DiskFault) ⊎ (back.1 ≡ StoreFault.NoMemory)) }
+        ensures memory { IfErr result (λ back. back.1 ≡ StoreFault.NoMemory → (back.0.first ≡ disks.first) × (back.0.second ≡ disks.second)) }
         ensures cause { IfErr result (λ back. IsCausedByOne (D.faults disks.first) (D.faults back.0.first) (D.faults disks.second) (D.faults back.0.second) back.1) }
         ensures first_no_fewer { MatchResult result (λ desk. D.faults disks.first ≤ D.faults (disk_on Side.First desk.store)) (λ back. D.faults disks.first ≤ D.faults back.0.first) }
         ensures second_no_fewer { MatchResult result (λ desk. D.faults disks.second ≤ D.faults (disk_on Side.Second desk.store)) (λ back. D.faults disks.second ≤ D.faults back.0.second) }
@@ -110,14 +110,14 @@ impl<D: Disk> Desk<D> {
         ensures first_no_fewer { MatchResult result (λ desk. D.faults disks.first ≤ D.faults (disk_on Side.First desk.store)) (λ back. D.faults disks.first ≤ D.faults back.0.first) }
         ensures second_no_fewer { MatchResult result (λ desk. D.faults disks.second ≤ D.faults (disk_on Side.Second desk.store)) (λ back. D.faults disks.second ≤ D.faults back.0.second) }
     {
-        let found = match Store::find(alloc, disks) {
-            Ok(found) => found,
+        let (found, rows) = match Store::find(alloc, disks) {
+            Ok((found, rows)) => (found, rows),
             Err(back) => return Err(back),
         };
         // The records are judged before anything is written.
         let recovered = match recover(
             alloc,
-            found.rows(),
+            rows,
             found.number(),
             found.start(),
             found.records(),
@@ -126,15 +126,7 @@ impl<D: Disk> Desk<D> {
             Err(fault) => return Err((found.into_disks(), fault)),
         };
         match found.open() {
-            Ok(
-                Loaded {
-                    store,
-                    rows: _rows,
-                    number: _,
-                    start: _,
-                    records: _records,
-                },
-            ) => Ok(Desk::fresh(alloc, recovered, store)),
+            Ok((store, _records)) => Ok(Desk::fresh(alloc, recovered, store)),
             Err(back) => Err(back),
         }
     }

@@ -24,7 +24,7 @@ use racf_profiles::{NoMemory, Rows};
 use raclist_image::Image;
 use std::alloc::Global;
 use std::sync::Arc;
-use stored_database::of_rows;
+use stored_database::of_stored_rows;
 
 /// A position that records lead to.
 #[derive(Drop)]
@@ -45,7 +45,7 @@ pub(crate) fn new_database(alloc: Global) -> Result<Recovered, StoreFault>
 {
     a_new_database_is_stored();
     let rows = Rows::new_database(alloc)?;
-    let found = recover(alloc, &rows, 0, 0, &[])?;
+    let found = recover(alloc, rows, 0, 0, &[])?;
     Ok(found)
 }
 
@@ -53,18 +53,18 @@ pub(crate) fn new_database(alloc: Global) -> Result<Recovered, StoreFault>
 /// its first gate there: each where the ones before it lead.
 pub(crate) fn recover(
     alloc: Global,
-    rows: &Rows,
+    rows: Rows,
     number: u64,
     start: u64,
     records: &[Text],
 ) -> Result<Recovered, StoreFault>
-    requires stored { AreStored rows.now }
+    requires stored { AreStored rows }
     requires number { number ≤ most_number }
     requires room { start + length (spelled records.now) < 2 ^ 64 }
-    ensures position { IfOk result (λ found. recovered_from (at_checkpoint rows.now number start) records.now ≡ Ok (record { image = arc_value found.image; gate = found.gate })) }
+    ensures position { IfOk result (λ found. recovered_from (at_checkpoint rows number start) records.now ≡ Ok (record { image = arc_value found.image; gate = found.gate })) }
     ensures image { IfOk result (λ found. IsImageOf found.database.rows (arc_value found.image)) }
     ensures gate { IfOk result (λ found. found.gate ≡ start + length (spelled records.now)) }
-    ensures fault { IfErr result (λ why. (recovered_from (at_checkpoint rows.now number start) records.now ≡ Err why) ⊎ (why ≡ NoMemory)) }
+    ensures fault { IfErr result (λ why. (recovered_from (at_checkpoint rows number start) records.now ≡ Err why) ⊎ (why ≡ NoMemory)) }
 {
     let mut recovery = Recovery::at(alloc, rows, number, start)?;
     recovery.repeat_all(alloc, records)?;
@@ -86,17 +86,15 @@ struct Recovery {
 }
 
 impl Recovery {
-    /// A checkpoint.
-    fn at(alloc: Global, rows: &Rows, number: u64, start: u64) -> Result<Recovery, StoreFault>
-        requires stored { AreStored rows.now }
+    /// A checkpoint, whose rows are moved into the database.
+    fn at(alloc: Global, rows: Rows, number: u64, start: u64) -> Result<Recovery, StoreFault>
+        requires stored { AreStored rows }
         requires number { number ≤ most_number }
-        ensures at { IfOk result (λ recovery. IsAt recovery (at_checkpoint rows.now number start)) }
+        ensures at { IfOk result (λ recovery. IsAt recovery (at_checkpoint rows number start)) }
         ensures gate { IfOk result (λ recovery. recovery.gate ≡ start) }
         ensures memory { IfErr result (λ why. why ≡ NoMemory) }
     {
-        let Ok(database) = of_rows(alloc, rows) else {
-            return Err(StoreFault::NoMemory);
-        };
+        let database = of_stored_rows(alloc, rows)?;
         Ok(Recovery {
             database,
             number,

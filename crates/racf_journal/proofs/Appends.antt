@@ -1,10 +1,10 @@
 -- What a crash leaves at each moment of an append.
-use Rattle.std.proofs.Common.{ℕ, ◌+◌, ◌≡◌, ◌∙◌, true, List, [], ◌∷◌, ◌++◌, length, drop, refl, sym, ap, subst, arith, append_assoc, length-append, inl, inr}
+use Rattle.std.proofs.Common.{ℕ, ◌+◌, ◌≤◌, ◌≡◌, ◌∙◌, true, List, [], ◌∷◌, ◌++◌, length, drop, refl, sym, ap, subst, arith, append_assoc, length-append, inl, inr}
 use Rattle.std.specs.List.{AllByRecursion}
 use Rattle.racf_outside.specs.Moments.{Moment, IsImage, durable, written, synced}
 use Rattle.racf_outside.specs.Crashes.{Leaves}
 use Rattle.racf_outside.proofs.Images.{front_stays, durable-leaves}
-use Rattle.racf_journal.specs.Kept.{IsAtRest, ReadsAs, ReadsAsEither}
+use Rattle.racf_journal.specs.Kept.{IsAtRest, ReadsAs, ReadsAsEither, IsAppended}
 use Rattle.racf_journal.specs.Reading.{is_formatted, IsRecord, spelled}
 use Rattle.racf_journal.proofs.Walks.{spelled-push, lawful-push}
 use Rattle.racf_journal.proofs.Places.{unwritten_before, written_end, written_byte, around_byte}
@@ -27,25 +27,31 @@ module _ (front : List ℕ) (records : List (List ℕ)) (next : List ℕ) (gate 
     opened = written gate (1 ∷ []) (synced behind)
 
     abbrev P : List ℕ → Type 0
-    P = ReadsAsEither front records next
+    P = IsAppended front records next gate
 
-    reads_before : (end image : List ℕ) → image ≡ base ++ 0 ∷ end → P image
-    reads_before end image same = inl (subst (ReadsAs front records) (sym (append_assoc front (spelled records) (0 ∷ end)) ∙ sym same) (ReadsAs-end front records (0 ∷ end) formatted lawful (closed_is_end 0 end (λ no. absurd (omega arith)))))
-
-    pub resting_leaves : Leaves P resting
-    resting_leaves = durable-leaves P (base ++ 0 ∷ []) (reads_before [] (base ++ 0 ∷ []) refl)
+    reads_before : (end image : List ℕ) → image ≡ base ++ 0 ∷ end → length image ≤ gate + 2 + length next → P image
+    reads_before end image same short = (
+      inl (subst (ReadsAs front records) (sym (append_assoc front (spelled records) (0 ∷ end)) ∙ sym same) (ReadsAs-end front records (0 ∷ end) formatted lawful (closed_is_end 0 end (λ no. absurd (omega arith))))),
+      short,
+    )
 
     size : length (base ++ 0 ∷ []) ≡ gate + 1
     size = omega (arith, at, length-append base (0 ∷ []))
 
+    pub resting_leaves : Leaves P resting
+    resting_leaves = durable-leaves P (base ++ 0 ∷ []) (reads_before [] (base ++ 0 ∷ []) refl (omega (arith, size)))
+
     behind_bytes : behind.bytes ≡ base ++ 0 ∷ (next ++ 0 ∷ [])
     behind_bytes = written_end (gate + 1) (base ++ 0 ∷ []) (next ++ 0 ∷ []) (sym size) ∙ append_assoc base (0 ∷ []) (next ++ 0 ∷ [])
+
+    behind_size : length behind.bytes ≡ gate + 2 + length next
+    behind_size = omega (arith, ap length behind_bytes, at, length-append base (0 ∷ (next ++ 0 ∷ [])), length-append next (0 ∷ []))
 
     pub behind_leaves : Leaves P behind
     behind_leaves = record {
       each = λ image i.
           let stays : image ≡ (base ++ 0 ∷ []) ++ drop (length (base ++ 0 ∷ [])) image = front_stays behind (base ++ 0 ∷ []) (next ++ 0 ∷ []) image (behind_bytes ∙ sym (append_assoc base (0 ∷ []) (next ++ 0 ∷ []))) (omega arith) (λ p below. unwritten_before p (gate + 1) (gate + 1 + length (next ++ 0 ∷ [])) (omega (arith, size, below))) i in
-          reads_before (drop (length (base ++ 0 ∷ [])) image) image (stays ∙ append_assoc base (0 ∷ []) (drop (length (base ++ 0 ∷ [])) image));
+          reads_before (drop (length (base ++ 0 ∷ [])) image) image (stays ∙ append_assoc base (0 ∷ []) (drop (length (base ++ 0 ∷ [])) image)) (omega (arith, i.no_longer, size, length-append next (0 ∷ [])));
     }
 
     opened_is : opened ≡ written gate (1 ∷ []) (durable (base ++ 0 ∷ (next ++ 0 ∷ [])))
@@ -54,8 +60,10 @@ module _ (front : List ℕ) (records : List (List ℕ)) (next : List ℕ) (gate 
     pub opened_leaves : Leaves P opened
     opened_leaves = record {
       each = λ image i.
-          let one = around_byte gate base (next ++ 0 ∷ []) 0 1 image at (subst (λ m. IsImage m image) opened_is i) in
-          subst P (sym (append_assoc front (spelled records) (one.0 ∷ (next ++ 0 ∷ []))) ∙ sym one.1) (ReadsAsEither-gate front records next one.0 formatted lawful is);
+          let one = around_byte gate base (next ++ 0 ∷ []) 0 1 image at (subst (λ m. IsImage m image) opened_is i) in (
+            subst (ReadsAsEither front records next) (sym (append_assoc front (spelled records) (one.0 ∷ (next ++ 0 ∷ []))) ∙ sym one.1) (ReadsAsEither-gate front records next one.0 formatted lawful is),
+            omega (arith, i.no_longer, behind_size),
+          );
     }
 
     pub synced_is : synced opened ≡ durable (front ++ spelled (records ++ next ∷ []) ++ 0 ∷ [])
@@ -69,12 +77,15 @@ module _ (front : List ℕ) (records : List (List ℕ)) (next : List ℕ) (gate 
     size_then = omega (arith, at, length-append front (spelled records), ap length (spelled-push records next), length-append (spelled records) (1 ∷ next))
 
     pub staged_leaves : Leaves P (synced behind)
-    staged_leaves = durable-leaves P behind.bytes (reads_before (next ++ 0 ∷ []) behind.bytes behind_bytes)
+    staged_leaves = durable-leaves P behind.bytes (reads_before (next ++ 0 ∷ []) behind.bytes behind_bytes (omega (arith, behind_size)))
 
     pub ended_leaves : Leaves P (synced opened)
     ended_leaves =
         let same : opened.bytes ≡ front ++ (spelled (records ++ next ∷ []) ++ 0 ∷ []) = ap (λ m. m.bytes) synced_is ∙ append_assoc front (spelled (records ++ next ∷ [])) (0 ∷ []) in
-        durable-leaves P opened.bytes (inr (subst (ReadsAs front (records ++ next ∷ [])) (sym same) (ReadsAs-end front (records ++ next ∷ []) (0 ∷ []) formatted (lawful-push records next lawful is) refl)))
+        durable-leaves P opened.bytes (
+          inr (subst (ReadsAs front (records ++ next ∷ [])) (sym same) (ReadsAs-end front (records ++ next ∷ []) (0 ∷ []) formatted (lawful-push records next lawful is) refl)),
+          omega (arith, ap length same, size_then, length-append front (spelled (records ++ next ∷ []) ++ 0 ∷ []), length-append (spelled (records ++ next ∷ [])) (0 ∷ [])),
+        )
 
     pub ended_rests : (start : ℕ) → length front ≡ start → IsAtRest front start (gate + 1 + length next) (records ++ next ∷ []) (synced opened)
     ended_rests start from = record {
@@ -87,11 +98,11 @@ module _ (front : List ℕ) (records : List (List ℕ)) (next : List ℕ) (gate 
 
 -- what crashes leave at the moments of an append, and what it comes to
 pub record IsAppending (front : List ℕ) (start gate : ℕ) (records : List (List ℕ)) (next bytes : List ℕ) (m : Moment) : Type 0 where
-  pub before : Leaves (ReadsAsEither front records next) m
-  pub behind : Leaves (ReadsAsEither front records next) (written (gate + 1) bytes m)
-  pub staged : Leaves (ReadsAsEither front records next) (synced (written (gate + 1) bytes m))
-  pub opened : Leaves (ReadsAsEither front records next) (written gate (1 ∷ []) (synced (written (gate + 1) bytes m)))
-  pub ended : Leaves (ReadsAsEither front records next) (synced (written gate (1 ∷ []) (synced (written (gate + 1) bytes m))))
+  pub before : Leaves (IsAppended front records next gate) m
+  pub behind : Leaves (IsAppended front records next gate) (written (gate + 1) bytes m)
+  pub staged : Leaves (IsAppended front records next gate) (synced (written (gate + 1) bytes m))
+  pub opened : Leaves (IsAppended front records next gate) (written gate (1 ∷ []) (synced (written (gate + 1) bytes m)))
+  pub ended : Leaves (IsAppended front records next gate) (synced (written gate (1 ∷ []) (synced (written (gate + 1) bytes m))))
   pub rests : IsAtRest front start (gate + 1 + length next) (records ++ next ∷ []) (synced (written gate (1 ∷ []) (synced (written (gate + 1) bytes m))))
 
 pub appends : (front : List ℕ) (start gate : ℕ) (records : List (List ℕ)) (next bytes : List ℕ) (m : Moment) → IsRecord next → bytes ≡ next ++ 0 ∷ [] → IsAtRest front start gate records m → IsAppending front start gate records next bytes m

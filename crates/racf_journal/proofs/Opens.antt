@@ -1,5 +1,5 @@
 -- What opening a journal leaves, and what crashes leave meanwhile.
-use Rattle.std.proofs.Common.{ℕ, ◌+◌, ◌-◌, ◌<◌, ◌≤◌, ◌≡◌, ◌∙◌, ◌^◌, ◌||◌, true, false, List, [], ◌∷◌, ◌++◌, length, take, drop, Option, None, Some, Result, Ok, Err, IfOk, MatchResult, refl, sym, ap, subst, arith, append_assoc, length-append, replicate, inl, inr, ltb}
+use Rattle.std.proofs.Common.{ℕ, ◌+◌, ◌-◌, ◌<◌, ◌≤◌, ◌≡◌, ◌∙◌, ◌^◌, ◌||◌, max, true, false, List, [], ◌∷◌, ◌++◌, length, take, drop, Option, None, Some, Result, Ok, Err, IfOk, MatchResult, refl, sym, ap, subst, arith, append_assoc, length-append, replicate, inl, inr, ltb}
 use Rattle.std.specs.Prelude.{bytes_eq}
 use Rattle.std.specs.List.{AllByRecursion}
 use Rattle.std.specs.Option.{option_map}
@@ -12,11 +12,12 @@ use Rattle.racf_outside.specs.Disk.{History, goes, Now}
 use Rattle.racf_outside.specs.Moments.{Moment, IsImage, durable, synced}
 use Rattle.racf_outside.proofs.Images.{only, synced-leaves}
 use Rattle.racf_outside.proofs.Runs.{Runs, starts, ok, ends, StaysIn-joined, StaysIn-weaker}
+use Rattle.racf_journal.specs.declared.fault.JournalFault.{JournalFault}
 use Rattle.racf_journal.specs.declared.fault.JournalFault.TheVariants.{NotFormatted}
 use Rattle.racf_journal.specs.Kept.{IsAtRest, IsResting, Keeps}
 use Rattle.racf_journal.specs.Opening.{IsStart, OnlySynced, WasPossible, StaysPossible}
-use Rattle.racf_journal.specs.Reading.{magic, is_formatted, walk, reading, IsRecord, IsEnd, spelled}
-use Rattle.racf_journal.specs.Repair.{IsScanned, Holds, HoldsEnd, HoldsFound, IsFound, Ends}
+use Rattle.racf_journal.specs.Reading.{Reading, magic, is_formatted, walk, reading, IsRecord, IsEnd, spelled}
+use Rattle.racf_journal.specs.Repair.{IsScanned, Holds, HoldsEnd, HoldsFound, IsFound, Ends, EndsWithin}
 use Rattle.racf_journal.proofs.Files.{reading-front}
 use Rattle.racf_journal.proofs.Walks.{walk_to_end}
 
@@ -45,6 +46,9 @@ start_within start told h (inr later) e is = (omega (arith, later.0), later.1 h 
 
 -- ---- a front, records and an end
 
+same_gate : (one two : Reading) → ◌≡◌ {A = Result Reading JournalFault} (Ok one) (Ok two) → one.gate ≡ two.gate
+same_gate one two e = let same : one ≡ two = cc in ap (λ (r : Reading). r.gate) same
+
 module _ (start gate : ℕ) (records : List (List ℕ)) (front : List ℕ) (from : length front ≡ start) (formatted : is_formatted start front ≡ true) (lawful : AllByRecursion IsRecord records) (to : gate ≡ start + length (spelled records)) where
   abbrev pub front_base : List ℕ
   front_base = front ++ spelled records
@@ -61,12 +65,15 @@ module _ (start gate : ℕ) (records : List (List ℕ)) (front : List ℕ) (from
       )
 
   -- so each was possible where one was
-  pub front_possible : (m : Moment) → Ends front_base m.bytes → IsImage m m.bytes → (other : List ℕ) → Ends front_base other → WasPossible start m other
-  front_possible m is law other e = record {
+  pub front_possible : (m : Moment) → Ends front_base m.bytes → IsImage m m.bytes → (other : List ℕ) → Ends front_base other → length other ≤ max (length m.bytes) (gate + 1) → WasPossible start m other
+  front_possible m is law other e short = record {
     image = m.bytes;
     was_left = law;
     front = (front_reads other e).0 ∙ sym (front_reads m.bytes is).0;
     reads = (front_reads other e).1 ∙ sym (front_reads m.bytes is).1;
+    ends = λ found reads.
+        let same : gate ≡ found.gate = same_gate (record { records = records; gate = gate }) found (sym (front_reads m.bytes is).1 ∙ reads) in
+        subst (λ n. length other ≤ max (length m.bytes) (n + 1)) same short;
   }
 
   pub front_rests : (m : Moment) → m ≡ durable (front_base ++ 0 ∷ []) → IsAtRest front start gate records m
@@ -110,7 +117,7 @@ StaysIn-from : (P : List ℕ → Type 0) (a b : Option History) → (a ≡ None 
 StaysIn-from P a b untold told = record { told = λ h e. (told h e).told h e; untold = untold }
 
 possible_now : (start : ℕ) (before m : Moment) → m ≡ before → Leaves (WasPossible start before) m
-possible_now start before m same = record { each = λ image i. record { image = image; was_left = subst (λ n. IsImage n image) same i; front = refl; reads = refl } }
+possible_now start before m same = record { each = λ image i. record { image = image; was_left = subst (λ n. IsImage n image) same i; front = refl; reads = refl; ends = λ found reads. omega arith } }
 
 pub possible_start : (start : ℕ) (before : Moment) (a : Option History) → Now a (λ m. m ≡ before) → Runs (WasPossible start before) a (λ h. h) a
 possible_start start before a was = starts (WasPossible start before) a (λ h e. possible_now start before h.now (was h e))
@@ -143,7 +150,7 @@ module _ (start : ℕ) (a b : Option History) (s : OnlySynced a b) where
   possible_before : (m before : Moment) → m ≡ before → IsImage m m.bytes → (file : List ℕ) → WasPossible start (synced m) file → WasPossible start before file
   possible_before m before same law file w =
       let image_is : w.image ≡ m.bytes = only m.bytes w.image w.was_left in
-      record { image = w.image; was_left = subst (λ n. IsImage n w.image) same (subst (IsImage m) (sym image_is) law); front = w.front; reads = w.reads }
+      record { image = w.image; was_left = subst (λ n. IsImage n w.image) same (subst (IsImage m) (sym image_is) law); front = w.front; reads = w.reads; ends = w.ends }
 
   pub possible_joined : (c : Option History) → StaysPossible start b c → StaysPossible start a c
   possible_joined c later before was =
@@ -220,16 +227,19 @@ module _ (start gate : ℕ) (records : List (List ℕ)) (end : List ℕ) (a : Op
   pub found_reads : Now a (λ m. reading start m.bytes ≡ Ok (record { records = records; gate = gate }))
   found_reads h e = let held = f.held h e in (front_reads start gate records held.front held.from held.formatted f.lawful f.to h.now.bytes (ends_at h e)).1
 
-  module _ (law : (h : History) → a ≡ Some h → IsImage h.now h.now.bytes) (d : Option History) (moments : (base : List ℕ) → length base ≡ gate → Holds (base ++ end) a → StaysIn (Ends base) a d) where
+  module _ (law : (h : History) → a ≡ Some h → IsImage h.now h.now.bytes) (d : Option History) (moments : (base : List ℕ) → length base ≡ gate → Holds (base ++ end) a → StaysIn (EndsWithin (gate + max (length end) 1) base) a d) where
     repaired_untold : a ≡ None → d ≡ None
     repaired_untold none =
         (moments (replicate gate 0) (length-replicate gate 0) (λ k e. absurd (none-some k (sym none ∙ e)))).untold none
+
+    size_before : (h : History) (e : a ≡ Some h) (image : List ℕ) → length image ≤ gate + max (length end) 1 → length image ≤ max (length h.now.bytes) (gate + 1)
+    size_before h e image short = omega (arith, short, ap (λ (m : Moment). length m.bytes) (moment_at h e), size_at h e, length-append (base_at h e) end)
 
     pub repaired_stays : StaysPossible start a d
     repaired_stays before was =
         StaysIn-from (WasPossible start before) a d repaired_untold (λ h e. StaysIn-weaker (WasPossible start before) (moments (base_at h e) (size_at h e) (holds_at h e)) (λ k told image is.
         let held = f.held h e in
-        subst (λ m. WasPossible start m image) (was h e) (front_possible start gate records held.front held.from held.formatted f.lawful f.to h.now (ends_at h e) (law h e) image is)))
+        subst (λ m. WasPossible start m image) (was h e) (front_possible start gate records held.front held.from held.formatted f.lawful f.to h.now (ends_at h e) (law h e) image is.0 (size_before h e image is.1))))
 
     module _ (repaired : (base : List ℕ) → length base ≡ gate → Holds (base ++ end) a → Holds (base ++ 0 ∷ []) d) where
       rests_at : (h : History) (e : a ≡ Some h) → Now d (IsAtRest (f.held h e).front start gate records)

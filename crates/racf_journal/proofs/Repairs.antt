@@ -7,7 +7,7 @@ use Rattle.racf_outside.specs.Moments.{Moment, durable, written, cut_to, synced}
 use Rattle.racf_outside.specs.Crashes.{Leaves}
 use Rattle.racf_outside.proofs.Images.{front_stays, durable-leaves}
 use Rattle.racf_journal.specs.Reading.{IsEnd}
-use Rattle.racf_journal.specs.Repair.{Holds, HoldsEnd, Ends}
+use Rattle.racf_journal.specs.Repair.{Holds, HoldsEnd, EndsWithin}
 use Rattle.racf_journal.proofs.Places.{unwritten_before}
 
 -- at most one byte is an end
@@ -21,17 +21,17 @@ end_then : (gate byte : ℕ) (bytes rest : List ℕ) → IsEnd (gate ∷ byte �
 end_then gate byte bytes [] is = refl
 end_then gate byte bytes (other ∷ rest) is = is
 
-pub held_leaves : (base end : List ℕ) → IsEnd end → Leaves (Ends base) (durable (base ++ end))
-held_leaves base end is = durable-leaves (Ends base) (base ++ end) (record { end = end; split = refl; ends = is })
+pub held_leaves : (most : ℕ) (base end : List ℕ) → length base + length end ≤ most → IsEnd end → Leaves (EndsWithin most base) (durable (base ++ end))
+held_leaves most base end fits is = durable-leaves (EndsWithin most base) (base ++ end) (record { end = end; split = refl; ends = is }, omega (arith, fits, length-append base end))
 
 -- a cut behind the closed gate
-pub record IsCutting (base end : List ℕ) (place : ℕ) (m : Moment) : Type 0 where
-  pub before : Leaves (Ends base) m
-  pub cut : Leaves (Ends base) (cut_to place m)
-  pub kept : Leaves (Ends base) (synced (cut_to place m))
+pub record IsCutting (most : ℕ) (base end : List ℕ) (place : ℕ) (m : Moment) : Type 0 where
+  pub before : Leaves (EndsWithin most base) m
+  pub cut : Leaves (EndsWithin most base) (cut_to place m)
+  pub kept : Leaves (EndsWithin most base) (synced (cut_to place m))
   pub held : synced (cut_to place m) ≡ durable (base ++ take 1 end)
 
-module _ (base : List ℕ) (gate byte : ℕ) (bytes : List ℕ) (place : ℕ) (at : place ≡ length base + 1) (is : IsEnd (gate ∷ byte ∷ bytes)) where
+module _ (most : ℕ) (base : List ℕ) (gate byte : ℕ) (bytes : List ℕ) (place : ℕ) (at : place ≡ length base + 1) (fits : length base + length (gate ∷ byte ∷ bytes) ≤ most) (is : IsEnd (gate ∷ byte ∷ bytes)) where
   abbrev whole : List ℕ
   whole = base ++ gate ∷ byte ∷ bytes
 
@@ -47,37 +47,39 @@ module _ (base : List ℕ) (gate byte : ℕ) (bytes : List ℕ) (place : ℕ) (a
   cut_bytes : take place whole ≡ kept_part
   cut_bytes = ap (take place) split ∙ take_at kept_part (byte ∷ bytes) place size
 
-  cut_leaves : Leaves (Ends base) (cut_to place (durable whole))
+  cut_leaves : Leaves (EndsWithin most base) (cut_to place (durable whole))
   cut_leaves = record {
     each = λ image i.
-        let stays : image ≡ kept_part ++ drop (length kept_part) image = front_stays (cut_to place (durable whole)) kept_part [] image (cut_bytes ∙ sym (append-nil kept_part)) (omega (arith, size, ap length split, length-append kept_part (byte ∷ bytes))) (λ p below. refl) i in
-        record { end = gate ∷ drop (length kept_part) image; split = stays ∙ append_assoc base (gate ∷ []) (drop (length kept_part) image); ends = end_then gate byte bytes (drop (length kept_part) image) is };
+        let stays : image ≡ kept_part ++ drop (length kept_part) image = front_stays (cut_to place (durable whole)) kept_part [] image (cut_bytes ∙ sym (append-nil kept_part)) (omega (arith, size, ap length split, length-append kept_part (byte ∷ bytes))) (λ p below. refl) i in (
+          record { end = gate ∷ drop (length kept_part) image; split = stays ∙ append_assoc base (gate ∷ []) (drop (length kept_part) image); ends = end_then gate byte bytes (drop (length kept_part) image) is },
+          omega (arith, i.no_longer, fits, length-append base (gate ∷ byte ∷ bytes)),
+        );
   }
 
-  cutting_here : IsCutting base (gate ∷ byte ∷ bytes) place (durable whole)
+  cutting_here : IsCutting most base (gate ∷ byte ∷ bytes) place (durable whole)
   cutting_here = record {
-    before = held_leaves base (gate ∷ byte ∷ bytes) is;
+    before = held_leaves most base (gate ∷ byte ∷ bytes) fits is;
     cut = cut_leaves;
-    kept = durable-leaves (Ends base) (take place whole) (record { end = gate ∷ []; split = cut_bytes; ends = refl });
+    kept = durable-leaves (EndsWithin most base) (take place whole) (record { end = gate ∷ []; split = cut_bytes; ends = refl }, omega (arith, fits, length-take place whole, length-append base (gate ∷ byte ∷ bytes)));
     held = ap durable cut_bytes;
   }
 
-cutting_at : (base end : List ℕ) (place : ℕ) → place ≡ length base + 1 → 1 < length end → IsEnd end → IsCutting base end place (durable (base ++ end))
-cutting_at base [] place at long is = absurd (omega arith)
-cutting_at base (gate ∷ []) place at long is = absurd (omega arith)
-cutting_at base (gate ∷ byte ∷ bytes) place at long is = cutting_here base gate byte bytes place at is
+cutting_at : (most : ℕ) (base end : List ℕ) (place : ℕ) → place ≡ length base + 1 → 1 < length end → length base + length end ≤ most → IsEnd end → IsCutting most base end place (durable (base ++ end))
+cutting_at most base [] place at long fits is = absurd (omega arith)
+cutting_at most base (gate ∷ []) place at long fits is = absurd (omega arith)
+cutting_at most base (gate ∷ byte ∷ bytes) place at long fits is = cutting_here most base gate byte bytes place at fits is
 
-pub cutting : (base end : List ℕ) (place : ℕ) (m : Moment) → place ≡ length base + 1 → 1 < length end → IsEnd end → m ≡ durable (base ++ end) → IsCutting base end place m
-cutting base end place m at long is same = subst (IsCutting base end place) (sym same) (cutting_at base end place at long is)
+pub cutting : (most : ℕ) (base end : List ℕ) (place : ℕ) (m : Moment) → place ≡ length base + 1 → 1 < length end → length base + length end ≤ most → IsEnd end → m ≡ durable (base ++ end) → IsCutting most base end place m
+cutting most base end place m at long fits is same = subst (IsCutting most base end place) (sym same) (cutting_at most base end place at long fits is)
 
 -- a write of the last gate
-pub record IsClosing (base : List ℕ) (gate : ℕ) (m : Moment) : Type 0 where
-  pub before : Leaves (Ends base) m
-  pub closed : Leaves (Ends base) (written gate (0 ∷ []) m)
-  pub kept : Leaves (Ends base) (synced (written gate (0 ∷ []) m))
+pub record IsClosing (most : ℕ) (base : List ℕ) (gate : ℕ) (m : Moment) : Type 0 where
+  pub before : Leaves (EndsWithin most base) m
+  pub closed : Leaves (EndsWithin most base) (written gate (0 ∷ []) m)
+  pub kept : Leaves (EndsWithin most base) (synced (written gate (0 ∷ []) m))
   pub held : synced (written gate (0 ∷ []) m) ≡ durable (base ++ 0 ∷ [])
 
-module _ (base end : List ℕ) (gate : ℕ) (at : length base ≡ gate) (short : length end ≤ 1) where
+module _ (most : ℕ) (base end : List ℕ) (gate : ℕ) (at : length base ≡ gate) (short : length end ≤ 1) (fits : gate + 1 ≤ most) where
   abbrev closing : Moment
   closing = written gate (0 ∷ []) (durable (base ++ end))
 
@@ -86,23 +88,25 @@ module _ (base end : List ℕ) (gate : ℕ) (at : length base ≡ gate) (short :
       ap (λ (l : List ℕ). l ++ (0 ∷ drop (gate + 1) (base ++ end))) (take_at base end gate at)
       ∙ ap (λ (l : List ℕ). base ++ 0 ∷ l) (drop_all (gate + 1) (base ++ end) (omega (arith, at, length-append base end)))
 
-  closed_leaves : Leaves (Ends base) closing
+  closed_leaves : Leaves (EndsWithin most base) closing
   closed_leaves = record {
     each = λ image i.
-        let stays : image ≡ base ++ drop (length base) image = front_stays closing base (0 ∷ []) image closing_bytes (omega (arith, length-append base end)) (λ p below. unwritten_before p gate (gate + 1) (omega (arith, at, below))) i in
-        record { end = drop (length base) image; split = stays; ends = short_is_end (drop (length base) image) (omega (arith, i.no_longer, length-append base end, length-drop (length base) image, at)) };
+        let stays : image ≡ base ++ drop (length base) image = front_stays closing base (0 ∷ []) image closing_bytes (omega (arith, length-append base end)) (λ p below. unwritten_before p gate (gate + 1) (omega (arith, at, below))) i in (
+          record { end = drop (length base) image; split = stays; ends = short_is_end (drop (length base) image) (omega (arith, i.no_longer, length-append base end, length-drop (length base) image, at)) },
+          omega (arith, i.no_longer, length-append base end, at, short, fits),
+        );
   }
 
-  closing_here : IsClosing base gate (durable (base ++ end))
+  closing_here : IsClosing most base gate (durable (base ++ end))
   closing_here = record {
-    before = held_leaves base end (short_is_end end short);
+    before = held_leaves most base end (omega (arith, at, short, fits)) (short_is_end end short);
     closed = closed_leaves;
-    kept = durable-leaves (Ends base) closing.bytes (record { end = 0 ∷ []; split = closing_bytes; ends = refl });
+    kept = durable-leaves (EndsWithin most base) closing.bytes (record { end = 0 ∷ []; split = closing_bytes; ends = refl }, omega (arith, ap length closing_bytes, length-append base (0 ∷ []), at, fits));
     held = ap durable closing_bytes;
   }
 
-pub closes : (base end : List ℕ) (gate : ℕ) (m : Moment) → length base ≡ gate → m ≡ durable (base ++ take 1 end) → IsClosing base gate m
-closes base end gate m at same = subst (IsClosing base gate) (sym same) (closing_here base (take 1 end) gate at (omega (arith, length-take 1 end)))
+pub closes : (most : ℕ) (base end : List ℕ) (gate : ℕ) (m : Moment) → length base ≡ gate → gate + 1 ≤ most → m ≡ durable (base ++ take 1 end) → IsClosing most base gate m
+closes most base end gate m at fits same = subst (IsClosing most base gate) (sym same) (closing_here most base (take 1 end) gate at (omega (arith, length-take 1 end)) fits)
 
 -- one end in the place of another, whatever lies before it
 pub HoldsEnd-then : (old new : Option History) (gate : ℕ) (before after : List ℕ) → ((base : List ℕ) → length base ≡ gate → Holds (base ++ before) old → Holds (base ++ after) new) → HoldsEnd gate before old → HoldsEnd gate after new

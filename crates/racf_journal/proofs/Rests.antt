@@ -1,15 +1,15 @@
 -- For the layers above: what crashes leave of a journal at rest, what an append and an opening say of the records that
 -- a caller knows of, and the front of a journal that stands alone.
-use Rattle.std.proofs.Common.{ℕ, ◌+◌, ◌≡◌, ◌∙◌, List, [], ◌∷◌, ◌++◌, Option, None, Some, Ok, length, take, refl, sym, ap, subst, append_assoc, inl}
+use Rattle.std.proofs.Common.{ℕ, ◌+◌, ◌≡◌, ◌∙◌, List, [], ◌∷◌, ◌++◌, Option, None, Some, Ok, length, take, refl, sym, ap, subst, arith, append_assoc, length-append, inl}
 use Rattle.std.proofs.lemmas.Option.{none-some, same_Some}
 use Rattle.std.proofs.lemmas.Slice.Eq.{bytes_eq-Decides}
 use Rattle.racf_outside.specs.Crashes.{Leaves, StaysIn}
 use Rattle.racf_outside.specs.Disk.{History, Now}
-use Rattle.racf_outside.specs.Moments.{Moment}
-use Rattle.racf_outside.proofs.Images.{durable-leaves}
+use Rattle.racf_outside.specs.Moments.{Moment, IsImage}
+use Rattle.racf_outside.proofs.Images.{only, durable-leaves}
 use Rattle.racf_outside.proofs.Runs.{StaysIn-weaker}
 use Rattle.racf_journal.specs.Appending.{Acknowledges, LeavesEither}
-use Rattle.racf_journal.specs.Kept.{IsAtRest, IsResting, Keeps, ReadsAs, ReadsAsEither}
+use Rattle.racf_journal.specs.Kept.{IsAtRest, IsResting, Keeps, ReadsAs, IsAppended}
 use Rattle.racf_journal.specs.Reading.{Reading, magic, is_formatted, reading, spelled}
 use Rattle.racf_journal.proofs.Files.{ReadsAs-end}
 use Rattle.racf_journal.proofs.Parts.{formatted}
@@ -21,8 +21,14 @@ rest_leaves front start gate records m rest =
     let whole : ReadsAs front records (front ++ (spelled records ++ 0 ∷ [])) = ReadsAs-end front records (0 ∷ []) (ap (λ s. is_formatted s front) rest.from ∙ rest.formatted) rest.lawful refl in
     subst (Leaves (ReadsAs front records)) (sym rest.is) (durable-leaves (ReadsAs front records) bytes (subst (ReadsAs front records) (sym (append_assoc front (spelled records) (0 ∷ []))) whole))
 
-pub rest_leaves_either : (front : List ℕ) (start gate : ℕ) (records : List (List ℕ)) (next : List ℕ) (m : Moment) → IsAtRest front start gate records m → Leaves (ReadsAsEither front records next) m
-rest_leaves_either front start gate records next m rest = record { each = λ image i. inl ((rest_leaves front start gate records m rest).each image i) }
+pub rest_leaves_either : (front : List ℕ) (start gate : ℕ) (records : List (List ℕ)) (next : List ℕ) (m : Moment) → IsAtRest front start gate records m → Leaves (IsAppended front records next gate) m
+rest_leaves_either front start gate records next m rest = record {
+  each = λ image i. (
+    inl ((rest_leaves front start gate records m rest).each image i),
+    let is : image ≡ front ++ spelled records ++ 0 ∷ [] = only (front ++ spelled records ++ 0 ∷ []) image (subst (λ n. IsImage n image) rest.is i) in
+        omega (arith, ap length is, length-append (front ++ spelled records) (0 ∷ []), length-append front (spelled records), rest.from, rest.to),
+  );
+}
 
 -- an append that was told the moment before: what it says of the records that the caller knows of
 kept_at : (front : List ℕ) (start gate : ℕ) (records : List (List ℕ)) (a : Option History) (h : History) → a ≡ Some h → IsAtRest front start gate records h.now → Keeps front start gate records a
@@ -33,7 +39,7 @@ append_untold start gate next a b leaves none = (leaves [] [] (λ h told. absurd
 
 -- Within an append a crash leaves what has P, where that holds of the records from before, and of these with the new.
 pub append_stays : (P : List ℕ → Type 0) (start gate : ℕ) (next : List ℕ) (a b : Option History) → LeavesEither start gate next a b
-    → ((h : History) → a ≡ Some h → (front : List ℕ) × (records : List (List ℕ)) × IsAtRest front start gate records h.now × ((image : List ℕ) → ReadsAsEither front records next image → P image)) → StaysIn P a b
+    → ((h : History) → a ≡ Some h → (front : List ℕ) × (records : List (List ℕ)) × IsAtRest front start gate records h.now × ((image : List ℕ) → IsAppended front records next gate image → P image)) → StaysIn P a b
 append_stays P start gate next a b leaves known = record {
   told = λ h e. let k = known h e in (StaysIn-weaker P (leaves k.0 k.1 (kept_at k.0 start gate k.1 a h e k.2)) (λ i told image. k.3 image)).told h e;
   untold = append_untold start gate next a b leaves;

@@ -1,9 +1,9 @@
 -- How the records of a file are found, one after another, and how its bytes are read.
-use Rattle.std.proofs.Common.{ℕ, ◌+◌, ◌-◌, ◌<◌, ◌≤◌, ◌≡◌, ◌∙◌, min, Bool, true, false, ◌||◌, List, [], ◌∷◌, ◌++◌, length, take, drop, Ok, Err, sym, ap, arith, append_assoc, length-append}
+use Rattle.std.proofs.Common.{ℕ, ◌+◌, ◌-◌, ◌<◌, ◌≤◌, ◌≡◌, ◌∙◌, inl, inr, min, Bool, true, false, ◌||◌, List, [], ◌∷◌, ◌++◌, length, take, drop, Ok, Err, sym, ap, arith, append_assoc, length-append}
 use Rattle.std.specs.Prelude.{bytes_eq}
 use Rattle.std.specs.List.{AllByRecursion}
-use Rattle.std.proofs.lemmas.List.{take_rest, take_min, take-take, drop-take, drop-drop, take-append-drop, length-take-le}
-use Rattle.std.proofs.lemmas.Bool.{eqb-true, le-ltb}
+use Rattle.std.proofs.lemmas.List.{take_rest, take_min, take_all, take-take, drop-take, drop-drop, take-append-drop, length-take-le}
+use Rattle.std.proofs.lemmas.Bool.{eqb-true, le-ltb, cases_lt}
 use Rattle.racf_journal.specs.declared.fault.JournalFault.TheVariants.{Damaged}
 use Rattle.racf_journal.specs.Reading.{magic, is_formatted, claims, IsRecord, walk, is_open, spelled}
 use Rattle.racf_journal.proofs.Walks.{walk_to_damage, walk_to_end, IsRecord-front, lawful-push, spelled-push}
@@ -76,3 +76,14 @@ formatted_read start count into file formatted low size counted same is =
     is
     ∙ ap (λ (l : List ℕ). bytes_eq l magic) (same ∙ ap (λ n. take n file) all ∙ take_min 8 file)
     ∙ sym (ap (λ b. b || bytes_eq (take 8 file) magic) (le-ltb 8 start low))
+
+-- the front of a file is read where there was room for no more of it, or no more was found
+pub front_whole : (have file : List ℕ) (most block : ℕ) → have ≡ take (length have) file → length have ≤ most → 0 < block → min (min (most - length have) block) (length file - length have) ≡ 0 → have ≡ take most file
+front_whole have file most block is within some none = elim (cases_lt (length have) most) [
+  | inl below ↦
+      let short : length file ≤ length have = omega (arith, none, some, below) in
+      is ∙ take_all (length have) file short ∙ sym (take_all most file (omega (arith, short, within)))
+  | inr past ↦
+      let same : length have ≡ most = omega (arith, past, within) in
+      is ∙ ap (λ n. take n file) same
+]

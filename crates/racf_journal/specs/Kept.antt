@@ -1,5 +1,5 @@
 -- What a journal keeps on its disk, and what crashes leave of it.
-use Rattle.std.specs.Prelude.{ℕ, ◌+◌, ◌≡◌, true, List, [], ◌∷◌, ◌++◌, length, take, Option, Ok, ◌⊎◌}
+use Rattle.std.specs.Prelude.{ℕ, ◌+◌, ◌≤◌, ◌≡◌, true, List, [], ◌∷◌, ◌++◌, length, take, Option, Ok, ◌⊎◌}
 use Rattle.std.specs.List.{AllByRecursion}
 use Rattle.racf_outside.specs.Disk.{History, Now}
 use Rattle.racf_outside.specs.Moments.{Moment, durable}
@@ -35,3 +35,7 @@ pub record ReadsAs (front : List ℕ) (records : List (List ℕ)) (file : List �
 -- A file is read as these records, or as these and one more.
 abbrev pub ReadsAsEither : (front : List ℕ) → (records : List (List ℕ)) → (next : List ℕ) → (file : List ℕ) → Type 0
 ReadsAsEither front records next file = ReadsAs front records file ⊎ ReadsAs front (records ++ next ∷ []) file
+
+-- The same, and the file is no longer than it is once that one is appended.
+abbrev pub IsAppended : (front : List ℕ) → (records : List (List ℕ)) → (next : List ℕ) → (gate : ℕ) → (file : List ℕ) → Type 0
+IsAppended front records next gate file = ReadsAsEither front records next file × (length file ≤ gate + 2 + length next)

@@ -1,5 +1,5 @@
 -- What opening a journal finds, and what crashes within it leave.
-use Rattle.std.specs.Prelude.{ℕ, ◌<◌, ◌≤◌, ◌≡◌, List, length, take, Option, Err, ◌⊎◌}
+use Rattle.std.specs.Prelude.{ℕ, ◌+◌, ◌<◌, ◌≤◌, ◌≡◌, max, List, length, take, Option, Ok, Err, ◌⊎◌}
 use Rattle.std.specs.Option.{option_map}
 use Rattle.racf_outside.specs.Causes.{Rose}
 use Rattle.racf_outside.specs.Crashes.{StaysIn}
@@ -7,7 +7,7 @@ use Rattle.racf_outside.specs.Disk.{History, goes, Now}
 use Rattle.racf_outside.specs.Moments.{Moment, IsImage, synced}
 use Rattle.racf_journal.specs.declared.fault.JournalFault.{JournalFault}
 use Rattle.racf_journal.specs.declared.fault.JournalFault.TheVariants as fault
-use Rattle.racf_journal.specs.Reading.{reading}
+use Rattle.racf_journal.specs.Reading.{Reading, reading}
 
 -- A journal that was read and isn't open yet, as data: its disk, the place where it begins, that of its last gate, and
 -- its records.
@@ -28,12 +28,13 @@ abbrev pub IsStart : (start : ℕ) → Option History → Type 0
 IsStart start told = (start ≡ 8) ⊎ ((8 < start) × Now told (λ moment. start ≤ length moment.bytes))
 
 -- A file was possible at that moment, as far as the bytes before the start and the reading go: a crash at it might have
--- left such bytes and that reading.
+-- left such bytes and that reading. It is no longer than that one, or than the closed gate behind the records wants.
 pub record WasPossible (start : ℕ) (moment : Moment) (file : List ℕ) : Type 0 where
   pub image : List ℕ
   pub was_left : IsImage moment image
   pub front : take start file ≡ take start image
   pub reads : reading start file ≡ reading start image
+  pub ends : (found : Reading) → reading start image ≡ Ok found → length file ≤ max (length image) (found.gate + 1)
 
 -- At every moment of the opening a crash leaves what was possible when it began.
 abbrev pub StaysPossible : (start : ℕ) → (old new : Option History) → Type 0

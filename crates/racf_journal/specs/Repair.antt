@@ -1,5 +1,5 @@
 -- How the end of a journal is repaired, and what crashes meanwhile leave.
-use Rattle.std.specs.Prelude.{ℕ, ◌+◌, ◌<◌, ◌≡◌, ◌^◌, true, List, ◌++◌, length, Option}
+use Rattle.std.specs.Prelude.{ℕ, ◌+◌, ◌<◌, ◌≤◌, ◌≡◌, ◌^◌, true, List, ◌++◌, length, Option}
 use Rattle.std.specs.List.{AllByRecursion}
 use Rattle.racf_outside.specs.Disk.{History, Now}
 use Rattle.racf_outside.specs.Moments.{Moment, durable}
@@ -26,6 +26,10 @@ pub record Ends (base file : List ℕ) : Type 0 where
   pub end : List ℕ
   pub split : file ≡ base ++ end
   pub ends : IsEnd end
+
+-- The same of a file that has at most so many bytes.
+abbrev pub EndsWithin : (most : ℕ) → (base file : List ℕ) → Type 0
+EndsWithin most base file = Ends base file × (length file ≤ most)
 
 -- The disk holds some front, these records behind open gates, and this end; a crash changes none of it.
 pub record HoldsFound (start : ℕ) (records : List (List ℕ)) (end : List ℕ) (moment : Moment) : Type 0 where

@@ -16,7 +16,7 @@ pub(crate) const OPEN: u8 = 1;
 pub(crate) const CLOSED: u8 = 0;
 
 /// How many bytes a file may have.
-pub(crate) const MOST_BYTES: u64 = 1 << 28;
+pub const MOST_BYTES: u64 = 1 << 28;
 
 /// The longest record of a command: its length, its issuer and group, and a text of 30,000 bytes.
 pub(crate) const LONGEST_COMMAND: usize = 30_020;

@@ -34,5 +34,6 @@ pub use journal::Journal;
 pub use laws::{
     cutting_changes_no_reading, resting_reads_as_its_records, rewriting_the_gate_changes_no_reading,
 };
-pub use reading::read_from;
+pub use layout::MOST_BYTES;
+pub use reading::{read_from, read_front};
 pub use scan::{FoundRecords, read_records};

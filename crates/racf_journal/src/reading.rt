@@ -1,6 +1,6 @@
 //! How a file is read.
 
-ghost use Rattle.std.specs.Prelude.{◌+◌, ◌<◌, ◌≤◌, ◌≡◌, ◌^◌, ◌⊎◌, length, take, drop, vec_len, IfOk, IfErr, bytes_eq};
+ghost use Rattle.std.specs.Prelude.{◌+◌, ◌-◌, ◌<◌, ◌≤◌, ◌≡◌, ◌^◌, ◌⊎◌, min, length, take, drop, vec_len, IfOk, IfErr, bytes_eq};
 ghost use Rattle.racf_outside.specs.Causes.{HasCause};
 ghost use Rattle.racf_outside.specs.Disk.{Now};
 ghost use Rattle.racf_journal.specs.declared.fault.JournalFault.TheVariants as fault;
@@ -54,6 +54,51 @@ pub fn read_from<D: Disk>(alloc: Global, disk: &mut D, start: u64) -> Result<Vec
         }
         bytes.extend_from_slice(&block[..count])?;
     }
+}
+
+/// The first bytes of a file, at most so many. It is only read, and no byte behind them is.
+///
+/// # Errors
+///
+/// `DiskFault` where the disk failed, and `NoMemory` where there was no room for the bytes.
+pub fn read_front<D: Disk>(
+    alloc: Global,
+    disk: &mut D,
+    most: usize,
+) -> Result<Vec<u8>, JournalFault>
+    ensures bytes { IfOk result (λ bytes. Now (D.tells disk.old) (λ m. bytes.items ≡ take most m.bytes)) }
+    ensures room { IfOk result (λ bytes. length bytes.items ≤ most) }
+    ensures kept { D.tells disk.new ≡ D.tells disk.old }
+    ensures fault { IfErr result (λ why. (why ≡ fault.DiskFault) ⊎ (why ≡ fault.NoMemory)) }
+    ensures cause { IfErr result (IsCaused (D.faults disk.old) (D.faults disk.new)) }
+    ensures no_fewer { D.faults disk.old ≤ D.faults disk.new }
+{
+    let mut block = zeros(alloc, BLOCK)?;
+    let mut bytes = Vec::new(alloc);
+    'block: loop {
+        let count = read_part(disk, bytes.len() as u64, &mut block, most - bytes.len())?;
+        if count == 0 {
+            return Ok(bytes);
+        }
+        bytes.extend_from_slice(&block[..count])?;
+    }
+}
+
+/// Fills `into` from a place on with at most so many bytes, and answers how many it found there.
+fn read_part<D: Disk>(
+    disk: &mut D,
+    place: u64,
+    into: &mut [u8],
+    most: usize,
+) -> Result<usize, Failed>
+    ensures count { IfOk result (λ n. (n ≤ length into.new) × (n ≤ most)) }
+    ensures found { IfOk result (λ n. Now (D.tells disk.old) (λ m. (n ≡ min (min most (length into.new)) (length m.bytes - place))
+        × (take n into.new ≡ take n (drop place m.bytes)))) }
+    ensures kept { D.tells disk.new ≡ D.tells disk.old }
+    ensures cause { HasCause (D.faults disk.old) (D.faults disk.new) result }
+{
+    let room = most.min(into.len());
+    disk.read(place, &mut into[..room])
 }
 
 /// A buffer of this many bytes.

@@ -8,7 +8,7 @@ use crate::faults::RowsFault;
 use crate::tables::tables_of;
 use database_image::{ImageFault, laws, read, stored_copy};
 use racf_database::Database;
-use racf_profiles::Rows;
+use racf_profiles::{NoMemory, Rows};
 use std::alloc::Global;
 
 /// The database of an image: each field of it was tested by itself, and then each fact between fields.
@@ -50,6 +50,18 @@ pub fn of_rows(alloc: Global, rows: &Rows) -> Result<Database, RowsFault>
 {
     let copy = lawful_copy(alloc, rows)?;
     let tables = tables_of(alloc, copy)?;
+    Ok(Database::of(tables))
+}
+
+/// The database of rows that an image may hold, as those that were read of one. They are moved into it, and not judged
+/// again.
+pub fn of_stored_rows(alloc: Global, rows: Rows) -> Result<Database, NoMemory>
+    requires stored { IsStored rows }
+    ensures made { IfOk result (λ database. database.rows ≡ rows) }
+    ensures nothing_prepared { IfOk result (λ database. database.prepared ≡ None) }
+{
+    laws::stored_rows_are_lawful();
+    let tables = tables_of(alloc, rows)?;
     Ok(Database::of(tables))
 }
 

@@ -124,11 +124,11 @@ const FAILED: [&[u8]; 3] = [
     b"1 0 VERIFIED\n",
 ];
 
-/// A new database takes ten calls of its first disk, and a command four: the sixteenth is of the second command.
+/// A new database takes fourteen calls of its first disk, and a command four: the twentieth is of the second command.
 #[test]
 fn a_disk_fault_is_told_once(rt: HostRuntime) -> Result<(), Fail> {
     let holds = [Hold::new(1, 1, 0, 2), Hold::new(2, 1, 1, 1)];
-    let told = ran_on_failing(&rt, rt.alloc(), &FAILING, &Holding::new(&rt, &holds), 16)?;
+    let told = ran_on_failing(&rt, rt.alloc(), &FAILING, &Holding::new(&rt, &holds), 20)?;
     assert!(rt; told.is(Status::DiskFault, &FAILED));
     Ok(())
 }

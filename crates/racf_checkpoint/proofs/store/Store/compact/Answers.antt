@@ -41,9 +41,8 @@ pub returns-clause-lawful : goal.returns-clause-lawful
 returns-clause-lawful g c =
     let above : c.in-Some.epoch ≡ c.self.inside.epoch + 1 = search rules in
     let fits : c.in-Some.epoch < 2 ^ 64 = omega arith in
-    let few : c.in_ok-start.start < 2 ^ 64 = omega arith in
     rw (← c.self.view_is) (λ below.
-    made_lawful c.self.inside.epoch c.in-Some.epoch c.in_ok-start.start c.args.number c.args.rows.now above fits few c.requires.number c.in_ok-start.ensures.stored c.in_ok-start.ensures.start)
+    made_lawful c.self.inside.epoch c.in-Some.epoch c.args.number c.args.rows.now above fits c.in_ok-start.ensures.fits c.requires.number c.in_ok-start.ensures.stored)
 
 pub returns-clause-done : goal.returns-clause-done
 returns-clause-done g c =
@@ -51,10 +50,9 @@ returns-clause-done g c =
     let law : RecordsAreRead = record { says = c.records_are_read_behind_an_image.ensures.says; counts = c.records_are_read_behind_an_image.ensures.counts } in
     let above : c.in-Some.epoch ≡ c.self.inside.epoch + 1 = search rules in
     let fits : c.in-Some.epoch < 2 ^ 64 = omega arith in
-    let few : c.in_ok-start.start < 2 ^ 64 = omega arith in
     let ready = rw (← c.self.view_is) at c.requires.ready in
     rw (← c.self.view_is, c.turn.ensures) (λ below. record {
-      live = made_stored a.epoch c.in-Some.epoch c.in_ok-start.start c.args.number c.args.rows.now (g.D.Disk.tells c.compact.new.idle) above fits few c.requires.number c.in_ok-start.ensures.stored c.in_ok-start.ensures.start c.in_ok-start.ensures.done;
+      live = made_stored a.epoch c.in-Some.epoch c.in_ok-start.start c.args.number c.args.rows.now (g.D.Disk.tells c.compact.new.idle) above fits c.in_ok-start.ensures.fits c.requires.number c.in_ok-start.ensures.stored c.in_ok-start.ensures.start c.in_ok-start.ensures.done;
       idle = ready_passed law a.side a.epoch a.journal.start a.journal.gate c.in-Some.epoch (g.D.Disk.tells a.journal.disk) above ready.live;
     })
 
@@ -74,9 +72,8 @@ returns-clause-ready g c =
     let law : RecordsAreRead = record { says = c.records_are_read_behind_an_image.ensures.says; counts = c.records_are_read_behind_an_image.ensures.counts } in
     let above : c.in-Some.epoch ≡ c.self.inside.epoch + 1 = search rules in
     let fits : c.in-Some.epoch < 2 ^ 64 = omega arith in
-    let few : c.in_ok-start.start < 2 ^ 64 = omega arith in
     let ready = rw (← c.self.view_is) at c.requires.ready in
     rw c.turn.ensures (record {
-      live = λ h e. (new_checkpoint (a.epoch + 1) c.args.number c.args.rows.now, made_stored a.epoch c.in-Some.epoch c.in_ok-start.start c.args.number c.args.rows.now (g.D.Disk.tells c.compact.new.idle) above fits few c.requires.number c.in_ok-start.ensures.stored c.in_ok-start.ensures.start c.in_ok-start.ensures.done h e);
+      live = λ h e. (new_checkpoint (a.epoch + 1) c.args.number c.args.rows.now, made_stored a.epoch c.in-Some.epoch c.in_ok-start.start c.args.number c.args.rows.now (g.D.Disk.tells c.compact.new.idle) above fits c.in_ok-start.ensures.fits c.requires.number c.in_ok-start.ensures.stored c.in_ok-start.ensures.start c.in_ok-start.ensures.done h e);
       idle = ready_passed law a.side a.epoch a.journal.start a.journal.gate c.in-Some.epoch (g.D.Disk.tells a.journal.disk) above ready.live;
     })

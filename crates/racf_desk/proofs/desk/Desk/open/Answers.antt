@@ -18,7 +18,7 @@ returns-in-Err-clause-fault g c = refused_to_load _ _ _ c.in-Err.ensures.fault
 
 -- what was found is a checkpoint
 pub recover-requires-clause-stored : goal.recover-requires-clause-stored
-recover-requires-clause-stored g c = subst AreStored (sym c.rows.ensures) c.in-Ok.ensures.lawful.stored
+recover-requires-clause-stored g c = subst AreStored (sym c.in-Ok.ensures.rows) c.in-Ok.ensures.lawful.stored
 
 pub recover-requires-clause-number : goal.recover-requires-clause-number
 recover-requires-clause-number g c = subst (λ n. n ≤ most_number) (sym c.number.ensures) c.in-Ok.ensures.lawful.number
@@ -34,21 +34,21 @@ returns-in-Err-recover-clause-fault g c =
     let why = c.in-Err-recover.fault in
     let kept = found_in c.in-Ok.found in
     refused_to_recover _ _ why kept c.in-Ok.ensures.says
-    (subst (λ led. (led ≡ Err why) ⊎ (why ≡ NoMemory)) (sym (of_parts kept c.rows.result.now c.number.result c.start.result c.records.result.now c.rows.ensures c.number.ensures c.start.ensures c.records.ensures)) c.in-Err-recover.ensures.fault)
+    (subst (λ led. (led ≡ Err why) ⊎ (why ≡ NoMemory)) (sym (of_parts kept c.in-Ok.rows c.number.result c.start.result c.records.result.now c.in-Ok.ensures.rows c.number.ensures c.start.ensures c.records.ensures)) c.in-Err-recover.ensures.fault)
 
 pub returns-in-Err-recover-clause-no_other : goal.returns-in-Err-recover-clause-no_other
 returns-in-Err-recover-clause-no_other g c =
     let why = c.in-Err-recover.fault in
     let kept = found_in c.in-Ok.found in
     (only_damage kept why
-    (subst (λ led. (led ≡ Err why) ⊎ (why ≡ NoMemory)) (sym (of_parts kept c.rows.result.now c.number.result c.start.result c.records.result.now c.rows.ensures c.number.ensures c.start.ensures c.records.ensures)) c.in-Err-recover.ensures.fault)).0
+    (subst (λ led. (led ≡ Err why) ⊎ (why ≡ NoMemory)) (sym (of_parts kept c.in-Ok.rows c.number.result c.start.result c.records.result.now c.in-Ok.ensures.rows c.number.ensures c.start.ensures c.records.ensures)) c.in-Err-recover.ensures.fault)).0
 
 pub returns-in-Err-recover-clause-cause : goal.returns-in-Err-recover-clause-cause
 returns-in-Err-recover-clause-cause g c = λ failed.
     let why = c.in-Err-recover.fault in
     let kept = found_in c.in-Ok.found in
     absurd ((only_damage kept why
-    (subst (λ led. (led ≡ Err why) ⊎ (why ≡ NoMemory)) (sym (of_parts kept c.rows.result.now c.number.result c.start.result c.records.result.now c.rows.ensures c.number.ensures c.start.ensures c.records.ensures)) c.in-Err-recover.ensures.fault)).1 failed)
+    (subst (λ led. (led ≡ Err why) ⊎ (why ≡ NoMemory)) (sym (of_parts kept c.in-Ok.rows c.number.result c.start.result c.records.result.now c.in-Ok.ensures.rows c.number.ensures c.start.ensures c.records.ensures)) c.in-Err-recover.ensures.fault)).1 failed)
 
 -- the store was opened where they lead
 pub fresh-requires-clause-stands : goal.fresh-requires-clause-stands
@@ -56,9 +56,9 @@ fresh-requires-clause-stands g c =
     let kept = found_in c.in-Ok.found in
     let at = c.in-Ok-recover.recovered in
     let opened = c.in-Ok-open.ensures in
-    stands_there g.D.Disk.tells c.in-Ok-open.field-0.store kept (record { image = arc_value at.image; gate = at.gate }) c.in-Ok.ensures.lawful opened.stores opened.epoch opened.gate
+    stands_there g.D.Disk.tells c.in-Ok-open.store kept (record { image = arc_value at.image; gate = at.gate }) c.in-Ok.ensures.lawful opened.stores opened.epoch opened.gate
     (c.in-Ok-recover.ensures.gate ∙ ap (λ n. n + length (spelled c.records.result.now)) c.start.ensures ∙ ap (λ records. kept.start + length (spelled records)) c.records.ensures)
-    (of_parts kept c.rows.result.now c.number.result c.start.result c.records.result.now c.rows.ensures c.number.ensures c.start.ensures c.records.ensures ∙ c.in-Ok-recover.ensures.position)
+    (of_parts kept c.in-Ok.rows c.number.result c.start.result c.records.result.now c.in-Ok.ensures.rows c.number.ensures c.start.ensures c.records.ensures ∙ c.in-Ok-recover.ensures.position)
 
 pub returns-in-Ok-open-clause-stands : goal.returns-in-Ok-open-clause-stands
 returns-in-Ok-open-clause-stands g c =
@@ -67,11 +67,11 @@ returns-in-Ok-open-clause-stands g c =
     let at = c.in-Ok-recover.recovered in
     subst (λ (d : DeskOn _). NowRead (g.D.Disk.tells disks.first) (g.D.Disk.tells disks.second) (λ one other. standing one other ≡ Ok d.position)) (sym c.fresh.ensures.desk)
     (found (g.D.Disk.tells disks.first) (g.D.Disk.tells disks.second) kept (record { image = arc_value at.image; gate = at.gate }) c.in-Ok.ensures.says
-    (of_parts kept c.rows.result.now c.number.result c.start.result c.records.result.now c.rows.ensures c.number.ensures c.start.ensures c.records.ensures ∙ c.in-Ok-recover.ensures.position))
+    (of_parts kept c.in-Ok.rows c.number.result c.start.result c.records.result.now c.in-Ok.ensures.rows c.number.ensures c.start.ensures c.records.ensures ∙ c.in-Ok-recover.ensures.position))
 
 pub returns-in-Ok-open-clause-epoch : goal.returns-in-Ok-open-clause-epoch
 returns-in-Ok-open-clause-epoch g c =
-    let opened = rw c.in-Ok-open.field-0-is at c.in-Ok-open.ensures in
+    let opened = c.in-Ok-open.ensures in
     epoch_said _ _ (found_in c.in-Ok.found) _ c.in-Ok.ensures.says (ap (λ (d : DeskOn _). d.store.epoch) c.fresh.ensures.desk ∙ opened.epoch)
 
 -- what every crash leaves meanwhile
@@ -82,7 +82,7 @@ returns-in-Ok-open-clause-first_moments g c =
     let same = sym (ap (λ (d : DeskOn _). d.store) c.fresh.ensures.desk) in
     subst (λ (s : StoreOn _). StaysPossible (g.D.Disk.tells c.args.disks.first) (g.D.Disk.tells (disk_on First s))) same
     (first_stays g.D.Disk.tells g.D.Disk.faults disk.side disk.journal.disk disk.idle _ _
-    (store_goes g.D.Disk.tells g.D.Disk.faults disk.side disk.journal.disk disk.idle c.in-Ok-open.field-0.store opened.side opened.idle opened.moments opened.no_fewer)
+    (store_goes g.D.Disk.tells g.D.Disk.faults disk.side disk.journal.disk disk.idle c.in-Ok-open.store opened.side opened.idle opened.moments opened.no_fewer)
     (g.D.Disk.tells c.args.disks.first) c.in-Ok.ensures.first_moments c.in-Ok.ensures.first_synced)
 
 pub returns-in-Ok-open-clause-second_moments : goal.returns-in-Ok-open-clause-second_moments
@@ -92,7 +92,7 @@ returns-in-Ok-open-clause-second_moments g c =
     let same = sym (ap (λ (d : DeskOn _). d.store) c.fresh.ensures.desk) in
     subst (λ (s : StoreOn _). StaysPossible (g.D.Disk.tells c.args.disks.second) (g.D.Disk.tells (disk_on Second s))) same
     (second_stays g.D.Disk.tells g.D.Disk.faults disk.side disk.journal.disk disk.idle _ _
-    (store_goes g.D.Disk.tells g.D.Disk.faults disk.side disk.journal.disk disk.idle c.in-Ok-open.field-0.store opened.side opened.idle opened.moments opened.no_fewer)
+    (store_goes g.D.Disk.tells g.D.Disk.faults disk.side disk.journal.disk disk.idle c.in-Ok-open.store opened.side opened.idle opened.moments opened.no_fewer)
     (g.D.Disk.tells c.args.disks.second) c.in-Ok.ensures.second_moments c.in-Ok.ensures.second_synced)
 
 pub returns-in-Err-recover-clause-first_moments : goal.returns-in-Err-recover-clause-first_moments

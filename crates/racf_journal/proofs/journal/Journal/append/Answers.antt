@@ -1,13 +1,13 @@
 -- A record that has no room leaves all as it was; else the call is that of `write_record`.
 use Rattle.std.proofs.Common.{◌+◌, length, arith}
 use Rattle.racf_outside.proofs.Runs.{StaysIn-none}
-use Rattle.racf_journal.specs.Kept.{ReadsAsEither}
+use Rattle.racf_journal.specs.Kept.{IsAppended}
 use Rattle.racf_journal.proofs.Rests.{rest_leaves_either, resting_then}
 use Rattle.racf_journal.proofs.journal.Journal.append.Goals as goal
 
 pub returns-then-not-fits-clause-moments : goal.returns-then-not-fits-clause-moments
 returns-then-not-fits-clause-moments g c front records keeps =
-    StaysIn-none (ReadsAsEither front records c.args.bytes.now) _ (λ h e. rest_leaves_either front c.args.self.now.start c.args.self.now.gate records c.args.bytes.now h.now (keeps h e))
+    StaysIn-none (IsAppended front records c.args.bytes.now c.args.self.now.gate) _ (λ h e. rest_leaves_either front c.args.self.now.start c.args.self.now.gate records c.args.bytes.now h.now (keeps h e))
 
 pub returns-in_err-write_record-clause-moments : goal.returns-in_err-write_record-clause-moments
 returns-in_err-write_record-clause-moments g c = rw (← c.self.view_is) (c.write_record.ensures.moments c.self.inside.start)

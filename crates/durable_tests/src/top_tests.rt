@@ -42,6 +42,9 @@ fn has_output(shelf: &MemoryShelf, wanted: Option<&str>) -> bool {
 /// The words that work a stream from standard input to standard output.
 const SCRIPT: &[&str] = &["script", "-", "-"];
 
+/// The words that work standard input as the one deck of a run.
+const RUN: &[&str] = &["run", "1", "-"];
+
 /// The words that make a new database.
 const INIT: &[&str] = &["init"];
 
@@ -79,7 +82,7 @@ type Run = (
 );
 
 /// Databases that aren't opened, and new ones.
-const OPENED: [Run; 14] = [
+const OPENED: [Run; 16] = [
     // no database, and one that is damaged: nothing is opened
     (
         SCRIPT,
@@ -113,6 +116,24 @@ const OPENED: [Run; 14] = [
         NOBODY_PAIR,
         (0, 0),
         "",
+        (Status::Damaged(346), 24),
+        None,
+        NOBODY_PAIR,
+    ),
+    (
+        RUN,
+        NOTHING,
+        (0, 0),
+        "AU JOE",
+        (Status::NotFormatted, 24),
+        None,
+        NOTHING,
+    ),
+    (
+        RUN,
+        NOBODY_PAIR,
+        (0, 0),
+        "AU JOE",
         (Status::Damaged(346), 24),
         None,
         NOBODY_PAIR,
@@ -329,6 +350,46 @@ const WORKED: [Run; 14] = [
     ),
 ];
 
+/// An issuer who is fixed: no line names another. His ID is read in letters of either case, and must be one.
+const ISSUED: [Run; 4] = [
+    (
+        &["script", "--issuer", "ibmuser", "-", "-"],
+        NEW_PAIR,
+        (0, 0),
+        "*ISSUER JOE\nAU JOE",
+        (Status::Refusals, 4),
+        Some("0 REFUSED ISSUERFIXED\n1 ACCEPTED\n"),
+        JOE_PAIR,
+    ),
+    (
+        &["script", "--issuer", "JOE.SMITH", "-", "-"],
+        JOE_PAIR,
+        (1, 1),
+        "AU BOB",
+        (Status::Usage, 8),
+        None,
+        JOE_PAIR,
+    ),
+    (
+        &["script", "--issue", "IBMUSER", "-", "-"],
+        JOE_PAIR,
+        (1, 1),
+        "AU BOB",
+        (Status::Usage, 8),
+        None,
+        JOE_PAIR,
+    ),
+    (
+        &["run", "--issuer", "IBMUSER", "0", "-"],
+        JOE_PAIR,
+        (1, 1),
+        "AU BOB",
+        (Status::Usage, 8),
+        None,
+        JOE_PAIR,
+    ),
+];
+
 /// Asserts how a run ends.
 fn assert_ends(rt: &(impl AllocGlobal + Abort + Wait + Threads + Sync), run: &Run) {
     let (words, held, failing, input, (wanted, code), output, left) = run;
@@ -362,6 +423,14 @@ fn databases_are_made(rt: HostRuntime) {
 #[test]
 fn databases_are_worked(rt: HostRuntime) {
     for run in &WORKED {
+        assert_ends(&rt, run);
+    }
+}
+
+/// Who gives the commands is told by the words.
+#[test]
+fn issuers_are_fixed(rt: HostRuntime) {
+    for run in &ISSUED {
         assert_ends(&rt, run);
     }
 }

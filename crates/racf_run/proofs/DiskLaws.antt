@@ -10,11 +10,12 @@ use Rattle.checkpoint_disks.specs.declared.counting.Side.TheVariants.{First, Sec
 use Rattle.racf_checkpoint.specs.Stored.{StoreOn, StaysPossible, pick, other, disk_on}
 use Rattle.racf_desk.specs.Durable.{SameIdle, idle_of, BesideIdle, LeavesBoth, LeavesIt}
 use Rattle.racf_desk.specs.Made.{DeskOn}
-use Rattle.racf_desk.specs.Recovery.{StandsFor}
+use Rattle.racf_desk.specs.Position.{Position}
+use Rattle.racf_desk.specs.Recovery.{StandsFor, StandsForEither}
 use Rattle.racf_desk.proofs.IdleLaws.{leaves-both, told-pick}
+use Rattle.racf_stream.specs.declared.issuer.Issuing.{Issuing}
 use Rattle.racf_stream.specs.Stream.{State}
-use Rattle.racroute.specs.Disks.{StandAt}
-use Rattle.racf_run.specs.Racf.{EndsAt, EndsOn, OpensOn, RoseEither, opened_on}
+use Rattle.racf_run.specs.Racf.{EndsAt, EndsOn, OpensOn, StandsStill, RoseEither, opened_on}
 
 -- A store hands these two disks back.
 pub record HandsBack {D : Type 0} (store : StoreOn D) (one two : D) : Type 0 where
@@ -55,12 +56,25 @@ both_leave {D = D} tells store one two P back leaves =
     (subst (λ (d : D). LeavesBoth (tells (disk_on First store)) (tells d) P) (sym back.second)
     (leaves-both tells store.side store.journal.disk store.idle P leaves))
 
-pub ends_on : {D : Type 0} (tells : D → Option History) (desk : DeskOn D) (one two : D) → HandsBack desk.store one two → (s : State) → EndsAt tells desk s → EndsOn (tells one) (tells two) s
-ends_on tells desk one two back s ends running = both_leave tells desk.store one two (StandsFor s.position) back (ends.leaves running)
+pub ends_on : {D : Type 0} (tells : D → Option History) (issuing : Issuing) (base : Position) (input : Option (List ℕ)) (desk : DeskOn D) (one two : D) → HandsBack desk.store one two
+    → (s : State) → EndsAt tells issuing base input desk s → EndsOn issuing base input (tells one) (tells two) s
+ends_on tells issuing base input desk one two back s ends =
+    record {
+      leaves = λ running. both_leave tells desk.store one two (StandsFor s.position) back (ends.leaves running);
+      in_doubt = λ halts.
+          let doubt = ends.in_doubt halts in
+          record { next = doubt.next; in_doubt = doubt.in_doubt; leaves = both_leave tells desk.store one two (StandsForEither s.position doubt.next) back doubt.leaves };
+    }
 
--- and where nothing was run, it stands where the desk does
-pub stand_at : {D : Type 0} (tells : D → Option History) (desk : DeskOn D) (one two : D) → HandsBack desk.store one two → LeavesIt tells desk.store desk.position → StandAt false (tells one) (tells two) desk.position
-stand_at tells desk one two back leaves = both_leave tells desk.store one two (StandsFor desk.position) back leaves
+-- and where nothing was run, all is as it was opened
+pub stands_still : {D : Type 0} (tells : D → Option History) (desk : DeskOn D) (one two : D) → HandsBack desk.store one two → LeavesIt tells desk.store desk.position
+    → StandsStill (opened_on tells desk.store) (tells one) (tells two) desk.position
+stands_still tells desk one two back leaves =
+    record {
+      stand = both_leave tells desk.store one two (StandsFor desk.position) back leaves;
+      first_is = ap tells back.first ∙ told-pick tells desk.store.side desk.store.journal.disk desk.store.idle;
+      second_is = ap tells back.second ∙ told-pick tells desk.store.side desk.store.idle desk.store.journal.disk;
+    }
 
 -- where a database was opened
 pub opens_on : {D : Type 0} (tells : D → Option History) (store : StoreOn D) (first second : Option History)

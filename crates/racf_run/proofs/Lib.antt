@@ -4,4 +4,5 @@ pub mod OpeningLaws
 pub mod RunningLaws
 mod Sent
 pub mod TopLaws
+mod Unsound
 pub mod WordLaws

@@ -1,13 +1,14 @@
 -- What a run of files says under their names, and what its faults come of.
 use Rattle.std.proofs.Common.{◌≡◌, ◌≢◌, ◌≤◌, ◌<◌, ◌+◌, ℕ, suc, Bool, true, false, ◌&&◌, List, [], ◌∷◌, ◌++◌, length, map, take, drop, refl, sym, ◌∙◌, ap, subst, arith, inl, inr, ⊎_elim}
-use Rattle.std.specs.Prelude.{◌⊎◌, Option, nat_le, nat_lt, cond}
-use Rattle.std.specs.List.{sum_by}
+use Rattle.std.specs.Prelude.{◌⊎◌, Option, IfSome, nat_le, nat_lt, cond}
+use Rattle.std.specs.List.{All, sum_by}
 use Rattle.std.proofs.lemmas.Bool.{leb-true, false≢true}
 use Rattle.std.proofs.lemmas.List.{map-append, length-map, length-take-le, take_all, take-append-drop}
 use Rattle.std.proofs.lemmas.List.Sums.{sum_by-cons}
 use Rattle.racf_outside.specs.Causes.{Rose}
 use Rattle.racf_outside.specs.Disk.{History}
 use Rattle.racf_outside.specs.Shelf.{told}
+use Rattle.racf_outside.proofs.Rises.{Rose-later}
 use Rattle.racf_checkpoint.specs.Stored.{pick}
 use Rattle.racf_desk.specs.Position.{Position}
 use Rattle.command_history.specs.declared.events.Accepted.{Accepted}
@@ -16,14 +17,16 @@ use Rattle.command_history.specs.Events.{all_of}
 use Rattle.command_history.specs.Reached.{reached, AreLegal}
 use Rattle.racroute.specs.Disks.{StandAt, StaysAlong}
 use Rattle.racf_stream.specs.Status.{code_of}
+use Rattle.racf_stream.specs.declared.issuer.Issuing.{Issuing}
 use Rattle.racf_stream.specs.declared.status.Status.{Status}
-use Rattle.racf_stream.specs.declared.status.Status.TheVariants.{Done, Usage, ReadFault, WriteFault, DiskFault}
-use Rattle.racf_threads.specs.Outputs.{DeckRan, FileRan}
+use Rattle.racf_stream.specs.declared.status.Status.TheVariants.{Done, Usage, ReadFault, WriteFault, DiskFault, NotFormatted, Damaged, NoMemory, InputTooLong}
+use Rattle.racf_stream.specs.Runs.{longest_input}
+use Rattle.racf_threads.specs.Outputs.{DeckRan, FileRan, StopsFor}
 use Rattle.racf_threads.specs.Together.{Worked, HasStopped, AreDecks, AreFiles, RunsTogether, greater, greatest}
 use Rattle.racf_run.proofs.OpeningLaws.{AreNew-length}
-use Rattle.racf_run.specs.Opening.{output_name, is_among, are_distinct, AreNew, AreKept, OthersStay, RoseFor}
-use Rattle.racf_run.specs.Racf.{OpensNone, OpenedDisks}
-use Rattle.racf_run.specs.Running.{are_run_words, are_apart, Named, DecksNamed, FilesNamed, NamedRan, unopened_status}
+use Rattle.racf_run.specs.Opening.{output_name, is_among, are_distinct, IsNew, AreNew, AreKept, OthersStay, RoseFor}
+use Rattle.racf_run.specs.Racf.{IsUnsound, OpensNone, OpenedDisks, RoseEither, FaultCounts}
+use Rattle.racf_run.specs.Running.{are_run_words, are_apart, Named, NamedStops, DecksNamed, FilesNamed, NamedRan, unopened_status}
 use Rattle.racf_run.specs.declared.opening.Unopened.{Unopened}
 use Rattle.racf_run.specs.declared.opening.Unopened.TheVariants.{Input, Output}
 
@@ -85,6 +88,16 @@ pub unopened_ends : (why : Unopened) → (unopened_status why ≢ Usage) × (uno
 unopened_ends Input = (λ (e : ReadFault ≡ Usage). cc, λ (e : ReadFault ≡ DiskFault). cc)
 unopened_ends Output = (λ (e : WriteFault ≡ Usage). cc, λ (e : WriteFault ≡ DiskFault). cc)
 
+-- Counted from before on, and of the first ones and of those behind.
+pub RoseFor-earlier : {A : Type 0} (faults : A → ℕ) (a b c : ℕ) (items : List A) → a ≤ b → RoseFor faults b c items → RoseFor faults a c items
+RoseFor-earlier faults a b c [] le rose = tt
+RoseFor-earlier faults a b c (x ∷ items) le rose = (λ some. Rose-later a b c le (rose.0 some), RoseFor-earlier faults a b c items le rose.1)
+
+RoseFor-split : {A : Type 0} (faults : A → ℕ) (a b : ℕ) (xs ys : List A) → RoseFor faults a b (xs ++ ys) → RoseFor faults a b xs × RoseFor faults a b ys
+RoseFor-split faults a b [] ys rose = (tt, rose)
+RoseFor-split faults a b (x ∷ xs) ys rose =
+    let rest = RoseFor-split faults a b xs ys rose.1 in ((rose.0, rest.0), rest.1)
+
 -- ---- files and names
 module _ {I K : Type 0} (left : I → Option (List ℕ)) (reads : I → ℕ) (taken : K → Option (List ℕ)) (writes : K → ℕ) (tells : Bool) (input output : List ℕ → Option (List ℕ)) where
   -- those in front, and those behind
@@ -100,72 +113,102 @@ module _ {I K : Type 0} (left : I → Option (List ℕ)) (reads : I → ℕ) (ta
   AreKept-split [] (x ∷ xs) ys h = absurd h
 
 -- workers under these names
-abbrev named : {I K : Type 0} → List (List ℕ) → List (Worked I K) → List Named
-named [] workers = []
-named (name ∷ names) [] = []
-named (name ∷ names) (w ∷ workers) = record { name = name; status = w.status; faults = w.faults } ∷ named names workers
+abbrev named : {I K : Type 0} → (reads : I → ℕ) → (writes : K → ℕ) → List (List ℕ) → List (Worked I K) → List Named
+named reads writes [] workers = []
+named reads writes (name ∷ names) [] = []
+named reads writes (name ∷ names) (w ∷ workers) =
+    record { name = name; status = w.status; faults = w.faults; reads = reads w.back.0; writes = writes w.back.1 } ∷ named reads writes names workers
 
 module _ {I K : Type 0} (left : I → Option (List ℕ)) (reads : I → ℕ) (taken : K → Option (List ℕ)) (writes : K → ℕ) (tells : Bool) (input output : List ℕ → Option (List ℕ)) where
-  named_names : (names : List (List ℕ)) (ws : List (Worked I K)) → AreNew left reads taken writes tells input names (map (λ w. w.given) ws) → map (λ w. w.name) (named names ws) ≡ names
+  named_names : (names : List (List ℕ)) (ws : List (Worked I K)) → AreNew left reads taken writes tells input names (map (λ w. w.given) ws) → map (λ w. w.name) (named reads writes names ws) ≡ names
   named_names [] [] h = refl
   named_names (name ∷ names) (w ∷ ws) h = ap (λ ns. name ∷ ns) (named_names names ws h.1)
   named_names [] (w ∷ ws) h = absurd h
   named_names (name ∷ names) [] h = absurd h
 
-  named_statuses : (names : List (List ℕ)) (ws : List (Worked I K)) → AreNew left reads taken writes tells input names (map (λ w. w.given) ws) → map (λ w. w.status) (named names ws) ≡ map (λ (w : Worked I K). w.status) ws
+  named_statuses : (names : List (List ℕ)) (ws : List (Worked I K)) → AreNew left reads taken writes tells input names (map (λ w. w.given) ws) → map (λ w. w.status) (named reads writes names ws) ≡ map (λ (w : Worked I K). w.status) ws
   named_statuses [] [] h = refl
   named_statuses (name ∷ names) (w ∷ ws) h = ap (λ ss. w.status ∷ ss) (named_statuses names ws h.1)
   named_statuses [] (w ∷ ws) h = absurd h
   named_statuses (name ∷ names) [] h = absurd h
 
-  named_faults : (names : List (List ℕ)) (ws : List (Worked I K)) → AreNew left reads taken writes tells input names (map (λ w. w.given) ws) → sum_by (λ w. w.faults) (named names ws) ≡ sum_by (λ (w : Worked I K). w.faults) ws
+  named_faults : (names : List (List ℕ)) (ws : List (Worked I K)) → AreNew left reads taken writes tells input names (map (λ w. w.given) ws) → sum_by (λ w. w.faults) (named reads writes names ws) ≡ sum_by (λ (w : Worked I K). w.faults) ws
   named_faults [] [] h = refl
   named_faults (name ∷ names) (w ∷ ws) h =
-      sum_by-cons (λ (v : Named). v.faults) (record { name = name; status = w.status; faults = w.faults }) (named names ws)
+      sum_by-cons (λ (v : Named). v.faults) (record { name = name; status = w.status; faults = w.faults; reads = reads w.back.0; writes = writes w.back.1 }) (named reads writes names ws)
       ∙ ap (λ n. w.faults + n) (named_faults names ws h.1)
       ∙ sym (sum_by-cons (λ (v : Worked I K). v.faults) w ws)
   named_faults [] (w ∷ ws) h = absurd h
   named_faults (name ∷ names) [] h = absurd h
 
-  module _ (base : Position) (whole : List Event) where
+  module _ (base : Position) (issuing : Issuing) (whole : List Event) (before now : FaultCounts) where
+    abbrev ReadsRose : List (I × K) → Type 0
+    ReadsRose = RoseFor (λ (file : I × K). reads file.0) before.reads now.reads
+
+    abbrev WritesRose : List (I × K) → Type 0
+    WritesRose = RoseFor (λ (file : I × K). writes file.1) before.writes now.writes
+
+    named_stops : (name : List ℕ) (w : Worked I K) → IsNew left reads taken writes tells (input name) w.given → HasStopped left reads taken writes base issuing w
+        → (0 < reads w.back.0 → Rose before.reads now.reads) → (0 < writes w.back.1 → Rose before.writes now.writes)
+        → NamedStops base issuing whole before now tells input output (record { name = name; status = w.status; faults = w.faults; reads = reads w.back.0; writes = writes w.back.1 })
+    named_stops name w new stops reads_rose writes_rose =
+        record {
+          stops =
+              subst (λ (n : ℕ). StopsFor w.status (input name) 0 (reads w.back.0) n (writes w.back.1)) new.no_writes
+              (subst (λ (n : ℕ). StopsFor w.status (input name) n (reads w.back.0) (writes w.given.1) (writes w.back.1)) new.no_reads
+              (subst (λ (o : Option (List ℕ)). StopsFor w.status o (reads w.given.0) (reads w.back.0) (writes w.given.1) (writes w.back.1)) new.bytes stops));
+          reads_rose = reads_rose;
+          writes_rose = writes_rose;
+        }
+
     named_decks : (deck : ℕ) (names : List (List ℕ)) (ws : List (Worked I K)) → AreNew left reads taken writes tells input names (map (λ w. w.given) ws) → AreKept taken output names (map (λ w. w.back) ws)
-        → AreDecks left reads taken writes base whole deck ws → DecksNamed base whole tells input output deck (named names ws)
-    named_decks deck [] [] h k decks = tt
-    named_decks deck (name ∷ names) (w ∷ ws) h k decks = (
+        → ReadsRose (map (λ w. w.back) ws) → WritesRose (map (λ w. w.back) ws)
+        → AreDecks left reads taken writes base issuing whole deck ws → DecksNamed base issuing whole before now tells input output deck (named reads writes names ws)
+    named_decks deck [] [] h k r q decks = tt
+    named_decks deck (name ∷ names) (w ∷ ws) h k r q decks = (
       (
         left w.back.0,
-        subst (λ (o : Option (List ℕ)). DeckRan base whole deck w.faults w.status (input name) (left w.back.0) (told tells []) o) (sym k.0)
-            (subst (λ (o : Option (List ℕ)). DeckRan base whole deck w.faults w.status (input name) (left w.back.0) o (taken w.back.1)) h.0.empty
-            (subst (λ (o : Option (List ℕ)). DeckRan base whole deck w.faults w.status o (left w.back.0) (taken w.given.1) (taken w.back.1)) h.0.bytes decks.0.0)),
+        subst (λ (n : ℕ). DeckRan base issuing whole deck w.faults (Rose 0 (reads w.back.0)) (Rose n (writes w.back.1)) w.status (input name) (left w.back.0) (told tells []) (output (output_name name))) h.0.no_writes
+            (subst (λ (n : ℕ). DeckRan base issuing whole deck w.faults (Rose n (reads w.back.0)) (Rose (writes w.given.1) (writes w.back.1)) w.status (input name) (left w.back.0) (told tells []) (output (output_name name))) h.0.no_reads
+            (subst (λ (o : Option (List ℕ)). DeckRan base issuing whole deck w.faults (Rose (reads w.given.0) (reads w.back.0)) (Rose (writes w.given.1) (writes w.back.1)) w.status (input name) (left w.back.0) (told tells []) o) (sym k.0)
+            (subst (λ (o : Option (List ℕ)). DeckRan base issuing whole deck w.faults (Rose (reads w.given.0) (reads w.back.0)) (Rose (writes w.given.1) (writes w.back.1)) w.status (input name) (left w.back.0) o (taken w.back.1)) h.0.empty
+            (subst (λ (o : Option (List ℕ)). DeckRan base issuing whole deck w.faults (Rose (reads w.given.0) (reads w.back.0)) (Rose (writes w.given.1) (writes w.back.1)) w.status o (left w.back.0) (taken w.given.1) (taken w.back.1)) h.0.bytes decks.0.0)))),
       ),
-      named_decks (suc deck) names ws h.1 k.1 decks.1,
+      named_stops name w h.0 decks.0.1 r.0 q.0,
+      named_decks (suc deck) names ws h.1 k.1 r.1 q.1 decks.1,
     )
-    named_decks deck [] (w ∷ ws) h k decks = absurd h
-    named_decks deck (name ∷ names) [] h k decks = absurd h
+    named_decks deck [] (w ∷ ws) h k r q decks = absurd h
+    named_decks deck (name ∷ names) [] h k r q decks = absurd h
 
     named_files : (names : List (List ℕ)) (ws : List (Worked I K)) → AreNew left reads taken writes tells input names (map (λ w. w.given) ws) → AreKept taken output names (map (λ w. w.back) ws)
-        → AreFiles left reads taken writes base whole ws → FilesNamed base whole tells input output (named names ws)
-    named_files [] [] h k files = tt
-    named_files (name ∷ names) (w ∷ ws) h k files = (
+        → ReadsRose (map (λ w. w.back) ws) → WritesRose (map (λ w. w.back) ws)
+        → AreFiles left reads taken writes base issuing whole ws → FilesNamed base issuing whole before now tells input output (named reads writes names ws)
+    named_files [] [] h k r q files = tt
+    named_files (name ∷ names) (w ∷ ws) h k r q files = (
       (
         left w.back.0,
-        subst (λ (o : Option (List ℕ)). FileRan base whole w.status (input name) (left w.back.0) (told tells []) o) (sym k.0)
-            (subst (λ (o : Option (List ℕ)). FileRan base whole w.status (input name) (left w.back.0) o (taken w.back.1)) h.0.empty
-            (subst (λ (o : Option (List ℕ)). FileRan base whole w.status o (left w.back.0) (taken w.given.1) (taken w.back.1)) h.0.bytes files.0.0)),
+        subst (λ (n : ℕ). FileRan base whole (Rose 0 (reads w.back.0)) (Rose n (writes w.back.1)) w.status (input name) (left w.back.0) (told tells []) (output (output_name name))) h.0.no_writes
+            (subst (λ (n : ℕ). FileRan base whole (Rose n (reads w.back.0)) (Rose (writes w.given.1) (writes w.back.1)) w.status (input name) (left w.back.0) (told tells []) (output (output_name name))) h.0.no_reads
+            (subst (λ (o : Option (List ℕ)). FileRan base whole (Rose (reads w.given.0) (reads w.back.0)) (Rose (writes w.given.1) (writes w.back.1)) w.status (input name) (left w.back.0) (told tells []) o) (sym k.0)
+            (subst (λ (o : Option (List ℕ)). FileRan base whole (Rose (reads w.given.0) (reads w.back.0)) (Rose (writes w.given.1) (writes w.back.1)) w.status (input name) (left w.back.0) o (taken w.back.1)) h.0.empty
+            (subst (λ (o : Option (List ℕ)). FileRan base whole (Rose (reads w.given.0) (reads w.back.0)) (Rose (writes w.given.1) (writes w.back.1)) w.status o (left w.back.0) (taken w.given.1) (taken w.back.1)) h.0.bytes files.0.0)))),
       ),
-      named_files names ws h.1 k.1 files.1,
+      named_stops name w h.0 files.0.1 r.0 q.0,
+      named_files names ws h.1 k.1 r.1 q.1 files.1,
     )
-    named_files [] (w ∷ ws) h k files = absurd h
-    named_files (name ∷ names) [] h k files = absurd h
+    named_files [] (w ∷ ws) h k r q files = absurd h
+    named_files (name ∷ names) [] h k r q files = absurd h
 
   -- ---- a run, under names
-  pub named_run : (opened : OpenedDisks) (first second : Option History) (base : Position) (entries : List Accepted) (halted : Bool) (status : Status) (decks : ℕ) (names : List (List ℕ)) (files outs : List (I × K)) (old : List ℕ → Option (List ℕ))
+  pub named_run : (opened : OpenedDisks) (first second : Option History) (before now : FaultCounts) (base : Position) (issuing : Issuing) (entries : List Accepted) (halted : Bool) (status : Status) (decks : ℕ) (names : List (List ℕ)) (files outs : List (I × K)) (old : List ℕ → Option (List ℕ))
       → decks ≤ length files → AreNew left reads taken writes tells input names files → AreKept taken output names outs
-      → RunsTogether left reads taken writes base entries halted status (take decks files) (drop decks files) outs
+      → RunsTogether left reads taken writes base issuing entries halted status (take decks files) (drop decks files) outs
+      → RoseFor (λ file. reads file.0) before.reads now.reads outs → RoseFor (λ file. writes file.1) before.writes now.writes outs
+      → (halted ≡ true → RoseEither before.first now.first before.second now.second)
       → AreLegal base entries → StandAt halted first second (reached base (all_of entries halted)) → StaysAlong base (all_of entries halted) opened.idle opened.live (pick opened.idle.side first second)
       → pick opened.idle.side second first ≡ opened.idle.told → OthersStay names old output
-      → NamedRan opened first second base tells status (record { decks = decks; names = names }) input old output
-  named_run opened first second base entries halted status decks names files outs old enough new kept together legal stand moments idle others =
+      → NamedRan opened first second before now base tells status (record { issuing = issuing; decks = decks; names = names }) input old output
+  named_run opened first second before now base issuing entries halted status decks names files outs old enough new kept together reads_rose writes_rose rose legal stand moments idle others =
       let dw = together.deck_workers in
       let fw = together.file_workers in
       let givens : files ≡ map (λ w. w.given) dw ++ map (λ w. w.given) fw =
@@ -180,22 +223,33 @@ module _ {I K : Type 0} (left : I → Option (List ℕ)) (reads : I → ℕ) (ta
       let keeps : AreKept taken output (take decks names) (map (λ w. w.back) dw) × AreKept taken output (drop decks names) (map (λ w. w.back) fw) =
       subst (λ (n : ℕ). AreKept taken output (take n names) (map (λ (w : Worked I K). w.back) dw) × AreKept taken output (drop n names) (map (λ (w : Worked I K). w.back) fw)) back_count
       (AreKept-split left reads taken writes tells input output names (map (λ w. w.back) dw) (map (λ w. w.back) fw) (subst (AreKept taken output names) backs kept)) in
+      let failed_reads =
+      RoseFor-split (λ (file : I × K). reads file.0) before.reads now.reads (map (λ w. w.back) dw) (map (λ w. w.back) fw)
+      (subst (RoseFor (λ (file : I × K). reads file.0) before.reads now.reads) backs reads_rose) in
+      let failed_writes =
+      RoseFor-split (λ (file : I × K). writes file.1) before.writes now.writes (map (λ w. w.back) dw) (map (λ w. w.back) fw)
+      (subst (RoseFor (λ (file : I × K). writes file.1) before.writes now.writes) backs writes_rose) in
       record {
         entries = entries;
         halted = halted;
-        decks = named (take decks names) dw;
-        files = named (drop decks names) fw;
-        are_decks = named_decks base (all_of entries halted) 0 (take decks names) dw news.0 keeps.0 together.are_decks;
-        are_files = named_files base (all_of entries halted) (drop decks names) fw news.1 keeps.1 together.are_files;
+        decks = named reads writes (take decks names) dw;
+        files = named reads writes (drop decks names) fw;
+        are_decks =
+            named_decks base issuing (all_of entries halted) before now 0 (take decks names) dw news.0 keeps.0 failed_reads.0 failed_writes.0 together.are_decks;
+        are_files =
+            named_files base issuing (all_of entries halted) before now (drop decks names) fw news.1 keeps.1 failed_reads.1 failed_writes.1 together.are_files;
+        of_decks = subst (λ (n : ℕ). All (λ (entry : Accepted). entry.deck < n) entries) (length-take-le decks files enough) together.of_decks;
         deck_names_are = named_names (take decks names) dw news.0;
         file_names_are = named_names (drop decks names) fw news.1;
         status_is =
             together.status_is ∙ ap greatest
             (map-append (λ (w : Worked I K). w.status) dw fw
             ∙ ap (λ xs. xs ++ map (λ (w : Worked I K). w.status) fw) (sym (named_statuses (take decks names) dw news.0))
-            ∙ ap (λ xs. map (λ (w : Named). w.status) (named (take decks names) dw) ++ xs) (sym (named_statuses (drop decks names) fw news.1))
-            ∙ sym (map-append (λ (w : Named). w.status) (named (take decks names) dw) (named (drop decks names) fw)));
+            ∙ ap (λ xs. map (λ (w : Named). w.status) (named reads writes (take decks names) dw) ++ xs) (sym (named_statuses (drop decks names) fw news.1))
+            ∙ sym (map-append (λ (w : Named). w.status) (named reads writes (take decks names) dw) (named reads writes (drop decks names) fw)));
         one_fault = named_faults (take decks names) dw news.0 ∙ together.one_fault;
+        halted_status = together.halted_status;
+        rose = rose;
         legal = legal;
         stand = stand;
         moments = moments;
@@ -204,16 +258,16 @@ module _ {I K : Type 0} (left : I → Option (List ℕ)) (reads : I → ℕ) (ta
       }
 
 -- ---- what faults come of
-module _ {I K : Type 0} (left : I → Option (List ℕ)) (reads : I → ℕ) (taken : K → Option (List ℕ)) (writes : K → ℕ) (base : Position) where
+module _ {I K : Type 0} (left : I → Option (List ℕ)) (reads : I → ℕ) (taken : K → Option (List ℕ)) (writes : K → ℕ) (base : Position) (issuing : Issuing) where
   abbrev AreStopped : List (Worked I K) → Type 0
   AreStopped [] = Unit {0}
-  AreStopped (w ∷ ws) = HasStopped left reads taken writes base w × AreStopped ws
+  AreStopped (w ∷ ws) = HasStopped left reads taken writes base issuing w × AreStopped ws
 
-  stopped_decks : (whole : List Event) (deck : ℕ) (ws : List (Worked I K)) → AreDecks left reads taken writes base whole deck ws → AreStopped ws
+  stopped_decks : (whole : List Event) (deck : ℕ) (ws : List (Worked I K)) → AreDecks left reads taken writes base issuing whole deck ws → AreStopped ws
   stopped_decks whole deck [] h = tt
   stopped_decks whole deck (w ∷ ws) h = (h.0.1, stopped_decks whole (suc deck) ws h.1)
 
-  stopped_files : (whole : List Event) (ws : List (Worked I K)) → AreFiles left reads taken writes base whole ws → AreStopped ws
+  stopped_files : (whole : List Event) (ws : List (Worked I K)) → AreFiles left reads taken writes base issuing whole ws → AreStopped ws
   stopped_files whole [] h = tt
   stopped_files whole (w ∷ ws) h = (h.0.1, stopped_files whole ws h.1)
 
@@ -221,12 +275,11 @@ module _ {I K : Type 0} (left : I → Option (List ℕ)) (reads : I → ℕ) (ta
   stopped_append [] ys h k = k
   stopped_append (x ∷ xs) ys h k = (h.0, stopped_append xs ys h.1 k)
 
-  no_usage : (ws : List (Worked I K)) → AreStopped ws → greatest (map (λ w. w.status) ws) ≢ Usage
-  no_usage [] h e = absurd (none e)
-    where
-      none : Done ≡ Usage → ⊥
-      none f = cc
-  no_usage (w ∷ ws) h e = ⊎_elim h.0.usage (no_usage ws h.1) (greater_is w.status (greatest (map (λ (v : Worked I K). v.status) ws)) Usage e)
+  -- with a status that none of them has none of them ends
+  no_status : (s : Status) → Done ≢ s → ((w : Worked I K) → HasStopped left reads taken writes base issuing w → w.status ≢ s) → (ws : List (Worked I K)) → AreStopped ws → greatest (map (λ w. w.status) ws) ≢ s
+  no_status s done none [] h e = done e
+  no_status s done none (w ∷ ws) h e =
+      ⊎_elim (none w h.0) (no_status s done none ws h.1) (greater_is w.status (greatest (map (λ (v : Worked I K). v.status) ws)) s e)
 
   module _ (tells : Bool) (input : List ℕ → Option (List ℕ)) (before now : ℕ) where
     reads_of : (names : List (List ℕ)) (ws : List (Worked I K)) → AreStopped ws → AreNew left reads taken writes tells input names (map (λ w. w.given) ws) → greatest (map (λ w. w.status) ws) ≡ ReadFault
@@ -258,7 +311,7 @@ module _ {I K : Type 0} (left : I → Option (List ℕ)) (reads : I → ℕ) (ta
     writes_of (name ∷ names) [] h new e rose = absurd new
 
   -- a run as a whole
-  module _ (entries : List Accepted) (halted : Bool) (status : Status) (decks : ℕ) (files outs : List (I × K)) (together : RunsTogether left reads taken writes base entries halted status (take decks files) (drop decks files) outs) where
+  module _ (entries : List Accepted) (halted : Bool) (status : Status) (decks : ℕ) (files outs : List (I × K)) (together : RunsTogether left reads taken writes base issuing entries halted status (take decks files) (drop decks files) outs) where
     all_stopped : AreStopped (together.deck_workers ++ together.file_workers)
     all_stopped =
         stopped_append together.deck_workers together.file_workers (stopped_decks (all_of entries halted) 0 together.deck_workers together.are_decks) (stopped_files (all_of entries halted) together.file_workers together.are_files)
@@ -283,7 +336,15 @@ module _ {I K : Type 0} (left : I → Option (List ℕ)) (reads : I → ℕ) (ta
     run_names tells input names n is new = let count : n ≡ length names = run_count tells input names n is new in take_all n names (omega arith)
 
     pub run_no_usage : status ≢ Usage
-    run_no_usage e = no_usage (together.deck_workers ++ together.file_workers) all_stopped (sym together.status_is ∙ e)
+    run_no_usage e =
+        no_status Usage (λ (f : Done ≡ Usage). cc) (λ w h. h.usage) (together.deck_workers ++ together.file_workers) all_stopped (sym together.status_is ∙ e)
+
+    -- and what could not be opened was not run
+    pub run_sound : IsUnsound status → ⊥
+    run_sound (inl e) =
+        no_status NotFormatted (λ (f : Done ≡ NotFormatted). cc) (λ w h. h.formatted) (together.deck_workers ++ together.file_workers) all_stopped (sym together.status_is ∙ e)
+    run_sound (inr e) =
+        no_status (Damaged e.0) (λ (f : Done ≡ Damaged e.0). cc) (λ w h. h.undamaged e.0) (together.deck_workers ++ together.file_workers) all_stopped (sym together.status_is ∙ e.1)
 
     pub run_reads : (tells : Bool) (input : List ℕ → Option (List ℕ)) (names : List (List ℕ)) (before now : ℕ) → AreNew left reads taken writes tells input names files
         → RoseFor (λ (file : I × K). reads file.0) before now outs → status ≡ ReadFault → Rose before now

@@ -3,25 +3,18 @@ use Rattle.std.specs.Prelude.{◌≡◌, ◌⊎◌, ℕ, ◌+◌, ◌-◌, ◌^�
 use Rattle.std.specs.Str.{bytes_eq}
 use Rattle.racf_outside.specs.Crashes.{StaysIn}
 use Rattle.racf_outside.specs.Disk.{History}
-use Rattle.racf_checkpoint.specs.declared.fault.StoreFault.{StoreFault}
 use Rattle.racf_checkpoint.specs.Stored.{Beside, NowRead, StaysPossible, other, pick}
 use Rattle.racf_desk.specs.Durable.{LeavesBoth, SaysEpoch, SaysCheckpoint}
 use Rattle.racf_desk.specs.Position.{Position, compacted}
-use Rattle.racf_desk.specs.Recovery.{Refuses, StandsFor, StandsForEither}
+use Rattle.racf_desk.specs.Recovery.{StandsFor, StandsForEither}
 use Rattle.racf_stream.specs.declared.status.Status.{Status}
 use Rattle.racf_stream.specs.declared.status.Status.TheVariants.{Done, DiskFault, NoMemory}
-use Rattle.racf_run.specs.Racf.{OpenedDisks, OpensOn, StoodFor, opening_status}
+use Rattle.racf_run.specs.Racf.{OpenedDisks, OpensOn, StoodFor}
 
 -- The words `compact`.
 abbrev pub is_compact : List (List ℕ) → Bool
 is_compact (verb ∷ []) = bytes_eq verb (codes "compact")
 is_compact others = false
-
--- The database couldn't be opened, for this fault.
-pub record IsRefused (first second : Option History) (status : Status) : Type 0 where
-  pub why : StoreFault
-  pub is_status : status ≡ opening_status why
-  pub refused : NowRead first second (Refuses why)
 
 -- The database was compacted: the checkpoint that was read was of this epoch, and whatever a crash now leaves of the
 -- disks says a checkpoint of the position's number and rows, without records, of the next epoch, and so stands for the

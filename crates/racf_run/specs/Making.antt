@@ -8,11 +8,12 @@ use Rattle.racf_generator.specs.Tally.{tally, ended_lines, summary}
 use Rattle.racf_desk.specs.Position.{first_position}
 use Rattle.racf_stream.specs.declared.status.Status.{Status}
 use Rattle.racf_stream.specs.declared.status.Status.TheVariants.{Done, WriteFault, NoMemory}
+use Rattle.racf_stream.specs.declared.issuer.Issuing.TheVariants.{Free}
 use Rattle.racf_stream.specs.Script.{script_output}
 
 -- The last line: the counts of what the stream of the text is answered on a new database.
 abbrev pub summary_text : ℕ → List ℕ
-summary_text users = summary (length (made_lines users)) (tally (ended_lines (script_output None first_position (made_text users))))
+summary_text users = summary (length (made_lines users)) (tally (ended_lines (script_output None Free first_position (made_text users))))
 
 unfoldable pub make_text : ℕ → List ℕ
 make_text users = made_text users ++ summary_text users

@@ -1,36 +1,47 @@
 -- The words of the command line, and what the program does to the shelf and to the database on the disks.
-use Rattle.std.specs.Prelude.{◌≡◌, ◌⊎◌, ℕ, Bool, true, false, ◌||◌, ◌&&◌, not, Option, Some, None, IfSome, Result, Ok, Err, List, [], ◌∷◌, codes, if◌then◌else◌}
+use Rattle.std.specs.Prelude.{◌≡◌, ◌≢◌, ◌⊎◌, ◌≤◌, ℕ, Bool, true, false, ◌||◌, ◌&&◌, not, Option, Some, None, option_and_then, IfSome, Result, Ok, Err, List, [], ◌∷◌, codes, if◌then◌else◌}
 use Rattle.std.specs.Str.{bytes_eq}
 use Rattle.racf_outside.specs.Causes.{Rose}
 use Rattle.racf_outside.specs.Crashes.{StaysIn}
 use Rattle.racf_outside.specs.declared.streams.Failed.{Failed}
 use Rattle.racf_outside.specs.Disk.{History}
 use Rattle.racf_outside.specs.Shelf.{told, SameBytes, SameOthers}
+use Rattle.racf_journal.specs.Opening.{OnlySynced}
 use Rattle.racf_checkpoint.specs.declared.fault.StoreFault.{StoreFault}
 use Rattle.racf_checkpoint.specs.declared.fault.StoreFault.TheVariants as fault
 use Rattle.racf_checkpoint.specs.Stored.{StoreOn, NowRead, StaysPossible, pick}
 use Rattle.racf_desk.specs.Durable.{IdleDisk, idle_of, BesideIdle, LeavesBoth, LeavesIt}
 use Rattle.racf_desk.specs.Made.{DeskOn}
 use Rattle.racf_desk.specs.Position.{Position}
-use Rattle.racf_desk.specs.Recovery.{standing, Refuses, StandsFor}
+use Rattle.racf_desk.specs.Recovery.{standing, Refuses, StandsFor, StandsForEither}
+use Rattle.racf_stream.specs.declared.issuer.Issuing.{Issuing}
+use Rattle.racf_stream.specs.declared.issuer.Issuing.TheVariants.{Free}
 use Rattle.racf_stream.specs.declared.status.Status.{Status}
 use Rattle.racf_stream.specs.declared.status.Status.TheVariants.{ReadFault, WriteFault, DiskFault, NotFormatted, Damaged, NoMemory}
-use Rattle.racf_stream.specs.Durable.{StandsForFront}
+use Rattle.racf_stream.specs.Durable.{StandsForFront, IsInDoubt, LeavesInDoubt}
 use Rattle.racf_stream.specs.Runs.{Ran}
 use Rattle.racf_stream.specs.Script.{stream, script_output, script_status, fault_at, StandsAt}
 use Rattle.racf_stream.specs.Stream.{State, new_stream, number_of}
+use Rattle.racf_run.specs.Issuers.{is_issuer_word, fixed_issuer}
 use Rattle.racf_run.specs.Making.{MakeWords, make_text, WroteText}
 
--- the names of an input and of an output
+-- who gives the commands of a stream, and the names of its input and of its output
 pub record Files : Type 0 where
+  pub issuing : Issuing
   pub input : List ℕ
   pub output : List ℕ
 
--- `script IN OUT`: IN and OUT differ, or both are `-`, which names standard input and standard output.
+-- IN and OUT differ, or both are `-`, which names standard input and standard output.
+abbrev pub files_of : Issuing → (input output : List ℕ) → Option Files
+files_of issuing input output =
+    if not (bytes_eq input output) || bytes_eq input (codes "-") then Some (record { issuing = issuing; input = input; output = output }) else None
+
+-- `script IN OUT`, or `script --issuer ID IN OUT`. The forms go by the count of words.
 abbrev pub script_files : List (List ℕ) → Option Files
 script_files (verb ∷ input ∷ output ∷ []) =
-    if bytes_eq verb (codes "script") && (not (bytes_eq input output) || bytes_eq input (codes "-"))
-    then Some (record { input = input; output = output }) else None
+    if bytes_eq verb (codes "script") then files_of Free input output else None
+script_files (verb ∷ word ∷ id ∷ input ∷ output ∷ []) =
+    if bytes_eq verb (codes "script") && is_issuer_word word then option_and_then (λ issuing. files_of issuing input output) (fixed_issuer id) else None
 script_files others = None
 
 -- The words `init`.
@@ -47,21 +58,23 @@ opening_status fault.Full = NoMemory
 opening_status fault.NoMemory = NoMemory
 
 -- The stream was worked from the input `input` of a shelf to its output of the name `name`, which was new and empty,
--- and is given back: the outputs told `old` before, and tell `new` now. It was worked from the position `base` on, and
--- what stands behind it has P.
-pub record RanTo (P : State → Type 0) (base : Position) (tells : Bool) (status : Status) (input : Option (List ℕ)) (name : List ℕ) (old new : List ℕ → Option (List ℕ)) : Type 0 where
+-- and is given back: the outputs told `old` before, and tell `new` now. It was worked from the position `base` on, by
+-- this issuer, and what stands behind it has P. `read_failed` and `write_failed` say that an input, or an output, of the
+-- shelf failed.
+pub record RanTo (P : State → Type 0) (read_failed write_failed : Type 0) (issuing : Issuing) (base : Position) (tells : Bool) (status : Status) (input : Option (List ℕ)) (name : List ℕ) (old new : List ℕ → Option (List ℕ)) : Type 0 where
   pub fault : Option ℕ
   pub left : Option (List ℕ)
-  pub ran : Ran (stream fault base) (λ s. (fault ≡ fault_at s.halted (number_of s)) × P s) status input left (told tells []) (new name)
+  pub ran : Ran (stream fault issuing base) (λ s. (fault ≡ fault_at s.halted (number_of s)) × P s) read_failed write_failed status input left (told tells []) (new name)
   pub others : SameOthers name old new
 
 -- The calls that the program makes of a shelf of the kind S, whose inputs are of the kind I and whose outputs of the
--- kind O: `source` and the other three say that a call was made. `output` is what the outputs of a shelf tell.
-module _ {S I O : Type 0} (source : S → List ℕ → Result I Failed → S → Type 0) (sink : S → List ℕ → Result O Failed → S → Type 0) (take_back : S → List ℕ → I → S → Type 0) (give_back : S → List ℕ → O → S → Type 0) (tells : Bool) (output : S → List ℕ → Option (List ℕ)) (P : State → Type 0) (base : Position) where
+-- kind O: `source` and the other three say that a call was made. `output` is what the outputs of a shelf tell, and
+-- `read_failed` and `write_failed` say that its inputs or outputs failed.
+module _ {S I O : Type 0} (source : S → List ℕ → Result I Failed → S → Type 0) (sink : S → List ℕ → Result O Failed → S → Type 0) (take_back : S → List ℕ → I → S → Type 0) (give_back : S → List ℕ → O → S → Type 0) (tells : Bool) (output : S → List ℕ → Option (List ℕ)) (read_failed write_failed : Type 0) (P : State → Type 0) (base : Position) where
   -- The input couldn't be opened, and nothing else was called.
   pub record OpensNothing (status : Status) (files : Files) (old new : S) : Type 0 where
     pub is_status : status ≡ ReadFault
-    pub stands : P (new_stream base)
+    pub stands : P (new_stream files.issuing base)
     pub failed : Failed
     pub input_asked : source old files.input (Err failed) new
     pub outputs : SameBytes (output old) (output new)
@@ -69,7 +82,7 @@ module _ {S I O : Type 0} (source : S → List ℕ → Result I Failed → S →
   -- The input was opened, the output then couldn't be, and the input was taken back.
   pub record OpensNoOutput (status : Status) (files : Files) (old new : S) : Type 0 where
     pub is_status : status ≡ WriteFault
-    pub stands : P (new_stream base)
+    pub stands : P (new_stream files.issuing base)
     pub opened : I
     pub failed : Failed
     pub first : S
@@ -93,7 +106,7 @@ module _ {S I O : Type 0} (source : S → List ℕ → Result I Failed → S →
     pub worked_output : O
     pub input_back : take_back second files.input worked third
     pub output_back : give_back third files.output worked_output new
-    pub ran : RanTo P base tells status bytes files.output (output old) (output new)
+    pub ran : RanTo P read_failed write_failed files.issuing base tells status bytes files.output (output old) (output new)
 
   -- how the program ends, and what it leaves
   abbrev pub RunsOnShelf : Status → Option (List ℕ) → Files → S → S → Type 0
@@ -129,33 +142,72 @@ module _ {S O : Type 0} (sink : S → List ℕ → Result O Failed → S → Typ
 
 -- The output is the whole output of the input's bytes from this position on, where the shelf tells both, and the status
 -- is theirs.
-pub record IsWholeOutput (base : Position) (tells : Bool) (status : Status) (input output : Option (List ℕ)) : Type 0 where
-  pub written : IfSome input (λ bytes. output ≡ told tells (script_output None base bytes))
-  pub ended : IfSome input (λ bytes. status ≡ script_status None base bytes)
+pub record IsWholeOutput (issuing : Issuing) (base : Position) (tells : Bool) (status : Status) (input output : Option (List ℕ)) : Type 0 where
+  pub written : IfSome input (λ bytes. output ≡ told tells (script_output None issuing base bytes))
+  pub ended : IfSome input (λ bytes. status ≡ script_status None issuing base bytes)
 
 -- ---- the database
 -- The disks stood for this position where they were opened, as far as they tell.
 abbrev pub StoodFor : (first second : Option History) → Position → Type 0
 StoodFor first second base = NowRead first second (λ one other. standing one other ≡ Ok base)
 
--- Whatever a crash now leaves of the disks stands for the position of this state, unless a disk failed.
-abbrev pub EndsOn : (first second : Option History) → State → Type 0
-EndsOn first second s = s.halted ≡ false → LeavesBoth first second (StandsFor s.position)
+-- A disk failed the command of an input that was told DISKFAULT. Whatever a crash now leaves of the disks stands for the
+-- position of the accepted commands, or for the one behind these and that command.
+pub record StandsInDoubt (issuing : Issuing) (base : Position) (input : Option (List ℕ)) (first second : Option History) (position : Position) : Type 0 where
+  pub next : Position
+  pub in_doubt : IsInDoubt issuing base input position next
+  pub leaves : LeavesBoth first second (StandsForEither position next)
+
+-- What a crash now leaves of the disks, behind the stream of an input from a base on: it stands for the position of this
+-- state, or is in doubt where a disk failed.
+pub record EndsOn (issuing : Issuing) (base : Position) (input : Option (List ℕ)) (first second : Option History) (s : State) : Type 0 where
+  pub leaves : s.halted ≡ false → LeavesBoth first second (StandsFor s.position)
+  pub in_doubt : s.halted ≡ true → StandsInDoubt issuing base input first second s.position
 
 -- Of one of two disks a fault was counted.
 abbrev pub RoseEither : (first next_first second next_second : ℕ) → Type 0
 RoseEither first next_first second next_second = Rose first next_first ⊎ Rose second next_second
 
--- The desk stands where the state says, and, unless a disk failed, so do its disks.
-pub record EndsAt {D : Type 0} (tells : D → Option History) (desk : DeskOn D) (s : State) : Type 0 where
+-- How many faults were counted: of the inputs and the outputs of a shelf, and of two disks.
+pub record FaultCounts : Type 0 where
+  pub reads : ℕ
+  pub writes : ℕ
+  pub first : ℕ
+  pub second : ℕ
+
+abbrev pub fault_counts : (reads writes first second : ℕ) → FaultCounts
+fault_counts reads writes first second = record { reads = reads; writes = writes; first = first; second = second }
+
+-- None of these counts is greater than it is then.
+pub record AreNoMore (before now : FaultCounts) : Type 0 where
+  pub reads : before.reads ≤ now.reads
+  pub writes : before.writes ≤ now.writes
+  pub first : before.first ≤ now.first
+  pub second : before.second ≤ now.second
+
+-- The desk stands where the state says, and so do its disks, or they are in doubt.
+pub record EndsAt {D : Type 0} (tells : D → Option History) (issuing : Issuing) (base : Position) (input : Option (List ℕ)) (desk : DeskOn D) (s : State) : Type 0 where
   pub stands : StandsAt desk s
   pub leaves : s.halted ≡ false → LeavesIt tells desk.store s.position
+  pub in_doubt : s.halted ≡ true → LeavesInDoubt tells issuing base input desk.store s.position
 
--- The database couldn't be opened, for this fault, and nothing of the shelf was.
-pub record OpensNoDatabase {S : Type 0} (first second : Option History) (status : Status) (old new : S) : Type 0 where
+-- The disks hold no database, or one that is damaged.
+abbrev pub IsUnsound : Status → Type 0
+IsUnsound status = (status ≡ NotFormatted) ⊎ ((place : ℕ) × (status ≡ Damaged place))
+
+-- The database couldn't be opened, for this fault. At every moment since a crash leaves of each disk what was possible
+-- before; and unless a disk failed, both were only synced.
+pub record StaysUnopened (first second next_first next_second : Option History) (status : Status) : Type 0 where
   pub why : StoreFault
   pub is_status : status ≡ opening_status why
   pub refused : NowRead first second (Refuses why)
+  pub first_moments : StaysPossible first next_first
+  pub second_moments : StaysPossible second next_second
+  pub only_synced : why ≢ fault.DiskFault → OnlySynced first next_first × OnlySynced second next_second
+
+-- The database couldn't be opened, and nothing of the shelf was.
+pub record OpensNoDatabase {S : Type 0} (first second next_first next_second : Option History) (status : Status) (old new : S) : Type 0 where
+  pub unopened : StaysUnopened first second next_first next_second status
   pub kept : new ≡ old
 
 -- The database was opened at a position, and then this was run from there on.
@@ -172,6 +224,12 @@ pub record OpenedDisks : Type 0 where
 abbrev pub opened_on : {D : Type 0} → (tells : D → Option History) → StoreOn D → OpenedDisks
 opened_on tells store = record { live = tells store.journal.disk; idle = idle_of tells store }
 
+-- Nothing was run on disks that told `opened`: they tell that still, and a crash leaves what stands for the position.
+pub record StandsStill (opened : OpenedDisks) (first second : Option History) (base : Position) : Type 0 where
+  pub stand : LeavesBoth first second (StandsFor base)
+  pub first_is : first ≡ pick opened.idle.side opened.live opened.idle.told
+  pub second_is : second ≡ pick opened.idle.side opened.idle.told opened.live
+
 -- Until then a crash left of each disk what was possible before.
 pub record OpensOn (first second : Option History) (opened : OpenedDisks) : Type 0 where
   pub first_moments : StaysPossible first (pick opened.idle.side opened.live opened.idle.told)
@@ -179,18 +237,18 @@ pub record OpensOn (first second : Option History) (opened : OpenedDisks) : Type
 
 -- The database was opened at a position. From then on a crash leaves what stands for the position behind some front of
 -- the statements of the input, and the disk that doesn't count stays as it is.
-pub record RunsAlong (first second : Option History) (input : Option (List ℕ)) (next_first next_second : Option History) : Type 0 where
+pub record RunsAlong (first second : Option History) (issuing : Issuing) (input : Option (List ℕ)) (next_first next_second : Option History) : Type 0 where
   pub base : Position
   pub stood : StoodFor first second base
   pub opened : OpenedDisks
   pub opens : OpensOn first second opened
-  pub along : StaysIn (BesideIdle opened.idle (StandsForFront base input)) opened.live (pick opened.idle.side next_first next_second)
+  pub along : StaysIn (BesideIdle opened.idle (StandsForFront issuing base input)) opened.live (pick opened.idle.side next_first next_second)
   pub idle : pick opened.idle.side next_second next_first ≡ opened.idle.told
 
 -- What every crash leaves meanwhile: where the database isn't opened, of each disk what was possible before.
-abbrev pub MovesAlong : (first second : Option History) → (input : Option (List ℕ)) → (next_first next_second : Option History) → Type 0
-MovesAlong first second input next_first next_second =
-    (StaysPossible first next_first × StaysPossible second next_second) ⊎ RunsAlong first second input next_first next_second
+abbrev pub MovesAlong : (first second : Option History) → (issuing : Issuing) → (input : Option (List ℕ)) → (next_first next_second : Option History) → Type 0
+MovesAlong first second issuing input next_first next_second =
+    (StaysPossible first next_first × StaysPossible second next_second) ⊎ RunsAlong first second issuing input next_first next_second
 
 -- Each output that is open now was open before: what the call opened was given back.
 abbrev pub OpensNone : (List ℕ → Bool) → (List ℕ → Bool) → Type 0

@@ -1,7 +1,8 @@
 -- The words `run K NAME..`, and what the program does to the shelf and to the database for them.
-use Rattle.std.specs.Prelude.{◌≡◌, ◌⊎◌, ℕ, ◌+◌, suc, nat_le, Bool, true, ◌&&◌, not, Option, Some, None, option_and_then, Result, List, [], ◌∷◌, ◌++◌, length, take, drop, map, codes, if◌then◌else◌}
-use Rattle.std.specs.List.{sum_by}
+use Rattle.std.specs.Prelude.{◌≡◌, ◌⊎◌, ℕ, ◌+◌, ◌<◌, ◌≤◌, suc, nat_le, Bool, true, ◌&&◌, not, Option, Some, None, option_and_then, Result, List, [], ◌∷◌, ◌++◌, length, take, drop, map, codes, if◌then◌else◌}
+use Rattle.std.specs.List.{All, sum_by}
 use Rattle.std.specs.Str.{bytes_eq}
+use Rattle.racf_outside.specs.Causes.{Rose}
 use Rattle.racf_outside.specs.declared.streams.Failed.{Failed}
 use Rattle.racf_outside.specs.Disk.{History}
 use Rattle.racf_outside.specs.Shelf.{told}
@@ -14,19 +15,24 @@ use Rattle.command_history.specs.Reached.{reached, AreLegal}
 use Rattle.racroute.specs.Disks.{StandAt, StaysAlong}
 use Rattle.racroute.specs.Kept.{fault_count}
 use Rattle.request_files.specs.Spellings.{number_word}
+use Rattle.racf_stream.specs.declared.issuer.Issuing.{Issuing}
+use Rattle.racf_stream.specs.declared.issuer.Issuing.TheVariants.{Free}
 use Rattle.racf_stream.specs.declared.status.Status.{Status}
 use Rattle.racf_stream.specs.declared.status.Status.TheVariants.{ReadFault, WriteFault, NoMemory}
-use Rattle.racf_threads.specs.Outputs.{DeckRan, FileRan}
+use Rattle.racf_stream.specs.Status.{code_of}
+use Rattle.racf_threads.specs.Outputs.{DeckRan, FileRan, StopsFor}
 use Rattle.racf_threads.specs.Together.{greatest}
 use Rattle.racf_run.specs.declared.opening.Unopened.{Unopened}
 use Rattle.racf_run.specs.declared.opening.Unopened.TheVariants.{Input, Output}
+use Rattle.racf_run.specs.Issuers.{is_issuer_word, fixed_issuer}
 use Rattle.racf_run.specs.Opening.{output_name, is_among, are_distinct, Opened, Returned, OpensNeither, OthersStay, AreEmpty}
-use Rattle.racf_run.specs.Racf.{OpenedDisks}
+use Rattle.racf_run.specs.Racf.{FaultCounts, OpenedDisks, RoseEither}
 
 -- ---- the words
 
--- how many of the names are decks, and the names: decks, then request files
+-- who gives the commands of the decks; how many of the names are decks; and the names: decks, then request files
 pub record RunWords : Type 0 where
+  pub issuing : Issuing
   pub decks : ℕ
   pub names : List (List ℕ)
 
@@ -47,55 +53,80 @@ are_run_words decks names =
     nat_le 1 decks && nat_le decks 4 && nat_le decks (length names) && nat_le (length names) (decks + 16)
     && are_distinct names && are_apart (map output_name names) names
 
-abbrev pub if_run : List (List ℕ) → ℕ → Option RunWords
-if_run names decks = if are_run_words decks names then Some (record { decks = decks; names = names }) else None
+abbrev pub if_run : Issuing → List (List ℕ) → ℕ → Option RunWords
+if_run issuing names decks = if are_run_words decks names then Some (record { issuing = issuing; decks = decks; names = names }) else None
 
--- `run K NAME..`
+-- K NAME..
+abbrev pub run_behind : Issuing → List (List ℕ) → Option RunWords
+run_behind issuing (count ∷ names) = option_and_then (if_run issuing names) (number_word count)
+run_behind issuing [] = None
+
+-- what stands behind the verb: with `--issuer ID` in front that user alone gives the commands
+abbrev pub run_issued : List (List ℕ) → Option RunWords
+run_issued (word ∷ id ∷ words) =
+    if is_issuer_word word then option_and_then (λ issuing. run_behind issuing words) (fixed_issuer id) else run_behind Free (word ∷ id ∷ words)
+run_issued words = run_behind Free words
+
+-- `run K NAME..`, or `run --issuer ID K NAME..`
 abbrev pub run_words : List (List ℕ) → Option RunWords
-run_words (verb ∷ count ∷ names) = if bytes_eq verb (codes "run") then option_and_then (if_run names) (number_word count) else None
-run_words others = None
+run_words (verb ∷ words) = if bytes_eq verb (codes "run") then run_issued words else None
+run_words [] = None
 
 -- ---- the files
 
--- A worker's name, how it ended, and for a deck how many of its commands a disk failed.
+-- A worker's name, how it ended, for a deck how many of its commands a disk failed, and how many faults were counted of
+-- its input and of its output.
 pub record Named : Type 0 where
   pub name : List ℕ
   pub status : Status
   pub faults : ℕ
+  pub reads : ℕ
+  pub writes : ℕ
 
--- The run began at `base`, and its history is `whole`; `input` is what an input has to give, and `output` what the
--- output that was given back under a name holds, which was new and empty.
-module _ (base : Position) (whole : List Event) (tells : Bool) (input output : List ℕ → Option (List ℕ)) where
+-- The run began at `base`, `issuing` says who gave the commands of its decks, and its history is `whole`; `input` is what an input has to give, and `output` what the
+-- output that was given back under a name holds, which was new and empty. The faults that were counted of the shelf
+-- were `before`, and are `now`.
+module _ (base : Position) (issuing : Issuing) (whole : List Event) (before now : FaultCounts) (tells : Bool) (input output : List ℕ → Option (List ℕ)) where
+  -- A worker stopped for one of its causes; where its input or its output failed, the shelf has counted it.
+  pub record NamedStops (w : Named) : Type 0 where
+    pub stops : StopsFor w.status (input w.name) 0 w.reads 0 w.writes
+    pub reads_rose : 0 < w.reads → Rose before.reads now.reads
+    pub writes_rose : 0 < w.writes → Rose before.writes now.writes
+
   -- the decks, which number from this one on
   abbrev pub DecksNamed : (deck : ℕ) → List Named → Type 0
   DecksNamed deck [] = Unit {0}
   DecksNamed deck (w ∷ workers) =
-      ((left : Option (List ℕ)) × DeckRan base whole deck w.faults w.status (input w.name) left (told tells []) (output (output_name w.name)))
-      × DecksNamed (suc deck) workers
+      ((left : Option (List ℕ)) × DeckRan base issuing whole deck w.faults (Rose 0 w.reads) (Rose 0 w.writes) w.status (input w.name) left (told tells []) (output (output_name w.name)))
+      × NamedStops w × DecksNamed (suc deck) workers
 
   abbrev pub FilesNamed : List Named → Type 0
   FilesNamed [] = Unit {0}
   FilesNamed (w ∷ workers) =
-      ((left : Option (List ℕ)) × FileRan base whole w.status (input w.name) left (told tells []) (output (output_name w.name)))
-      × FilesNamed workers
+      ((left : Option (List ℕ)) × FileRan base whole (Rose 0 w.reads) (Rose 0 w.writes) w.status (input w.name) left (told tells []) (output (output_name w.name)))
+      × NamedStops w × FilesNamed workers
 
 -- Decks and request files of these names were worked: the output of each is that of its worker, in one and the same
--- history, whose entries are legal from the base on. The status is the greatest of the workers', and of all lines one
--- says DISKFAULT where a disk failed a command, else none. Whatever a crash now leaves of both disks stands for the
+-- history, whose entries are those of these decks and legal from the base on. The status is the greatest of the
+-- workers', and of all lines one says DISKFAULT where a disk failed a command, else none; then the status tells it, or is
+-- greater, and the count of its faults has risen. Whatever a crash now leaves of both disks stands for the
 -- position behind that history; and at every moment since the disks told `opened`, for where some beginning of it
 -- leads, or for one command more that a disk failed; the disk that doesn't count stays as it is. The outputs told `old`
 -- before and tell `new` now, and those of other names are as they were.
-pub record NamedRan (opened : OpenedDisks) (first second : Option History) (base : Position) (tells : Bool) (status : Status) (asked : RunWords) (input old new : List ℕ → Option (List ℕ)) : Type 0 where
+pub record NamedRan (opened : OpenedDisks) (first second : Option History) (before now : FaultCounts) (base : Position) (tells : Bool) (status : Status) (asked : RunWords) (input old new : List ℕ → Option (List ℕ)) : Type 0 where
   pub entries : List Accepted
   pub halted : Bool
   pub decks : List Named
   pub files : List Named
-  pub are_decks : DecksNamed base (all_of entries halted) tells input new 0 decks
-  pub are_files : FilesNamed base (all_of entries halted) tells input new files
+  pub are_decks : DecksNamed base asked.issuing (all_of entries halted) before now tells input new 0 decks
+  pub are_files : FilesNamed base asked.issuing (all_of entries halted) before now tells input new files
+  pub of_decks : All (λ entry. entry.deck < asked.decks) entries
   pub deck_names_are : map (λ w. w.name) decks ≡ deck_names asked
   pub file_names_are : map (λ w. w.name) files ≡ request_names asked
   pub status_is : status ≡ greatest (map (λ w. w.status) (decks ++ files))
   pub one_fault : sum_by (λ w. w.faults) decks ≡ fault_count halted
+  pub halted_status : halted ≡ true → 20 ≤ code_of status
+  pub rose : halted ≡ true → RoseEither before.first now.first before.second now.second
   pub legal : AreLegal base entries
   pub stand : StandAt halted first second (reached base (all_of entries halted))
   pub moments : StaysAlong base (all_of entries halted) opened.idle opened.live (pick opened.idle.side first second)

@@ -3,12 +3,13 @@
 ghost use Rattle.std.specs.Prelude.{◌≡◌, ◌≢◌, ◌⊎◌, ◌+◌, ◌-◌, ◌^◌, ◌<◌, ◌≤◌, false, map, string_bytes};
 ghost use Rattle.racf_outside.specs.Causes.{Rose};
 ghost use Rattle.racf_outside.specs.Crashes.{StaysIn};
+ghost use Rattle.racf_journal.specs.Opening.{OnlySynced};
 ghost use Rattle.racf_checkpoint.specs.Stored.{Beside, other, pick};
 ghost use Rattle.racf_desk.specs.Durable.{LeavesBoth, SaysCheckpoint};
 ghost use Rattle.racf_desk.specs.Position.{compacted};
 ghost use Rattle.racf_desk.specs.Recovery.{StandsFor, StandsForEither};
-ghost use Rattle.racf_run.specs.Compacting.{is_compact, IsRefused, EndsCompact, MovesToCompact};
-ghost use Rattle.racf_run.specs.Racf.{OpensDatabase, RoseEither};
+ghost use Rattle.racf_run.specs.Compacting.{is_compact, EndsCompact, MovesToCompact};
+ghost use Rattle.racf_run.specs.Racf.{IsUnsound, StaysUnopened, OpensDatabase, RoseEither};
 
 use crate::top::opening_status;
 use racf_desk::Desk;
@@ -28,10 +29,11 @@ pub(crate) fn is_compact(words: &[String]) -> bool
 
 /// Opens the database on the disks, and writes a checkpoint of it.
 pub(crate) fn compact_on<D: Disk>(alloc: Global, disks: Two<D>) -> (Status, Two<D>)
-    ensures compacts { IsRefused (D.tells disks.first) (D.tells disks.second) result.0
+    ensures compacts { StaysUnopened (D.tells disks.first) (D.tells disks.second) (D.tells result.1.first) (D.tells result.1.second) result.0
         ⊎ OpensDatabase (D.tells disks.first) (D.tells disks.second)
         (EndsCompact (D.tells disks.first) (D.tells disks.second) (D.tells result.1.first) (D.tells result.1.second) result.0) }
     ensures moments { MovesToCompact (D.tells disks.first) (D.tells disks.second) (D.tells result.1.first) (D.tells result.1.second) }
+    ensures only_synced { IsUnsound result.0 → OnlySynced (D.tells disks.first) (D.tells result.1.first) × OnlySynced (D.tells disks.second) (D.tells result.1.second) }
     ensures no_other { (result.0 ≢ Status.Usage) × (result.0 ≢ Status.ReadFault) × (result.0 ≢ Status.WriteFault) × (result.0 ≢ Status.InputTooLong) }
     ensures disk_fault { result.0 ≡ Status.DiskFault → RoseEither (D.faults disks.first) (D.faults result.1.first) (D.faults disks.second) (D.faults result.1.second) }
     ensures first_faults { D.faults disks.first ≤ D.faults result.1.first }

@@ -13,6 +13,7 @@
 #![tactic(auto)]
 
 mod compacting;
+mod issuers;
 mod making;
 mod names;
 mod opening;
@@ -20,7 +21,7 @@ mod running;
 mod top;
 
 pub use making::make;
-pub use racf_stream::{Status, script};
+pub use racf_stream::{Issuing, Status, script};
 pub use racf_threads::{Ran, run};
 pub use racf_workers::{Gate, Idle};
 pub use top::{racf, works_on_disks};

@@ -11,7 +11,7 @@ use racf_desk::Desk;
 use racf_generator::laws::made_text_is_short;
 use racf_generator::{AnswerTally, MadeText, line_count};
 use racf_outside::{Failed, NeverDisk, Sink, Source, Two};
-use racf_stream::{Status, script, write_all};
+use racf_stream::{Issuing, Status, script, write_all};
 use std::alloc::{AllocError, Global};
 
 /// How many bytes of the text are written at once.
@@ -102,14 +102,20 @@ fn summary_line(alloc: Global, users: u32) -> Result<Vec<u8>, AllocError>
 /// What the stream of the generated text is answered, counted.
 fn tallied(alloc: Global, users: u32) -> Result<AnswerTally, AllocError>
     requires few { users ≤ most_users }
-    ensures { IfOk result (λ answers. answers.taken ≡ script_output None first_position (made_text users)) }
+    ensures { IfOk result (λ answers. answers.taken ≡ script_output None Issuing.Free first_position (made_text users)) }
 {
     made_text_is_short();
     let Ok(desk) = new_desk(alloc) else {
         return Err(AllocError);
     };
     let mut answers = AnswerTally::new(alloc);
-    let (status, _, desk) = script(alloc, MadeText::new(alloc, users), &mut answers, desk);
+    let (status, _, desk) = script(
+        alloc,
+        MadeText::new(alloc, users),
+        &mut answers,
+        desk,
+        Issuing::Free,
+    );
     let Two {
         first: NeverDisk,
         second: NeverDisk,

@@ -4,27 +4,28 @@ ghost use Rattle.std.specs.Prelude.{ℕ, ◌≡◌, ◌≢◌, ◌⊎◌, ◌↔
 ghost use Rattle.std.specs.Option.{option_map};
 ghost use Rattle.racf_outside.specs.Causes.{Rose};
 ghost use Rattle.racf_outside.specs.Shelf.{SameBytes};
+ghost use Rattle.racf_journal.specs.Opening.{OnlySynced};
 ghost use Rattle.racf_desk.specs.Position.{first_position};
 ghost use Rattle.racf_desk.specs.Durable.{LeavesBoth, SameIdle};
 ghost use Rattle.racf_desk.specs.Recovery.{StandsFor};
 ghost use Rattle.racf_stream.specs.Durable.{StaysAlong};
-ghost use Rattle.racf_run.specs.Racf.{script_files, is_init, opening_status, RunsOnShelf, MakesOnShelf, IsWholeOutput, OpensNone};
-ghost use Rattle.racf_run.specs.Racf.{OpensNoDatabase, OpensDatabase, OpenedDisks, OpensOn, EndsOn, EndsAt, MovesAlong, RoseEither};
+ghost use Rattle.racf_run.specs.Racf.{files_of, script_files, is_init, opening_status, RunsOnShelf, MakesOnShelf, IsWholeOutput, OpensNone};
+ghost use Rattle.racf_run.specs.Racf.{IsUnsound, OpensNoDatabase, OpensDatabase, OpenedDisks, OpensOn, StandsStill, EndsOn, EndsAt, MovesAlong, RoseEither, fault_counts};
 ghost use Rattle.racf_run.specs.Compacting.{is_compact, EndsCompact, MovesToCompact};
 ghost use Rattle.racf_run.specs.Making.{make_words, most_users};
 ghost use Rattle.racf_run.specs.Running.{run_words, NamedRan, RunsFiles};
-ghost use Rattle.racroute.specs.Disks.{StandAt};
 ghost use Rattle.racf_stream.specs.Runs.{longest_input};
 ghost use Rattle.racf_stream.specs.Script.{is_whole};
 
 use crate::compacting::{compact_on, is_compact};
+use crate::issuers::{fixed_issuer, is_issuer_word};
 use crate::making::make;
 use crate::names::run_words;
 use crate::running::run_on;
 use racf_checkpoint::StoreFault;
 use racf_desk::Desk;
 use racf_outside::{Disk, Failed, Shelf, Two};
-use racf_stream::{Status, script};
+use racf_stream::{Issuing, Status, script};
 use racf_workers::Gate;
 use request_files::number_word;
 use std::alloc::Global;
@@ -34,9 +35,11 @@ use std::thread::Threads;
 /// The most users that `make` is asked for.
 const MOST_USERS: u64 = 10_000;
 
-/// What the words `script IN OUT` name.
+/// What the words of a script name.
 #[derive(Clone, Copy)]
 struct Files<'a> {
+    /// Who gives the commands.
+    issuing: Issuing,
     /// IN.
     input: &'a str,
     /// OUT.
@@ -59,7 +62,9 @@ struct MakeWords<'a> {
 /// differ or are both `-`. The words `run K NAME..` open the database, and work the first K of the names, from 1 to 4,
 /// as decks, and the others, at most 16, as request files, each in a thread of its own: the output of NAME is
 /// `NAME.out`. The names differ, and none is the output of another. The words `make N OUT` write the generated text of
-/// N users, from 1 to 10,000, to the output OUT. Other words are `Usage`. (The words are this product's own.)
+/// N users, from 1 to 10,000, to the output OUT. Behind `script` and `run` the words `--issuer ID` may stand: then that
+/// user gives all commands, and each line that would name an issuer is refused. Other words are `Usage`. (The words are
+/// this product's own.)
 ///
 /// The database is opened first, then of each name the input and then the output; each that was opened is handed back,
 /// under its name. The gate is asked before and behind each line of a run.
@@ -78,30 +83,33 @@ where
     // The database is opened, or why not. Which calls are made of the shelf then, in which order, what the outputs tell
     // afterwards, wherever the stream stopped, and what every crash leaves of the disks behind it.
     ensures runs { IfSome (script_files (map string_bytes words.now)) (λ files.
-        OpensNoDatabase (D.tells disks.first) (D.tells disks.second) result.0 shelf.old shelf.new
+        OpensNoDatabase (D.tells disks.first) (D.tells disks.second) (D.tells result.1.first) (D.tells result.1.second) result.0 shelf.old shelf.new
         ⊎ OpensDatabase (D.tells disks.first) (D.tells disks.second) (λ base.
         RunsOnShelf F.source_gives F.sink_gives F.take_back_gives F.give_back_gives F.tells F.output
-        (EndsOn (D.tells result.1.first) (D.tells result.1.second)) base
+        (Rose (F.source_faults shelf.old) (F.source_faults shelf.new)) (Rose (F.sink_faults shelf.old) (F.sink_faults shelf.new))
+        (EndsOn files.issuing base (F.input shelf.old files.input) (D.tells result.1.first) (D.tells result.1.second)) base
         result.0 (F.input shelf.old files.input) files shelf.old shelf.new)) }
 
     // Where the input was read to its end and no disk failed, all of its output was written, and nothing else.
     ensures whole { IsTrue (is_whole result.0) → IfSome (script_files (map string_bytes words.now)) (λ files.
         OpensDatabase (D.tells disks.first) (D.tells disks.second) (λ base.
-        IsWholeOutput base F.tells result.0 (F.input shelf.old files.input) (F.output shelf.new files.output))) }
+        IsWholeOutput files.issuing base F.tells result.0 (F.input shelf.old files.input) (F.output shelf.new files.output))) }
 
     // What every crash leaves meanwhile.
     ensures moments { IfSome (script_files (map string_bytes words.now)) (λ files.
-        MovesAlong (D.tells disks.first) (D.tells disks.second) (F.input shelf.old files.input) (D.tells result.1.first) (D.tells result.1.second)) }
+        MovesAlong (D.tells disks.first) (D.tells disks.second) files.issuing (F.input shelf.old files.input) (D.tells result.1.first) (D.tells result.1.second)) }
 
     // The database is opened, or why not; then all files, or why not; and then decks and request files are worked side
     // by side, over one history, of which each output tells a part.
     ensures runs_together { IfSome (run_words (map string_bytes words.now)) (λ asked.
-        OpensNoDatabase (D.tells disks.first) (D.tells disks.second) result.0 shelf.old shelf.new
+        OpensNoDatabase (D.tells disks.first) (D.tells disks.second) (D.tells result.1.first) (D.tells result.1.second) result.0 shelf.old shelf.new
         ⊎ OpensDatabase (D.tells disks.first) (D.tells disks.second) (λ base.
         (opened : OpenedDisks) × OpensOn (D.tells disks.first) (D.tells disks.second) opened
         × RunsFiles F.source_gives F.sink_gives F.take_back_gives F.give_back_gives F.tells F.output
-        (NamedRan opened (D.tells result.1.first) (D.tells result.1.second) base F.tells result.0 asked (F.input shelf.old) (F.output shelf.old) (F.output shelf.new))
-        (StandAt false (D.tells result.1.first) (D.tells result.1.second) base)
+        (NamedRan opened (D.tells result.1.first) (D.tells result.1.second)
+        (fault_counts (F.source_faults shelf.old) (F.sink_faults shelf.old) (D.faults disks.first) (D.faults disks.second))
+        (fault_counts (F.source_faults shelf.new) (F.sink_faults shelf.new) (D.faults result.1.first) (D.faults result.1.second)) base F.tells result.0 asked (F.input shelf.old) (F.output shelf.old) (F.output shelf.new))
+        (StandsStill opened (D.tells result.1.first) (D.tells result.1.second) base)
         result.0 asked.names shelf.old shelf.new)) }
 
     ensures makes { IfSome (make_words (map string_bytes words.now)) (λ asked.
@@ -116,7 +124,7 @@ where
     // The database is opened, or why not; and then a checkpoint of it is written, or a disk failed, or memory ran out.
     // At every moment a crash leaves what stands for the database as it was opened.
     ensures compacts { is_compact (map string_bytes words.now) ≡ true →
-        OpensNoDatabase (D.tells disks.first) (D.tells disks.second) result.0 shelf.old shelf.new
+        OpensNoDatabase (D.tells disks.first) (D.tells disks.second) (D.tells result.1.first) (D.tells result.1.second) result.0 shelf.old shelf.new
         ⊎ OpensDatabase (D.tells disks.first) (D.tells disks.second)
         (EndsCompact (D.tells disks.first) (D.tells disks.second) (D.tells result.1.first) (D.tells result.1.second) result.0) }
     ensures compact_moments { is_compact (map string_bytes words.now) ≡ true →
@@ -134,7 +142,8 @@ where
     ensures not_too_long { IsTrue (is_whole result.0) → IfSome (script_files (map string_bytes words.now)) (λ files.
         IfSome (F.input shelf.old files.input) (λ bytes. length bytes ≤ longest_input)) }
 
-    // What stays.
+    // What stays. A database that is damaged, or none, is only synced.
+    ensures only_synced { IsUnsound result.0 → OnlySynced (D.tells disks.first) (D.tells result.1.first) × OnlySynced (D.tells disks.second) (D.tells result.1.second) }
     ensures untouched { (result.0 ≡ Status.Usage) ⊎ IsSome (make_words (map string_bytes words.now)) → result.1 ≡ disks }
     ensures inputs { SameBytes (F.input shelf.old) (F.input shelf.new) }
     ensures handed_back { OpensNone (F.is_open shelf.old) (F.is_open shelf.new) }
@@ -144,7 +153,14 @@ where
     ensures second_faults { D.faults disks.second ≤ D.faults result.1.second }
 {
     if let Some(files) = script_files(words) {
-        return script_on(alloc, files.input, files.output, shelf, disks);
+        return script_on(
+            alloc,
+            files.issuing,
+            files.input,
+            files.output,
+            shelf,
+            disks,
+        );
     }
     if let Some(asked) = run_words(words) {
         return run_on(rt, alloc, asked, shelf, disks, gate);
@@ -191,20 +207,23 @@ fn init<D: Disk>(alloc: Global, disks: Two<D>) -> (Status, Two<D>)
 /// Opens the database on the disks, and works a stream from an input of a shelf to an output.
 fn script_on<F: Shelf, D: Disk>(
     alloc: Global,
+    issuing: Issuing,
     input: &str,
     output: &str,
     shelf: &mut F,
     disks: Two<D>,
 ) -> (Status, Two<D>)
-    ensures runs { OpensNoDatabase (D.tells disks.first) (D.tells disks.second) result.0 shelf.old shelf.new
+    ensures runs { OpensNoDatabase (D.tells disks.first) (D.tells disks.second) (D.tells result.1.first) (D.tells result.1.second) result.0 shelf.old shelf.new
         ⊎ OpensDatabase (D.tells disks.first) (D.tells disks.second) (λ base.
         RunsOnShelf F.source_gives F.sink_gives F.take_back_gives F.give_back_gives F.tells F.output
-        (EndsOn (D.tells result.1.first) (D.tells result.1.second)) base
-        result.0 (F.input shelf.old input.now) (record { input = input.now; output = output.now }) shelf.old shelf.new) }
+        (Rose (F.source_faults shelf.old) (F.source_faults shelf.new)) (Rose (F.sink_faults shelf.old) (F.sink_faults shelf.new))
+        (EndsOn issuing base (F.input shelf.old input.now) (D.tells result.1.first) (D.tells result.1.second)) base
+        result.0 (F.input shelf.old input.now) (record { issuing = issuing; input = input.now; output = output.now }) shelf.old shelf.new) }
     ensures whole { IsTrue (is_whole result.0) → OpensDatabase (D.tells disks.first) (D.tells disks.second) (λ base.
-        IsWholeOutput base F.tells result.0 (F.input shelf.old input.now) (F.output shelf.new output.now)) }
-    ensures moments { MovesAlong (D.tells disks.first) (D.tells disks.second) (F.input shelf.old input.now) (D.tells result.1.first) (D.tells result.1.second) }
+        IsWholeOutput issuing base F.tells result.0 (F.input shelf.old input.now) (F.output shelf.new output.now)) }
+    ensures moments { MovesAlong (D.tells disks.first) (D.tells disks.second) issuing (F.input shelf.old input.now) (D.tells result.1.first) (D.tells result.1.second) }
     ensures usage { result.0 ≢ Status.Usage }
+    ensures only_synced { IsUnsound result.0 → OnlySynced (D.tells disks.first) (D.tells result.1.first) × OnlySynced (D.tells disks.second) (D.tells result.1.second) }
     ensures read_fault { result.0 ≡ Status.ReadFault → Rose (F.source_faults shelf.old) (F.source_faults shelf.new) }
     ensures write_fault { result.0 ≡ Status.WriteFault → Rose (F.sink_faults shelf.old) (F.sink_faults shelf.new) }
     ensures disk_fault { result.0 ≡ Status.DiskFault → RoseEither (D.faults disks.first) (D.faults result.1.first) (D.faults disks.second) (D.faults result.1.second) }
@@ -219,7 +238,7 @@ fn script_on<F: Shelf, D: Disk>(
 {
     match Desk::open(alloc, disks) {
         Ok(desk) => {
-            let (status, desk) = script_between(alloc, input, output, shelf, desk);
+            let (status, desk) = script_between(alloc, issuing, input, output, shelf, desk);
             (status, desk.into_disks())
         }
         Err((disks, why)) => (opening_status(why), disks),
@@ -261,6 +280,7 @@ fn make_into<F: Shelf>(alloc: Global, users: u32, output: &str, shelf: &mut F) -
 /// Works a stream from an input of a shelf to an output, at a desk that was opened.
 fn script_between<F: Shelf, D: Disk>(
     alloc: Global,
+    issuing: Issuing,
     input: &str,
     output: &str,
     shelf: &mut F,
@@ -269,10 +289,11 @@ fn script_between<F: Shelf, D: Disk>(
     requires running { desk.halted ≡ false }
     requires settled { desk.committed ≡ false }
     ensures runs { RunsOnShelf F.source_gives F.sink_gives F.take_back_gives F.give_back_gives F.tells F.output
-        (EndsAt D.tells result.1) desk.position
-        result.0 (F.input shelf.old input.now) (record { input = input.now; output = output.now }) shelf.old shelf.new }
-    ensures whole { IsTrue (is_whole result.0) → IsWholeOutput desk.position F.tells result.0 (F.input shelf.old input.now) (F.output shelf.new output.now) }
-    ensures moments { StaysAlong D.tells desk.position (F.input shelf.old input.now) desk.store result.1.store }
+        (Rose (F.source_faults shelf.old) (F.source_faults shelf.new)) (Rose (F.sink_faults shelf.old) (F.sink_faults shelf.new))
+        (EndsAt D.tells issuing desk.position (F.input shelf.old input.now) result.1) desk.position
+        result.0 (F.input shelf.old input.now) (record { issuing = issuing; input = input.now; output = output.now }) shelf.old shelf.new }
+    ensures whole { IsTrue (is_whole result.0) → IsWholeOutput issuing desk.position F.tells result.0 (F.input shelf.old input.now) (F.output shelf.new output.now) }
+    ensures moments { StaysAlong D.tells issuing desk.position (F.input shelf.old input.now) desk.store result.1.store }
     ensures idle { SameIdle desk.store result.1.store }
     ensures no_other { (result.0 ≢ Status.Usage) × (result.0 ≢ Status.NotFormatted) }
     ensures undamaged { (place : ℕ) → result.0 ≢ Status.Damaged place }
@@ -299,7 +320,7 @@ fn script_between<F: Shelf, D: Disk>(
             return (Status::WriteFault, desk);
         }
     };
-    let (status, source, desk) = script(alloc, source, &mut sink, desk);
+    let (status, source, desk) = script(alloc, source, &mut sink, desk, issuing);
     shelf.take_back(input, source);
     shelf.give_back(output, sink);
     (status, desk)
@@ -315,16 +336,37 @@ fn is_init(words: &[String]) -> bool
     verb.as_str() == "init"
 }
 
-/// The files that the words name, where they are `script IN OUT`, and IN and OUT differ or are both `-`.
+/// The files that the words name, and who gives the commands, where they are `script IN OUT` or `script --issuer ID IN
+/// OUT`, and IN and OUT differ or are both `-`.
 fn script_files(words: &[String]) -> Option<Files<'_>>
-    ensures { option_map (λ files. record { input = files.input.now; output = files.output.now }) result ≡ script_files (map string_bytes words.now) }
+    ensures { option_map (λ files. record { issuing = files.issuing; input = files.input.now; output = files.output.now }) result ≡ script_files (map string_bytes words.now) }
 {
-    let [verb, input, output] = words else {
+    if let [verb, input, output] = words {
+        if verb.as_str() != "script" {
+            return None;
+        }
+        return files_of(Issuing::Free, input.as_str(), output.as_str());
+    }
+    let [verb, word, id, input, output] = words else {
         return None;
     };
-    let (input, output) = (input.as_str(), output.as_str());
-    if verb.as_str() == "script" && (input != output || input == "-") {
-        Some(Files { input, output })
+    if verb.as_str() != "script" || !is_issuer_word(word.as_str()) {
+        return None;
+    }
+    let issuing = fixed_issuer(id.as_str())?;
+    files_of(issuing, input.as_str(), output.as_str())
+}
+
+/// The files of these names, where they differ or are both `-`.
+fn files_of<'a>(issuing: Issuing, input: &'a str, output: &'a str) -> Option<Files<'a>>
+    ensures { option_map (λ files. record { issuing = files.issuing; input = files.input.now; output = files.output.now }) result ≡ files_of issuing input.now output.now }
+{
+    if input != output || input == "-" {
+        Some(Files {
+            issuing,
+            input,
+            output,
+        })
     } else {
         None
     }

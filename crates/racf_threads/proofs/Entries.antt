@@ -1,7 +1,9 @@
 -- The entries of a deck among all: those that its commands made, and how many there are.
-use Rattle.std.proofs.Common.{◌≡◌, ℕ, suc, ◌+◌, ◌≤◌, nat_eq, nat_lt, Bool, true, false, List, [], ◌∷◌, ◌++◌, length, refl, sym, ◌∙◌, ap, subst, arith, append-nil, length-append}
+use Rattle.std.proofs.Common.{◌≡◌, ℕ, suc, ◌+◌, ◌<◌, ◌≤◌, nat_eq, nat_lt, Bool, true, false, List, [], ◌∷◌, ◌++◌, length, refl, sym, ◌∙◌, ap, subst, arith, append-nil, length-append}
 use Rattle.std.specs.Prelude.{if◌then◌else◌}
+use Rattle.std.specs.List.{All}
 use Rattle.std.proofs.lemmas.Bool.Decides.{nat_tests}
+use Rattle.std.proofs.lemmas.List.Elements.{All-nil, All-cons}
 use Rattle.command_history.specs.declared.events.Accepted.{Accepted}
 use Rattle.command_history.specs.declared.events.Event.{Event}
 use Rattle.command_history.specs.declared.events.Event.TheVariants.{Added, Ended}
@@ -108,3 +110,14 @@ count_split deck (entry ∷ entries) = so (count_split deck entries) (nat_lt ent
     so rest false true false a b c = absurd (grind (arith, nat_tests))
     so rest false false true a b c = absurd (grind (arith, nat_tests))
     so rest false false false a b c = omega arith
+
+-- Where none is of this deck or of a later one, each is of an earlier one.
+pub all_below : (deck : ℕ) (entries : List Accepted) → count_from deck entries ≡ 0 → All (λ (entry : Accepted). entry.deck < deck) entries
+all_below deck [] none = All-nil (λ (entry : Accepted). entry.deck < deck)
+all_below deck (entry ∷ entries) none = so (all_below deck entries) (nat_lt entry.deck deck) refl none
+  where
+    so : (count_from deck entries ≡ 0 → All (λ (other : Accepted). other.deck < deck) entries) → (b : Bool) → nat_lt entry.deck deck ≡ b
+        → (if b then 0 else 1) + count_from deck entries ≡ 0 → All (λ (other : Accepted). other.deck < deck) (entry ∷ entries)
+    so rest true is none =
+        All-cons (λ (other : Accepted). other.deck < deck) entry entries (grind (arith, nat_tests)) (rest (omega arith))
+    so rest false is none = absurd (omega arith)

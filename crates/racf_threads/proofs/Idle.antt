@@ -2,15 +2,18 @@
 use Rattle.std.proofs.Common.{◌≡◌, ℕ, zero, suc, ◌+◌, ◌<◌, false, List, [], ◌∷◌, ◌++◌, map, length, refl, sym, ◌∙◌, ap, arith}
 use Rattle.std.specs.Prelude.{Option}
 use Rattle.std.specs.List.{sum_by}
+use Rattle.std.proofs.lemmas.List.Elements.{All-nil}
 use Rattle.std.proofs.lemmas.List.Sums.{sum_by-cons}
 use Rattle.racf_desk.specs.Position.{Position}
+use Rattle.command_history.specs.declared.events.Accepted.{Accepted}
 use Rattle.command_history.specs.Events.{all_of, Extends}
 use Rattle.racroute.specs.Core.{Passing}
+use Rattle.racf_stream.specs.declared.issuer.Issuing.{Issuing}
 use Rattle.racf_stream.specs.declared.status.Status.TheVariants as statuses
 use Rattle.racf_workers.proofs.DeckWalk.{none_given}
 use Rattle.racf_workers.proofs.FileWalk.{none_answered}
 use Rattle.racf_threads.specs.Outputs.{new_pass}
-use Rattle.racf_threads.specs.Together.{Worked, AreFiles, HasStopped, RunsTogether, greater, greatest}
+use Rattle.racf_threads.specs.Together.{Worked, ReadFailed, WriteFailed, AreFiles, HasStopped, RunsTogether, greater, greatest}
 use Rattle.racf_threads.proofs.Gave.{DecksGave}
 use Rattle.racf_threads.proofs.Own.{decks_ran, faults_ran}
 use Rattle.racf_threads.proofs.Runs.{passes_from, over_both}
@@ -47,8 +50,8 @@ module _ {I K : Type 0} where
   no_memory [] some = absurd (omega arith)
   no_memory (given ∷ files) some = sym (at_least files)
 
-module _ {I K : Type 0} (left : I → Option (List ℕ)) (reads : I → ℕ) (taken : K → Option (List ℕ)) (writes : K → ℕ) (base : Position) where
-  stopped : (given : I × K) → HasStopped left reads taken writes base (idle given)
+module _ {I K : Type 0} (left : I → Option (List ℕ)) (reads : I → ℕ) (taken : K → Option (List ℕ)) (writes : K → ℕ) (base : Position) (issuing : Issuing) where
+  stopped : (given : I × K) → HasStopped left reads taken writes base issuing (idle given)
   stopped given =
       record {
         usage = λ is. cc;
@@ -61,33 +64,35 @@ module _ {I K : Type 0} (left : I → Option (List ℕ)) (reads : I → ℕ) (ta
         no_fewer_writes = omega arith;
       }
 
-  decks_gave : (deck : ℕ) (decks : List (I × K)) → DecksGave left reads taken writes base (all_of [] false) deck (map idle decks) (passes_from deck (length decks))
+  decks_gave : (deck : ℕ) (decks : List (I × K)) → DecksGave left reads taken writes base issuing (all_of [] false) deck (map idle decks) (passes_from deck (length decks))
   decks_gave deck [] = tt
   decks_gave deck (given ∷ decks) = (
-    record { seen = []; gives = none_given base [] (new_pass deck) (left given.0) (left given.0) (taken given.1); later = seen_nothing },
+    record { seen = []; gives = none_given base issuing [] (new_pass deck) (ReadFailed left reads taken writes base issuing (idle given)) (WriteFailed left reads taken writes base issuing (idle given)) (left given.0) (left given.0) (taken given.1); later = seen_nothing; told = λ some. absurd (omega arith) },
     stopped given,
     refl,
     decks_gave (suc deck) decks,
   )
 
-  are_files : (requests : List (I × K)) → AreFiles left reads taken writes base (all_of [] false) (map idle requests)
+  are_files : (requests : List (I × K)) → AreFiles left reads taken writes base issuing (all_of [] false) (map idle requests)
   are_files [] = tt
   are_files (given ∷ requests) = (
-    (record { seen = []; answers = none_answered base [] (left given.0) (left given.0) (taken given.1); later = seen_nothing }, stopped given),
+    (record { seen = []; answers = none_answered base [] (ReadFailed left reads taken writes base issuing (idle given)) (WriteFailed left reads taken writes base issuing (idle given)) (left given.0) (left given.0) (taken given.1); later = seen_nothing }, stopped given),
     are_files requests,
   )
 
-  pub not_begun : (decks requests : List (I × K)) → 0 < length (decks ++ requests) → RunsTogether left reads taken writes base [] false statuses.NoMemory decks requests (decks ++ requests)
+  pub not_begun : (decks requests : List (I × K)) → 0 < length (decks ++ requests) → RunsTogether left reads taken writes base issuing [] false statuses.NoMemory decks requests (decks ++ requests)
   not_begun decks requests some =
       let both = over_both (idle {I = I} {K = K}) decks requests in
       record {
         deck_workers = map idle decks;
         file_workers = map idle requests;
-        are_decks = decks_ran left reads taken writes base [] false (map idle decks) (passes_from 0 (length decks)) (decks_gave 0 decks) (none_counted (length decks) 0);
+        are_decks = decks_ran left reads taken writes base issuing [] false (map idle decks) (passes_from 0 (length decks)) (decks_gave 0 decks) (none_counted (length decks) 0);
         are_files = are_files requests;
+        of_decks = All-nil (λ (entry : Accepted). entry.deck < length decks);
         decks_are = given_again decks;
         requests_are = given_again requests;
         outs_are = ap (map (λ (w : Worked I K). w.back)) (sym both) ∙ back_again (decks ++ requests);
         status_is = no_memory (decks ++ requests) some ∙ ap (λ (l : List (Worked I K)). greatest (map (λ w. w.status) l)) both;
-        one_fault = faults_ran left reads taken writes base [] false (map idle decks) (passes_from 0 (length decks)) (decks_gave 0 decks) (none_failed (length decks) 0);
+        halted_status = λ halts. absurd (cc);
+        one_fault = faults_ran left reads taken writes base issuing [] false (map idle decks) (passes_from 0 (length decks)) (decks_gave 0 decks) (none_failed (length decks) 0);
       }

@@ -2,6 +2,7 @@
 use Rattle.std.proofs.Common.{◌≡◌, ℕ, zero, suc, ◌+◌, ◌≤◌, nat_lt, Bool, true, false, List, [], ◌∷◌, ◌++◌, map, length, Some, None, inl, inr, refl, sym, ◌∙◌, ap, subst, arith, append-nil, add-zero}
 use Rattle.std.specs.Prelude.{Option, ◌⊎◌, if◌then◌else◌}
 use Rattle.std.specs.List.{All, AllZip, cons_option, filter_map, sum_by}
+use Rattle.std.proofs.lemmas.List.{length-map}
 use Rattle.std.proofs.lemmas.List.Elements.{All-head, All-tail}
 use Rattle.racf_desk.specs.Position.{Position}
 use Rattle.command_history.specs.declared.events.Accepted.{Accepted}
@@ -10,6 +11,7 @@ use Rattle.command_history.specs.Events.{all_of, mark_of, Extends}
 use Rattle.raclist_snapshots.specs.Publishing.{Seeing}
 use Rattle.racroute.specs.Core.{Passing, new_passes}
 use Rattle.racroute.specs.Kept.{fault_count}
+use Rattle.racf_stream.specs.declared.issuer.Issuing.{Issuing}
 use Rattle.racf_stream.specs.declared.status.Status.{Status}
 use Rattle.racf_stream.specs.declared.status.Status.TheVariants as statuses
 use Rattle.racf_stream.specs.Status.{code_of}
@@ -18,7 +20,7 @@ use Rattle.racf_threads.specs.Outputs.{new_pass}
 use Rattle.racf_threads.specs.Together.{Worked, AreFiles, RunsTogether, greater, greatest}
 use Rattle.racf_threads.specs.Working.{Working, new_worker, new_workers, Gave, Answered, HasWorked}
 use Rattle.racf_threads.proofs.Gave.{DecksGave}
-use Rattle.racf_threads.proofs.Own.{decks_ran, faults_ran}
+use Rattle.racf_threads.proofs.Own.{decks_ran, of_decks, faults_ran, halted_told}
 
 -- ---- passes
 
@@ -72,17 +74,17 @@ either_of one other status = by (nat_lt (code_of one) (code_of other))
     by true is = inr is
     by false is = inl is
 
-module _ {I K : Type 0} (left : I → Option (List ℕ)) (reads : I → ℕ) (taken : K → Option (List ℕ)) (writes : K → ℕ) (base : Position) where
-  gave_of : (pass : Passing) (given : I × K) (new : Working I K) → HasWorked left reads taken writes base (new_worker (Some pass) given) new → Gave left reads taken writes base pass given (new_worker (Some pass) given) new
+module _ {I K : Type 0} (left : I → Option (List ℕ)) (reads : I → ℕ) (taken : K → Option (List ℕ)) (writes : K → ℕ) (base : Position) (issuing : Issuing) where
+  gave_of : (pass : Passing) (given : I × K) (new : Working I K) → HasWorked left reads taken writes base issuing (new_worker (Some pass) given) new → Gave left reads taken writes base issuing pass given (new_worker (Some pass) given) new
   unfolding HasWorked
   gave_of pass given new did = did
 
-  answered_of : (given : I × K) (new : Working I K) → HasWorked left reads taken writes base (new_worker None given) new → Answered left reads taken writes base given (new_worker None given) new
+  answered_of : (given : I × K) (new : Working I K) → HasWorked left reads taken writes base issuing (new_worker None given) new → Answered left reads taken writes base issuing given (new_worker None given) new
   unfolding HasWorked
   answered_of given new did = did
 
   -- Where one ended by a disk fault, the history has ended so.
-  pub failed : (whole : List Event) (passes : List Passing) (files : List (I × K)) (news : List (Working I K)) → AllZip (HasWorked left reads taken writes base) (new_workers passes files) news → Later whole news
+  pub failed : (whole : List Event) (passes : List Passing) (files : List (I × K)) (news : List (Working I K)) → AllZip (HasWorked left reads taken writes base issuing) (new_workers passes files) news → Later whole news
       → greatest (map (λ w. w.status) news) ≡ statuses.DiskFault → mark_of whole ≡ Some true
   failed whole passes [] [] did seen is = cc
   failed whole passes [] (new ∷ news) did seen is = absurd did
@@ -103,13 +105,13 @@ module _ {I K : Type 0} (left : I → Option (List ℕ)) (reads : I → ℕ) (ta
 
   pub record Files (whole : List Event) (requests : List (I × K)) (news : List (Working I K)) : Type 0 where
     pub workers : List (Worked I K)
-    pub are : AreFiles left reads taken writes base whole workers
+    pub are : AreFiles left reads taken writes base issuing whole workers
     pub given_are : map (λ w. w.given) workers ≡ requests
     pub outs : filter_map (λ w. w.files) news ≡ map (λ w. w.back) workers
     pub ends : filter_map (λ w. w.end) news ≡ []
     pub status : map (λ w. w.status) news ≡ map (λ w. w.status) workers
 
-  files : (whole : List Event) (requests : List (I × K)) (news : List (Working I K)) → AllZip (HasWorked left reads taken writes base) (new_workers [] requests) news → Later whole news → Files whole requests news
+  files : (whole : List Event) (requests : List (I × K)) (news : List (Working I K)) → AllZip (HasWorked left reads taken writes base issuing) (new_workers [] requests) news → Later whole news → Files whole requests news
   files whole [] [] did seen = record { workers = []; are = tt; given_are = refl; outs = refl; ends = refl; status = refl }
   files whole [] (new ∷ news) did seen = absurd did
   files whole (given ∷ requests) [] did seen = absurd did
@@ -132,16 +134,16 @@ module _ {I K : Type 0} (left : I → Option (List ℕ)) (reads : I → ℕ) (ta
     pub workers : List (Worked I K)
     pub backs : List Passing
     pub rest : List (Working I K)
-    pub gave : DecksGave left reads taken writes base whole deck workers backs
+    pub gave : DecksGave left reads taken writes base issuing whole deck workers backs
     pub given_are : map (λ w. w.given) workers ≡ decks
-    pub did : AllZip (HasWorked left reads taken writes base) (new_workers [] requests) rest
+    pub did : AllZip (HasWorked left reads taken writes base issuing) (new_workers [] requests) rest
     pub seen : Later whole rest
     pub outs : filter_map (λ w. w.files) news ≡ map (λ w. w.back) workers ++ filter_map (λ w. w.files) rest
     pub ends : filter_map (λ w. w.end) news ≡ backs ++ filter_map (λ w. w.end) rest
     pub status : map (λ w. w.status) news ≡ map (λ w. w.status) workers ++ map (λ w. w.status) rest
 
   decks_of : (whole : List Event) (deck : ℕ) (decks requests : List (I × K)) (news : List (Working I K))
-      → AllZip (HasWorked left reads taken writes base) (new_workers (passes_from deck (length decks)) (decks ++ requests)) news → Later whole news → Decks whole deck decks requests news
+      → AllZip (HasWorked left reads taken writes base issuing) (new_workers (passes_from deck (length decks)) (decks ++ requests)) news → Later whole news → Decks whole deck decks requests news
   decks_of whole deck [] requests news did seen =
       record { workers = []; backs = []; rest = news; gave = tt; given_are = refl; did = did; seen = seen; outs = refl; ends = refl; status = refl }
   decks_of whole deck (given ∷ decks) requests [] did seen = absurd did
@@ -153,7 +155,7 @@ module _ {I K : Type 0} (left : I → Option (List ℕ)) (reads : I → ℕ) (ta
         workers = w ∷ more.workers;
         backs = one.counted ∷ more.backs;
         rest = more.rest;
-        gave = (record { seen = new.caller.events; gives = one.gives; later = seen.0 }, one.stops, refl, more.gave);
+        gave = (record { seen = new.caller.events; gives = one.gives; later = seen.0; told = one.told }, one.stops, refl, more.gave);
         given_are = ap (λ (l : List (I × K)). given ∷ l) more.given_are;
         did = more.did;
         seen = more.seen;
@@ -165,33 +167,40 @@ module _ {I K : Type 0} (left : I → Option (List ℕ)) (reads : I → ℕ) (ta
   -- ---- a whole run
 
   pub runs : (entries : List Accepted) (halted : Bool) (decks requests : List (I × K)) (news : List (Working I K))
-      → AllZip (HasWorked left reads taken writes base) (new_workers (new_passes (length decks)) (decks ++ requests)) news
+      → AllZip (HasWorked left reads taken writes base issuing) (new_workers (new_passes (length decks)) (decks ++ requests)) news
       → All (λ (caller : Seeing). Extends caller.events (all_of entries halted)) (map (λ w. w.caller) news)
       → sum_by (λ (p : Passing). p.commands) (filter_map (λ w. w.end) news) ≡ length entries
       → sum_by (λ (p : Passing). p.faults) (filter_map (λ w. w.end) news) ≡ fault_count halted
-      → RunsTogether left reads taken writes base entries halted (greatest (map (λ w. w.status) news)) decks requests (filter_map (λ w. w.files) news)
+      → RunsTogether left reads taken writes base issuing entries halted (greatest (map (λ w. w.status) news)) decks requests (filter_map (λ w. w.files) news)
   runs entries halted decks requests news did seen commands faults =
       let whole = all_of entries halted in
-      let from = subst (λ (l : List Passing). AllZip (HasWorked left reads taken writes base) (new_workers l (decks ++ requests)) news) (passes_are (length decks)) did in
+      let from = subst (λ (l : List Passing). AllZip (HasWorked left reads taken writes base issuing) (new_workers l (decks ++ requests)) news) (passes_are (length decks)) did in
       let d = decks_of whole 0 decks requests news from (later whole news seen) in
       let f = files whole requests d.rest d.did d.seen in
       let backs_are : filter_map (λ (w : Working I K). w.end) news ≡ d.backs = d.ends ∙ (ap (λ (l : List Passing). d.backs ++ l) f.ends ∙ append-nil d.backs) in
       let statuses_are : map (λ (w : Working I K). w.status) news ≡ map (λ (w : Worked I K). w.status) (d.workers ++ f.workers) =
       d.status ∙ (ap (λ (l : List Status). map (λ (w : Worked I K). w.status) d.workers ++ l) f.status ∙ sym (over_both (λ (w : Worked I K). w.status) d.workers f.workers)) in
+      let one_fault : sum_by (λ (w : Worked I K). w.faults) d.workers ≡ fault_count halted =
+      faults_ran left reads taken writes base issuing entries halted d.workers d.backs d.gave (subst (λ (l : List Passing). sum_by (λ (p : Passing). p.faults) l ≡ fault_count halted) backs_are faults) in
       record {
         deck_workers = d.workers;
         file_workers = f.workers;
-        are_decks = decks_ran left reads taken writes base entries halted d.workers d.backs d.gave (subst (λ (l : List Passing). sum_by (λ (p : Passing). p.commands) l ≡ length entries) backs_are commands);
+        are_decks = decks_ran left reads taken writes base issuing entries halted d.workers d.backs d.gave (subst (λ (l : List Passing). sum_by (λ (p : Passing). p.commands) l ≡ length entries) backs_are commands);
         are_files = f.are;
+        of_decks = of_decks left reads taken writes base issuing entries halted d.workers d.backs (length decks) (sym (length-map d.workers (λ (w : Worked I K). w.given)) ∙ ap length d.given_are) d.gave
+            (subst (λ (l : List Passing). sum_by (λ (p : Passing). p.commands) l ≡ length entries) backs_are commands);
         decks_are = d.given_are;
         requests_are = f.given_are;
         outs_are = over_both (λ (w : Worked I K). w.back) d.workers f.workers ∙ sym (d.outs ∙ ap (λ (l : List (I × K)). map (λ (w : Worked I K). w.back) d.workers ++ l) f.outs);
         status_is = ap greatest statuses_are;
-        one_fault = faults_ran left reads taken writes base entries halted d.workers d.backs d.gave (subst (λ (l : List Passing). sum_by (λ (p : Passing). p.faults) l ≡ fault_count halted) backs_are faults);
+        one_fault = one_fault;
+        halted_status = λ halts.
+            subst (λ (l : List Status). 20 ≤ code_of (greatest l)) (sym statuses_are)
+            (halted_told left reads taken writes base issuing whole 0 d.workers f.workers d.backs d.gave (let one = one_fault ∙ ap fault_count halts in omega arith));
       }
 
   -- As many passes are handed in as there are decks.
-  pub ends_are : (passes : List Passing) (files : List (I × K)) (news : List (Working I K)) → length passes ≤ length files → AllZip (HasWorked left reads taken writes base) (new_workers passes files) news
+  pub ends_are : (passes : List Passing) (files : List (I × K)) (news : List (Working I K)) → length passes ≤ length files → AllZip (HasWorked left reads taken writes base issuing) (new_workers passes files) news
       → length (filter_map (λ w. w.end) news) ≡ length passes
   ends_are passes [] [] few did = omega arith
   ends_are passes [] (new ∷ news) few did = absurd did

@@ -1,7 +1,9 @@
 -- The greatest of the statuses: it doesn't matter in which order they are compared.
-use Rattle.std.proofs.Common.{◌≡◌, List, [], ◌∷◌, map, length, refl, sym, ◌∙◌, arith}
+use Rattle.std.proofs.Common.{◌≡◌, ◌≤◌, nat_lt, Bool, true, false, List, [], ◌∷◌, map, length, refl, sym, ◌∙◌, inl, inr, arith}
+use Rattle.std.specs.Prelude.{◌⊎◌, if◌then◌else◌}
 use Rattle.racf_stream.specs.declared.status.Status.{Status}
 use Rattle.racf_stream.specs.declared.status.Status.TheVariants as statuses
+use Rattle.racf_stream.specs.Status.{code_of}
 use Rattle.racf_threads.specs.Together.{greater, greatest}
 use Rattle.std.proofs.lemmas.Bool.Decides.{nat_tests}
 
@@ -22,6 +24,16 @@ last_least status = grind (arith, nat_tests)
 
 pub in_turn : (one other third : Status) → greater (greater one other) third ≡ greater one (greater other third)
 in_turn one other third = grind (arith, nat_tests)
+
+-- where one of them is so great, the greater one is
+pub one_of : (one other : Status) → (20 ≤ code_of one) ⊎ (20 ≤ code_of other) → 20 ≤ code_of (greater one other)
+one_of one other great = by (nat_lt (code_of one) (code_of other)) refl great
+  where
+    by : (b : Bool) → nat_lt (code_of one) (code_of other) ≡ b → (20 ≤ code_of one) ⊎ (20 ≤ code_of other) → 20 ≤ code_of (if b then other else one)
+    by true less (inl here) = grind (arith, nat_tests)
+    by true less (inr here) = here
+    by false more (inl here) = here
+    by false more (inr here) = grind (arith, nat_tests)
 
 -- The status so far, and the greatest of those to come.
 module _ {X : Type 0} (f : X → Status) where

@@ -11,11 +11,12 @@ use Rattle.command_history.specs.Events.{entries_of, Extends}
 use Rattle.racroute.specs.Core.{Passing}
 use Rattle.racroute.specs.Replies.{Given, Says}
 use Rattle.request_files.specs.declared.issuer_line.NamedIssuer.{NamedIssuer}
-use Rattle.request_files.specs.declared.line.LineRefusal.{LineRefusal}
-use Rattle.request_files.specs.IssuerLines.{issuer_of_line}
+use Rattle.racf_stream.specs.declared.reply.Refusal.{Refusal}
 use Rattle.racf_stream.specs.declared.statement.Statement.{Statement}
 use Rattle.racf_stream.specs.declared.statement.Statement.TheVariants as item
+use Rattle.racf_stream.specs.IssuerLines.{issuer_named}
 use Rattle.racf_stream.specs.Runs.{after}
+use Rattle.racf_stream.specs.declared.issuer.Issuing.{Issuing}
 use Rattle.racf_workers.specs.Deck.{Met, Turn, DeckState, counted, new_deck, turn_of, behind_command, behind_issuer, step, deck_machine, IsRight, Course}
 use Rattle.racf_threads.specs.Outputs.{entries_by, last_of, made_by, made_in, fault_of, faults_in, new_pass}
 use Rattle.racf_threads.proofs.Entries.{IsWithin, within_behind, within_later, within_added, last_added}
@@ -107,7 +108,7 @@ course_push base (first ∷ turns) turn c = let rest = course_push base turns tu
 abbrev pub KeptAt : (deck : ℕ) → DeckState → Type 0
 KeptAt deck s = Kept deck s.seen s.pass (made_in s.turns) (faults_in s.turns)
 
-module _ (base : Position) (deck : ℕ) where
+module _ (base : Position) (issuing : Issuing) (deck : ℕ) where
   command_keeps : (text : List ℕ) (s : DeckState) → (Course base s.turns → KeptAt deck s) → Course base (s.turns ++ turn_of text s ∷ []) → KeptAt deck (behind_command (turn_of text s) s)
   command_keeps text s kept course =
       let turn = turn_of text s in
@@ -118,7 +119,7 @@ module _ (base : Position) (deck : ℕ) where
       subst (λ (l : List Accepted). Kept deck turn.met.behind pass l (faults_in (s.turns ++ turn ∷ []))) (sym (made_push s.turns turn))
       (subst (λ (n : ℕ). Kept deck turn.met.behind pass (made_in s.turns ++ made_by turn.met.reply turn.met.behind) n) (sym (faults_push s.turns turn)) told)
 
-  issuer_keeps : (named : Result NamedIssuer LineRefusal) (s : DeckState) → (Course base s.turns → KeptAt deck s) → Course base (behind_issuer named s).turns → KeptAt deck (behind_issuer named s)
+  issuer_keeps : (named : Result NamedIssuer Refusal) (s : DeckState) → (Course base s.turns → KeptAt deck s) → Course base (behind_issuer named s).turns → KeptAt deck (behind_issuer named s)
   issuer_keeps (Ok issuer) s kept course = kept course
   issuer_keeps (Err why) s kept course = kept course
 
@@ -126,18 +127,18 @@ module _ (base : Position) (deck : ℕ) where
   unfolding step
   step_keeps (item.Command text) s kept course = command_keeps text s kept course
   step_keeps (item.Request text) s kept course = command_keeps text s kept course
-  step_keeps (item.Issuer text) s kept course = issuer_keeps (issuer_of_line text) s kept course
+  step_keeps (item.Issuer text) s kept course = issuer_keeps (issuer_named s.issuing text) s kept course
   step_keeps item.LineTooLong s kept course = kept course
 
   keeps_along : (schedule : List Met) (statements : List Statement) (s : DeckState) → (Course base s.turns → KeptAt deck s)
-      → Course base (after (deck_machine base [] (new_pass deck) schedule) statements s).turns → KeptAt deck (after (deck_machine base [] (new_pass deck) schedule) statements s)
+      → Course base (after (deck_machine base issuing [] (new_pass deck) schedule) statements s).turns → KeptAt deck (after (deck_machine base issuing [] (new_pass deck) schedule) statements s)
   keeps_along schedule [] s kept course = kept course
   keeps_along schedule (statement ∷ statements) s kept course =
       keeps_along schedule statements (step statement s) (step_keeps statement s kept) course
 
   -- A deck with a new pass, behind its lines.
   pub kept_behind : (schedule : List Met) (statements : List Statement)
-      → Course base (after (deck_machine base [] (new_pass deck) schedule) statements (new_deck [] (new_pass deck) schedule)).turns
-      → KeptAt deck (after (deck_machine base [] (new_pass deck) schedule) statements (new_deck [] (new_pass deck) schedule))
+      → Course base (after (deck_machine base issuing [] (new_pass deck) schedule) statements (new_deck issuing [] (new_pass deck) schedule)).turns
+      → KeptAt deck (after (deck_machine base issuing [] (new_pass deck) schedule) statements (new_deck issuing [] (new_pass deck) schedule))
   kept_behind schedule statements course =
-      keeps_along schedule statements (new_deck [] (new_pass deck) schedule) (λ none. begun deck) course
+      keeps_along schedule statements (new_deck issuing [] (new_pass deck) schedule) (λ none. begun deck) course

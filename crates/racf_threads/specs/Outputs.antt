@@ -8,9 +8,11 @@ use Rattle.command_history.specs.declared.events.Accepted.{Accepted}
 use Rattle.command_history.specs.declared.events.Event.{Event}
 use Rattle.command_history.specs.Events.{entries_of, mark_of, Extends}
 use Rattle.racroute.specs.Core.{Passing}
+use Rattle.racf_stream.specs.declared.issuer.Issuing.{Issuing}
 use Rattle.racf_stream.specs.declared.status.Status.{Status}
 use Rattle.racf_stream.specs.declared.status.Status.TheVariants as statuses
 use Rattle.racf_stream.specs.Runs.{after, longest_input}
+use Rattle.racf_stream.specs.Status.{code_of}
 use Rattle.racf_workers.specs.Deck.{DeckState, Turn, new_deck, deck_machine, Gives}
 use Rattle.racf_workers.specs.RequestFile.{Answers}
 
@@ -52,28 +54,30 @@ abbrev pub new_pass : (deck : ℕ) → Passing
 new_pass deck = record { deck = deck; commands = 0; faults = 0 }
 
 -- what stands behind the lines of a deck whose output is so
-abbrev pub state_of : {base : Position} → {before after_it : List Event} → {pass back : Passing} → {status : Status} → {source left sunk now : Option (List ℕ)}
-    → Gives base before after_it pass back status source left sunk now → DeckState
-state_of {base} {before} {pass} gives = after (deck_machine base before pass gives.schedule) gives.ran.worked (new_deck before pass gives.schedule)
+abbrev pub state_of : {base : Position} → {issuing : Issuing} → {before after_it : List Event} → {pass back : Passing} → {read_failed write_failed : Type 0} → {status : Status} → {source left sunk now : Option (List ℕ)}
+    → Gives base issuing before after_it pass back read_failed write_failed status source left sunk now → DeckState
+state_of {base} {issuing} {before} {pass = pass} gives = after (deck_machine base issuing before pass gives.schedule) gives.ran.worked (new_deck issuing before pass gives.schedule)
 
--- The worker of this deck, in a run whose history is `whole`. Its output is what its commands were told, each behind
+-- The worker of this deck, in a run whose history is `whole`: `read_failed` and `write_failed` say that its source, or
+-- its sink, failed. Its output is what its commands were told, each behind
 -- some list that extends what its caller had seen then, and what the caller saw is a beginning of the whole. The deck's
 -- entries are exactly those of its accepted commands. So many of its lines say DISKFAULT, and one that says so, or
--- HALTED, stands only where a disk has failed a command.
-pub record DeckRan (base : Position) (whole : List Event) (deck faults : ℕ) (status : Status) (source left sunk now : Option (List ℕ)) : Type 0 where
+-- HALTED, stands only where a disk has failed a command; the status of one that says DISKFAULT tells it, or is greater.
+pub record DeckRan (base : Position) (issuing : Issuing) (whole : List Event) (deck faults : ℕ) (read_failed write_failed : Type 0) (status : Status) (source left sunk now : Option (List ℕ)) : Type 0 where
   pub seen : List Event
   pub back : Passing
-  pub gives : Gives base [] seen (new_pass deck) back status source left sunk now
+  pub gives : Gives base issuing [] seen (new_pass deck) back read_failed write_failed status source left sunk now
   pub later : Extends seen whole
   pub own : entries_by deck (entries_of whole) ≡ made_in (state_of gives).turns
   pub counted : faults_in (state_of gives).turns ≡ faults
   pub failed : (state_of gives).has_failed ≡ true → mark_of whole ≡ Some true
+  pub told : 0 < faults → 20 ≤ code_of status
 
 -- The worker of a request file in such a run. Its output is what its lines print, each answered at some front of the
 -- history that its caller had seen then; the fronts only grow, and are beginnings of the whole.
-pub record FileRan (base : Position) (whole : List Event) (status : Status) (source left sunk now : Option (List ℕ)) : Type 0 where
+pub record FileRan (base : Position) (whole : List Event) (read_failed write_failed : Type 0) (status : Status) (source left sunk now : Option (List ℕ)) : Type 0 where
   pub seen : List Event
-  pub answers : Answers base [] seen status source left sunk now
+  pub answers : Answers base [] seen read_failed write_failed status source left sunk now
   pub later : Extends seen whole
 
 -- A worker stops before the end of its input only for a fault of its own source or sink, whose counts were `reads` and

@@ -1,11 +1,13 @@
 -- A run of decks and request files: one history, of which each output tells a part.
-use Rattle.std.specs.Prelude.{◌≡◌, ℕ, suc, nat_lt, Bool, false, List, [], ◌∷◌, ◌++◌, map, Option, if◌then◌else◌}
-use Rattle.std.specs.List.{sum_by}
+use Rattle.std.specs.Prelude.{◌≡◌, ℕ, suc, ◌<◌, ◌≤◌, nat_lt, Bool, true, false, List, [], ◌∷◌, ◌++◌, length, map, Option, if◌then◌else◌}
+use Rattle.std.specs.List.{All, sum_by}
+use Rattle.racf_outside.specs.Causes.{Rose}
 use Rattle.racf_desk.specs.Position.{Position}
 use Rattle.command_history.specs.declared.events.Accepted.{Accepted}
 use Rattle.command_history.specs.declared.events.Event.{Event}
 use Rattle.command_history.specs.Events.{all_of}
 use Rattle.racroute.specs.Kept.{fault_count}
+use Rattle.racf_stream.specs.declared.issuer.Issuing.{Issuing}
 use Rattle.racf_stream.specs.declared.status.Status.{Status}
 use Rattle.racf_stream.specs.declared.status.Status.TheVariants as statuses
 use Rattle.racf_stream.specs.Status.{code_of}
@@ -32,18 +34,26 @@ pub record Worked (I K : Type 0) : Type 0 where
   pub faults : ℕ
 
 -- `left` is what a source has to give and `reads` the count of its faults; `taken` is what a sink holds and `writes`
--- the count of its faults. The run begins at `base`, and its history is `whole`.
-module _ {I K : Type 0} (left : I → Option (List ℕ)) (reads : I → ℕ) (taken : K → Option (List ℕ)) (writes : K → ℕ) (base : Position) where
+-- the count of its faults. The run begins at `base`, `issuing` says who gives the commands of its decks, and its history
+-- is `whole`.
+module _ {I K : Type 0} (left : I → Option (List ℕ)) (reads : I → ℕ) (taken : K → Option (List ℕ)) (writes : K → ℕ) (base : Position) (issuing : Issuing) where
+  -- The source failed while it was worked, or the sink did.
+  abbrev pub ReadFailed : Worked I K → Type 0
+  ReadFailed w = Rose (reads w.given.0) (reads w.back.0)
+
+  abbrev pub WriteFailed : Worked I K → Type 0
+  WriteFailed w = Rose (writes w.given.1) (writes w.back.1)
+
   -- A worker stopped for one of its causes.
   abbrev pub HasStopped : Worked I K → Type 0
   HasStopped w = StopsFor w.status (left w.given.0) (reads w.given.0) (reads w.back.0) (writes w.given.1) (writes w.back.1)
 
   abbrev pub IsDeck : (whole : List Event) → (deck : ℕ) → Worked I K → Type 0
   IsDeck whole deck w =
-      DeckRan base whole deck w.faults w.status (left w.given.0) (left w.back.0) (taken w.given.1) (taken w.back.1) × HasStopped w
+      DeckRan base issuing whole deck w.faults (ReadFailed w) (WriteFailed w) w.status (left w.given.0) (left w.back.0) (taken w.given.1) (taken w.back.1) × HasStopped w
 
   abbrev pub IsFile : (whole : List Event) → Worked I K → Type 0
-  IsFile whole w = FileRan base whole w.status (left w.given.0) (left w.back.0) (taken w.given.1) (taken w.back.1) × HasStopped w
+  IsFile whole w = FileRan base whole (ReadFailed w) (WriteFailed w) w.status (left w.given.0) (left w.back.0) (taken w.given.1) (taken w.back.1) × HasStopped w
 
   -- the decks, which number from this one on
   abbrev pub AreDecks : (whole : List Event) → (deck : ℕ) → List (Worked I K) → Type 0
@@ -55,18 +65,21 @@ module _ {I K : Type 0} (left : I → Option (List ℕ)) (reads : I → ℕ) (ta
   AreFiles whole (w ∷ workers) = IsFile whole w × AreFiles whole workers
 
   -- A run whose history is these entries, and has ended so: each output is that of its worker, in one and the same
-  -- history; all that was given is given back, in its order, decks before request files; the status is the greatest of
-  -- the workers'; and of all lines one says DISKFAULT where a disk failed a command, else none.
+  -- history, each entry of which is of one of these decks; all that was given is given back, in its order, decks before
+  -- request files; the status is the greatest of the workers'; and of all lines one says DISKFAULT where a disk failed a
+  -- command, else none, and then the status tells it, or is greater.
   pub record RunsTogether (entries : List Accepted) (halted : Bool) (status : Status) (decks requests outs : List (I × K)) : Type 0 where
     pub deck_workers : List (Worked I K)
     pub file_workers : List (Worked I K)
     pub are_decks : AreDecks (all_of entries halted) 0 deck_workers
     pub are_files : AreFiles (all_of entries halted) file_workers
+    pub of_decks : All (λ entry. entry.deck < length decks) entries
     pub decks_are : map (λ w. w.given) deck_workers ≡ decks
     pub requests_are : map (λ w. w.given) file_workers ≡ requests
     pub outs_are : map (λ w. w.back) (deck_workers ++ file_workers) ≡ outs
     pub status_is : status ≡ greatest (map (λ w. w.status) (deck_workers ++ file_workers))
     pub one_fault : sum_by (λ w. w.faults) deck_workers ≡ fault_count halted
+    pub halted_status : halted ≡ true → 20 ≤ code_of status
 
 -- There was no memory for the list of outputs: nothing was read, written or accepted, and no output is given back.
 pub record HasNoRoom {I K : Type 0} (entries : List Accepted) (halted : Bool) (status : Status) (outs : List (I × K)) : Type 0 where

@@ -1,11 +1,14 @@
 -- The workers of a run, before they work and behind it.
-use Rattle.std.specs.Prelude.{◌≡◌, ◌≢◌, ℕ, true, List, [], ◌∷◌, Option, Some, None}
+use Rattle.std.specs.Prelude.{◌≡◌, ◌≢◌, ◌<◌, ◌≤◌, ℕ, true, List, [], ◌∷◌, Option, Some, None}
+use Rattle.racf_outside.specs.Causes.{Rose}
 use Rattle.racf_desk.specs.Position.{Position}
 use Rattle.command_history.specs.Events.{mark_of}
 use Rattle.raclist_snapshots.specs.Publishing.{Seeing}
 use Rattle.racroute.specs.Core.{Passing}
+use Rattle.racf_stream.specs.declared.issuer.Issuing.{Issuing}
 use Rattle.racf_stream.specs.declared.status.Status.{Status}
 use Rattle.racf_stream.specs.declared.status.Status.TheVariants as statuses
+use Rattle.racf_stream.specs.Status.{code_of}
 use Rattle.racf_workers.specs.Deck.{Gives}
 use Rattle.racf_workers.specs.RequestFile.{Answers}
 use Rattle.racf_threads.specs.Outputs.{StopsFor}
@@ -30,16 +33,19 @@ new_workers passes [] = []
 new_workers [] (given ∷ others) = new_worker None given ∷ new_workers [] others
 new_workers (pass ∷ passes) (given ∷ others) = new_worker (Some pass) given ∷ new_workers passes others
 
--- `left`, `reads`, `taken` and `writes` are those of sources and sinks, as for a whole run.
-module _ {I K : Type 0} (left : I → Option (List ℕ)) (reads : I → ℕ) (taken : K → Option (List ℕ)) (writes : K → ℕ) (base : Position) where
-  -- A deck has worked its source, and its pass is handed in. Where a disk failed it, its caller has the final mark.
+-- `left`, `reads`, `taken` and `writes` are those of sources and sinks, and `issuing` says who gives the commands, as
+-- for a whole run.
+module _ {I K : Type 0} (left : I → Option (List ℕ)) (reads : I → ℕ) (taken : K → Option (List ℕ)) (writes : K → ℕ) (base : Position) (issuing : Issuing) where
+  -- A deck has worked its source, and its pass is handed in. Where a disk failed it, its caller has the final mark, and
+  -- its status tells it, or is greater.
   pub record Gave (pass : Passing) (given : I × K) (old new : Working I K) : Type 0 where
     pub back : I × K
     pub counted : Passing
     pub files_are : new.files ≡ Some back
     pub end_is : new.end ≡ Some counted
     pub failed : new.status ≡ statuses.DiskFault → mark_of new.caller.events ≡ Some true
-    pub gives : Gives base old.caller.events new.caller.events pass counted new.status (left given.0) (left back.0) (taken given.1) (taken back.1)
+    pub told : pass.faults < counted.faults → 20 ≤ code_of new.status
+    pub gives : Gives base issuing old.caller.events new.caller.events pass counted (Rose (reads given.0) (reads back.0)) (Rose (writes given.1) (writes back.1)) new.status (left given.0) (left back.0) (taken given.1) (taken back.1)
     pub stops : StopsFor new.status (left given.0) (reads given.0) (reads back.0) (writes given.1) (writes back.1)
 
   -- A request file has worked its source.
@@ -48,7 +54,7 @@ module _ {I K : Type 0} (left : I → Option (List ℕ)) (reads : I → ℕ) (ta
     pub files_are : new.files ≡ Some back
     pub end_is : new.end ≡ old.end
     pub failed : new.status ≢ statuses.DiskFault
-    pub answers : Answers base old.caller.events new.caller.events new.status (left given.0) (left back.0) (taken given.1) (taken back.1)
+    pub answers : Answers base old.caller.events new.caller.events (Rose (reads given.0) (reads back.0)) (Rose (writes given.1) (writes back.1)) new.status (left given.0) (left back.0) (taken given.1) (taken back.1)
     pub stops : StopsFor new.status (left given.0) (reads given.0) (reads back.0) (writes given.1) (writes back.1)
 
   abbrev pub WorkedOn : Option Passing → Option (I × K) → (old new : Working I K) → Type 0

@@ -12,6 +12,7 @@ ghost use Rattle.command_history.specs.Reached.{reached, AreLegal};
 ghost use Rattle.racroute.specs.Core.{new_passes};
 ghost use Rattle.racroute.specs.Disks.{StandAt, StaysAlong};
 ghost use Rattle.racroute.specs.Kept.{fault_count};
+ghost use Rattle.racf_stream.specs.declared.issuer.Issuing.{Issuing};
 ghost use Rattle.racf_threads.specs.Together.{RunsTogether};
 ghost use Rattle.racf_threads.specs.Working.{HasWorked};
 
@@ -23,7 +24,7 @@ use command_history::{Naming, Opened};
 use left_right::Absorb;
 use racf_desk::Desk;
 use racf_outside::{Disk, Sink, Source};
-use racf_stream::Status;
+use racf_stream::{Issuing, Status};
 use racf_workers::Gate;
 use raclist_image::Image;
 use raclist_snapshots::{Caller, Note, Opens, snapshots};
@@ -53,6 +54,7 @@ pub(crate) fn begun<
     desk: Desk<D>,
     decks: u32,
     files: Vec<(I, K)>,
+    issuing: Issuing,
     gate: &G,
 ) -> Result<Ran<I, K, D>, (Desk<D>, Vec<(I, K)>)>
     requires book { opened.0 ≡ J.book }
@@ -68,7 +70,7 @@ pub(crate) fn begun<
     requires commands { (blanks.0.name ≡ S.name) × (blanks.0.parts ≡ S.parts) × (S.parts ≡ decks + 1) }
     requires failed { (blanks.1.name ≡ F.name) × (blanks.1.parts ≡ F.parts) × (F.parts ≡ decks + 1) }
     requires out { (blanks.2.name ≡ P.name) × (blanks.2.parts ≡ P.parts) × (P.parts ≡ decks + 1) }
-    ensures together { IfOk result (λ ran. RunsTogether I.left I.faults K.taken K.faults J.base ran.accepted.items ran.halted ran.status (take decks files.items) (drop decks files.items) ran.outs.items) }
+    ensures together { IfOk result (λ ran. RunsTogether I.left I.faults K.taken K.faults J.base issuing ran.accepted.items ran.halted ran.status (take decks files.items) (drop decks files.items) ran.outs.items) }
     ensures legal { IfOk result (λ ran. AreLegal J.base ran.accepted.items) }
     ensures first { IfOk result (λ ran. ran.first ≡ number_at J.base) }
     ensures disks { IfOk result (λ ran. StandAt ran.halted (D.tells ran.disks.first) (D.tells ran.disks.second) (reached J.base (all_of ran.accepted.items ran.halted))) }
@@ -92,7 +94,9 @@ pub(crate) fn begun<
         Err(_) => return Err((desk, files)),
     };
     match Racf::<J, _, _, _, S, F, P, D>::start(alloc, publisher, blanks, desk, decks) {
-        Ok((racf, passes)) => Ok(ran(rt, alloc, racf, callers, passes, decks, files, room, gate)),
+        Ok((racf, passes)) => Ok(ran(
+            rt, alloc, racf, callers, passes, decks, files, room, issuing, gate,
+        )),
         Err(desk) => {
             room.give_back();
             Err((desk, files))
@@ -108,7 +112,7 @@ pub(crate) fn unbegun<I: Source, K: Sink, D: Disk>(
 ) -> Ran<I, K, D>
     requires running { desk.halted ≡ false }
     requires settled { desk.committed ≡ false }
-    ensures together { (decks : ℕ) → 0 < vec_len outs → RunsTogether I.left I.faults K.taken K.faults desk.position result.accepted.items result.halted result.status (take decks outs.items) (drop decks outs.items) result.outs.items }
+    ensures together { (decks : ℕ) (issuing : Issuing) → 0 < vec_len outs → RunsTogether I.left I.faults K.taken K.faults desk.position issuing result.accepted.items result.halted result.status (take decks outs.items) (drop decks outs.items) result.outs.items }
     ensures outs { result.outs.items ≡ outs.items }
     ensures status { result.status ≡ Status.NoMemory }
     ensures none { result.accepted.items ≡ [] }
@@ -158,6 +162,7 @@ fn ran<
     decks: u32,
     files: Vec<(I, K)>,
     room: Room<J, S, F, P, I, K>,
+    issuing: Issuing,
     gate: &G,
 ) -> Ran<I, K, D>
     requires new { All (λ caller. caller ≡ record { events = []; learned = 0 }) callers.items }
@@ -170,7 +175,7 @@ fn ran<
     requires left { (room.left.callers.items ≡ []) × (vec_len files ≤ vec_capacity room.left.callers) }
     requires ends { (room.left.ends.items ≡ []) × (vec_len files ≤ vec_capacity room.left.ends) }
     requires outs { (room.left.outs.items ≡ []) × (vec_len files ≤ vec_capacity room.left.outs) }
-    ensures together { RunsTogether I.left I.faults K.taken K.faults J.base result.accepted.items result.halted result.status (take decks files.items) (drop decks files.items) result.outs.items }
+    ensures together { RunsTogether I.left I.faults K.taken K.faults J.base issuing result.accepted.items result.halted result.status (take decks files.items) (drop decks files.items) result.outs.items }
     ensures legal { AreLegal J.base result.accepted.items }
     ensures first { result.first ≡ number_at J.base }
     ensures disks { StandAt result.halted (D.tells result.disks.first) (D.tells result.disks.second) (reached J.base (all_of result.accepted.items result.halted)) }
@@ -183,7 +188,7 @@ fn ran<
 {
     let Room { workers, left } = room;
     let mut workers = seat(callers, passes, files, workers);
-    side_by_side(rt, alloc, &racf, workers.as_mut_slice(), gate);
+    side_by_side(rt, alloc, &racf, workers.as_mut_slice(), issuing, gate);
     let (left, status) = gather(workers, left);
     let Left {
         callers,
@@ -206,7 +211,9 @@ fn ran<
     }
 }
 
-/// Each worker works in a thread of its own where one can be made; else one after another, decks first.
+/// Each worker works in a thread of its own where one can be made; else behind others, in a thread that is there. A
+/// thread works the later ones of its workers first, and request files may wait for decks, which wait for nobody: so
+/// the list is turned round meanwhile, and each request file is worked behind the decks of its thread.
 fn side_by_side<
     J: Naming + Send + Sync,
     T: Absorb<O> + Drop + Send + Sync,
@@ -225,10 +232,42 @@ fn side_by_side<
     alloc: Global,
     racf: &Racf<J, T, O, Q, S, F, P, D>,
     workers: &mut [Worker<J, S, F, P, I, K>],
+    issuing: Issuing,
     gate: &G,
 )
     requires { 0 < length workers.old }
-    ensures { AllZip (HasWorked I.left I.faults K.taken K.faults J.base) workers.old workers.new }
+    ensures { AllZip (HasWorked I.left I.faults K.taken K.faults J.base issuing) workers.old workers.new }
+{
+    workers.reverse();
+    in_threads(rt, alloc, racf, workers, issuing, gate);
+    workers.reverse();
+}
+
+/// Each worker works in a thread of its own where one can be made; else in one that is there, behind the later ones
+/// that are worked in it.
+fn in_threads<
+    J: Naming + Send + Sync,
+    T: Absorb<O> + Drop + Send + Sync,
+    O: Opens<Note<J>> + Send,
+    Q: Wait + Drop + Send,
+    S: Ledger + Send,
+    F: Ledger + Send,
+    P: Ledger + Send,
+    I: Source + Send,
+    K: Sink + Send,
+    D: Disk + Send,
+    G: Gate + Sync,
+    R: Wait + Threads + Sync,
+>(
+    rt: &R,
+    alloc: Global,
+    racf: &Racf<J, T, O, Q, S, F, P, D>,
+    workers: &mut [Worker<J, S, F, P, I, K>],
+    issuing: Issuing,
+    gate: &G,
+)
+    requires { 0 < length workers.old }
+    ensures { AllZip (HasWorked I.left I.faults K.taken K.faults J.base issuing) workers.old workers.new }
 {
     let threads = workers.len();
     for_each_mut(
@@ -236,8 +275,8 @@ fn side_by_side<
         workers,
         threads,
         &|_, worker: &mut Worker<J, S, F, P, I, K>|
-            ensures { HasWorked I.left I.faults K.taken K.faults J.base worker.entry.now worker.exit.now }
-        { worker.work(rt, alloc, racf, gate) },
+            ensures { HasWorked I.left I.faults K.taken K.faults J.base issuing worker.entry.now worker.exit.now }
+        { worker.work(rt, alloc, racf, issuing, gate) },
     );
 }
 

@@ -8,7 +8,7 @@
 //! it, whatever comes. Names of files and the shelf are no matter of this crate.
 //!
 //! ```text
-//! let Ran { status, outs, disks, accepted, .. } = run(rt, alloc, desk, decks, requests, &Idle);
+//! let Ran { status, outs, disks, accepted, .. } = run(rt, alloc, desk, decks, requests, Issuing::Free, &Idle);
 //! ```
 #![tactic(auto)]
 

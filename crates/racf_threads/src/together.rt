@@ -14,7 +14,7 @@ use crate::begin::{begun, unbegun};
 use command_history::{Accepted, Opened};
 use racf_desk::Desk;
 use racf_outside::{Disk, Sink, Source, Two};
-use racf_stream::Status;
+use racf_stream::{Issuing, Status};
 use racf_workers::Gate;
 use std::alloc::Global;
 use std::marker::Brand;
@@ -39,7 +39,8 @@ pub struct Ran<I, K, D> {
 }
 
 /// Works decks and request files, each in a thread of its own where one can be made: at most 4 decks and 16 request
-/// files, which are given as sources with their sinks, and are given back so. The gate is asked before each line and
+/// files, which are given as sources with their sinks, and are given back so. `issuing` says who gives the commands of
+/// the decks, and whether their lines may name others. The gate is asked before each line and
 /// behind it; the workers number from 0 on, decks before request files. Where there is no memory for the list of
 /// outputs, nothing is read or written, and none is given back.
 pub fn run<
@@ -54,6 +55,7 @@ pub fn run<
     desk: Desk<D>,
     decks: Vec<(I, K)>,
     requests: Vec<(I, K)>,
+    issuing: Issuing,
     gate: &G,
 ) -> Ran<I, K, D>
     requires running { desk.halted ≡ false }
@@ -63,7 +65,7 @@ pub fn run<
     requires some { 0 < vec_len decks + vec_len requests }
 
     // One history, of which each output tells a part.
-    ensures together { RunsTogether I.left I.faults K.taken K.faults desk.position result.accepted.items result.halted result.status decks.items requests.items result.outs.items
+    ensures together { RunsTogether I.left I.faults K.taken K.faults desk.position issuing result.accepted.items result.halted result.status decks.items requests.items result.outs.items
         ⊎ HasNoRoom result.accepted.items result.halted result.status result.outs.items }
     ensures legal { AreLegal desk.position result.accepted.items }
     ensures first { result.first ≡ number_at desk.position }
@@ -81,7 +83,7 @@ pub fn run<
     let mut files = decks;
     let mut requests = requests;
     match files.append(&mut requests) {
-        Ok(()) => run_files(rt, alloc, desk, files, count, gate),
+        Ok(()) => run_files(rt, alloc, desk, files, count, issuing, gate),
         Err(_) => unbegun(alloc, desk, Vec::new(alloc)),
     }
 }
@@ -94,7 +96,15 @@ pub fn run_files<
     D: Disk + Send,
     G: Gate + Sync,
     R: Wait + Threads + Sync,
->(rt: &R, alloc: Global, desk: Desk<D>, files: Vec<(I, K)>, decks: u32, gate: &G) -> Ran<I, K, D>
+>(
+    rt: &R,
+    alloc: Global,
+    desk: Desk<D>,
+    files: Vec<(I, K)>,
+    decks: u32,
+    issuing: Issuing,
+    gate: &G,
+) -> Ran<I, K, D>
     requires running { desk.halted ≡ false }
     requires settled { desk.committed ≡ false }
     requires few_decks { decks ≤ 4 }
@@ -103,7 +113,7 @@ pub fn run_files<
     requires some { 0 < vec_len files }
 
     // One history, of which each output tells a part.
-    ensures together { RunsTogether I.left I.faults K.taken K.faults desk.position result.accepted.items result.halted result.status (take decks files.items) (drop decks files.items) result.outs.items }
+    ensures together { RunsTogether I.left I.faults K.taken K.faults desk.position issuing result.accepted.items result.halted result.status (take decks files.items) (drop decks files.items) result.outs.items }
     ensures legal { AreLegal desk.position result.accepted.items }
     ensures first { result.first ≡ number_at desk.position }
 
@@ -130,6 +140,7 @@ pub fn run_files<
         desk,
         decks,
         files,
+        issuing,
         gate,
     ) {
         Ok(ran) => ran,

@@ -1,14 +1,16 @@
 //! What one thread of a run has, and does.
 
-ghost use Rattle.std.specs.Prelude.{◌≡◌, true, Some};
+ghost use Rattle.std.specs.Prelude.{◌≡◌, ◌<◌, ◌≤◌, true, Some};
+ghost use Rattle.racf_outside.specs.Causes.{Rose};
 ghost use Rattle.command_history.specs.Events.{mark_of};
+ghost use Rattle.racf_stream.specs.Status.{code_of};
 ghost use Rattle.racf_workers.specs.Deck.{Gives};
 ghost use Rattle.racf_threads.specs.Outputs.{StopsFor};
 
 use command_history::Naming;
 use left_right::Absorb;
 use racf_outside::{Disk, Sink, Source};
-use racf_stream::Status;
+use racf_stream::{Issuing, Status};
 use racf_workers::{Gate, answer_requests, give_commands};
 use raclist_snapshots::{Caller, Note, Opens};
 use racroute::{DeckEnd, DeckPass, Racf};
@@ -53,8 +55,15 @@ impl<J: Naming, S: Ledger, F: Ledger, P: Ledger, I: Source, K: Sink> Worker<J, S
         D: Disk,
         R: Wait,
         G: Gate,
-    >(&mut self, rt: &R, alloc: Global, racf: &Racf<J, T, O, Q, S, F, P, D>, gate: &G)
-        ensures { HasWorked I.left I.faults K.taken K.faults J.base self.old self.new }
+    >(
+        &mut self,
+        rt: &R,
+        alloc: Global,
+        racf: &Racf<J, T, O, Q, S, F, P, D>,
+        issuing: Issuing,
+        gate: &G,
+    )
+        ensures { HasWorked I.left I.faults K.taken K.faults J.base issuing self.old self.new }
     {
         let Some((source, mut sink)) = self.files.take() else {
             return;
@@ -69,6 +78,7 @@ impl<J: Naming, S: Ledger, F: Ledger, P: Ledger, I: Source, K: Sink> Worker<J, S
                     pass,
                     source,
                     &mut sink,
+                    issuing,
                     gate,
                     self.number,
                 );
@@ -124,16 +134,19 @@ fn give<
     pass: DeckPass<S, F, P>,
     source: I,
     sink: &mut K,
+    issuing: Issuing,
     gate: &G,
     number: u32,
 ) -> (Status, I, DeckEnd<S, F>)
-    ensures gives { Gives J.base caller.old.events caller.new.events pass result.2 result.0 (I.left source) (I.left result.1) (K.taken sink.old) (K.taken sink.new) }
+    ensures gives { Gives J.base issuing caller.old.events caller.new.events pass result.2
+        (Rose (I.faults source) (I.faults result.1)) (Rose (K.faults sink.old) (K.faults sink.new)) result.0 (I.left source) (I.left result.1) (K.taken sink.old) (K.taken sink.new) }
     ensures failed { result.0 ≡ Status.DiskFault → mark_of caller.new.events ≡ Some true }
+    ensures told { pass.faults < result.2.faults → 20 ≤ code_of result.0 }
     ensures stops { StopsFor result.0 (I.left source) (I.faults source) (I.faults result.1) (K.faults sink.old) (K.faults sink.new) }
 {
     let mut pass = pass;
     let (status, source) = give_commands(
-        rt, alloc, racf, caller, &mut pass, source, sink, gate, number,
+        rt, alloc, racf, caller, &mut pass, source, sink, issuing, gate, number,
     );
     let end = racf.end_deck(rt, pass);
     (status, source, end)

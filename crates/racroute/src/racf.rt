@@ -1,5 +1,5 @@
 //! What threads share: an office behind a lock.
-ghost use Rattle.std.specs.Prelude.{◌≡◌, ◌≢◌, ◌+◌, ◌%◌, ◌^◌, ◌≤◌, true, false, None, [], length, List, IfOk, IfErr, OnOk, MatchResult, vec_len};
+ghost use Rattle.std.specs.Prelude.{◌≡◌, ◌≢◌, ◌+◌, ◌%◌, ◌^◌, ◌<◌, ◌≤◌, true, false, None, [], length, List, IfOk, IfErr, IsOk, OnOk, MatchResult, vec_len};
 ghost use Rattle.std.specs.List.{All, sum_by};
 ghost use Rattle.racf_outside.specs.Causes.{Rose};
 ghost use Rattle.racf_checkpoint.specs.Stored.{pick};
@@ -124,7 +124,8 @@ impl<
     }
 
     /// Gives a command, and answers when it is done. The caller has then seen the history that the reply is about: its
-    /// number is the reply's. Other threads that wait for commands are woken.
+    /// number is the reply's. Where it was accepted, or a disk failed it, other threads that wait for commands are
+    /// woken; a refused command wakes nobody.
     pub fn submit<Q: Wait>(
         &self,
         rt: &Q,
@@ -144,11 +145,14 @@ impl<
             let mut office = self.office.lock(rt);
             office.submit(alloc, caller, pass, issuer, group, text)
         };
-        self.moved.notify_all();
+        if matches!(reply, Reply::Accepted(_) | Reply::DiskFault(_)) {
+            self.moved.notify_all();
+        }
         reply
     }
 
-    /// Waits until so many commands are accepted, or nothing more will be.
+    /// Waits until so many commands are accepted, or nothing more will be. Where the caller has seen so many, it stays as
+    /// it is, and no lock is taken.
     ///
     /// # Errors
     ///
@@ -160,10 +164,14 @@ impl<
         number: u64,
     ) -> Result<(), AfterFault>
         ensures there { OnOk result (number ≤ number_behind J.base caller.new.events) }
-        ensures learned { OnOk result (caller.new.learned ≡ (caller.old.learned + 1) % 2 ^ 64) }
+        ensures seen { number ≤ number_behind J.base caller.old.events → IsOk result × (caller.new ≡ caller.old) }
+        ensures learned { number_behind J.base caller.old.events < number → OnOk result (caller.new.learned ≡ (caller.old.learned + 1) % 2 ^ 64) }
         ensures amiss { IfErr result (λ fault. IsAmiss J.base number fault caller.old caller.new) }
         ensures later { Extends caller.old.events caller.new.events }
     {
+        if number <= caller.generation() {
+            return Ok(());
+        }
         let guard = self.office.lock(rt);
         let mut guard = self
             .moved

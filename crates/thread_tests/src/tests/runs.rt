@@ -5,7 +5,7 @@ ghost use Rattle.racf_desk.specs.Position.{first_position};
 
 use racf_desk::Desk;
 use racf_outside::{Disk, MemoryDisk, MemorySink, MemorySource, NeverDisk, Two};
-use racf_stream::Status;
+use racf_stream::{Issuing, Status};
 use racf_threads::{Ran, run};
 use racf_workers::Gate;
 use std::alloc::{AllocError, Global};
@@ -104,7 +104,7 @@ fn over<G: Gate + Sync, D: Disk + Drop + Send, R: Wait + Threads + Sync>(
         first: _,
         accepted: _,
         halted: _,
-    } = run(rt, alloc, desk, decks, requests, gate);
+    } = run(rt, alloc, desk, decks, requests, Issuing::Free, gate);
     Ok(Told {
         status,
         outputs: outputs(alloc, outs)?,

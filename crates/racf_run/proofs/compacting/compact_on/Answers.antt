@@ -1,6 +1,8 @@
-use Rattle.std.proofs.Common.{inl, inr, sym, ◌∙◌}
+use Rattle.std.proofs.Common.{inl, inr, sym, ◌∙◌, subst}
+use Rattle.racf_run.specs.Racf.{IsUnsound}
 use Rattle.std.proofs.Math.Nat.{le_trans}
 use Rattle.racf_run.proofs.CompactLaws.{of_disk_fault, no_other, no_other_opening, ends_compact, compact_along}
+use Rattle.racf_run.proofs.Unsound.{no_disk_fault, ends_sound}
 use Rattle.racf_run.proofs.DiskLaws.{either_later, rose_idle, no_fewer, same_count}
 use Rattle.racf_run.proofs.compacting.compact_on.Goals as goal
 
@@ -22,6 +24,9 @@ returns-in-Ok-clause-moments g c =
     let tells = g.D.Disk.tells in
     compact_along tells (tells c.args.disks.first) (tells c.args.disks.second) c.in-Ok.desk.store c.compact.result.1.first c.compact.result.1.second c.in-Ok.desk.position
     c.in-Ok.ensures.stands c.in-Ok.ensures.first_moments c.in-Ok.ensures.second_moments c.compact.ensures.moments c.compact.ensures.live
+
+pub returns-in-Ok-clause-only_synced : goal.returns-in-Ok-clause-only_synced
+returns-in-Ok-clause-only_synced g c = λ e. absurd (ends_sound c.compact.result.0 c.compact.ensures.ends e)
 
 pub returns-in-Ok-clause-no_other : goal.returns-in-Ok-clause-no_other
 returns-in-Ok-clause-no_other g c = no_other c.compact.result.0 c.compact.ensures.ends
@@ -46,7 +51,18 @@ returns-in-Ok-clause-second_faults g c =
 
 -- it wasn't
 pub returns-in-Err-clause-compacts : goal.returns-in-Err-clause-compacts
-returns-in-Err-clause-compacts g c = inl (record { why = c.in-Err.why; is_status = c.opening_status.ensures; refused = c.in-Err.ensures.fault })
+returns-in-Err-clause-compacts g c =
+    inl (record {
+      why = c.in-Err.why;
+      is_status = c.opening_status.ensures;
+      refused = c.in-Err.ensures.fault;
+      first_moments = c.in-Err.ensures.first_moments;
+      second_moments = c.in-Err.ensures.second_moments;
+      only_synced = c.in-Err.ensures.untouched;
+    })
+
+pub returns-in-Err-clause-only_synced : goal.returns-in-Err-clause-only_synced
+returns-in-Err-clause-only_synced g c = λ e. c.in-Err.ensures.untouched (no_disk_fault c.in-Err.why (subst IsUnsound c.opening_status.ensures e))
 
 pub returns-in-Err-clause-moments : goal.returns-in-Err-clause-moments
 returns-in-Err-clause-moments g c = inl (c.in-Err.ensures.first_moments, c.in-Err.ensures.second_moments)

@@ -1,25 +1,28 @@
-use Rattle.std.proofs.Common.{inl, inr, refl, sym, ◌∙◌, map, string_bytes}
+use Rattle.std.proofs.Common.{inl, inr, refl, sym, ◌∙◌, subst, map, string_bytes}
+use Rattle.std.proofs.Math.Nat.{le_trans}
 use Rattle.racf_outside.proofs.Rises.{Rose-later}
 use Rattle.racf_run.proofs.OpeningLaws.{AreNew-moved}
 use Rattle.racf_run.proofs.RunningLaws.{input_of, output_of, unopened_ends, opens_none}
-use Rattle.racf_run.proofs.DiskLaws.{stand_at}
+use Rattle.racf_run.specs.Racf.{IsUnsound}
+use Rattle.racf_run.proofs.Unsound.{unopened_sound, no_memory_sound}
+use Rattle.racf_run.proofs.DiskLaws.{stands_still}
 use Rattle.racf_run.proofs.running.run_between.Goals as goal
 
 -- there was no memory for the list of files
 pub returns-in_default-clause-runs : goal.returns-in_default-clause-runs
-returns-in_default-clause-runs g c =
+returns-in_default-clause-runs g c before no_more =
     inl (record {
-      stands = stand_at g.D.Disk.tells c.args.desk c.into_disks.result.first c.into_disks.result.second (record { first = c.into_disks.ensures.first; second = c.into_disks.ensures.second }) (c.is_at_rest.ensures c.requires.running);
+      stands = stands_still g.D.Disk.tells c.args.desk c.into_disks.result.first c.into_disks.result.second (record { first = c.into_disks.ensures.first; second = c.into_disks.ensures.second }) (c.is_at_rest.ensures c.requires.running);
       is_status = refl;
       kept = refl;
     })
 
 -- a file couldn't be opened
 pub returns-clause-runs : goal.returns-clause-runs
-returns-clause-runs g c =
+returns-clause-runs g c before no_more =
     let undone = c.in-Err.ensures.undone in
     inr (inl (record {
-      stands = stand_at g.D.Disk.tells c.args.desk c.into_disks-in-Err.result.first c.into_disks-in-Err.result.second (record { first = c.into_disks-in-Err.ensures.first; second = c.into_disks-in-Err.ensures.second }) (c.is_at_rest.ensures c.requires.running);
+      stands = stands_still g.D.Disk.tells c.args.desk c.into_disks-in-Err.result.first c.into_disks-in-Err.result.second (record { first = c.into_disks-in-Err.ensures.first; second = c.into_disks-in-Err.ensures.second }) (c.is_at_rest.ensures c.requires.running);
       why = c.in-Err.why;
       is_status = c.unopened_status.ensures;
       front = undone.front;
@@ -35,6 +38,12 @@ returns-clause-runs g c =
       empty = undone.empty;
       others = undone.others;
     }))
+
+pub returns-in_default-clause-sound : goal.returns-in_default-clause-sound
+returns-in_default-clause-sound g c = no_memory_sound
+
+pub returns-clause-sound : goal.returns-clause-sound
+returns-clause-sound g c = λ e. unopened_sound c.in-Err.why (subst IsUnsound c.unopened_status.ensures e)
 
 pub returns-clause-usage : goal.returns-clause-usage
 returns-clause-usage g c = λ e. (unopened_ends c.in-Err.why).0 (sym c.unopened_status.ensures ∙ e)
@@ -57,16 +66,17 @@ work_files-requires-clause-new g c κs within =
 
 -- the files were worked
 pub returns-in-Ok-open_all-clause-runs : goal.returns-in-Ok-open_all-clause-runs
-returns-in-Ok-open_all-clause-runs g c =
+returns-in-Ok-open_all-clause-runs g c before no_more =
     let opened = c.in-Ok-open_all.ensures.opened in
     let worked = c.work_files.ensures in
+    let counts = record { reads = le_trans no_more.reads opened.no_fewer_reads; writes = le_trans no_more.writes opened.no_fewer_writes; first = no_more.first; second = no_more.second } in
     inr (inr (record {
       files = c.in-Ok-open_all.files.items;
       worked = worked.returned.0;
       first = c.open_all.new.shelf;
       opened = opened.calls;
       returned = worked.returned.1;
-      ran = worked.ran (g.F.Shelf.input c.args.shelf.now) (g.F.Shelf.output c.args.shelf.now) opened.new_files opened.others;
+      ran = worked.ran (g.F.Shelf.input c.args.shelf.now) (g.F.Shelf.output c.args.shelf.now) before counts opened.new_files opened.others;
     }))
 
 pub returns-in-Ok-open_all-clause-read_fault : goal.returns-in-Ok-open_all-clause-read_fault

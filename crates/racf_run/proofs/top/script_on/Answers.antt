@@ -1,27 +1,31 @@
-use Rattle.std.proofs.Common.{inl, inr}
+use Rattle.std.proofs.Common.{inl, inr, refl, subst}
 use Rattle.std.proofs.Math.Nat.{le_trans}
+use Rattle.racf_outside.specs.Causes.{Rose}
+use Rattle.racf_run.proofs.Unsound.{no_disk_fault, is_neither}
 use Rattle.racf_run.proofs.DiskLaws.{ends_on, either_later, rose_along, no_fewer_along}
 use Rattle.racf_run.proofs.TopLaws.{RunsOnShelf-weaker, script_along}
-use Rattle.racf_run.specs.Racf.{EndsAt, EndsOn}
+use Rattle.racf_run.specs.Racf.{IsUnsound, EndsAt, EndsOn}
 use Rattle.racf_run.proofs.top.script_on.Goals as goal
 
 pub returns-in-Ok-clause-runs : goal.returns-in-Ok-clause-runs
 returns-in-Ok-clause-runs g c =
     let desk = c.script_between-status.result.1 in
+    let input = g.F.Shelf.input c.args.shelf.now c.args.input.now in
     inr (record {
       base = c.in-Ok.desk.position;
       stood = c.in-Ok.ensures.stands;
       ran =
           RunsOnShelf-weaker g.F.Shelf.source_gives g.F.Shelf.sink_gives g.F.Shelf.take_back_gives g.F.Shelf.give_back_gives g.F.Shelf.tells g.F.Shelf.output
-          (EndsAt g.D.Disk.tells desk) (EndsOn (g.D.Disk.tells c.into_disks.result.first) (g.D.Disk.tells c.into_disks.result.second)) c.in-Ok.desk.position
-          (ends_on g.D.Disk.tells desk c.into_disks.result.first c.into_disks.result.second (record { first = c.into_disks.ensures.first; second = c.into_disks.ensures.second }))
+          (Rose (g.F.Shelf.source_faults c.args.shelf.now) (g.F.Shelf.source_faults c.script_between-status.new.shelf)) (Rose (g.F.Shelf.sink_faults c.args.shelf.now) (g.F.Shelf.sink_faults c.script_between-status.new.shelf))
+          (EndsAt g.D.Disk.tells c.args.issuing c.in-Ok.desk.position input desk) (EndsOn c.args.issuing c.in-Ok.desk.position input (g.D.Disk.tells c.into_disks.result.first) (g.D.Disk.tells c.into_disks.result.second)) c.in-Ok.desk.position
+          (ends_on g.D.Disk.tells c.args.issuing c.in-Ok.desk.position input desk c.into_disks.result.first c.into_disks.result.second (record { first = c.into_disks.ensures.first; second = c.into_disks.ensures.second }))
           c.script_between-status.result.0 _ _ c.args.shelf.now c.script_between-status.new.shelf c.script_between-status.ensures.runs;
     })
 
 pub returns-in-Ok-clause-moments : goal.returns-in-Ok-clause-moments
 returns-in-Ok-clause-moments g c =
     let tells = g.D.Disk.tells in
-    script_along tells (tells c.args.disks.first) (tells c.args.disks.second) (g.F.Shelf.input c.args.shelf.now c.args.input.now) c.in-Ok.desk.store c.script_between-status.result.1.store c.into_disks.result.first c.into_disks.result.second c.in-Ok.desk.position
+    script_along tells (tells c.args.disks.first) (tells c.args.disks.second) c.args.issuing (g.F.Shelf.input c.args.shelf.now c.args.input.now) c.in-Ok.desk.store c.script_between-status.result.1.store c.into_disks.result.first c.into_disks.result.second c.in-Ok.desk.position
     (record { first = c.into_disks.ensures.first; second = c.into_disks.ensures.second })
     c.in-Ok.ensures.stands c.in-Ok.ensures.first_moments c.in-Ok.ensures.second_moments c.script_between-status.ensures.idle c.script_between-status.ensures.moments
 
@@ -42,6 +46,28 @@ returns-in-Ok-clause-second_faults g c =
     le_trans c.in-Ok.ensures.second_no_fewer
     (no_fewer_along g.D.Disk.faults c.in-Ok.desk.store c.script_between-status.result.1.store c.into_disks.result.first c.into_disks.result.second
     (record { first = c.into_disks.ensures.first; second = c.into_disks.ensures.second }) c.script_between-status.ensures.idle c.script_between-status.ensures.disk_faults).1
+
+pub returns-in-Ok-clause-only_synced : goal.returns-in-Ok-clause-only_synced
+returns-in-Ok-clause-only_synced g c = λ e.
+    absurd (is_neither c.script_between-status.result.0 c.script_between-status.ensures.no_other.1 c.script_between-status.ensures.undamaged e)
+
+pub returns-in-Err-clause-runs : goal.returns-in-Err-clause-runs
+returns-in-Err-clause-runs g c =
+    inl (record {
+      unopened =
+          record {
+            why = c.in-Err.why;
+            is_status = c.opening_status.ensures;
+            refused = c.in-Err.ensures.fault;
+            first_moments = c.in-Err.ensures.first_moments;
+            second_moments = c.in-Err.ensures.second_moments;
+            only_synced = c.in-Err.ensures.untouched;
+          };
+      kept = refl;
+    })
+
+pub returns-in-Err-clause-only_synced : goal.returns-in-Err-clause-only_synced
+returns-in-Err-clause-only_synced g c = λ e. c.in-Err.ensures.untouched (no_disk_fault c.in-Err.why (subst IsUnsound c.opening_status.ensures e))
 
 pub returns-in-Err-clause-moments : goal.returns-in-Err-clause-moments
 returns-in-Err-clause-moments g c = inl (c.in-Err.ensures.first_moments, c.in-Err.ensures.second_moments)

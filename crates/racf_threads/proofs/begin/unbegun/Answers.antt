@@ -6,10 +6,10 @@ use Rattle.racf_threads.proofs.Rests.{rests, rested}
 use Rattle.racf_threads.proofs.begin.unbegun.Goals as goal
 
 pub returns-clause-together : goal.returns-clause-together
-returns-clause-together g c = λ decks some.
+returns-clause-together g c = λ decks issuing some.
     let outs = c.args.outs.ok.0 in
     let there : 0 < length c.args.outs.items = omega (arith, outs, some) in
-    idle_over g.I.Source.left g.I.Source.faults g.K.Sink.taken g.K.Sink.faults c.args.desk.position decks c.args.outs.items c.args.outs.items _ c.new-accepted.result.items false there refl refl (search rules) refl
+    idle_over g.I.Source.left g.I.Source.faults g.K.Sink.taken g.K.Sink.faults c.args.desk.position issuing decks c.args.outs.items c.args.outs.items _ c.new-accepted.result.items false there refl refl (search rules) refl
 
 pub returns-clause-disks : goal.returns-clause-disks
 returns-clause-disks g c =

@@ -61,7 +61,7 @@ returns-clause-disk_fault g c = λ e. absurd ((unopened_ends c.in-Err.why).1 (sy
 pub work_files-requires-clause-new : goal.work_files-requires-clause-new
 work_files-requires-clause-new g c κs within =
     let opened = c.in-Ok-open_all.ensures.opened in
-    AreNew-moved g.F.In.Source.left g.F.In.Source.faults g.F.Out.Sink.taken g.F.Out.Sink.faults g.F.Shelf.tells (g.F.Shelf.input c.open_all.new.shelf) (g.F.Shelf.input c.args.shelf.now) (map string_bytes c.args.asked.names.now) c.in-Ok-open_all.files.items
+    AreNew-moved g.F.In.Source.left g.F.In.Source.faults g.F.Out.Sink.taken g.F.Out.Sink.faults g.F.Shelf.tells (g.F.Shelf.input c.open_all.new.shelf) (g.F.Shelf.input c.args.shelf.now) (map string_bytes c.args.names.now) c.in-Ok-open_all.files.items
     (λ name. sym (opened.inputs name)) opened.new_files
 
 -- the files were worked
@@ -90,5 +90,5 @@ returns-in-Ok-open_all-clause-inputs g c name = c.work_files.ensures.inputs name
 
 pub returns-in-Ok-open_all-clause-handed_back : goal.returns-in-Ok-open_all-clause-handed_back
 returns-in-Ok-open_all-clause-handed_back g c =
-    opens_none (map string_bytes c.args.asked.names.now) (g.F.Shelf.is_open c.args.shelf.now) (g.F.Shelf.is_open c.open_all.new.shelf) (g.F.Shelf.is_open c.work_files.new.shelf)
+    opens_none (map string_bytes c.args.names.now) (g.F.Shelf.is_open c.args.shelf.now) (g.F.Shelf.is_open c.open_all.new.shelf) (g.F.Shelf.is_open c.work_files.new.shelf)
     c.in-Ok-open_all.ensures.opened.others_open c.work_files.ensures.closed

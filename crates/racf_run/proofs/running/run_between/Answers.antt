@@ -3,7 +3,9 @@ use Rattle.std.proofs.Math.Nat.{le_trans}
 use Rattle.racf_outside.proofs.Rises.{Rose-later}
 use Rattle.racf_run.proofs.OpeningLaws.{AreNew-moved}
 use Rattle.racf_run.proofs.RunningLaws.{input_of, output_of, unopened_ends, opens_none}
-use Rattle.racf_run.specs.Racf.{IsUnsound}
+use Rattle.checkpoint_disks.specs.declared.counting.Side.TheVariants.{First, Second}
+use Rattle.racf_checkpoint.specs.Stored.{disk_on}
+use Rattle.racf_run.specs.Racf.{IsUnsound, AreNoMore, fault_counts}
 use Rattle.racf_run.proofs.Unsound.{unopened_sound, no_memory_sound}
 use Rattle.racf_run.proofs.DiskLaws.{stands_still}
 use Rattle.racf_run.proofs.running.run_between.Goals as goal
@@ -69,7 +71,8 @@ pub returns-in-Ok-open_all-clause-runs : goal.returns-in-Ok-open_all-clause-runs
 returns-in-Ok-open_all-clause-runs g c before no_more =
     let opened = c.in-Ok-open_all.ensures.opened in
     let worked = c.work_files.ensures in
-    let counts = record { reads = le_trans no_more.reads opened.no_fewer_reads; writes = le_trans no_more.writes opened.no_fewer_writes; first = no_more.first; second = no_more.second } in
+    let counts : AreNoMore before (fault_counts (g.F.Shelf.source_faults c.open_all.new.shelf) (g.F.Shelf.sink_faults c.open_all.new.shelf) (g.D.Disk.faults (disk_on First c.args.desk.store)) (g.D.Disk.faults (disk_on Second c.args.desk.store))) =
+    record { reads = le_trans no_more.reads opened.no_fewer_reads; writes = le_trans no_more.writes opened.no_fewer_writes; first = no_more.first; second = no_more.second } in
     inr (inr (record {
       files = c.in-Ok-open_all.files.items;
       worked = worked.returned.0;

@@ -213,7 +213,7 @@ fn assert_compacts(
     let stands = stand_of(&desk);
     let halted = desk.halted();
     let disks = desk.into_disks();
-    let fails = (1..15).contains(&failing);
+    let fails = (1..19).contains(&failing);
     assert!(rt;
         first == Answer::Accepted(1) && compaction == wanted,
         "at call {failing}"

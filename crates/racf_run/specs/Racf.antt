@@ -18,7 +18,7 @@ use Rattle.racf_stream.specs.declared.issuer.Issuing.{Issuing}
 use Rattle.racf_stream.specs.declared.issuer.Issuing.TheVariants.{Free}
 use Rattle.racf_stream.specs.declared.status.Status.{Status}
 use Rattle.racf_stream.specs.declared.status.Status.TheVariants.{ReadFault, WriteFault, DiskFault, NotFormatted, Damaged, NoMemory}
-use Rattle.racf_stream.specs.Durable.{StandsForFront, IsInDoubt, LeavesInDoubt}
+use Rattle.racf_stream.specs.Durable.{StandsForFront, CommandInDoubt, LeavesInDoubt}
 use Rattle.racf_stream.specs.Runs.{Ran}
 use Rattle.racf_stream.specs.Script.{stream, script_output, script_status, fault_at, StandsAt}
 use Rattle.racf_stream.specs.Stream.{State, new_stream, number_of}
@@ -155,7 +155,7 @@ StoodFor first second base = NowRead first second (λ one other. standing one ot
 -- position of the accepted commands, or for the one behind these and that command.
 pub record StandsInDoubt (issuing : Issuing) (base : Position) (input : Option (List ℕ)) (first second : Option History) (position : Position) : Type 0 where
   pub next : Position
-  pub in_doubt : IsInDoubt issuing base input position next
+  pub in_doubt : CommandInDoubt issuing base input position next
   pub leaves : LeavesBoth first second (StandsForEither position next)
 
 -- What a crash now leaves of the disks, behind the stream of an input from a base on: it stands for the position of this

@@ -163,7 +163,16 @@ where
         );
     }
     if let Some(asked) = run_words(words) {
-        return run_on(rt, alloc, asked, shelf, disks, gate);
+        return run_on(
+            rt,
+            alloc,
+            asked.issuing,
+            asked.decks,
+            asked.names,
+            shelf,
+            disks,
+            gate,
+        );
     }
     if is_init(words) {
         return init(alloc, disks);

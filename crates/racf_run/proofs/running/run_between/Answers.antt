@@ -3,7 +3,9 @@ use Rattle.std.proofs.Math.Nat.{le_trans}
 use Rattle.racf_outside.proofs.Rises.{Rose-later}
 use Rattle.racf_run.proofs.OpeningLaws.{AreNew-moved}
 use Rattle.racf_run.proofs.RunningLaws.{input_of, output_of, unopened_ends, opens_none}
-use Rattle.racf_run.specs.Racf.{IsUnsound}
+use Rattle.checkpoint_disks.specs.declared.counting.Side.TheVariants.{First, Second}
+use Rattle.racf_checkpoint.specs.Stored.{disk_on}
+use Rattle.racf_run.specs.Racf.{IsUnsound, AreNoMore, fault_counts}
 use Rattle.racf_run.proofs.Unsound.{unopened_sound, no_memory_sound}
 use Rattle.racf_run.proofs.DiskLaws.{stands_still}
 use Rattle.racf_run.proofs.running.run_between.Goals as goal
@@ -61,7 +63,7 @@ returns-clause-disk_fault g c = λ e. absurd ((unopened_ends c.in-Err.why).1 (sy
 pub work_files-requires-clause-new : goal.work_files-requires-clause-new
 work_files-requires-clause-new g c κs within =
     let opened = c.in-Ok-open_all.ensures.opened in
-    AreNew-moved g.F.In.Source.left g.F.In.Source.faults g.F.Out.Sink.taken g.F.Out.Sink.faults g.F.Shelf.tells (g.F.Shelf.input c.open_all.new.shelf) (g.F.Shelf.input c.args.shelf.now) (map string_bytes c.args.asked.names.now) c.in-Ok-open_all.files.items
+    AreNew-moved g.F.In.Source.left g.F.In.Source.faults g.F.Out.Sink.taken g.F.Out.Sink.faults g.F.Shelf.tells (g.F.Shelf.input c.open_all.new.shelf) (g.F.Shelf.input c.args.shelf.now) (map string_bytes c.args.names.now) c.in-Ok-open_all.files.items
     (λ name. sym (opened.inputs name)) opened.new_files
 
 -- the files were worked
@@ -69,7 +71,8 @@ pub returns-in-Ok-open_all-clause-runs : goal.returns-in-Ok-open_all-clause-runs
 returns-in-Ok-open_all-clause-runs g c before no_more =
     let opened = c.in-Ok-open_all.ensures.opened in
     let worked = c.work_files.ensures in
-    let counts = record { reads = le_trans no_more.reads opened.no_fewer_reads; writes = le_trans no_more.writes opened.no_fewer_writes; first = no_more.first; second = no_more.second } in
+    let counts : AreNoMore before (fault_counts (g.F.Shelf.source_faults c.open_all.new.shelf) (g.F.Shelf.sink_faults c.open_all.new.shelf) (g.D.Disk.faults (disk_on First c.args.desk.store)) (g.D.Disk.faults (disk_on Second c.args.desk.store))) =
+    record { reads = le_trans no_more.reads opened.no_fewer_reads; writes = le_trans no_more.writes opened.no_fewer_writes; first = no_more.first; second = no_more.second } in
     inr (inr (record {
       files = c.in-Ok-open_all.files.items;
       worked = worked.returned.0;
@@ -90,5 +93,5 @@ returns-in-Ok-open_all-clause-inputs g c name = c.work_files.ensures.inputs name
 
 pub returns-in-Ok-open_all-clause-handed_back : goal.returns-in-Ok-open_all-clause-handed_back
 returns-in-Ok-open_all-clause-handed_back g c =
-    opens_none (map string_bytes c.args.asked.names.now) (g.F.Shelf.is_open c.args.shelf.now) (g.F.Shelf.is_open c.open_all.new.shelf) (g.F.Shelf.is_open c.work_files.new.shelf)
+    opens_none (map string_bytes c.args.names.now) (g.F.Shelf.is_open c.args.shelf.now) (g.F.Shelf.is_open c.open_all.new.shelf) (g.F.Shelf.is_open c.work_files.new.shelf)
     c.in-Ok-open_all.ensures.opened.others_open c.work_files.ensures.closed

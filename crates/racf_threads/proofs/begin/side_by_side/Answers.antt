@@ -1,5 +1,5 @@
-use Rattle.std.proofs.Common.{◌≡◌, sym, subst}
-use Rattle.std.specs.Prelude.{reverse, List}
+use Rattle.std.proofs.Common.{sym, subst}
+use Rattle.std.specs.Prelude.{List}
 use Rattle.std.specs.List.{AllZip}
 use Rattle.racf_threads.specs.Working.{Working, HasWorked}
 use Rattle.racf_threads.proofs.Captures.{turned_back}

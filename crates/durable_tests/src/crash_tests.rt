@@ -69,12 +69,12 @@ const START: usize = 346;
 /// How many bytes a record takes with its gate.
 const STEP: usize = 32;
 
-/// How many calls an opening makes of the disk that counts: a sync, and reads up to one that gives nothing, of what tells
-/// which counts and of the file.
-const OPENING: u64 = 5;
+/// How many calls an opening makes of the disk that counts: a sync, a read of what tells that it counts, and reads up
+/// to one that gives nothing.
+const OPENING: u64 = 4;
 
-/// How many it makes of the other: a sync, and reads of what tells which counts.
-const LOOKING: u64 = 3;
+/// How many calls it makes of the other disk.
+const IDLE_OPENING: u64 = 2;
 
 /// The output where the third accepted command fails.
 const THIRD_FAILS: &str = "1 ACCEPTED
@@ -280,7 +280,7 @@ fn streams_end(rt: HostRuntime) {
         disks,
         ended,
         output: written,
-    } = run_stream(&rt, (OPENING + 29, LOOKING + 1), &input(&rt), (0, 0));
+    } = run_stream(&rt, (OPENING + 29, IDLE_OPENING + 1), &input(&rt), (0, 0));
     assert!(rt; ended == Some((Status::Refusals, false, STANDS[7])));
     assert!(rt; written.as_slice() == output(&rt, 7).as_bytes());
     assert!(rt; output(&rt, 2).as_str() == THIRD_FAILS);
@@ -289,22 +289,19 @@ fn streams_end(rt: HostRuntime) {
     assert_stands(&rt, disks.first.bytes(), 7);
 }
 
-/// Opening takes five calls of the disk that counts, and three of the other, of which none changes it.
+/// Opening takes four calls of the disk that counts, and two of the other, of which none changes it.
 #[test]
 fn openings_stop(rt: HostRuntime) {
     let new = held_bytes(&rt, &Held::First(EMPTY));
-    for call in 1..=OPENING + LOOKING {
-        let (first, second) = if call <= OPENING {
-            (call, 0)
-        } else {
-            (0, call.saturating_sub(OPENING))
-        };
-        let run = run_stream(&rt, (first, second), &input(&rt), (0, 0));
-        let faults = [run.disks.first.faults(), run.disks.second.faults()];
-        assert!(rt; run.ended.is_none() && run.output.is_empty());
-        assert!(rt; faults == [u64::from(first > 0), u64::from(second > 0)]);
-        assert!(rt; read_as(&run.disks, &new, BARE));
-        assert!(rt; open_desk(&rt, run.disks).found == Ok(STANDS[0]));
+    for failing in 1..=OPENING {
+        for (first, second) in [(failing, 0), (0, failing.min(IDLE_OPENING))] {
+            let run = run_stream(&rt, (first, second), &input(&rt), (0, 0));
+            let faults = [run.disks.first.faults(), run.disks.second.faults()];
+            assert!(rt; run.ended.is_none() && run.output.is_empty());
+            assert!(rt; faults == [u64::from(first > 0), u64::from(second > 0)]);
+            assert!(rt; read_as(&run.disks, &new, BARE));
+            assert!(rt; open_desk(&rt, run.disks).found == Ok(STANDS[0]));
+        }
     }
 }
 

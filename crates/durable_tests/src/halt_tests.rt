@@ -138,7 +138,7 @@ fn halted_desks_take_no_more(rt: HostRuntime) {
 
 /// A new desk that is given `AU JOE`, compacted, and given `AU BOB`, where that call of the second disk fails, or none:
 /// what the compaction and the last command are answered, and where the desk stands. A new desk takes seven calls of
-/// that disk, the compaction as many, and the command four.
+/// that disk, the compaction seven, and the command four.
 const COMPACTED: [(u64, Result<(), StoreFault>, Answer, Stand); 15] = [
     (
         8,

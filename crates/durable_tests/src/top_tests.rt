@@ -168,7 +168,7 @@ const OPENED: [Run; 16] = [
         None,
         NEW_PAIR,
     ),
-    // a disk that fails at a sync, a cut, a write, and last: the second file is made bare before the first
+    // a disk that fails at a write, a cut or a sync
     (
         INIT,
         LETTERS,
@@ -190,7 +190,7 @@ const OPENED: [Run; 16] = [
     (
         INIT,
         LETTERS,
-        (6, 0),
+        (5, 0),
         "",
         (Status::DiskFault, 20),
         None,
@@ -199,7 +199,7 @@ const OPENED: [Run; 16] = [
     (
         INIT,
         LETTERS,
-        (0, 6),
+        (0, 1),
         "",
         (Status::DiskFault, 20),
         None,
@@ -278,7 +278,7 @@ const WORKED: [Run; 14] = [
     (
         SCRIPT,
         NEW_PAIR,
-        (3, 0),
+        (4, 0),
         "AU JOE",
         (Status::DiskFault, 20),
         None,
@@ -287,7 +287,7 @@ const WORKED: [Run; 14] = [
     (
         SCRIPT,
         NEW_PAIR,
-        (0, 3),
+        (0, 2),
         "AU JOE",
         (Status::DiskFault, 20),
         None,
@@ -296,7 +296,7 @@ const WORKED: [Run; 14] = [
     (
         SCRIPT,
         NEW_PAIR,
-        (6, 0),
+        (5, 0),
         "AU JOE\nVERIFY A IBMUSER\nAX",
         (Status::DiskFault, 20),
         Some("0 DISKFAULT\n0 0 VERIFIED\n0 HALTED\n"),
@@ -305,7 +305,7 @@ const WORKED: [Run; 14] = [
     (
         COMPACT,
         JOE_PAIR,
-        (0, 3),
+        (0, 2),
         "",
         (Status::DiskFault, 20),
         None,
@@ -314,7 +314,7 @@ const WORKED: [Run; 14] = [
     (
         COMPACT,
         JOE_PAIR,
-        (0, 10),
+        (0, 9),
         "",
         (Status::DiskFault, 20),
         None,

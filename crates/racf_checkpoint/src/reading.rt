@@ -6,7 +6,7 @@ ghost use Rattle.racf_outside.specs.Disk.{Now};
 ghost use Rattle.racf_outside.specs.Moments.{durable};
 ghost use Rattle.racf_journal.specs.Opening.{OnlySynced};
 ghost use Rattle.checkpoint_disks.specs.Counting.{which, as_read};
-ghost use Rattle.racf_checkpoint.specs.Contents.{contents, Refuses, IsCausedByOne};
+ghost use Rattle.racf_checkpoint.specs.Contents.{contents, Refuses, IsCaused, IsCausedByOne};
 ghost use Rattle.racf_checkpoint.specs.Stored.{NowRead, StaysPossible, pick};
 ghost use Rattle.racf_checkpoint.specs.Finding.{IsSaid, IsSeen};
 ghost use Rattle.racf_checkpoint.specs.declared.fault.StoreFault.TheVariants as fault;
@@ -107,8 +107,8 @@ fn read_parts<D: Disk>(alloc: Global, first: &mut D, second: &mut D) -> Result<P
     ensures first_no_fewer { D.faults first.old ≤ D.faults first.new }
     ensures second_no_fewer { D.faults second.old ≤ D.faults second.new }
 {
-    let one = read_front(alloc, first, TELLING)?;
-    let two = read_front(alloc, second, TELLING)?;
+    let one = read_telling(alloc, first)?;
+    let two = read_telling(alloc, second)?;
     let side = side_that_counts(&one, &two)?;
     match side {
         Side::First => {
@@ -120,6 +120,22 @@ fn read_parts<D: Disk>(alloc: Global, first: &mut D, second: &mut D) -> Result<P
             Ok(Parts { side, one, two })
         }
     }
+}
+
+/// The bytes of a file that tell which of two counts, in one read.
+fn read_telling<D: Disk>(alloc: Global, disk: &mut D) -> Result<Vec<u8>, StoreFault>
+    ensures bytes { IfOk result (λ bytes. Now (D.tells disk.old) (λ m. bytes.items ≡ take 17 m.bytes)) }
+    ensures room { IfOk result (λ bytes. length bytes.items ≤ 17) }
+    ensures kept { D.tells disk.new ≡ D.tells disk.old }
+    ensures fault { IfErr result (λ why. (why ≡ fault.DiskFault) ⊎ (why ≡ fault.NoMemory)) }
+    ensures cause { IfErr result (IsCaused (D.faults disk.old) (D.faults disk.new)) }
+    ensures no_fewer { D.faults disk.old ≤ D.faults disk.new }
+{
+    let mut bytes = [0; TELLING];
+    let count = disk.read(0, &mut bytes)?;
+    let mut front = Vec::new(alloc);
+    front.extend_from_slice(&bytes[..count])?;
+    Ok(front)
 }
 
 /// What the bytes of two files say.

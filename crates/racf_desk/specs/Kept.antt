@@ -1,5 +1,5 @@
 -- How a desk is kept: its image, what was made last, as contracts alone see it, and its disks.
-use Rattle.std.specs.Prelude.{◌≡◌, ◌+◌, ◌≤◌, ◌^◌, true, false, [], ◌∷◌, ◌++◌, length, Option, Some, MatchOption, IsSome}
+use Rattle.std.specs.Prelude.{◌≡◌, ◌+◌, ◌≤◌, ◌^◌, true, false, length, Option, Some, MatchOption, IsSome}
 use Rattle.std.specs.Option.{option_map}
 use Rattle.std.specs.Arc.{arc_value}
 use Rattle.racf_outside.specs.Disk.{History}

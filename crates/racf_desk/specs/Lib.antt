@@ -5,6 +5,7 @@ pub mod Outcome
 pub mod Recovery
 pub mod Made
 pub mod Durable
+pub mod Executing
 pub mod Images
 pub mod Kept
 pub mod Recovering

@@ -12,7 +12,9 @@ use crate::making::{is_recorded, make};
 use crate::outcome::outcome_in;
 use crate::recovery::{Recovered, new_database, recover};
 use access_levels::Id;
-use racf_checkpoint::{Store, StoreFault, a_new_database_is_stored, what_is_stored_is_said};
+use racf_checkpoint::{
+    Store, StoreFault, a_new_database_is_stored, what_is_stored_is_said, what_was_possible_is_said,
+};
 use racf_database::Database;
 use racf_outside::{Disk, Failed, Two};
 use raclist_image::Image;
@@ -62,6 +64,7 @@ impl<D: Disk> Desk<D> {
     ghost use Rattle.racf_desk.specs.Recovery.{standing, Refuses};
     ghost use Rattle.racf_desk.specs.Durable.{LeavesIt, LeavesCheckpoint, SameIdle, SaysEpoch, StandsThere, StaysEither, StaysThere};
     ghost use Rattle.racf_desk.specs.Images.{IsImageOf};
+    ghost use Rattle.racf_desk.specs.Executing.{KeepsDesk, SayWhatWasPossible};
 
     /// A desk over a new database, whatever the disks held: the first has a checkpoint of it. A crash meanwhile leaves
     /// what both said, nothing, or the new database, and never an older one. Where it fails, both are handed back; for
@@ -103,6 +106,9 @@ impl<D: Disk> Desk<D> {
         ensures first_moments { MatchResult result (λ desk. StaysPossible (D.tells disks.first) (D.tells (disk_on Side.First desk.store))) (λ back. StaysPossible (D.tells disks.first) (D.tells back.0.first)) }
         ensures second_moments { MatchResult result (λ desk. StaysPossible (D.tells disks.second) (D.tells (disk_on Side.Second desk.store))) (λ back. StaysPossible (D.tells disks.second) (D.tells back.0.second)) }
 
+        ensures joint { MatchResult result (λ desk. SayWhatWasPossible (D.tells disks.first) (D.tells disks.second) (D.tells (disk_on Side.First desk.store)) (D.tells (disk_on Side.Second desk.store)))
+            (λ back. SayWhatWasPossible (D.tells disks.first) (D.tells disks.second) (D.tells back.0.first) (D.tells back.0.second)) }
+
         ensures fault { IfErr result (λ back. NowRead (D.tells disks.first) (D.tells disks.second) (Refuses back.1)) }
         ensures no_other { IfErr result (λ back. back.1 ≢ StoreFault.Full) }
         ensures untouched { IfErr result (λ back. back.1 ≢ StoreFault.DiskFault → OnlySynced (D.tells disks.first) (D.tells back.0.first) × OnlySynced (D.tells disks.second) (D.tells back.0.second)) }
@@ -110,18 +116,14 @@ impl<D: Disk> Desk<D> {
         ensures first_no_fewer { MatchResult result (λ desk. D.faults disks.first ≤ D.faults (disk_on Side.First desk.store)) (λ back. D.faults disks.first ≤ D.faults back.0.first) }
         ensures second_no_fewer { MatchResult result (λ desk. D.faults disks.second ≤ D.faults (disk_on Side.Second desk.store)) (λ back. D.faults disks.second ≤ D.faults back.0.second) }
     {
+        // What was possible of each disk is possible of both.
+        what_was_possible_is_said();
         let (found, rows) = match Store::find(alloc, disks) {
             Ok((found, rows)) => (found, rows),
             Err(back) => return Err(back),
         };
         // The records are judged before anything is written.
-        let recovered = match recover(
-            alloc,
-            rows,
-            found.number(),
-            found.start(),
-            found.records(),
-        ) {
+        let recovered = match recover(alloc, rows, found.number(), found.start(), found.records()) {
             Ok(recovered) => recovered,
             Err(fault) => return Err((found.into_disks(), fault)),
         };
@@ -298,6 +300,7 @@ impl<D: Disk> Desk<D> {
         ensures moments { self.old.halted ≡ false → StaysEither D.tells self.old.store self.new.store self.old.position
             (position_after self.old.position (outcome self.old.position issuer group text.now)) }
         ensures leaves { self.new.halted ≡ false → LeavesIt D.tells self.new.store self.new.position }
+        ensures kept { KeepsDesk self.old self.new result }
         ensures nothing_made { self.new.made ≡ None }
         ensures settled { self.new.committed ≡ false }
         ensures idle { SameIdle self.old.store self.new.store }

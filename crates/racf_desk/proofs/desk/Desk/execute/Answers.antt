@@ -4,6 +4,7 @@ use Rattle.racf_desk.specs.Position.{Position, position_after}
 use Rattle.racf_desk.specs.Made.{DeskOn, made_in, installed}
 use Rattle.racf_desk.specs.Durable.{StaysEither}
 use Rattle.racf_desk.proofs.DeskLaws.{behind_made, rests_on}
+use Rattle.racf_desk.proofs.JointLaws.{keeps}
 use Rattle.racf_desk.proofs.desk.Desk.execute.Goals as goal
 
 -- refused
@@ -22,3 +23,7 @@ returns-in-Err-commit-clause-moments g c = λ runs.
     subst (λ (next : Position). StaysEither g.D.Disk.tells desk.store c.self.inside.store desk.position next) (sym is)
     (subst (λ (d : DeskOn _). StaysEither g.D.Disk.tells desk.store d.store desk.position (installed desk.position made)) (sym c.self.view_is)
     (subst (λ (d : DeskOn _). StaysEither g.D.Disk.tells d.store c.commit.new.self.store d.position (installed d.position made)) c.in-Ok.ensures.made c.commit.ensures.moments))
+
+-- nothing but what was made is changed
+pub returns-in-Err-clause-kept : goal.returns-in-Err-clause-kept
+returns-in-Err-clause-kept g c = keeps c.args.self.now c.judge.new.self c.in-Err.reply c.in-Err.ensures.nothing_made

@@ -8,8 +8,9 @@ use Rattle.racf_checkpoint.specs.Finding.{found_in}
 use Rattle.racf_checkpoint.specs.Stored.{StoreOn, NowRead, StaysPossible, disk_on}
 use Rattle.racf_desk.specs.Outcome.{most_number}
 use Rattle.racf_desk.specs.Made.{DeskOn}
-use Rattle.racf_desk.specs.Recovery.{recovered, standing}
+use Rattle.racf_desk.specs.Recovery.{standing}
 use Rattle.racf_desk.proofs.OpenLaws.{found, epoch_said, of_parts, stands_there, store_goes, first_stays, second_stays, refused_to_load, refused_to_recover, only_damage}
+use Rattle.racf_desk.proofs.JointLaws.{joint}
 use Rattle.racf_desk.proofs.desk.Desk.open.Goals as goal
 
 -- nothing was found
@@ -114,3 +115,20 @@ returns-in-Err-open-clause-second_moments g c =
     second_stays g.D.Disk.tells g.D.Disk.faults disk.side disk.journal.disk disk.idle c.in-Err-open.back.0.first c.in-Err-open.back.0.second
     (record { moments = failed.moments; no_fewer = failed.no_fewer; stays = failed.idle })
     (g.D.Disk.tells c.args.disks.second) c.in-Ok.ensures.second_moments c.in-Ok.ensures.second_synced
+
+pub returns-in-Err-recover-clause-second_moments : goal.returns-in-Err-recover-clause-second_moments
+returns-in-Err-recover-clause-second_moments g c =
+    subst (λ disk. StaysPossible (g.D.Disk.tells c.args.disks.second) (g.D.Disk.tells disk)) (sym c.into_disks.ensures.second) c.in-Ok.ensures.second_moments
+
+-- and of both together
+pub returns-in-Err-clause-joint : goal.returns-in-Err-clause-joint
+returns-in-Err-clause-joint g c = joint c.what_was_possible_is_said.ensures _ _ _ _ c.in-Err.ensures.first_moments c.in-Err.ensures.second_moments
+
+pub returns-in-Err-recover-clause-joint : goal.returns-in-Err-recover-clause-joint
+returns-in-Err-recover-clause-joint g c = joint c.what_was_possible_is_said.ensures _ _ _ _ (returns-in-Err-recover-clause-first_moments g c) (returns-in-Err-recover-clause-second_moments g c)
+
+pub returns-in-Ok-open-clause-joint : goal.returns-in-Ok-open-clause-joint
+returns-in-Ok-open-clause-joint g c = joint c.what_was_possible_is_said.ensures _ _ _ _ (returns-in-Ok-open-clause-first_moments g c) (returns-in-Ok-open-clause-second_moments g c)
+
+pub returns-in-Err-open-clause-joint : goal.returns-in-Err-open-clause-joint
+returns-in-Err-open-clause-joint g c = joint c.what_was_possible_is_said.ensures _ _ _ _ (returns-in-Err-open-clause-first_moments g c) (returns-in-Err-open-clause-second_moments g c)

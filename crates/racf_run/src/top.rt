@@ -56,7 +56,7 @@ struct MakeWords<'a> {
 }
 
 /// The program: works what the words ask for, over the inputs and outputs of a shelf and the database on the disks. The
-/// word `init` makes a new database, whatever the disks held. The word `compact` opens the database and writes a
+/// word `init` makes a new database, whatever the disks held; for want of memory they stay as they are. The word `compact` opens the database and writes a
 /// checkpoint of it, on the disk that doesn't count: then that one counts, and there are no records behind it. The
 /// words `script IN OUT` open the database, work the stream of the input IN, and write to the output OUT; IN and OUT
 /// differ or are both `-`. The words `run K NAME..` open the database, and work the first K of the names, from 1 to 4,
@@ -120,6 +120,8 @@ where
         LeavesBoth (D.tells result.1.first) (D.tells result.1.second) (StandsFor first_position) }
     ensures new_or_not { is_init (map string_bytes words.now) ≡ true →
         (result.0 ≡ Status.Done) ⊎ ((result.0 ≡ Status.DiskFault) ⊎ (result.0 ≡ Status.NoMemory)) }
+
+    ensures new_memory { is_init (map string_bytes words.now) ≡ true → result.0 ≡ Status.NoMemory → (result.1.first ≡ disks.first) × (result.1.second ≡ disks.second) }
 
     // The database is opened, or why not; and then a checkpoint of it is written, or a disk failed, or memory ran out.
     // At every moment a crash leaves what stands for the database as it was opened.
@@ -203,6 +205,7 @@ pub fn works_on_disks(words: &[String]) -> bool
 fn init<D: Disk>(alloc: Global, disks: Two<D>) -> (Status, Two<D>)
     ensures ends { (result.0 ≡ Status.Done) ⊎ ((result.0 ≡ Status.DiskFault) ⊎ (result.0 ≡ Status.NoMemory)) }
     ensures new { result.0 ≡ Status.Done → LeavesBoth (D.tells result.1.first) (D.tells result.1.second) (StandsFor first_position) }
+    ensures memory { result.0 ≡ Status.NoMemory → (result.1.first ≡ disks.first) × (result.1.second ≡ disks.second) }
     ensures disk_fault { result.0 ≡ Status.DiskFault → RoseEither (D.faults disks.first) (D.faults result.1.first) (D.faults disks.second) (D.faults result.1.second) }
     ensures first_faults { D.faults disks.first ≤ D.faults result.1.first }
     ensures second_faults { D.faults disks.second ≤ D.faults result.1.second }

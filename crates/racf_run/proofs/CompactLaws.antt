@@ -53,6 +53,14 @@ of_disk_fault fault.NoMemory e = absurd (differs e)
     differs : NoMemory ≡ DiskFault → ⊥
     differs f = cc
 
+-- of want of memory, where a database couldn't be made
+pub of_no_memory : (why : StoreFault) → (why ≡ fault.DiskFault) ⊎ (why ≡ fault.NoMemory) → opening_status why ≡ NoMemory → why ≡ fault.NoMemory
+of_no_memory why (inl is) e = absurd (differs (sym (ap opening_status is) ∙ e))
+  where
+    differs : DiskFault ≡ NoMemory → ⊥
+    differs f = cc
+of_no_memory why (inr is) e = is
+
 pub ends_by : (why : StoreFault) → (why ≡ fault.DiskFault) ⊎ (why ≡ fault.NoMemory) → (opening_status why ≡ Done) ⊎ ((opening_status why ≡ DiskFault) ⊎ (opening_status why ≡ NoMemory))
 ends_by why (inl is) = inr (inl (ap opening_status is))
 ends_by why (inr is) = inr (inr (ap opening_status is))

@@ -103,7 +103,7 @@ fn racf_in_memory<R: Wait + Threads + Sync>(
 ) -> (Status, Two<MemoryDisk>)
     ensures { IsTrue (is_whole result.0) → IfSome (script_files (map string_bytes words.now)) (λ files.
         OpensDatabase (⟦<MemoryDisk as Disk>⟧.tells disks.first) (⟦<MemoryDisk as Disk>⟧.tells disks.second) (λ base.
-        IsWholeOutput base ⟦<MemoryShelf as Shelf>⟧.tells result.0
+        IsWholeOutput files.issuing base ⟦<MemoryShelf as Shelf>⟧.tells result.0
         (⟦<MemoryShelf as Shelf>⟧.input shelf.old files.input) (⟦<MemoryShelf as Shelf>⟧.output shelf.new files.output))) }
 {
     racf(rt, alloc, words, shelf, disks, &Idle)

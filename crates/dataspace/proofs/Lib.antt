@@ -1,4 +1,5 @@
 pub mod SpotLaws
 mod RowLaws
 mod KeptLaws
+mod SpareLaws
 mod WorkedRows

@@ -1,7 +1,9 @@
 -- Texts in a region, computed by the definitions.
 use Rattle.std.proofs.Common.{◌≡◌, ℕ, true, false, List, [], ◌∷◌, map, None, Some, codes, refl}
 use Rattle.dataspace.specs.declared.spot.Spot.{Spot}
+use Rattle.dataspace.specs.declared.room.Room.{Room}
 use Rattle.dataspace.specs.Placed.{Placed, used, fits, spot_behind, text_at, has}
+use Rattle.dataspace.specs.Rooms.{none, plus, room_for, spare, placed_in}
 
 abbrev spot : (start length : ℕ) → Spot
 spot start length = record { start = start; length = length }
@@ -45,3 +47,16 @@ parts = refl
 -- An empty text stands where the next one starts, and each is read by its own spot.
 empties : map (text_at ([] ∷ codes "A" ∷ [] ∷ [])) (spot 0 0 ∷ spot 0 1 ∷ spot 1 0 ∷ spot 0 2 ∷ []) ≡ Some [] ∷ Some (codes "A") ∷ Some [] ∷ None ∷ []
 empties = refl
+
+abbrev room : (bytes rows : ℕ) → Room
+room bytes rows = record { bytes = bytes; rows = rows }
+
+-- The room that two texts take, and a third one, which may be empty.
+sums : map room_for (both ∷ [] ∷ []) ≡ room 5 2 ∷ none ∷ []
+sums = refl
+
+thirds : map (plus (room_for both)) (4 ∷ 0 ∷ []) ≡ room 9 3 ∷ room 5 3 ∷ []
+thirds = refl
+
+spares : map spare (region [] ∷ region (codes "AB" ∷ []) ∷ region both ∷ placed_in (room 5 2) both ∷ []) ≡ room 6 2 ∷ room 4 1 ∷ room 1 0 ∷ none ∷ []
+spares = refl

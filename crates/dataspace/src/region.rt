@@ -1,8 +1,10 @@
 //! A region of texts.
-ghost use Rattle.std.specs.Prelude.{◌≡◌, ℕ, ◌+◌, ◌^◌, ◌<◌, ◌↔◌, List, [], ◌∷◌, ◌++◌, length, slice_get, IsTrue, IsOk, IfOk, Some};
+ghost use Rattle.std.specs.Prelude.{◌≡◌, ℕ, ◌+◌, ◌^◌, ◌<◌, ◌≤◌, ◌↔◌, List, [], ◌∷◌, ◌++◌, length, slice_get, IsTrue, IsOk, IfOk, Some};
 ghost use Rattle.dataspace.specs.Placed.{Placed, IsWithinRoom, used, fits, spot_behind, text_at, has, IsSpotOf};
+ghost use Rattle.dataspace.specs.Rooms.{plus, spare, placed_in};
 ghost use Rattle.dataspace.specs.declared.spot.Spot.{Spot};
 
+use crate::room::Room;
 use crate::rows::{end_of, first_not_before, is_row, start_of};
 use crate::spot::Spot;
 use std::alloc::{AllocError, Global};
@@ -52,6 +54,16 @@ impl Region {
         })
     }
 
+    /// A region without texts, of this room.
+    pub fn for_room(alloc: Global, room: Room) -> Result<Region, NoMemory>
+        requires bytes { room.bytes < 2 ^ 32 }
+        requires rows { room.rows < 2 ^ 32 }
+        ensures empty { IfOk result (λ region. region ≡ placed_in room []) }
+        ensures roomless { room.bytes ≡ 0 → room.rows ≡ 0 → IsOk result }
+    {
+        Region::with_room(alloc, room.bytes, room.rows)
+    }
+
     /// Places a text behind the others, into bytes and a row that are free: it takes no memory. The bytes of
     /// the other texts aren't touched.
     pub fn place(&mut self, text: &[u8]) -> Spot
@@ -59,6 +71,7 @@ impl Region {
         ensures texts { self.new ≡ record self.old { texts = self.old.texts ++ text.now ∷ [] } }
         ensures spot { result ≡ spot_behind self.old.texts text.now }
         ensures used { used self.new.texts ≡ used self.old.texts + length text.now }
+        ensures spare { plus (spare self.new) (length text.now) ≡ spare self.old }
         ensures placed { text_at self.new.texts result ≡ Some text.now }
         ensures stays { (spot : Spot) (earlier : List ℕ) → text_at self.old.texts spot ≡ Some earlier
             → text_at self.new.texts spot ≡ Some earlier }
@@ -100,6 +113,17 @@ impl Region {
         ensures { result ≡ fits self.now length }
     {
         length <= self.byte_room - self.bytes.len() && self.ends.len() < self.row_room
+    }
+
+    /// The room that is free.
+    pub fn spare(&self) -> Room
+        ensures spare { result ≡ spare self.now }
+        ensures fits { (size : ℕ) → IsTrue (fits self.now size) ↔ ((size ≤ result.bytes) × (0 < result.rows)) }
+    {
+        Room {
+            bytes: self.byte_room - self.bytes.len(),
+            rows: self.row_room - self.ends.len(),
+        }
     }
 
     /// Whether `place` answered this spot since the region was made or cleared. The rows are halved, as many

@@ -6,6 +6,7 @@ mod KeyLaws
 mod UnderLaws
 mod SlotLaws
 mod BucketLaws
+mod RoomLaws
 mod KeyBeginLaws
 mod SlotOrderLaws
 mod PassedLaws

@@ -1,8 +1,20 @@
 -- Words of buckets: the keys of entries, and the lengths of their names.
-use Rattle.std.specs.Prelude.{◌≡◌, ℕ, ◌-◌, ◌<◌, ◌≤◌, List, length, map, slice_get, sum_by, IsSomeAnd}
+use Rattle.std.specs.Prelude.{◌≡◌, ℕ, ◌+◌, ◌-◌, ◌<◌, ◌≤◌, List, ◌++◌, length, map, slice_get, sum_by, IsSomeAnd}
+use Rattle.dataspace.specs.declared.room.Room.{Room}
+use Rattle.dataspace.specs.Placed.{Placed}
+use Rattle.dataspace.specs.Rooms.{room_for}
 use Rattle.generic_names.specs.OrderKey.{order_key}
 use Rattle.pages.specs.KeyBegin.{begin_of, AreBytes}
 use Rattle.profile_index.specs.declared.entry.Entry.{Entry}
+
+-- both rooms together
+abbrev pub both : Room → Room → Room
+both one other = record { bytes = one.bytes + other.bytes; rows = one.rows + other.rows }
+
+-- Entries with which a bucket is filled, and the room for the keys of all that are to come.
+pub record Filled (T : Type 0) : Type 0 where
+  pub entries : List (Entry T)
+  pub room : Room
 
 module _ {T : Type 0} where
   -- the key of an entry's name
@@ -12,6 +24,24 @@ module _ {T : Type 0} where
   -- the lengths of the names of entries, summed
   abbrev pub names_length : List (Entry T) → ℕ
   names_length entries = sum_by (λ e. length e.name.text) entries
+
+  -- the room that the keys of entries take
+  abbrev pub keys_room : List (Entry T) → Room
+  keys_room entries = room_for (map key_of entries)
+
+  -- with these entries behind the others
+  abbrev pub with_entries : Filled T → List (Entry T) → Filled T
+  with_entries filled entries = record { entries = filled.entries ++ entries; room = filled.room }
+
+  -- there is room for the keys of the entries
+  pub record HasRoom (filled : Filled T) : Type 0 where
+    pub bytes : (keys_room filled.entries).bytes ≤ filled.room.bytes
+    pub rows : length filled.entries ≤ filled.room.rows
+
+  -- the keys are those of the entries, and there is space for as many entries as keys
+  pub record IsFilling (keys : Placed) (entries : List (Entry T)) (size : ℕ) : Type 0 where
+    pub texts : keys.texts ≡ map key_of entries
+    pub space : keys.rows ≤ size
 
   -- the key of the last entry has this begin
   abbrev pub EndsWith : List (Entry T) → ℕ → Type 0

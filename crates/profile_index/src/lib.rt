@@ -30,6 +30,7 @@ mod search;
 mod shared_index;
 mod steps;
 
+pub use bucket_rows::key_length;
 pub use entry::Entry;
 pub use index::{Index, NoMemory};
 pub use pages::Made;

@@ -1,4 +1,4 @@
-use Rattle.std.proofs.Common.{◌≡◌, ◌∙◌, ap, sym, subst}
+use Rattle.std.proofs.Common.{◌∙◌, ap, sym, subst}
 use Rattle.std.specs.Option.{option_copied}
 use Rattle.profile_index.proofs.PassedLaws.{Passed, kind-passed, passed-before, passed-gap, passed-found, passed-all, place-found, place-none}
 use Rattle.profile_index.specs.Places.{IsFirst}

@@ -3,10 +3,12 @@ use Rattle.std.specs.Prelude.{IsTrue}
 use Rattle.std.specs.Result.{is_ok}
 use Rattle.dataspace.specs.declared.spot.Spot.{Spot}
 use Rattle.dataspace.specs.Placed.{Placed, used, fits, text_at}
+use Rattle.dataspace.specs.Rooms.{plus, spare}
 use Rattle.dataspace.specs.Kept.{texts_of, AreRising, end_of}
 use Rattle.dataspace.proofs.SpotLaws.{used-push, text-own, text-stays}
 use Rattle.dataspace.proofs.RowLaws.{rising-push, end-push}
 use Rattle.dataspace.proofs.KeptLaws.{used-seen, room-seen, placed-seen}
+use Rattle.dataspace.proofs.SpareLaws.{spare-placed}
 use Rattle.dataspace.proofs.region.Region.place.Goals as goal
 
 pub unwrap-requires : goal.unwrap-requires
@@ -75,6 +77,9 @@ returns-clause-spot c = ap (λ (n : ℕ). let spot : Spot = record { start = n; 
 
 pub returns-clause-used : goal.returns-clause-used
 returns-clause-used c = ap (λ ts. used ts) (texts c) ∙ used-push c.args.self.now.texts c.args.text.now
+
+pub returns-clause-spare : goal.returns-clause-spare
+returns-clause-spare c = ap (λ r. plus (spare r) (length c.args.text.now)) (returns-clause-texts c) ∙ spare-placed c.args.self.now c.args.text.now c.requires
 
 pub returns-clause-placed : goal.returns-clause-placed
 returns-clause-placed c =

@@ -1,4 +1,4 @@
-use Rattle.std.proofs.Common.{◌+◌, ◌-◌, ◌++◌, ◌∙◌, length, take, ap, arith}
+use Rattle.std.proofs.Common.{◌-◌, ◌++◌, ◌∙◌, length, take, ap, arith}
 use Rattle.std.specs.List.{insert}
 use Rattle.std.specs.Arc.{arc_value}
 use Rattle.profile_index.proofs.BucketLaws.{front-half, back-half, insert-front, insert-back}

@@ -1,5 +1,5 @@
 -- How the moments of the steps join, and what they say of two disks.
-use Rattle.std.proofs.Common.{ℕ, ◌≡◌, ◌∙◌, inl, inr, List, [], ◌∷◌, ◌++◌, length, Option, Ok, refl, sym, ap, subst}
+use Rattle.std.proofs.Common.{ℕ, ◌≤◌, ◌≡◌, ◌∙◌, inl, inr, true, false, List, [], ◌∷◌, ◌++◌, length, Option, Ok, refl, sym, ap, subst}
 use Rattle.racf_profiles.specs.declared.rows.Rows.{Rows}
 use Rattle.database_image.specs.Image.{image_of}
 use Rattle.racf_outside.specs.Crashes.{Leaves, StaysIn}
@@ -8,7 +8,7 @@ use Rattle.racf_outside.specs.Moments.{durable}
 use Rattle.racf_outside.proofs.Images.{durable-leaves}
 use Rattle.racf_outside.proofs.Runs.{StaysIn-none, StaysIn-weaker}
 use Rattle.checkpoint_disks.specs.declared.counting.Side.{Side}
-use Rattle.checkpoint_disks.specs.Files.{CheckpointRead}
+use Rattle.checkpoint_disks.specs.Files.{CheckpointRead, head_is_open}
 use Rattle.checkpoint_disks.specs.Compacting.{with_head, fields, new_body, IsIdle, IsClosed, IsClosing, IsOpening, IsOneOf, said_beside, CountsBeside, SaysEither}
 use Rattle.checkpoint_disks.proofs.HeadGates.{left_alone}
 use Rattle.checkpoint_disks.proofs.Counts.{says_either}
@@ -45,6 +45,13 @@ done_is body made b same done h e = done h e ∙ ap (λ (l : List ℕ). durable 
 -- nothing was done
 pub files_alone : (before made : List ℕ) (a : Option History) → Now a IsIdle → Now a (λ m. m.bytes ≡ before) → StaysIn (IsOneOf before made) a a
 files_alone before made a idle holds = StaysIn-none (IsOneOf before made) a (λ h e. left_alone (IsOneOf before made) before h.now (idle h e) (holds h e) (inl (inl refl)))
+
+-- a gate that was closed is open in the new file alone
+pub body_then : (before made : List ℕ) (a b : Option History)
+    → (law : (old new file : List ℕ) → IsOneOf old new file → 9 ≤ length old → head_is_open old ≡ false → head_is_open file ≡ true → file ≡ new)
+    → 9 ≤ length before → head_is_open before ≡ false → StaysIn (IsOneOf before made) a b → StaysIn (λ file. head_is_open file ≡ true → file ≡ made) a b
+body_then before made a b law long closed s =
+    StaysIn-weaker (λ file. head_is_open file ≡ true → file ≡ made) s (λ h told file left opened. law before made file left long closed opened)
 
 -- ---- beside the other
 pub says_alone : (side : Side) (live before : List ℕ) (epoch : ℕ) (checkpoint : CheckpointRead) (a : Option History) → CountsBeside side before live epoch → Now a IsIdle → Now a (λ m. m.bytes ≡ before)

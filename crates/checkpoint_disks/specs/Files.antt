@@ -34,9 +34,9 @@ epoch_of file = if nat_lt (length file) 17 then 0 else number_at 9 file
 abbrev pub is_long : (file : List ℕ) → Bool
 is_long file = nat_lt (2 ^ 28) (length file)
 
--- The fields in front of the image of a file that isn't too long: the epoch, which isn't 0; the number at place 17, which is at most 2^62; the
--- image's length at place 25, which doesn't reach past the file's end. The first that isn't whole or isn't so is the
--- fault.
+-- The fields in front of the image of a file that isn't too long: the epoch, which isn't 0; the number at place 17,
+-- which is at most 2^62; the image's length at place 25, which doesn't reach past the file's end. The first that isn't
+-- whole or isn't so is the fault.
 unfoldable pub head_of : (file : List ℕ) → Result Head CheckpointFault
 head_of file =
     if is_long file then Err (Damaged (2 ^ 28))

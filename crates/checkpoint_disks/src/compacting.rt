@@ -1,6 +1,6 @@
 //! A new checkpoint, on the disk that doesn't count.
 
-ghost use Rattle.std.specs.Prelude.{ℕ, ◌+◌, ◌-◌, ◌<◌, ◌≤◌, ◌≡◌, ◌≢◌, ◌^◌, ◌⊎◌, ◌++◌, ◌∷◌, [], List, Ok, length, IfOk, IfErr, OnOk};
+ghost use Rattle.std.specs.Prelude.{ℕ, ◌+◌, ◌-◌, ◌<◌, ◌≤◌, ◌≡◌, ◌≢◌, ◌^◌, ◌⊎◌, ◌++◌, ◌∷◌, [], true, false, List, Ok, length, IfOk, IfErr, OnOk};
 ghost use Rattle.byteorder.specs.Endian.{big_bytes};
 ghost use Rattle.racf_outside.specs.Causes.{HasCause, Rose};
 ghost use Rattle.racf_outside.specs.Crashes.{Leaves, StaysIn};
@@ -11,12 +11,13 @@ ghost use Rattle.racf_profiles.specs.Lawful.{AreLawful};
 ghost use Rattle.database_image.specs.Image.{image_of, IsStored};
 ghost use Rattle.database_image.specs.Spelled.{AreSpelled};
 ghost use Rattle.checkpoint_disks.specs.Compacting.{IsIdle, IsOneOf, CountsBeside, SaysEither, said_beside, fields, new_file, new_checkpoint};
+ghost use Rattle.checkpoint_disks.specs.Files.{head_is_open};
 ghost use Rattle.checkpoint_disks.specs.Made.{IsMade};
 ghost use Rattle.checkpoint_disks.specs.declared.counting.Side.{Side};
 ghost use Rattle.checkpoint_disks.specs.declared.fault.CheckpointFault.TheVariants as fault;
 
 use crate::fault::CheckpointFault;
-use crate::laws::a_new_file_says_its_checkpoint;
+use crate::laws::{a_new_file_says_its_checkpoint, an_open_head_has_its_body};
 use crate::layout::{CLOSED, IMAGE};
 use crate::writing::write_behind;
 use database_image::laws::lawful_rows_are_stored;
@@ -36,8 +37,9 @@ pub struct NewCheckpoint {
 
 /// Writes a checkpoint of rows on the disk whose file doesn't count: with an epoch above that of the other file it
 /// counts from then on. At every moment a crash leaves the file as it was, one whose head gate is closed, or the new
-/// one; so that beside the other file it says what that says, or the new checkpoint. After `Ok` it leaves the new one.
-/// The place of its journal's one gate is answered.
+/// one; so that beside the other file it says what that says, or the new checkpoint. Where its head gate was closed, it
+/// is open in the new file alone: the gate is written only once all behind it is kept. After `Ok` a crash leaves the new
+/// one. The place of its journal's one gate is answered.
 ///
 /// # Errors
 ///
@@ -63,12 +65,15 @@ pub fn compact<D: Disk>(
         → StaysIn (IsOneOf before (new_file epoch number rows.now)) (D.tells idle.old) (D.tells idle.new) }
     ensures moments { (side : Side) (live before : List ℕ) → CountsBeside side before live epoch → Now (D.tells idle.old) (λ m. m.bytes ≡ before)
         → StaysIn (SaysEither side live (new_checkpoint epoch number rows.now)) (D.tells idle.old) (D.tells idle.new) }
+    ensures body { (before : List ℕ) → Now (D.tells idle.old) (λ m. m.bytes ≡ before) → 9 ≤ length before → head_is_open before ≡ false
+        → StaysIn (λ file. head_is_open file ≡ true → file ≡ new_file epoch number rows.now) (D.tells idle.old) (D.tells idle.new) }
 
     ensures fault { IfErr result (λ why. (why ≡ fault.DiskFault) ⊎ ((why ≡ fault.NoMemory) × (idle.new ≡ idle.old))) }
     ensures cause { IfErr result (λ why. why ≡ fault.DiskFault → Rose (D.faults idle.old) (D.faults idle.new)) }
     ensures no_fewer { D.faults idle.old ≤ D.faults idle.new }
 {
     a_new_file_says_its_checkpoint();
+    an_open_head_has_its_body();
     let new = prepare(alloc, epoch, number, rows)?;
     write(idle, &new)?;
     Ok(new.start())

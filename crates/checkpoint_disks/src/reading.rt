@@ -37,9 +37,9 @@ pub struct Checkpoint {
 ///
 /// # Errors
 ///
-/// `Damaged` at 2^28 where the file has more bytes; else at the first field that has no lawful value: a field in front of
-/// the image, then one within it, then an open gate without a whole record; and at 2^28 where the last gate has no room
-/// before it. `NoMemory` where there was no room for the rows and the records.
+/// `Damaged` at 2^28 where the file has more bytes; else at the first field that has no lawful value: a field in front
+/// of the image, then one within it, then an open gate without a whole record; and at 2^28 where the last gate has no
+/// room before it. `NoMemory` where there was no room for the rows and the records.
 pub fn read_file(alloc: Global, bytes: &[u8]) -> Result<Checkpoint, CheckpointFault>
     ensures contents { Answers as_read result (contents bytes.now) }
     ensures held { is_formatted bytes.now ≡ true → head_is_open bytes.now ≡ true → IfOk result (λ read. IsHeld (as_read read) bytes.now) }

@@ -3,6 +3,7 @@ mod Compacting
 mod Finding
 mod Formats
 mod New
+mod NoOlder
 mod Saying
 pub mod Syncing
 mod Seeing

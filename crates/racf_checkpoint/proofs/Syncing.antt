@@ -1,15 +1,36 @@
 -- What a sync leaves possible of a disk, and what a call leaves behind one.
-use Rattle.std.proofs.Common.{ℕ, ◌≡◌, ◌∙◌, List, Option, None, sym, ap, subst}
+use Rattle.std.proofs.Common.{ℕ, ◌≡◌, ◌∙◌, List, [], ◌∷◌, ◌++◌, Option, None, Some, refl, sym, ap, subst}
+use Rattle.std.specs.List.{AllByRecursion}
 use Rattle.std.specs.Option.{option_map}
 use Rattle.std.proofs.lemmas.Option.{none-some, same_Some}
-use Rattle.racf_outside.specs.Crashes.{Leaves}
-use Rattle.racf_outside.specs.Disk.{History, goes, Faulty}
+use Rattle.racf_outside.specs.Crashes.{moments, Leaves, Stays, StaysIn}
+use Rattle.racf_outside.specs.Disk.{History, goes, Faulty, Now}
 use Rattle.racf_outside.specs.Moments.{Moment, IsImage, synced}
 use Rattle.racf_outside.proofs.Images.{only, synced-leaves}
 use Rattle.racf_outside.proofs.Runs.{starts, ok, ends, err, StaysIn-none, StaysIn-joined, StaysIn-weaker}
 use Rattle.racf_journal.specs.Opening.{OnlySynced}
 use Rattle.racf_checkpoint.specs.Stored.{WasPossible, StaysPossible}
 use Rattle.racf_checkpoint.proofs.Saying.{same_as}
+
+-- ---- the moment that is now is the last of a call
+
+first_is : (one two : Moment) (past later : List Moment) → (one ∷ past) ≡ (two ∷ later) → one ≡ two
+first_is one two past later e = cc
+
+stays_last : (P : List ℕ → Type 0) (from to : History) → Stays P from to → Leaves P to.now
+stays_last P from to s = by s.since s.are s.each
+  where
+    by : (since : List Moment) → moments to ≡ since ++ moments from → AllByRecursion (Leaves P) since → Leaves P to.now
+    by [] are each = subst (Leaves P) (sym (first_is to.now from.now to.past from.past are)) s.first
+    by (m ∷ since) are each = subst (Leaves P) (sym (first_is to.now m to.past (since ++ moments from) are)) each.0
+
+pub left_last : (P : List ℕ → Type 0) (old new : Option History) → StaysIn P old new → Now new (Leaves P)
+left_last P None new stays k e = absurd (none-some k (sym (stays.untold refl) ∙ e))
+left_last P (Some h) new stays k e =
+    let next = stays.told h refl in
+    subst (λ (i : History). Leaves P i.now) (same_Some next.0 k (sym next.1 ∙ e)) (stays_last P h next.0 next.2)
+
+-- ---- what was possible
 
 possible_now : (before m : Moment) → m ≡ before → Leaves (WasPossible before) m
 possible_now before m same = record { each = λ image i. record { image = image; was_left = subst (λ n. IsImage n image) same i; says = same_as image } }

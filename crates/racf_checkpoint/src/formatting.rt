@@ -11,13 +11,16 @@ ghost use Rattle.checkpoint_disks.specs.Baring.{first_to_go};
 ghost use Rattle.checkpoint_disks.specs.Compacting.{with_head, new_checkpoint};
 ghost use Rattle.checkpoint_disks.specs.Made.{IsMade};
 ghost use Rattle.racf_checkpoint.specs.Contents.{IsCausedByOne};
-ghost use Rattle.racf_checkpoint.specs.Formatting.{StaysFormatting, StaysBaring, InOrder};
+ghost use Rattle.racf_checkpoint.specs.Formatting.{StaysFormatting, StaysBaring, InOrder, LeavesNoOlder};
 ghost use Rattle.racf_checkpoint.specs.Stored.{IsStored, IsPassedOver, NowRead};
 ghost use Rattle.racf_checkpoint.specs.declared.fault.StoreFault.TheVariants as fault;
 
 use crate::fault::StoreFault;
 use crate::laws::a_new_database_is_stored;
 use crate::reading::sync_both;
+use checkpoint_disks::laws::{
+    a_new_file_says_its_checkpoint, bared_in_order_they_say_nothing_else,
+};
 use checkpoint_disks::{NewCheckpoint, Side, TELLING, first_to_go, make_bare, prepare, write};
 use database_image::laws::stored_rows_are_lawful;
 use racf_outside::{Disk, Failed};
@@ -25,7 +28,8 @@ use racf_profiles::{NoMemory, Rows};
 use std::alloc::Global;
 
 /// Makes both files ones without a checkpoint, and writes that of a new database on the first. The place of its journal
-/// is answered. All memory is taken before anything is written.
+/// is answered. All memory is taken before anything is written. Wherever the call ends, the two say nothing older than
+/// what they might have said before.
 pub(crate) fn write_first<D: Disk>(
     alloc: Global,
     first: &mut D,
@@ -36,6 +40,7 @@ pub(crate) fn write_first<D: Disk>(
     ensures passed { OnOk result (Now (D.tells second.new) (IsPassedOver Side.First 1)) }
     ensures first_moments { StaysFormatting (D.tells first.old) (D.tells first.new) }
     ensures second_moments { StaysBaring (D.tells second.old) (D.tells second.new) }
+    ensures joint { LeavesNoOlder (D.tells first.old) (D.tells second.old) (D.tells first.new) (D.tells second.new) }
     ensures fault { IfErr result (λ why. (why ≡ fault.DiskFault) ⊎ (why ≡ fault.NoMemory)) }
     ensures memory { IfErr result (λ why. why ≡ fault.NoMemory → (first.new ≡ first.old) × (second.new ≡ second.old)) }
     ensures cause { IfErr result (IsCausedByOne (D.faults first.old) (D.faults first.new) (D.faults second.old) (D.faults second.new)) }
@@ -43,6 +48,8 @@ pub(crate) fn write_first<D: Disk>(
     ensures second_no_fewer { D.faults second.old ≤ D.faults second.new }
 {
     a_new_database_is_stored();
+    a_new_file_says_its_checkpoint();
+    bared_in_order_they_say_nothing_else();
     let new = first_checkpoint(alloc)?;
     sync_both(first, second)?;
     make_both_bare(first, second)?;

@@ -1,6 +1,6 @@
 //! The store.
 
-ghost use Rattle.std.specs.Prelude.{ℕ, ◌+◌, ◌-◌, ◌<◌, ◌≤◌, ◌≡◌, ◌≢◌, ◌^◌, ◌↔◌, ◌⊎◌, List, length, min, IsOk, IsTrue, IfOk, IfErr, OnOk, OnErr, IsErrOf, MatchResult};
+ghost use Rattle.std.specs.Prelude.{ℕ, ◌+◌, ◌-◌, ◌<◌, ◌≤◌, ◌≡◌, ◌≢◌, ◌^◌, ◌↔◌, ◌⊎◌, true, false, List, length, min, IsOk, IsTrue, IfOk, IfErr, OnOk, OnErr, IsErrOf, MatchResult};
 ghost use Rattle.racf_outside.specs.Causes.{Rose};
 ghost use Rattle.racf_outside.specs.Crashes.{StaysIn};
 ghost use Rattle.racf_outside.specs.Disk.{Now};
@@ -11,10 +11,10 @@ ghost use Rattle.racf_profiles.specs.Lawful.{AreLawful};
 ghost use Rattle.racf_profiles.specs.NewDatabase.{new_database};
 ghost use Rattle.database_image.specs.Image.{image_of, IsStored as AreStored};
 ghost use Rattle.checkpoint_disks.specs.declared.counting.Side.{Side};
-ghost use Rattle.checkpoint_disks.specs.Files.{CheckpointRead};
-ghost use Rattle.checkpoint_disks.specs.Compacting.{new_checkpoint, with_records, IsCheckpoint};
+ghost use Rattle.checkpoint_disks.specs.Files.{head_is_open, CheckpointRead};
+ghost use Rattle.checkpoint_disks.specs.Compacting.{new_file, new_checkpoint, with_records, IsCheckpoint};
 ghost use Rattle.racf_checkpoint.specs.Contents.{Says, SaysEither, and_record, Refuses, IsCaused, IsCausedByOne, IsOfAppend};
-ghost use Rattle.racf_checkpoint.specs.Formatting.{StaysFormatting, StaysBaring};
+ghost use Rattle.racf_checkpoint.specs.Formatting.{StaysFormatting, StaysBaring, LeavesNoOlder};
 ghost use Rattle.racf_checkpoint.specs.Stored.{Stores, IsReady, IsStored, IsPassedOver, NowRead, Beside, StaysPossible, disk_on, other};
 
 use crate::fault::StoreFault;
@@ -64,10 +64,11 @@ pub struct Loaded<D: Disk> {
 }
 
 impl<D: Disk> Store<D> {
-    /// Makes a new store of two disks, whatever they held: the first has a checkpoint of a new database. At every moment
-    /// a crash leaves each file as it was, or one that says nothing, or the new one. The file that doesn't count goes
-    /// before the other, so that the two never say an older database. Where that fails, both are handed back; for want of
-    /// memory nothing was done.
+    /// Makes a new store of two disks, whatever they held: the first has a checkpoint of a new database. At every
+    /// moment a crash leaves each file as it was, or one that says nothing, or the new one. The file that doesn't count
+    /// goes before the other: so where the call fails, whatever crashes then leave of both says what they might have
+    /// said before, or no checkpoint, or that of the new database, and nothing older. Both are handed back then; for
+    /// want of memory nothing was done.
     pub fn format(alloc: Global, disks: Two<D>) -> Result<Store<D>, (Two<D>, StoreFault)>
         ensures stores { IfOk result (λ store. Stores D.tells store (new_checkpoint 1 0 new_database)) }
         ensures ready { IfOk result (λ store. IsReady D.tells store) }
@@ -77,6 +78,7 @@ impl<D: Disk> Store<D> {
         ensures gate { IfOk result (λ store. store.journal.gate ≡ store.journal.start) }
         ensures first_moments { MatchResult result (λ store. StaysFormatting (D.tells disks.first) (D.tells (disk_on Side.First store))) (λ back. StaysFormatting (D.tells disks.first) (D.tells back.0.first)) }
         ensures second_moments { MatchResult result (λ store. StaysBaring (D.tells disks.second) (D.tells (disk_on Side.Second store))) (λ back. StaysBaring (D.tells disks.second) (D.tells back.0.second)) }
+        ensures joint { IfErr result (λ back. LeavesNoOlder (D.tells disks.first) (D.tells disks.second) (D.tells back.0.first) (D.tells back.0.second)) }
 
         ensures fault { IfErr result (λ back. (back.1 ≡ StoreFault.DiskFault) ⊎ (back.1 ≡ StoreFault.NoMemory)) }
         ensures memory { IfErr result (λ back. back.1 ≡ StoreFault.NoMemory → (back.0.first ≡ disks.first) × (back.0.second ≡ disks.second)) }
@@ -163,9 +165,10 @@ impl<D: Disk> Store<D> {
 
     /// Writes a checkpoint of these rows, which so many commands led to, on the disk that doesn't count; it counts from
     /// then on, and has no records. The other disk isn't touched. At every moment a crash leaves files that say what
-    /// they said, or the new checkpoint; after `Ok` the new one. At the last epoch, 2^64 - 1, nothing is written, and
-    /// the store is as before. After a fault of a disk the store is to be loaded again; for want of memory nothing was
-    /// written.
+    /// they said, or the new checkpoint; after `Ok` the new one. A closed head gate of the disk that doesn't count is
+    /// written only once all behind it is kept, and the open one that then doesn't count stands before the whole image
+    /// of a lower epoch. At the last epoch, 2^64 - 1, nothing is written, and the store is as before. After a fault of a
+    /// disk the store is to be loaded again; for want of memory nothing was written.
     pub fn compact(&mut self, alloc: Global, number: u64, rows: &Rows) -> Result<(), StoreFault>
         requires ready { IsReady D.tells self.old }
         requires lawful { AreLawful rows.now }
@@ -174,7 +177,11 @@ impl<D: Disk> Store<D> {
         ensures done { OnOk result (self.old.epoch < 2 ^ 64 - 1 → Stores D.tells self.new (new_checkpoint (self.old.epoch + 1) number rows.now)) }
         ensures moments { (kept : CheckpointRead) → Stores D.tells self.old kept
             → StaysIn (Beside (other self.old.side) (D.tells self.old.journal.disk) (SaysEither kept (new_checkpoint (self.old.epoch + 1) number rows.now))) (D.tells self.old.idle) (D.tells (disk_on (other self.old.side) self.new)) }
+        ensures body { (before : List ℕ) → Now (D.tells self.old.idle) (λ m. m.bytes ≡ before) → 9 ≤ length before → head_is_open before ≡ false → self.old.epoch < 2 ^ 64 - 1
+            → StaysIn (λ file. head_is_open file ≡ true → file ≡ new_file (self.old.epoch + 1) number rows.now) (D.tells self.old.idle) (D.tells (disk_on (other self.old.side) self.new)) }
         ensures live { disk_on self.old.side self.new ≡ self.old.journal.disk }
+        ensures passed { OnOk result (self.old.epoch < 2 ^ 64 - 1 → (kept : CheckpointRead) → Stores D.tells self.old kept
+            → Now (D.tells self.new.idle) (IsStored self.old.epoch self.old.journal.start self.old.journal.gate kept)) }
         ensures lawful { OnOk result (self.old.epoch < 2 ^ 64 - 1 → IsCheckpoint (new_checkpoint (self.old.epoch + 1) number rows.now)) }
         ensures ready { OnOk result (IsReady D.tells self.new) }
         ensures start { OnOk result (self.old.epoch < 2 ^ 64 - 1 → self.new.journal.start ≡ 33 + length (image_of rows.now)) }

@@ -1,11 +1,11 @@
 -- What opening a journal leaves, and what crashes leave meanwhile.
-use Rattle.std.proofs.Common.{ℕ, ◌+◌, ◌-◌, ◌<◌, ◌≤◌, ◌≡◌, ◌∙◌, ◌^◌, ◌||◌, max, true, false, List, [], ◌∷◌, ◌++◌, length, take, drop, Option, None, Some, Result, Ok, Err, IfOk, MatchResult, refl, sym, ap, subst, arith, append_assoc, length-append, replicate, inl, inr, ltb}
+use Rattle.std.proofs.Common.{ℕ, ◌+◌, ◌-◌, ◌<◌, ◌≤◌, ◌≡◌, ◌∙◌, ◌^◌, ◌||◌, max, Bool, true, false, List, [], ◌∷◌, ◌++◌, length, take, drop, Option, None, Some, Result, Ok, Err, IfOk, MatchResult, refl, sym, ap, subst, arith, append_assoc, length-append, replicate, inl, inr, ltb}
 use Rattle.std.specs.Prelude.{bytes_eq}
 use Rattle.std.specs.List.{AllByRecursion}
 use Rattle.std.specs.Option.{option_map}
 use Rattle.std.proofs.lemmas.Option.{none-some, same_Some}
 use Rattle.std.proofs.lemmas.List.{take_at, drop_at, take-take, take-append-drop, length-take, length-take-le, length-replicate}
-use Rattle.std.proofs.lemmas.Bool.{cond-true, cond-false}
+use Rattle.std.proofs.lemmas.Bool.{cond-true, cond-false, ltb-true}
 use Rattle.std.proofs.lemmas.Slice.Eq.{bytes_eq-Decides}
 use Rattle.racf_outside.specs.Crashes.{Leaves, StaysIn}
 use Rattle.racf_outside.specs.Disk.{History, goes, Now}
@@ -43,6 +43,16 @@ start_within start told h (inl first) e is =
     let long : 8 ≤ length h.now.bytes = formatted_long h.now.bytes (ap (λ s. is_formatted s h.now.bytes) (sym first) ∙ is) in
     (omega (arith, first), omega (arith, first, long))
 start_within start told h (inr later) e is = (omega (arith, later.0), later.1 h e)
+
+-- a front that begins as it has to has that length too
+least_start : (start : ℕ) (front : List ℕ) → length front ≡ start → is_formatted start front ≡ true → 8 ≤ start
+least_start start front from is = by (ltb 8 start) refl is
+  where
+    by : (b : Bool) → ltb 8 start ≡ b → (b || bytes_eq (take 8 front) magic) ≡ true → 8 ≤ start
+    by true behind e = let less = ltb-true 8 start behind in omega (arith, less)
+    by false before e =
+        let same : take 8 front ≡ magic = (bytes_eq-Decides (take 8 front) magic).0 e in
+        omega (arith, ap length same, length-take 8 front, from)
 
 -- ---- a front, records and an end
 
@@ -246,6 +256,27 @@ module _ (start gate : ℕ) (records : List (List ℕ)) (end : List ℕ) (a : Op
       rests_at h e k told =
           let held = f.held h e in
           front_rests start gate records held.front held.from held.formatted f.lawful f.to k.now (repaired (base_at h e) (size_at h e) (holds_at h e) k told)
+
+      -- The file is read as before: neither the cut behind the gate nor the byte in the gate's place changes the reading.
+      pub repaired_reads : (cutting : (at end : ℕ) (file : List ℕ) (found : Reading) → 8 ≤ at → at ≤ length file → reading at file ≡ Ok found → found.gate ≤ end → reading at (take end file) ≡ Ok found)
+          → (rewriting : (at byte : ℕ) (file : List ℕ) (found : Reading) → 8 ≤ at → at ≤ length file → reading at file ≡ Ok found → reading at (take found.gate file ++ byte ∷ []) ≡ Ok found)
+          → Now d (λ m. reading start m.bytes ≡ Ok (record { records = records; gate = gate }))
+      repaired_reads cutting rewriting =
+          Now-from a d (λ m. reading start m.bytes ≡ Ok (record { records = records; gate = gate })) repaired_untold (λ h e k told.
+          let held = f.held h e in
+          let found : Reading = record { records = records; gate = gate } in
+          let file : List ℕ = base_at h e ++ end in
+          let size = size_at h e in
+          let front_long : start ≤ length (base_at h e) = omega (arith, held.from, length-append held.front (spelled records)) in
+          let long : start ≤ length file = omega (arith, front_long, length-append (base_at h e) end) in
+          let least : 8 ≤ start = least_start start held.front held.from held.formatted in
+          let reads : reading start file ≡ Ok found = ap (λ (m : Moment). reading start m.bytes) (sym (moment_at h e)) ∙ found_reads h e in
+          let cut : List ℕ = take (gate + 1) file in
+          let front_is : take gate cut ≡ base_at h e = take-take gate (gate + 1) file (omega arith) ∙ take_at (base_at h e) end gate size in
+          let cut_long : start ≤ length cut = omega (arith, size, front_long, ap length front_is, length-take gate cut) in
+          let is : k.now.bytes ≡ take gate cut ++ 0 ∷ [] =
+          ap (λ (m : Moment). m.bytes) (repaired (base_at h e) size (holds_at h e) k told) ∙ ap (λ (l : List ℕ). l ++ 0 ∷ []) (sym front_is) in
+          ap (reading start) is ∙ rewriting start 0 cut found least cut_long (cutting start (gate + 1) file found least long reads (omega arith)))
 
       pub repaired_resting : Now d (IsResting start gate)
       repaired_resting = Now-from a d (IsResting start gate) repaired_untold (λ h e k told. ((f.held h e).front, records, rests_at h e k told))

@@ -12,6 +12,7 @@ ghost use Rattle.racf_journal.specs.Repair.{IsScanned, IsFound};
 
 use crate::fault::JournalFault;
 use crate::journal::Journal;
+use crate::laws::{cutting_changes_no_reading, rewriting_the_gate_changes_no_reading};
 use crate::reading::{is_formatted, read_from};
 use crate::repair::repair;
 use crate::scan::{FoundRecords, read_records};
@@ -108,12 +109,13 @@ impl<D: Disk> FoundJournal<D> {
     }
 
     /// Opens the journal, and gives its records: cuts off what lies behind the last gate, and closes that. At every
-    /// moment a crash leaves a file with a reading that was possible before; after `Ok` it leaves the records given.
-    /// Otherwise the disk is handed back.
+    /// moment a crash leaves a file with a reading that was possible before; after `Ok` it leaves the records given, and
+    /// the file is read as before. Otherwise the disk is handed back.
     pub fn open(self) -> Result<(Journal<D>, Vec<Text>), (D, JournalFault)>
         ensures reads { IfOk result (λ opened. Now (D.tells self.disk) (λ m. reading self.start m.bytes ≡ Ok (record { records = self.records; gate = self.gate }))) }
         ensures rest { IfOk result (λ opened. (front : List ℕ) → Now (D.tells self.disk) (λ m. take self.start m.bytes ≡ front)
             → Keeps front self.start self.gate self.records (D.tells opened.0.disk)) }
+        ensures again { IfOk result (λ opened. Now (D.tells opened.0.disk) (λ m. reading self.start m.bytes ≡ Ok (record { records = self.records; gate = self.gate }))) }
         ensures resting { IfOk result (λ opened. Now (D.tells opened.0.disk) (IsResting self.start self.gate)) }
         ensures start { IfOk result (λ opened. opened.0.start ≡ self.start) }
         ensures gate { IfOk result (λ opened. opened.0.gate ≡ self.gate) }
@@ -124,6 +126,8 @@ impl<D: Disk> FoundJournal<D> {
         ensures cause { IfErr result (λ back. Rose (D.faults self.disk) (D.faults back.0)) }
         ensures no_fewer { MatchResult result (λ opened. D.faults self.disk ≤ D.faults opened.0.disk) (λ back. D.faults self.disk ≤ D.faults back.0) }
     {
+        cutting_changes_no_reading();
+        rewriting_the_gate_changes_no_reading();
         let FoundJournal {
             mut disk,
             start,

@@ -1,6 +1,8 @@
 -- A checkpoint is written on the disk that doesn't count, and counts from then on.
-use Rattle.std.proofs.Common.{◌+◌, ◌<◌, ◌^◌, ◌≡◌, refl, arith, rules}
-use Rattle.checkpoint_disks.specs.Compacting.{new_checkpoint}
+use Rattle.std.proofs.Common.{ℕ, ◌+◌, ◌<◌, ◌^◌, ◌≡◌, true, List, refl, subst, arith, rules}
+use Rattle.racf_outside.specs.Crashes.{StaysIn}
+use Rattle.checkpoint_disks.specs.Files.{head_is_open}
+use Rattle.checkpoint_disks.specs.Compacting.{new_file, new_checkpoint}
 use Rattle.racf_checkpoint.specs.Contents.{SaysEither}
 use Rattle.racf_checkpoint.specs.Stored.{StoreOn, Beside, other}
 use Rattle.racf_checkpoint.proofs.Compacting.{compact_none, compact_made, ready_passed}
@@ -77,3 +79,26 @@ returns-clause-ready g c =
       live = λ h e. (new_checkpoint (a.epoch + 1) c.args.number c.args.rows.now, made_stored a.epoch c.in-Some.epoch c.in_ok-start.start c.args.number c.args.rows.now (g.D.Disk.tells c.compact.new.idle) above fits c.in_ok-start.ensures.fits c.requires.number c.in_ok-start.ensures.stored c.in_ok-start.ensures.start c.in_ok-start.ensures.done h e);
       idle = ready_passed law a.side a.epoch a.journal.start a.journal.gate c.in-Some.epoch (g.D.Disk.tells a.journal.disk) above ready.live;
     })
+
+pub returns-in_err-start-clause-body : goal.returns-in_err-start-clause-body
+returns-in_err-start-clause-body g c =
+    let a = c.self.inside in
+    let above : c.in-Some.epoch ≡ c.self.inside.epoch + 1 = search rules in
+    let store : StoreOn g.row.D.Denot = record { journal = a.journal; idle = c.compact.new.idle; side = a.side; epoch = a.epoch } in
+    rw (← c.self.view_is) (λ before holds long closed below.
+    stays_idle g.D.Disk.tells (λ file. head_is_open file ≡ true → file ≡ new_file (a.epoch + 1) c.args.number c.args.rows.now) (g.D.Disk.tells a.idle) store a.side refl
+    (subst (λ (n : ℕ). StaysIn (λ file. head_is_open file ≡ true → file ≡ new_file n c.args.number c.args.rows.now) (g.D.Disk.tells a.idle) (g.D.Disk.tells c.compact.new.idle)) above
+    (c.compact.ensures.body before holds long closed)))
+
+pub returns-clause-body : goal.returns-clause-body
+returns-clause-body g c =
+    let a = c.self.inside in
+    let above : c.in-Some.epoch ≡ c.self.inside.epoch + 1 = search rules in
+    let store : StoreOn g.row.D.Denot = record { journal = record { disk = c.compact.new.idle; start = c.in_ok-start.start; gate = c.in_ok-start.start }; idle = a.journal.disk; side = other a.side; epoch = c.in-Some.epoch } in
+    rw (← c.self.view_is, c.turn.ensures) (λ before holds long closed below.
+    stays_live g.D.Disk.tells (λ file. head_is_open file ≡ true → file ≡ new_file (a.epoch + 1) c.args.number c.args.rows.now) (g.D.Disk.tells a.idle) store (other a.side) refl
+    (subst (λ (n : ℕ). StaysIn (λ file. head_is_open file ≡ true → file ≡ new_file n c.args.number c.args.rows.now) (g.D.Disk.tells a.idle) (g.D.Disk.tells c.compact.new.idle)) above
+    (c.compact.ensures.body before holds long closed)))
+
+pub returns-clause-passed : goal.returns-clause-passed
+returns-clause-passed g c = rw (← c.self.view_is, c.turn.ensures) (λ below kept stores. stores.live)

@@ -42,7 +42,8 @@ Spells issuer text c = spelled (given_by issuer) text ≡ Ok (generic_view c)
 abbrev pub fault : List ℕ → List ℕ → Option Syntax
 fault issuer text = result_err (spelled (given_by issuer) text)
 
--- the first fault, unless memory ran out
+-- The first fault. Want of memory may be told in place of it, and of a command: no clause says when there is enough, and
+-- tests alone show that it isn't told then.
 abbrev pub IsFault : List ℕ → List ℕ → ParseFault → Type 0
 IsFault issuer text (reasons.Syntax e) = fault issuer text ≡ Some e
 IsFault issuer text reasons.NoMemory = Unit {0}

@@ -48,7 +48,9 @@ module _ (state : State) (generation : ℕ) where
   unfoldable pub verified : VerifyRequest → Result Acee VerifyFault
   verified request = admitted request.label (acee_of state generation request)
 
-  -- What is answered is what is told, but that memory may be wanting for the ACEE of a user whose first checks pass.
+  -- What is answered is what is told, but that memory may be wanting for the ACEE of a user whose first checks pass. Want
+  -- of memory may be told in place of any answer for him: no clause says when there is enough, and tests alone show that
+  -- it isn't told then.
   abbrev pub IsVerified : VerifyRequest → Result Acee VerifyFault → Type 0
   IsVerified request (Ok acee) = verified request ≡ Ok acee
   IsVerified request (Err NoMemory) = (acee : Acee) × (acee_of state generation request ≡ Ok acee)

@@ -1,5 +1,6 @@
 mod IssuerLaws
 pub mod TextLaws
+mod FormatLaws
 mod JointLaws
 mod MakingLaws
 mod OutcomeRows

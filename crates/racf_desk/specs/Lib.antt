@@ -6,6 +6,7 @@ pub mod Recovery
 pub mod Made
 pub mod Durable
 pub mod Executing
+pub mod Formatting
 pub mod Images
 pub mod Kept
 pub mod Recovering

@@ -74,7 +74,9 @@ is_fresh position store = record { position = position; store = store; halted = 
 abbrev pub number_at : Position → ℕ
 number_at position = position.image.generation
 
--- A command with this outcome was refused, memory was wanting, or a disk had failed before, and this was answered.
+-- A command with this outcome was refused, memory was wanting, or a disk had failed before, and this was answered. Want
+-- of memory may be told in place of any outcome: no clause says when there is enough, and tests alone show that it isn't
+-- told then.
 abbrev pub IsRefusal : (halted : Bool) → Position → Result CommandRecord Refusal → Reply → Type 0
 IsRefusal halted position outcome (reply.Accepted number) = ⊥
 IsRefusal halted position outcome (reply.Refused number why) = (halted ≡ false) × (number ≡ number_at position) × (outcome ≡ Err why)

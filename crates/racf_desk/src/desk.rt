@@ -5,6 +5,7 @@ ghost use Rattle.racf_outside.specs.Causes.{HasCause, Rose};
 ghost use Rattle.racf_journal.specs.Opening.{OnlySynced};
 ghost use Rattle.checkpoint_disks.specs.declared.counting.Side.{Side};
 ghost use Rattle.racf_checkpoint.specs.Contents.{IsCaused, IsCausedByOne};
+ghost use Rattle.racf_checkpoint.specs.Formatting.{StaysBaring, StaysFormatting};
 ghost use Rattle.racf_checkpoint.specs.Stored.{NowRead, StaysPossible, disk_on, other};
 
 use crate::answers::{Ready, Reply};
@@ -65,15 +66,20 @@ impl<D: Disk> Desk<D> {
     ghost use Rattle.racf_desk.specs.Durable.{LeavesIt, LeavesCheckpoint, SameIdle, SaysEpoch, StandsThere, StaysEither, StaysThere};
     ghost use Rattle.racf_desk.specs.Images.{IsImageOf};
     ghost use Rattle.racf_desk.specs.Executing.{KeepsDesk, SayWhatWasPossible};
+    ghost use Rattle.racf_desk.specs.Formatting.{LeavesNoOlder};
 
-    /// A desk over a new database, whatever the disks held: the first has a checkpoint of it. A crash meanwhile leaves
-    /// what both said, nothing, or the new database, and never an older one. Where it fails, both are handed back; for
-    /// want of memory nothing was done.
+    /// A desk over a new database, whatever the disks held: the first has a checkpoint of it. At every moment a crash
+    /// leaves of each disk a file that says what it said, or nothing, or is that of the new database. Where the call
+    /// fails, both are handed back, and whatever crashes then leave of them stands for what they might have stood for
+    /// before, for nothing, or for the new database, and never for an older one; for want of memory nothing was done.
     pub fn format(alloc: Global, disks: Two<D>) -> Result<Desk<D>, (Two<D>, StoreFault)>
         ensures desk { IfOk result (λ desk. desk ≡ is_fresh first_position desk.store) }
         ensures leaves { IfOk result (λ desk. LeavesIt D.tells desk.store first_position) }
         ensures side { IfOk result (λ desk. desk.store.side ≡ Side.First) }
         ensures epoch { IfOk result (λ desk. desk.store.epoch ≡ 1) }
+        ensures first_moments { MatchResult result (λ desk. StaysFormatting (D.tells disks.first) (D.tells (disk_on Side.First desk.store))) (λ back. StaysFormatting (D.tells disks.first) (D.tells back.0.first)) }
+        ensures second_moments { MatchResult result (λ desk. StaysBaring (D.tells disks.second) (D.tells (disk_on Side.Second desk.store))) (λ back. StaysBaring (D.tells disks.second) (D.tells back.0.second)) }
+        ensures joint { IfErr result (λ back. LeavesNoOlder (D.tells disks.first) (D.tells disks.second) (D.tells back.0.first) (D.tells back.0.second)) }
         ensures fault { IfErr result (λ back. (back.1 ≡ StoreFault.DiskFault) ⊎ (back.1 ≡ StoreFault.NoMemory)) }
         ensures memory { IfErr result (λ back. back.1 ≡ StoreFault.NoMemory → (back.0.first ≡ disks.first) × (back.0.second ≡ disks.second)) }
         ensures cause { IfErr result (λ back. IsCausedByOne (D.faults disks.first) (D.faults back.0.first) (D.faults disks.second) (D.faults back.0.second) back.1) }

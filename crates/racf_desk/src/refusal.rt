@@ -29,11 +29,21 @@ pub enum Refusal {
 }
 
 impl Refusal {
-    ghost use Rattle.std.specs.Prelude.{◌≡◌, ◌++◌, OnOk};
+    ghost use Rattle.std.specs.Prelude.{◌≡◌, ◌++◌, OnOk, OnErr};
     ghost use Rattle.racf_desk.specs.Words.{refusal_words};
 
-    /// Writes the words at the end of `out`.
+    /// Writes the words at the end of `out`. Where memory is short, `out` stays as it was.
     pub fn write(&self, out: &mut Vec<u8>) -> Result<(), AllocError>
+        ensures words { OnOk result (out.new.items ≡ out.old.items ++ refusal_words self.now) }
+        ensures kept { OnErr result (out.new.items ≡ out.old.items) }
+    {
+        let mut words = Vec::new(*out.allocator());
+        self.write_words(&mut words)?;
+        out.extend_from_slice(&words)
+    }
+
+    /// The same, where `out` may keep the front of the words when memory is short.
+    fn write_words(&self, out: &mut Vec<u8>) -> Result<(), AllocError>
         ensures { OnOk result (out.new.items ≡ out.old.items ++ refusal_words self.now) }
     {
         match self {

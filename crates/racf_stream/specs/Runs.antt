@@ -91,7 +91,8 @@ pub record WroteToWriteFault {S Item : Type 0} (m : Machine S Item) (write_faile
   pub front : written ≡ output m done m.start ++ take count (m.text last (after m done m.start))
   pub few : m.accepted (after m worked m.start) ≤ m.accepted (after m done m.start) + 1
 
--- A disk failed a command, and the input was read to its end; or a read failed later, or a write.
+-- A disk failed a command, and the input was read to its end; or a read failed then; or a write, of that command's line or
+-- of one before or behind it.
 abbrev pub WroteFailing : {S Item : Type 0} → Machine S Item → (read_failed write_failed : Type 0) → List ℕ → Option (List ℕ) → Option (List ℕ) → List Item → List ℕ → Type 0
 WroteFailing m read_failed write_failed read more left worked written =
     WroteAll m DiskFault read more worked written

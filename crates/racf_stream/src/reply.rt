@@ -1,6 +1,7 @@
 //! The replies to commands and to issuers, and to lines that are too long, as they are printed.
 
-ghost use Rattle.std.specs.Prelude.{◌≡◌, ◌+◌, ◌≤◌, ◌++◌, false, IsOk, OnOk, vec_len, vec_capacity};
+ghost use Rattle.std.specs.Prelude.{◌≡◌, ◌+◌, ◌≤◌, ◌++◌, false, IsOk, OnOk, OnErr, vec_len, vec_capacity};
+ghost use Rattle.audit_records.specs.Writing.{Keeps};
 ghost use Rattle.racf_stream.specs.Replies.{is_refused, longest_line, longest_words, refusal_words, reply_words, reply_line};
 
 use itoa::Buffer;
@@ -35,9 +36,10 @@ pub enum Reply {
 }
 
 impl Refusal {
-    /// Writes the words at the end of `out`.
+    /// Writes the words at the end of `out`. Where memory is short, `out` stays as it was.
     fn write(&self, out: &mut Vec<u8>) -> Result<(), AllocError>
-        ensures { OnOk result (out.new.items ≡ out.old.items ++ refusal_words self.now) }
+        ensures words { OnOk result (out.new.items ≡ out.old.items ++ refusal_words self.now) }
+        ensures kept { OnErr result (out.new.items ≡ out.old.items) }
     {
         match self {
             Refusal::Command(why) => why.write(out),
@@ -49,11 +51,28 @@ impl Refusal {
 
 impl Reply {
     /// Writes the line of a reply, with the number before it, at the end of `out`. One that refuses nothing needs no
-    /// more room than [`LONGEST_LINE`].
-    #[tactic(auto, unfolding(crate::specs::Replies::reply_line))]
+    /// more room than [`LONGEST_LINE`]. Where memory is short, `out` stays as it was.
     pub fn write_line(&self, number: u64, out: &mut Vec<u8>) -> Result<(), AllocError>
         ensures line { OnOk result (out.new.items ≡ out.old.items ++ reply_line number self.now) }
         ensures succeeds { is_refused self.now ≡ false → vec_len out.old + longest_line ≤ vec_capacity out.old → IsOk result }
+        ensures kept { OnErr result (out.new.items ≡ out.old.items) }
+    {
+        let length = out.len();
+        match self.write_numbered(number, out) {
+            Ok(()) => Ok(()),
+            Err(fault) => {
+                out.truncate(length);
+                Err(fault)
+            }
+        }
+    }
+
+    /// The same, where `out` may keep the front of the line when memory is short.
+    #[tactic(auto, unfolding(crate::specs::Replies::reply_line), using(audit_records::proofs::Keeping::keeps_on))]
+    fn write_numbered(&self, number: u64, out: &mut Vec<u8>) -> Result<(), AllocError>
+        ensures line { OnOk result (out.new.items ≡ out.old.items ++ reply_line number self.now) }
+        ensures succeeds { is_refused self.now ≡ false → vec_len out.old + longest_line ≤ vec_capacity out.old → IsOk result }
+        ensures front { Keeps out.old.items out.new.items }
     {
         let mut digits = Buffer::new();
         out.extend_from_slice(digits.format(number).as_bytes())?;
@@ -63,11 +82,13 @@ impl Reply {
     }
 
     /// Writes the words at the end of `out`.
+    #[tactic(auto, using(audit_records::proofs::Keeping::keeps_on))]
     fn write(&self, out: &mut Vec<u8>) -> Result<(), AllocError>
         ensures words { OnOk result (out.new.items ≡ out.old.items ++ reply_words self.now) }
         ensures succeeds { is_refused self.now ≡ false → vec_len out.old + longest_words ≤ vec_capacity out.old → IsOk result }
         ensures grows { is_refused self.now ≡ false → vec_len out.new ≤ vec_len out.old + longest_words }
         ensures capacity { is_refused self.now ≡ false → vec_capacity out.old ≤ vec_capacity out.new }
+        ensures front { Keeps out.old.items out.new.items }
     {
         match self {
             Reply::Accepted => out.extend_from_slice(b"ACCEPTED"),

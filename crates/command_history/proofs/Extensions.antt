@@ -1,11 +1,11 @@
 -- Beginnings of lists of events, and which list extends which.
-use Rattle.std.proofs.Common.{◌≡◌, ◌⊎◌, Some, ◌+◌, ◌-◌, ◌≤◌, ℕ, Bool, nat_lt, MatchBool, true, false, List, [], ◌∷◌, ◌++◌, length, refl, ap, sym, ◌∙◌, subst, arith, inl, inr, append_assoc, length-append}
+use Rattle.std.proofs.Common.{◌≡◌, ◌⊎◌, Option, ◌+◌, ◌-◌, ◌≤◌, ℕ, Bool, nat_lt, MatchBool, true, false, List, [], ◌∷◌, ◌++◌, length, refl, ap, sym, ◌∙◌, subst, arith, inl, inr, append_assoc, length-append}
 use Rattle.std.proofs.lemmas.Bool.Decides.{nat_tests}
 use mathlib.Core.List.{IsPrefix}
 use Rattle.command_history.specs.declared.events.Event.{Event}
 use Rattle.command_history.specs.declared.events.Event.TheVariants.{Added, Ended}
 use Rattle.command_history.specs.declared.events.Accepted.{Accepted}
-use Rattle.command_history.specs.Events.{entries_of, mark_of, is_ended, ends_last, all_of, Extends}
+use Rattle.command_history.specs.Events.{entries_of, failed_of, is_ended, ends_last, all_of, Extends}
 
 -- ---- beginnings
 
@@ -97,20 +97,24 @@ compared xs ys both last last' p q = compared_so xs ys both last last' p q (nat_
 
 -- ---- whole lists
 
-pub all_is : (events : List Event) (halted : Bool) → ends_last events ≡ true → mark_of events ≡ Some halted → events ≡ all_of (entries_of events) halted
-all_is [] halted last mark = absurd (cc mark)
-all_is (Added entry ∷ events) halted last mark = ap (λ (l : List Event). Added entry ∷ l) (all_is events halted last mark)
-all_is (Ended h ∷ []) halted last mark = cc mark
-all_is (Ended h ∷ event ∷ events) halted last mark = absurd (cc last)
+pub all_is : (events : List Event) → ends_last events ≡ true → is_ended events ≡ true → events ≡ all_of (entries_of events) (failed_of events)
+all_is [] last ended = absurd (cc ended)
+all_is (Added entry ∷ events) last ended = ap (λ (l : List Event). Added entry ∷ l) (all_is events last ended)
+all_is (Ended doubt ∷ []) last ended = refl
+all_is (Ended doubt ∷ event ∷ events) last ended = absurd (cc last)
 
-pub entries_of_all : (entries : List Accepted) (halted : Bool) → entries_of (all_of entries halted) ≡ entries
-entries_of_all [] halted = refl
-entries_of_all (entry ∷ entries) halted = ap (λ (l : List Accepted). entry ∷ l) (entries_of_all entries halted)
+pub entries_of_all : (entries : List Accepted) (doubt : Option Accepted) → entries_of (all_of entries doubt) ≡ entries
+entries_of_all [] doubt = refl
+entries_of_all (entry ∷ entries) doubt = ap (λ (l : List Accepted). entry ∷ l) (entries_of_all entries doubt)
 
-pub mark_of_all : (entries : List Accepted) (halted : Bool) → mark_of (all_of entries halted) ≡ Some halted
-mark_of_all [] halted = refl
-mark_of_all (entry ∷ entries) halted = mark_of_all entries halted
+pub failed_of_all : (entries : List Accepted) (doubt : Option Accepted) → failed_of (all_of entries doubt) ≡ doubt
+failed_of_all [] doubt = refl
+failed_of_all (entry ∷ entries) doubt = failed_of_all entries doubt
 
-pub last_of_all : (entries : List Accepted) (halted : Bool) → ends_last (all_of entries halted) ≡ true
-last_of_all [] halted = refl
-last_of_all (entry ∷ entries) halted = last_of_all entries halted
+pub ended_all : (entries : List Accepted) (doubt : Option Accepted) → is_ended (all_of entries doubt) ≡ true
+ended_all [] doubt = refl
+ended_all (entry ∷ entries) doubt = ended_all entries doubt
+
+pub last_of_all : (entries : List Accepted) (doubt : Option Accepted) → ends_last (all_of entries doubt) ≡ true
+last_of_all [] doubt = refl
+last_of_all (entry ∷ entries) doubt = last_of_all entries doubt

@@ -1,11 +1,13 @@
 -- Where a list of events leads, behind one event more.
-use Rattle.std.proofs.Common.{◌≡◌, ℕ, Ok, List, [], ◌∷◌, ◌++◌, Bool, Option, Some, None, refl, sym, ◌∙◌, ap, subst}
+use Rattle.std.proofs.Common.{◌≡◌, ℕ, Ok, List, [], ◌∷◌, ◌++◌, Option, Some, None, Result, Err, refl, sym, ◌∙◌, ap, subst}
+use Rattle.command_parser.specs.declared.fields.CommandFields.{CommandFields}
 use Rattle.journal_records.specs.declared.record.CommandRecord.{CommandRecord}
 use Rattle.racf_desk.specs.Position.{Position, position_behind}
 use Rattle.racf_desk.specs.History.{at, IsLegal}
-use Rattle.racf_desk.specs.Outcome.{outcome}
+use Rattle.racf_desk.specs.Outcome.{first_of, rules_of, journal_full, number_spent, refusal_of, unless_refused, command_of_text, judged, outcome_in, outcome}
 use Rattle.racf_desk.specs.Recovery.{outcome_again}
-use Rattle.racf_desk.proofs.RecoveryLaws.{accepted_leads}
+use Rattle.racf_desk.specs.declared.refusal.Refusal.{Refusal}
+use Rattle.racf_desk.proofs.RecoveryLaws.{accepted_leads, judged_parts}
 use Rattle.command_history.specs.declared.events.Accepted.{Accepted}
 use Rattle.command_history.specs.declared.events.Event.{Event}
 use Rattle.command_history.specs.declared.events.Event.TheVariants.{Added, Ended}
@@ -37,33 +39,60 @@ reached_added base events entry given is =
     ∙ (ap (λ (l : List CommandRecord). at base l) (records_more (entries_of events) entry given is)
     ∙ at_more base (records_of (entries_of events)) given)
 
-pub reached_ended : (base : Position) (events : List Event) (halted : Bool) → reached base (events ++ Ended halted ∷ []) ≡ reached base events
-reached_ended base events halted = unfold reached in ap (λ (l : List Accepted). at base (records_of l)) (entries_push events halted)
+pub reached_ended : (base : Position) (events : List Event) (doubt : Option Accepted) → reached base (events ++ Ended doubt ∷ []) ≡ reached base events
+reached_ended base events doubt = unfold reached in ap (λ (l : List Accepted). at base (records_of l)) (entries_push events doubt)
 
 pub reached_none : (base : Position) → reached base [] ≡ base
 reached_none base = unfold reached in refl
 
+-- ---- the journal's room
+
+room_none : (rules room spent : Option Refusal) → first_of (rules ∷ room ∷ spent ∷ []) ≡ None → room ≡ None
+room_none (Some why) room spent h = cc
+room_none None (Some why) spent h = cc
+room_none None None spent h = refl
+
+room_at : (position : Position) (id : List ℕ) (group : Option (List ℕ)) (given : CommandRecord) (command : Result CommandFields Refusal)
+    → unless_refused command (judged (refusal_of position.gate position.image.generation position.image.state.rows) position.image.state.rows id group) ≡ Ok given
+    → journal_full position.gate given ≡ None
+room_at position id group given (Ok command) h =
+    let rows = position.image.state.rows in
+    let number = position.image.generation in
+    let none = (judged_parts (refusal_of position.gate number rows) rows id group command given h).2 in
+    room_none (rules_of rows given) (journal_full position.gate given) (number_spent number) none
+room_at position id group given (Err why) h = cc
+
+-- The journal has room for the record of a command that is accepted.
+accepted_room : (position : Position) (id : List ℕ) (group : Option (List ℕ)) (text : List ℕ) (given : CommandRecord) → outcome position id group text ≡ Ok given
+    → journal_full position.gate given ≡ None
+unfolding outcome_in
+accepted_room position id group text given h = room_at position id group given (command_of_text id text) h
+
 -- ---- legal entries
 
+abbrev AcceptedAt : Position → CommandRecord → Type 0
+AcceptedAt position given = (outcome_again position given ≡ Ok given) × (journal_full position.gate given ≡ None)
+
 legal_more : (base : Position) (entries : List Accepted) (entry : Accepted) (given : CommandRecord) → AreLegal base entries → record_of entry ≡ Some given
-    → outcome_again (at base (records_of entries)) given ≡ Ok given → AreLegal base (entries ++ entry ∷ [])
-legal_more base [] entry given legal is accepted = (given, is, accepted, tt)
+    → AcceptedAt (at base (records_of entries)) given → AreLegal base (entries ++ entry ∷ [])
+legal_more base [] entry given legal is accepted = (given, is, accepted.0, accepted.1, tt)
 legal_more base (first ∷ entries) entry given legal is accepted =
-    let P : Option CommandRecord → Type 0 = λ one. outcome_again (at base (with_record one (records_of entries))) given ≡ Ok given in
-    (legal.0, legal.1, legal.2, legal_more (position_behind base legal.0) entries entry given legal.3 is (subst P legal.1 accepted))
+    let P : Option CommandRecord → Type 0 = λ one. AcceptedAt (at base (with_record one (records_of entries))) given in
+    (legal.0, legal.1, legal.2, legal.3, legal_more (position_behind base legal.0) entries entry given legal.4 is (subst P legal.1 accepted))
 
 pub legal_added : (base : Position) (events : List Event) (entry : Accepted) (given : CommandRecord) (id : List ℕ) (group : Option (List ℕ)) (text : List ℕ)
     → AreLegal base (entries_of events) → record_of entry ≡ Some given → outcome (reached base events) id group text ≡ Ok given
     → AreLegal base (entries_of (events ++ Added entry ∷ []))
 legal_added base events entry given id group text legal is accepted =
-    let again : outcome_again (at base (records_of (entries_of events))) given ≡ Ok given = unfold reached in accepted_leads (reached base events) id group text given accepted in
+    let again : AcceptedAt (at base (records_of (entries_of events))) given =
+    unfold reached in (accepted_leads (reached base events) id group text given accepted, accepted_room (reached base events) id group text given accepted) in
     subst (λ (l : List Accepted). AreLegal base l) (sym (entries_added events entry)) (legal_more base (entries_of events) entry given legal is again)
 
-pub legal_ended : (base : Position) (events : List Event) (halted : Bool) → AreLegal base (entries_of events) → AreLegal base (entries_of (events ++ Ended halted ∷ []))
-legal_ended base events halted legal = subst (λ (l : List Accepted). AreLegal base l) (sym (entries_push events halted)) legal
+pub legal_ended : (base : Position) (events : List Event) (doubt : Option Accepted) → AreLegal base (entries_of events) → AreLegal base (entries_of (events ++ Ended doubt ∷ []))
+legal_ended base events doubt legal = subst (λ (l : List Accepted). AreLegal base l) (sym (entries_push events doubt)) legal
 
 pub legal_history : (base : Position) (entries : List Accepted) → AreLegal base entries → IsLegal base (records_of entries)
 legal_history base [] legal = tt
 legal_history base (entry ∷ entries) legal =
     subst (λ (one : Option CommandRecord). IsLegal base (with_record one (records_of entries))) (sym legal.1)
-    (legal.2, legal_history (position_behind base legal.0) entries legal.3)
+    (legal.2, legal_history (position_behind base legal.0) entries legal.4)

@@ -57,9 +57,9 @@ kept_same cells log n kept is =
 
 ends_push : (events : List Event) (event : Event) → is_ended events ≡ false → ends_last (events ++ event ∷ []) ≡ true
 ends_push [] (Added entry) goes = refl
-ends_push [] (Ended halted) goes = refl
+ends_push [] (Ended doubt) goes = refl
 ends_push (Added entry ∷ events) event goes = ends_push events event goes
-ends_push (Ended halted ∷ events) event goes = absurd (cc goes)
+ends_push (Ended doubt ∷ events) event goes = absurd (cc goes)
 
 -- the word of the next event comes home
 kept_add : (cells : List Cell) (log : List Event) (e : Event) (key value : ℕ) → IsKept cells log → key ≡ length log + 2 → key < length cells → is_ended log ≡ false

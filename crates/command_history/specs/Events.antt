@@ -1,5 +1,6 @@
--- Lists of events: entries, each an accepted command, and the final mark behind the last of them.
-use Rattle.std.specs.Prelude.{◌≡◌, Bool, true, false, List, [], ◌∷◌, ◌++◌, map, Option, Some, None}
+-- Lists of events: entries, each an accepted command, and the final mark behind the last of them. The mark names the
+-- entry of the command that a disk failed, where one did.
+use Rattle.std.specs.Prelude.{◌≡◌, Bool, true, false, List, [], ◌∷◌, ◌++◌, map, Option, None}
 use mathlib.Core.List.{IsPrefix}
 use Rattle.command_history.specs.declared.events.Accepted.{Accepted}
 use Rattle.command_history.specs.declared.events.Event.{Event}
@@ -9,30 +10,30 @@ use Rattle.command_history.specs.declared.events.Event.TheVariants.{Added, Ended
 abbrev pub entries_of : List Event → List Accepted
 entries_of [] = []
 entries_of (Added entry ∷ events) = entry ∷ entries_of events
-entries_of (Ended halted ∷ events) = entries_of events
+entries_of (Ended doubt ∷ events) = entries_of events
 
--- the first final mark: whether the desk was halted
-abbrev pub mark_of : List Event → Option Bool
-mark_of [] = None
-mark_of (Added entry ∷ events) = mark_of events
-mark_of (Ended halted ∷ events) = Some halted
+-- the entry that the final mark names: of the command that a disk failed
+abbrev pub failed_of : List Event → Option Accepted
+failed_of [] = None
+failed_of (Added entry ∷ events) = failed_of events
+failed_of (Ended doubt ∷ events) = doubt
 
 -- Whether there is a final mark.
 abbrev pub is_ended : List Event → Bool
 is_ended [] = false
 is_ended (Added entry ∷ events) = is_ended events
-is_ended (Ended halted ∷ events) = true
+is_ended (Ended doubt ∷ events) = true
 
 -- Whether nothing stands behind a final mark.
 abbrev pub ends_last : List Event → Bool
 ends_last [] = true
 ends_last (Added entry ∷ events) = ends_last events
-ends_last (Ended halted ∷ []) = true
-ends_last (Ended halted ∷ event ∷ events) = false
+ends_last (Ended doubt ∷ []) = true
+ends_last (Ended doubt ∷ event ∷ events) = false
 
 -- these entries, and then the final mark
-abbrev pub all_of : List Accepted → Bool → List Event
-all_of entries halted = map Added entries ++ Ended halted ∷ []
+abbrev pub all_of : List Accepted → Option Accepted → List Event
+all_of entries doubt = map Added entries ++ Ended doubt ∷ []
 
 -- The later list begins with the earlier one, and whoever has the final mark has all.
 pub record Extends (earlier later : List Event) : Type 0 where

@@ -4,6 +4,7 @@ use Rattle.std.specs.Option.{option_map}
 use Rattle.command_parser.specs.declared.fields.CommandFields.{CommandFields}
 use Rattle.journal_records.specs.declared.record.CommandRecord.{CommandRecord}
 use Rattle.journal_records.specs.Reading.{canonical_command}
+use Rattle.racf_desk.specs.Outcome.{journal_full}
 use Rattle.racf_desk.specs.Position.{Position, position_behind}
 use Rattle.racf_desk.specs.History.{at}
 use Rattle.racf_desk.specs.Recovery.{outcome_again}
@@ -31,9 +32,9 @@ unfoldable pub reached : Position → List Event → Position
 reached base events = at base (records_of (entries_of events))
 
 -- Entries are legal from a base where each has a record, whose command is accepted at the position behind those before
--- it.
+-- it, and for which the journal has room there.
 abbrev pub AreLegal : Position → List Accepted → Type 0
 AreLegal base [] = Unit {0}
 AreLegal base (entry ∷ entries) =
     (given : CommandRecord) × (record_of entry ≡ Some given) × (outcome_again base given ≡ Ok given)
-    × AreLegal (position_behind base given) entries
+    × (journal_full base.gate given ≡ None) × AreLegal (position_behind base given) entries

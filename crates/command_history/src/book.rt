@@ -3,7 +3,7 @@ ghost use Rattle.std.specs.Prelude.{◌≡◌, ◌<◌, ◌^◌, [], length, IfS
 ghost use Rattle.command_history.specs.Events.{ends_last, Extends};
 ghost use Rattle.command_history.specs.Rules.{head_of};
 
-use crate::events::Event;
+use crate::events::{Accepted, Event};
 use crate::front::Front;
 use crate::rule::{End, Law, Naming, Nothing, Stay, Take};
 use crate::turn::Turn;
@@ -77,7 +77,11 @@ impl<J: Naming> Book<J> {
         ensures { IfSome result (λ turn. turn ≡ place) }
     {
         let mut seen = front.seen.again();
-        let mut offer: Offer<Event, u64, Law, Nothing> = seen.plain::<Nothing, bool, End>(&false);
+        let mut offer: Offer<Event, u64, Law, Nothing> = seen.plain::<
+            Nothing,
+            Option<Accepted>,
+            End,
+        >(&None);
         let mut pen = seen.no_pen();
         let found = self
             .head
@@ -106,7 +110,11 @@ impl<J: Naming> Book<J> {
     {
         let mut both = mine.seen.again();
         both.learn(&other.seen);
-        let mut offer: Offer<Event, u64, Law, Nothing> = both.plain::<Nothing, bool, End>(&false);
+        let mut offer: Offer<Event, u64, Law, Nothing> = both.plain::<
+            Nothing,
+            Option<Accepted>,
+            End,
+        >(&None);
         let _found = self
             .head
             .compare_exchange::<Stay, Nothing>(0, 0, &mut both, &mut offer, &mut turn.pen);

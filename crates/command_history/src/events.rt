@@ -18,6 +18,6 @@ pub struct Accepted {
 pub enum Event {
     /// A command was accepted.
     Added(Accepted),
-    /// The final mark, behind which nothing comes: whether the desk was halted.
-    Ended(bool),
+    /// The final mark, behind which nothing comes: the entry of the command that a disk failed, where one did.
+    Ended(Option<Accepted>),
 }

@@ -72,14 +72,14 @@ impl<J: Naming> Front<J> {
         self.put::<Accepted, Add>(book, turn, entry);
     }
 
-    /// Adds the final mark, which nobody else can do.
-    pub fn end(&mut self, book: &Book<J>, turn: Turn<J>, halted: bool)
+    /// Adds the final mark, which names the entry of the command that a disk failed, where one did. Nobody else can do it.
+    pub fn end(&mut self, book: &Book<J>, turn: Turn<J>, doubt: &Option<Accepted>)
         requires turn { turn ≡ length self.old }
         requires room { length self.old < 2 ^ 63 }
         requires goes_on { is_ended self.old ≡ false }
-        ensures { self.new ≡ self.old ++ Ended halted ∷ [] }
+        ensures { self.new ≡ self.old ++ Ended doubt.now ∷ [] }
     {
-        self.put::<bool, End>(book, turn, &halted);
+        self.put::<Option<Accepted>, End>(book, turn, doubt);
     }
 
     /// Adds the event that is asked for so.

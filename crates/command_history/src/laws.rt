@@ -1,5 +1,5 @@
 //! Laws of the definitions. The functions do nothing: their contracts are what is proved.
-ghost use Rattle.std.specs.Prelude.{◌≡◌, ◌⊎◌, ◌++◌, ◌∷◌, [], ℕ, true, false, Bool, List, Option, Some, Ok};
+ghost use Rattle.std.specs.Prelude.{◌≡◌, ◌⊎◌, ◌++◌, ◌∷◌, [], ℕ, true, false, List, Option, Some, Ok};
 ghost use mathlib.Core.List.{IsPrefix};
 ghost use Rattle.command_parser.specs.Canonical.{canonical, IsWritten};
 ghost use Rattle.journal_records.specs.declared.record.CommandRecord.{CommandRecord};
@@ -10,7 +10,7 @@ ghost use Rattle.racf_desk.specs.Position.{Position, position_behind};
 ghost use Rattle.command_history.specs.declared.events.Accepted.{Accepted};
 ghost use Rattle.command_history.specs.declared.events.Event.{Event};
 ghost use Rattle.command_history.specs.declared.events.Event.TheVariants.{Added, Ended};
-ghost use Rattle.command_history.specs.Events.{all_of, ends_last, entries_of, is_ended, mark_of, Extends};
+ghost use Rattle.command_history.specs.Events.{all_of, ends_last, entries_of, failed_of, is_ended, Extends};
 ghost use Rattle.command_history.specs.Reached.{reached, record_of, records_of, AreLegal};
 
 use journal_records::laws::canonical_texts_are_of_commands;
@@ -34,11 +34,12 @@ pub fn later_lists_extend_earlier_ones()
 /// A list that has a final mark, with nothing behind it, is its entries and then the mark; and so written, entries and
 /// a mark are those that are found in it.
 pub fn a_whole_history_is_its_entries_and_its_mark()
-    ensures whole { (events : List Event) (halted : Bool) →
-        ends_last events ≡ true → mark_of events ≡ Some halted → events ≡ all_of (entries_of events) halted }
-    ensures entries { (entries : List Accepted) (halted : Bool) → entries_of (all_of entries halted) ≡ entries }
-    ensures mark { (entries : List Accepted) (halted : Bool) → mark_of (all_of entries halted) ≡ Some halted }
-    ensures last { (entries : List Accepted) (halted : Bool) → ends_last (all_of entries halted) ≡ true }
+    ensures whole { (events : List Event) →
+        ends_last events ≡ true → is_ended events ≡ true → events ≡ all_of (entries_of events) (failed_of events) }
+    ensures entries { (entries : List Accepted) (doubt : Option Accepted) → entries_of (all_of entries doubt) ≡ entries }
+    ensures mark { (entries : List Accepted) (doubt : Option Accepted) → failed_of (all_of entries doubt) ≡ doubt }
+    ensures ended { (entries : List Accepted) (doubt : Option Accepted) → is_ended (all_of entries doubt) ≡ true }
+    ensures last { (entries : List Accepted) (doubt : Option Accepted) → ends_last (all_of entries doubt) ≡ true }
 {}
 
 /// Where a list of events leads: from the base, each entry to the position behind its command; the final mark leads
@@ -48,20 +49,20 @@ pub fn each_entry_leads_to_the_position_behind_it()
     ensures added { (base : Position) (events : List Event) (entry : Accepted) (given : CommandRecord) →
         record_of entry ≡ Some given →
         reached base (events ++ Added entry ∷ []) ≡ position_behind (reached base events) given }
-    ensures ended { (base : Position) (events : List Event) (halted : Bool) →
-        reached base (events ++ Ended halted ∷ []) ≡ reached base events }
+    ensures ended { (base : Position) (events : List Event) (doubt : Option Accepted) →
+        reached base (events ++ Ended doubt ∷ []) ≡ reached base events }
 {}
 
-/// Entries are legal where each of their commands is accepted at the position behind those before it: then their
-/// records are a legal history. They stay so with an entry more whose command is accepted where the events lead.
+/// Entries are legal where each of their commands is accepted at the position behind those before it, the journal's room
+/// included: then their records are a legal history. They stay so with an entry more whose command is accepted where the events lead.
 pub fn accepted_commands_make_legal_entries()
     ensures added { (base : Position) (events : List Event) (entry : Accepted) (given : CommandRecord)
         (id : List ℕ) (group : Option (List ℕ)) (text : List ℕ) →
         AreLegal base (entries_of events) → record_of entry ≡ Some given →
         outcome (reached base events) id group text ≡ Ok given →
         AreLegal base (entries_of (events ++ Added entry ∷ [])) }
-    ensures ended { (base : Position) (events : List Event) (halted : Bool) →
-        AreLegal base (entries_of events) → AreLegal base (entries_of (events ++ Ended halted ∷ [])) }
+    ensures ended { (base : Position) (events : List Event) (doubt : Option Accepted) →
+        AreLegal base (entries_of events) → AreLegal base (entries_of (events ++ Ended doubt ∷ [])) }
     ensures history { (base : Position) (entries : List Accepted) →
         AreLegal base entries → IsLegal base (records_of entries) }
 {}

@@ -74,13 +74,13 @@ impl Plain<Accepted, Event, u64> for Add {
 /// The final mark, as what a step asks for. A step that adds nothing may ask for anything.
 pub struct End;
 
-impl Plain<bool, Event, u64> for End {
+impl Plain<Option<Accepted>, Event, u64> for End {
     ghost use Rattle.std.specs.Prelude.{None};
     ghost use Rattle.command_history.specs.declared.events.Event.TheVariants.{Ended};
 
-    ghost ask = { λ halted. Ended halted };
+    ghost ask = { λ doubt. Ended doubt };
 
-    ghost state = { λ halted. None };
+    ghost state = { λ doubt. None };
 }
 
 /// Which history it is. Whatever belongs together has one parameter of this kind, and who opens a history picks it.

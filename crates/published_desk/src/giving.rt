@@ -1,7 +1,8 @@
 //! A command that is given, and published where it is accepted.
-ghost use Rattle.std.specs.Prelude.{◌≡◌, true, OnOk, OnErr, IfOk};
+ghost use Rattle.std.specs.Prelude.{◌≡◌, Some, OnOk, OnErr, IfOk};
 ghost use Rattle.racf_desk.specs.Made.{is_fresh};
 ghost use Rattle.racf_desk.specs.Position.{first_position};
+ghost use Rattle.command_history.specs.declared.events.Accepted.{Accepted};
 ghost use Rattle.raclist_snapshots.specs.Publishing.{ended_with};
 ghost use Rattle.published_desk.specs.Standing.{AreTogether, nothing_published};
 
@@ -63,8 +64,8 @@ pub fn give<D: Disk, J: Naming, T: Absorb<O> + Drop, O: Opens<Note<J>>, R: Wait 
     // What was refused has changed nothing of how they stand, and what was accepted stands in both.
     ensures together { OnOk result (AreTogether J.base desk.new publisher.new) }
 
-    // Where a disk failed the history ends as it was: the command is not in it, now or later.
-    ensures ended { OnErr result (publisher.new.events ≡ ended_with true publisher.old.events) }
+    // Where a disk failed the history ends as it was: its mark names the command, which is not in it, now or later.
+    ensures ended { OnErr result ((entry : Accepted) × (publisher.new.events ≡ ended_with (Some entry) publisher.old.events)) }
 {
     what_a_desk_makes_goes_on();
     publisher.is_legal();
@@ -87,7 +88,8 @@ pub fn give<D: Disk, J: Naming, T: Absorb<O> + Drop, O: Opens<Note<J>>, R: Wait 
     match desk.commit(&ready) {
         Ok(()) => {}
         Err(_) => {
-            publisher.finish(true);
+            let doubt = Some(entry);
+            publisher.finish(&doubt);
             return Err(AllocError);
         }
     }

@@ -1,74 +1,65 @@
 -- The history behind the final mark.
-use Rattle.std.proofs.Common.{◌≡◌, ℕ, ◌+◌, Bool, true, false, List, [], ◌∷◌, ◌++◌, length, Option, Some, None, IfSome, refl, sym, ◌∙◌, ap, subst, length-append, if◌then◌else◌}
+use Rattle.std.proofs.Common.{◌≡◌, ℕ, ◌+◌, Bool, true, false, List, [], ◌∷◌, ◌++◌, length, Option, Some, None, IfSome, refl, ap, subst, length-append, if◌then◌else◌}
 use Rattle.raclist_image.specs.Imaged.{Imaged}
 use Rattle.racf_desk.specs.Position.{Position}
 use Rattle.command_history.specs.declared.events.Accepted.{Accepted}
 use Rattle.command_history.specs.declared.events.Event.{Event}
 use Rattle.command_history.specs.declared.events.Event.TheVariants.{Added, Ended}
-use Rattle.command_history.specs.Events.{entries_of, mark_of, is_ended}
+use Rattle.command_history.specs.Events.{entries_of, failed_of, is_ended}
 use Rattle.command_history.specs.Reached.{reached, AreLegal}
 use Rattle.command_history.proofs.Leading.{reached_ended, legal_ended}
-use Rattle.command_history.proofs.Marks.{goes_push, unmarked, ended_push, mark_push, entries_push}
+use Rattle.command_history.proofs.Marks.{goes_push, ended_push, failed_push, entries_push}
 use Rattle.raclist_snapshots.specs.Publishing.{ended_with, MarkIs}
 use Rattle.raclist_snapshots.specs.Kept.{image_at, Holding, IsHeld, IsPublishing}
 
 -- the mark of a history that goes on may be any
-pub mark_any : (halted : Bool) (events : List Event) → is_ended events ≡ false → MarkIs halted events
-mark_any halted events goes = subst (λ (m : Option Bool). IfSome m (λ marked. marked ≡ halted)) (sym (unmarked events goes)) tt
-
--- a mark that is there is this one
-pub mark_is : (halted : Bool) (events : List Event) → is_ended events ≡ true → MarkIs halted events → mark_of events ≡ Some halted
-mark_is halted [] ended mark = absurd (cc ended)
-mark_is halted (Added entry ∷ events) ended mark = mark_is halted events ended mark
-mark_is halted (Ended h ∷ events) ended mark = ap Some mark
-
-pub mark_from : (halted : Bool) (events : List Event) → mark_of events ≡ Some halted → MarkIs halted events
-mark_from halted events is = subst (λ (m : Option Bool). IfSome m (λ marked. marked ≡ halted)) (sym is) refl
+pub mark_any : (doubt : Option Accepted) (events : List Event) → is_ended events ≡ false → MarkIs doubt events
+mark_any doubt events goes = λ ended. absurd (cc (ended, goes))
 
 -- with the mark a history is as it was, or has it behind it
-pub ended_same : (halted : Bool) (events : List Event) → is_ended events ≡ true → ended_with halted events ≡ events
-ended_same halted events is = rw is refl
+pub ended_same : (doubt : Option Accepted) (events : List Event) → is_ended events ≡ true → ended_with doubt events ≡ events
+ended_same doubt events is = rw is refl
 
-pub ended_more : (halted : Bool) (events : List Event) → is_ended events ≡ false → ended_with halted events ≡ events ++ Ended halted ∷ []
-ended_more halted events is = rw is refl
+pub ended_more : (doubt : Option Accepted) (events : List Event) → is_ended events ≡ false → ended_with doubt events ≡ events ++ Ended doubt ∷ []
+ended_more doubt events is = rw is refl
 
-pub ended_ends : (halted : Bool) (events : List Event) → is_ended (ended_with halted events) ≡ true
-ended_ends halted events = by (is_ended events) refl
+pub ended_ends : (doubt : Option Accepted) (events : List Event) → is_ended (ended_with doubt events) ≡ true
+ended_ends doubt events = by (is_ended events) refl
   where
-    by : (b : Bool) → is_ended events ≡ b → is_ended (if b then events else (events ++ Ended halted ∷ [])) ≡ true
+    by : (b : Bool) → is_ended events ≡ b → is_ended (if b then events else (events ++ Ended doubt ∷ [])) ≡ true
     by true is = is
-    by false is = ended_push events halted
+    by false is = ended_push events doubt
 
-pub mark_ended : (halted : Bool) (events : List Event) → MarkIs halted events → mark_of (ended_with halted events) ≡ Some halted
-mark_ended halted events mark = by (is_ended events) refl
+pub failed_ended : (doubt : Option Accepted) (events : List Event) → MarkIs doubt events → failed_of (ended_with doubt events) ≡ doubt
+failed_ended doubt events mark = by (is_ended events) refl
   where
-    by : (b : Bool) → is_ended events ≡ b → mark_of (if b then events else (events ++ Ended halted ∷ [])) ≡ Some halted
-    by true is = mark_is halted events is mark
-    by false is = mark_push events halted is
+    by : (b : Bool) → is_ended events ≡ b → failed_of (if b then events else (events ++ Ended doubt ∷ [])) ≡ doubt
+    by true is = mark is
+    by false is = failed_push events doubt is
 
-pub entries_ended : (halted : Bool) (events : List Event) → entries_of (ended_with halted events) ≡ entries_of events
-entries_ended halted events = by (is_ended events)
+pub entries_ended : (doubt : Option Accepted) (events : List Event) → entries_of (ended_with doubt events) ≡ entries_of events
+entries_ended doubt events = by (is_ended events)
   where
-    by : (b : Bool) → entries_of (if b then events else (events ++ Ended halted ∷ [])) ≡ entries_of events
+    by : (b : Bool) → entries_of (if b then events else (events ++ Ended doubt ∷ [])) ≡ entries_of events
     by true = refl
-    by false = entries_push events halted
+    by false = entries_push events doubt
 
-pub image_ended : (base : Position) (halted : Bool) (events : List Event) → (reached base (ended_with halted events)).image ≡ (reached base events).image
-image_ended base halted events = by (is_ended events)
+pub image_ended : (base : Position) (doubt : Option Accepted) (events : List Event) → (reached base (ended_with doubt events)).image ≡ (reached base events).image
+image_ended base doubt events = by (is_ended events)
   where
-    by : (b : Bool) → (reached base (if b then events else (events ++ Ended halted ∷ []))).image ≡ (reached base events).image
+    by : (b : Bool) → (reached base (if b then events else (events ++ Ended doubt ∷ []))).image ≡ (reached base events).image
     by true = refl
-    by false = ap (λ (p : Position). p.image) (reached_ended base events halted)
+    by false = ap (λ (p : Position). p.image) (reached_ended base events doubt)
 
 -- with the mark a publisher has no turn any more, and holds nothing
-pub kept_ended : (base : Position) (events : List Event) (halted : Bool) (next : Option ℕ) (spare : Option Imaged)
+pub kept_ended : (base : Position) (events : List Event) (doubt : Option Accepted) (next : Option ℕ) (spare : Option Imaged)
     → AreLegal base (entries_of events) → IfSome spare (λ image. image ≡ image_at base events)
-    → IsPublishing base (events ++ Ended halted ∷ []) None next spare None
-kept_ended base events halted next spare legal images =
+    → IsPublishing base (events ++ Ended doubt ∷ []) None next spare None
+kept_ended base events doubt next spare legal images =
     record {
-      legal = legal_ended base events halted legal;
-      turn_is = rw (ended_push events halted) refl;
-      spare_is = rw (ap (λ (p : Position). p.image) (reached_ended base events halted)) images;
+      legal = legal_ended base events doubt legal;
+      turn_is = rw (ended_push events doubt) refl;
+      spare_is = rw (ap (λ (p : Position). p.image) (reached_ended base events doubt)) images;
       held_is = tt;
     }
 

@@ -39,7 +39,7 @@ few_from base (entry ∷ entries) legal =
     inr (⊎_elim
     (λ none. rw none (omega arith))
     (λ rest. omega arith)
-    (few_from (position_behind base legal.0) entries legal.3))
+    (few_from (position_behind base legal.0) entries legal.4))
 
 few : (base : Position) (entries : List Accepted) → AreLegal base entries → length entries ≤ 2 ^ 62
 few base entries legal = ⊎_elim (λ none. rw none (omega arith)) (λ some. omega arith) (few_from base entries legal)
@@ -48,8 +48,8 @@ few base entries legal = ⊎_elim (λ none. rw none (omega arith)) (λ some. ome
 one_more : (events : List Event) → ends_last events ≡ true → length events ≤ length (entries_of events) + 1
 one_more [] last = omega arith
 one_more (Added entry ∷ events) last = let rest = one_more events last in omega arith
-one_more (Ended halted ∷ []) last = omega arith
-one_more (Ended halted ∷ event ∷ events) last = absurd (cc last)
+one_more (Ended doubt ∷ []) last = omega arith
+one_more (Ended doubt ∷ event ∷ events) last = absurd (cc last)
 
 pub has_room : (base : Position) (events : List Event) → AreLegal base (entries_of events) → ends_last events ≡ true → length events ≤ 2 ^ 62 + 1
 has_room base events legal last = let entries = few base (entries_of events) legal in let more = one_more events last in omega arith

@@ -1,9 +1,9 @@
 -- What contracts see of a publisher and of a caller, and what they promise of their histories.
-use Rattle.std.specs.Prelude.{ℕ, ◌≡◌, Bool, List, [], ◌∷◌, ◌++◌, Option, IfSome, if◌then◌else◌}
+use Rattle.std.specs.Prelude.{ℕ, ◌≡◌, Bool, true, List, [], ◌∷◌, ◌++◌, Option, if◌then◌else◌}
 use Rattle.command_history.specs.declared.events.Accepted.{Accepted}
 use Rattle.command_history.specs.declared.events.Event.{Event}
 use Rattle.command_history.specs.declared.events.Event.TheVariants.{Ended}
-use Rattle.command_history.specs.Events.{mark_of, is_ended}
+use Rattle.command_history.specs.Events.{failed_of, is_ended}
 
 -- A publisher: the history as it is published, the entry whose image is held until its command counts, and whether the
 -- next note may want memory, since all that was taken for one is used.
@@ -18,9 +18,9 @@ pub record Seeing : Type 0 where
   pub learned : ℕ
 
 -- the history with the final mark, which is added once
-abbrev pub ended_with : (halted : Bool) → List Event → List Event
-ended_with halted events = if is_ended events then events else (events ++ Ended halted ∷ [])
+abbrev pub ended_with : (doubt : Option Accepted) → List Event → List Event
+ended_with doubt events = if is_ended events then events else (events ++ Ended doubt ∷ [])
 
 -- A final mark that is there already is this one.
-abbrev pub MarkIs : (halted : Bool) → List Event → Type 0
-MarkIs halted events = IfSome (mark_of events) (λ marked. marked ≡ halted)
+abbrev pub MarkIs : (doubt : Option Accepted) → List Event → Type 0
+MarkIs doubt events = is_ended events ≡ true → failed_of events ≡ doubt

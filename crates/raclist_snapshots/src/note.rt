@@ -127,14 +127,14 @@ impl<J: Naming> Note<J> {
         self.image = image;
     }
 
-    /// Adds the final mark, which nobody else can do.
+    /// Adds the final mark, which names this entry of a command that a disk failed. Nobody else can do it.
     #[tactic(auto, using(command_history::proofs::Leading::reached_ended))]
-    pub(crate) fn end(&mut self, book: &Book<J>, turn: Turn<J>, halted: bool)
+    pub(crate) fn end(&mut self, book: &Book<J>, turn: Turn<J>, doubt: &Option<Accepted>)
         requires turn { turn ≡ length self.old }
         requires room { length self.old < 2 ^ 63 }
         requires goes_on { is_ended self.old ≡ false }
-        ensures { self.new ≡ self.old ++ Ended halted ∷ [] }
+        ensures { self.new ≡ self.old ++ Ended doubt.now ∷ [] }
     {
-        self.front.end(book, turn, halted);
+        self.front.end(book, turn, doubt);
     }
 }

@@ -3,7 +3,7 @@ ghost use Rattle.std.specs.Prelude.{◌≡◌, ◌+◌, ◌<◌, ◌^◌, ◌++�
 ghost use Rattle.std.specs.List.{All};
 ghost use Rattle.std.specs.Arc.{arc_value};
 ghost use Rattle.command_history.specs.declared.events.Event.TheVariants.{Added};
-ghost use Rattle.command_history.specs.Events.{ends_last, entries_of, is_ended, mark_of, Extends};
+ghost use Rattle.command_history.specs.Events.{ends_last, entries_of, failed_of, is_ended, Extends};
 ghost use Rattle.command_history.specs.Reached.{reached, AreLegal};
 ghost use Rattle.raclist_snapshots.specs.Publishing.{ended_with, MarkIs};
 
@@ -152,36 +152,39 @@ impl<J: Naming, T: Absorb<O> + Drop, O: Opens<Note<J>>, R: Wait + Drop> Publishe
         Ok(self.note.with(image))
     }
 
-    /// A note of the whole history, with the final mark. Behind it nothing is published, and what is held is let go.
-    /// The first note behind a `hold` or a `publish` is always made.
+    /// A note of the whole history, with the final mark, which names the entry of the command that a disk failed.
+    /// Behind it nothing is published, and what is held is let go. The first note behind a `hold` or a `publish` is
+    /// always made.
     #[tactic(auto, using(crate::proofs::Marks::image_ended))]
-    pub fn tell_final(&mut self, halted: bool) -> Result<Note<J>, NoMemory>
-        requires mark { MarkIs halted self.old.events }
-        ensures note { IfOk result (λ note. note ≡ ended_with halted self.old.events) }
+    pub fn tell_final(&mut self, doubt: &Option<Accepted>) -> Result<Note<J>, NoMemory>
+        requires mark { MarkIs doubt.now self.old.events }
+        ensures note { IfOk result (λ note. note ≡ ended_with doubt.now self.old.events) }
         ensures first { self.old.told ≡ false → IsOk result }
-        ensures ended { OnOk result (self.new ≡ record { events = ended_with halted self.old.events; held = None; told = true }) }
+        ensures ended { OnOk result (self.new ≡ record { events = ended_with doubt.now self.old.events; held = None; told = true }) }
         ensures same { OnErr result (self.new ≡ self.old) }
     {
         let image = match self.spare.take() {
             Some(image) => image,
             None => self.note.shared()?,
         };
-        self.finish(halted);
+        self.finish(doubt);
         Ok(self.note.with(image))
     }
 
-    /// Puts the final mark behind the history, unless it is there. Nothing is published behind it, and what is held is
-    /// let go. It takes no memory and can't be refused.
-    #[tactic(auto, using(crate::proofs::Marks::mark_ended))]
-    pub fn finish(&mut self, halted: bool)
-        requires mark { MarkIs halted self.old.events }
-        ensures ended { self.new ≡ record self.old { events = ended_with halted self.old.events; held = None } }
-        ensures mark { mark_of self.new.events ≡ Some halted }
+    /// Puts the final mark behind the history, unless it is there: it names the entry of the command that a disk failed,
+    /// where one did. Nothing is published behind it, and what is held is let go. It takes no memory and can't be
+    /// refused.
+    #[tactic(auto, using(crate::proofs::Marks::failed_ended, crate::proofs::Marks::ended_ends))]
+    pub fn finish(&mut self, doubt: &Option<Accepted>)
+        requires mark { MarkIs doubt.now self.old.events }
+        ensures ended { self.new ≡ record self.old { events = ended_with doubt.now self.old.events; held = None } }
+        ensures is_ended { is_ended self.new.events ≡ true }
+        ensures mark { failed_of self.new.events ≡ doubt.now }
     {
         self.is_legal();
         self.held = None;
         if let Some(turn) = self.turn.take() {
-            self.note.end(&self.book, turn, halted);
+            self.note.end(&self.book, turn, doubt);
         }
     }
 
@@ -202,12 +205,12 @@ impl<J: Naming, T: Absorb<O> + Drop, O: Opens<Note<J>>, R: Wait + Drop> Publishe
     /// Puts the final mark behind the history, as `finish`, and shows that no caller has seen anything else. It takes
     /// no memory.
     #[tactic(auto, using(crate::proofs::Marks::ended_ends))]
-    pub fn settle(&mut self, halted: bool, callers: &[Caller<J>])
-        requires mark { MarkIs halted self.old.events }
-        ensures ended { self.new ≡ record self.old { events = ended_with halted self.old.events; held = None } }
+    pub fn settle(&mut self, doubt: &Option<Accepted>, callers: &[Caller<J>])
+        requires mark { MarkIs doubt.now self.old.events }
+        ensures ended { self.new ≡ record self.old { events = ended_with doubt.now self.old.events; held = None } }
         ensures callers { All (λ caller. Extends caller.events self.new.events) callers.now }
     {
-        self.finish(halted);
+        self.finish(doubt);
         cover_all(&self.note, callers);
     }
 

@@ -1,38 +1,39 @@
 -- What every crash leaves along a history: at each moment what stands for some beginning of it, or for the command that
 -- a disk failed.
-use Rattle.std.proofs.Common.{◌≡◌, ℕ, Bool, true, List, [], ◌∷◌, Option, Some, Ok, refl, sym, subst, inl, inr}
+use Rattle.std.proofs.Common.{◌≡◌, ℕ, true, List, [], ◌∷◌, Option, Some, Ok, refl, sym, subst, inl, inr}
 use Rattle.racf_outside.specs.Disk.{History}
 use Rattle.racf_outside.proofs.Runs.{Leaves-weaker, StaysIn-none, StaysIn-joined, StaysIn-weaker}
 use Rattle.racf_checkpoint.specs.Stored.{StoreOn}
 use Rattle.racf_desk.specs.declared.answers.Ready.{Ready}
 use Rattle.racf_desk.specs.Durable.{IdleDisk, idle_of, BesideIdle, LeavesIt, StaysEither}
-use Rattle.racf_desk.specs.Made.{Made, made_at, made_in, made_of_outcome, installed}
+use Rattle.racf_desk.specs.Made.{Made, made_at, made_in, installed}
 use Rattle.racf_desk.specs.Outcome.{outcome}
 use Rattle.racf_desk.specs.Position.{Position}
 use Rattle.racf_desk.specs.Recovery.{StandsFor, StandsForEither}
 use Rattle.racf_desk.proofs.IdleLaws.{beside-weaker}
+use Rattle.command_history.specs.declared.events.Accepted.{Accepted}
 use Rattle.command_history.specs.declared.events.Event.{Event}
 use Rattle.command_history.specs.declared.events.Event.TheVariants.{Added, Ended}
-use Rattle.command_history.specs.Events.{is_ended, mark_of, Extends}
-use Rattle.command_history.specs.Reached.{reached}
+use Rattle.command_history.specs.Events.{is_ended, failed_of, Extends}
+use Rattle.command_history.specs.Reached.{reached, record_of}
 use Rattle.command_history.proofs.Extensions.{prefix_trans}
 use Rattle.racroute.specs.Disks.{StandForFailed, StandAlong, StaysAlong}
 use Rattle.racroute.specs.Replies.{Given}
 use Rattle.racroute.proofs.Replying.{extends_self}
-use Rattle.racroute.proofs.Making.{made_of}
+use Rattle.racroute.proofs.Making.{IsMadeOf}
 
--- a history that has a mark has ended
-marked_ends : (events : List Event) (halted : Bool) → mark_of events ≡ Some halted → is_ended events ≡ true
-marked_ends [] halted is = absurd (cc is)
-marked_ends (Added entry ∷ events) halted is = marked_ends events halted is
-marked_ends (Ended h ∷ events) halted is = refl
+-- a history whose mark names an entry has ended
+failed_ends : (events : List Event) (doubt : Accepted) → failed_of events ≡ Some doubt → is_ended events ≡ true
+failed_ends [] doubt is = absurd (cc is)
+failed_ends (Added entry ∷ events) doubt is = failed_ends events doubt is
+failed_ends (Ended named ∷ events) doubt is = refl
 
 -- what stands along a history stands along each that extends it
 stand_later : (base : Position) (earlier later : List Event) → Extends earlier later → (one other : List ℕ) → StandAlong base earlier one other → StandAlong base later one other
 stand_later base earlier later extends one other (inl s) =
     inl (record { beginning = s.beginning; begins = prefix_trans s.beginning earlier later s.begins extends.prefix; stand = s.stand })
 stand_later base earlier later extends one other (inr s) =
-    inr (subst (λ (l : List Event). StandForFailed base l one other) (sym (extends.whole (marked_ends earlier true s.ended))) s)
+    inr (subst (λ (l : List Event). StandForFailed base l one other) (sym (extends.whole (failed_ends earlier s.doubt s.failed))) s)
 
 -- what stands where a whole history leads stands along it
 stand_whole : (base : Position) (events : List Event) (position : Position) → reached base events ≡ position → (one other : List ℕ) → StandsFor position one other → StandAlong base events one other
@@ -85,20 +86,22 @@ module _ (base : Position) (idle : IdleDisk) (live : Option History) where
       (stand_whole base later next leads') along
 
   -- a command that a disk failed
-  pub stays_failed : {D : Type 0} (tells : D → Option History) (old now : StoreOn D) (position : Position) (events later : List Event) (given : Given) (ready : Ready)
+  pub stays_failed : {D : Type 0} (tells : D → Option History) (old now : StoreOn D) (position : Position) (events later : List Event) (given : Given) (ready : Ready) (entry : Accepted)
+      → (m : IsMadeOf position.image (outcome position given.issuer given.group given.text) (made_in ready)) → record_of entry ≡ Some m.command
       → Extends events later → StaysEither tells old now position (installed position (made_in ready)) → idle_of tells old ≡ idle → reached base later ≡ position
-      → mark_of later ≡ Some true → made_of_outcome position.image (outcome position given.issuer given.group given.text) ≡ Ok (made_in ready)
+      → failed_of later ≡ Some entry
       → StaysAlong base events idle live (tells old.journal.disk) → StaysAlong base later idle live (tells now.journal.disk)
-  stays_failed tells old now position events later given ready extends either is leads mark made along =
-      let m = made_of position.image (outcome position given.issuer given.group given.text) (made_in ready) made in
+  stays_failed tells old now position events later given ready entry m recorded extends either is leads named along =
       stays_either tells old now position (installed position (made_in ready)) events later extends either is
       (stand_whole base later position leads)
       (λ one other stand. inr (record {
-        ended = mark;
+        doubt = entry;
+        failed = named;
         id = given.issuer;
         group = given.group;
         text = given.text;
         command = m.command;
+        record_is = recorded;
         accepted = subst (λ (p : Position). outcome p given.issuer given.group given.text ≡ Ok m.command) (sym leads) m.accepted;
         stand = subst (λ (p : Position). StandsFor (installed p (made_at p.image m.command)) one other) (sym leads)
             (subst (λ (k : Made). StandsFor (installed position k) one other) (sym m.made_is) stand);

@@ -5,10 +5,8 @@ use Rattle.racf_outside.specs.Disk.{History}
 use Rattle.checkpoint_disks.specs.declared.counting.Side.{Side}
 use Rattle.checkpoint_disks.specs.declared.counting.Side.TheVariants.{First, Second}
 use Rattle.racf_checkpoint.specs.Stored.{StoreOn, disk_on, pick}
-use Rattle.racf_desk.specs.Durable.{IdleDisk, idle_of, LeavesIt}
+use Rattle.racf_desk.specs.Durable.{IdleDisk, idle_of}
 use Rattle.racf_desk.specs.Position.{Position}
-use Rattle.racf_desk.specs.Recovery.{StandsFor}
-use Rattle.racf_desk.proofs.IdleLaws.{leaves-both}
 use Rattle.command_history.specs.declared.events.Accepted.{Accepted}
 use Rattle.command_history.specs.declared.events.Event.{Event}
 use Rattle.command_history.specs.declared.events.Event.TheVariants.{Added, Ended}
@@ -16,58 +14,58 @@ use Rattle.command_history.specs.Events.{all_of, ends_last, entries_of, is_ended
 use Rattle.command_history.specs.Reached.{reached}
 use Rattle.command_history.proofs.Extensions.{all_is}
 use Rattle.raclist_snapshots.specs.Publishing.{Seeing, ended_with, MarkIs}
-use Rattle.racroute.specs.Disks.{IsInDoubt, StandAt, StaysAlong}
+use Rattle.racroute.specs.Disks.{StandAt, StaysAlong}
 use Rattle.racroute.proofs.Along.{stays_later}
-use Rattle.raclist_snapshots.proofs.Marks.{mark_ended, entries_ended}
+use Rattle.raclist_snapshots.proofs.Marks.{ended_ends, failed_ended, entries_ended}
 use Rattle.racroute.proofs.Telling.{extends_ended, reached_with}
 
-ends_push : (events : List Event) (halted : Bool) → is_ended events ≡ false → ends_last (events ++ Ended halted ∷ []) ≡ true
-ends_push [] halted goes = refl
-ends_push (Added entry ∷ events) halted goes = ends_push events halted goes
-ends_push (Ended h ∷ events) halted goes = absurd (cc goes)
+ends_push : (events : List Event) (doubt : Option Accepted) → is_ended events ≡ false → ends_last (events ++ Ended doubt ∷ []) ≡ true
+ends_push [] doubt goes = refl
+ends_push (Added entry ∷ events) doubt goes = ends_push events doubt goes
+ends_push (Ended named ∷ events) doubt goes = absurd (cc goes)
 
-ends_with : (halted : Bool) (events : List Event) → ends_last events ≡ true → ends_last (ended_with halted events) ≡ true
-ends_with halted events last = by (is_ended events) refl
+ends_with : (doubt : Option Accepted) (events : List Event) → ends_last events ≡ true → ends_last (ended_with doubt events) ≡ true
+ends_with doubt events last = by (is_ended events) refl
   where
-    by : (b : Bool) → is_ended events ≡ b → ends_last (if b then events else (events ++ Ended halted ∷ [])) ≡ true
+    by : (b : Bool) → is_ended events ≡ b → ends_last (if b then events else (events ++ Ended doubt ∷ [])) ≡ true
     by true is = last
-    by false is = ends_push events halted is
+    by false is = ends_push events doubt is
 
 -- With the mark the history is the entries that are kept, and the mark.
-pub whole : (halted : Bool) (events : List Event) (history : List Accepted) → ends_last events ≡ true → MarkIs halted events → history ≡ entries_of events
-    → all_of history halted ≡ ended_with halted events
-whole halted events history last mark is =
-    ap (λ (l : List Accepted). all_of l halted) (is ∙ sym (entries_ended halted events))
-    ∙ sym (all_is (ended_with halted events) halted (ends_with halted events last) (mark_ended halted events mark))
+pub whole : (doubt : Option Accepted) (events : List Event) (history : List Accepted) → ends_last events ≡ true → MarkIs doubt events → history ≡ entries_of events
+    → all_of history doubt ≡ ended_with doubt events
+whole doubt events history last mark is =
+    let ended = ended_with doubt events in
+    ap (λ (l : List Accepted). all_of l doubt) (is ∙ sym (entries_ended doubt events))
+    ∙ (ap (λ (d : Option Accepted). all_of (entries_of ended) d) (sym (failed_ended doubt events mark))
+    ∙ sym (all_is ended (ends_with doubt events last) (ended_ends doubt events)))
 
 -- where it leads
-pub led : (base : Position) (halted : Bool) (events : List Event) (history : List Accepted) → all_of history halted ≡ ended_with halted events
-    → reached base (all_of history halted) ≡ reached base events
-led base halted events history is = ap (reached base) is ∙ reached_with base halted events
+pub led : (base : Position) (doubt : Option Accepted) (events : List Event) (history : List Accepted) → all_of history doubt ≡ ended_with doubt events
+    → reached base (all_of history doubt) ≡ reached base events
+led base doubt events history is = ap (reached base) is ∙ reached_with base doubt events
 
 -- what every caller has seen begins it
-pub all_begin : (halted : Bool) (events settled : List Event) (history : List Accepted) (callers : List Seeing) → all_of history halted ≡ ended_with halted events
-    → settled ≡ ended_with halted events → All (λ (caller : Seeing). Extends caller.events settled) callers
-    → All (λ (caller : Seeing). Extends caller.events (all_of history halted)) callers
-all_begin halted events settled history callers is end all =
+pub all_begin : (doubt : Option Accepted) (events settled : List Event) (history : List Accepted) (callers : List Seeing) → all_of history doubt ≡ ended_with doubt events
+    → settled ≡ ended_with doubt events → All (λ (caller : Seeing). Extends caller.events settled) callers
+    → All (λ (caller : Seeing). Extends caller.events (all_of history doubt)) callers
+all_begin doubt events settled history callers is end all =
     subst (λ (l : List Event). All (λ (caller : Seeing). Extends caller.events l) callers) (end ∙ sym is) all
 
 -- what its disks keep
-pub stand : {D : Type 0} (tells : D → Option History) (store : StoreOn D) (one other : D) (halted : Bool) (position behind : Position)
-    → one ≡ disk_on First store → other ≡ disk_on Second store → behind ≡ position → (halted ≡ false → LeavesIt tells store position)
-    → (halted ≡ true → IsInDoubt (tells (disk_on First store)) (tells (disk_on Second store)) position) → StandAt halted (tells one) (tells other) behind
-stand tells store one other true position behind first second is rest doubt = rw (first, second, is) (doubt refl)
-stand tells store one other false position behind first second is rest doubt =
-    rw (first, second, is) (leaves-both tells store.side store.journal.disk store.idle (StandsFor position) (rest refl))
+pub stand : {D : Type 0} (tells : D → Option History) (store : StoreOn D) (one other : D) (doubt : Option Accepted) (position behind : Position)
+    → one ≡ disk_on First store → other ≡ disk_on Second store → behind ≡ position
+    → StandAt doubt (tells (disk_on First store)) (tells (disk_on Second store)) position → StandAt doubt (tells one) (tells other) behind
+stand tells store one other doubt position behind first second is kept = rw (first, second, is) kept
 
 -- and what every crash left since the history began
-pub stayed : {D : Type 0} (tells : D → Option History) (base : Position) (idle : IdleDisk) (live : Option History) (halted : Bool) (events : List Event) (history : List Accepted)
-    (disk one : D) → all_of history halted ≡ ended_with halted events → one ≡ disk → StaysAlong base events idle live (tells disk)
-    → StaysAlong base (all_of history halted) idle live (tells one)
-stayed {D} tells base idle live halted events history disk one is same along =
-    subst (λ (d : D). StaysAlong base (all_of history halted) idle live (tells d)) (sym same)
+pub stayed : {D : Type 0} (tells : D → Option History) (base : Position) (idle : IdleDisk) (live : Option History) (doubt : Option Accepted) (events : List Event) (history : List Accepted)
+    (disk one : D) → all_of history doubt ≡ ended_with doubt events → one ≡ disk → StaysAlong base events idle live (tells disk)
+    → StaysAlong base (all_of history doubt) idle live (tells one)
+stayed {D} tells base idle live doubt events history disk one is same along =
+    subst (λ (d : D). StaysAlong base (all_of history doubt) idle live (tells d)) (sym same)
     (subst (λ (l : List Event). StaysAlong base l idle live (tells disk)) (sym is)
-    (stays_later base idle live events (ended_with halted events) (tells disk) (extends_ended halted events) along))
+    (stays_later base idle live events (ended_with doubt events) (tells disk) (extends_ended doubt events) along))
 
 -- the two disks of a store, by the side of the one that counts
 pub live_is : {D : Type 0} (tells : D → Option History) (store : StoreOn D) (idle : IdleDisk) (one other : D) → idle_of tells store ≡ idle

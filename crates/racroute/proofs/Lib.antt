@@ -1,5 +1,6 @@
 mod Disks
 mod Making
+mod Standing
 pub mod Along
 mod Serving
 mod Telling

@@ -28,7 +28,7 @@ says_extends base given (reply.Accepted number) before after pass back says =
 says_extends base given (reply.Refused number why) before after pass back says = same_extends before after says.same
 says_extends base given (reply.Halted number) before after pass back says = same_extends before after says.same
 says_extends base given (reply.DiskFault number) before after pass back says =
-    subst (Extends before) (sym says.ended) (extends_push before (Ended true) says.goes_on)
+    subst (Extends before) (sym says.ended) (extends_push before (Ended (Some says.entry)) says.goes_on)
 says_extends base given reply.NoMemory before after pass back says = same_extends before after says.same
 
 -- the note is of what is there then

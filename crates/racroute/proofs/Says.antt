@@ -1,31 +1,27 @@
 -- What a command is told.
-use Rattle.std.proofs.Common.{◌≡◌, ℕ, ◌+◌, Bool, true, false, List, [], ◌∷◌, ◌++◌, Option, Ok, Err, refl, sym, ◌∙◌, ap, subst, ◌≤◌, arith}
-use Rattle.racf_outside.specs.Disk.{History, Now}
+use Rattle.std.proofs.Common.{◌≡◌, ℕ, ◌+◌, Bool, true, false, List, [], ◌∷◌, ◌++◌, Option, Some, Ok, Err, refl, sym, ◌∙◌, ap, subst, ◌≤◌, arith}
+use Rattle.std.specs.Prelude.{is_some}
+use Rattle.racf_outside.specs.Disk.{History}
 use Rattle.racf_desk.specs.declared.answers.Ready.{Ready}
 use Rattle.racf_desk.specs.declared.refusal.Refusal.{Refusal}
 use Rattle.racf_desk.specs.Outcome.{outcome}
-use Rattle.racf_desk.specs.Made.{Made, made_at, made_in, made_of_outcome, installed, number_at}
-use Rattle.racf_desk.specs.Position.{Position}
-use Rattle.racf_desk.specs.Durable.{SameIdle, IdleDisk, idle_of, BesideIdle, StaysEither}
-use Rattle.racf_desk.proofs.IdleLaws.{same_idle-told, leaves-both}
-use Rattle.racf_desk.specs.Recovery.{StandsForEither}
-use Rattle.racf_outside.specs.Crashes.{Leaves}
-use Rattle.checkpoint_disks.specs.declared.counting.Side.TheVariants.{First, Second}
-use Rattle.racf_checkpoint.specs.Stored.{StoreOn, disk_on}
+use Rattle.racf_desk.specs.Made.{Made, made_in, made_of_outcome, installed, number_at}
+use Rattle.racf_desk.specs.Position.{Position, position_behind}
+use Rattle.racf_desk.specs.Durable.{SameIdle, StaysEither}
+use Rattle.racf_outside.specs.Causes.{Rose}
 use Rattle.command_history.specs.declared.events.Accepted.{Accepted}
 use Rattle.command_history.specs.declared.events.Event.{Event}
 use Rattle.command_history.specs.declared.events.Event.TheVariants.{Added}
-use Rattle.command_history.specs.Events.{is_ended}
-use Rattle.command_history.specs.Reached.{reached}
-use Rattle.raclist_snapshots.specs.Publishing.{ended_with, MarkIs}
+use Rattle.command_history.specs.Events.{failed_of, is_ended}
+use Rattle.command_history.specs.Reached.{reached, record_of}
+use Rattle.raclist_snapshots.specs.Publishing.{ended_with}
 use Rattle.racroute.specs.Core.{Core, Passing, number_behind}
-use Rattle.racroute.specs.Disks.{IsInDoubt}
 use Rattle.racroute.specs.Kept.{DisksBefore, IsMade, IsMadeEntry, IsOffice}
-use Rattle.racroute.specs.Replies.{Given, SaysAccepted, SaysFailed, SaysHalted, SaysRefused}
-use Rattle.racroute.proofs.Making.{made_of}
-use Rattle.raclist_snapshots.proofs.Marks.{mark_is, ended_more, ended_same}
-use Rattle.racroute.proofs.Disks.{stays_now}
+use Rattle.racroute.specs.Replies.{Given, SaysAccepted, SaysFailed, SaysHalted, SaysRefused, GoesOn, Stops}
+use Rattle.racroute.proofs.Making.{IsMadeOf, made_of}
+use Rattle.raclist_snapshots.proofs.Marks.{mark_any, failed_ended, ended_more, ended_same}
 use Rattle.racroute.proofs.Serving.{AreWritten, AreRecorded, entry_is}
+use Rattle.racroute.proofs.Standing.{stays_led}
 use Rattle.racroute.proofs.Telling.{reached_with}
 
 module _ {D : Type 0} (tells : D → Option History) (counted : D → ℕ) (base : Position) (before : DisksBefore) (core : Core D) (history : List Accepted) (commands faults out : ℕ)
@@ -73,63 +69,89 @@ module _ {D : Type 0} (tells : D → Option History) (counted : D → ℕ) (base
       }
 
   -- nothing is added to a history that ended so
-  pub ended_already : core.halted ≡ true → (later : List Event) → later ≡ ended_with true core.events → later ≡ core.events
-  ended_already halted later is = is ∙ ended_same true core.events (kept.halted halted)
+  pub ended_already : is_some core.doubt ≡ true → (later : List Event) → later ≡ ended_with core.doubt core.events → later ≡ core.events
+  ended_already halted later is = is ∙ ended_same core.doubt core.events (kept.halted halted)
 
-  pub marked : core.halted ≡ true → MarkIs true core.events
-  marked halted = subst (λ (h : Bool). MarkIs h core.events) halted kept.mark
-
-  pub says_halted : (number : ℕ) (later : List Event) (pass back : Passing) → core.halted ≡ true → number ≡ number_at core.position
-      → later ≡ ended_with true core.events → back ≡ pass → SaysHalted base number core.events later pass back
+  pub says_halted : (number : ℕ) (later : List Event) (pass back : Passing) → is_some core.doubt ≡ true → number ≡ number_at core.position
+      → later ≡ ended_with core.doubt core.events → back ≡ pass → SaysHalted base number core.events later pass back
   says_halted number later pass back halted count is back_is =
       let same = ended_already halted later is in
       record {
-        ended = mark_is true core.events (kept.halted halted) (marked halted);
+        ended = ap is_some (kept.mark (kept.halted halted)) ∙ halted;
         same = same;
         counts = count ∙ (ap number_at kept.position ∙ ap (number_behind base) (sym same));
         kept = back_is;
       }
 
-  pub says_failed : (given : Given) (ready : Ready) (number : ℕ) (later : List Event) (pass back : Passing)
-      → made_of_outcome core.position.image (outcome core.position given.issuer given.group given.text) ≡ Ok (made_in ready)
-      → is_ended core.events ≡ false → number ≡ number_at core.position → later ≡ ended_with true core.events
+  pub says_failed : (given : Given) (ready : Ready) (number : ℕ) (entry : Accepted) (later : List Event) (pass back : Passing) → AreWritten → AreRecorded
+      → (m : IsMadeOf core.position.image (outcome core.position given.issuer given.group given.text) (made_in ready)) → IsMadeEntry pass.deck ready entry
+      → is_ended core.events ≡ false → number ≡ number_at core.position → later ≡ ended_with (Some entry) core.events
       → back ≡ record pass { faults = pass.faults + 1 } → SaysFailed base given number core.events later pass back
-  says_failed given ready number later pass back made goes count is back_is =
-      let m = made_of core.position.image (outcome core.position given.issuer given.group given.text) (made_in ready) made in
+  says_failed given ready number entry later pass back written recorded m made goes count is back_is =
       record {
         command = m.command;
         accepted = subst (λ (p : Position). outcome p given.issuer given.group given.text ≡ Ok m.command) kept.position m.accepted;
         goes_on = goes;
-        ended = is ∙ ended_more true core.events goes;
-        counts = count ∙ (ap number_at kept.position ∙ (sym (ap number_at (reached_with base true core.events)) ∙ ap (number_behind base) (sym is)));
+        entry = entry;
+        entry_is = entry_is written recorded core.position given ready pass.deck entry m made;
+        ended = is ∙ ended_more (Some entry) core.events goes;
+        counts = count ∙ (ap number_at kept.position ∙ (sym (ap number_at (reached_with base (Some entry) core.events)) ∙ ap (number_behind base) (sym is)));
         counted = back_is;
       }
 
   -- a pass in hand is out, so the history goes on unless a disk failed
-  pub goes_on : (share : ℕ) → core.halted ≡ false → share ≡ 1 → share ≤ out → is_ended core.events ≡ false
+  pub goes_on : (share : ℕ) → is_some core.doubt ≡ false → share ≡ 1 → share ≤ out → is_ended core.events ≡ false
   goes_on share runs one most = by (is_ended core.events) refl
     where
       by : (b : Bool) → is_ended core.events ≡ b → is_ended core.events ≡ false
       by true is = let none = kept.ended is runs in let outs = kept.passes_are in absurd (omega arith)
       by false is = is
 
--- The disks, where one failed a command.
-pub in_doubt : {D : Type 0} (tells : D → Option History) (old now : StoreOn D) (position : Position) (given : Given) (ready : Ready)
-    → made_of_outcome position.image (outcome position given.issuer given.group given.text) ≡ Ok (made_in ready)
-    → StaysEither tells old now position (installed position (made_in ready)) → SameIdle old now
-    → IsInDoubt (tells (disk_on First now)) (tells (disk_on Second now)) position
-in_doubt {D} tells old now position given ready made stays same =
-    let m = made_of position.image (outcome position given.issuer given.group given.text) (made_in ready) made in
-    let P : IdleDisk → Made → List ℕ → Type 0 = λ idle made. BesideIdle idle (StandsForEither position (installed position made)) in
-    let ends : Now (tells now.journal.disk) (Leaves (P (idle_of tells old) (made_in ready))) =
-    stays_now (P (idle_of tells old) (made_in ready)) (tells old.journal.disk) (tells now.journal.disk) stays in
-    record {
-      id = given.issuer;
-      group = given.group;
-      text = given.text;
-      command = m.command;
-      accepted = m.accepted;
-      either = leaves-both tells now.side now.journal.disk now.idle (StandsForEither position (installed position (made_at position.image m.command)))
-          (subst (λ (i : IdleDisk). Now (tells now.journal.disk) (Leaves (P i (made_at position.image m.command)))) (sym (same_idle-told tells old now same))
-          (subst (λ (made : Made). Now (tells now.journal.disk) (Leaves (P (idle_of tells old) made))) (sym m.made_is) ends));
-    }
+  -- the disks on the way to an accepted command
+  pub accepted_goes_on : (now : Core D) (entry : Accepted) (made : Made) → is_some core.doubt ≡ false
+      → reached base (core.events ++ Added entry ∷ []) ≡ installed (reached base core.events) made
+      → now.events ≡ core.events ++ Added entry ∷ [] → now.doubt ≡ core.doubt → now.passes ≡ core.passes → now.decks ≡ core.decks
+      → counted core.store.journal.disk ≤ counted now.store.journal.disk
+      → StaysEither tells core.store now.store core.position (installed core.position made) → SameIdle core.store now.store
+      → GoesOn base tells counted core now
+  accepted_goes_on now entry made runs leads events still passes decks fewer either idle =
+      let there : installed core.position made ≡ reached base now.events =
+      ap (λ (p : Position). installed p made) kept.position ∙ (sym leads ∙ ap (reached base) (sym events)) in
+      record {
+        ran = runs;
+        runs = ap is_some still ∙ runs;
+        moments = stays_led tells core.store now.store core.position (installed core.position made) (reached base core.events) (reached base now.events) kept.position there either;
+        idle = idle;
+        no_fewer = fewer;
+        passes = passes;
+        decks = decks;
+      }
+
+  -- the disks on the way to a command that one of them failed
+  pub failed_stops : (now : Core D) (given : Given) (ready : Ready) (entry : Accepted)
+      → (m : IsMadeOf core.position.image (outcome core.position given.issuer given.group given.text) (made_in ready)) → record_of entry ≡ Some m.command
+      → is_ended core.events ≡ false → is_some core.doubt ≡ false
+      → now.events ≡ ended_with (Some entry) core.events → now.position ≡ core.position → now.doubt ≡ Some entry → now.passes ≡ core.passes → now.decks ≡ core.decks
+      → counted core.store.journal.disk ≤ counted now.store.journal.disk
+      → Rose (counted core.store.journal.disk) (counted now.store.journal.disk)
+      → StaysEither tells core.store now.store core.position (installed core.position (made_in ready)) → SameIdle core.store now.store
+      → Stops base tells counted core now
+  failed_stops now given ready entry m recorded goes runs events position halts passes decks fewer rose either idle =
+      let behind : installed core.position (made_in ready) ≡ position_behind (reached base core.events) m.command =
+      ap (λ (made : Made). installed core.position made) (sym m.made_is) ∙ ap (λ (p : Position). position_behind p m.command) kept.position in
+      record {
+        ran = runs;
+        doubt = entry;
+        halts = halts;
+        named = ap failed_of events ∙ failed_ended (Some entry) core.events (mark_any (Some entry) core.events goes);
+        command = m.command;
+        record_is = recorded;
+        moments = stays_led tells core.store now.store core.position (installed core.position (made_in ready)) (reached base core.events)
+            (position_behind (reached base core.events) m.command) kept.position behind either;
+        position = position;
+        idle = idle;
+        no_fewer = fewer;
+        rose = rose;
+        passes = passes;
+        decks = decks;
+      }

@@ -1,19 +1,20 @@
 -- What contracts see of an office, of passes and of ends.
-use Rattle.std.specs.Prelude.{ℕ, ◌||◌, ◌&&◌, not, nat_eq, nat_lt, Bool, List, [], ◌∷◌, ◌++◌, zero, suc, if◌then◌else◌}
+use Rattle.std.specs.Prelude.{ℕ, ◌||◌, ◌&&◌, not, nat_eq, nat_lt, is_some, Bool, List, [], ◌∷◌, ◌++◌, zero, suc, Option, if◌then◌else◌}
 use Rattle.racf_checkpoint.specs.Stored.{StoreOn}
 use Rattle.racf_desk.specs.Position.{Position}
 use Rattle.racf_desk.specs.Made.{number_at}
+use Rattle.command_history.specs.declared.events.Accepted.{Accepted}
 use Rattle.command_history.specs.declared.events.Event.{Event}
 use Rattle.command_history.specs.Reached.{reached}
 use Rattle.raclist_snapshots.specs.Publishing.{ended_with}
 
--- An office: the history, as it is published; where its desk stands, and on which disks; whether a disk failed a
--- command; how many passes are out; and for how many decks it was opened.
+-- An office: the history, as it is published; where its desk stands, and on which disks; the entry of the command that a
+-- disk failed, where one did; how many passes are out; and for how many decks it was opened.
 pub record Core (D : Type 0) : Type 0 where
   pub events : List Event
   pub position : Position
   pub store : StoreOn D
-  pub halted : Bool
+  pub doubt : Option Accepted
   pub passes : ℕ
   pub decks : ℕ
 
@@ -34,7 +35,7 @@ number_behind base events = number_at (reached base events)
 
 -- Nothing more is accepted: a disk failed a command, or no pass is out.
 abbrev pub is_over : {D : Type 0} → Core D → Bool
-is_over core = core.halted || nat_eq core.passes 0
+is_over core = is_some core.doubt || nat_eq core.passes 0
 
 -- Whoever waits for so many commands has to wait on.
 abbrev pub is_waited : {D : Type 0} → Position → ℕ → Core D → Bool
@@ -43,4 +44,4 @@ is_waited base number core = not (is_over core) && nat_lt (number_behind base co
 -- the office once it has told somebody where it stands: where nothing more is accepted, the final mark is there
 abbrev pub told : {D : Type 0} → Core D → Core D
 told core =
-    if is_over core then record core { events = ended_with core.halted core.events } else core
+    if is_over core then record core { events = ended_with core.doubt core.events } else core

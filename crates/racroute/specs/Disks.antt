@@ -1,5 +1,5 @@
 -- What the disks of an office keep.
-use Rattle.std.specs.Prelude.{ℕ, ◌≡◌, ◌⊎◌, Bool, true, false, List, Option, Some, Ok}
+use Rattle.std.specs.Prelude.{ℕ, ◌≡◌, ◌⊎◌, List, Option, Some, None, Ok}
 use mathlib.Core.List.{IsPrefix}
 use Rattle.racf_outside.specs.Crashes.{StaysIn}
 use Rattle.racf_outside.specs.Disk.{History}
@@ -8,24 +8,27 @@ use Rattle.racf_desk.specs.Durable.{IdleDisk, BesideIdle, LeavesBoth}
 use Rattle.racf_desk.specs.Outcome.{outcome}
 use Rattle.racf_desk.specs.Position.{Position, position_behind}
 use Rattle.racf_desk.specs.Recovery.{StandsFor, StandsForEither}
+use Rattle.command_history.specs.declared.events.Accepted.{Accepted}
 use Rattle.command_history.specs.declared.events.Event.{Event}
-use Rattle.command_history.specs.Events.{mark_of}
-use Rattle.command_history.specs.Reached.{reached}
+use Rattle.command_history.specs.Events.{failed_of}
+use Rattle.command_history.specs.Reached.{reached, record_of}
 
--- A disk failed a command at this position. Whatever a crash now leaves of both disks stands for the position, or for
--- the one behind that command, which the rules accept there.
-pub record IsInDoubt (first second : Option History) (position : Position) : Type 0 where
+-- A disk failed the command of this entry at this position. Whatever a crash now leaves of both disks stands for the
+-- position, or for the one behind that command, which the rules accept there.
+pub record IsInDoubt (first second : Option History) (position : Position) (doubt : Accepted) : Type 0 where
   pub id : List ℕ
   pub group : Option (List ℕ)
   pub text : List ℕ
   pub command : CommandRecord
+  pub record_is : record_of doubt ≡ Some command
   pub accepted : outcome position id group text ≡ Ok command
   pub either : LeavesBoth first second (StandsForEither position (position_behind position command))
 
--- Whatever a crash now leaves of both disks stands for this position, or for one command more where a disk failed it.
-abbrev pub StandAt : (halted : Bool) → (first second : Option History) → Position → Type 0
-StandAt false first second position = LeavesBoth first second (StandsFor position)
-StandAt true first second position = IsInDoubt first second position
+-- Whatever a crash now leaves of both disks stands for this position, or for one command more where a disk failed it:
+-- that of this entry.
+abbrev pub StandAt : (doubt : Option Accepted) → (first second : Option History) → Position → Type 0
+StandAt None first second position = LeavesBoth first second (StandsFor position)
+StandAt (Some doubt) first second position = IsInDoubt first second position doubt
 
 -- Two files stand for where some beginning of a history leads.
 pub record StandForBeginning (base : Position) (events : List Event) (first second : List ℕ) : Type 0 where
@@ -33,14 +36,16 @@ pub record StandForBeginning (base : Position) (events : List Event) (first seco
   pub begins : IsPrefix beginning events
   pub stand : StandsFor (reached base beginning) first second
 
--- The history has ended because a disk failed a command, which the rules accept where it leads: two files stand for the
--- position behind that command.
+-- The history has ended because a disk failed a command, whose entry its final mark names, and which the rules accept
+-- where the history leads: two files stand for the position behind that command.
 pub record StandForFailed (base : Position) (events : List Event) (first second : List ℕ) : Type 0 where
-  pub ended : mark_of events ≡ Some true
+  pub doubt : Accepted
+  pub failed : failed_of events ≡ Some doubt
   pub id : List ℕ
   pub group : Option (List ℕ)
   pub text : List ℕ
   pub command : CommandRecord
+  pub record_is : record_of doubt ≡ Some command
   pub accepted : outcome (reached base events) id group text ≡ Ok command
   pub stand : StandsFor (position_behind (reached base events) command) first second
 

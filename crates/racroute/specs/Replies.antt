@@ -1,18 +1,19 @@
 -- What a command meets: what it is told, what becomes of the history, of the pass and of the office.
-use Rattle.std.specs.Prelude.{ℕ, ◌≡◌, ◌+◌, ◌%◌, ◌^◌, ◌<◌, ◌≤◌, true, false, List, [], ◌∷◌, ◌++◌, Option, Some, None, Result, Ok, Err}
+use Rattle.std.specs.Prelude.{ℕ, ◌≡◌, ◌+◌, ◌%◌, ◌^◌, ◌<◌, ◌≤◌, true, false, List, [], ◌∷◌, ◌++◌, Option, Some, None, is_some, Result, Ok, Err}
 use Rattle.racf_outside.specs.Causes.{Rose}
+use Rattle.racf_outside.specs.Disk.{History}
 use Rattle.command_parser.specs.Canonical.{canonical}
 use Rattle.journal_records.specs.declared.record.CommandRecord.{CommandRecord}
 use Rattle.racf_desk.specs.declared.refusal.Refusal.{Refusal}
 use Rattle.racf_desk.specs.declared.answers.Reply.{Reply}
 use Rattle.racf_desk.specs.declared.answers.Reply.TheVariants as reply
-use Rattle.racf_desk.specs.Durable.{SameIdle}
+use Rattle.racf_desk.specs.Durable.{SameIdle, StaysEither}
 use Rattle.racf_desk.specs.Outcome.{outcome}
-use Rattle.racf_desk.specs.Position.{Position}
+use Rattle.racf_desk.specs.Position.{Position, position_behind}
 use Rattle.command_history.specs.declared.events.Accepted.{Accepted}
 use Rattle.command_history.specs.declared.events.Event.{Event}
 use Rattle.command_history.specs.declared.events.Event.TheVariants.{Added, Ended}
-use Rattle.command_history.specs.Events.{is_ended, mark_of}
+use Rattle.command_history.specs.Events.{is_ended, failed_of}
 use Rattle.command_history.specs.Reached.{reached, record_of}
 use Rattle.raclist_snapshots.specs.Publishing.{Seeing}
 use Rattle.racroute.specs.declared.waiting.AfterFault.{AfterFault}
@@ -60,17 +61,20 @@ pub record SaysRefused (base : Position) (given : Given) (number : ℕ) (why : R
 
 -- A disk had failed an earlier command: the history has ended so, and nothing is added.
 pub record SaysHalted (base : Position) (number : ℕ) (before after : List Event) (pass back : Passing) : Type 0 where
-  pub ended : mark_of before ≡ Some true
+  pub ended : is_some (failed_of before) ≡ true
   pub same : after ≡ before
   pub counts : number ≡ number_behind base after
   pub kept : back ≡ pass
 
--- A disk failed this command, which the rules accept: the history ends, and the pass counts the fault.
+-- A disk failed this command, which the rules accept: the history ends, and its final mark names the command's entry;
+-- the pass counts the fault.
 pub record SaysFailed (base : Position) (given : Given) (number : ℕ) (before after : List Event) (pass back : Passing) : Type 0 where
   pub command : CommandRecord
   pub accepted : outcome_behind base before given ≡ Ok command
   pub goes_on : is_ended before ≡ false
-  pub ended : after ≡ before ++ Ended true ∷ []
+  pub entry : Accepted
+  pub entry_is : IsEntry pass.deck command entry
+  pub ended : after ≡ before ++ Ended (Some entry) ∷ []
   pub counts : number ≡ number_behind base after
   pub counted : back ≡ record pass { faults = pass.faults + 1 }
 
@@ -87,19 +91,28 @@ Says base given (reply.Halted number) before after pass back = SaysHalted base n
 Says base given (reply.DiskFault number) before after pass back = SaysFailed base given number before after pass back
 Says base given reply.NoMemory before after pass back = SaysNothing before after pass back
 
--- The office goes on behind an accepted command.
-pub record GoesOn {D : Type 0} (faults : D → ℕ) (old new : Core D) : Type 0 where
-  pub ran : old.halted ≡ false
-  pub runs : new.halted ≡ false
+-- The office goes on behind an accepted command. At every moment of it a crash left what stands for where the history
+-- led before, or for where it leads now.
+pub record GoesOn {D : Type 0} (base : Position) (tells : D → Option History) (faults : D → ℕ) (old new : Core D) : Type 0 where
+  pub ran : is_some old.doubt ≡ false
+  pub runs : is_some new.doubt ≡ false
+  pub moments : StaysEither tells old.store new.store (reached base old.events) (reached base new.events)
   pub idle : SameIdle old.store new.store
   pub no_fewer : faults old.store.journal.disk ≤ faults new.store.journal.disk
   pub passes : new.passes ≡ old.passes
   pub decks : new.decks ≡ old.decks
 
--- It stops behind a command that a disk failed, whose count of faults has risen.
-pub record Stops {D : Type 0} (faults : D → ℕ) (old new : Core D) : Type 0 where
-  pub ran : old.halted ≡ false
-  pub halts : new.halted ≡ true
+-- It stops behind a command that a disk failed, whose count of faults has risen. The final mark names the command's entry,
+-- which the office keeps. At every moment of it a crash left what stands for where the history leads, or for the position
+-- behind that command.
+pub record Stops {D : Type 0} (base : Position) (tells : D → Option History) (faults : D → ℕ) (old new : Core D) : Type 0 where
+  pub ran : is_some old.doubt ≡ false
+  pub doubt : Accepted
+  pub halts : new.doubt ≡ Some doubt
+  pub named : failed_of new.events ≡ Some doubt
+  pub command : CommandRecord
+  pub record_is : record_of doubt ≡ Some command
+  pub moments : StaysEither tells old.store new.store (reached base old.events) (position_behind (reached base old.events) command)
   pub position : new.position ≡ old.position
   pub idle : SameIdle old.store new.store
   pub no_fewer : faults old.store.journal.disk ≤ faults new.store.journal.disk
@@ -108,12 +121,12 @@ pub record Stops {D : Type 0} (faults : D → ℕ) (old new : Core D) : Type 0 w
   pub decks : new.decks ≡ old.decks
 
 -- What a command that was told this leaves of the office.
-abbrev pub Leaves : {D : Type 0} → (faults : D → ℕ) → Reply → (old new : Core D) → Type 0
-Leaves faults (reply.Accepted number) old new = GoesOn faults old new
-Leaves faults (reply.Refused number why) old new = (old.halted ≡ false) × (new ≡ old)
-Leaves faults (reply.Halted number) old new = (old.halted ≡ true) × (new ≡ old)
-Leaves faults (reply.DiskFault number) old new = Stops faults old new
-Leaves faults reply.NoMemory old new = new ≡ old
+abbrev pub Leaves : {D : Type 0} → (base : Position) → (tells : D → Option History) → (faults : D → ℕ) → Reply → (old new : Core D) → Type 0
+Leaves base tells faults (reply.Accepted number) old new = GoesOn base tells faults old new
+Leaves base tells faults (reply.Refused number why) old new = (is_some old.doubt ≡ false) × (new ≡ old)
+Leaves base tells faults (reply.Halted number) old new = (is_some old.doubt ≡ true) × (new ≡ old)
+Leaves base tells faults (reply.DiskFault number) old new = Stops base tells faults old new
+Leaves base tells faults reply.NoMemory old new = new ≡ old
 
 -- The note beside a reply: what the history is then, with every reply but want of memory.
 abbrev pub IsNoted : Reply → Option (List Event) → List Event → Type 0

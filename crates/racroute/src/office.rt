@@ -1,8 +1,9 @@
 //! The office: what stands behind the lock.
-ghost use Rattle.std.specs.Prelude.{◌≡◌, ◌+◌, ◌<◌, ◌%◌, ◌^◌, ◌≤◌, ◌⊎◌, ℕ, Bool, true, false, Some, None, [], length, List, IfOk, IfErr, OnOk, OnErr, vec_len};
+ghost use Rattle.std.specs.Prelude.{◌≡◌, ◌+◌, ◌<◌, ◌%◌, ◌^◌, ◌≤◌, ◌⊎◌, ℕ, true, false, Some, None, is_some, [], length, List, IfOk, IfErr, OnOk, OnErr, vec_len};
 ghost use Rattle.std.specs.List.{All, sum_by};
 ghost use Rattle.racf_outside.specs.Causes.{Rose};
-ghost use Rattle.racf_checkpoint.specs.Stored.{pick};
+ghost use Rattle.checkpoint_disks.specs.declared.counting.Side.TheVariants.{First, Second};
+ghost use Rattle.racf_checkpoint.specs.Stored.{disk_on, pick};
 ghost use Rattle.racf_desk.specs.Durable.{idle_of};
 ghost use Rattle.racf_desk.specs.Made.{number_at};
 ghost use Rattle.command_history.specs.declared.events.Event.{Event};
@@ -33,7 +34,7 @@ use std::sync::Wait;
 use std::sync::ledger::{Book, Ledger};
 
 /// What one thread at a time may do: the desk, and the history that it makes. Contracts see it as the history, where
-/// the desk stands, on which disks, and how many passes are out.
+/// the desk stands, on which disks, the entry of the command that a disk failed, and how many passes are out.
 pub struct Office<
     J: Naming,
     T: Absorb<O> + Drop,
@@ -62,6 +63,8 @@ pub struct Office<
     rest: Rest<S, F>,
     /// The number of the commands that were accepted before the office was opened.
     first: u64,
+    /// The entry of the command that a disk failed.
+    doubt: Option<Accepted>,
 }
 
 impl<
@@ -74,7 +77,7 @@ impl<
     P: Ledger,
     D: Disk,
 > Model for Office<J, T, O, R, S, F, P, D> {
-    ghost use Rattle.std.specs.Prelude.{◌≡◌, ◌+◌, None, false};
+    ghost use Rattle.std.specs.Prelude.{◌≡◌, ◌+◌, None, false, is_some};
     ghost use Rattle.racf_desk.specs.Made.{number_at};
     ghost use Rattle.racroute.specs.Core.{Core};
     ghost use Rattle.racroute.specs.Kept.{disks_before, IsOffice};
@@ -85,17 +88,18 @@ impl<
       events = o.publisher.events;
       position = o.desk.position;
       store = o.desk.store;
-      halted = o.desk.halted;
+      doubt = o.doubt;
       passes = o.passes;
       decks = o.rest;
     } };
 
     ghost invariant = { λ o. (o.desk.committed ≡ false) × (o.publisher.held ≡ None) × (o.first ≡ number_at J.base)
+        × (o.desk.halted ≡ is_some o.doubt)
         × IsOffice D.tells D.faults J.base (disks_before J.faults J.idle_faults J.live_disk J.idle_disk) (record {
           events = o.publisher.events;
           position = o.desk.position;
           store = o.desk.store;
-          halted = o.desk.halted;
+          doubt = o.doubt;
           passes = o.passes;
           decks = o.rest;
         }) o.past.items o.commands.total o.faults.total o.out.total };
@@ -109,8 +113,8 @@ pub struct Closed<D: Disk> {
     pub first: u64,
     /// Those that were accepted since, in their order.
     pub accepted: Vec<Accepted>,
-    /// Whether a disk failed a command.
-    pub halted: bool,
+    /// The entry of the command that a disk failed, where one did.
+    pub doubt: Option<Accepted>,
 }
 
 impl<
@@ -140,7 +144,7 @@ impl<
         requires idle_faults { J.idle_faults ≡ D.faults desk.store.idle }
         requires disks { (J.live_disk ≡ D.tells desk.store.journal.disk) × (J.idle_disk ≡ idle_of D.tells desk.store) }
         requires books { (books.0.total ≡ 0) × (books.1.total ≡ 0) × (books.2.total ≡ rest) }
-        ensures { result ≡ record { events = []; position = J.base; store = desk.store; halted = false; passes = rest; decks = rest } }
+        ensures { result ≡ record { events = []; position = J.base; store = desk.store; doubt = None; passes = rest; decks = rest } }
     {
         desk.is_at_rest();
         let (commands, faults, out) = books;
@@ -154,12 +158,18 @@ impl<
             out,
             passes: rest.decks(),
             rest,
+            doubt: None,
         }
     }
 
     /// Serves one command: it is judged, committed, published and installed, and whoever gave it is told where the
     /// history stands then. The note comes with every reply but want of memory. A pass in hand is one that is out, so
     /// this has no condition; behind a disk fault nothing more is accepted.
+    ///
+    /// What was published or answered is on the disks when this returns: whatever a crash then leaves of them stands
+    /// for where the history leads, or for one command more where a disk failed it (`stand`). It was so at every moment
+    /// of the call, for where the history led before it or leads behind it (`leaves`), and since the history began, for
+    /// some beginning of it (`moments`).
     pub fn serve(
         &mut self,
         alloc: Global,
@@ -169,7 +179,27 @@ impl<
         text: &[u8],
     ) -> (Reply, Option<Note<J>>)
         ensures says { Says J.base (given_by issuer group text.now) result.0 self.old.events self.new.events pass.old pass.new }
-        ensures leaves { Leaves D.faults result.0 self.old self.new }
+        ensures leaves { Leaves J.base D.tells D.faults result.0 self.old self.new }
+        ensures noted { IsNoted result.0 result.1 self.new.events }
+        ensures stand { StandAt self.new.doubt (D.tells (disk_on First self.new.store)) (D.tells (disk_on Second self.new.store)) (reached J.base self.new.events) }
+        ensures moments { StaysAlong J.base self.new.events J.idle_disk J.live_disk (D.tells self.new.store.journal.disk) }
+    {
+        let served = self.carry_out(alloc, pass, issuer, group, text);
+        self.is_on_disks();
+        served
+    }
+
+    /// Carries one command out, and tells where the history stands then.
+    fn carry_out(
+        &mut self,
+        alloc: Global,
+        pass: &mut DeckPass<S, F, P>,
+        issuer: Id,
+        group: Option<Id>,
+        text: &[u8],
+    ) -> (Reply, Option<Note<J>>)
+        ensures says { Says J.base (given_by issuer group text.now) result.0 self.old.events self.new.events pass.old pass.new }
+        ensures leaves { Leaves J.base D.tells D.faults result.0 self.old self.new }
         ensures noted { IsNoted result.0 result.1 self.new.events }
     {
         accepted_commands_are_written();
@@ -178,7 +208,7 @@ impl<
         self.publisher.is_legal();
         if self.desk.halted() {
             let number = self.desk.number();
-            match self.publisher.tell_final(true) {
+            match self.publisher.tell_final(&self.doubt) {
                 Ok(note) => return (Reply::Halted(number), Some(note)),
                 Err(_) => return (Reply::NoMemory, None),
             }
@@ -195,8 +225,9 @@ impl<
             Ok(()) => {}
             Err(_) => {
                 self.faults.add(&mut pass.faults, 1);
+                self.doubt = Some(entry);
                 let number = self.desk.number();
-                match self.publisher.tell_final(true) {
+                match self.publisher.tell_final(&self.doubt) {
                     Ok(note) => return (Reply::DiskFault(number), Some(note)),
                     Err(_) => return (Reply::NoMemory, None),
                 }
@@ -212,8 +243,16 @@ impl<
         }
     }
 
+    /// What is published is on the disks, and nothing else but a command that a disk failed. This does nothing.
+    fn is_on_disks(&self)
+        ensures stand { StandAt self.now.doubt (D.tells (disk_on First self.now.store)) (D.tells (disk_on Second self.now.store)) (reached J.base self.now.events) }
+        ensures moments { StaysAlong J.base self.now.events J.idle_disk J.live_disk (D.tells self.now.store.journal.disk) }
+    {
+        let _passes = self.passes;
+    }
+
     /// Serves a command and tells its caller: his list is then the one that the reply is about, and he has learned one
-    /// note more, unless memory was wanting.
+    /// note more, unless memory was wanting. The disks keep what `serve` says.
     pub fn submit(
         &mut self,
         alloc: Global,
@@ -227,7 +266,9 @@ impl<
             × Says J.base (given_by issuer group text.now) result before caller.new.events pass.old pass.new }
         ensures later { Extends caller.old.events caller.new.events }
         ensures learned { Learns result caller.old.learned caller.new.learned }
-        ensures leaves { Leaves D.faults result self.old self.new }
+        ensures leaves { Leaves J.base D.tells D.faults result self.old self.new }
+        ensures stand { StandAt self.new.doubt (D.tells (disk_on First self.new.store)) (D.tells (disk_on Second self.new.store)) (reached J.base self.new.events) }
+        ensures moments { StaysAlong J.base self.new.events J.idle_disk J.live_disk (D.tells self.new.store.journal.disk) }
     {
         self.publisher.covers(caller);
         let (reply, note) = self.serve(alloc, pass, issuer, group, text);
@@ -245,7 +286,7 @@ impl<
         ensures same { OnErr result (self.new ≡ self.old) }
     {
         if self.is_over() {
-            return self.publisher.tell_final(self.desk.halted());
+            return self.publisher.tell_final(&self.doubt);
         }
         self.publisher.tell()
     }
@@ -331,19 +372,19 @@ impl<
     /// all of it where he has the final mark.
     pub fn close(self, callers: &[Caller<J>], ends: Vec<DeckEnd<S, F>>) -> Closed<D>
         requires ends { vec_len ends ≡ self.decks }
-        ensures callers { All (λ caller. Extends caller.events (all_of result.accepted.items result.halted)) callers.now }
-        ensures history { all_of result.accepted.items result.halted ≡ ended_with self.halted self.events }
-        ensures halted { result.halted ≡ self.halted }
+        ensures callers { All (λ caller. Extends caller.events (all_of result.accepted.items result.doubt)) callers.now }
+        ensures history { all_of result.accepted.items result.doubt ≡ ended_with self.doubt self.events }
+        ensures doubt { result.doubt ≡ self.doubt }
         ensures legal { AreLegal J.base result.accepted.items }
         ensures commands { sum_by (λ e. e.commands) ends.items ≡ length result.accepted.items }
-        ensures faults { sum_by (λ e. e.faults) ends.items ≡ fault_count result.halted }
+        ensures faults { sum_by (λ e. e.faults) ends.items ≡ fault_count result.doubt }
         ensures first { result.first ≡ number_at J.base }
-        ensures disks { StandAt result.halted (D.tells result.disks.first) (D.tells result.disks.second) (reached J.base (all_of result.accepted.items result.halted)) }
-        ensures moments { StaysAlong J.base (all_of result.accepted.items result.halted) J.idle_disk J.live_disk (D.tells (pick J.idle_disk.side result.disks.first result.disks.second)) }
+        ensures disks { StandAt result.doubt (D.tells result.disks.first) (D.tells result.disks.second) (reached J.base (all_of result.accepted.items result.doubt)) }
+        ensures moments { StaysAlong J.base (all_of result.accepted.items result.doubt) J.idle_disk J.live_disk (D.tells (pick J.idle_disk.side result.disks.first result.disks.second)) }
         ensures idle { D.tells (pick J.idle_disk.side result.disks.second result.disks.first) ≡ J.idle_disk.told }
         ensures idle_faults { D.faults (pick J.idle_disk.side result.disks.second result.disks.first) ≡ J.idle_faults }
         ensures no_fewer { J.faults ≤ D.faults (pick J.idle_disk.side result.disks.first result.disks.second) }
-        ensures rose { result.halted ≡ true → Rose J.faults (D.faults (pick J.idle_disk.side result.disks.first result.disks.second)) }
+        ensures rose { is_some result.doubt ≡ true → Rose J.faults (D.faults (pick J.idle_disk.side result.disks.first result.disks.second)) }
     {
         let Office {
             desk,
@@ -355,11 +396,10 @@ impl<
             passes: _,
             rest,
             first,
+            doubt,
         } = self;
-        let halted = desk.halted();
         publisher.is_legal();
-        publisher.settle(halted, callers);
-        desk.is_at_rest();
+        publisher.settle(&doubt, callers);
         let (mut given, mut failed) = rest.with_all(ends);
         commands.audit(&mut given);
         faults.audit(&mut failed);
@@ -367,7 +407,7 @@ impl<
             disks: desk.into_disks(),
             first,
             accepted: past,
-            halted,
+            doubt,
         }
     }
 }

@@ -1,5 +1,5 @@
 //! What threads share: an office behind a lock.
-ghost use Rattle.std.specs.Prelude.{◌≡◌, ◌≢◌, ◌+◌, ◌%◌, ◌^◌, ◌<◌, ◌≤◌, true, false, None, [], length, List, IfOk, IfErr, IsOk, OnOk, MatchResult, vec_len};
+ghost use Rattle.std.specs.Prelude.{◌≡◌, ◌≢◌, ◌+◌, ◌%◌, ◌^◌, ◌<◌, ◌≤◌, true, false, None, [], length, List, IfOk, IfErr, IsOk, OnOk, MatchResult, is_some, vec_len};
 ghost use Rattle.std.specs.List.{All, sum_by};
 ghost use Rattle.racf_outside.specs.Causes.{Rose};
 ghost use Rattle.racf_checkpoint.specs.Stored.{pick};
@@ -125,7 +125,8 @@ impl<
 
     /// Gives a command, and answers when it is done. The caller has then seen the history that the reply is about: its
     /// number is the reply's. Where it was accepted, or a disk failed it, other threads that wait for commands are
-    /// woken; a refused command wakes nobody.
+    /// woken; a refused command wakes nobody. What it acknowledges is on the disks then, as [`Office::submit`] says:
+    /// no clause says it here, since the disks are behind the lock.
     pub fn submit<Q: Wait>(
         &self,
         rt: &Q,
@@ -199,17 +200,17 @@ impl<
         ends: Vec<DeckEnd<S, F>>,
     ) -> Result<Closed<D>, StillOut<J, T, O, R, S, F, P, D>>
         ensures out { MatchResult result (λ closed. vec_len ends + 1 ≡ S.parts) (λ back. vec_len ends + 1 ≢ S.parts) }
-        ensures callers { IfOk result (λ closed. All (λ caller. Extends caller.events (all_of closed.accepted.items closed.halted)) callers.items) }
+        ensures callers { IfOk result (λ closed. All (λ caller. Extends caller.events (all_of closed.accepted.items closed.doubt)) callers.items) }
         ensures legal { IfOk result (λ closed. AreLegal J.base closed.accepted.items) }
         ensures commands { IfOk result (λ closed. sum_by (λ e. e.commands) ends.items ≡ length closed.accepted.items) }
-        ensures faults { IfOk result (λ closed. sum_by (λ e. e.faults) ends.items ≡ fault_count closed.halted) }
+        ensures faults { IfOk result (λ closed. sum_by (λ e. e.faults) ends.items ≡ fault_count closed.doubt) }
         ensures first { IfOk result (λ closed. closed.first ≡ number_at J.base) }
-        ensures disks { IfOk result (λ closed. StandAt closed.halted (D.tells closed.disks.first) (D.tells closed.disks.second) (reached J.base (all_of closed.accepted.items closed.halted))) }
-        ensures moments { IfOk result (λ closed. StaysAlong J.base (all_of closed.accepted.items closed.halted) J.idle_disk J.live_disk (D.tells (pick J.idle_disk.side closed.disks.first closed.disks.second))) }
+        ensures disks { IfOk result (λ closed. StandAt closed.doubt (D.tells closed.disks.first) (D.tells closed.disks.second) (reached J.base (all_of closed.accepted.items closed.doubt))) }
+        ensures moments { IfOk result (λ closed. StaysAlong J.base (all_of closed.accepted.items closed.doubt) J.idle_disk J.live_disk (D.tells (pick J.idle_disk.side closed.disks.first closed.disks.second))) }
         ensures idle { IfOk result (λ closed. D.tells (pick J.idle_disk.side closed.disks.second closed.disks.first) ≡ J.idle_disk.told) }
         ensures idle_faults { IfOk result (λ closed. D.faults (pick J.idle_disk.side closed.disks.second closed.disks.first) ≡ J.idle_faults) }
         ensures no_fewer { IfOk result (λ closed. J.faults ≤ D.faults (pick J.idle_disk.side closed.disks.first closed.disks.second)) }
-        ensures rose { IfOk result (λ closed. closed.halted ≡ true → Rose J.faults (D.faults (pick J.idle_disk.side closed.disks.first closed.disks.second))) }
+        ensures rose { IfOk result (λ closed. is_some closed.doubt ≡ true → Rose J.faults (D.faults (pick J.idle_disk.side closed.disks.first closed.disks.second))) }
         ensures handed_back { IfErr result (λ back. (back.callers ≡ callers) × (back.ends ≡ ends)) }
     {
         let Racf { office, moved } = self;

@@ -1,9 +1,9 @@
-use Rattle.std.proofs.Common.{◌≡◌, [], ◌∷◌, ◌++◌, true, ap, sym, ◌∙◌, subst}
+use Rattle.std.proofs.Common.{◌≡◌, [], ◌∷◌, ◌++◌, Some, ap, sym, ◌∙◌, subst}
 use Rattle.racf_desk.specs.Position.{Position}
 use Rattle.racf_desk.specs.Made.{DeskOn, made_in, installed}
 use Rattle.command_history.specs.declared.events.Event.TheVariants.{Added}
 use Rattle.command_history.specs.Reached.{reached}
-use Rattle.raclist_snapshots.specs.Publishing.{Publishing, MarkIs}
+use Rattle.raclist_snapshots.specs.Publishing.{Publishing, ended_with, MarkIs}
 use Rattle.command_history.proofs.Marks.{goes_push}
 use Rattle.raclist_snapshots.proofs.Marks.{mark_any}
 use Rattle.published_desk.proofs.Onward.{onward}
@@ -26,8 +26,16 @@ hold-requires-clause-image g c =
 pub finish-requires : goal.finish-requires
 finish-requires g c =
     record {
-      mark = subst (MarkIs true) (ap (λ (p : Publishing). p.events) (sym c.in-Ok-hold.ensures.held)) (mark_any true c.args.publisher.now.events c.requires.goes_on);
+      mark = subst (MarkIs (Some c.in-Ok-entry_of.entry)) (ap (λ (p : Publishing). p.events) (sym c.in-Ok-hold.ensures.held)) (mark_any (Some c.in-Ok-entry_of.entry) c.args.publisher.now.events c.requires.goes_on);
     }
+
+-- where a disk failed, its mark names the command
+pub returns-in-Err-commit-clause-ended : goal.returns-in-Err-commit-clause-ended
+returns-in-Err-commit-clause-ended g c = (
+  c.in-Ok-entry_of.entry,
+  ap (λ (p : Publishing). p.events) c.finish.ensures.ended
+      ∙ ap (λ (p : Publishing). ended_with (Some c.in-Ok-entry_of.entry) p.events) c.in-Ok-hold.ensures.held,
+)
 
 -- and both stand behind it
 pub returns : goal.returns

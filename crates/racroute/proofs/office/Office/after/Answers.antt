@@ -9,7 +9,7 @@ pub returns-then-reached-number-clause-amiss : goal.returns-then-reached-number-
 returns-then-reached-number-clause-amiss g c =
     let D = g.row.D.Denot in
     let o = c.self.inside in
-    let at : Publishing → Core D = λ p. record { events = p.events; position = o.desk.position; store = o.desk.store; halted = o.desk.halted; passes = o.passes; decks = o.rest } in
+    let at : Publishing → Core D = λ p. record { events = p.events; position = o.desk.position; store = o.desk.store; doubt = o.doubt; passes = o.passes; decks = o.rest } in
     let same : at c.covers.new.self ≡ c.args.self.now = ap at c.covers.ensures.same ∙ c.self.view_is in
     let waits = subst (λ (k : Core D). is_waited g.J.Naming.base c.args.number k ≡ false) (sym same) c.requires in
     let seen = final_after g.J.Naming.base c.args.number c.number-reached.result (at c.covers.new.self) c.tell.new.self c.args.caller.now.events c.in-Ok.note c.learn.new.self.events

@@ -10,44 +10,39 @@ use Rattle.racroute.proofs.office.Office.close.Goals as goal
 pub returns-clause-callers : goal.returns-clause-callers
 returns-clause-callers g c =
     let o = c.self.inside in
-    let halted = c.halted-halted.result in
-    let all = whole halted o.publisher.events o.past.items c.is_legal.ensures.last (rw c.halted-halted.ensures c.self.invariant.3.mark) c.self.invariant.3.entries_are in
-    all_begin halted o.publisher.events c.settle.new.self.events o.past.items c.args.callers.now all (ap (λ (p : Publishing). p.events) c.settle.ensures.ended) c.settle.ensures.callers
+    let all = whole o.doubt o.publisher.events o.past.items c.is_legal.ensures.last c.self.invariant.4.mark c.self.invariant.4.entries_are in
+    all_begin o.doubt o.publisher.events c.settle.new.self.events o.past.items c.args.callers.now all (ap (λ (p : Publishing). p.events) c.settle.ensures.ended) c.settle.ensures.callers
 
 pub returns-clause-history : goal.returns-clause-history
 returns-clause-history g c =
     let o = c.self.inside in
-    let halted = c.halted-halted.result in
-    whole halted o.publisher.events o.past.items c.is_legal.ensures.last (rw c.halted-halted.ensures c.self.invariant.3.mark) c.self.invariant.3.entries_are
-    ∙ (ap (λ h. ended_with h o.publisher.events) c.halted-halted.ensures ∙ ap (λ (k : Core g.row.D.Denot). ended_with k.halted k.events) c.self.view_is)
+    whole o.doubt o.publisher.events o.past.items c.is_legal.ensures.last c.self.invariant.4.mark c.self.invariant.4.entries_are
+    ∙ ap (λ (k : Core g.row.D.Denot). ended_with k.doubt k.events) c.self.view_is
 
 pub returns-clause-disks : goal.returns-clause-disks
 returns-clause-disks g c =
     let o = c.self.inside in
-    let halted = c.halted-halted.result in
-    let all = whole halted o.publisher.events o.past.items c.is_legal.ensures.last (rw c.halted-halted.ensures c.self.invariant.3.mark) c.self.invariant.3.entries_are in
-    stand g.D.Disk.tells o.desk.store c.into_disks.result.first c.into_disks.result.second halted o.desk.position (reached g.J.Naming.base (all_of o.past.items halted))
+    let all = whole o.doubt o.publisher.events o.past.items c.is_legal.ensures.last c.self.invariant.4.mark c.self.invariant.4.entries_are in
+    stand g.D.Disk.tells o.desk.store c.into_disks.result.first c.into_disks.result.second o.doubt o.desk.position (reached g.J.Naming.base (all_of o.past.items o.doubt))
     c.into_disks.ensures.first c.into_disks.ensures.second
-    (led g.J.Naming.base halted o.publisher.events o.past.items all ∙ sym c.self.invariant.3.position)
-    (λ h. c.is_at_rest.ensures (sym c.halted-halted.ensures ∙ h))
-    (λ h. c.self.invariant.3.doubt (sym c.halted-halted.ensures ∙ h))
+    (led g.J.Naming.base o.doubt o.publisher.events o.past.items all ∙ sym c.self.invariant.4.position)
+    c.self.invariant.4.stand
 
 pub returns-clause-moments : goal.returns-clause-moments
 returns-clause-moments g c =
     let o = c.self.inside in
-    let halted = c.halted-halted.result in
-    let all = whole halted o.publisher.events o.past.items c.is_legal.ensures.last (rw c.halted-halted.ensures c.self.invariant.3.mark) c.self.invariant.3.entries_are in
-    stayed g.D.Disk.tells g.J.Naming.base g.J.Naming.idle_disk g.J.Naming.live_disk halted o.publisher.events o.past.items
+    let all = whole o.doubt o.publisher.events o.past.items c.is_legal.ensures.last c.self.invariant.4.mark c.self.invariant.4.entries_are in
+    stayed g.D.Disk.tells g.J.Naming.base g.J.Naming.idle_disk g.J.Naming.live_disk o.doubt o.publisher.events o.past.items
     o.desk.store.journal.disk (pick g.J.Naming.idle_disk.side c.into_disks.result.first c.into_disks.result.second) all
-    (live_is g.D.Disk.tells o.desk.store g.J.Naming.idle_disk c.into_disks.result.first c.into_disks.result.second c.self.invariant.3.idle c.into_disks.ensures.first c.into_disks.ensures.second)
-    c.self.invariant.3.moments
+    (live_is g.D.Disk.tells o.desk.store g.J.Naming.idle_disk c.into_disks.result.first c.into_disks.result.second c.self.invariant.4.idle c.into_disks.ensures.first c.into_disks.ensures.second)
+    c.self.invariant.4.moments
 
 pub returns-clause-idle : goal.returns-clause-idle
 returns-clause-idle g c =
     let o = c.self.inside in
-    idle_is g.D.Disk.tells o.desk.store g.J.Naming.idle_disk c.into_disks.result.first c.into_disks.result.second c.self.invariant.3.idle c.into_disks.ensures.first c.into_disks.ensures.second
+    idle_is g.D.Disk.tells o.desk.store g.J.Naming.idle_disk c.into_disks.result.first c.into_disks.result.second c.self.invariant.4.idle c.into_disks.ensures.first c.into_disks.ensures.second
 
 pub returns-clause-idle_faults : goal.returns-clause-idle_faults
 returns-clause-idle_faults g c =
     let o = c.self.inside in
-    faults_are g.D.Disk.tells g.D.Disk.faults o.desk.store g.J.Naming.idle_disk c.into_disks.result.first c.into_disks.result.second _ c.self.invariant.3.idle c.into_disks.ensures.first c.into_disks.ensures.second c.self.invariant.3.idle_faults
+    faults_are g.D.Disk.tells g.D.Disk.faults o.desk.store g.J.Naming.idle_disk c.into_disks.result.first c.into_disks.result.second _ c.self.invariant.4.idle c.into_disks.ensures.first c.into_disks.ensures.second c.self.invariant.4.idle_faults

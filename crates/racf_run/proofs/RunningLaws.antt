@@ -1,6 +1,6 @@
 -- What a run of files says under their names, and what its faults come of.
 use Rattle.std.proofs.Common.{◌≡◌, ◌≢◌, ◌≤◌, ◌<◌, ◌+◌, ℕ, suc, Bool, true, false, ◌&&◌, List, [], ◌∷◌, ◌++◌, length, map, take, drop, refl, sym, ◌∙◌, ap, subst, arith, inl, inr, ⊎_elim}
-use Rattle.std.specs.Prelude.{◌⊎◌, Option, IfSome, nat_le, nat_lt, cond}
+use Rattle.std.specs.Prelude.{◌⊎◌, Option, IfSome, is_some, nat_le, nat_lt, cond}
 use Rattle.std.specs.List.{All, sum_by}
 use Rattle.std.proofs.lemmas.Bool.{leb-true, false≢true}
 use Rattle.std.proofs.lemmas.List.{map-append, length-map, length-take-le, take_all, take-append-drop}
@@ -200,15 +200,15 @@ module _ {I K : Type 0} (left : I → Option (List ℕ)) (reads : I → ℕ) (ta
     named_files (name ∷ names) [] h k r q files = absurd h
 
   -- ---- a run, under names
-  pub named_run : (opened : OpenedDisks) (first second : Option History) (before now : FaultCounts) (base : Position) (issuing : Issuing) (entries : List Accepted) (halted : Bool) (status : Status) (decks : ℕ) (names : List (List ℕ)) (files outs : List (I × K)) (old : List ℕ → Option (List ℕ))
+  pub named_run : (opened : OpenedDisks) (first second : Option History) (before now : FaultCounts) (base : Position) (issuing : Issuing) (entries : List Accepted) (doubt : Option Accepted) (status : Status) (decks : ℕ) (names : List (List ℕ)) (files outs : List (I × K)) (old : List ℕ → Option (List ℕ))
       → decks ≤ length files → AreNew left reads taken writes tells input names files → AreKept taken output names outs
-      → RunsTogether left reads taken writes base issuing entries halted status (take decks files) (drop decks files) outs
+      → RunsTogether left reads taken writes base issuing entries doubt status (take decks files) (drop decks files) outs
       → RoseFor (λ file. reads file.0) before.reads now.reads outs → RoseFor (λ file. writes file.1) before.writes now.writes outs
-      → (halted ≡ true → RoseEither before.first now.first before.second now.second)
-      → AreLegal base entries → StandAt halted first second (reached base (all_of entries halted)) → StaysAlong base (all_of entries halted) opened.idle opened.live (pick opened.idle.side first second)
+      → (is_some doubt ≡ true → RoseEither before.first now.first before.second now.second)
+      → AreLegal base entries → StandAt doubt first second (reached base (all_of entries doubt)) → StaysAlong base (all_of entries doubt) opened.idle opened.live (pick opened.idle.side first second)
       → pick opened.idle.side second first ≡ opened.idle.told → OthersStay names old output
       → NamedRan opened first second before now base tells status (record { issuing = issuing; decks = decks; names = names }) input old output
-  named_run opened first second before now base issuing entries halted status decks names files outs old enough new kept together reads_rose writes_rose rose legal stand moments idle others =
+  named_run opened first second before now base issuing entries doubt status decks names files outs old enough new kept together reads_rose writes_rose rose legal stand moments idle others =
       let dw = together.deck_workers in
       let fw = together.file_workers in
       let givens : files ≡ map (λ w. w.given) dw ++ map (λ w. w.given) fw =
@@ -231,13 +231,13 @@ module _ {I K : Type 0} (left : I → Option (List ℕ)) (reads : I → ℕ) (ta
       (subst (RoseFor (λ (file : I × K). writes file.1) before.writes now.writes) backs writes_rose) in
       record {
         entries = entries;
-        halted = halted;
+        doubt = doubt;
         decks = named reads writes (take decks names) dw;
         files = named reads writes (drop decks names) fw;
         are_decks =
-            named_decks base issuing (all_of entries halted) before now 0 (take decks names) dw news.0 keeps.0 failed_reads.0 failed_writes.0 together.are_decks;
+            named_decks base issuing (all_of entries doubt) before now 0 (take decks names) dw news.0 keeps.0 failed_reads.0 failed_writes.0 together.are_decks;
         are_files =
-            named_files base issuing (all_of entries halted) before now (drop decks names) fw news.1 keeps.1 failed_reads.1 failed_writes.1 together.are_files;
+            named_files base issuing (all_of entries doubt) before now (drop decks names) fw news.1 keeps.1 failed_reads.1 failed_writes.1 together.are_files;
         of_decks = subst (λ (n : ℕ). All (λ (entry : Accepted). entry.deck < n) entries) (length-take-le decks files enough) together.of_decks;
         deck_names_are = named_names (take decks names) dw news.0;
         file_names_are = named_names (drop decks names) fw news.1;
@@ -311,10 +311,10 @@ module _ {I K : Type 0} (left : I → Option (List ℕ)) (reads : I → ℕ) (ta
     writes_of (name ∷ names) [] h new e rose = absurd new
 
   -- a run as a whole
-  module _ (entries : List Accepted) (halted : Bool) (status : Status) (decks : ℕ) (files outs : List (I × K)) (together : RunsTogether left reads taken writes base issuing entries halted status (take decks files) (drop decks files) outs) where
+  module _ (entries : List Accepted) (doubt : Option Accepted) (status : Status) (decks : ℕ) (files outs : List (I × K)) (together : RunsTogether left reads taken writes base issuing entries doubt status (take decks files) (drop decks files) outs) where
     all_stopped : AreStopped (together.deck_workers ++ together.file_workers)
     all_stopped =
-        stopped_append together.deck_workers together.file_workers (stopped_decks (all_of entries halted) 0 together.deck_workers together.are_decks) (stopped_files (all_of entries halted) together.file_workers together.are_files)
+        stopped_append together.deck_workers together.file_workers (stopped_decks (all_of entries doubt) 0 together.deck_workers together.are_decks) (stopped_files (all_of entries doubt) together.file_workers together.are_files)
 
     all_given : map (λ w. w.given) (together.deck_workers ++ together.file_workers) ≡ files
     all_given =

@@ -1,5 +1,5 @@
 -- The words `run K NAME..`, and what the program does to the shelf and to the database for them.
-use Rattle.std.specs.Prelude.{◌≡◌, ◌⊎◌, ℕ, ◌+◌, ◌<◌, ◌≤◌, suc, nat_le, Bool, true, ◌&&◌, not, Option, Some, None, option_and_then, Result, List, [], ◌∷◌, ◌++◌, length, take, drop, map, codes, if◌then◌else◌}
+use Rattle.std.specs.Prelude.{◌≡◌, ◌⊎◌, ℕ, ◌+◌, ◌<◌, ◌≤◌, suc, nat_le, Bool, true, is_some, ◌&&◌, not, Option, Some, None, option_and_then, Result, List, [], ◌∷◌, ◌++◌, length, take, drop, map, codes, if◌then◌else◌}
 use Rattle.std.specs.List.{All, sum_by}
 use Rattle.std.specs.Str.{bytes_eq}
 use Rattle.racf_outside.specs.Causes.{Rose}
@@ -83,9 +83,9 @@ pub record Named : Type 0 where
   pub reads : ℕ
   pub writes : ℕ
 
--- The run began at `base`, `issuing` says who gave the commands of its decks, and its history is `whole`; `input` is what an input has to give, and `output` what the
--- output that was given back under a name holds, which was new and empty. The faults that were counted of the shelf
--- were `before`, and are `now`.
+-- The run began at `base`, `issuing` says who gave the commands of its decks, and its history is `whole`; `input` is what
+-- an input has to give, and `output` what the output that was given back under a name holds, which was new and empty. The
+-- faults that were counted of the shelf were `before`, and are `now`.
 module _ (base : Position) (issuing : Issuing) (whole : List Event) (before now : FaultCounts) (tells : Bool) (input output : List ℕ → Option (List ℕ)) where
   -- A worker stopped for one of its causes; where its input or its output failed, the shelf has counted it.
   pub record NamedStops (w : Named) : Type 0 where
@@ -108,28 +108,29 @@ module _ (base : Position) (issuing : Issuing) (whole : List Event) (before now 
 
 -- Decks and request files of these names were worked: the output of each is that of its worker, in one and the same
 -- history, whose entries are those of these decks and legal from the base on. The status is the greatest of the
--- workers', and of all lines one says DISKFAULT where a disk failed a command, else none; then the status tells it, or is
--- greater, and the count of its faults has risen. Whatever a crash now leaves of both disks stands for the
--- position behind that history; and at every moment since the disks told `opened`, for where some beginning of it
--- leads, or for one command more that a disk failed; the disk that doesn't count stays as it is. The outputs told `old`
--- before and tell `new` now, and those of other names are as they were.
+-- workers', and of all lines one says DISKFAULT where a disk failed a command, else none; then that command is the one in
+-- doubt, with whose entry the history ends, the status tells it, or is greater, and the count of the disk's faults has
+-- risen. Whatever a crash now leaves of both disks stands for the position behind that history, or for the one behind the
+-- command in doubt too; and at every moment since the disks told `opened`, for where some beginning of the history leads,
+-- or for that one command more; the disk that doesn't count stays as it is. The outputs told `old` before and tell `new`
+-- now, and those of other names are as they were.
 pub record NamedRan (opened : OpenedDisks) (first second : Option History) (before now : FaultCounts) (base : Position) (tells : Bool) (status : Status) (asked : RunWords) (input old new : List ℕ → Option (List ℕ)) : Type 0 where
   pub entries : List Accepted
-  pub halted : Bool
+  pub doubt : Option Accepted
   pub decks : List Named
   pub files : List Named
-  pub are_decks : DecksNamed base asked.issuing (all_of entries halted) before now tells input new 0 decks
-  pub are_files : FilesNamed base asked.issuing (all_of entries halted) before now tells input new files
+  pub are_decks : DecksNamed base asked.issuing (all_of entries doubt) before now tells input new 0 decks
+  pub are_files : FilesNamed base asked.issuing (all_of entries doubt) before now tells input new files
   pub of_decks : All (λ entry. entry.deck < asked.decks) entries
   pub deck_names_are : map (λ w. w.name) decks ≡ deck_names asked
   pub file_names_are : map (λ w. w.name) files ≡ request_names asked
   pub status_is : status ≡ greatest (map (λ w. w.status) (decks ++ files))
-  pub one_fault : sum_by (λ w. w.faults) decks ≡ fault_count halted
-  pub halted_status : halted ≡ true → 20 ≤ code_of status
-  pub rose : halted ≡ true → RoseEither before.first now.first before.second now.second
+  pub one_fault : sum_by (λ w. w.faults) decks ≡ fault_count doubt
+  pub halted_status : is_some doubt ≡ true → 20 ≤ code_of status
+  pub rose : is_some doubt ≡ true → RoseEither before.first now.first before.second now.second
   pub legal : AreLegal base entries
-  pub stand : StandAt halted first second (reached base (all_of entries halted))
-  pub moments : StaysAlong base (all_of entries halted) opened.idle opened.live (pick opened.idle.side first second)
+  pub stand : StandAt doubt first second (reached base (all_of entries doubt))
+  pub moments : StaysAlong base (all_of entries doubt) opened.idle opened.live (pick opened.idle.side first second)
   pub idle : pick opened.idle.side second first ≡ opened.idle.told
   pub others : OthersStay asked.names old new
 

@@ -163,7 +163,7 @@ where
         disks,
         first: _,
         accepted: _,
-        halted: _,
+        doubt: _,
     } = run_files(rt, alloc, desk, files, decks, issuing, gate);
     return_files(shelf, names, outputs, outs);
     (status, disks)

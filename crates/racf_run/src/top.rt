@@ -5,6 +5,8 @@ ghost use Rattle.std.specs.Option.{option_map};
 ghost use Rattle.racf_outside.specs.Causes.{Rose};
 ghost use Rattle.racf_outside.specs.Shelf.{SameBytes};
 ghost use Rattle.racf_journal.specs.Opening.{OnlySynced};
+ghost use Rattle.racf_checkpoint.specs.Formatting.{StaysBaring, StaysFormatting};
+ghost use Rattle.racf_desk.specs.Formatting.{LeavesNoOlder};
 ghost use Rattle.racf_desk.specs.Position.{first_position};
 ghost use Rattle.racf_desk.specs.Durable.{LeavesBoth, SameIdle};
 ghost use Rattle.racf_desk.specs.Recovery.{StandsFor};
@@ -123,6 +125,13 @@ where
     ensures memory { is_init (map string_bytes words.now) ≡ true → result.0 ≡ Status.NoMemory →
         (result.1.first ≡ disks.first) × (result.1.second ≡ disks.second) }
 
+    // Where none was made, whatever crashes leave says nothing older than what stood there. At every moment a crash
+    // leaves of each disk what was possible before, or a file that says nothing, or the new one.
+    ensures no_older { is_init (map string_bytes words.now) ≡ true → result.0 ≢ Status.Done →
+        LeavesNoOlder (D.tells disks.first) (D.tells disks.second) (D.tells result.1.first) (D.tells result.1.second) }
+    ensures init_moments { is_init (map string_bytes words.now) ≡ true →
+        StaysFormatting (D.tells disks.first) (D.tells result.1.first) × StaysBaring (D.tells disks.second) (D.tells result.1.second) }
+
     // The database is opened, or why not; and then a checkpoint of it is written, or a disk failed, or memory ran out.
     // At every moment a crash leaves what stands for the database as it was opened.
     ensures compacts { is_compact (map string_bytes words.now) ≡ true →
@@ -206,6 +215,8 @@ fn init<D: Disk>(alloc: Global, disks: Two<D>) -> (Status, Two<D>)
     ensures ends { (result.0 ≡ Status.Done) ⊎ ((result.0 ≡ Status.DiskFault) ⊎ (result.0 ≡ Status.NoMemory)) }
     ensures new { result.0 ≡ Status.Done → LeavesBoth (D.tells result.1.first) (D.tells result.1.second) (StandsFor first_position) }
     ensures memory { result.0 ≡ Status.NoMemory → (result.1.first ≡ disks.first) × (result.1.second ≡ disks.second) }
+    ensures no_older { result.0 ≢ Status.Done → LeavesNoOlder (D.tells disks.first) (D.tells disks.second) (D.tells result.1.first) (D.tells result.1.second) }
+    ensures moments { StaysFormatting (D.tells disks.first) (D.tells result.1.first) × StaysBaring (D.tells disks.second) (D.tells result.1.second) }
     ensures disk_fault { result.0 ≡ Status.DiskFault → RoseEither (D.faults disks.first) (D.faults result.1.first) (D.faults disks.second) (D.faults result.1.second) }
     ensures first_faults { D.faults disks.first ≤ D.faults result.1.first }
     ensures second_faults { D.faults disks.second ≤ D.faults result.1.second }

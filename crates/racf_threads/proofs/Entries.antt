@@ -34,7 +34,7 @@ within_push made own entry w =
 entries_append : (events more : List Event) → entries_of (events ++ more) ≡ entries_of events ++ entries_of more
 entries_append [] more = refl
 entries_append (Added entry ∷ events) more = ap (λ (l : List Accepted). entry ∷ l) (entries_append events more)
-entries_append (Ended halted ∷ events) more = entries_append events more
+entries_append (Ended doubt ∷ events) more = entries_append events more
 
 by_append : (deck : ℕ) (entries more : List Accepted) → entries_by deck (entries ++ more) ≡ entries_by deck entries ++ entries_by deck more
 by_append deck [] more = refl

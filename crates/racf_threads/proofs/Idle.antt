@@ -1,6 +1,6 @@
 -- A run for which there was no memory: each worker has stopped before its first line.
-use Rattle.std.proofs.Common.{◌≡◌, ℕ, zero, suc, ◌+◌, ◌<◌, false, List, [], ◌∷◌, ◌++◌, map, length, refl, sym, ◌∙◌, ap, arith}
-use Rattle.std.specs.Prelude.{Option}
+use Rattle.std.proofs.Common.{◌≡◌, ℕ, zero, suc, ◌+◌, ◌<◌, List, [], ◌∷◌, ◌++◌, map, length, refl, sym, ◌∙◌, ap, arith}
+use Rattle.std.specs.Prelude.{Option, None}
 use Rattle.std.specs.List.{sum_by}
 use Rattle.std.proofs.lemmas.List.Elements.{All-nil}
 use Rattle.std.proofs.lemmas.List.Sums.{sum_by-cons}
@@ -19,8 +19,8 @@ use Rattle.racf_threads.proofs.Own.{decks_ran, faults_ran}
 use Rattle.racf_threads.proofs.Runs.{passes_from, over_both}
 
 -- nothing was seen
-seen_nothing : Extends [] (all_of [] false)
-seen_nothing = record { prefix = (all_of [] false, refl); whole = λ ended. cc }
+seen_nothing : Extends [] (all_of [] None)
+seen_nothing = record { prefix = (all_of [] None, refl); whole = λ ended. cc }
 
 none_counted : (count deck : ℕ) → sum_by (λ (p : Passing). p.commands) (passes_from deck count) ≡ 0
 none_counted zero deck = refl
@@ -64,7 +64,7 @@ module _ {I K : Type 0} (left : I → Option (List ℕ)) (reads : I → ℕ) (ta
         no_fewer_writes = omega arith;
       }
 
-  decks_gave : (deck : ℕ) (decks : List (I × K)) → DecksGave left reads taken writes base issuing (all_of [] false) deck (map idle decks) (passes_from deck (length decks))
+  decks_gave : (deck : ℕ) (decks : List (I × K)) → DecksGave left reads taken writes base issuing (all_of [] None) deck (map idle decks) (passes_from deck (length decks))
   decks_gave deck [] = tt
   decks_gave deck (given ∷ decks) = (
     record { seen = []; gives = none_given base issuing [] (new_pass deck) (ReadFailed left reads taken writes base issuing (idle given)) (WriteFailed left reads taken writes base issuing (idle given)) (left given.0) (left given.0) (taken given.1); later = seen_nothing; told = λ some. absurd (omega arith) },
@@ -73,20 +73,20 @@ module _ {I K : Type 0} (left : I → Option (List ℕ)) (reads : I → ℕ) (ta
     decks_gave (suc deck) decks,
   )
 
-  are_files : (requests : List (I × K)) → AreFiles left reads taken writes base issuing (all_of [] false) (map idle requests)
+  are_files : (requests : List (I × K)) → AreFiles left reads taken writes base issuing (all_of [] None) (map idle requests)
   are_files [] = tt
   are_files (given ∷ requests) = (
     (record { seen = []; answers = none_answered base [] (ReadFailed left reads taken writes base issuing (idle given)) (WriteFailed left reads taken writes base issuing (idle given)) (left given.0) (left given.0) (taken given.1); later = seen_nothing }, stopped given),
     are_files requests,
   )
 
-  pub not_begun : (decks requests : List (I × K)) → 0 < length (decks ++ requests) → RunsTogether left reads taken writes base issuing [] false statuses.NoMemory decks requests (decks ++ requests)
+  pub not_begun : (decks requests : List (I × K)) → 0 < length (decks ++ requests) → RunsTogether left reads taken writes base issuing [] None statuses.NoMemory decks requests (decks ++ requests)
   not_begun decks requests some =
       let both = over_both (idle {I = I} {K = K}) decks requests in
       record {
         deck_workers = map idle decks;
         file_workers = map idle requests;
-        are_decks = decks_ran left reads taken writes base issuing [] false (map idle decks) (passes_from 0 (length decks)) (decks_gave 0 decks) (none_counted (length decks) 0);
+        are_decks = decks_ran left reads taken writes base issuing [] None (map idle decks) (passes_from 0 (length decks)) (decks_gave 0 decks) (none_counted (length decks) 0);
         are_files = are_files requests;
         of_decks = All-nil (λ (entry : Accepted). entry.deck < length decks);
         decks_are = given_again decks;
@@ -94,5 +94,5 @@ module _ {I K : Type 0} (left : I → Option (List ℕ)) (reads : I → ℕ) (ta
         outs_are = ap (map (λ (w : Worked I K). w.back)) (sym both) ∙ back_again (decks ++ requests);
         status_is = no_memory (decks ++ requests) some ∙ ap (λ (l : List (Worked I K)). greatest (map (λ w. w.status) l)) both;
         halted_status = λ halts. absurd (cc);
-        one_fault = faults_ran left reads taken writes base issuing [] false (map idle decks) (passes_from 0 (length decks)) (decks_gave 0 decks) (none_failed (length decks) 0);
+        one_fault = faults_ran left reads taken writes base issuing [] None (map idle decks) (passes_from 0 (length decks)) (decks_gave 0 decks) (none_failed (length decks) 0);
       }

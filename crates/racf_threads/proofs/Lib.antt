@@ -9,6 +9,7 @@ mod Rests
 mod Captures
 pub mod Gave
 mod Entries
+mod Doubts
 mod Turns
 pub mod Own
 mod WorkedRows

@@ -19,6 +19,7 @@ use Rattle.racf_threads.specs.Outputs.{entries_by, made_in, state_of, DeckRan}
 use Rattle.racf_threads.specs.Together.{Worked, ReadFailed, WriteFailed, AreDecks, greatest}
 use Rattle.racf_threads.proofs.Statuses.{one_of}
 use Rattle.racf_threads.proofs.Entries.{IsWithin, within_later, count_from, count_all, count_split, all_below}
+use Rattle.racf_threads.proofs.Doubts.{doubted_later}
 use Rattle.racf_threads.proofs.Turns.{KeptAt, kept_behind}
 use Rattle.racf_threads.proofs.Gave.{DeckGave, DecksGave}
 
@@ -34,10 +35,10 @@ module _ (base : Position) (issuing : Issuing) (whole : List Event) (deck : ℕ)
 
   within_whole : IsWithin (made_in (state_of gave.gives).turns) (entries_by deck (entries_of whole))
   within_whole =
-      within_later deck (made_in (state_of gave.gives).turns) (state_of gave.gives).seen whole at_end.within seen_before
+      within_later deck (made_in (state_of gave.gives).turns) (state_of gave.gives).seen whole at_end.0.within seen_before
 
   commands_are : back.commands ≡ length (made_in (state_of gave.gives).turns)
-  commands_are = ap (λ (p : Passing). p.commands) (sym gave.gives.ran.stands.counts) ∙ at_end.commands
+  commands_are = ap (λ (p : Passing). p.commands) (sym gave.gives.ran.stands.counts) ∙ at_end.0.commands
 
   -- A deck was accepted no more commands than it has entries.
   fits : back.commands ≤ length (entries_by deck (entries_of whole))
@@ -52,7 +53,8 @@ module _ (base : Position) (issuing : Issuing) (whole : List Event) (deck : ℕ)
         gives = gave.gives;
         later = gave.later;
         own = within_whole.whole (subst (λ (n : ℕ). length (entries_by deck (entries_of whole)) ≤ n) commands_are le);
-        counted = sym at_end.failed ∙ (ap (λ (p : Passing). p.faults) gave.gives.ran.stands.counts ∙ sym faults_are);
+        counted = sym at_end.0.failed ∙ (ap (λ (p : Passing). p.faults) gave.gives.ran.stands.counts ∙ sym faults_are);
+        doubted = doubted_later deck (state_of gave.gives).seen whole seen_before (state_of gave.gives).turns at_end.1;
         told = λ some. gave.told (omega arith);
         failed = λ h. stays_marked (state_of gave.gives).seen whole seen_before (gave.gives.ran.stands.failed h);
       }
@@ -136,26 +138,26 @@ module _ {I K : Type 0} (left : I → Option (List ℕ)) (reads : I → ℕ) (ta
       is_some (suc n) m some f g = inl (f (omega arith))
 
   -- The decks of a run whose passes have counted as many accepted commands as there are entries.
-  pub decks_ran : (entries : List Accepted) (halted : Bool) (workers : List (Worked I K)) (backs : List Passing) → DecksGave left reads taken writes base issuing (all_of entries halted) 0 workers backs
-      → sum_by (λ (b : Passing). b.commands) backs ≡ length entries → AreDecks left reads taken writes base issuing (all_of entries halted) 0 workers
-  decks_ran entries halted workers backs gave counts =
-      let all = ap (count_from 0) (entries_of_all entries halted) ∙ count_all entries in
-      ran_from (all_of entries halted) 0 workers backs gave (omega arith)
+  pub decks_ran : (entries : List Accepted) (doubt : Option Accepted) (workers : List (Worked I K)) (backs : List Passing) → DecksGave left reads taken writes base issuing (all_of entries doubt) 0 workers backs
+      → sum_by (λ (b : Passing). b.commands) backs ≡ length entries → AreDecks left reads taken writes base issuing (all_of entries doubt) 0 workers
+  decks_ran entries doubt workers backs gave counts =
+      let all = ap (count_from 0) (entries_of_all entries doubt) ∙ count_all entries in
+      ran_from (all_of entries doubt) 0 workers backs gave (omega arith)
 
   -- Each entry is of one of these decks.
-  pub of_decks : (entries : List Accepted) (halted : Bool) (workers : List (Worked I K)) (backs : List Passing) (count : ℕ) → length workers ≡ count
-      → DecksGave left reads taken writes base issuing (all_of entries halted) 0 workers backs
+  pub of_decks : (entries : List Accepted) (doubt : Option Accepted) (workers : List (Worked I K)) (backs : List Passing) (count : ℕ) → length workers ≡ count
+      → DecksGave left reads taken writes base issuing (all_of entries doubt) 0 workers backs
       → sum_by (λ (b : Passing). b.commands) backs ≡ length entries → All (λ (entry : Accepted). entry.deck < count) entries
-  of_decks entries halted workers backs count are gave counts =
-      let all = ap (count_from 0) (entries_of_all entries halted) ∙ count_all entries in
-      let left = left_behind (all_of entries halted) 0 workers backs gave in
+  of_decks entries doubt workers backs count are gave counts =
+      let all = ap (count_from 0) (entries_of_all entries doubt) ∙ count_all entries in
+      let left = left_behind (all_of entries doubt) 0 workers backs gave in
       let all_decks : 0 + length workers ≡ count = omega arith in
-      let here : count_from (0 + length workers) (entries_of (all_of entries halted)) ≡ count_from count entries =
-      ap (λ (n : ℕ). count_from n (entries_of (all_of entries halted))) all_decks ∙ ap (count_from count) (entries_of_all entries halted) in
+      let here : count_from (0 + length workers) (entries_of (all_of entries doubt)) ≡ count_from count entries =
+      ap (λ (n : ℕ). count_from n (entries_of (all_of entries doubt))) all_decks ∙ ap (count_from count) (entries_of_all entries doubt) in
       all_below count entries (omega arith)
 
   -- As many of their commands were failed by a disk as their passes have counted.
-  pub faults_ran : (entries : List Accepted) (halted : Bool) (workers : List (Worked I K)) (backs : List Passing) → DecksGave left reads taken writes base issuing (all_of entries halted) 0 workers backs
-      → sum_by (λ (b : Passing). b.faults) backs ≡ fault_count halted → sum_by (λ (w : Worked I K). w.faults) workers ≡ fault_count halted
-  faults_ran entries halted workers backs gave counts =
-      faults_from (all_of entries halted) 0 workers backs gave ∙ counts
+  pub faults_ran : (entries : List Accepted) (doubt : Option Accepted) (workers : List (Worked I K)) (backs : List Passing) → DecksGave left reads taken writes base issuing (all_of entries doubt) 0 workers backs
+      → sum_by (λ (b : Passing). b.faults) backs ≡ fault_count doubt → sum_by (λ (w : Worked I K). w.faults) workers ≡ fault_count doubt
+  faults_ran entries doubt workers backs gave counts =
+      faults_from (all_of entries doubt) 0 workers backs gave ∙ counts

@@ -1,13 +1,13 @@
 -- From what each worker did to what a run is.
 use Rattle.std.proofs.Common.{◌≡◌, ℕ, zero, suc, ◌+◌, ◌≤◌, nat_lt, Bool, true, false, List, [], ◌∷◌, ◌++◌, map, length, Some, None, inl, inr, refl, sym, ◌∙◌, ap, subst, arith, append-nil, add-zero}
-use Rattle.std.specs.Prelude.{Option, ◌⊎◌, if◌then◌else◌}
+use Rattle.std.specs.Prelude.{Option, ◌⊎◌, is_some, if◌then◌else◌}
 use Rattle.std.specs.List.{All, AllZip, cons_option, filter_map, sum_by}
 use Rattle.std.proofs.lemmas.List.{length-map}
 use Rattle.std.proofs.lemmas.List.Elements.{All-head, All-tail}
 use Rattle.racf_desk.specs.Position.{Position}
 use Rattle.command_history.specs.declared.events.Accepted.{Accepted}
 use Rattle.command_history.specs.declared.events.Event.{Event}
-use Rattle.command_history.specs.Events.{all_of, mark_of, Extends}
+use Rattle.command_history.specs.Events.{all_of, failed_of, Extends}
 use Rattle.raclist_snapshots.specs.Publishing.{Seeing}
 use Rattle.racroute.specs.Core.{Passing, new_passes}
 use Rattle.racroute.specs.Kept.{fault_count}
@@ -65,6 +65,10 @@ pub over_both : {X Y : Type 0} (f : X → Y) (xs ys : List X) → map f (xs ++ y
 over_both f [] ys = refl
 over_both f (x ∷ xs) ys = ap (λ l. f x ∷ l) (over_both f xs ys)
 
+one_failed : (doubt : Option Accepted) → is_some doubt ≡ true → fault_count doubt ≡ 1
+one_failed (Some entry) there = refl
+one_failed None there = absurd (cc)
+
 -- ---- a worker's status
 
 either_of : (one other status : Status) → greater one other ≡ status → (one ≡ status) ⊎ (other ≡ status)
@@ -85,7 +89,7 @@ module _ {I K : Type 0} (left : I → Option (List ℕ)) (reads : I → ℕ) (ta
 
   -- Where one ended by a disk fault, the history has ended so.
   pub failed : (whole : List Event) (passes : List Passing) (files : List (I × K)) (news : List (Working I K)) → AllZip (HasWorked left reads taken writes base issuing) (new_workers passes files) news → Later whole news
-      → greatest (map (λ w. w.status) news) ≡ statuses.DiskFault → mark_of whole ≡ Some true
+      → greatest (map (λ w. w.status) news) ≡ statuses.DiskFault → is_some (failed_of whole) ≡ true
   failed whole passes [] [] did seen is = cc
   failed whole passes [] (new ∷ news) did seen is = absurd did
   failed whole [] (given ∷ files) [] did seen is = absurd did
@@ -166,28 +170,28 @@ module _ {I K : Type 0} (left : I → Option (List ℕ)) (reads : I → ℕ) (ta
 
   -- ---- a whole run
 
-  pub runs : (entries : List Accepted) (halted : Bool) (decks requests : List (I × K)) (news : List (Working I K))
+  pub runs : (entries : List Accepted) (doubt : Option Accepted) (decks requests : List (I × K)) (news : List (Working I K))
       → AllZip (HasWorked left reads taken writes base issuing) (new_workers (new_passes (length decks)) (decks ++ requests)) news
-      → All (λ (caller : Seeing). Extends caller.events (all_of entries halted)) (map (λ w. w.caller) news)
+      → All (λ (caller : Seeing). Extends caller.events (all_of entries doubt)) (map (λ w. w.caller) news)
       → sum_by (λ (p : Passing). p.commands) (filter_map (λ w. w.end) news) ≡ length entries
-      → sum_by (λ (p : Passing). p.faults) (filter_map (λ w. w.end) news) ≡ fault_count halted
-      → RunsTogether left reads taken writes base issuing entries halted (greatest (map (λ w. w.status) news)) decks requests (filter_map (λ w. w.files) news)
-  runs entries halted decks requests news did seen commands faults =
-      let whole = all_of entries halted in
+      → sum_by (λ (p : Passing). p.faults) (filter_map (λ w. w.end) news) ≡ fault_count doubt
+      → RunsTogether left reads taken writes base issuing entries doubt (greatest (map (λ w. w.status) news)) decks requests (filter_map (λ w. w.files) news)
+  runs entries doubt decks requests news did seen commands faults =
+      let whole = all_of entries doubt in
       let from = subst (λ (l : List Passing). AllZip (HasWorked left reads taken writes base issuing) (new_workers l (decks ++ requests)) news) (passes_are (length decks)) did in
       let d = decks_of whole 0 decks requests news from (later whole news seen) in
       let f = files whole requests d.rest d.did d.seen in
       let backs_are : filter_map (λ (w : Working I K). w.end) news ≡ d.backs = d.ends ∙ (ap (λ (l : List Passing). d.backs ++ l) f.ends ∙ append-nil d.backs) in
       let statuses_are : map (λ (w : Working I K). w.status) news ≡ map (λ (w : Worked I K). w.status) (d.workers ++ f.workers) =
       d.status ∙ (ap (λ (l : List Status). map (λ (w : Worked I K). w.status) d.workers ++ l) f.status ∙ sym (over_both (λ (w : Worked I K). w.status) d.workers f.workers)) in
-      let one_fault : sum_by (λ (w : Worked I K). w.faults) d.workers ≡ fault_count halted =
-      faults_ran left reads taken writes base issuing entries halted d.workers d.backs d.gave (subst (λ (l : List Passing). sum_by (λ (p : Passing). p.faults) l ≡ fault_count halted) backs_are faults) in
+      let one_fault : sum_by (λ (w : Worked I K). w.faults) d.workers ≡ fault_count doubt =
+      faults_ran left reads taken writes base issuing entries doubt d.workers d.backs d.gave (subst (λ (l : List Passing). sum_by (λ (p : Passing). p.faults) l ≡ fault_count doubt) backs_are faults) in
       record {
         deck_workers = d.workers;
         file_workers = f.workers;
-        are_decks = decks_ran left reads taken writes base issuing entries halted d.workers d.backs d.gave (subst (λ (l : List Passing). sum_by (λ (p : Passing). p.commands) l ≡ length entries) backs_are commands);
+        are_decks = decks_ran left reads taken writes base issuing entries doubt d.workers d.backs d.gave (subst (λ (l : List Passing). sum_by (λ (p : Passing). p.commands) l ≡ length entries) backs_are commands);
         are_files = f.are;
-        of_decks = of_decks left reads taken writes base issuing entries halted d.workers d.backs (length decks) (sym (length-map d.workers (λ (w : Worked I K). w.given)) ∙ ap length d.given_are) d.gave
+        of_decks = of_decks left reads taken writes base issuing entries doubt d.workers d.backs (length decks) (sym (length-map d.workers (λ (w : Worked I K). w.given)) ∙ ap length d.given_are) d.gave
             (subst (λ (l : List Passing). sum_by (λ (p : Passing). p.commands) l ≡ length entries) backs_are commands);
         decks_are = d.given_are;
         requests_are = f.given_are;
@@ -196,7 +200,7 @@ module _ {I K : Type 0} (left : I → Option (List ℕ)) (reads : I → ℕ) (ta
         one_fault = one_fault;
         halted_status = λ halts.
             subst (λ (l : List Status). 20 ≤ code_of (greatest l)) (sym statuses_are)
-            (halted_told left reads taken writes base issuing whole 0 d.workers f.workers d.backs d.gave (let one = one_fault ∙ ap fault_count halts in omega arith));
+            (halted_told left reads taken writes base issuing whole 0 d.workers f.workers d.backs d.gave (let one = one_fault ∙ one_failed doubt halts in omega arith));
       }
 
   -- As many passes are handed in as there are decks.

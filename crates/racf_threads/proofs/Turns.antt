@@ -1,6 +1,6 @@
 -- Behind each of a deck's commands: its pass has counted what was made, which stands among the deck's entries.
-use Rattle.std.proofs.Common.{◌≡◌, ◌≢◌, ℕ, ◌+◌, true, List, [], ◌∷◌, ◌++◌, length, refl, sym, ◌∙◌, ap, subst, arith, append-nil, append_assoc, length-append}
-use Rattle.std.specs.Prelude.{Result, Ok, Err}
+use Rattle.std.proofs.Common.{◌≡◌, ◌≢◌, ℕ, ◌+◌, List, [], ◌∷◌, ◌++◌, length, refl, sym, ◌∙◌, ap, subst, arith, append-nil, append_assoc, length-append}
+use Rattle.std.specs.Prelude.{Result, Ok, Err, Some}
 use Rattle.racf_desk.specs.Position.{Position}
 use Rattle.racf_desk.specs.declared.answers.Reply.{Reply}
 use Rattle.racf_desk.specs.declared.answers.Reply.TheVariants as reply
@@ -18,7 +18,8 @@ use Rattle.racf_stream.specs.IssuerLines.{issuer_named}
 use Rattle.racf_stream.specs.Runs.{after}
 use Rattle.racf_stream.specs.declared.issuer.Issuing.{Issuing}
 use Rattle.racf_workers.specs.Deck.{Met, Turn, DeckState, counted, new_deck, turn_of, behind_command, behind_issuer, step, deck_machine, IsRight, Course}
-use Rattle.racf_threads.specs.Outputs.{entries_by, last_of, made_by, made_in, fault_of, faults_in, new_pass}
+use Rattle.racf_threads.specs.Outputs.{entries_by, last_of, made_by, made_in, fault_of, faults_in, new_pass, AreDoubted}
+use Rattle.racf_threads.proofs.Doubts.{says_extends, told_doubted, doubted_later, doubted_push}
 use Rattle.racf_threads.proofs.Entries.{IsWithin, within_behind, within_later, within_added, last_added}
 
 -- ---- one command
@@ -68,7 +69,7 @@ module _ (base : Position) (given : Given) (deck : ℕ) (before behind : List Ev
   kept_told (reply.Halted number) some says k = kept_same says.same k
   kept_told (reply.DiskFault number) some says k =
       let own : IsWithin made (entries_by deck (entries_of behind)) =
-      subst (λ (l : List Event). IsWithin made (entries_by deck (entries_of l))) (sym says.ended) (within_behind deck made before (Ended true ∷ []) k.within) in
+      subst (λ (l : List Event). IsWithin made (entries_by deck (entries_of l))) (sym says.ended) (within_behind deck made before (Ended (Some says.entry) ∷ []) k.within) in
       let none = append-nil made in
       record {
         number = k.number;
@@ -106,18 +107,23 @@ course_push base (first ∷ turns) turn c = let rest = course_push base turns tu
 
 -- what stands between two lines
 abbrev pub KeptAt : (deck : ℕ) → DeckState → Type 0
-KeptAt deck s = Kept deck s.seen s.pass (made_in s.turns) (faults_in s.turns)
+KeptAt deck s = Kept deck s.seen s.pass (made_in s.turns) (faults_in s.turns) × AreDoubted deck s.seen s.turns
 
 module _ (base : Position) (issuing : Issuing) (deck : ℕ) where
   command_keeps : (text : List ℕ) (s : DeckState) → (Course base s.turns → KeptAt deck s) → Course base (s.turns ++ turn_of text s ∷ []) → KeptAt deck (behind_command (turn_of text s) s)
   command_keeps text s kept course =
       let turn = turn_of text s in
       let parts = course_push base s.turns turn course in
-      let before = kept_later deck s.seen turn.met.before s.pass (made_in s.turns) (faults_in s.turns) parts.1.later (kept parts.0) in
+      let before = kept_later deck s.seen turn.met.before s.pass (made_in s.turns) (faults_in s.turns) parts.1.later (kept parts.0).0 in
       let told = kept_told base turn.given deck turn.met.before turn.met.behind s.pass (made_in s.turns) (faults_in s.turns) turn.met.reply parts.1.told parts.1.says before in
       let pass = counted turn.met.reply s.pass in
-      subst (λ (l : List Accepted). Kept deck turn.met.behind pass l (faults_in (s.turns ++ turn ∷ []))) (sym (made_push s.turns turn))
-      (subst (λ (n : ℕ). Kept deck turn.met.behind pass (made_in s.turns ++ made_by turn.met.reply turn.met.behind) n) (sym (faults_push s.turns turn)) told)
+      let doubts = doubted_later deck s.seen turn.met.before parts.1.later s.turns (kept parts.0).1 in
+      let goes_on = says_extends base turn.given turn.met.reply turn.met.before turn.met.behind s.pass pass parts.1.says in (
+        subst (λ (l : List Accepted). Kept deck turn.met.behind pass l (faults_in (s.turns ++ turn ∷ []))) (sym (made_push s.turns turn))
+            (subst (λ (n : ℕ). Kept deck turn.met.behind pass (made_in s.turns ++ made_by turn.met.reply turn.met.behind) n) (sym (faults_push s.turns turn)) told),
+        doubted_push deck turn.met.behind s.turns turn (doubted_later deck turn.met.before turn.met.behind goes_on s.turns doubts)
+            (told_doubted deck base turn.given turn.met.reply turn.met.before turn.met.behind s.pass pass (kept parts.0).0.number parts.1.says),
+      )
 
   issuer_keeps : (named : Result NamedIssuer Refusal) (s : DeckState) → (Course base s.turns → KeptAt deck s) → Course base (behind_issuer named s).turns → KeptAt deck (behind_issuer named s)
   issuer_keeps (Ok issuer) s kept course = kept course
@@ -141,4 +147,4 @@ module _ (base : Position) (issuing : Issuing) (deck : ℕ) where
       → Course base (after (deck_machine base issuing [] (new_pass deck) schedule) statements (new_deck issuing [] (new_pass deck) schedule)).turns
       → KeptAt deck (after (deck_machine base issuing [] (new_pass deck) schedule) statements (new_deck issuing [] (new_pass deck) schedule))
   kept_behind schedule statements course =
-      keeps_along schedule statements (new_deck issuing [] (new_pass deck) schedule) (λ none. begun deck) course
+      keeps_along schedule statements (new_deck issuing [] (new_pass deck) schedule) (λ none. (begun deck, tt)) course

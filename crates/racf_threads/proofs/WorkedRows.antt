@@ -1,6 +1,6 @@
 -- Worked rows of decks' entries, of what their commands made, and of statuses, computed on the definitions.
 use Rattle.std.proofs.Common.{◌≡◌, ℕ, true, List, [], ◌∷◌, refl}
-use Rattle.std.specs.Prelude.{None, codes}
+use Rattle.std.specs.Prelude.{Some, None, codes}
 use Rattle.command_parser.specs.declared.commands.Issuer.{Issuer}
 use Rattle.racf_desk.specs.declared.refusal.Refusal.{Refusal}
 use Rattle.racf_desk.specs.declared.answers.Reply.{Reply}
@@ -46,8 +46,8 @@ module _ (issuer : Issuer) (why : Refusal) where
   turns =
       turn (reply.Accepted 2) (Added (entry 0 (codes "DELUSER A")) ∷ Added (entry 1 (codes "DELUSER B")) ∷ [])
       ∷ turn (reply.Refused 2 why) (Added (entry 0 (codes "DELUSER A")) ∷ Added (entry 1 (codes "DELUSER B")) ∷ [])
-      ∷ turn (reply.DiskFault 2) (Added (entry 0 (codes "DELUSER A")) ∷ Added (entry 1 (codes "DELUSER B")) ∷ Ended true ∷ [])
-      ∷ turn (reply.Halted 2) (Added (entry 0 (codes "DELUSER A")) ∷ Added (entry 1 (codes "DELUSER B")) ∷ Ended true ∷ [])
+      ∷ turn (reply.DiskFault 2) (Added (entry 0 (codes "DELUSER A")) ∷ Added (entry 1 (codes "DELUSER B")) ∷ Ended (Some (entry 1 (codes "DELUSER E"))) ∷ [])
+      ∷ turn (reply.Halted 2) (Added (entry 0 (codes "DELUSER A")) ∷ Added (entry 1 (codes "DELUSER B")) ∷ Ended (Some (entry 1 (codes "DELUSER E"))) ∷ [])
       ∷ []
 
   made : made_in turns ≡ entry 1 (codes "DELUSER B") ∷ []

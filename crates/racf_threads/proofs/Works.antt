@@ -1,10 +1,10 @@
 -- What one worker did, put together of what its calls ensure.
 use Rattle.std.proofs.Common.{◌≡◌, ◌≢◌, ◌<◌, ◌≤◌, ℕ, true, List, Some, None, refl, sym, subst}
-use Rattle.std.specs.Prelude.{Option}
+use Rattle.std.specs.Prelude.{Option, is_some}
 use Rattle.racf_outside.specs.Causes.{Rose}
 use Rattle.racf_desk.specs.Position.{Position}
 use Rattle.command_history.specs.declared.events.Event.{Event}
-use Rattle.command_history.specs.Events.{mark_of}
+use Rattle.command_history.specs.Events.{failed_of}
 use Rattle.raclist_snapshots.specs.Publishing.{Seeing}
 use Rattle.racroute.specs.Core.{Passing}
 use Rattle.racf_stream.specs.declared.issuer.Issuing.{Issuing}
@@ -31,7 +31,7 @@ module _ {I K : Type 0} (left : I → Option (List ℕ)) (reads : I → ℕ) (ta
       → old.pass ≡ Some pass → old.files ≡ Some given → old.caller.events ≡ seen
       → new ≡ record { caller = caller; pass = rest; end = Some counted; files = Some back; status = status }
       → Gives base issuing seen caller.events pass counted (Rose (reads given.0) (reads back.0)) (Rose (writes given.1) (writes back.1)) status (left given.0) (left back.0) (taken given.1) (taken back.1)
-      → (status ≡ statuses.DiskFault → mark_of caller.events ≡ Some true) → (pass.faults < counted.faults → 20 ≤ code_of status)
+      → (status ≡ statuses.DiskFault → is_some (failed_of caller.events) ≡ true) → (pass.faults < counted.faults → 20 ≤ code_of status)
       → StopsFor status (left given.0) (reads given.0) (reads back.0) (writes given.1) (writes back.1) → HasWorked left reads taken writes base issuing old new
   gave old new pass counted rest given back seen caller status pass_is files_are seen_is new_is gives failed told stops =
       let done : Working I K = record { caller = caller; pass = rest; end = Some counted; files = Some back; status = status } in

@@ -1,12 +1,13 @@
 -- What the worker of a deck, and that of a request file, leaves in a run whose history is known whole.
-use Rattle.std.specs.Prelude.{◌≡◌, ◌≢◌, ◌≤◌, ◌<◌, ◌+◌, ℕ, nat_eq, true, List, [], ◌∷◌, ◌++◌, length, Option, Some, IfSome, if◌then◌else◌}
+use Rattle.std.specs.Prelude.{◌≡◌, ◌≢◌, ◌≤◌, ◌<◌, ◌+◌, ℕ, nat_eq, true, List, [], ◌∷◌, ◌++◌, length, Option, Some, IfSome, is_some, if◌then◌else◌}
 use Rattle.racf_outside.specs.Causes.{Rose}
 use Rattle.racf_desk.specs.Position.{Position}
 use Rattle.racf_desk.specs.declared.answers.Reply.{Reply}
 use Rattle.racf_desk.specs.declared.answers.Reply.TheVariants as reply
 use Rattle.command_history.specs.declared.events.Accepted.{Accepted}
 use Rattle.command_history.specs.declared.events.Event.{Event}
-use Rattle.command_history.specs.Events.{entries_of, mark_of, Extends}
+use Rattle.command_history.specs.declared.events.Event.TheVariants.{Ended}
+use Rattle.command_history.specs.Events.{entries_of, failed_of, Extends}
 use Rattle.racroute.specs.Core.{Passing}
 use Rattle.racf_stream.specs.declared.issuer.Issuing.{Issuing}
 use Rattle.racf_stream.specs.declared.status.Status.{Status}
@@ -47,6 +48,18 @@ abbrev pub faults_in : List Turn → ℕ
 faults_in [] = 0
 faults_in (turn ∷ turns) = fault_of turn.met.reply + faults_in turns
 
+-- A command that was told so, of a deck in a run whose history is `whole`. One that a disk failed is the one in doubt: the
+-- history ended there, with its entry, which is this deck's, and the whole names no other.
+abbrev pub IsDoubted : (deck : ℕ) → (whole : List Event) → Reply → (before behind : List Event) → Type 0
+IsDoubted deck whole (reply.DiskFault number) before behind =
+    (entry : Accepted) × (entry.deck ≡ deck) × (behind ≡ before ++ Ended (Some entry) ∷ []) × (failed_of whole ≡ Some entry)
+IsDoubted deck whole told before behind = Unit {0}
+
+abbrev pub AreDoubted : (deck : ℕ) → (whole : List Event) → List Turn → Type 0
+AreDoubted deck whole [] = Unit {0}
+AreDoubted deck whole (turn ∷ turns) =
+    IsDoubted deck whole turn.met.reply turn.met.before turn.met.behind × AreDoubted deck whole turns
+
 -- ---- one worker
 
 -- a pass that nothing was done with
@@ -59,10 +72,10 @@ abbrev pub state_of : {base : Position} → {issuing : Issuing} → {before afte
 state_of {base} {issuing} {before} {pass = pass} gives = after (deck_machine base issuing before pass gives.schedule) gives.ran.worked (new_deck issuing before pass gives.schedule)
 
 -- The worker of this deck, in a run whose history is `whole`: `read_failed` and `write_failed` say that its source, or
--- its sink, failed. Its output is what its commands were told, each behind
--- some list that extends what its caller had seen then, and what the caller saw is a beginning of the whole. The deck's
--- entries are exactly those of its accepted commands. So many of its lines say DISKFAULT, and one that says so, or
--- HALTED, stands only where a disk has failed a command; the status of one that says DISKFAULT tells it, or is greater.
+-- its sink, failed. Its output is what its commands were told, each behind some list that extends what its caller had
+-- seen then, and what the caller saw is a beginning of the whole. The deck's entries are exactly those of its accepted
+-- commands. So many of its lines say DISKFAULT, of commands that are in doubt, and one that says so, or HALTED, stands only
+-- where a disk has failed a command; the status of one that says DISKFAULT tells it, or is greater.
 pub record DeckRan (base : Position) (issuing : Issuing) (whole : List Event) (deck faults : ℕ) (read_failed write_failed : Type 0) (status : Status) (source left sunk now : Option (List ℕ)) : Type 0 where
   pub seen : List Event
   pub back : Passing
@@ -70,7 +83,8 @@ pub record DeckRan (base : Position) (issuing : Issuing) (whole : List Event) (d
   pub later : Extends seen whole
   pub own : entries_by deck (entries_of whole) ≡ made_in (state_of gives).turns
   pub counted : faults_in (state_of gives).turns ≡ faults
-  pub failed : (state_of gives).has_failed ≡ true → mark_of whole ≡ Some true
+  pub doubted : AreDoubted deck whole (state_of gives).turns
+  pub failed : (state_of gives).has_failed ≡ true → is_some (failed_of whole) ≡ true
   pub told : 0 < faults → 20 ≤ code_of status
 
 -- The worker of a request file in such a run. Its output is what its lines print, each answered at some front of the

@@ -1,5 +1,5 @@
 -- A run of decks and request files: one history, of which each output tells a part.
-use Rattle.std.specs.Prelude.{◌≡◌, ℕ, suc, ◌<◌, ◌≤◌, nat_lt, Bool, true, false, List, [], ◌∷◌, ◌++◌, length, map, Option, if◌then◌else◌}
+use Rattle.std.specs.Prelude.{◌≡◌, ℕ, suc, ◌<◌, ◌≤◌, nat_lt, true, List, [], ◌∷◌, ◌++◌, length, map, Option, None, is_some, if◌then◌else◌}
 use Rattle.std.specs.List.{All, sum_by}
 use Rattle.racf_outside.specs.Causes.{Rose}
 use Rattle.racf_desk.specs.Position.{Position}
@@ -64,26 +64,26 @@ module _ {I K : Type 0} (left : I → Option (List ℕ)) (reads : I → ℕ) (ta
   AreFiles whole [] = Unit {0}
   AreFiles whole (w ∷ workers) = IsFile whole w × AreFiles whole workers
 
-  -- A run whose history is these entries, and has ended so: each output is that of its worker, in one and the same
-  -- history, each entry of which is of one of these decks; all that was given is given back, in its order, decks before
-  -- request files; the status is the greatest of the workers'; and of all lines one says DISKFAULT where a disk failed a
-  -- command, else none, and then the status tells it, or is greater.
-  pub record RunsTogether (entries : List Accepted) (halted : Bool) (status : Status) (decks requests outs : List (I × K)) : Type 0 where
+  -- A run whose history is these entries, and then the mark that names the command in doubt, where a disk failed one: each
+  -- output is that of its worker, in one and the same history, each entry of which is of one of these decks; all that was
+  -- given is given back, in its order, decks before request files; the status is the greatest of the workers'; and of all
+  -- lines one says DISKFAULT where a command is in doubt, else none, and then the status tells it, or is greater.
+  pub record RunsTogether (entries : List Accepted) (doubt : Option Accepted) (status : Status) (decks requests outs : List (I × K)) : Type 0 where
     pub deck_workers : List (Worked I K)
     pub file_workers : List (Worked I K)
-    pub are_decks : AreDecks (all_of entries halted) 0 deck_workers
-    pub are_files : AreFiles (all_of entries halted) file_workers
+    pub are_decks : AreDecks (all_of entries doubt) 0 deck_workers
+    pub are_files : AreFiles (all_of entries doubt) file_workers
     pub of_decks : All (λ entry. entry.deck < length decks) entries
     pub decks_are : map (λ w. w.given) deck_workers ≡ decks
     pub requests_are : map (λ w. w.given) file_workers ≡ requests
     pub outs_are : map (λ w. w.back) (deck_workers ++ file_workers) ≡ outs
     pub status_is : status ≡ greatest (map (λ w. w.status) (deck_workers ++ file_workers))
-    pub one_fault : sum_by (λ w. w.faults) deck_workers ≡ fault_count halted
-    pub halted_status : halted ≡ true → 20 ≤ code_of status
+    pub one_fault : sum_by (λ w. w.faults) deck_workers ≡ fault_count doubt
+    pub halted_status : is_some doubt ≡ true → 20 ≤ code_of status
 
 -- There was no memory for the list of outputs: nothing was read, written or accepted, and no output is given back.
-pub record HasNoRoom {I K : Type 0} (entries : List Accepted) (halted : Bool) (status : Status) (outs : List (I × K)) : Type 0 where
+pub record HasNoRoom {I K : Type 0} (entries : List Accepted) (doubt : Option Accepted) (status : Status) (outs : List (I × K)) : Type 0 where
   pub is_status : status ≡ statuses.NoMemory
   pub no_outs : outs ≡ []
   pub no_entries : entries ≡ []
-  pub runs : halted ≡ false
+  pub runs : doubt ≡ None

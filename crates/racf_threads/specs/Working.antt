@@ -1,8 +1,8 @@
 -- The workers of a run, before they work and behind it.
-use Rattle.std.specs.Prelude.{◌≡◌, ◌≢◌, ◌<◌, ◌≤◌, ℕ, true, List, [], ◌∷◌, Option, Some, None}
+use Rattle.std.specs.Prelude.{◌≡◌, ◌≢◌, ◌<◌, ◌≤◌, ℕ, true, List, [], ◌∷◌, Option, Some, None, is_some}
 use Rattle.racf_outside.specs.Causes.{Rose}
 use Rattle.racf_desk.specs.Position.{Position}
-use Rattle.command_history.specs.Events.{mark_of}
+use Rattle.command_history.specs.Events.{failed_of}
 use Rattle.raclist_snapshots.specs.Publishing.{Seeing}
 use Rattle.racroute.specs.Core.{Passing}
 use Rattle.racf_stream.specs.declared.issuer.Issuing.{Issuing}
@@ -43,7 +43,7 @@ module _ {I K : Type 0} (left : I → Option (List ℕ)) (reads : I → ℕ) (ta
     pub counted : Passing
     pub files_are : new.files ≡ Some back
     pub end_is : new.end ≡ Some counted
-    pub failed : new.status ≡ statuses.DiskFault → mark_of new.caller.events ≡ Some true
+    pub failed : new.status ≡ statuses.DiskFault → is_some (failed_of new.caller.events) ≡ true
     pub told : pass.faults < counted.faults → 20 ≤ code_of new.status
     pub gives : Gives base issuing old.caller.events new.caller.events pass counted (Rose (reads given.0) (reads back.0)) (Rose (writes given.1) (writes back.1)) new.status (left given.0) (left back.0) (taken given.1) (taken back.1)
     pub stops : StopsFor new.status (left given.0) (reads given.0) (reads back.0) (writes given.1) (writes back.1)

@@ -1,6 +1,6 @@
 //! A run over one history, from its beginning to its end.
 
-ghost use Rattle.std.specs.Prelude.{◌≡◌, ◌≤◌, ◌<◌, ◌+◌, ℕ, IfOk, IfErr, [], true, false, take, drop, length, vec_len, vec_capacity};
+ghost use Rattle.std.specs.Prelude.{◌≡◌, ◌≤◌, ◌<◌, ◌+◌, ℕ, IfOk, IfErr, [], true, false, is_some, None, take, drop, length, vec_len, vec_capacity};
 ghost use Rattle.std.specs.Arc.{arc_value};
 ghost use Rattle.std.specs.List.{All, AllZip, sum_by};
 ghost use Rattle.racf_outside.specs.Causes.{Rose};
@@ -70,15 +70,15 @@ pub(crate) fn begun<
     requires commands { (blanks.0.name ≡ S.name) × (blanks.0.parts ≡ S.parts) × (S.parts ≡ decks + 1) }
     requires failed { (blanks.1.name ≡ F.name) × (blanks.1.parts ≡ F.parts) × (F.parts ≡ decks + 1) }
     requires out { (blanks.2.name ≡ P.name) × (blanks.2.parts ≡ P.parts) × (P.parts ≡ decks + 1) }
-    ensures together { IfOk result (λ ran. RunsTogether I.left I.faults K.taken K.faults J.base issuing ran.accepted.items ran.halted ran.status (take decks files.items) (drop decks files.items) ran.outs.items) }
+    ensures together { IfOk result (λ ran. RunsTogether I.left I.faults K.taken K.faults J.base issuing ran.accepted.items ran.doubt ran.status (take decks files.items) (drop decks files.items) ran.outs.items) }
     ensures legal { IfOk result (λ ran. AreLegal J.base ran.accepted.items) }
     ensures first { IfOk result (λ ran. ran.first ≡ number_at J.base) }
-    ensures disks { IfOk result (λ ran. StandAt ran.halted (D.tells ran.disks.first) (D.tells ran.disks.second) (reached J.base (all_of ran.accepted.items ran.halted))) }
-    ensures moments { IfOk result (λ ran. StaysAlong J.base (all_of ran.accepted.items ran.halted) J.idle_disk J.live_disk (D.tells (pick J.idle_disk.side ran.disks.first ran.disks.second))) }
+    ensures disks { IfOk result (λ ran. StandAt ran.doubt (D.tells ran.disks.first) (D.tells ran.disks.second) (reached J.base (all_of ran.accepted.items ran.doubt))) }
+    ensures moments { IfOk result (λ ran. StaysAlong J.base (all_of ran.accepted.items ran.doubt) J.idle_disk J.live_disk (D.tells (pick J.idle_disk.side ran.disks.first ran.disks.second))) }
     ensures idle { IfOk result (λ ran. D.tells (pick J.idle_disk.side ran.disks.second ran.disks.first) ≡ J.idle_disk.told) }
     ensures idle_faults { IfOk result (λ ran. D.faults (pick J.idle_disk.side ran.disks.second ran.disks.first) ≡ J.idle_faults) }
-    ensures rose { IfOk result (λ ran. ran.halted ≡ true → Rose J.faults (D.faults (pick J.idle_disk.side ran.disks.first ran.disks.second))) }
-    ensures disk_fault { IfOk result (λ ran. ran.status ≡ Status.DiskFault → ran.halted ≡ true) }
+    ensures rose { IfOk result (λ ran. is_some ran.doubt ≡ true → Rose J.faults (D.faults (pick J.idle_disk.side ran.disks.first ran.disks.second))) }
+    ensures disk_fault { IfOk result (λ ran. ran.status ≡ Status.DiskFault → is_some ran.doubt ≡ true) }
     ensures no_fewer { IfOk result (λ ran. J.faults ≤ D.faults (pick J.idle_disk.side ran.disks.first ran.disks.second)) }
     ensures desk { IfErr result (λ back. back.0 ≡ desk) }
     ensures files { IfErr result (λ back. back.1 ≡ files) }
@@ -112,15 +112,15 @@ pub(crate) fn unbegun<I: Source, K: Sink, D: Disk>(
 ) -> Ran<I, K, D>
     requires running { desk.halted ≡ false }
     requires settled { desk.committed ≡ false }
-    ensures together { (decks : ℕ) (issuing : Issuing) → 0 < vec_len outs → RunsTogether I.left I.faults K.taken K.faults desk.position issuing result.accepted.items result.halted result.status (take decks outs.items) (drop decks outs.items) result.outs.items }
+    ensures together { (decks : ℕ) (issuing : Issuing) → 0 < vec_len outs → RunsTogether I.left I.faults K.taken K.faults desk.position issuing result.accepted.items result.doubt result.status (take decks outs.items) (drop decks outs.items) result.outs.items }
     ensures outs { result.outs.items ≡ outs.items }
     ensures status { result.status ≡ Status.NoMemory }
     ensures none { result.accepted.items ≡ [] }
-    ensures runs_on { result.halted ≡ false }
+    ensures runs_on { result.doubt ≡ None }
     ensures legal { AreLegal desk.position result.accepted.items }
     ensures first { result.first ≡ number_at desk.position }
-    ensures disks { StandAt result.halted (D.tells result.disks.first) (D.tells result.disks.second) (reached desk.position (all_of result.accepted.items result.halted)) }
-    ensures moments { StaysAlong desk.position (all_of result.accepted.items result.halted) (idle_of D.tells desk.store) (D.tells desk.store.journal.disk) (D.tells (pick desk.store.side result.disks.first result.disks.second)) }
+    ensures disks { StandAt result.doubt (D.tells result.disks.first) (D.tells result.disks.second) (reached desk.position (all_of result.accepted.items result.doubt)) }
+    ensures moments { StaysAlong desk.position (all_of result.accepted.items result.doubt) (idle_of D.tells desk.store) (D.tells desk.store.journal.disk) (D.tells (pick desk.store.side result.disks.first result.disks.second)) }
     ensures idle { D.tells (pick desk.store.side result.disks.second result.disks.first) ≡ D.tells desk.store.idle }
     ensures faults { D.faults (pick desk.store.side result.disks.first result.disks.second) ≡ D.faults desk.store.journal.disk }
     ensures idle_faults { D.faults (pick desk.store.side result.disks.second result.disks.first) ≡ D.faults desk.store.idle }
@@ -135,7 +135,7 @@ pub(crate) fn unbegun<I: Source, K: Sink, D: Disk>(
         disks,
         first,
         accepted,
-        halted: false,
+        doubt: None,
     }
 }
 
@@ -175,15 +175,15 @@ fn ran<
     requires left { (room.left.callers.items ≡ []) × (vec_len files ≤ vec_capacity room.left.callers) }
     requires ends { (room.left.ends.items ≡ []) × (vec_len files ≤ vec_capacity room.left.ends) }
     requires outs { (room.left.outs.items ≡ []) × (vec_len files ≤ vec_capacity room.left.outs) }
-    ensures together { RunsTogether I.left I.faults K.taken K.faults J.base issuing result.accepted.items result.halted result.status (take decks files.items) (drop decks files.items) result.outs.items }
+    ensures together { RunsTogether I.left I.faults K.taken K.faults J.base issuing result.accepted.items result.doubt result.status (take decks files.items) (drop decks files.items) result.outs.items }
     ensures legal { AreLegal J.base result.accepted.items }
     ensures first { result.first ≡ number_at J.base }
-    ensures disks { StandAt result.halted (D.tells result.disks.first) (D.tells result.disks.second) (reached J.base (all_of result.accepted.items result.halted)) }
-    ensures moments { StaysAlong J.base (all_of result.accepted.items result.halted) J.idle_disk J.live_disk (D.tells (pick J.idle_disk.side result.disks.first result.disks.second)) }
+    ensures disks { StandAt result.doubt (D.tells result.disks.first) (D.tells result.disks.second) (reached J.base (all_of result.accepted.items result.doubt)) }
+    ensures moments { StaysAlong J.base (all_of result.accepted.items result.doubt) J.idle_disk J.live_disk (D.tells (pick J.idle_disk.side result.disks.first result.disks.second)) }
     ensures idle { D.tells (pick J.idle_disk.side result.disks.second result.disks.first) ≡ J.idle_disk.told }
     ensures idle_faults { D.faults (pick J.idle_disk.side result.disks.second result.disks.first) ≡ J.idle_faults }
-    ensures rose { result.halted ≡ true → Rose J.faults (D.faults (pick J.idle_disk.side result.disks.first result.disks.second)) }
-    ensures disk_fault { result.status ≡ Status.DiskFault → result.halted ≡ true }
+    ensures rose { is_some result.doubt ≡ true → Rose J.faults (D.faults (pick J.idle_disk.side result.disks.first result.disks.second)) }
+    ensures disk_fault { result.status ≡ Status.DiskFault → is_some result.doubt ≡ true }
     ensures no_fewer { J.faults ≤ D.faults (pick J.idle_disk.side result.disks.first result.disks.second) }
 {
     let Room { workers, left } = room;
@@ -199,7 +199,7 @@ fn ran<
         disks,
         first,
         accepted,
-        halted,
+        doubt,
     } = closed(racf, callers, ends);
     Ran {
         status,
@@ -207,7 +207,7 @@ fn ran<
         disks,
         first,
         accepted,
-        halted,
+        doubt,
     }
 }
 
@@ -296,17 +296,17 @@ fn closed<
     ends: Vec<DeckEnd<S, F>>,
 ) -> Closed<D>
     requires { vec_len ends + 1 ≡ S.parts }
-    ensures callers { All (λ caller. Extends caller.events (all_of result.accepted.items result.halted)) callers.items }
+    ensures callers { All (λ caller. Extends caller.events (all_of result.accepted.items result.doubt)) callers.items }
     ensures legal { AreLegal J.base result.accepted.items }
     ensures commands { sum_by (λ e. e.commands) ends.items ≡ length result.accepted.items }
-    ensures faults { sum_by (λ e. e.faults) ends.items ≡ fault_count result.halted }
+    ensures faults { sum_by (λ e. e.faults) ends.items ≡ fault_count result.doubt }
     ensures first { result.first ≡ number_at J.base }
-    ensures disks { StandAt result.halted (D.tells result.disks.first) (D.tells result.disks.second) (reached J.base (all_of result.accepted.items result.halted)) }
-    ensures moments { StaysAlong J.base (all_of result.accepted.items result.halted) J.idle_disk J.live_disk (D.tells (pick J.idle_disk.side result.disks.first result.disks.second)) }
+    ensures disks { StandAt result.doubt (D.tells result.disks.first) (D.tells result.disks.second) (reached J.base (all_of result.accepted.items result.doubt)) }
+    ensures moments { StaysAlong J.base (all_of result.accepted.items result.doubt) J.idle_disk J.live_disk (D.tells (pick J.idle_disk.side result.disks.first result.disks.second)) }
     ensures idle { D.tells (pick J.idle_disk.side result.disks.second result.disks.first) ≡ J.idle_disk.told }
     ensures idle_faults { D.faults (pick J.idle_disk.side result.disks.second result.disks.first) ≡ J.idle_faults }
     ensures no_fewer { J.faults ≤ D.faults (pick J.idle_disk.side result.disks.first result.disks.second) }
-    ensures rose { result.halted ≡ true → Rose J.faults (D.faults (pick J.idle_disk.side result.disks.first result.disks.second)) }
+    ensures rose { is_some result.doubt ≡ true → Rose J.faults (D.faults (pick J.idle_disk.side result.disks.first result.disks.second)) }
 {
     match racf.close(callers, ends) {
         Ok(closed) => closed,

@@ -1,6 +1,6 @@
 //! A run, from its desk to its disks.
 
-ghost use Rattle.std.specs.Prelude.{◌≡◌, ◌≤◌, ◌<◌, ◌+◌, ◌⊎◌, true, false, vec_len, take, drop};
+ghost use Rattle.std.specs.Prelude.{◌≡◌, ◌≤◌, ◌<◌, ◌+◌, ◌⊎◌, true, false, is_some, vec_len, take, drop};
 ghost use Rattle.racf_outside.specs.Causes.{Rose};
 ghost use Rattle.racf_checkpoint.specs.Stored.{pick};
 ghost use Rattle.racf_desk.specs.Durable.{idle_of};
@@ -34,8 +34,8 @@ pub struct Ran<I, K, D> {
     pub first: u64,
     /// Those that were accepted in it, in their order.
     pub accepted: Vec<Accepted>,
-    /// Whether a disk failed a command.
-    pub halted: bool,
+    /// The entry of the command that a disk failed, where one did.
+    pub doubt: Option<Accepted>,
 }
 
 /// Works decks and request files, each in a thread of its own where one can be made: at most 4 decks and 16 request
@@ -65,18 +65,18 @@ pub fn run<
     requires some { 0 < vec_len decks + vec_len requests }
 
     // One history, of which each output tells a part.
-    ensures together { RunsTogether I.left I.faults K.taken K.faults desk.position issuing result.accepted.items result.halted result.status decks.items requests.items result.outs.items
-        ⊎ HasNoRoom result.accepted.items result.halted result.status result.outs.items }
+    ensures together { RunsTogether I.left I.faults K.taken K.faults desk.position issuing result.accepted.items result.doubt result.status decks.items requests.items result.outs.items
+        ⊎ HasNoRoom result.accepted.items result.doubt result.status result.outs.items }
     ensures legal { AreLegal desk.position result.accepted.items }
     ensures first { result.first ≡ number_at desk.position }
 
     // What every crash leaves of the disks: at every moment of it, and behind it.
-    ensures moments { StaysAlong desk.position (all_of result.accepted.items result.halted) (idle_of D.tells desk.store) (D.tells desk.store.journal.disk) (D.tells (pick desk.store.side result.disks.first result.disks.second)) }
-    ensures disks { StandAt result.halted (D.tells result.disks.first) (D.tells result.disks.second) (reached desk.position (all_of result.accepted.items result.halted)) }
+    ensures moments { StaysAlong desk.position (all_of result.accepted.items result.doubt) (idle_of D.tells desk.store) (D.tells desk.store.journal.disk) (D.tells (pick desk.store.side result.disks.first result.disks.second)) }
+    ensures disks { StandAt result.doubt (D.tells result.disks.first) (D.tells result.disks.second) (reached desk.position (all_of result.accepted.items result.doubt)) }
     ensures idle { D.tells (pick desk.store.side result.disks.second result.disks.first) ≡ D.tells desk.store.idle }
     ensures idle_faults { D.faults (pick desk.store.side result.disks.second result.disks.first) ≡ D.faults desk.store.idle }
-    ensures rose { result.halted ≡ true → Rose (D.faults desk.store.journal.disk) (D.faults (pick desk.store.side result.disks.first result.disks.second)) }
-    ensures disk_fault { result.status ≡ Status.DiskFault → result.halted ≡ true }
+    ensures rose { is_some result.doubt ≡ true → Rose (D.faults desk.store.journal.disk) (D.faults (pick desk.store.side result.disks.first result.disks.second)) }
+    ensures disk_fault { result.status ≡ Status.DiskFault → is_some result.doubt ≡ true }
     ensures no_fewer { D.faults desk.store.journal.disk ≤ D.faults (pick desk.store.side result.disks.first result.disks.second) }
 {
     let count = decks.len() as u32;
@@ -113,17 +113,17 @@ pub fn run_files<
     requires some { 0 < vec_len files }
 
     // One history, of which each output tells a part.
-    ensures together { RunsTogether I.left I.faults K.taken K.faults desk.position issuing result.accepted.items result.halted result.status (take decks files.items) (drop decks files.items) result.outs.items }
+    ensures together { RunsTogether I.left I.faults K.taken K.faults desk.position issuing result.accepted.items result.doubt result.status (take decks files.items) (drop decks files.items) result.outs.items }
     ensures legal { AreLegal desk.position result.accepted.items }
     ensures first { result.first ≡ number_at desk.position }
 
     // What every crash leaves of the disks: at every moment of it, and behind it.
-    ensures moments { StaysAlong desk.position (all_of result.accepted.items result.halted) (idle_of D.tells desk.store) (D.tells desk.store.journal.disk) (D.tells (pick desk.store.side result.disks.first result.disks.second)) }
-    ensures disks { StandAt result.halted (D.tells result.disks.first) (D.tells result.disks.second) (reached desk.position (all_of result.accepted.items result.halted)) }
+    ensures moments { StaysAlong desk.position (all_of result.accepted.items result.doubt) (idle_of D.tells desk.store) (D.tells desk.store.journal.disk) (D.tells (pick desk.store.side result.disks.first result.disks.second)) }
+    ensures disks { StandAt result.doubt (D.tells result.disks.first) (D.tells result.disks.second) (reached desk.position (all_of result.accepted.items result.doubt)) }
     ensures idle { D.tells (pick desk.store.side result.disks.second result.disks.first) ≡ D.tells desk.store.idle }
     ensures idle_faults { D.faults (pick desk.store.side result.disks.second result.disks.first) ≡ D.faults desk.store.idle }
-    ensures rose { result.halted ≡ true → Rose (D.faults desk.store.journal.disk) (D.faults (pick desk.store.side result.disks.first result.disks.second)) }
-    ensures disk_fault { result.status ≡ Status.DiskFault → result.halted ≡ true }
+    ensures rose { is_some result.doubt ≡ true → Rose (D.faults desk.store.journal.disk) (D.faults (pick desk.store.side result.disks.first result.disks.second)) }
+    ensures disk_fault { result.status ≡ Status.DiskFault → is_some result.doubt ≡ true }
     ensures no_fewer { D.faults desk.store.journal.disk ≤ D.faults (pick desk.store.side result.disks.first result.disks.second) }
 {
     let image = match Arc::try_clone(desk.image()) {

@@ -1,8 +1,8 @@
 //! What one thread of a run has, and does.
 
-ghost use Rattle.std.specs.Prelude.{◌≡◌, ◌<◌, ◌≤◌, true, Some};
+ghost use Rattle.std.specs.Prelude.{◌≡◌, ◌<◌, ◌≤◌, true, is_some, Some};
 ghost use Rattle.racf_outside.specs.Causes.{Rose};
-ghost use Rattle.command_history.specs.Events.{mark_of};
+ghost use Rattle.command_history.specs.Events.{failed_of};
 ghost use Rattle.racf_stream.specs.Status.{code_of};
 ghost use Rattle.racf_workers.specs.Deck.{Gives};
 ghost use Rattle.racf_threads.specs.Outputs.{StopsFor};
@@ -140,7 +140,7 @@ fn give<
 ) -> (Status, I, DeckEnd<S, F>)
     ensures gives { Gives J.base issuing caller.old.events caller.new.events pass result.2
         (Rose (I.faults source) (I.faults result.1)) (Rose (K.faults sink.old) (K.faults sink.new)) result.0 (I.left source) (I.left result.1) (K.taken sink.old) (K.taken sink.new) }
-    ensures failed { result.0 ≡ Status.DiskFault → mark_of caller.new.events ≡ Some true }
+    ensures failed { result.0 ≡ Status.DiskFault → is_some (failed_of caller.new.events) ≡ true }
     ensures told { pass.faults < result.2.faults → 20 ≤ code_of result.0 }
     ensures stops { StopsFor result.0 (I.left source) (I.faults source) (I.faults result.1) (K.faults sink.old) (K.faults sink.new) }
 {

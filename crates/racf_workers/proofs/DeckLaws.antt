@@ -1,12 +1,14 @@
 -- What a command that was given leaves.
 use Rattle.std.proofs.Common.{◌≡◌, ◌≢◌, ℕ, Bool, true, false, List, [], ◌∷◌, ◌++◌, refl, ◌∙◌, ap, subst}
-use Rattle.std.specs.Prelude.{◌||◌, Some}
+use Rattle.std.specs.Prelude.{◌||◌, Option, Some, is_some}
 use Rattle.racf_desk.specs.Position.{Position}
 use Rattle.racf_desk.specs.declared.answers.Reply.{Reply}
 use Rattle.racf_desk.specs.declared.answers.Reply.TheVariants as reply
+use Rattle.command_history.specs.declared.events.Accepted.{Accepted}
 use Rattle.command_history.specs.declared.events.Event.{Event}
 use Rattle.command_history.specs.declared.events.Event.TheVariants.{Added, Ended}
-use Rattle.command_history.specs.Events.{Extends, is_ended, mark_of}
+use Rattle.command_history.specs.Events.{Extends, is_ended, failed_of}
+use Rattle.command_history.proofs.Marks.{failed_push}
 use Rattle.racroute.specs.Core.{Passing}
 use Rattle.racroute.specs.Replies.{Given, given_by, Says}
 use Rattle.racf_workers.specs.Deck.{Met, counted, is_refusal, is_failure, told_line}
@@ -54,24 +56,19 @@ told_state told old refused failed r f =
     new_with x y = record { issuing = old.issuing; issuer = old.issuer; has_refused = x; has_failed = y }
 
 -- ---- disks that failed
-marked_last : (events : List Event) → is_ended events ≡ false → mark_of (events ++ Ended true ∷ []) ≡ Some true
-marked_last [] h = refl
-marked_last (Added entry ∷ events) h = marked_last events h
-marked_last (Ended halted ∷ events) h = absurd (cc)
-
 -- where a disk failed a command, the history has ended so
-pub failure_ends : (base : Position) (given : Given) (told : Reply) (before behind : List Event) (pass back : Passing) → Says base given told before behind pass back → is_failure told ≡ true → mark_of behind ≡ Some true
+pub failure_ends : (base : Position) (given : Given) (told : Reply) (before behind : List Event) (pass back : Passing) → Says base given told before behind pass back → is_failure told ≡ true → is_some (failed_of behind) ≡ true
 failure_ends base given (reply.Accepted number) before behind pass back s h = absurd (cc)
 failure_ends base given (reply.Refused number why) before behind pass back s h = absurd (cc)
-failure_ends base given (reply.Halted number) before behind pass back s h = ap mark_of s.same ∙ s.ended
-failure_ends base given (reply.DiskFault number) before behind pass back s h = ap mark_of s.ended ∙ marked_last before s.goes_on
+failure_ends base given (reply.Halted number) before behind pass back s h = ap (λ (e : List Event). is_some (failed_of e)) s.same ∙ s.ended
+failure_ends base given (reply.DiskFault number) before behind pass back s h = ap (λ (e : List Event). is_some (failed_of e)) s.ended ∙ ap (λ (o : Option Accepted). is_some o) (failed_push before (Some s.entry) s.goes_on)
 failure_ends base given reply.NoMemory before behind pass back s h = absurd (cc)
 
-pub marked_ends : (events : List Event) → mark_of events ≡ Some true → is_ended events ≡ true
+pub marked_ends : (events : List Event) → is_some (failed_of events) ≡ true → is_ended events ≡ true
 marked_ends [] h = absurd (cc)
 marked_ends (Added entry ∷ events) h = marked_ends events h
-marked_ends (Ended halted ∷ events) h = refl
+marked_ends (Ended doubt ∷ events) h = refl
 
 -- and stays so
-pub stays_marked : (earlier later : List Event) → Extends earlier later → mark_of earlier ≡ Some true → mark_of later ≡ Some true
-stays_marked earlier later more h = ap mark_of (more.whole (marked_ends earlier h)) ∙ h
+pub stays_marked : (earlier later : List Event) → Extends earlier later → is_some (failed_of earlier) ≡ true → is_some (failed_of later) ≡ true
+stays_marked earlier later more h = ap (λ (e : List Event). is_some (failed_of e)) (more.whole (marked_ends earlier h)) ∙ h

@@ -1,11 +1,12 @@
 -- Worked rows of decks, computed on the definitions.
 use Rattle.std.proofs.Common.{◌≡◌, ℕ, Bool, true, false, List, [], ◌∷◌, refl}
-use Rattle.std.specs.Prelude.{codes}
+use Rattle.std.specs.Prelude.{Some, codes}
 use Rattle.std.specs.Fmt.{digits}
 use Rattle.command_words.specs.LineWords.{words_at}
 use Rattle.racf_desk.specs.Position.{first_position}
 use Rattle.racf_desk.specs.declared.answers.Reply.{Reply}
 use Rattle.racf_desk.specs.declared.answers.Reply.TheVariants as reply
+use Rattle.command_history.specs.declared.events.Accepted.{Accepted}
 use Rattle.command_history.specs.declared.events.Event.{Event}
 use Rattle.command_history.specs.declared.events.Event.TheVariants.{Ended}
 use Rattle.command_history.specs.Reached.{reached}
@@ -58,10 +59,10 @@ accepted : Prints (met (reply.Accepted 7) [] [] ∷ []) (codes "/* x\nVERIFY A-\
 unfolding statements_of request_of step text_at reply_line digits
 accepted = record { prints = refl; passes = refl; refuses = refl; fails = refl }
 
--- a disk fails a command, and the one behind it is told so
-abbrev failing : List Met
-failing = met (reply.DiskFault 0) [] (Ended true ∷ []) ∷ met (reply.Halted 0) (Ended true ∷ []) (Ended true ∷ []) ∷ []
+-- a disk fails a command, whose entry the history ends with, and the one behind it is told so
+abbrev failing : Accepted → List Met
+failing entry = met (reply.DiskFault 0) [] (Ended (Some entry) ∷ []) ∷ met (reply.Halted 0) (Ended (Some entry) ∷ []) (Ended (Some entry) ∷ []) ∷ []
 
-failed : Prints failing (codes "AU A\n\nAU B") (codes "0 DISKFAULT\n0 HALTED\n") (passing 0 1) false true
+failed : (entry : Accepted) → Prints (failing entry) (codes "AU A\n\nAU B") (codes "0 DISKFAULT\n0 HALTED\n") (passing 0 1) false true
 unfolding statements_of request_of step text_at reply_line digits
-failed = record { prints = refl; passes = refl; refuses = refl; fails = refl }
+failed entry = record { prints = refl; passes = refl; refuses = refl; fails = refl }

@@ -1,6 +1,6 @@
 -- A deck so far: what its commands met, and what a stop leaves.
 use Rattle.std.proofs.Common.{◌≡◌, ◌≢◌, ℕ, ◌+◌, ◌≤◌, ◌<◌, ◌^◌, Bool, true, false, List, [], ◌∷◌, ◌++◌, length, None, Some, Ok, Err, inl, inr, refl, sym, ◌∙◌, ap, subst, arith, append_assoc, append-nil}
-use Rattle.std.specs.Prelude.{Option, Result, IfSome, ◌||◌, ◌⊎◌}
+use Rattle.std.specs.Prelude.{Option, Result, IfSome, is_some, ◌||◌, ◌⊎◌}
 use Rattle.std.proofs.lemmas.Bool.{or_right}
 use Rattle.std.proofs.Math.Bool.{or-false, or_assoc}
 use Rattle.std.specs.Io.KnownBytes.{append_known}
@@ -11,7 +11,7 @@ use Rattle.racf_desk.specs.Position.{Position}
 use Rattle.racf_desk.specs.declared.answers.Reply.{Reply}
 use Rattle.racf_desk.specs.declared.answers.Reply.TheVariants as reply
 use Rattle.command_history.specs.declared.events.Event.{Event}
-use Rattle.command_history.specs.Events.{Extends, mark_of}
+use Rattle.command_history.specs.Events.{Extends, failed_of}
 use Rattle.racroute.specs.Core.{Passing}
 use Rattle.request_files.specs.declared.issuer_line.NamedIssuer.{NamedIssuer}
 use Rattle.racf_stream.specs.IssuerLines.{issuer_named}
@@ -51,7 +51,7 @@ pub record DeckWalk (base : Position) (issuing : Issuing) (before seen : List Ev
   pub walk : (more : List Met) → Walk (deck_machine base issuing before first (schedule ++ more)) source reader slack (state_at state pass seen turns more) sunk now gathered
   pub course : Course base turns
   pub fails : state.has_failed ≡ any_failure turns
-  pub failed : state.has_failed ≡ true → mark_of seen ≡ Some true
+  pub failed : state.has_failed ≡ true → is_some (failed_of seen) ≡ true
 
 pub begun : (base : Position) (issuing : Issuing) (seen : List Event) (pass : Passing) (reader : Reader) (state : Giving) (sunk : Option (List ℕ)) (gathered : List ℕ) → reader ≡ at_start reader.left reader.faults → state ≡ new_giving issuing → gathered ≡ []
     → DeckWalk base issuing seen seen pass pass reader.left reader 0 state sunk sunk gathered
@@ -104,14 +104,14 @@ module _ (base : Position) (issuing : Issuing) (before seen : List Event) (first
   any_more (t ∷ turns) turn =
       ap (λ (b : Bool). is_failure t.met.reply || b) (any_more turns turn) ∙ sym (or_assoc (is_failure t.met.reply) (any_failure turns) (is_failure turn.met.reply))
 
-  failed_now : (s t : Giving) (turn : Turn) (front : List Event) → (s.has_failed ≡ true → mark_of seen ≡ Some true) → Extends seen front → IsRight base turn → front ≡ turn.met.behind → t ≡ told_of turn.met.reply s
-      → t.has_failed ≡ true → mark_of front ≡ Some true
+  failed_now : (s t : Giving) (turn : Turn) (front : List Event) → (s.has_failed ≡ true → is_some (failed_of seen) ≡ true) → Extends seen front → IsRight base turn → front ≡ turn.met.behind → t ≡ told_of turn.met.reply s
+      → t.has_failed ≡ true → is_some (failed_of front) ≡ true
   failed_now s t turn front failed later right front_is state h =
       by s.has_failed (is_failure turn.met.reply) failed
-      (λ e. ap mark_of front_is ∙ failure_ends base turn.given turn.met.reply turn.met.before turn.met.behind turn.pass (counted turn.met.reply turn.pass) right.says e)
+      (λ e. ap (λ (e : List Event). is_some (failed_of e)) front_is ∙ failure_ends base turn.given turn.met.reply turn.met.before turn.met.behind turn.pass (counted turn.met.reply turn.pass) right.says e)
       (sym (ap (λ (x : Giving). x.has_failed) state) ∙ h)
     where
-      by : (was is : Bool) → (was ≡ true → mark_of seen ≡ Some true) → (is ≡ true → mark_of front ≡ Some true) → (was || is) ≡ true → mark_of front ≡ Some true
+      by : (was is : Bool) → (was ≡ true → is_some (failed_of seen) ≡ true) → (is ≡ true → is_some (failed_of front) ≡ true) → (was || is) ≡ true → is_some (failed_of front) ≡ true
       by true is old new k = stays_marked seen front later (old refl)
       by false is old new k = new k
 
@@ -318,7 +318,7 @@ halted_status base issuing seen last pass back R W status source left sunk now g
     by (inr failed) counts = failed
 
 -- ---- the stops
-exact_by : (status : Status) (seen last : List Event) (failed : Bool) → (failed ≡ true → mark_of seen ≡ Some true) → Extends seen last → status ≢ WriteFault → status ≡ unless_failed failed WriteFault → seen ≡ last
+exact_by : (status : Status) (seen last : List Event) (failed : Bool) → (failed ≡ true → is_some (failed_of seen) ≡ true) → Extends seen last → status ≢ WriteFault → status ≡ unless_failed failed WriteFault → seen ≡ last
 exact_by status seen last false marked later not_write is = absurd (not_write is)
 exact_by status seen last true marked later not_write is = sym (later.whole (marked_ends seen (marked refl)))
 

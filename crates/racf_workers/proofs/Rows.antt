@@ -1,6 +1,6 @@
 -- Worked rows, computed on the definitions.
 use Rattle.std.proofs.Common.{◌≡◌, ℕ, Bool, true, false, List, [], ◌∷◌, inr, refl}
-use Rattle.std.specs.Prelude.{codes}
+use Rattle.std.specs.Prelude.{None, codes}
 use Rattle.std.specs.Fmt.{digits}
 use Rattle.command_words.specs.LineWords.{words_at}
 use Rattle.racf_desk.specs.Position.{first_position}
@@ -44,11 +44,11 @@ reached_number : Prints ([] ∷ []) (codes "*AFTER 0\n") [] false
 unfolding request_lines step text_at outcome_at reached requested read words_at next number_after digits
 reached_number = record { prints = refl; ends = refl }
 
-never_reached : Prints ((Ended false ∷ []) ∷ []) (codes "*AFTER 1\n") (codes "NEVER 0\n") true
+never_reached : Prints ((Ended None ∷ []) ∷ []) (codes "*AFTER 1\n") (codes "NEVER 0\n") true
 unfolding request_lines step text_at outcome_at reached requested read words_at next number_after digits
 never_reached = record { prints = refl; ends = refl }
 
 -- that wait was right
-awaited : Course first_position (behind_all [] ((Ended false ∷ []) ∷ []) (codes "*AFTER 1\n")).turns
+awaited : Course first_position (behind_all [] ((Ended None ∷ []) ∷ []) (codes "*AFTER 1\n")).turns
 unfolding request_lines step outcome_at reached requested read words_at next number_after
-awaited = (record { later = record { prefix = (Ended false ∷ [], refl); whole = λ ended. cc }; moved = inr refl }, tt)
+awaited = (record { later = record { prefix = (Ended None ∷ [], refl); whole = λ ended. cc }; moved = inr refl }, tt)

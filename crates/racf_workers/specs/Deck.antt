@@ -1,10 +1,10 @@
 -- What a deck prints: each command is given behind some list of the history, and what had been seen only grows.
-use Rattle.std.specs.Prelude.{◌≡◌, ◌≢◌, ◌+◌, ℕ, Bool, true, false, ◌||◌, List, [], ◌∷◌, ◌++◌, Option, Some, Result, Ok, Err}
+use Rattle.std.specs.Prelude.{◌≡◌, ◌≢◌, ◌+◌, ℕ, Bool, true, false, ◌||◌, List, [], ◌∷◌, ◌++◌, Option, is_some, Result, Ok, Err}
 use Rattle.racf_desk.specs.Position.{Position}
 use Rattle.racf_desk.specs.declared.answers.Reply.{Reply}
 use Rattle.racf_desk.specs.declared.answers.Reply.TheVariants as reply
 use Rattle.command_history.specs.declared.events.Event.{Event}
-use Rattle.command_history.specs.Events.{Extends, mark_of}
+use Rattle.command_history.specs.Events.{Extends, failed_of}
 use Rattle.racroute.specs.Core.{Passing, number_behind}
 use Rattle.racroute.specs.Replies.{Given, given_by, Says}
 use Rattle.request_files.specs.declared.issuer_line.NamedIssuer.{NamedIssuer}
@@ -192,7 +192,7 @@ pub record Stands (base : Position) (status : Status) (now : List Event) (pass :
   pub course : Course base s.turns
   pub counts : s.pass ≡ pass
   pub fails : s.has_failed ≡ any_failure s.turns
-  pub failed : s.has_failed ≡ true → mark_of s.seen ≡ Some true
+  pub failed : s.has_failed ≡ true → is_some (failed_of s.seen) ≡ true
   pub later : Extends s.seen now
   pub exact : status ≢ NoMemory → status ≢ WriteFault → s.seen ≡ now
 

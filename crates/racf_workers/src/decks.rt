@@ -1,9 +1,9 @@
 //! A deck, from its first line to its last.
 
-ghost use Rattle.std.specs.Prelude.{ℕ, ◌≡◌, ◌≢◌, ◌≤◌, ◌<◌, true, Some, IfOk, IfSome, OnOk, OnErr, false, length};
+ghost use Rattle.std.specs.Prelude.{ℕ, ◌≡◌, ◌≢◌, ◌≤◌, ◌<◌, true, is_some, IfOk, IfSome, OnOk, OnErr, false, length};
 ghost use Rattle.racf_outside.specs.Causes.{HasCause, Rose};
 ghost use Rattle.racf_outside.specs.Reader.{at_start};
-ghost use Rattle.command_history.specs.Events.{Extends, mark_of};
+ghost use Rattle.command_history.specs.Events.{Extends, failed_of};
 ghost use Rattle.racf_stream.specs.Gathering.{Acknowledges, IsCutShort};
 ghost use Rattle.racf_stream.specs.Processing.{Ends};
 ghost use Rattle.racf_stream.specs.Runs.{longest_input};
@@ -69,7 +69,7 @@ pub fn give_commands<
     ensures undamaged { (place : ℕ) → result.0 ≢ Status.Damaged place }
     ensures read_fault { result.0 ≡ Status.ReadFault → Rose (I.faults source) (I.faults result.1) }
     ensures write_fault { result.0 ≡ Status.WriteFault → Rose (K.faults sink.old) (K.faults sink.new) }
-    ensures disk_fault { result.0 ≡ Status.DiskFault → mark_of caller.new.events ≡ Some true }
+    ensures disk_fault { result.0 ≡ Status.DiskFault → is_some (failed_of caller.new.events) ≡ true }
     ensures halted_status { pass.old.faults < pass.new.faults → 20 ≤ code_of result.0 }
     ensures too_long { result.0 ≡ Status.InputTooLong → IfSome (I.left source) (λ bytes. longest_input < length bytes) }
 
@@ -119,7 +119,7 @@ fn run<
     ensures later { Extends caller.old.events caller.new.events }
     ensures read_fault { result ≡ Status.ReadFault → Rose lines.old.faults lines.new.faults }
     ensures write_fault { result ≡ Status.WriteFault → Rose (K.faults sink.old) (K.faults sink.new) }
-    ensures disk_fault { result ≡ Status.DiskFault → mark_of caller.new.events ≡ Some true }
+    ensures disk_fault { result ≡ Status.DiskFault → is_some (failed_of caller.new.events) ≡ true }
     ensures source_faults { lines.old.faults ≤ lines.new.faults }
     ensures sink_faults { K.faults sink.old ≤ K.faults sink.new }
 {

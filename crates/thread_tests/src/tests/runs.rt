@@ -103,7 +103,7 @@ fn over<G: Gate + Sync, D: Disk + Drop + Send, R: Wait + Threads + Sync>(
         disks: _,
         first: _,
         accepted: _,
-        halted: _,
+        doubt: _,
     } = run(rt, alloc, desk, decks, requests, Issuing::Free, gate);
     Ok(Told {
         status,

@@ -14,3 +14,8 @@ returns-in-Ok-clause-new g c = λ is.
 -- for want of memory nothing was done
 pub returns-in-Err-clause-memory : goal.returns-in-Err-clause-memory
 returns-in-Err-clause-memory g c = λ e. c.in-Err.ensures.memory (of_no_memory c.in-Err.why c.in-Err.ensures.fault (sym c.opening_status.ensures ∙ e))
+
+-- and so are their moments
+pub returns-in-Ok-clause-moments : goal.returns-in-Ok-clause-moments
+returns-in-Ok-clause-moments g c =
+    rw (c.into_disks.ensures.first, c.into_disks.ensures.second) (c.in-Ok.ensures.first_moments, c.in-Ok.ensures.second_moments)

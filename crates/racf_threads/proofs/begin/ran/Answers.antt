@@ -1,4 +1,4 @@
-use Rattle.std.proofs.Common.{◌≡◌, ℕ, ◌≤◌, List, ◌++◌, length, take, drop, false, [], ap, sym, subst, ◌∙◌, arith}
+use Rattle.std.proofs.Common.{◌≡◌, ℕ, ◌≤◌, List, ◌++◌, length, take, drop, [], None, ap, sym, subst, ◌∙◌, arith}
 use Rattle.std.specs.List.{AllZip}
 use Rattle.racf_threads.specs.Working.{Working, HasWorked}
 use Rattle.racf_threads.proofs.Parts.{first_part, handed_in, runs_over, fails_over}
@@ -51,7 +51,7 @@ closed-disks-requires g c =
     let did = subst (λ (l : List (Working g.row.I.Denot g.row.K.Denot)). AllZip (HasWorked g.I.Source.left g.I.Source.faults g.K.Sink.taken g.K.Sink.faults g.J.Naming.base c.args.issuing) c.as_mut_slice.result.now l) (sym news_are) c.side_by_side.ensures in
     let count : length c.gather-left.result.0.ends.items ≡ c.args.decks =
     ap length c.gather-left.ensures.ends
-    ∙ handed_in g.I.Source.left g.I.Source.faults g.K.Sink.taken g.K.Sink.faults g.J.Naming.base c.args.issuing [] false c.args.decks c.args.passes.items c.args.files.items c.as_mut_slice.result.now news few c.requires.passes (c.as_mut_slice.ensures.value ∙ c.seat-workers.ensures) did in
+    ∙ handed_in g.I.Source.left g.I.Source.faults g.K.Sink.taken g.K.Sink.faults g.J.Naming.base c.args.issuing [] None c.args.decks c.args.passes.items c.args.files.items c.as_mut_slice.result.now news few c.requires.passes (c.as_mut_slice.ensures.value ∙ c.seat-workers.ensures) did in
     let ends = c.gather-left.result.0.ends.ok.0 in
     let parts = c.requires.parts in
     omega (arith, count, ends, parts)
@@ -70,7 +70,7 @@ returns-clause-together g c =
     let news_are : news ≡ c.side_by_side.new.workers =
     ap (λ (n : ℕ). take n (c.side_by_side.new.workers ++ drop (length c.side_by_side.new.workers) c.seat-workers.result.items)) written ∙ first_part c.side_by_side.new.workers (drop (length c.side_by_side.new.workers) c.seat-workers.result.items) in
     let did = subst (λ (l : List (Working g.row.I.Denot g.row.K.Denot)). AllZip (HasWorked g.I.Source.left g.I.Source.faults g.K.Sink.taken g.K.Sink.faults g.J.Naming.base c.args.issuing) c.as_mut_slice.result.now l) (sym news_are) c.side_by_side.ensures in
-    runs_over g.I.Source.left g.I.Source.faults g.K.Sink.taken g.K.Sink.faults g.J.Naming.base c.args.issuing c.closed-disks.result.accepted.items c.closed-disks.result.halted c.args.decks c.args.passes.items c.args.files.items c.as_mut_slice.result.now news few c.requires.passes (c.as_mut_slice.ensures.value ∙ c.seat-workers.ensures) did
+    runs_over g.I.Source.left g.I.Source.faults g.K.Sink.taken g.K.Sink.faults g.J.Naming.base c.args.issuing c.closed-disks.result.accepted.items c.closed-disks.result.doubt c.args.decks c.args.passes.items c.args.files.items c.as_mut_slice.result.now news few c.requires.passes (c.as_mut_slice.ensures.value ∙ c.seat-workers.ensures) did
     c.gather-left.result.0.callers.items c.gather-left.result.0.ends.items c.gather-left.result.0.outs.items c.gather-left.result.1 c.gather-left.ensures.callers c.gather-left.ensures.ends c.gather-left.ensures.outs c.gather-left.ensures.status c.closed-disks.ensures.callers c.closed-disks.ensures.commands c.closed-disks.ensures.faults
 
 pub returns-clause-disk_fault : goal.returns-clause-disk_fault
@@ -87,5 +87,5 @@ returns-clause-disk_fault g c =
     let news_are : news ≡ c.side_by_side.new.workers =
     ap (λ (n : ℕ). take n (c.side_by_side.new.workers ++ drop (length c.side_by_side.new.workers) c.seat-workers.result.items)) written ∙ first_part c.side_by_side.new.workers (drop (length c.side_by_side.new.workers) c.seat-workers.result.items) in
     let did = subst (λ (l : List (Working g.row.I.Denot g.row.K.Denot)). AllZip (HasWorked g.I.Source.left g.I.Source.faults g.K.Sink.taken g.K.Sink.faults g.J.Naming.base c.args.issuing) c.as_mut_slice.result.now l) (sym news_are) c.side_by_side.ensures in
-    fails_over g.I.Source.left g.I.Source.faults g.K.Sink.taken g.K.Sink.faults g.J.Naming.base c.args.issuing c.closed-disks.result.accepted.items c.closed-disks.result.halted c.args.decks c.args.passes.items c.args.files.items c.as_mut_slice.result.now news few c.requires.passes (c.as_mut_slice.ensures.value ∙ c.seat-workers.ensures) did
+    fails_over g.I.Source.left g.I.Source.faults g.K.Sink.taken g.K.Sink.faults g.J.Naming.base c.args.issuing c.closed-disks.result.accepted.items c.closed-disks.result.doubt c.args.decks c.args.passes.items c.args.files.items c.as_mut_slice.result.now news few c.requires.passes (c.as_mut_slice.ensures.value ∙ c.seat-workers.ensures) did
     c.gather-left.result.0.callers.items c.gather-left.result.1 c.gather-left.ensures.callers c.gather-left.ensures.status c.closed-disks.ensures.callers

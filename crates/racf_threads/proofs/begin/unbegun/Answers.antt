@@ -1,4 +1,4 @@
-use Rattle.std.proofs.Common.{◌≡◌, ◌<◌, length, [], false, refl, ap, arith, rules}
+use Rattle.std.proofs.Common.{◌≡◌, ◌<◌, length, [], None, refl, ap, arith, rules}
 use Rattle.racf_desk.specs.Durable.{idle_of}
 use Rattle.racroute.proofs.Closing.{live_is, idle_is, faults_are}
 use Rattle.racf_threads.proofs.Parts.{idle_over}
@@ -9,7 +9,7 @@ pub returns-clause-together : goal.returns-clause-together
 returns-clause-together g c = λ decks issuing some.
     let outs = c.args.outs.ok.0 in
     let there : 0 < length c.args.outs.items = omega (arith, outs, some) in
-    idle_over g.I.Source.left g.I.Source.faults g.K.Sink.taken g.K.Sink.faults c.args.desk.position issuing decks c.args.outs.items c.args.outs.items _ c.new-accepted.result.items false there refl refl (search rules) refl
+    idle_over g.I.Source.left g.I.Source.faults g.K.Sink.taken g.K.Sink.faults c.args.desk.position issuing decks c.args.outs.items c.args.outs.items _ c.new-accepted.result.items None there refl refl (search rules) refl
 
 pub returns-clause-disks : goal.returns-clause-disks
 returns-clause-disks g c =

@@ -8,5 +8,5 @@ returns-in-Ok-clause-together g c =
     let held = c.args.decks.ok.0 in
     let counted = c.len-count.ensures in
     let count : c.len-count.result ≡ length c.args.decks.items = omega (arith, held, counted) in
-    inl (over_two g.I.Source.left g.I.Source.faults g.K.Sink.taken g.K.Sink.faults c.args.desk.position c.args.issuing c.run_files.result.accepted.items c.run_files.result.halted c.run_files.result.status
+    inl (over_two g.I.Source.left g.I.Source.faults g.K.Sink.taken g.K.Sink.faults c.args.desk.position c.args.issuing c.run_files.result.accepted.items c.run_files.result.doubt c.run_files.result.status
     c.args.decks.items c.args.requests.items c.append.new.self.items c.run_files.result.outs.items c.len-count.result c.in-Ok.ensures.items count c.run_files.ensures.together)

@@ -11,4 +11,4 @@ returns-in-Err-begun-clause-together g c =
     let any = c.requires.some in
     let some : 0 < length c.args.files.items = omega (arith, count, any) in
     let idle = c.unbegun-in-Err-begun in
-    idle_over g.I.Source.left g.I.Source.faults g.K.Sink.taken g.K.Sink.faults c.args.desk.position c.args.issuing c.args.decks c.args.files.items idle.result.outs.items idle.result.status idle.result.accepted.items idle.result.halted some (idle.ensures.outs ∙ same) idle.ensures.status idle.ensures.none idle.ensures.runs_on
+    idle_over g.I.Source.left g.I.Source.faults g.K.Sink.taken g.K.Sink.faults c.args.desk.position c.args.issuing c.args.decks c.args.files.items idle.result.outs.items idle.result.status idle.result.accepted.items idle.result.doubt some (idle.ensures.outs ∙ same) idle.ensures.status idle.ensures.none idle.ensures.runs_on

@@ -2,8 +2,8 @@
 //! which leaves them lawful.
 //!
 //! `Database` is the type that holds it. `row_tables` keeps its rows, `command_conflicts` and `command_effects` say
-//! what a command meets and makes; `lawful_commands` has the law that the rows stay lawful. `racf_run` gives it the
-//! commands of a stream.
+//! what a command meets and makes; `lawful_commands` has the law that the rows stay lawful. `racf_desk` gives it the
+//! commands.
 //!
 //! ```
 //! let mut database = Database::new(alloc)?;

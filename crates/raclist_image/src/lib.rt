@@ -9,7 +9,7 @@
 //! let before = Image::of(alloc, &database.to_rows(alloc)?, 41)?;
 //! let image = before.after(alloc, &change, 42)?;                  // `before` can be read on
 //! let profiles = image.effective(FixedClass::Facility.id());      // the listed copy where the class is RACLISTed
-//! let place = profiles?.find(&name);                              // the profile that decides
+//! let facts = profiles?.find(&name);                              // those of the profile that decides
 //! ```
 #![tactic(auto)]
 

@@ -1,8 +1,8 @@
 //! Lines of requests: what they ask for, the ACEEs that they name, and the answers.
 //!
 //! [`read_line`] reads a [`RequestLine`] or its refusal, [`respond`] works it on an image and an [`AceeTable`], and
-//! writes the answer. The checks of VERIFY and the decisions are those of `acee` and `decision`; `racf_run` hands the
-//! lines of a stream on. [`read_issuer`] reads the line of a stream that names the issuer of its commands.
+//! writes the answer. The checks of VERIFY and the decisions are those of `acee` and `decision`; `racf_stream` hands
+//! the lines of a stream on. [`read_issuer`] reads the line of a stream that names the issuer of its commands.
 //!
 //! ```
 //! let mut acees = AceeTable::new(alloc)?;

@@ -5,8 +5,8 @@ commands of all decks are laid into one stream, in the order of their numbers, e
 go, file by file, the other lines of a deck or of a request file, each behind so many accepted commands as the number that was
 printed for it says, and `script` works that stream at a copy of the database as it was before the run: it has to print the same.
 The stream of the accepted commands alone has to leave the same disks. What a stream can't tell is held here: that the numbers of
-a file don't fall, that each number is that of one accepted command, and that `*AFTER` holds. `script` itself is held against an
-independent program by the stored streams.
+a file don't fall, that a line which decides nothing has the number that its worker saw last, that no number is accepted twice, and
+that `*AFTER` holds. `script` itself is held against an independent program by the stored streams.
 """
 import itertools
 import os
@@ -23,6 +23,8 @@ SECONDS = 120
 # How much of a fault is told.
 MOST_BYTES = 300
 ACCEPTED, NEVER, AUDIT = b"ACCEPTED", b"NEVER", b"AUDIT"
+# What lines that decide nothing print behind their number: one of a deck, and those of a request file.
+TOO_LONG, DELETED, REFUSED = b"REFUSED LINETOOLONG", b"0 DELETED", b"REFUSED "
 # The status where a line was refused.
 REFUSALS = 4
 # A word that no command has, in place of a request's in a deck, where that is a command which isn't known.
@@ -70,8 +72,8 @@ def in_stream(lines):
 class Deck:
     """What a deck says of the history: its accepted commands by their numbers, its other lines, and what wasn't answered."""
 
-    def __init__(self, data, output, is_cut):
-        self.accepted, self.others, self.unanswered, self.lowest = {}, [], [], 0
+    def __init__(self, data, output, is_cut, first):
+        self.accepted, self.others, self.unanswered, self.lowest = {}, [], [], first
         answers, issuer = iter(told(output, is_cut)), FIRST_ISSUER
         for lines in statements.commands_of(data):
             names = statements.NAMES_ISSUER.fullmatch(statements.text_of(lines[0]))
@@ -88,8 +90,10 @@ class Deck:
         self.end(next(answers, None), is_cut)
 
     def place(self, number, lines, answer, issuer):
-        is_accepted = answer.partition(b" ")[2] == ACCEPTED
-        if number < self.lowest + is_accepted:
+        words = answer.partition(b" ")[2]
+        is_accepted = words == ACCEPTED
+        decides = words != TOO_LONG and statements.first_word(statements.text_of(lines[0])) != "*ISSUER"
+        if number < self.lowest + is_accepted or (number != self.lowest and not decides):
             raise Wrong(f"{answer[:MOST_BYTES]!r} behind {self.lowest}")
         self.lowest = number
         if is_accepted:
@@ -108,9 +112,10 @@ class Deck:
 class Requests:
     """What a file of requests says of the history: each line, behind the number that it printed."""
 
-    def __init__(self, data, output, is_cut):
-        self.accepted, self.others, self.lowest = {}, [], 0
-        self.answers, self.last, self.has_refused = told(output, is_cut), None, False
+    def __init__(self, data, output, is_cut, first, last):
+        self.others, self.answers, self.has_refused = [], told(output, is_cut), False
+        # What was seen last: behind a wait its least is known.
+        self.lowest, self.last, self.is_exact = first, last, True
         for line in statements.lines_of(data):
             if is_cut and not self.answers:
                 return
@@ -126,19 +131,21 @@ class Requests:
         after = statements.number_after(text) if is_after else None
         if after is None:
             return False
-        word, _, number = (self.answers[0] if self.answers else b"").partition(b" ")
-        if word == NEVER and number.isdigit() and int(number) < after:
-            self.answers.pop(0)
-            self.rise(int(number))
-            self.last = int(number)
-        else:
+        if after <= self.last:
+            self.is_exact = self.is_exact and after <= self.lowest
             self.lowest = max(self.lowest, after)
+        elif self.answers[:1] == [b"%s %d" % (NEVER, self.last)]:
+            self.answers.pop(0)
+            self.rise(self.last, True)
+            self.has_refused = True
+        else:
+            raise Wrong(f"{self.answers[:1]!r} for a wait for {after} of {self.last}")
         return True
 
-    def rise(self, number):
-        if number < self.lowest:
-            raise Wrong(f"{number} behind {self.lowest}")
-        self.lowest = number
+    def rise(self, number, decides):
+        if not self.lowest <= number <= self.last or (self.is_exact and not decides and number != self.lowest):
+            raise Wrong(f"{number} behind {self.lowest} of {self.last}")
+        self.lowest, self.is_exact = number, True
 
     def place(self, line):
         if not self.answers:
@@ -147,7 +154,8 @@ class Requests:
         number = number_of(printed[0])
         while self.answers and self.answers[0].partition(b" ")[0] == AUDIT:
             printed.append(self.answers.pop(0))
-        self.rise(number)
+        words = printed[0].partition(b" ")[2]
+        self.rise(number, words != DELETED and not words.startswith(REFUSED))
         text = statements.text_of(line)
         if len(line) <= statements.LONGEST_LINE and statements.first_word(text) not in statements.REQUESTS - {"*ISSUER"}:
             at = 1 + len(text) - len(text.lstrip(b" \t"))
@@ -158,7 +166,7 @@ class Requests:
         self.others.append(Placed(number, [line], printed))
 
     def is_refused(self):
-        return self.has_refused or self.last is not None or any(is_refusal(placed) for placed in self.others)
+        return self.has_refused or any(is_refusal(placed) for placed in self.others)
 
 
 def is_refusal(placed):
@@ -247,25 +255,26 @@ def history(program, before, disks, decks, first, last):
 def number_at(program, folder):
     """How many commands the database has, by itself."""
     printed, disks = worked(program, folder, b"*AFTER %d\n" % statements.MOST_NUMBER)
+    if not printed.startswith(NEVER + b" "):
+        raise Wrong(f"the database isn't opened, or more is printed: {printed[:MOST_BYTES]!r}")
     return int(printed.split(b" ")[1]), disks
 
 
 def judge(program, before, after, decks, names, is_killed=False, status=None):
     """Raises what is wrong with a run, of which the folders `before` and `after` have the disks, and `after` the files."""
     after = pathlib.Path(after)
+    (first, _), (last, disks) = number_at(program, before), number_at(program, after)
     files = []
     for place, name in enumerate(names):
         output = after / f"{name}.out"
         data = output.read_bytes() if output.exists() or not is_killed else b""
+        given = (after / name).read_bytes(), data, is_killed, first
         try:
-            files.append((Deck if place < decks else Requests)((after / name).read_bytes(), data, is_killed))
+            files.append(Deck(*given) if place < decks else Requests(*given, last))
         except Wrong as wrong:
             raise Wrong(f"{name}: {wrong}") from None
-    (first, _), (last, disks) = number_at(program, before), number_at(program, after)
     along = history(program, before, disks, [file for file in files if isinstance(file, Deck)], first, last)
     for name, file in zip(names, files):
-        if file.lowest > last or (isinstance(file, Requests) and file.last not in (None, last)):
-            raise Wrong(f"{name}: told of {file.last or file.lowest} commands, and there are {last}")
         hold(program, before, name, along, file.others)
     if status is not None and status != (REFUSALS if any(file.is_refused() for file in files) else 0):
         raise Wrong(f"status {status}")

@@ -80,10 +80,12 @@ pub ends_compact : (first second next_first next_second : Option History) (statu
     → (status ≡ Done → epoch < 2 ^ 64 - 1 → LeavesBoth next_first next_second (SaysCheckpoint (epoch + 1) base))
     → (status ≡ Done → epoch < 2 ^ 64 - 1 → LeavesBoth next_first next_second (StandsFor (compacted base)))
     → (status ≡ Done → epoch ≡ 2 ^ 64 - 1 → LeavesBoth next_first next_second (StandsFor base))
+    → (status ≡ NoMemory → LeavesBoth next_first next_second (StandsFor base))
     → EndsCompact first second next_first next_second status base
-ends_compact first second next_first next_second status base epoch (inl is) was done stands last =
+ends_compact first second next_first next_second status base epoch (inl is) was done stands last memory =
     inl (is, record { epoch = epoch; was = was; done = done is; stands = stands is; last = last is })
-ends_compact first second next_first next_second status base epoch (inr stopped) was done stands last = inr stopped
+ends_compact first second next_first next_second status base epoch (inr (inl is)) was done stands last memory = inr (inl is)
+ends_compact first second next_first next_second status base epoch (inr (inr is)) was done stands last memory = inr (inr (is, memory is))
 
 pub compact_along : {D : Type 0} (tells : D → Option History) (first second : Option History) (store : StoreOn D) (one two : D) (base : Position)
     → StoodFor first second base → StaysPossible first (tells (pick store.side store.journal.disk store.idle)) → StaysPossible second (tells (pick store.side store.idle store.journal.disk))

@@ -1,5 +1,5 @@
 -- Two disks, of which one counts: where a store hands them back, and what they leave and count in their order.
-use Rattle.std.proofs.Common.{◌≡◌, ◌≤◌, ℕ, false, List, inl, inr, sym, ◌∙◌, ap, subst, arith}
+use Rattle.std.proofs.Common.{◌≡◌, ◌≤◌, ℕ, false, List, inl, inr, sym, ◌∙◌, ap, subst, arith, true}
 use Rattle.std.specs.Prelude.{Option}
 use Rattle.racf_outside.specs.Causes.{Rose}
 use Rattle.racf_outside.specs.Crashes.{Leaves}
@@ -57,13 +57,14 @@ both_leave {D = D} tells store one two P back leaves =
     (leaves-both tells store.side store.journal.disk store.idle P leaves))
 
 pub ends_on : {D : Type 0} (tells : D → Option History) (issuing : Issuing) (base : Position) (input : Option (List ℕ)) (desk : DeskOn D) (one two : D) → HandsBack desk.store one two
-    → (s : State) → EndsAt tells issuing base input desk s → EndsOn issuing base input (tells one) (tells two) s
-ends_on tells issuing base input desk one two back s ends =
+    → (rose : Type 0) → (desk.halted ≡ true → rose) → (s : State) → EndsAt tells issuing base input desk s → EndsOn issuing base input (tells one) (tells two) rose s
+ends_on tells issuing base input desk one two back rose fault s ends =
     record {
       leaves = λ running. both_leave tells desk.store one two (StandsFor s.position) back (ends.leaves running);
       in_doubt = λ halts.
           let doubt = ends.in_doubt halts in
           record { next = doubt.next; in_doubt = doubt.in_doubt; leaves = both_leave tells desk.store one two (StandsForEither s.position doubt.next) back doubt.leaves };
+      fault = λ halts. fault (ends.stands.halted ∙ halts);
     }
 
 -- and where nothing was run, all is as it was opened

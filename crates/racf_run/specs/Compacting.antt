@@ -26,10 +26,12 @@ pub record CompactsTo (first second next_first next_second : Option History) (ba
   pub stands : epoch < 2 ^ 64 - 1 → LeavesBoth next_first next_second (StandsFor (compacted base))
   pub last : epoch ≡ 2 ^ 64 - 1 → LeavesBoth next_first next_second (StandsFor base)
 
--- how it ends where the database was opened at a position
+-- How it ends where the database was opened at a position: it was compacted, or a disk failed, or memory was wanting, and
+-- then a crash leaves what stands for the position.
 abbrev pub EndsCompact : (first second next_first next_second : Option History) → Status → Position → Type 0
 EndsCompact first second next_first next_second status base =
-    ((status ≡ Done) × CompactsTo first second next_first next_second base) ⊎ ((status ≡ DiskFault) ⊎ (status ≡ NoMemory))
+    ((status ≡ Done) × CompactsTo first second next_first next_second base)
+    ⊎ ((status ≡ DiskFault) ⊎ ((status ≡ NoMemory) × LeavesBoth next_first next_second (StandsFor base)))
 
 -- The database was opened at a position. From then on a crash leaves what stands for the position, with the records
 -- that were there or without any, and the disk that counted stays as it is: the checkpoint is written on the other one.

@@ -159,10 +159,11 @@ pub record StandsInDoubt (issuing : Issuing) (base : Position) (input : Option (
   pub leaves : LeavesBoth first second (StandsForEither position next)
 
 -- What a crash now leaves of the disks, behind the stream of an input from a base on: it stands for the position of this
--- state, or is in doubt where a disk failed.
-pub record EndsOn (issuing : Issuing) (base : Position) (input : Option (List ℕ)) (first second : Option History) (s : State) : Type 0 where
+-- state, or is in doubt where a disk failed. Then a fault of a disk was counted (`rose`), whatever the status is.
+pub record EndsOn (issuing : Issuing) (base : Position) (input : Option (List ℕ)) (first second : Option History) (rose : Type 0) (s : State) : Type 0 where
   pub leaves : s.halted ≡ false → LeavesBoth first second (StandsFor s.position)
   pub in_doubt : s.halted ≡ true → StandsInDoubt issuing base input first second s.position
+  pub fault : s.halted ≡ true → rose
 
 -- Of one of two disks a fault was counted.
 abbrev pub RoseEither : (first next_first second next_second : ℕ) → Type 0

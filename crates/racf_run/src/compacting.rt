@@ -56,6 +56,7 @@ fn compact<D: Disk>(alloc: Global, desk: Desk<D>) -> (Status, Two<D>)
     ensures done { result.0 ≡ Status.Done → desk.store.epoch < 2 ^ 64 - 1 → LeavesBoth (D.tells result.1.first) (D.tells result.1.second) (SaysCheckpoint (desk.store.epoch + 1) desk.position) }
     ensures stands { result.0 ≡ Status.Done → desk.store.epoch < 2 ^ 64 - 1 → LeavesBoth (D.tells result.1.first) (D.tells result.1.second) (StandsFor (compacted desk.position)) }
     ensures last { result.0 ≡ Status.Done → desk.store.epoch ≡ 2 ^ 64 - 1 → LeavesBoth (D.tells result.1.first) (D.tells result.1.second) (StandsFor desk.position) }
+    ensures memory { result.0 ≡ Status.NoMemory → LeavesBoth (D.tells result.1.first) (D.tells result.1.second) (StandsFor desk.position) }
 
     // The disk that doesn't count is written, and the other one stays as it is.
     ensures moments { StaysIn (Beside (other desk.store.side) (D.tells desk.store.journal.disk) (StandsForEither desk.position (compacted desk.position)))
@@ -65,6 +66,7 @@ fn compact<D: Disk>(alloc: Global, desk: Desk<D>) -> (Status, Two<D>)
     ensures no_fewer { D.faults desk.store.idle ≤ D.faults (pick desk.store.side result.1.second result.1.first) }
 {
     let mut desk = desk;
+    desk.is_at_rest();
     match desk.compact(alloc) {
         Ok(()) => (Status::Done, desk.into_disks()),
         Err(why) => (opening_status(why), desk.into_disks()),

@@ -89,7 +89,8 @@ where
         ⊎ OpensDatabase (D.tells disks.first) (D.tells disks.second) (λ base.
         RunsOnShelf F.source_gives F.sink_gives F.take_back_gives F.give_back_gives F.tells F.output
         (Rose (F.source_faults shelf.old) (F.source_faults shelf.new)) (Rose (F.sink_faults shelf.old) (F.sink_faults shelf.new))
-        (EndsOn files.issuing base (F.input shelf.old files.input) (D.tells result.1.first) (D.tells result.1.second)) base
+        (EndsOn files.issuing base (F.input shelf.old files.input) (D.tells result.1.first) (D.tells result.1.second)
+        (RoseEither (D.faults disks.first) (D.faults result.1.first) (D.faults disks.second) (D.faults result.1.second))) base
         result.0 (F.input shelf.old files.input) files shelf.old shelf.new)) }
 
     // Where the input was read to its end and no disk failed, all of its output was written, and nothing else.
@@ -132,8 +133,8 @@ where
     ensures init_moments { is_init (map string_bytes words.now) ≡ true →
         StaysFormatting (D.tells disks.first) (D.tells result.1.first) × StaysBaring (D.tells disks.second) (D.tells result.1.second) }
 
-    // The database is opened, or why not; and then a checkpoint of it is written, or a disk failed, or memory ran out.
-    // At every moment a crash leaves what stands for the database as it was opened.
+    // The database is opened, or why not; and then a checkpoint of it is written, or a disk failed, or memory ran out,
+    // which leaves it as it was. At every moment a crash leaves what stands for the database as it was opened.
     ensures compacts { is_compact (map string_bytes words.now) ≡ true →
         OpensNoDatabase (D.tells disks.first) (D.tells disks.second) (D.tells result.1.first) (D.tells result.1.second) result.0 shelf.old shelf.new
         ⊎ OpensDatabase (D.tells disks.first) (D.tells disks.second)
@@ -240,7 +241,8 @@ fn script_on<F: Shelf, D: Disk>(
         ⊎ OpensDatabase (D.tells disks.first) (D.tells disks.second) (λ base.
         RunsOnShelf F.source_gives F.sink_gives F.take_back_gives F.give_back_gives F.tells F.output
         (Rose (F.source_faults shelf.old) (F.source_faults shelf.new)) (Rose (F.sink_faults shelf.old) (F.sink_faults shelf.new))
-        (EndsOn issuing base (F.input shelf.old input.now) (D.tells result.1.first) (D.tells result.1.second)) base
+        (EndsOn issuing base (F.input shelf.old input.now) (D.tells result.1.first) (D.tells result.1.second)
+        (RoseEither (D.faults disks.first) (D.faults result.1.first) (D.faults disks.second) (D.faults result.1.second))) base
         result.0 (F.input shelf.old input.now) (record { issuing = issuing; input = input.now; output = output.now }) shelf.old shelf.new) }
     ensures whole { IsTrue (is_whole result.0) → OpensDatabase (D.tells disks.first) (D.tells disks.second) (λ base.
         IsWholeOutput issuing base F.tells result.0 (F.input shelf.old input.now) (F.output shelf.new output.now)) }
@@ -323,6 +325,7 @@ fn script_between<F: Shelf, D: Disk>(
     ensures read_fault { result.0 ≡ Status.ReadFault → Rose (F.source_faults shelf.old) (F.source_faults shelf.new) }
     ensures write_fault { result.0 ≡ Status.WriteFault → Rose (F.sink_faults shelf.old) (F.sink_faults shelf.new) }
     ensures disk_fault { result.0 ≡ Status.DiskFault → Rose (D.faults desk.store.journal.disk) (D.faults result.1.store.journal.disk) }
+    ensures halted { result.1.halted ≡ true → Rose (D.faults desk.store.journal.disk) (D.faults result.1.store.journal.disk) }
     ensures too_long { result.0 ≡ Status.InputTooLong → IfSome (F.input shelf.old input.now) (λ bytes. longest_input < length bytes) }
     ensures not_too_long { IsTrue (is_whole result.0) → IfSome (F.input shelf.old input.now) (λ bytes. length bytes ≤ longest_input) }
     ensures inputs { SameBytes (F.input shelf.old) (F.input shelf.new) }

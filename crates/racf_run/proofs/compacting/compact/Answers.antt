@@ -1,9 +1,10 @@
 use Rattle.std.proofs.Common.{◌+◌, ap, subst, sym, ◌∙◌}
+use Rattle.racf_checkpoint.specs.Stored.{StoreOn}
 use Rattle.racf_desk.specs.Durable.{LeavesIt, SaysCheckpoint}
 use Rattle.racf_desk.specs.Made.{DeskOn}
 use Rattle.racf_desk.specs.Position.{compacted}
 use Rattle.racf_desk.specs.Recovery.{StandsFor}
-use Rattle.racf_run.proofs.CompactLaws.{of_disks, of_disk_fault, ends_by, written_along, rose_written, no_fewer_written}
+use Rattle.racf_run.proofs.CompactLaws.{of_disks, of_disk_fault, of_no_memory, ends_by, written_along, rose_written, no_fewer_written}
 use Rattle.racf_run.proofs.DiskLaws.{both_leave, this_side}
 use Rattle.racf_run.proofs.compacting.compact.Goals as goal
 
@@ -52,6 +53,14 @@ returns-in-Err-clause-stands g c = λ is. absurd ((of_disks c.in-Err.why).done (
 
 pub returns-in-Err-clause-last : goal.returns-in-Err-clause-last
 returns-in-Err-clause-last g c = λ is. absurd ((of_disks c.in-Err.why).done (sym c.opening_status.ensures ∙ is))
+
+-- for want of memory, and the desk is as it was
+pub returns-in-Err-clause-memory : goal.returns-in-Err-clause-memory
+returns-in-Err-clause-memory g c = λ e.
+    let same = c.in-Err.ensures.memory (of_no_memory c.in-Err.why c.in-Err.ensures.fault (sym c.opening_status.ensures ∙ e)) in
+    both_leave g.D.Disk.tells c.compact.new.self.store c.into_disks-in-Err.result.first c.into_disks-in-Err.result.second (StandsFor c.args.desk.position)
+    (record { first = c.into_disks-in-Err.ensures.first; second = c.into_disks-in-Err.ensures.second })
+    (subst (λ (store : StoreOn _). LeavesIt g.D.Disk.tells store c.args.desk.position) (sym (ap (λ (d : DeskOn _). d.store) same)) (c.is_at_rest.ensures c.requires.running))
 
 pub returns-in-Err-clause-moments : goal.returns-in-Err-clause-moments
 returns-in-Err-clause-moments g c =

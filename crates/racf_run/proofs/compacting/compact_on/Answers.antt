@@ -16,7 +16,7 @@ returns-in-Ok-clause-compacts g c =
       stood = c.in-Ok.ensures.stands;
       ran =
           ends_compact (tells c.args.disks.first) (tells c.args.disks.second) (tells c.compact.result.1.first) (tells c.compact.result.1.second) c.compact.result.0 c.in-Ok.desk.position c.in-Ok.desk.store.epoch
-          done.ends c.in-Ok.ensures.epoch done.done done.stands done.last;
+          done.ends c.in-Ok.ensures.epoch done.done done.stands done.last done.memory;
     })
 
 pub returns-in-Ok-clause-moments : goal.returns-in-Ok-clause-moments

@@ -1,24 +1,31 @@
-use Rattle.std.proofs.Common.{inl, inr, refl, subst}
+use Rattle.std.proofs.Common.{◌≡◌, true, inl, inr, refl, subst}
 use Rattle.std.proofs.Math.Nat.{le_trans}
 use Rattle.racf_outside.specs.Causes.{Rose}
 use Rattle.racf_run.proofs.Unsound.{no_disk_fault, is_neither}
 use Rattle.racf_run.proofs.DiskLaws.{ends_on, either_later, rose_along, no_fewer_along}
 use Rattle.racf_run.proofs.TopLaws.{RunsOnShelf-weaker, script_along}
-use Rattle.racf_run.specs.Racf.{IsUnsound, EndsAt, EndsOn}
+use Rattle.racf_run.specs.Racf.{IsUnsound, EndsAt, EndsOn, RoseEither}
 use Rattle.racf_run.proofs.top.script_on.Goals as goal
 
 pub returns-in-Ok-clause-runs : goal.returns-in-Ok-clause-runs
 returns-in-Ok-clause-runs g c =
     let desk = c.script_between-status.result.1 in
     let input = g.F.Shelf.input c.args.shelf.now c.args.input.now in
+    let faults = g.D.Disk.faults in
+    let rose : Type 0 = RoseEither (faults c.args.disks.first) (faults c.into_disks.result.first) (faults c.args.disks.second) (faults c.into_disks.result.second) in
+    let fault : desk.halted ≡ true → rose =
+    λ halts.
+    either_later _ _ _ _ _ _ c.in-Ok.ensures.first_no_fewer c.in-Ok.ensures.second_no_fewer
+    (rose_along faults c.in-Ok.desk.store desk.store c.into_disks.result.first c.into_disks.result.second
+    (record { first = c.into_disks.ensures.first; second = c.into_disks.ensures.second }) c.script_between-status.ensures.idle (c.script_between-status.ensures.halted halts)) in
     inr (record {
       base = c.in-Ok.desk.position;
       stood = c.in-Ok.ensures.stands;
       ran =
           RunsOnShelf-weaker g.F.Shelf.source_gives g.F.Shelf.sink_gives g.F.Shelf.take_back_gives g.F.Shelf.give_back_gives g.F.Shelf.tells g.F.Shelf.output
           (Rose (g.F.Shelf.source_faults c.args.shelf.now) (g.F.Shelf.source_faults c.script_between-status.new.shelf)) (Rose (g.F.Shelf.sink_faults c.args.shelf.now) (g.F.Shelf.sink_faults c.script_between-status.new.shelf))
-          (EndsAt g.D.Disk.tells c.args.issuing c.in-Ok.desk.position input desk) (EndsOn c.args.issuing c.in-Ok.desk.position input (g.D.Disk.tells c.into_disks.result.first) (g.D.Disk.tells c.into_disks.result.second)) c.in-Ok.desk.position
-          (ends_on g.D.Disk.tells c.args.issuing c.in-Ok.desk.position input desk c.into_disks.result.first c.into_disks.result.second (record { first = c.into_disks.ensures.first; second = c.into_disks.ensures.second }))
+          (EndsAt g.D.Disk.tells c.args.issuing c.in-Ok.desk.position input desk) (EndsOn c.args.issuing c.in-Ok.desk.position input (g.D.Disk.tells c.into_disks.result.first) (g.D.Disk.tells c.into_disks.result.second) rose) c.in-Ok.desk.position
+          (ends_on g.D.Disk.tells c.args.issuing c.in-Ok.desk.position input desk c.into_disks.result.first c.into_disks.result.second (record { first = c.into_disks.ensures.first; second = c.into_disks.ensures.second }) rose fault)
           c.script_between-status.result.0 _ _ c.args.shelf.now c.script_between-status.new.shelf c.script_between-status.ensures.runs;
     })
 

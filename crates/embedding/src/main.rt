@@ -7,17 +7,11 @@
 //! ```
 #![tactic(auto)]
 
-ghost use Rattle.std.specs.Prelude.{◌≡◌, false};
-
-use access_levels::{Id, Level};
-use acee::{Acee, VerifyRequest};
 use anyhow::{Result, anyhow};
-use decision::{Request, auth, verify};
-use generic_names::{NameKind, Resource};
-use racf_desk::{Desk, Refusal, Reply};
-use racf_outside::{NeverDisk, Two};
-use racf_profiles::FixedClass;
-use raclist_image::Image;
+use yilthen::{
+    Acee, Desk, Error, FixedClass, Id, Image, Level, NameKind, NeverDisk, Request, Resource, Two,
+    VerifyRequest, auth, verify,
+};
 
 /// The commands, with who gives each. PAX is no user, and the data set is not ANN's, so the last two are refused.
 const COMMANDS: [(&str, &str); 6] = [
@@ -38,17 +32,15 @@ fn main(rt: HostRuntime) -> Result<()> {
     };
     let mut desk = match Desk::format(rt.alloc(), nothing_is_kept) {
         Ok(desk) => desk,
-        Err((_, fault)) => return Err(anyhow!("{fault}")),
+        Err((_, error)) => return Err(error.into()),
     };
     let shown = show(&rt, &mut desk);
     let _ = desk.into_disks();
     shown
 }
 
-/// Gives the commands, and decides on the image behind them. Between two commands nothing is under way at the desk.
-fn show(rt: &(impl Print + AllocGlobal), desk: &mut Desk<NeverDisk>) -> Result<()>
-    requires settled { desk.old.committed ≡ false }
-{
+/// Gives the commands, and decides on the image behind them.
+fn show(rt: &(impl Print + AllocGlobal), desk: &mut Desk<NeverDisk>) -> Result<()> {
     for (issuer, text) in COMMANDS {
         give(rt, desk, identifier(issuer)?, text)?;
     }
@@ -70,26 +62,15 @@ fn give(
     desk: &mut Desk<NeverDisk>,
     issuer: Id,
     text: &str,
-) -> Result<()>
-    requires settled { desk.old.committed ≡ false }
-    ensures settled { desk.new.committed ≡ false }
-{
+) -> Result<()> {
     match desk.execute(rt.alloc(), issuer, None, text.as_bytes()) {
-        Reply::Accepted(number) => println!(rt; "{number} accepted: {text}")?,
-        Reply::Refused(number, refusal) => {
-            println!(rt; "{number} refused, {}: {text}", words(rt, &refusal)?)?;
+        Ok(number) => println!(rt; "{number} accepted: {text}")?,
+        Err(Error::Refused(refused)) => {
+            println!(rt; "{} refused, {refused}: {text}", refused.number)?;
         }
-        Reply::DiskFault(_) | Reply::Halted(_) => return Err(anyhow!("a disk failed")),
-        Reply::NoMemory => return Err(anyhow!("no memory")),
+        Err(error) => return Err(error.into()),
     }
     Ok(())
-}
-
-/// The words of a refusal.
-fn words(rt: &impl AllocGlobal, refusal: &Refusal) -> Result<String> {
-    let mut words = Vec::new(rt.alloc());
-    refusal.write(&mut words)?;
-    String::from_utf8(words).map_err(|_| anyhow!("no text"))
 }
 
 /// Verifies a user, and decides on two requests of his.
@@ -107,8 +88,8 @@ fn show_user(rt: &(impl Print + AllocGlobal), image: &Image, user: &str) -> Resu
             decide(rt, image, &acee, Level::Read)?;
             decide(rt, image, &acee, Level::Update)
         }
-        Err(fault) => {
-            println!(rt; "{user} isn't verified: {fault:?}")?;
+        Err(error) => {
+            println!(rt; "{user} isn't verified: {error}")?;
             Ok(())
         }
     }

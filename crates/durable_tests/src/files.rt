@@ -3,21 +3,64 @@
 use racf_outside::{MemoryDisk, Two};
 use std::process::Abort;
 
-/// What stands before a head gate.
-const MAGIC: &[u8] = b"RACFDB01";
+/// The checkpoint of a file.
+#[derive(Clone, Copy)]
+pub(crate) enum Checkpoint {
+    /// There is none.
+    Nothing,
+    /// The checkpoint of a new database: the epoch 1, behind no command.
+    First,
+    /// That of the database with JOE: the epoch 2, behind one command.
+    Second,
+    /// The same once more: the epoch 3, behind one command.
+    SecondAgain,
+    /// That of the database with JOE and BOB: the epoch 3, behind two commands.
+    Third,
+    /// The same once more: the epoch 4, behind two commands.
+    ThirdAgain,
+    /// That of a new database in the epoch before the last one, 2^64 - 2.
+    LastButOne,
+    /// That of the database with JOE in the last epoch, 2^64 - 1, behind one command.
+    Last,
+    /// That of a new database whose head gate is closed, and which has other numbers.
+    Closed,
+    /// That of a new database whose head gate is closed, the epoch 1.
+    ClosedFirst,
+    /// One whose head gate is neither open nor closed.
+    Torn,
+    /// One with the epoch 0, which none has.
+    NoEpoch,
+    /// One behind 2^62 + 1 commands, more than there may be.
+    TooMany,
+}
 
-/// A file without a checkpoint.
-pub(crate) const BARE: &[u8] = b"RACFDB01\0";
+/// What a disk holds: a checkpoint, and what stands behind it.
+pub(crate) type Held = (Checkpoint, &'static [u8]);
 
-/// The options and the groups of a new database: no flag, no category; SYS1, which has no superior, of IBMUSER.
-const FRONT: &[u8] = b"\0\0\0\0\0\0\x01SYS1            IBMUSER ";
+/// What two disks hold.
+pub(crate) type Pair = (Held, Held);
+
+/// The length of the image of a new database, its options and its groups (no flag, no category; SYS1, which has no
+/// superior, of IBMUSER), and how many users it has: one.
+const ONE_USER: &[u8] = b"\0\0\0\0\0\0\x01\x39\0\0\0\0\0\0\x01SYS1            IBMUSER \0\0\0\x01";
+
+/// The same of a database with two users.
+const TWO_USERS: &[u8] = b"\0\0\0\0\0\0\x01\x89\0\0\0\0\0\0\x01SYS1            IBMUSER \0\0\0\x02";
+
+/// The same of a database with three users.
+const THREE_USERS: &[u8] =
+    b"\0\0\0\0\0\0\x01\xD9\0\0\0\0\0\0\x01SYS1            IBMUSER \0\0\0\x03";
 
 /// IBMUSER, of SYS1, with SPECIAL, OPERATIONS and AUDITOR, and with JOIN in SYS1.
 const IBMUSER: &[u8] = b"IBMUSER SYS1    SYS1    \0\x07\0\
     \0\0\0\0\0\0\0\0\0\0\0\0\0\0\0\0\0\0\0\0\0\0\0\0\0\0\0\0\0\0\0\0        \0\0\x01SYS1    \x03\0";
 
-/// What stands behind the ID of a user whom IBMUSER defined: his default group SYS1, his owner, and his connection.
-const USER: &[u8] = b"SYS1    IBMUSER \0\0\0\
+/// JOE, whom IBMUSER defined: his default group SYS1, his owner, and his connection.
+const HAS_JOE: &[u8] = b"JOE     SYS1    IBMUSER \0\0\0\
+    \0\0\0\0\0\0\0\0\0\0\0\0\0\0\0\0\0\0\0\0\0\0\0\0\0\0\0\0\0\0\0\0        \0\0\x01SYS1    \0\0";
+
+/// BOB, whom he defined too.
+const HAS_BOB: &[u8] = b"BOB     SYS1    IBMUSER \0\0\0\
     \0\0\0\0\0\0\0\0\0\0\0\0\0\0\0\0\0\0\0\0\0\0\0\0\0\0\0\0\0\0\0\0        \0\0\x01SYS1    \0\0";
 
 /// The classes, of which DATASET alone is active; none has a profile.
@@ -25,15 +68,6 @@ const CLASSES: &[u8] =
     b"\0\x0eDATASET \x01\0\0\0\0\0FACILITY\0\0\0\0\0\0TERMINAL\0\0\0\0\0\0CONSOLE \0\0\0\0\0\0\
     JESINPUT\0\0\0\0\0\0APPCPORT\0\0\0\0\0\0APPL    \0\0\0\0\0\0OPERCMDS\0\0\0\0\0\0SURROGAT\0\0\0\0\0\0\
     TAPEVOL \0\0\0\0\0\0DASDVOL \0\0\0\0\0\0SECDATA \0\0\0\0\0\0SECLABEL\0\0\0\0\0\0GLOBAL  \0\0\0\0\0\0";
-
-/// The users of an image behind IBMUSER: nobody.
-const NOBODY_ELSE: &[&[u8]] = &[];
-
-/// JOE.
-const WITH_JOE: &[&[u8]] = &[b"JOE     "];
-
-/// JOE and BOB.
-const WITH_BOTH: &[&[u8]] = &[b"JOE     ", b"BOB     "];
 
 /// A journal without records.
 pub(crate) const EMPTY: &[u8] = b"\0";
@@ -50,104 +84,172 @@ pub(crate) const JIM: &[u8] = b"\x01\0\0\0\x1bIBMUSER SYS1    ADDUSER JIM\0";
 /// That of a record that deletes a user who isn't there.
 pub(crate) const NOBODY: &[u8] = b"\x01\0\0\0\x1bIBMUSER SYS1    DELUSER JOE\0";
 
-/// What a disk holds.
-#[derive(Clone, Copy)]
-pub(crate) enum Held {
-    /// These bytes.
-    Bytes(&'static [u8]),
-    /// The checkpoint of a new database, the first one, and this journal.
-    First(&'static [u8]),
-    /// The checkpoint of the database with JOE, the second one, and this journal.
-    Second(&'static [u8]),
-    /// The checkpoint of the database with JOE and BOB, the third one, and this journal.
-    Third(&'static [u8]),
-    /// A checkpoint of a new database with this head gate, epoch and number, and a journal without records.
-    Fields(u8, u64, u64),
-}
+/// A file of nothing.
+pub(crate) const NOTHING: Held = (Checkpoint::Nothing, b"");
 
-/// Puts bytes behind others.
-fn put(rt: &(impl AllocGlobal + Abort), bytes: &mut Vec<u8>, more: &[u8]) {
-    assert!(rt; bytes.extend_from_slice(more).is_ok());
-}
+/// A file without a checkpoint.
+pub(crate) const BARE: Held = (Checkpoint::Nothing, b"RACFDB01\0");
 
-/// The image of a database with these users behind IBMUSER.
-fn image_of(rt: &(impl AllocGlobal + Abort), users: &[&[u8]]) -> Vec<u8> {
-    let mut count: u32 = 1;
-    for _ in users {
-        count = count.saturating_add(1);
+/// A new database.
+pub(crate) const NEW: Pair = ((Checkpoint::First, EMPTY), BARE);
+
+/// One with JOE.
+pub(crate) const WITH_JOE: Pair = ((Checkpoint::First, JOE), BARE);
+
+/// The parts of a checkpoint.
+fn parts_of(checkpoint: Checkpoint) -> &'static [&'static [u8]] {
+    match checkpoint {
+        Checkpoint::Nothing => &[],
+        Checkpoint::First => &[
+            b"RACFDB01\x01\0\0\0\0\0\0\0\x01\0\0\0\0\0\0\0\0",
+            ONE_USER,
+            IBMUSER,
+            CLASSES,
+        ],
+        Checkpoint::Second => &[
+            b"RACFDB01\x01\0\0\0\0\0\0\0\x02\0\0\0\0\0\0\0\x01",
+            TWO_USERS,
+            IBMUSER,
+            HAS_JOE,
+            CLASSES,
+        ],
+        Checkpoint::SecondAgain => &[
+            b"RACFDB01\x01\0\0\0\0\0\0\0\x03\0\0\0\0\0\0\0\x01",
+            TWO_USERS,
+            IBMUSER,
+            HAS_JOE,
+            CLASSES,
+        ],
+        Checkpoint::Third => &[
+            b"RACFDB01\x01\0\0\0\0\0\0\0\x03\0\0\0\0\0\0\0\x02",
+            THREE_USERS,
+            IBMUSER,
+            HAS_JOE,
+            HAS_BOB,
+            CLASSES,
+        ],
+        Checkpoint::ThirdAgain => &[
+            b"RACFDB01\x01\0\0\0\0\0\0\0\x04\0\0\0\0\0\0\0\x02",
+            THREE_USERS,
+            IBMUSER,
+            HAS_JOE,
+            HAS_BOB,
+            CLASSES,
+        ],
+        Checkpoint::LastButOne => &[
+            b"RACFDB01\x01\xFF\xFF\xFF\xFF\xFF\xFF\xFF\xFE\0\0\0\0\0\0\0\0",
+            ONE_USER,
+            IBMUSER,
+            CLASSES,
+        ],
+        Checkpoint::Last => &[
+            b"RACFDB01\x01\xFF\xFF\xFF\xFF\xFF\xFF\xFF\xFF\0\0\0\0\0\0\0\x01",
+            TWO_USERS,
+            IBMUSER,
+            HAS_JOE,
+            CLASSES,
+        ],
+        Checkpoint::Closed => &[
+            b"RACFDB01\0\0\0\0\0\0\0\0\x02\0\0\0\0\0\0\0\x07",
+            ONE_USER,
+            IBMUSER,
+            CLASSES,
+        ],
+        Checkpoint::ClosedFirst => &[
+            b"RACFDB01\0\0\0\0\0\0\0\0\x01\0\0\0\0\0\0\0\0",
+            ONE_USER,
+            IBMUSER,
+            CLASSES,
+        ],
+        Checkpoint::Torn => &[
+            b"RACFDB01\x02\0\0\0\0\0\0\0\x01\0\0\0\0\0\0\0\0",
+            ONE_USER,
+            IBMUSER,
+            CLASSES,
+        ],
+        Checkpoint::NoEpoch => &[
+            b"RACFDB01\x01\0\0\0\0\0\0\0\0\0\0\0\0\0\0\0\0",
+            ONE_USER,
+            IBMUSER,
+            CLASSES,
+        ],
+        Checkpoint::TooMany => &[
+            b"RACFDB01\x01\0\0\0\0\0\0\0\x01\x40\0\0\0\0\0\0\x01",
+            ONE_USER,
+            IBMUSER,
+            CLASSES,
+        ],
     }
-    let mut image = Vec::from_slice(rt.alloc(), FRONT).expect(rt, "memory");
-    put(rt, &mut image, &count.to_be_bytes());
-    put(rt, &mut image, IBMUSER);
-    for user in users {
-        put(rt, &mut image, user);
-        put(rt, &mut image, USER);
-    }
-    put(rt, &mut image, CLASSES);
-    image
-}
-
-/// The bytes of a file: its head gate, epoch and number, the users of its image, and its journal.
-fn file(
-    rt: &(impl AllocGlobal + Abort),
-    (head, epoch, number): (u8, u64, u64),
-    users: &[&[u8]],
-    journal: &[u8],
-) -> Vec<u8> {
-    let image = image_of(rt, users);
-    let mut bytes = Vec::from_slice(rt.alloc(), MAGIC).expect(rt, "memory");
-    put(rt, &mut bytes, &[head]);
-    put(rt, &mut bytes, &epoch.to_be_bytes());
-    put(rt, &mut bytes, &number.to_be_bytes());
-    put(rt, &mut bytes, &(image.len() as u64).to_be_bytes());
-    put(rt, &mut bytes, &image);
-    put(rt, &mut bytes, journal);
-    bytes
 }
 
 /// The bytes that a disk holds.
-pub(crate) fn held_bytes(rt: &(impl AllocGlobal + Abort), held: &Held) -> Vec<u8> {
-    match held {
-        Held::Bytes(bytes) => Vec::from_slice(rt.alloc(), bytes).expect(rt, "memory"),
-        Held::First(journal) => file(rt, (1, 1, 0), NOBODY_ELSE, journal),
-        Held::Second(journal) => file(rt, (1, 2, 1), WITH_JOE, journal),
-        Held::Third(journal) => file(rt, (1, 3, 2), WITH_BOTH, journal),
-        Held::Fields(head, epoch, number) => {
-            file(rt, (*head, *epoch, *number), NOBODY_ELSE, EMPTY)
+fn bytes_of(rt: &(impl AllocGlobal + Abort), held: &Held) -> Vec<u8> {
+    let (checkpoint, behind) = held;
+    let mut bytes = Vec::new(rt.alloc());
+    for part in parts_of(*checkpoint) {
+        assert!(rt; bytes.extend_from_slice(part).is_ok());
+    }
+    assert!(rt; bytes.extend_from_slice(behind).is_ok());
+    bytes
+}
+
+/// How many bytes a disk holds.
+pub(crate) fn length_of(held: &Held) -> usize {
+    let (checkpoint, behind) = held;
+    let mut length = behind.len();
+    for part in parts_of(*checkpoint) {
+        length = length.saturating_add(part.len());
+    }
+    length
+}
+
+/// Whether these bytes are what a disk holds.
+pub(crate) fn is_held(bytes: &[u8], held: &Held) -> bool {
+    let (checkpoint, behind) = held;
+    let mut rest = bytes;
+    for part in parts_of(*checkpoint) {
+        match rest.strip_prefix(*part) {
+            Some(more) => rest = more,
+            None => return false,
         }
     }
-}
-
-/// A disk in memory that holds these bytes, and of whose calls the one of this number is to fail; none where it is 0.
-pub(crate) fn disk_of(rt: &(impl AllocGlobal + Abort), bytes: &[u8], failing: u64) -> MemoryDisk {
-    let bytes = Vec::from_slice(rt.alloc(), bytes).expect(rt, "memory");
-    let failing = Vec::from_slice(rt.alloc(), &[failing]).expect(rt, "memory");
-    MemoryDisk::new(rt.alloc(), bytes, failing).expect(rt, "memory")
-}
-
-/// Two disks that hold these bytes, and fail at those calls.
-pub(crate) fn disks_of(
-    rt: &(impl AllocGlobal + Abort),
-    first: &[u8],
-    second: &[u8],
-    (failing, other): (u64, u64),
-) -> Two<MemoryDisk> {
-    Two {
-        first: disk_of(rt, first, failing),
-        second: disk_of(rt, second, other),
-    }
-}
-
-/// Two disks, of which the first holds these bytes and fails at that call, and the second has no checkpoint.
-pub(crate) fn first_alone(
-    rt: &(impl AllocGlobal + Abort),
-    first: &[u8],
-    failing: u64,
-) -> Two<MemoryDisk> {
-    disks_of(rt, first, BARE, (failing, 0))
+    rest == *behind
 }
 
 /// Whether two disks read so.
-pub(crate) fn read_as(disks: &Two<MemoryDisk>, first: &[u8], second: &[u8]) -> bool {
-    disks.first.bytes() == first && disks.second.bytes() == second
+pub(crate) fn read_as(disks: &Two<MemoryDisk>, left: &Pair) -> bool {
+    let (first, second) = left;
+    is_held(disks.first.bytes(), first) && is_held(disks.second.bytes(), second)
+}
+
+/// A disk in memory with these bytes, and of whose calls the one of this number is to fail, none where it is 0. It does
+/// nothing, or where it is to be done by half, what `MemoryDisk::doubting` says.
+pub(crate) fn disk_of(
+    rt: &(impl AllocGlobal + Abort),
+    bytes: &[u8],
+    failing: u64,
+    half: bool,
+) -> MemoryDisk {
+    let bytes = Vec::from_slice(rt.alloc(), bytes).expect(rt, "memory");
+    let failing = Vec::from_slice(rt.alloc(), &[failing]).expect(rt, "memory");
+    let made = if half {
+        MemoryDisk::doubting(rt.alloc(), bytes, failing)
+    } else {
+        MemoryDisk::new(rt.alloc(), bytes, failing)
+    };
+    made.expect(rt, "memory")
+}
+
+/// Two disks that hold this, and fail at those calls.
+pub(crate) fn disks_of(
+    rt: &(impl AllocGlobal + Abort),
+    held: &Pair,
+    (failing, other): (u64, u64),
+    half: bool,
+) -> Two<MemoryDisk> {
+    let (first, second) = held;
+    Two {
+        first: disk_of(rt, &bytes_of(rt, first), failing, half),
+        second: disk_of(rt, &bytes_of(rt, second), other, half),
+    }
 }

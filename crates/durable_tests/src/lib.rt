@@ -2,14 +2,22 @@
 #![tactic(auto)]
 
 #[cfg(test)]
-mod crash_tests;
-#[cfg(test)]
 mod files;
 #[cfg(test)]
-mod halt_tests;
+mod moments;
 #[cfg(test)]
-mod layout_tests;
+mod opening_rows;
 #[cfg(test)]
-mod stop_tests;
+mod openings;
 #[cfg(test)]
-mod top_tests;
+mod run_rows;
+#[cfg(test)]
+mod runs;
+#[cfg(test)]
+mod sessions;
+#[cfg(test)]
+mod stops;
+#[cfg(test)]
+mod stream_rows;
+#[cfg(test)]
+mod writing_rows;

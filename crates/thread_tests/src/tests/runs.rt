@@ -21,16 +21,18 @@ pub(super) struct Asked {
     pub(super) requests: &'static [&'static [u8]],
 }
 
-/// How a run ended, and what was written.
+/// How a run ended, what was written, and the disks behind it.
 #[derive(Drop)]
-pub(super) struct Told {
+pub(super) struct Told<D> {
     /// The status.
     pub(super) status: Status,
     /// The output of each worker.
     pub(super) outputs: Vec<Vec<u8>>,
+    /// The disks.
+    pub(super) disks: Two<D>,
 }
 
-impl Told {
+impl<D> Told<D> {
     /// Whether it ended so, with these outputs.
     pub(super) fn is(&self, status: Status, outputs: &[&[u8]]) -> bool {
         self.status == status
@@ -49,7 +51,7 @@ pub(super) fn ran<G: Gate + Sync, R: Wait + Threads + Sync>(
     alloc: Global,
     asked: &Asked,
     gate: &G,
-) -> Result<Told, Fail>
+) -> Result<Told<NeverDisk>, Fail>
     requires few { (length asked.now.decks.now ≤ 4) × (length asked.now.requests.now ≤ 16) × (0 < length asked.now.decks.now) }
 {
     let nothing_is_kept = Two {
@@ -69,7 +71,7 @@ pub(super) fn ran_on_failing<G: Gate + Sync, R: Wait + Threads + Sync>(
     asked: &Asked,
     gate: &G,
     failing: u64,
-) -> Result<Told, Fail>
+) -> Result<Told<MemoryDisk>, Fail>
     requires few { (length asked.now.decks.now ≤ 4) × (length asked.now.requests.now ≤ 16) × (0 < length asked.now.decks.now) }
 {
     let disks = Two {
@@ -89,7 +91,7 @@ fn over<G: Gate + Sync, D: Disk + Drop + Send, R: Wait + Threads + Sync>(
     asked: &Asked,
     gate: &G,
     desk: Desk<D>,
-) -> Result<Told, Fail>
+) -> Result<Told<D>, Fail>
     requires few { (length asked.now.decks.now ≤ 4) × (length asked.now.requests.now ≤ 16) × (0 < length asked.now.decks.now) }
     requires desk { desk ≡ is_fresh first_position desk.store }
 {
@@ -100,7 +102,7 @@ fn over<G: Gate + Sync, D: Disk + Drop + Send, R: Wait + Threads + Sync>(
     let Ran {
         status,
         outs,
-        disks: _,
+        disks,
         first: _,
         accepted: _,
         doubt: _,
@@ -108,6 +110,7 @@ fn over<G: Gate + Sync, D: Disk + Drop + Send, R: Wait + Threads + Sync>(
     Ok(Told {
         status,
         outputs: outputs(alloc, outs)?,
+        disks,
     })
 }
 
@@ -133,4 +136,20 @@ fn outputs(
         outputs.push(sink.into_bytes())?;
     }
     Ok(outputs)
+}
+
+/// How many commands lead to where a desk stands that is opened over a disk with these bytes, beside one with those.
+pub(super) fn number_of(alloc: Global, first: &[u8], second: &[u8]) -> Result<u64, Fail> {
+    let disks = Two {
+        first: MemoryDisk::new(alloc, Vec::from_slice(alloc, first)?, Vec::new(alloc))?,
+        second: MemoryDisk::new(alloc, Vec::from_slice(alloc, second)?, Vec::new(alloc))?,
+    };
+    match Desk::open(alloc, disks) {
+        Ok(desk) => {
+            let number = desk.number();
+            let _ = desk.into_disks();
+            Ok(number)
+        }
+        Err(_) => Err("an opening".into()),
+    }
 }

@@ -1,15 +1,57 @@
-//! Desks whose disk fails a command: they take no more, and their images still answer.
+//! Desks over disks of which a call fails: what they answer, command by command, and where they stand then.
 
-ghost use Rattle.std.specs.Prelude.{◌≡◌, ◌+◌, ◌<◌, ◌-◌, ◌^◌, false, OnOk};
+ghost use Rattle.std.specs.Prelude.{◌≡◌, ◌+◌, ◌<◌, ◌-◌, ◌^◌, false, IfOk, OnOk};
 
-use crate::files::{BOB, Held, JOE, disks_of, first_alone, held_bytes, read_as};
-use crate::layout_tests::{Stand, formatted, stand_of};
+use crate::files::Checkpoint::{First, Nothing, Second};
+use crate::files::{
+    BARE, BOB, EMPTY, Held, JOE, NEW, NOBODY, NOTHING, WITH_JOE, disks_of, length_of, read_as,
+};
+use access_levels::Id;
 use racf_checkpoint::StoreFault;
 use racf_desk::{Desk, Reply};
-use racf_outside::MemoryDisk;
+use racf_outside::{Disk, MemoryDisk, Two};
 use racf_profiles::ibmuser;
+use raclist_image::Image;
 use std::alloc::Global;
 use std::process::Abort;
+
+/// Where a desk stands, as it can be told from outside: the number of the accepted commands, and whether the users JOE,
+/// BOB and JIM are there.
+type Stand = (u64, [bool; 3]);
+
+/// Whether there is a user of this name.
+fn has_user(image: &Image, name: &[u8]) -> bool {
+    match Id::read(name) {
+        Ok(id) => image.user(id).is_some(),
+        Err(_) => false,
+    }
+}
+
+/// Where the desk stands.
+fn stand_of<D: Disk>(desk: &Desk<D>) -> Stand {
+    let image = desk.image();
+    let users = [
+        has_user(image, b"JOE"),
+        has_user(image, b"BOB"),
+        has_user(image, b"JIM"),
+    ];
+    (desk.number(), users)
+}
+
+/// A new desk over the disks, or the disks where one fails.
+fn formatted(
+    rt: &impl AllocGlobal,
+    disks: Two<MemoryDisk>,
+) -> Result<Desk<MemoryDisk>, Two<MemoryDisk>>
+    ensures running { IfOk result (λ desk. desk.halted ≡ false) }
+    ensures settled { IfOk result (λ desk. desk.committed ≡ false) }
+    ensures epoch { IfOk result (λ desk. desk.store.epoch ≡ 1) }
+{
+    match Desk::format(rt.alloc(), disks) {
+        Ok(desk) => Ok(desk),
+        Err((disks, _)) => Err(disks),
+    }
+}
 
 /// The answer to a command, with its number.
 #[derive(Clone, Copy, PartialEq, Eq)]
@@ -102,7 +144,7 @@ const HALTS: [(u64, [Answer; 3], Stand); 6] = [
 /// Asserts that a new desk over disks of which that call fails answers so, and takes no more.
 fn assert_halts(rt: &(impl AllocGlobal + Abort), failing: u64, answers: [Answer; 3], stand: Stand) {
     let alloc = rt.alloc();
-    let Ok(mut desk) = formatted(rt, first_alone(rt, b"", failing)) else {
+    let Ok(mut desk) = formatted(rt, disks_of(rt, &(NOTHING, BARE), (failing, 0), false)) else {
         panic!(rt; "a disk failed")
     };
     let first = executed(alloc, &mut desk, b"AU JOE");
@@ -201,7 +243,7 @@ fn assert_compacts(
     stand: Stand,
 ) {
     let alloc = rt.alloc();
-    let Ok(mut desk) = formatted(rt, disks_of(rt, b"", b"", (0, failing))) else {
+    let Ok(mut desk) = formatted(rt, disks_of(rt, &(NOTHING, NOTHING), (0, failing), false)) else {
         panic!(rt; "a disk failed")
     };
     let first = executed(alloc, &mut desk, b"AU JOE");
@@ -223,11 +265,7 @@ fn assert_compacts(
         "at call {failing}"
     );
     assert!(rt; disks.first.faults() == 0 && disks.second.faults() == u64::from(fails));
-    let (joe, behind) = (
-        held_bytes(rt, &Held::First(JOE)),
-        held_bytes(rt, &Held::Second(BOB)),
-    );
-    assert!(rt; fails || read_as(&disks, &joe, &behind));
+    assert!(rt; fails || read_as(&disks, &((First, JOE), (Second, BOB))));
 }
 
 /// A compaction that a disk fails halts the desk, and one that is done leaves it taking commands, on the other disk.
@@ -236,4 +274,87 @@ fn compacted_desks_go_on_or_are_halted(rt: HostRuntime) {
     for (failing, wanted, last, stand) in &COMPACTED {
         assert_compacts(&rt, *failing, *wanted, *last, *stand);
     }
+}
+
+/// What the compaction is answered of a desk that is opened over two checkpoints, of which the older lies on the first
+/// disk, where that call of the first disk fails, or none: its opening takes two calls of that disk, and the compaction
+/// nine.
+const COMPACTED_AGAIN: [(u64, Result<(), StoreFault>); 11] = [
+    (3, Err(StoreFault::DiskFault)),
+    (4, Err(StoreFault::DiskFault)),
+    (5, Err(StoreFault::DiskFault)),
+    (6, Err(StoreFault::DiskFault)),
+    (7, Err(StoreFault::DiskFault)),
+    (8, Err(StoreFault::DiskFault)),
+    (9, Err(StoreFault::DiskFault)),
+    (10, Err(StoreFault::DiskFault)),
+    (11, Err(StoreFault::DiskFault)),
+    (12, Ok(())),
+    (0, Ok(())),
+];
+
+/// Asserts what such a desk answers: where the compaction fails it is halted, and stands where it stood.
+fn assert_compacts_again(
+    rt: &(impl AllocGlobal + Abort),
+    failing: u64,
+    wanted: Result<(), StoreFault>,
+) {
+    let held = ((First, JOE), (Second, BOB));
+    let Ok(mut desk) = Desk::open(rt.alloc(), disks_of(rt, &held, (failing, 0), false)) else {
+        panic!(rt; "a disk failed")
+    };
+    let compaction = desk.compact(rt.alloc());
+    let halted = desk.halted();
+    let stands = stand_of(&desk);
+    let disks = desk.into_disks();
+    assert!(rt;
+        compaction == wanted && stands == (2, [true, true, false]),
+        "at call {failing}"
+    );
+    assert!(rt;
+        halted == wanted.is_err() && disks.first.faults() == u64::from(halted),
+        "at call {failing}"
+    );
+}
+
+/// A compaction over an older checkpoint that a disk fails halts the desk too.
+#[test]
+fn desks_that_are_compacted_again_are_halted(rt: HostRuntime) {
+    for (failing, wanted) in &COMPACTED_AGAIN {
+        assert_compacts_again(&rt, *failing, *wanted);
+    }
+}
+
+/// What both disks hold before a new database is made.
+const BEFORE: [Held; 4] = [NOTHING, (Nothing, b"ABC"), (First, NOBODY), (Second, EMPTY)];
+
+/// Asserts that a new desk over these disks stands behind no command.
+fn assert_made(rt: &(impl AllocGlobal + Abort), held: &Held) {
+    let Ok(desk) = formatted(rt, disks_of(rt, &(*held, *held), (0, 0), false)) else {
+        panic!(rt; "a disk failed")
+    };
+    assert!(rt; stand_of(&desk) == (0, [false; 3]));
+    assert!(rt; read_as(&desk.into_disks(), &NEW));
+}
+
+/// Asserts what its first command leaves.
+fn assert_first_command(rt: &(impl AllocGlobal + Abort), held: &Held) {
+    let Ok(mut desk) = formatted(rt, disks_of(rt, &(*held, *held), (0, 0), false)) else {
+        panic!(rt; "a disk failed")
+    };
+    let answer = executed(rt.alloc(), &mut desk, b"AU JOE");
+    assert!(rt; answer == Answer::Accepted(1));
+    assert!(rt; read_as(&desk.into_disks(), &WITH_JOE));
+}
+
+/// A new database is a checkpoint on the first disk, whatever the disks held, and its first command 32 bytes more.
+#[test]
+fn new_databases_are_the_same(rt: HostRuntime) {
+    for held in &BEFORE {
+        assert_made(&rt, held);
+        assert_first_command(&rt, held);
+    }
+    let (new, _) = NEW;
+    let (joe, _) = WITH_JOE;
+    assert!(rt; length_of(&new) == 347 && length_of(&joe) == 379);
 }

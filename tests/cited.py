@@ -97,10 +97,11 @@ class Exports:
 
 
 class Contracts:
-    """The definitions that the exported contracts of one crate cite, each with a place that cites it."""
+    """The definitions that the exported contracts of one crate cite, each with a place that cites it. `calls`: each exported
+    function, but for those of an `impl` of a trait, with what it hands back and the names of what it ensures."""
 
     def __init__(self, crate, folder, crates, traits):
-        self.crate, self.crates, self.traits, self.found = crate, crates, traits, {}
+        self.crate, self.crates, self.traits, self.found, self.calls = crate, crates, traits, {}, {}
         self.exports = Exports(folder / "src")
         for path in self.exports.files:
             self.read(path)
@@ -170,7 +171,7 @@ class Contracts:
         name = re.match(r"\s*(\w+)", found["rest"])[1]
         exported = kind in ("trait", "kit") or (public and kind == "type")
         exported = exported or (public and kind == "file" and (whole or name in self.exports.names))
-        place, clauses = found.end("what"), []
+        place, clauses, heads = found.end("what"), [], []
         while place < len(text):
             if text[place] in "([":
                 place = closing(text, place)
@@ -181,8 +182,10 @@ class Contracts:
                 end = closing(text, place)
                 is_clause = CLAUSE.search(text, found.start(), place)
                 if not is_clause:
+                    heads.append((place, None))
                     place = end
                     break
+                heads.append((is_clause.start(), is_clause.group()))
                 clauses.append(text[place:end])
                 place = end
             else:
@@ -191,6 +194,9 @@ class Contracts:
             what = f"{owner}::{name}" if owner else name
             for clause in clauses:
                 self.add(clause, names, files, what)
+            if kind in ("file", "type") or (kind == "trait" and owner in self.traits):
+                head = text[found.end("what"):heads[0][0] if heads else place]
+                self.calls[what] = (head.rpartition("->")[2], [label for _, label in heads if label])
         return place
 
 
@@ -209,11 +215,12 @@ def flat(text, begin, end):
 
 
 class Definitions:
-    """The definitions of the crates. `uses`: each with those that its text names."""
+    """The definitions of the crates. `uses`: each with those that its text names. `lines`: each with how many lines it has that
+    are neither blank nor comments. `titles`: each file with the first sentence of the comment that it begins with."""
 
     def __init__(self, crates, folder):
         # `other`: a name that stands for a definition of another file, or for the type that it constructs.
-        self.uses, self.other = {}, {}
+        self.uses, self.other, self.lines, self.titles = {}, {}, {}, {}
         named = {}
         for crate in crates:
             for path in sorted((folder / crate / "specs").glob("*.antt")):
@@ -223,7 +230,9 @@ class Definitions:
             self.uses[definition] = {self.whole(other) for other in others} - {definition}
 
     def read(self, crate, path, crates):
-        text = re.sub(r"(?m)--.*$", "", path.read_text())
+        whole = path.read_text()
+        self.titles[(crate, path.stem)] = title(whole)
+        text = re.sub(r"(?m)--.*$", "", whole)
         for of, file, listed in REEXPORT.findall(text):
             for name in listed.split(","):
                 self.other[(crate, path.stem, name.strip())] = (of, file, name.strip())
@@ -235,6 +244,7 @@ class Definitions:
             block = text[found.start():after.start() if after else len(text)]
             definition = (crate, path.stem, found["name"])
             named[definition] = cited(block, names, files)
+            self.lines[definition] = sum(1 for line in block.split("\n") if line.strip())
             if found["kind"] == "data":
                 self.other |= {(crate, path.stem, name): definition for name in CONSTRUCTOR.findall(block)}
         return named
@@ -245,13 +255,52 @@ class Definitions:
             definition = self.other[definition]
         return definition
 
+    def reached(self, begin):
+        """These definitions, and all that they stand on."""
+        found, waiting = set(begin), list(begin)
+        while waiting:
+            new = self.uses.get(waiting.pop(), set()) - found
+            found |= new
+            waiting += new
+        return found
+
+
+def title(text):
+    """The first sentence of the comment that a file begins with."""
+    comment = re.match(r"(?:--.*\n)*", text).group()
+    words = " ".join(line.lstrip("-").strip() for line in comment.split("\n"))
+    return re.split(r"(?<=\.) (?=[A-Z])", words)[0].strip()
+
+
+def clause(path, name, crates):
+    """The definitions that one clause of a file of code cites."""
+    text = blanked(path.read_text())
+    begin = text.index("{", re.search(rf"\bensures {name} ", text).end())
+    names, files = imports(text, crates)
+    return cited(text[begin:closing(text, begin)], names, files)
+
+
+def read(crates, folder):
+    """The contracts of each crate that exports any."""
+    traits = {name for path in folder.glob("*/src/**/*.rt") for name in re.findall(r"(?m)^pub trait (\w+)", path.read_text())}
+    return [Contracts(crate, folder / crate, crates, traits) for crate in crates if (folder / crate / "src" / "lib.rt").exists()]
+
 
 def contracts(crates, folder, definitions):
     """Each definition that an exported contract of some crate cites, with a place that cites it."""
-    traits = {name for path in folder.glob("*/src/**/*.rt") for name in re.findall(r"(?m)^pub trait (\w+)", path.read_text())}
     found = {}
-    for crate in crates:
-        if (folder / crate / "src" / "lib.rt").exists():
-            for definition, place in Contracts(crate, folder / crate, crates, traits).found.items():
-                found.setdefault(definitions.whole(definition), place)
+    for contract in read(crates, folder):
+        for definition, place in contract.found.items():
+            found.setdefault(definitions.whole(definition), place)
+    return found
+
+
+def calls(crates, folder):
+    """Each exported function, by its crate and its name: the type that it hands back, and the names of the clauses of what it
+    ensures, of which one without a name is ''."""
+    found = {}
+    for contract in read(crates, folder):
+        for name, (back, labels) in contract.calls.items():
+            ensures = [re.search(r"ensures\*?\s*(\w*)", label)[1] for label in labels if "ensures" in label]
+            found[(contract.crate, name)] = (back, ensures)
     return found

@@ -29,6 +29,13 @@ pub(crate) fn say_status(rt: &impl Eprint, status: Status) {
     };
 }
 
+/// Refuses to make a database where one may be.
+pub(crate) fn refuse_init(rt: &impl Eprint, name: &str) -> Status {
+    say_status(rt, Status::Usage);
+    let _ = eprintln!(rt; "racf: {name}: a database may be here: racf init over makes a new one");
+    Status::Usage
+}
+
 /// Says what a run's end is about: each file at fault, with the system's reason.
 pub(crate) fn say_why(
     rt: &impl Eprint,

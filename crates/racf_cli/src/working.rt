@@ -3,7 +3,7 @@
 use crate::disks::{
     DISKS, first_missing, first_that_holds, guard, open_disks, reasons, take_away, tell_disks,
 };
-use crate::explaining::{Found, say_disk, say_status, say_why};
+use crate::explaining::{Found, refuse_init, say_disk, say_status, say_why};
 use crate::help::TYPED;
 use crate::watching::{end, watch};
 use crate::words::{are_standard, made_name, output_of, run_names, script_names, write_checkpoint};
@@ -33,6 +33,15 @@ impl Gate for Fair {
     fn answered(&self, _worker: u32, _line: u64) {}
 }
 
+/// What the files of the database may hold where the words begin to work on them.
+#[derive(Clone, Copy)]
+pub(crate) enum MayHold {
+    /// Nothing: the words are refused where either holds anything.
+    Nothing,
+    /// Anything.
+    Anything,
+}
+
 /// Nothing is known beside the status.
 pub(crate) fn nothing_found(alloc: Global) -> Found {
     Found {
@@ -48,9 +57,10 @@ pub(crate) fn work<T: Wait + Threads + Eprint + Clone + Drop + Send + Sync + 'st
     rt: &HostRuntime,
     threads: &T,
     words: &[String],
+    may_hold: MayHold,
 ) -> Status {
     let worked = if works_on_disks(words) {
-        work_watched(rt, threads, words)
+        work_watched(rt, threads, words, may_hold)
     } else {
         work_without_disks(rt, threads, words)
     };
@@ -87,10 +97,12 @@ fn work_without_disks<T: Wait + Threads + Sync>(
 }
 
 /// Opens the disks and runs the top call, and tells meanwhile how far it has come, where standard error is a terminal.
+/// What the disks hold is asked once they are open, and so locked: another run may have ended in between.
 fn work_watched<T: Wait + Threads + Eprint + Clone + Drop + Send + Sync + 'static>(
     rt: &HostRuntime,
     threads: &T,
     words: &[String],
+    may_hold: MayHold,
 ) -> Result<Status, AllocError> {
     let progress = Progress::new(rt.alloc())?;
     progress.begin(Phase::Opening);
@@ -101,17 +113,30 @@ fn work_watched<T: Wait + Threads + Eprint + Clone + Drop + Send + Sync + 'stati
     };
     let opened = open_disks(rt);
     let worked = match opened {
-        Ok(disks) => work_on_disks(rt, threads, words, disks, &progress),
+        Ok(disks) => match held(rt, may_hold) {
+            Some(name) => Ok(Worked::Held(name)),
+            None => work_on_disks(rt, threads, words, disks, &progress),
+        },
         Err(trouble) => Ok(Worked::Unopened(trouble)),
     };
     end(threads, watcher);
     Ok(say_worked(rt, words, worked?))
 }
 
+/// The first disk that holds what it may not.
+fn held(rt: &HostRuntime, may_hold: MayHold) -> Option<&'static str> {
+    match may_hold {
+        MayHold::Nothing => first_that_holds(rt),
+        MayHold::Anything => None,
+    }
+}
+
 /// How the top call ended over disks, with what tells why.
 enum Worked {
     /// A disk couldn't be opened.
     Unopened(DiskTrouble),
+    /// The disk of this name holds what it may not.
+    Held(&'static str),
     /// With this status.
     Ended(Status, FileShelf<HostRuntime>, [Option<Reason>; 2]),
 }
@@ -120,6 +145,7 @@ enum Worked {
 fn say_worked(rt: &HostRuntime, words: &[String], worked: Worked) -> Status {
     match worked {
         Worked::Unopened(trouble) => disk_status(rt, trouble),
+        Worked::Held(name) => refuse_init(rt, name),
         Worked::Ended(status, shelf, disks) => {
             conclude(rt, status, words, &shelf, disks);
             status

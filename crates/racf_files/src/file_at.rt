@@ -96,8 +96,9 @@ impl<R: Files<File = File> + Drop> FileAt<R> {
         self.reason
     }
 
-    /// Makes the file where it isn't there, and syncs its folder, so that the file is there after a power failure. One
-    /// that can't be locked, or whose folder can't be synced, is taken away.
+    /// Makes the file where it isn't there, and syncs its folder, so that the file is there after a power failure. Where
+    /// that fails it is taken away. One that another run has opened in between, and holds locked or has written, is that
+    /// run's, and stays.
     fn make(&mut self) -> Result<(), Reason> {
         if self.file.is_some() {
             return Ok(());
@@ -108,31 +109,32 @@ impl<R: Files<File = File> + Drop> FileAt<R> {
             .create_new(true)
             .mode(0o600)
             .open(&self.runtime, self.path.as_str())?;
-        match finished(file, self) {
-            Ok(file) => {
-                self.file = Some(file);
-                self.is_made = true;
-                Ok(())
-            }
-            Err(reason) => {
-                let _ = fs::remove_file(&self.runtime, self.path.as_str());
-                Err(reason)
-            }
+        let file = locked(behind_standard(file)?)?;
+        if file.metadata()?.len() > 0 {
+            return Err(Reason::InUse);
         }
+        self.file = Some(file);
+        self.is_made = true;
+        let synced = self.sync_folder();
+        if synced.is_err() {
+            self.take_away();
+        }
+        synced
     }
 
-    /// Takes the file away where this run made it, so that nothing is left of what can't be finished.
+    /// Takes the file away where this run made it, so that nothing is left of what can't be finished. It is locked until
+    /// its name is gone, so that no other run that opened it works at what is taken away.
     pub(crate) fn take_away(&mut self) {
         if !self.is_made {
             return;
         }
         self.is_made = false;
-        self.file = None;
         let _ = fs::remove_file(&self.runtime, self.path.as_str());
         let _ = sync_folder(&self.runtime, self.path.as_str());
+        self.file = None;
     }
 
-    /// Syncs the folder; where that fails, so does every later sync, and the mark says so.
+    /// Syncs the folder. Where that fails the mark says so.
     fn sync_folder(&self) -> Result<(), Reason> {
         let synced = sync_folder(&self.runtime, self.path.as_str());
         if synced.is_err() {
@@ -241,13 +243,6 @@ pub(crate) fn is_named<R: Files<File = File>>(
     } else {
         Err(Reason::Replaced)
     }
-}
-
-/// The file that was just made, behind the standard streams, locked, and in a folder that was synced.
-fn finished<R: Files<File = File> + Drop>(file: File, place: &FileAt<R>) -> Result<File, Reason> {
-    let file = locked(behind_standard(file)?)?;
-    place.sync_folder()?;
-    Ok(file)
 }
 
 /// The file, locked by this run alone.

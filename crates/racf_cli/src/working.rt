@@ -7,7 +7,7 @@ use crate::explaining::{Found, refuse_init, say_disk, say_status, say_why};
 use crate::help::TYPED;
 use crate::watching::{end, watch};
 use crate::words::{are_standard, made_name, output_of, run_names, script_names, write_checkpoint};
-use racf_files::{DiskTrouble, FileDisk, FileShelf, Phase, Progress, Reason};
+use racf_files::{DatabaseFile, DiskTrouble, FileDisk, FileShelf, LOST, Phase, Progress, Reason};
 use racf_outside::{NeverDisk, Two};
 use racf_run::{Gate, Status, racf, works_on_disks};
 use std::alloc::{AllocError, Global};
@@ -153,17 +153,17 @@ fn say_worked(rt: &HostRuntime, words: &[String], worked: Worked) -> Status {
     }
 }
 
-/// Says that a disk can't be opened, and why.
+/// Says which file of the database can't be opened, and why.
 fn disk_status(rt: &HostRuntime, trouble: DiskTrouble) -> Status {
     let status = match trouble.reason {
         Reason::NoMemory => Status::NoMemory,
         _ => Status::DiskFault,
     };
     say_status(rt, status);
-    let name = if trouble.is_second {
-        DISKS[1]
-    } else {
-        DISKS[0]
+    let name = match trouble.file {
+        DatabaseFile::First => DISKS[0],
+        DatabaseFile::Second => DISKS[1],
+        DatabaseFile::Mark => LOST,
     };
     say_disk(rt, name, trouble.reason);
     status

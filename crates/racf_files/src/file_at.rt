@@ -84,9 +84,10 @@ impl<R: Files<File = File> + Drop> FileAt<R> {
         }
     }
 
-    /// Keeps why a call failed, where it is the first one that does.
+    /// Keeps why a call failed, where it is the first one that does. That no mark is left of a sync that failed counts
+    /// for more.
     pub(crate) fn note(&mut self, reason: Reason) {
-        if self.reason.is_none() {
+        if self.reason.is_none() || matches!(reason, Reason::Unmarked) {
             self.reason = Some(reason);
         }
     }
@@ -136,11 +137,10 @@ impl<R: Files<File = File> + Drop> FileAt<R> {
 
     /// Syncs the folder. Where that fails the mark says so.
     fn sync_folder(&self) -> Result<(), Reason> {
-        let synced = sync_folder(&self.runtime, self.path.as_str());
-        if synced.is_err() {
-            leave_mark(self.alloc, &self.runtime, self.path.as_str());
+        match sync_folder(&self.runtime, self.path.as_str()) {
+            Ok(()) => Ok(()),
+            Err(why) => Err(leave_mark(self.alloc, &self.runtime, self.path.as_str(), why)),
         }
-        synced
     }
 
     /// Reads what is there from a place on.
@@ -191,8 +191,12 @@ impl<R: Files<File = File> + Drop> FileAt<R> {
             Ok(()) => Ok(()),
             Err(error) => {
                 self.lost = true;
-                leave_mark(self.alloc, &self.runtime, self.path.as_str());
-                Err(Reason::from(error))
+                Err(leave_mark(
+                    self.alloc,
+                    &self.runtime,
+                    self.path.as_str(),
+                    Reason::from(error),
+                ))
             }
         }
     }

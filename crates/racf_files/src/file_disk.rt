@@ -6,7 +6,7 @@ ghost use Rattle.racf_outside.specs.DiskLaws.{untold_reads_an_image};
 use crate::file_at::FileAt;
 use crate::file_identity::FileIdentity;
 use crate::progress::{Phase, Progress};
-use crate::reasons::{DiskTrouble, Reason, of_disk};
+use crate::reasons::{DatabaseFile, DiskTrouble, Reason, of_file};
 use racf_outside::{Disk, Failed, Faults, Two};
 use std::alloc::Global;
 use std::fs::File;
@@ -146,13 +146,13 @@ pub fn open_both<R: Files<File = File> + Clone + Drop>(
     runtime: &R,
     paths: [&str; 2],
 ) -> Result<Two<FileDisk<R>>, DiskTrouble> {
-    let mut first = place(alloc, runtime, paths[0], false)?;
-    let mut second = place(alloc, runtime, paths[1], true)?;
-    let was_lost = of_disk(first.has_mark(), false)?;
-    of_disk(settle(&mut first, was_lost), false)?;
-    of_disk(settle(&mut second, was_lost), true)?;
+    let mut first = place(alloc, runtime, paths[0], DatabaseFile::First)?;
+    let mut second = place(alloc, runtime, paths[1], DatabaseFile::Second)?;
+    let was_lost = of_file(first.has_mark(), DatabaseFile::Mark)?;
+    of_file(settle(&mut first, was_lost), DatabaseFile::First)?;
+    of_file(settle(&mut second, was_lost), DatabaseFile::Second)?;
     if was_lost {
-        of_disk(first.take_mark(), false)?;
+        of_file(first.take_mark(), DatabaseFile::Mark)?;
     }
     Ok(Two {
         first: disk(first),
@@ -165,11 +165,11 @@ fn place<R: Files<File = File> + Clone + Drop>(
     alloc: Global,
     runtime: &R,
     path: &str,
-    is_second: bool,
+    file: DatabaseFile,
 ) -> Result<FileAt<R>, DiskTrouble> {
     match runtime.clone() {
-        Ok(runtime) => of_disk(FileAt::open(alloc, runtime, path), is_second),
-        Err(_) => of_disk(Err(Reason::NoMemory), is_second),
+        Ok(runtime) => of_file(FileAt::open(alloc, runtime, path), file),
+        Err(_) => of_file(Err(Reason::NoMemory), file),
     }
 }
 

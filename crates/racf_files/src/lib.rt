@@ -46,5 +46,5 @@ pub use lost_mark::LOST;
 pub use planned::{Role, Trouble};
 pub use progress::{Phase, Progress};
 pub use read_alone::{ReadAlone, read_both};
-pub use reasons::{DiskTrouble, Reason};
+pub use reasons::{DatabaseFile, DiskTrouble, Reason};
 pub use standard::occupy_standard_streams;

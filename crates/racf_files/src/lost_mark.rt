@@ -17,19 +17,30 @@ use std::rt::Files;
 /// The name of the mark, in the folder of the database.
 pub const LOST: &str = "racf.lost";
 
-/// Leaves the mark beside a file. What can't be done is left undone: the sync is told as failed all the same.
-pub(crate) fn leave_mark<R: Files<File = File>>(alloc: Global, files: &R, path: &str) {
+/// Leaves the mark beside a file whose sync failed, and answers what is told of that: why it failed, or, where nothing
+/// of the mark's name is there and it can't be made, `Unmarked`.
+pub(crate) fn leave_mark<R: Files<File = File>>(
+    alloc: Global,
+    files: &R,
+    path: &str,
+    why: Reason,
+) -> Reason {
     let Ok(mark) = beside(alloc, path, LOST) else {
-        return;
+        return Reason::Unmarked;
     };
-    let _ = OpenOptions::new()
+    let made = OpenOptions::new()
         .write(true)
         .create_new(true)
         .mode(0o600)
         .open(files, mark.as_str());
+    match made {
+        Ok(_) => why,
+        Err(error) if error.kind() == ErrorKind::AlreadyExists => why,
+        Err(_) => Reason::Unmarked,
+    }
 }
 
-/// Whether the mark lies beside a file.
+/// Whether the mark lies beside a file. Whatever has its name is the mark.
 pub(crate) fn has_mark<R: Files<File = File>>(
     alloc: Global,
     files: &R,
@@ -43,7 +54,7 @@ pub(crate) fn has_mark<R: Files<File = File>>(
     }
 }
 
-/// Takes the mark away.
+/// Takes the mark away. A folder of its name stays, and is an error.
 pub(crate) fn take_mark<R: Files<File = File>>(
     alloc: Global,
     files: &R,

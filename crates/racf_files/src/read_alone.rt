@@ -4,7 +4,7 @@ use crate::file_at::{MOST_BYTES, is_named, is_there, read_all};
 use crate::file_identity::{FileIdentity, identity_of};
 use crate::lost_mark::leave_mark;
 use crate::paths::behind_standard;
-use crate::reasons::{DiskTrouble, Reason, of_disk};
+use crate::reasons::{DatabaseFile, DiskTrouble, Reason, of_file};
 use racf_outside::{ReadOnlyDisk, Two};
 use std::alloc::Global;
 use std::fs::{File, TryLockError};
@@ -27,11 +27,17 @@ pub fn read_both<R: Files<File = File>>(
     files: &R,
     paths: [&str; 2],
 ) -> Result<Two<ReadAlone>, DiskTrouble> {
-    let first = of_disk(existing(files, paths[0]), false)?;
-    let second = of_disk(existing(files, paths[1]), true)?;
+    let first = of_file(existing(files, paths[0]), DatabaseFile::First)?;
+    let second = of_file(existing(files, paths[1]), DatabaseFile::Second)?;
     Ok(Two {
-        first: of_disk(read_file(alloc, files, paths[0], &first), false)?,
-        second: of_disk(read_file(alloc, files, paths[1], &second), true)?,
+        first: of_file(
+            read_file(alloc, files, paths[0], &first),
+            DatabaseFile::First,
+        )?,
+        second: of_file(
+            read_file(alloc, files, paths[1], &second),
+            DatabaseFile::Second,
+        )?,
     })
 }
 
@@ -49,8 +55,7 @@ fn read_file<R: Files<File = File>>(
         });
     };
     if let Err(error) = file.sync_all() {
-        leave_mark(alloc, files, path);
-        return Err(Reason::from(error));
+        return Err(leave_mark(alloc, files, path, Reason::from(error)));
     }
     let metadata = file.metadata()?;
     let length = metadata.len().min(MOST_BYTES) as usize;

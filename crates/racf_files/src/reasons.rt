@@ -44,6 +44,8 @@ pub enum Reason {
     Output,
     /// A sync of it failed before.
     SyncFailed,
+    /// A sync of it failed, and the mark of that couldn't be left.
+    Unmarked,
     /// It goes on where the longest input ends.
     TooLong,
     /// There isn't enough memory.
@@ -104,6 +106,7 @@ impl Reason {
             Reason::Input => "an input too",
             Reason::Output => "another output too",
             Reason::SyncFailed => "a sync failed before",
+            Reason::Unmarked => "a sync failed, and racf.lost can't be made",
             Reason::TooLong => "longer than 2^28 bytes",
             Reason::NoMemory => "no memory",
             Reason::System(_) => "",
@@ -111,19 +114,30 @@ impl Reason {
     }
 }
 
-/// Which of two disks failed, and why.
+/// A file of a database, or the mark beside it.
+#[derive(Clone, Copy, Debug)]
+pub enum DatabaseFile {
+    /// The first one.
+    First,
+    /// The second one.
+    Second,
+    /// The mark of a sync that failed.
+    Mark,
+}
+
+/// Which file of a database can't be used, and why.
 #[derive(Clone, Copy, Debug)]
 pub struct DiskTrouble {
-    /// Whether it is the second.
-    pub is_second: bool,
+    /// Which one.
+    pub file: DatabaseFile,
     /// Why.
     pub reason: Reason,
 }
 
-/// What failed of one of two disks.
-pub(crate) fn of_disk<T>(done: Result<T, Reason>, is_second: bool) -> Result<T, DiskTrouble> {
+/// What failed of a file of a database.
+pub(crate) fn of_file<T>(done: Result<T, Reason>, file: DatabaseFile) -> Result<T, DiskTrouble> {
     match done {
         Ok(value) => Ok(value),
-        Err(reason) => Err(DiskTrouble { is_second, reason }),
+        Err(reason) => Err(DiskTrouble { file, reason }),
     }
 }

@@ -28,7 +28,9 @@ pub use desk::Desk;
 pub use error::{Error, Refused};
 pub use generic_names::{NameKind, Resource};
 pub use racf_desk::Refusal;
-pub use racf_files::{DiskTrouble, FileDisk, Reason, occupy_standard_streams, open_both};
+pub use racf_files::{
+    DatabaseFile, DiskTrouble, FileDisk, Reason, occupy_standard_streams, open_both,
+};
 pub use racf_outside::{Disk, MemoryDisk, NeverDisk, Two};
 pub use racf_profiles::FixedClass;
 pub use raclist_image::Image;

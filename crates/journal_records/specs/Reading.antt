@@ -94,7 +94,8 @@ abbrev pub Reads : {A : Type 0} → Result A RecordFault → Result A RecordFaul
 Reads (Ok x) read = read ≡ Ok x
 Reads (Err fault) read = Fails fault read
 
--- It is the first fault, unless memory ran out.
+-- It is the first fault. Want of memory may be told in place of it, and of a record: no clause says when there is enough,
+-- and tests alone show that it isn't told then.
 abbrev pub IsFault : List ℕ → RecordFault → Type 0
 IsFault bytes faults.NoMemory = Unit {0}
 IsFault bytes fault = record_fault bytes ≡ Some fault

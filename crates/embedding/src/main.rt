@@ -39,7 +39,7 @@ fn main(rt: HostRuntime) -> Result<()> {
     shown
 }
 
-/// Gives the commands, and decides on the image behind them.
+/// Gives the commands, decides on the image behind them, and writes a checkpoint.
 fn show(rt: &(impl Print + AllocGlobal), desk: &mut Desk<NeverDisk>) -> Result<()> {
     for (issuer, text) in COMMANDS {
         give(rt, desk, identifier(issuer)?, text)?;
@@ -47,7 +47,10 @@ fn show(rt: &(impl Print + AllocGlobal), desk: &mut Desk<NeverDisk>) -> Result<(
     let image = desk.image();
     println!(rt; "the image has {} users", image.user_count())?;
     show_user(rt, image, "ANN")?;
-    show_user(rt, image, "BOB")
+    show_user(rt, image, "BOB")?;
+    desk.compact(rt.alloc())?;
+    println!(rt; "a checkpoint of {} commands is written", desk.number())?;
+    Ok(())
 }
 
 /// The ID that is spelled so.

@@ -1,5 +1,5 @@
 -- What an opening finds: where the records lead that were loaded, and why they may not.
-use Rattle.std.proofs.Common.{◌≡◌, ℕ, ◌+◌, ◌≤◌, List, [], ◌∷◌, length, Option, Result, Ok, Err, ◌⊎◌, inl, inr, refl, sym, ◌∙◌, ap, subst, arith}
+use Rattle.std.proofs.Common.{◌≡◌, ℕ, ◌+◌, ◌<◌, ◌≤◌, ◌^◌, List, [], ◌∷◌, length, map, Option, Result, Ok, Err, ◌⊎◌, inl, inr, refl, sym, ◌∙◌, ap, subst, arith}
 use Rattle.std.specs.Prelude.{◌≢◌}
 use Rattle.racf_outside.specs.Causes.{Rose}
 use Rattle.racf_outside.specs.Disk.{History, goes}
@@ -25,6 +25,9 @@ use Rattle.journal_records.specs.Reading.{record_of}
 use Rattle.racf_desk.specs.declared.refusal.Refusal.{Refusal}
 use Rattle.racf_desk.specs.Position.{Position, at_checkpoint, start_behind, first_position, restarted}
 use Rattle.racf_desk.specs.Made.{DeskOn, is_fresh}
+use Rattle.racf_desk.specs.Outcome.{outcome}
+use Rattle.racf_desk.specs.History.{at, IsLegal, HadRoom}
+use Rattle.racf_desk.specs.Reopening.{GoesOn, LeadOn}
 use Rattle.racf_desk.specs.Recovery.{unless_faulty, outcome_again, behind_outcome, behind_record, behind_records, base_of, recovered_from, recovered, standing, Refuses}
 use Rattle.racf_desk.specs.Durable.{LeadTo, SaysEpoch, StandsThere}
 use Rattle.racf_desk.proofs.RecoveryLaws.{standing_is}
@@ -81,6 +84,32 @@ stands_there tells store kept position lawful stores counts at ends leads = reco
   stores = stores;
   leads = leads_anew kept position leads;
 }
+
+-- The files lead on to where the checkpoint does that they say.
+pub found_along : (first second : Option History) (kept : CheckpointRead) (position : Position) → NowRead first second (Says kept) → GoesOn (base_of kept) kept.records position
+    → NowRead first second (LeadOn position)
+found_along first second kept position says goes = read_weaker first second (Says kept) (LeadOn position) (λ one other said. (kept, said, goes)) says
+
+-- What a checkpoint's records lead to goes on as the desk that wrote them, by the laws of histories.
+pub goes_on : ((base : Position) (records : List (List ℕ)) (position : Position) → recovered_from base records ≡ Ok position
+    → (history : List CommandRecord) × IsLegal base history × (map record_of records ≡ map Ok history) × (position ≡ restarted (at base history)))
+    → ((base : Position) (history : List CommandRecord) → (at base history).gate < 2 ^ 28 → HadRoom base history)
+    → ((position : Position) (id : List ℕ) (group : Option (List ℕ)) (text : List ℕ) → outcome (restarted position) id group text ≡ outcome position id group text)
+    → ((base : Position) (history : List CommandRecord) → restarted (at (restarted base) history) ≡ restarted (at base history))
+    → (kept : CheckpointRead) (position : Position) → IsCheckpoint kept → position.gate ≡ kept.start + length (spelled kept.records) → recovered kept ≡ Ok position
+    → GoesOn (base_of kept) kept.records position
+goes_on leads room outcomes goes kept position lawful ends is =
+    let (history, legal, reads, behind) = leads (base_of kept) kept.records position is in
+    let gate : kept.gate ≡ (at (base_of kept) history).gate = counted kept lawful ∙ sym ends ∙ ap (λ (p : Position). p.gate) behind in
+    record {
+      history = history;
+      legal = legal;
+      room = room (base_of kept) history (subst (λ n. n < 2 ^ 28) gate lawful.fits);
+      spelled = reads;
+      behind = behind;
+      outcomes = λ id group text. ap (λ (p : Position). outcome p id group text) behind ∙ outcomes (at (base_of kept) history) id group text;
+      later = λ more. ap (λ (p : Position). restarted (at p more)) behind ∙ goes (at (base_of kept) history) more;
+    }
 
 -- A new database, whose journal begins behind its image, is at the first position,
 pub first_is : (image : Imaged) (gate : ℕ) → image ≡ first_position.image → gate ≡ start_behind new_database → record { image = image; gate = gate } ≡ first_position

@@ -1,6 +1,7 @@
 -- What is judged again is accepted again, and where records lead.
-use Rattle.std.proofs.Common.{◌≡◌, ℕ, Bool, true, false, cond, List, [], ◌∷◌, ◌++◌, map, Option, Some, None, Result, Ok, Err, refl, sym, ◌∙◌, ap, subst}
-use Rattle.std.specs.Prelude.{is_ok}
+use Rattle.std.proofs.Common.{◌≡◌, ℕ, ◌+◌, ◌<◌, ◌≤◌, ◌^◌, Bool, true, false, cond, List, [], ◌∷◌, ◌++◌, length, map, Option, Some, None, Result, Ok, Err, refl, sym, ◌∙◌, ap, subst, arith}
+use Rattle.std.proofs.lemmas.Bool.{ltb-true}
+use Rattle.std.specs.Prelude.{is_ok, nat_lt}
 use Rattle.access_levels.specs.Spelling.{group_of}
 use Rattle.racf_profiles.specs.declared.users.User.{User}
 use Rattle.racf_profiles.specs.declared.rows.Rows.{Rows}
@@ -15,12 +16,12 @@ use Rattle.racf_checkpoint.specs.declared.fault.StoreFault.{StoreFault}
 use Rattle.racf_checkpoint.specs.Contents.{Says}
 use Rattle.checkpoint_disks.specs.Files.{CheckpointRead}
 use Rattle.racf_desk.specs.declared.refusal.Refusal.{Refusal}
-use Rattle.racf_desk.specs.declared.refusal.Refusal.TheVariants.{IssuerRevoked, IssuerNotConnected}
+use Rattle.racf_desk.specs.declared.refusal.Refusal.TheVariants.{IssuerRevoked, IssuerNotConnected, JournalFull}
 use Rattle.racf_desk.specs.Issuers.{current_group, is_connected, issuer_in, issuer_among, issuer_of, unless_not_connected}
 use Rattle.racf_desk.specs.Position.{Position, position_behind, restarted}
-use Rattle.racf_desk.specs.Outcome.{first_of, rules_of, journal_full, number_spent, refusal_of, unless_met, unless_refused, command_of_text, judged, outcome_in, outcome}
+use Rattle.racf_desk.specs.Outcome.{first_of, rules_of, most_bytes, journal_full, number_spent, refusal_of, unless_met, unless_refused, command_of_text, judged, outcome_in, outcome}
 use Rattle.racf_desk.specs.Recovery.{unless_faulty, refusal_again, outcome_again, behind_outcome, behind_record, behind_records, recovered_from, recovered, standing}
-use Rattle.racf_desk.specs.History.{at, IsLegal}
+use Rattle.racf_desk.specs.History.{at, IsLegal, HadRoom}
 use Rattle.racf_desk.proofs.IssuerLaws.{issuer_in_spelled}
 
 -- ---- issuers
@@ -235,3 +236,24 @@ lead_along base records position h = by (behind_records records base) refl h
         let (history, legal, maps, ends) = along records base found is in
         (history, legal, maps, sym same ∙ ap restarted ends)
     by (Err why) is h = cc
+
+-- ---- the journal's room
+-- no command takes the gate back
+gate_rises : (history : List CommandRecord) (base : Position) → base.gate ≤ (at base history).gate
+gate_rises [] base = omega arith
+gate_rises (given ∷ history) base = let more = gate_rises history (position_behind base given) in omega (arith, more)
+
+-- where the gate behind a record is within the bound, there was room for it,
+room_for_it : (gate : ℕ) (given : CommandRecord) → gate + 1 + length (spelled given) < 2 ^ 28 → journal_full gate given ≡ None
+room_for_it gate given below = by (nat_lt most_bytes ((gate + 1) + (length (spelled given) + 1))) refl
+  where
+    by : (b : Bool) → nat_lt most_bytes ((gate + 1) + (length (spelled given) + 1)) ≡ b → cond b (Some JournalFull) None ≡ None
+    by false is = refl
+    by true is = let past = ltb-true most_bytes ((gate + 1) + (length (spelled given) + 1)) is in absurd (omega (arith, below, past))
+
+-- and so for each of a history.
+pub room_within : (base : Position) (history : List CommandRecord) → (at base history).gate < 2 ^ 28 → HadRoom base history
+room_within base [] below = tt
+room_within base (given ∷ history) below =
+    let more = gate_rises history (position_behind base given) in
+    (room_for_it base.gate given (omega (arith, more, below)), room_within (position_behind base given) history below)

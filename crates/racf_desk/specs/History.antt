@@ -1,6 +1,7 @@
 -- Histories: the commands that were accepted, each as its record, in their order.
-use Rattle.std.specs.Prelude.{◌≡◌, List, [], ◌∷◌, Ok}
+use Rattle.std.specs.Prelude.{◌≡◌, List, [], ◌∷◌, None, Ok}
 use Rattle.journal_records.specs.declared.record.CommandRecord.{CommandRecord}
+use Rattle.racf_desk.specs.Outcome.{journal_full}
 use Rattle.racf_desk.specs.Position.{Position, position_behind}
 use Rattle.racf_desk.specs.Recovery.{outcome_again}
 
@@ -13,3 +14,8 @@ at base (given ∷ history) = at (position_behind base given) history
 abbrev pub IsLegal : Position → List CommandRecord → Type 0
 IsLegal base [] = Unit {0}
 IsLegal base (given ∷ history) = (outcome_again base given ≡ Ok given) × IsLegal (position_behind base given) history
+
+-- The journal had room for the record of each of its commands, at the position behind those before it.
+abbrev pub HadRoom : Position → List CommandRecord → Type 0
+HadRoom base [] = Unit {0}
+HadRoom base (given ∷ history) = (journal_full base.gate given ≡ None) × HadRoom (position_behind base given) history

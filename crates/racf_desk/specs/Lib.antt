@@ -11,3 +11,4 @@ pub mod Images
 pub mod Kept
 pub mod Recovering
 pub mod History
+pub mod Reopening

@@ -9,6 +9,7 @@ ghost use Rattle.racf_checkpoint.specs.Formatting.{StaysBaring, StaysFormatting}
 ghost use Rattle.racf_checkpoint.specs.Stored.{NowRead, StaysPossible, disk_on, other};
 
 use crate::answers::{Ready, Reply};
+use crate::laws::{records_lead_along_a_history, recovery_agrees_with_the_running_desk};
 use crate::making::{is_recorded, make};
 use crate::outcome::outcome_in;
 use crate::recovery::{Recovered, new_database, recover};
@@ -67,6 +68,7 @@ impl<D: Disk> Desk<D> {
     ghost use Rattle.racf_desk.specs.Images.{IsImageOf};
     ghost use Rattle.racf_desk.specs.Executing.{KeepsDesk, SayWhatWasPossible};
     ghost use Rattle.racf_desk.specs.Formatting.{LeavesNoOlder};
+    ghost use Rattle.racf_desk.specs.Reopening.{LeadOn};
 
     /// A desk over a new database, whatever the disks held: the first has a checkpoint of it. At every moment a crash
     /// leaves of each disk a file that says what it said, or nothing, or is that of the new database. Where the call
@@ -101,11 +103,13 @@ impl<D: Disk> Desk<D> {
     }
 
     /// Opens the database that the disks stand for: takes the rows of the checkpoint that counts, repeats the commands
-    /// of the records behind it, in time that grows with their number, and makes the image of the rows once. Both disks
-    /// are synced, and nothing is written before all records are judged. At every moment a crash leaves files that say
+    /// of the records behind it, in time that grows with their number, and makes the image of the rows once. The desk
+    /// goes on as the one that wrote the records. Both disks are synced, and nothing is written before all records are
+    /// judged. At every moment a crash leaves files that say
     /// what was possible before; after `Ok` it leaves what was opened. Otherwise the disks are handed back.
     pub fn open(alloc: Global, disks: Two<D>) -> Result<Desk<D>, (Two<D>, StoreFault)>
         ensures stands { IfOk result (λ desk. NowRead (D.tells disks.first) (D.tells disks.second) (λ first second. standing first second ≡ Ok desk.position)) }
+        ensures history { IfOk result (λ desk. NowRead (D.tells disks.first) (D.tells disks.second) (LeadOn desk.position)) }
         ensures desk { IfOk result (λ desk. desk ≡ is_fresh desk.position desk.store) }
         ensures epoch { IfOk result (λ desk. NowRead (D.tells disks.first) (D.tells disks.second) (SaysEpoch desk.store.epoch)) }
         ensures leaves { IfOk result (λ desk. LeavesIt D.tells desk.store desk.position) }
@@ -124,6 +128,9 @@ impl<D: Disk> Desk<D> {
     {
         // What was possible of each disk is possible of both.
         what_was_possible_is_said();
+        // What the records lead to goes on as the desk that wrote them.
+        records_lead_along_a_history();
+        recovery_agrees_with_the_running_desk();
         let (found, rows) = match Store::find(alloc, disks) {
             Ok((found, rows)) => (found, rows),
             Err(back) => return Err(back),
@@ -351,6 +358,8 @@ impl<D: Disk> Desk<D> {
         ensures fault { IfErr result (λ why. (why ≡ StoreFault.DiskFault) ⊎ (why ≡ StoreFault.NoMemory)) }
         ensures halted { IfErr result (λ why. why ≡ StoreFault.DiskFault → self.new ≡ record self.old { store = self.new.store; halted = true; made = None }) }
         ensures memory { IfErr result (λ why. why ≡ StoreFault.NoMemory → self.new ≡ record self.old { made = None }) }
+        ensures nothing_made { self.new.made ≡ None }
+        ensures settled { self.new.committed ≡ false }
         ensures cause { IfErr result (IsCaused (D.faults self.old.store.idle) (D.faults (disk_on (other self.old.store.side) self.new.store))) }
         ensures no_fewer { D.faults self.old.store.idle ≤ D.faults (disk_on (other self.old.store.side) self.new.store) }
     {

@@ -1,10 +1,10 @@
 //! Laws of the definitions. The functions do nothing: their contracts are what is proved.
 
-ghost use Rattle.std.specs.Prelude.{◌≡◌, ℕ, List, Option, Some, Ok, map};
+ghost use Rattle.std.specs.Prelude.{◌≡◌, ◌<◌, ◌^◌, ℕ, List, Option, Some, Ok, map};
 ghost use Rattle.command_parser.specs.Canonical.{canonical, IsWritten};
 ghost use Rattle.journal_records.specs.declared.record.CommandRecord.{CommandRecord};
 ghost use Rattle.journal_records.specs.Reading.{record_of};
-ghost use Rattle.racf_desk.specs.History.{at, IsLegal};
+ghost use Rattle.racf_desk.specs.History.{at, IsLegal, HadRoom};
 ghost use Rattle.racf_desk.specs.Outcome.{outcome};
 ghost use Rattle.racf_desk.specs.Position.{Position, restarted};
 ghost use Rattle.racf_desk.specs.Recovery.{recovered_from};
@@ -18,9 +18,11 @@ pub fn recovery_agrees_with_the_running_desk()
 {}
 
 /// Where records lead from a base to a position, they are those of a history that is legal from the base on, and the
-/// position is the one behind it, as far as it outlives a restart.
+/// position is the one behind it, as far as it outlives a restart. Where its gate lies within the 2^28 bytes of a
+/// journal, there was room for each record: so an opening needn't ask for it.
 pub fn records_lead_along_a_history()
-    ensures { (base : Position) (records : List (List ℕ)) (position : Position) → recovered_from base records ≡ Ok position →
+    ensures room { (base : Position) (history : List CommandRecord) → (at base history).gate < 2 ^ 28 → HadRoom base history }
+    ensures leads { (base : Position) (records : List (List ℕ)) (position : Position) → recovered_from base records ≡ Ok position →
         (history : List CommandRecord) × IsLegal base history × (map record_of records ≡ map Ok history)
         × (position ≡ restarted (at base history)) }
 {}

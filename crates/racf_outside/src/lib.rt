@@ -16,7 +16,7 @@
 //! ```text
 //! let mut shelf = MemoryShelf::new(alloc, failing);
 //! shelf.put("IN", bytes, Vec::new(alloc))?;
-//! let status = racf(alloc, &words, &mut shelf);
+//! let (status, disks) = racf(rt, alloc, &words, &mut shelf, disks, &gate);
 //! let written = shelf.output("OUT");
 //! ```
 #![tactic(auto)]

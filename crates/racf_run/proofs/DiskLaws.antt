@@ -2,7 +2,7 @@
 use Rattle.std.proofs.Common.{◌≡◌, ◌≤◌, ℕ, false, List, inl, inr, sym, ◌∙◌, ap, subst, arith, true}
 use Rattle.std.specs.Prelude.{Option}
 use Rattle.racf_outside.specs.Causes.{Rose}
-use Rattle.racf_outside.specs.Crashes.{Leaves}
+use Rattle.racf_outside.specs.Crashes.{Leaves, StaysIn}
 use Rattle.racf_outside.specs.Disk.{History, Now}
 use Rattle.racf_outside.proofs.Rises.{Rose-later}
 use Rattle.checkpoint_disks.specs.declared.counting.Side.{Side}
@@ -14,6 +14,7 @@ use Rattle.racf_desk.specs.Position.{Position}
 use Rattle.racf_desk.specs.Recovery.{StandsFor, StandsForEither}
 use Rattle.racf_desk.proofs.IdleLaws.{leaves-both, told-pick}
 use Rattle.racf_stream.specs.declared.issuer.Issuing.{Issuing}
+use Rattle.racf_stream.specs.Durable.{StandsForFront, most_left_of}
 use Rattle.racf_stream.specs.Stream.{State}
 use Rattle.racf_run.specs.Racf.{EndsAt, EndsOn, OpensOn, StandsStill, RoseEither, opened_on}
 
@@ -56,15 +57,19 @@ both_leave {D = D} tells store one two P back leaves =
     (subst (λ (d : D). LeavesBoth (tells (disk_on First store)) (tells d) P) (sym back.second)
     (leaves-both tells store.side store.journal.disk store.idle P leaves))
 
-pub ends_on : {D : Type 0} (tells : D → Option History) (issuing : Issuing) (base : Position) (input : Option (List ℕ)) (desk : DeskOn D) (one two : D) → HandsBack desk.store one two
-    → (rose : Type 0) → (desk.halted ≡ true → rose) → (s : State) → EndsAt tells issuing base input desk s → EndsOn issuing base input (tells one) (tells two) rose s
-ends_on tells issuing base input desk one two back rose fault s ends =
+pub ends_on : {D : Type 0} (tells : D → Option History) (issuing : Issuing) (base : Position) (input : Option (List ℕ)) (then : StoreOn D) (desk : DeskOn D) (one two : D) → HandsBack desk.store one two → SameIdle then desk.store
+    → (rose : Type 0) → (desk.halted ≡ true → rose) → (s : State) → EndsAt tells issuing base input then desk s → EndsOn issuing base input (opened_on tells then) (tells one) (tells two) rose s
+ends_on tells issuing base input then desk one two back same rose fault s ends =
     record {
       leaves = λ running. both_leave tells desk.store one two (StandsFor s.position) back (ends.leaves running);
       in_doubt = λ halts.
           let doubt = ends.in_doubt halts in
           record { next = doubt.next; in_doubt = doubt.in_doubt; leaves = both_leave tells desk.store one two (StandsForEither s.position doubt.next) back doubt.leaves };
       fault = λ halts. fault (ends.stands.halted ∙ halts);
+      moments =
+          subst (StaysIn (BesideIdle (idle_of tells then) (StandsForFront issuing base input (most_left_of s))) (tells then.journal.disk))
+          (sym (ap (λ side. pick side (tells one) (tells two)) (sym same.side) ∙ live_told tells desk.store one two back)) ends.moments;
+      idle = ap (λ side. pick side (tells two) (tells one)) (sym same.side) ∙ idle_told tells desk.store one two back ∙ ap tells same.idle;
     }
 
 -- and where nothing was run, all is as it was opened

@@ -1,25 +1,25 @@
 -- What the top call says of the shelf and of the disks, by what its parts say.
-use Rattle.std.proofs.Common.{◌≡◌, ◌<◌, ℕ, Bool, true, false, List, [], inl, inr, refl, sym, ◌∙◌, ap, subst, arith}
+use Rattle.std.proofs.Common.{◌≡◌, ◌<◌, ◌≤◌, ℕ, Bool, true, false, List, [], inl, inr, refl, sym, ◌∙◌, ap, subst, arith}
 use Rattle.std.specs.Prelude.{Option, Result}
 use Rattle.racf_outside.specs.Causes.{Rose, TakesOver}
-use Rattle.racf_outside.specs.Crashes.{StaysIn}
 use Rattle.racf_outside.specs.declared.streams.Failed.{Failed}
 use Rattle.racf_outside.specs.Disk.{History}
 use Rattle.racf_outside.specs.Shelf.{told, SameOthers}
-use Rattle.racf_checkpoint.specs.Stored.{StoreOn, StaysPossible, pick}
-use Rattle.racf_desk.specs.Durable.{SameIdle, idle_of, BesideIdle, LeavesIt}
-use Rattle.racf_desk.specs.Made.{DeskOn}
+use Rattle.racf_checkpoint.specs.Stored.{StoreOn}
+use Rattle.racf_desk.specs.Durable.{LeavesIt}
+use Rattle.racf_desk.specs.Made.{DeskOn, number_at}
 use Rattle.racf_desk.specs.Position.{Position}
 use Rattle.racf_stream.specs.declared.issuer.Issuing.{Issuing}
 use Rattle.racf_stream.specs.declared.status.Status.{Status}
-use Rattle.racf_stream.specs.Durable.{StandsForFront, StaysAlong, LeavesInDoubt}
-use Rattle.racf_run.specs.Racf.{Files, RanTo, RunsOnShelf, EndsAt, StoodFor, MovesAlong, opened_on}
+use Rattle.racf_stream.specs.Durable.{StaysAlong, LeavesInDoubt, most_left, most_left_of}
+use Rattle.racf_run.specs.Racf.{Files, RanTo, RunsOnShelf, EndsAt}
 use Rattle.racf_stream.specs.Runs.{Ran}
 use Rattle.racf_stream.specs.Script.{stream, fault_at, fault_of, StandsAt}
 use Rattle.racf_stream.specs.Stream.{State, number_of, new_stream}
 use Rattle.racf_stream.proofs.ScriptLaws.{Ran-weaker, stands_new, position_new}
 use Rattle.racf_stream.proofs.Walk.{Ran-causes}
-use Rattle.racf_run.proofs.DiskLaws.{HandsBack, opens_on, live_told, idle_told}
+use Rattle.racf_stream.proofs.LeftLaws.{left_at_least}
+use Rattle.racf_stream.proofs.Moments.{StaysAlong-none}
 
 -- the desk at the start
 not_halted : (issuing : Issuing) (base : Position) → (new_stream issuing base).halted ≡ false
@@ -27,36 +27,46 @@ unfolding new_stream
 not_halted issuing base = refl
 
 pub ends_new : {D : Type 0} (tells : D → Option History) (issuing : Issuing) (input : Option (List ℕ)) (desk : DeskOn D) → desk.halted ≡ false → desk.committed ≡ false → (desk.halted ≡ false → LeavesIt tells desk.store desk.position)
-    → EndsAt tells issuing desk.position input desk (new_stream issuing desk.position)
+    → EndsAt tells issuing desk.position input desk.store desk (new_stream issuing desk.position)
 ends_new tells issuing input desk running settled leaves =
+    let new = new_stream issuing desk.position in
     let halts = not_halted issuing desk.position in
+    let at : desk.position ≡ new.position = sym (position_new issuing desk.position new refl) in
     record {
       stands = stands_new issuing desk running settled;
+      moments = StaysAlong-none tells issuing desk.position input (most_left_of new) desk.store
+          (subst (λ (p : Position). p.image.generation ≤ most_left_of new) (sym at) (left_at_least new.halted (number_of new))) (leaves running);
       leaves = λ h. subst (LeavesIt tells desk.store) (sym (position_new issuing desk.position (new_stream issuing desk.position) refl)) (leaves running);
       in_doubt = λ h. absurd (cc (h, halts));
     }
 
 -- and behind a run
-ends_at : {D : Type 0} (tells : D → Option History) (issuing : Issuing) (base : Position) (input : Option (List ℕ)) (desk : DeskOn D) → (desk.halted ≡ false → LeavesIt tells desk.store desk.position)
+ends_at : {D : Type 0} (tells : D → Option History) (issuing : Issuing) (base : Position) (input : Option (List ℕ)) (then : StoreOn D) (desk : DeskOn D) → (desk.halted ≡ false → LeavesIt tells desk.store desk.position)
     → (desk.halted ≡ true → LeavesInDoubt tells issuing base input desk.store desk.position)
-    → (s : State) → StandsAt desk s → (fault_of desk ≡ fault_at s.halted (number_of s)) × EndsAt tells issuing base input desk s
-ends_at tells issuing base input desk leaves in_doubt s stands = (
+    → StaysAlong tells issuing base input (most_left desk.halted (number_at desk.position)) then desk.store
+    → (s : State) → StandsAt desk s → (fault_of desk ≡ fault_at s.halted (number_of s)) × EndsAt tells issuing base input then desk s
+ends_at tells issuing base input then desk leaves in_doubt along s stands = (
   ap (λ h. fault_at h desk.position.image.generation) stands.halted ∙ ap (λ (p : Position). fault_at s.halted p.image.generation) stands.position,
   record {
     stands = stands;
+    moments =
+        subst (λ h. StaysAlong tells issuing base input (most_left h (number_of s)) then desk.store) stands.halted
+        (subst (λ (p : Position). StaysAlong tells issuing base input (most_left desk.halted (number_at p)) then desk.store) stands.position along);
     leaves = λ h. subst (LeavesIt tells desk.store) stands.position (leaves (stands.halted ∙ h));
     in_doubt = λ h. subst (LeavesInDoubt tells issuing base input desk.store) stands.position (in_doubt (stands.halted ∙ h));
   },
 )
 
-pub ran_to : {D : Type 0} (tells : D → Option History) (issuing : Issuing) (desk : DeskOn D) (base : Position) (R R2 W W2 : Type 0) (told_any : Bool) (status : Status) (source input left before now : Option (List ℕ)) (name : List ℕ) (old new : List ℕ → Option (List ℕ))
+pub ran_to : {D : Type 0} (tells : D → Option History) (issuing : Issuing) (then : StoreOn D) (desk : DeskOn D) (base : Position) (R R2 W W2 : Type 0) (told_any : Bool) (status : Status) (source input left before now : Option (List ℕ)) (name : List ℕ) (old new : List ℕ → Option (List ℕ))
     → Ran (stream (fault_of desk) issuing base) (StandsAt desk) R W status source left before now → (desk.halted ≡ false → LeavesIt tells desk.store desk.position)
-    → (desk.halted ≡ true → LeavesInDoubt tells issuing base source desk.store desk.position) → (R → R2) → (W → W2)
-    → source ≡ input → before ≡ told told_any [] → new name ≡ now → SameOthers name old new → RanTo (EndsAt tells issuing base input desk) R2 W2 issuing base told_any status input name old new
-ran_to tells issuing desk base R R2 W W2 told_any status source input left before now name old new ran leaves in_doubt reads writes is_source is_before is_now others =
-    let P : State → Type 0 = λ s. (fault_of desk ≡ fault_at s.halted (number_of s)) × EndsAt tells issuing base input desk s in
+    → (desk.halted ≡ true → LeavesInDoubt tells issuing base source desk.store desk.position)
+    → StaysAlong tells issuing base source (most_left desk.halted (number_at desk.position)) then desk.store → (R → R2) → (W → W2)
+    → source ≡ input → before ≡ told told_any [] → new name ≡ now → SameOthers name old new → RanTo (EndsAt tells issuing base input then desk) R2 W2 issuing base told_any status input name old new
+ran_to tells issuing then desk base R R2 W W2 told_any status source input left before now name old new ran leaves in_doubt along reads writes is_source is_before is_now others =
+    let P : State → Type 0 = λ s. (fault_of desk ≡ fault_at s.halted (number_of s)) × EndsAt tells issuing base input then desk s in
     let doubt : desk.halted ≡ true → LeavesInDoubt tells issuing base input desk.store desk.position =
     subst (λ (o : Option (List ℕ)). desk.halted ≡ true → LeavesInDoubt tells issuing base o desk.store desk.position) is_source in_doubt in
+    let stays = subst (λ (o : Option (List ℕ)). StaysAlong tells issuing base o (most_left desk.halted (number_at desk.position)) then desk.store) is_source along in
     record {
       fault = fault_of desk;
       left = left;
@@ -65,7 +75,7 @@ ran_to tells issuing desk base R R2 W W2 told_any status source input left befor
           (subst (λ (b : Option (List ℕ)). Ran (stream (fault_of desk) issuing base) P R2 W2 status input left b now) is_before
           (subst (λ (s : Option (List ℕ)). Ran (stream (fault_of desk) issuing base) P R2 W2 status s left before now) is_source
           (Ran-causes (stream (fault_of desk) issuing base) P R R2 W W2 status source left before now reads writes
-          (Ran-weaker (stream (fault_of desk) issuing base) (StandsAt desk) P R W status source left before now (ends_at tells issuing base input desk leaves doubt) ran))));
+          (Ran-weaker (stream (fault_of desk) issuing base) (StandsAt desk) P R W status source left before now (ends_at tells issuing base input then desk leaves doubt stays) ran))));
       others = others;
     }
 
@@ -120,20 +130,3 @@ module _ {S I O : Type 0} (source : S → List ℕ → Result I Failed → S →
         output_back = r.output_back;
         ran = RanTo-weaker P Q R W files.issuing base tells status bytes files.output (output old) (output new) weaker r.ran;
       }))
-
--- ---- the moments
--- the database was opened, and the stream was run
-pub script_along : {D : Type 0} (tells : D → Option History) (first second : Option History) (issuing : Issuing) (input : Option (List ℕ)) (old new : StoreOn D) (one two : D) (base : Position)
-    → HandsBack new one two → StoodFor first second base → StaysPossible first (tells (pick old.side old.journal.disk old.idle)) → StaysPossible second (tells (pick old.side old.idle old.journal.disk))
-    → SameIdle old new → StaysAlong tells issuing base input old new → MovesAlong first second issuing input (tells one) (tells two)
-script_along tells first second issuing input old new one two base back stood first_moments second_moments same along =
-    inr (record {
-      base = base;
-      stood = stood;
-      opened = opened_on tells old;
-      opens = opens_on tells old first second first_moments second_moments;
-      along =
-          subst (StaysIn (BesideIdle (idle_of tells old) (StandsForFront issuing base input)) (tells old.journal.disk))
-          (sym (ap (λ side. pick side (tells one) (tells two)) (sym same.side) ∙ live_told tells new one two back)) along;
-      idle = ap (λ side. pick side (tells two) (tells one)) (sym same.side) ∙ idle_told tells new one two back ∙ ap tells same.idle;
-    })

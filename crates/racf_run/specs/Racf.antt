@@ -18,7 +18,7 @@ use Rattle.racf_stream.specs.declared.issuer.Issuing.{Issuing}
 use Rattle.racf_stream.specs.declared.issuer.Issuing.TheVariants.{Free}
 use Rattle.racf_stream.specs.declared.status.Status.{Status}
 use Rattle.racf_stream.specs.declared.status.Status.TheVariants.{ReadFault, WriteFault, DiskFault, NotFormatted, Damaged, NoMemory}
-use Rattle.racf_stream.specs.Durable.{StandsForFront, CommandInDoubt, LeavesInDoubt}
+use Rattle.racf_stream.specs.Durable.{StandsForFront, StaysAlong, CommandInDoubt, LeavesInDoubt, most_left_of}
 use Rattle.racf_stream.specs.Runs.{Ran}
 use Rattle.racf_stream.specs.Script.{stream, script_output, script_status, fault_at, StandsAt}
 use Rattle.racf_stream.specs.Stream.{State, new_stream, number_of}
@@ -158,12 +158,24 @@ pub record StandsInDoubt (issuing : Issuing) (base : Position) (input : Option (
   pub in_doubt : CommandInDoubt issuing base input position next
   pub leaves : LeavesBoth first second (StandsForEither position next)
 
+-- Two disks where a database was opened on them: what the one that counts told then, and what is told of the other.
+pub record OpenedDisks : Type 0 where
+  pub live : Option History
+  pub idle : IdleDisk
+
+abbrev pub opened_on : {D : Type 0} → (tells : D → Option History) → StoreOn D → OpenedDisks
+opened_on tells store = record { live = tells store.journal.disk; idle = idle_of tells store }
+
 -- What a crash now leaves of the disks, behind the stream of an input from a base on: it stands for the position of this
--- state, or is in doubt where a disk failed. Then a fault of a disk was counted (`rose`), whatever the status is.
-pub record EndsOn (issuing : Issuing) (base : Position) (input : Option (List ℕ)) (first second : Option History) (rose : Type 0) (s : State) : Type 0 where
+-- state, or is in doubt where a disk failed. Then a fault of a disk was counted (`rose`), whatever the status is. At every
+-- moment since the database was opened a crash left what stands for the position behind some front of the accepted
+-- commands, or of these and the one that a disk failed, and the disk that doesn't count stayed as it was.
+pub record EndsOn (issuing : Issuing) (base : Position) (input : Option (List ℕ)) (opened : OpenedDisks) (first second : Option History) (rose : Type 0) (s : State) : Type 0 where
   pub leaves : s.halted ≡ false → LeavesBoth first second (StandsFor s.position)
   pub in_doubt : s.halted ≡ true → StandsInDoubt issuing base input first second s.position
   pub fault : s.halted ≡ true → rose
+  pub moments : StaysIn (BesideIdle opened.idle (StandsForFront issuing base input (most_left_of s))) opened.live (pick opened.idle.side first second)
+  pub idle : pick opened.idle.side second first ≡ opened.idle.told
 
 -- Of one of two disks a fault was counted.
 abbrev pub RoseEither : (first next_first second next_second : ℕ) → Type 0
@@ -186,9 +198,11 @@ pub record AreNoMore (before now : FaultCounts) : Type 0 where
   pub first : before.first ≤ now.first
   pub second : before.second ≤ now.second
 
--- The desk stands where the state says, and so do its disks, or they are in doubt.
-pub record EndsAt {D : Type 0} (tells : D → Option History) (issuing : Issuing) (base : Position) (input : Option (List ℕ)) (desk : DeskOn D) (s : State) : Type 0 where
+-- The desk stands where the state says, and so do its disks, or they are in doubt. Since the store was as it was then, a
+-- crash left what stands for a front of the accepted commands, or of these and the one that is in doubt.
+pub record EndsAt {D : Type 0} (tells : D → Option History) (issuing : Issuing) (base : Position) (input : Option (List ℕ)) (then : StoreOn D) (desk : DeskOn D) (s : State) : Type 0 where
   pub stands : StandsAt desk s
+  pub moments : StaysAlong tells issuing base input (most_left_of s) then desk.store
   pub leaves : s.halted ≡ false → LeavesIt tells desk.store s.position
   pub in_doubt : s.halted ≡ true → LeavesInDoubt tells issuing base input desk.store s.position
 
@@ -217,14 +231,6 @@ pub record OpensDatabase (first second : Option History) (runs : Position → Ty
   pub stood : StoodFor first second base
   pub ran : runs base
 
--- Two disks where a database was opened on them: what the one that counts told then, and what is told of the other.
-pub record OpenedDisks : Type 0 where
-  pub live : Option History
-  pub idle : IdleDisk
-
-abbrev pub opened_on : {D : Type 0} → (tells : D → Option History) → StoreOn D → OpenedDisks
-opened_on tells store = record { live = tells store.journal.disk; idle = idle_of tells store }
-
 -- Nothing was run on disks that told `opened`: they tell that still, and a crash leaves what stands for the position.
 pub record StandsStill (opened : OpenedDisks) (first second : Option History) (base : Position) : Type 0 where
   pub stand : LeavesBoth first second (StandsFor base)
@@ -235,21 +241,6 @@ pub record StandsStill (opened : OpenedDisks) (first second : Option History) (b
 pub record OpensOn (first second : Option History) (opened : OpenedDisks) : Type 0 where
   pub first_moments : StaysPossible first (pick opened.idle.side opened.live opened.idle.told)
   pub second_moments : StaysPossible second (pick opened.idle.side opened.idle.told opened.live)
-
--- The database was opened at a position. From then on a crash leaves what stands for the position behind some front of
--- the statements of the input, and the disk that doesn't count stays as it is.
-pub record RunsAlong (first second : Option History) (issuing : Issuing) (input : Option (List ℕ)) (next_first next_second : Option History) : Type 0 where
-  pub base : Position
-  pub stood : StoodFor first second base
-  pub opened : OpenedDisks
-  pub opens : OpensOn first second opened
-  pub along : StaysIn (BesideIdle opened.idle (StandsForFront issuing base input)) opened.live (pick opened.idle.side next_first next_second)
-  pub idle : pick opened.idle.side next_second next_first ≡ opened.idle.told
-
--- What every crash leaves meanwhile: where the database isn't opened, of each disk what was possible before.
-abbrev pub MovesAlong : (first second : Option History) → (issuing : Issuing) → (input : Option (List ℕ)) → (next_first next_second : Option History) → Type 0
-MovesAlong first second issuing input next_first next_second =
-    (StaysPossible first next_first × StaysPossible second next_second) ⊎ RunsAlong first second issuing input next_first next_second
 
 -- Each output that is open now was open before: what the call opened was given back.
 abbrev pub OpensNone : (List ℕ → Bool) → (List ℕ → Bool) → Type 0

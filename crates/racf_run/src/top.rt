@@ -10,9 +10,8 @@ ghost use Rattle.racf_desk.specs.Formatting.{LeavesNoOlder};
 ghost use Rattle.racf_desk.specs.Position.{first_position};
 ghost use Rattle.racf_desk.specs.Durable.{LeavesBoth, SameIdle};
 ghost use Rattle.racf_desk.specs.Recovery.{StandsFor};
-ghost use Rattle.racf_stream.specs.Durable.{StaysAlong};
 ghost use Rattle.racf_run.specs.Racf.{files_of, script_files, is_init, opening_status, RunsOnShelf, MakesOnShelf, IsWholeOutput, OpensNone};
-ghost use Rattle.racf_run.specs.Racf.{IsUnsound, OpensNoDatabase, OpensDatabase, OpenedDisks, OpensOn, StandsStill, EndsOn, EndsAt, MovesAlong, RoseEither, fault_counts};
+ghost use Rattle.racf_run.specs.Racf.{IsUnsound, OpensNoDatabase, OpensDatabase, OpenedDisks, OpensOn, StandsStill, EndsOn, EndsAt, RoseEither, fault_counts};
 ghost use Rattle.racf_run.specs.Compacting.{is_compact, EndsCompact, MovesToCompact};
 ghost use Rattle.racf_run.specs.Making.{make_words, most_users};
 ghost use Rattle.racf_run.specs.Running.{run_words, NamedRan, RunsFiles};
@@ -83,13 +82,14 @@ where
     F::Out: Drop + Send,
 
     // The database is opened, or why not. Which calls are made of the shelf then, in which order, what the outputs tell
-    // afterwards, wherever the stream stopped, and what every crash leaves of the disks behind it.
+    // afterwards, wherever the stream stopped, and what every crash leaves of the disks, meanwhile and behind it.
     ensures runs { IfSome (script_files (map string_bytes words.now)) (λ files.
         OpensNoDatabase (D.tells disks.first) (D.tells disks.second) (D.tells result.1.first) (D.tells result.1.second) result.0 shelf.old shelf.new
         ⊎ OpensDatabase (D.tells disks.first) (D.tells disks.second) (λ base.
-        RunsOnShelf F.source_gives F.sink_gives F.take_back_gives F.give_back_gives F.tells F.output
+        (opened : OpenedDisks) × OpensOn (D.tells disks.first) (D.tells disks.second) opened
+        × RunsOnShelf F.source_gives F.sink_gives F.take_back_gives F.give_back_gives F.tells F.output
         (Rose (F.source_faults shelf.old) (F.source_faults shelf.new)) (Rose (F.sink_faults shelf.old) (F.sink_faults shelf.new))
-        (EndsOn files.issuing base (F.input shelf.old files.input) (D.tells result.1.first) (D.tells result.1.second)
+        (EndsOn files.issuing base (F.input shelf.old files.input) opened (D.tells result.1.first) (D.tells result.1.second)
         (RoseEither (D.faults disks.first) (D.faults result.1.first) (D.faults disks.second) (D.faults result.1.second))) base
         result.0 (F.input shelf.old files.input) files shelf.old shelf.new)) }
 
@@ -97,10 +97,6 @@ where
     ensures whole { IsTrue (is_whole result.0) → IfSome (script_files (map string_bytes words.now)) (λ files.
         OpensDatabase (D.tells disks.first) (D.tells disks.second) (λ base.
         IsWholeOutput files.issuing base F.tells result.0 (F.input shelf.old files.input) (F.output shelf.new files.output))) }
-
-    // What every crash leaves meanwhile.
-    ensures moments { IfSome (script_files (map string_bytes words.now)) (λ files.
-        MovesAlong (D.tells disks.first) (D.tells disks.second) files.issuing (F.input shelf.old files.input) (D.tells result.1.first) (D.tells result.1.second)) }
 
     // The database is opened, or why not; then all files, or why not; and then decks and request files are worked side
     // by side, over one history, of which each output tells a part.
@@ -239,14 +235,14 @@ fn script_on<F: Shelf, D: Disk>(
 ) -> (Status, Two<D>)
     ensures runs { OpensNoDatabase (D.tells disks.first) (D.tells disks.second) (D.tells result.1.first) (D.tells result.1.second) result.0 shelf.old shelf.new
         ⊎ OpensDatabase (D.tells disks.first) (D.tells disks.second) (λ base.
-        RunsOnShelf F.source_gives F.sink_gives F.take_back_gives F.give_back_gives F.tells F.output
+        (opened : OpenedDisks) × OpensOn (D.tells disks.first) (D.tells disks.second) opened
+        × RunsOnShelf F.source_gives F.sink_gives F.take_back_gives F.give_back_gives F.tells F.output
         (Rose (F.source_faults shelf.old) (F.source_faults shelf.new)) (Rose (F.sink_faults shelf.old) (F.sink_faults shelf.new))
-        (EndsOn issuing base (F.input shelf.old input.now) (D.tells result.1.first) (D.tells result.1.second)
+        (EndsOn issuing base (F.input shelf.old input.now) opened (D.tells result.1.first) (D.tells result.1.second)
         (RoseEither (D.faults disks.first) (D.faults result.1.first) (D.faults disks.second) (D.faults result.1.second))) base
         result.0 (F.input shelf.old input.now) (record { issuing = issuing; input = input.now; output = output.now }) shelf.old shelf.new) }
     ensures whole { IsTrue (is_whole result.0) → OpensDatabase (D.tells disks.first) (D.tells disks.second) (λ base.
         IsWholeOutput issuing base F.tells result.0 (F.input shelf.old input.now) (F.output shelf.new output.now)) }
-    ensures moments { MovesAlong (D.tells disks.first) (D.tells disks.second) issuing (F.input shelf.old input.now) (D.tells result.1.first) (D.tells result.1.second) }
     ensures usage { result.0 ≢ Status.Usage }
     ensures only_synced { IsUnsound result.0 → OnlySynced (D.tells disks.first) (D.tells result.1.first) × OnlySynced (D.tells disks.second) (D.tells result.1.second) }
     ensures read_fault { result.0 ≡ Status.ReadFault → Rose (F.source_faults shelf.old) (F.source_faults shelf.new) }
@@ -315,10 +311,9 @@ fn script_between<F: Shelf, D: Disk>(
     requires settled { desk.committed ≡ false }
     ensures runs { RunsOnShelf F.source_gives F.sink_gives F.take_back_gives F.give_back_gives F.tells F.output
         (Rose (F.source_faults shelf.old) (F.source_faults shelf.new)) (Rose (F.sink_faults shelf.old) (F.sink_faults shelf.new))
-        (EndsAt D.tells issuing desk.position (F.input shelf.old input.now) result.1) desk.position
+        (EndsAt D.tells issuing desk.position (F.input shelf.old input.now) desk.store result.1) desk.position
         result.0 (F.input shelf.old input.now) (record { issuing = issuing; input = input.now; output = output.now }) shelf.old shelf.new }
     ensures whole { IsTrue (is_whole result.0) → IsWholeOutput issuing desk.position F.tells result.0 (F.input shelf.old input.now) (F.output shelf.new output.now) }
-    ensures moments { StaysAlong D.tells issuing desk.position (F.input shelf.old input.now) desk.store result.1.store }
     ensures idle { SameIdle desk.store result.1.store }
     ensures no_other { (result.0 ≢ Status.Usage) × (result.0 ≢ Status.NotFormatted) }
     ensures undamaged { (place : ℕ) → result.0 ≢ Status.Damaged place }

@@ -44,7 +44,7 @@ answer_agrees failed item.LineTooLong s runs h = refl
 
 -- ---- what every statement keeps
 -- A statement leaves no smaller number, and, where no disk fails, none that has failed.
-record Keeps (s : State) (a : Answer) : Type 0 where
+pub record Keeps (s : State) (a : Answer) : Type 0 where
   pub grows : number_of s ≤ number_of a.state
   pub runs : s.halted ≡ false → a.state.halted ≡ false
 
@@ -68,7 +68,7 @@ request_keeps : (text : List ℕ) (s : State) → Keeps s (request text s)
 unfolding request
 request_keeps text s = record { grows = omega arith; runs = λ h. h }
 
-answer_keeps : (i : Statement) (s : State) → Keeps s (answer None i s)
+pub answer_keeps : (i : Statement) (s : State) → Keeps s (answer None i s)
 answer_keeps (item.Command text) s = command_keeps text s
 answer_keeps (item.Issuer text) s = issuer_keeps (issuer_named s.issuing text) s
 answer_keeps (item.Request text) s = request_keeps text s
@@ -160,7 +160,7 @@ module _ (failed : ℕ) (issuing : Issuing) (base : Position) where
 
 -- ---- behind a disk that failed
 -- a statement leaves the position, and the disk failed still
-record Rests (s : State) (a : Answer) : Type 0 where
+pub record Rests (s : State) (a : Answer) : Type 0 where
   pub position : a.state.position ≡ s.position
   pub number : number_of a.state ≡ number_of s
   pub halted : a.state.halted ≡ s.halted
@@ -178,7 +178,7 @@ request_rests : (text : List ℕ) (s : State) → Rests s (request text s)
 unfolding request
 request_rests text s = record { position = refl; number = refl; halted = refl }
 
-answer_rests : (fault : Option ℕ) (i : Statement) (s : State) → s.halted ≡ true → Rests s (answer fault i s)
+pub answer_rests : (fault : Option ℕ) (i : Statement) (s : State) → s.halted ≡ true → Rests s (answer fault i s)
 answer_rests fault (item.Command text) s halted = command_rests fault text s halted
 answer_rests fault (item.Issuer text) s halted = issuer_rests (issuer_named s.issuing text) s
 answer_rests fault (item.Request text) s halted = request_rests text s

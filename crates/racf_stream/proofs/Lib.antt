@@ -15,6 +15,7 @@ pub mod Faults
 pub mod Processing
 pub mod Settling
 pub mod StreamWalk
+pub mod LeftLaws
 pub mod Moments
 pub mod Doubt
 pub mod Ending

@@ -1,7 +1,7 @@
 -- What every crash leaves along a stream: what stands for the position behind some front of its statements.
 use Rattle.std.proofs.Common.{◌≡◌, ℕ, ◌≤◌, Bool, true, false, List, [], ◌∷◌, ◌++◌, None, Some, inl, inr, refl, sym, ◌∙◌, ap, subst, arith}
 use Rattle.std.specs.Prelude.{Option, ◌⊎◌}
-use Rattle.std.specs.Option.{option_to_list}
+use Rattle.std.proofs.Math.Nat.{le_trans}
 use Rattle.racf_outside.specs.Causes.{Rose}
 use Rattle.racf_outside.specs.Disk.{History}
 use Rattle.racf_outside.specs.Reader.{Reader, at_start}
@@ -14,19 +14,22 @@ use Rattle.racf_desk.specs.Position.{Position}
 use Rattle.racf_desk.specs.Recovery.{StandsFor, StandsForEither}
 use Rattle.racf_stream.specs.declared.issuer.Issuing.{Issuing}
 use Rattle.racf_stream.specs.declared.statement.Statement.{Statement}
-use Rattle.racf_stream.specs.Durable.{StreamOn, MovesBy, StandsForFront, StaysAlong}
+use Rattle.racf_stream.specs.Durable.{StreamOn, Moves, MovesBy, StandsForFront, StaysAlong, fault_in, most_left_of}
 use Rattle.racf_stream.specs.NextStatement.{TakesStatements}
+use Rattle.racf_stream.specs.Processing.{Works}
 use Rattle.racf_stream.specs.Runs.{output}
 use Rattle.racf_stream.specs.Script.{stream, statements, fault_at}
 use Rattle.racf_stream.specs.Stream.{State, number_of, new_stream, answer, step}
 use Rattle.racf_stream.proofs.Faults.{step_is, step_few}
+use Rattle.racf_stream.proofs.LeftLaws.{left_at_least, left_grows, answer_left}
 use Rattle.racf_stream.proofs.Walk.{Walk, Walk-none, Walk-items, Walk-first}
 use Rattle.racf_stream.proofs.StreamWalk.{StreamWalk}
 
 -- where the stream is, some front of the statements led
 stands_walked : (issuing : Issuing) (base : Position) (source : Option (List ℕ)) (reader : Reader) (slack : ℕ) (s : State) (before now : Option (List ℕ)) (gathered : List ℕ) → Walk (stream None issuing base) source reader slack s before now gathered
-    → (position : Position) → position ≡ s.position → (one other : List ℕ) → StandsFor position one other → StandsForFront issuing base source one other
-stands_walked issuing base source reader slack s before now gathered w position is one other stands =
+    → (most : ℕ) → number_of s ≤ most
+    → (position : Position) → position ≡ s.position → (one other : List ℕ) → StandsFor position one other → StandsForFront issuing base source most one other
+stands_walked issuing base source reader slack s before now gathered w most few position is one other stands =
     record {
       read = w.read;
       more = reader.unread;
@@ -34,59 +37,98 @@ stands_walked issuing base source reader slack s before now gathered w position 
       done = w.done;
       begins = Walk-first (stream None issuing base) source reader slack s before now gathered w;
       stands = subst (λ p. StandsFor p one other) (is ∙ ap (λ (x : State). x.position) w.state) stands;
+      within = subst (λ (x : State). number_of x ≤ most) w.state few;
     }
+
+-- A front of few commands is one of no more than are more than these.
+pub front_of_more : (issuing : Issuing) (base : Position) (source : Option (List ℕ)) (few most : ℕ) → few ≤ most → (one other : List ℕ) → StandsForFront issuing base source few one other → StandsForFront issuing base source most one other
+front_of_more issuing base source few most more one other front =
+    record {
+      read = front.read;
+      more = front.more;
+      given = front.given;
+      done = front.done;
+      begins = front.begins;
+      stands = front.stands;
+      within = let within = front.within in omega (arith, within, more);
+    }
+
+pub along_of_more : {D : Type 0} (tells : D → Option History) (issuing : Issuing) (base : Position) (source : Option (List ℕ)) (few most : ℕ) (old new : StoreOn D) → few ≤ most
+    → StaysAlong tells issuing base source few old new → StaysAlong tells issuing base source most old new
+along_of_more tells issuing base source few most old new more along =
+    StaysIn-weaker (BesideIdle (idle_of tells old) (StandsForFront issuing base source most)) along
+    (λ h told one p. beside-weaker (idle_of tells old) (StandsForFront issuing base source few) (StandsForFront issuing base source most) (front_of_more issuing base source few most more) one p)
 
 new_position : (issuing : Issuing) (base : Position) → base ≡ (new_stream issuing base).position
 unfolding new_stream
 new_position issuing base = refl
 
--- before the first statement
-pub StaysAlong-none : {D : Type 0} (tells : D → Option History) (issuing : Issuing) (base : Position) (source : Option (List ℕ)) (store : StoreOn D) → LeavesIt tells store base → StaysAlong tells issuing base source store store
-StaysAlong-none tells issuing base source store leaves =
-    let front : (one other : List ℕ) → StandsFor base one other → StandsForFront issuing base source one other =
-    stands_walked issuing base source (at_start source 0) 0 (new_stream issuing base) None None [] (Walk-none (stream None issuing base) source None 0) base (new_position issuing base) in
-    StaysIn-none (BesideIdle (idle_of tells store) (StandsForFront issuing base source)) (tells store.journal.disk)
-    (λ h told. Leaves-weaker (BesideIdle (idle_of tells store) (StandsFor base)) (BesideIdle (idle_of tells store) (StandsForFront issuing base source)) h.now
-    (beside-weaker (idle_of tells store) (StandsFor base) (StandsForFront issuing base source) front) (leaves h told))
+-- Before the first statement.
+pub StaysAlong-none : {D : Type 0} (tells : D → Option History) (issuing : Issuing) (base : Position) (source : Option (List ℕ)) (most : ℕ) (store : StoreOn D) → base.image.generation ≤ most → LeavesIt tells store base
+    → StaysAlong tells issuing base source most store store
+StaysAlong-none tells issuing base source most store few leaves =
+    let front : (one other : List ℕ) → StandsFor base one other → StandsForFront issuing base source most one other =
+    stands_walked issuing base source (at_start source 0) 0 (new_stream issuing base) None None [] (Walk-none (stream None issuing base) source None 0)
+    most (subst (λ (p : Position). p.image.generation ≤ most) (new_position issuing base) few) base (new_position issuing base) in
+    StaysIn-none (BesideIdle (idle_of tells store) (StandsForFront issuing base source most)) (tells store.journal.disk)
+    (λ h told. Leaves-weaker (BesideIdle (idle_of tells store) (StandsFor base)) (BesideIdle (idle_of tells store) (StandsForFront issuing base source most)) h.now
+    (beside-weaker (idle_of tells store) (StandsFor base) (StandsForFront issuing base source most) front) (leaves h told))
 
+-- The stream goes on.
 module _ {D : Type 0} (tells : D → Option History) (faults : D → ℕ) (issuing : Issuing) (base : Position) (source : Option (List ℕ)) (first : StoreOn D) (s t : StreamOn D) where
   -- nothing was done to the disks
-  same_store : t.store ≡ s.store → StaysAlong tells issuing base source first s.store → StaysAlong tells issuing base source first t.store
-  same_store is along = subst (λ (store : StoreOn D). StaysAlong tells issuing base source first store) (sym is) along
+  same_store : t.store ≡ s.store → (most : ℕ) → StaysAlong tells issuing base source most first s.store → StaysAlong tells issuing base source most first t.store
+  same_store is most along = subst (λ (store : StoreOn D). StaysAlong tells issuing base source most first store) (sym is) along
 
   -- a command stands on them, or doesn't
-  one_more : (old new : Reader) (item : Statement) (bytes : List ℕ) (before now : Option (List ℕ)) (gathered : List ℕ)
+  one_more : (old new : Reader) (item : Statement) (bytes : List ℕ) (before now : Option (List ℕ)) (gathered : List ℕ) (most : ℕ)
       → Walk (stream None issuing base) source old 0 s.state before now gathered → TakesStatements statements (item ∷ []) bytes old new → SameIdle first s.store
-      → StaysEither tells s.store t.store s.state.position (answer None item s.state).state.position → StaysAlong tells issuing base source first s.store → StaysAlong tells issuing base source first t.store
-  one_more old new item bytes before now gathered w takes idle either along =
+      → number_of s.state ≤ most → number_of (answer None item s.state).state ≤ most
+      → StaysEither tells s.store t.store s.state.position (answer None item s.state).state.position → StaysAlong tells issuing base source most first s.store → StaysAlong tells issuing base source most first t.store
+  one_more old new item bytes before now gathered most w takes idle few more either along =
       let m = stream None issuing base in
       let next : State = step None item s.state in
-      let is : (answer None item s.state).state.position ≡ next.position = ap (λ (x : State). x.position) (sym (step_is None item s.state)) in
+      let same : (answer None item s.state).state ≡ next = sym (step_is None item s.state) in
       let behind : Walk m source new 1 next before now (gathered ++ output m (item ∷ []) s.state) = Walk-items m (item ∷ []) bytes source old new 0 1 s.state next before now gathered (gathered ++ output m (item ∷ []) s.state) w takes refl refl (let few = step_few None item s.state in omega (arith, few)) in
-      let front : (one other : List ℕ) → StandsForEither s.state.position (answer None item s.state).state.position one other → StandsForFront issuing base source one other =
-      by_either s.state.position (answer None item s.state).state.position (stands_walked issuing base source old 0 s.state before now gathered w s.state.position refl) (stands_walked issuing base source new 1 next before now (gathered ++ output m (item ∷ []) s.state) behind (answer None item s.state).state.position is) in
+      let front : (one other : List ℕ) → StandsForEither s.state.position (answer None item s.state).state.position one other → StandsForFront issuing base source most one other =
+      by_either s.state.position (answer None item s.state).state.position (stands_walked issuing base source old 0 s.state before now gathered w most few s.state.position refl)
+      (stands_walked issuing base source new 1 next before now (gathered ++ output m (item ∷ []) s.state) behind most (subst (λ (x : State). number_of x ≤ most) same more) (answer None item s.state).state.position (ap (λ (x : State). x.position) same)) in
       StaysIn-joined along
-      (StaysIn-weaker (BesideIdle (idle_of tells first) (StandsForFront issuing base source)) either
-      (λ h told one p. beside-weaker (idle_of tells first) (StandsForEither s.state.position (answer None item s.state).state.position) (StandsForFront issuing base source) front one
+      (StaysIn-weaker (BesideIdle (idle_of tells first) (StandsForFront issuing base source most)) either
+      (λ h told one p. beside-weaker (idle_of tells first) (StandsForEither s.state.position (answer None item s.state).state.position) (StandsForFront issuing base source most) front one
       (subst (λ (d : IdleDisk). BesideIdle d (StandsForEither s.state.position (answer None item s.state).state.position) one) (same_idle-told tells first s.store idle) p)))
     where
-      by_either : (p q : Position) → ((one other : List ℕ) → StandsFor p one other → StandsForFront issuing base source one other) → ((one other : List ℕ) → StandsFor q one other → StandsForFront issuing base source one other)
-          → (one other : List ℕ) → StandsForEither p q one other → StandsForFront issuing base source one other
+      by_either : (p q : Position) → ((one other : List ℕ) → StandsFor p one other → StandsForFront issuing base source most one other) → ((one other : List ℕ) → StandsFor q one other → StandsForFront issuing base source most one other)
+          → (one other : List ℕ) → StandsForEither p q one other → StandsForFront issuing base source most one other
       by_either p q l r one other (inl x) = l one other x
       by_either p q l r one other (inr x) = r one other x
 
-  -- a statement, where there is one
-  pub moved : (old new : Reader) (given : Option Statement) (bytes : List ℕ) (before now : Option (List ℕ)) (gathered : List ℕ)
-      → StreamWalk issuing base source old 0 s.state before now gathered → TakesStatements statements (option_to_list given) bytes old new → SameIdle first s.store
-      → MovesBy tells faults given s t → StaysAlong tells issuing base source first s.store → StaysAlong tells issuing base source first t.store
-  moved old new None bytes before now gathered w takes idle is along = same_store (ap (λ (x : StreamOn D). x.store) is) along
-  moved old new (Some item) bytes before now gathered w takes idle moves along = by moves.moments
+  -- a statement was worked
+  pub moved : (old new : Reader) (item : Statement) (bytes : List ℕ) (before now : Option (List ℕ)) (gathered more : List ℕ)
+      → StreamWalk issuing base source old 0 s.state before now gathered → TakesStatements statements (item ∷ []) bytes old new → Works issuing base (Some item) s t gathered more → SameIdle first s.store
+      → Moves tells faults item s t → StaysAlong tells issuing base source (most_left_of s.state) first s.store → StaysAlong tells issuing base source (most_left_of t.state) first t.store
+  moved old new item bytes before now gathered more w takes works idle moves along = by moves.moments
     where
-      by : (t.store ≡ s.store) ⊎ ((s.state.halted ≡ false) × StaysEither tells s.store t.store s.state.position (answer None item s.state).state.position) → StaysAlong tells issuing base source first t.store
-      by (inl is) = same_store is along
+      behind : t.state ≡ (answer (fault_in t) item s.state).state
+      behind = works.state ∙ step_is (fault_in t) item s.state
+
+      grows : most_left_of s.state ≤ most_left_of t.state
+      grows = subst (λ (x : State). most_left_of s.state ≤ most_left_of x) (sym behind) (left_grows (fault_in t) item s.state)
+
+      wider : StaysAlong tells issuing base source (most_left_of t.state) first s.store
+      wider = along_of_more tells issuing base source (most_left_of s.state) (most_left_of t.state) first s.store grows along
+
+      by : (t.store ≡ s.store) ⊎ ((s.state.halted ≡ false) × StaysEither tells s.store t.store s.state.position (answer None item s.state).state.position) → StaysAlong tells issuing base source (most_left_of t.state) first t.store
+      by (inl is) = same_store is (most_left_of t.state) wider
       by (inr either) =
-          one_more old new item bytes before now gathered
-          (subst (λ fault. Walk (stream fault issuing base) source old 0 s.state before now gathered) (ap (λ h. fault_at h (number_of s.state)) either.0) w) takes idle either.1 along
+          one_more old new item bytes before now gathered (most_left_of t.state)
+          (subst (λ fault. Walk (stream fault issuing base) source old 0 s.state before now gathered) (ap (λ h. fault_at h (number_of s.state)) either.0) w) takes idle
+          (le_trans (left_at_least s.state.halted (number_of s.state)) grows)
+          (subst (λ (x : State). number_of (answer None item s.state).state ≤ most_left_of x) (sym behind) (answer_left (fault_in t) item s.state either.0)) either.1 wider
+
+  -- the stream is as it was
+  pub moved_none : t ≡ s → StaysAlong tells issuing base source (most_left_of s.state) first s.store → StaysAlong tells issuing base source (most_left_of t.state) first t.store
+  moved_none same along = subst (λ (x : StreamOn D). StaysAlong tells issuing base source (most_left_of x.state) first x.store) (sym same) along
 
   pub idle_still : (given : Option Statement) → MovesBy tells faults given s t → SameIdle first s.store → SameIdle first t.store
   idle_still None is idle = same_idle-then first s.store t.store idle (same_idle s.store t.store (ap (λ (x : StreamOn D). x.store) is))

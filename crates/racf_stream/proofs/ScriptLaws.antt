@@ -5,13 +5,13 @@ use Rattle.std.specs.Io.KnownBytes.{prepend_known, append_known, IsAtEnd}
 use Rattle.racf_outside.specs.Disk.{History}
 use Rattle.racf_checkpoint.specs.Stored.{StoreOn}
 use Rattle.racf_desk.specs.Durable.{SameIdle}
-use Rattle.racf_desk.specs.Made.{DeskOn}
+use Rattle.racf_desk.specs.Made.{DeskOn, number_at}
 use Rattle.racf_desk.specs.Position.{Position}
 use Rattle.racf_stream.specs.declared.issuer.Issuing.{Issuing}
 use Rattle.racf_stream.specs.declared.statement.Statement.{Statement}
 use Rattle.racf_stream.specs.declared.status.Status.{Status}
 use Rattle.racf_stream.specs.declared.status.Status.TheVariants.{Done, Refusals, Usage, ReadFault, WriteFault, DiskFault, NotFormatted, Damaged, NoMemory, InputTooLong}
-use Rattle.racf_stream.specs.Durable.{StreamOn, StandsIn, StaysAlong, LeavesInDoubt, fault_in}
+use Rattle.racf_stream.specs.Durable.{StreamOn, StandsIn, StaysAlong, LeavesInDoubt, fault_in, most_left, most_left_of}
 use Rattle.racf_stream.specs.Runs.{Machine, after, output, longest_input, Ran, Wrote, WroteAll, whole_status, status_of}
 use Rattle.racf_stream.specs.Script.{stream, fault_at, fault_of, is_whole, script_output, script_status, StandsAt}
 use Rattle.racf_stream.specs.Stream.{State, number_of, new_stream}
@@ -121,13 +121,20 @@ ran_too_long m P R W status source left before now r is =
     read_more source r.more r.read r.given long.too_long
 
 -- what every crash leaves, of the same input, base and stores under other names
-pub along_as : {D : Type 0} (tells : D → Option History) (given issuing : Issuing) (at base : Position) (known source : Option (List ℕ)) (old first new last : StoreOn D) → given ≡ issuing → at ≡ base → known ≡ source → old ≡ first → new ≡ last → StaysAlong tells given at known old new → StaysAlong tells issuing base source first last
-along_as {D = D} tells given issuing at base known source old first new last is_given is_at is_known is_old is_new along =
-    subst (λ (i : Issuing). StaysAlong tells i base source first last) is_given
-    (subst (λ (b : Position). StaysAlong tells given b source first last) is_at
-    (subst (λ (k : Option (List ℕ)). StaysAlong tells given at k first last) is_known
-    (subst (λ (o : StoreOn D). StaysAlong tells given at known o last) is_old
-    (subst (λ (n : StoreOn D). StaysAlong tells given at known old n) is_new along))))
+pub along_as : {D : Type 0} (tells : D → Option History) (given issuing : Issuing) (at base : Position) (known source : Option (List ℕ)) (few most : ℕ) (old first new last : StoreOn D)
+    → given ≡ issuing → at ≡ base → known ≡ source → few ≡ most → old ≡ first → new ≡ last → StaysAlong tells given at known few old new → StaysAlong tells issuing base source most first last
+along_as {D = D} tells given issuing at base known source few most old first new last is_given is_at is_known is_few is_old is_new along =
+    subst (λ (i : Issuing). StaysAlong tells i base source most first last) is_given
+    (subst (λ (b : Position). StaysAlong tells given b source most first last) is_at
+    (subst (λ (k : Option (List ℕ)). StaysAlong tells given at k most first last) is_known
+    (subst (λ (m : ℕ). StaysAlong tells given at known m first last) is_few
+    (subst (λ (o : StoreOn D). StaysAlong tells given at known few o last) is_old
+    (subst (λ (n : StoreOn D). StaysAlong tells given at known few old n) is_new along)))))
+
+-- as many commands may be left as the desk says
+pub left_is : {D : Type 0} (desk : DeskOn D) (s : StreamOn D) → StandsIn desk s → most_left_of s.state ≡ most_left desk.halted (number_at desk.position)
+left_is desk s stands =
+    ap (λ (p : Position). most_left s.state.halted (number_at p)) (sym stands.position) ∙ ap (λ h. most_left h (number_at desk.position)) (sym stands.halted)
 
 -- and the disk that doesn't count
 pub idle_as : {D : Type 0} (old first new last : StoreOn D) → old ≡ first → new ≡ last → SameIdle old new → SameIdle first last

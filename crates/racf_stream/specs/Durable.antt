@@ -1,5 +1,5 @@
 -- A stream whose desk stands on disks: what its statements do to them, and what every crash leaves.
-use Rattle.std.specs.Prelude.{◌≡◌, ◌⊎◌, ◌++◌, ◌∷◌, [], ◌≤◌, ℕ, Bool, true, false, Option, None, Some, List, Ok}
+use Rattle.std.specs.Prelude.{◌≡◌, ◌⊎◌, ◌++◌, ◌∷◌, [], ◌+◌, ◌≤◌, ℕ, Bool, true, false, Option, None, Some, List, Ok, if◌then◌else◌}
 use Rattle.std.specs.Io.KnownBytes.{prepend_known}
 use Rattle.racf_outside.specs.Causes.{Rose}
 use Rattle.racf_outside.specs.Crashes.{Leaves, StaysIn}
@@ -86,20 +86,29 @@ pub record Settles {D : Type 0} (tells : D → Option History) (desk now : DeskO
   pub moments : StaysEither tells desk.store now.store desk.position (installed desk.position made)
   pub idle : SameIdle desk.store now.store
 
--- Two files stand for the position behind the first statements of an input, whichever these are.
-pub record StandsForFront (issuing : Issuing) (base : Position) (source : Option (List ℕ)) (first second : List ℕ) : Type 0 where
+-- How many commands a crash may leave: those that were accepted and, where a disk failed one, that one too.
+abbrev pub most_left : (halted : Bool) → (number : ℕ) → ℕ
+most_left halted number = if halted then number + 1 else number
+
+abbrev pub most_left_of : State → ℕ
+most_left_of s = most_left s.halted (number_of s)
+
+-- Two files stand for the position behind the first statements of an input, whichever these are: no more than this many
+-- commands were accepted there.
+pub record StandsForFront (issuing : Issuing) (base : Position) (source : Option (List ℕ)) (most : ℕ) (first second : List ℕ) : Type 0 where
   pub read : List ℕ
   pub more : Option (List ℕ)
   pub given : source ≡ prepend_known read more
   pub done : List Statement
   pub begins : BeginsWith statements read more done
   pub stands : StandsFor (after (stream None issuing base) done (new_stream issuing base)).position first second
+  pub within : number_of (after (stream None issuing base) done (new_stream issuing base)) ≤ most
 
 -- At every moment of a stream from that input, from a base on, a crash leaves what stands for the position behind some
--- front of its statements. The disk that doesn't count stays as it is.
-abbrev pub StaysAlong : {D : Type 0} → (tells : D → Option History) → Issuing → (base : Position) → (source : Option (List ℕ)) → (old new : StoreOn D) → Type 0
-StaysAlong tells issuing base source old new =
-    StaysIn (BesideIdle (idle_of tells old) (StandsForFront issuing base source)) (tells old.journal.disk) (tells new.journal.disk)
+-- front of its statements, with no more than this many commands accepted. The disk that doesn't count stays as it is.
+abbrev pub StaysAlong : {D : Type 0} → (tells : D → Option History) → Issuing → (base : Position) → (source : Option (List ℕ)) → (most : ℕ) → (old new : StoreOn D) → Type 0
+StaysAlong tells issuing base source most old new =
+    StaysIn (BesideIdle (idle_of tells old) (StandsForFront issuing base source most)) (tells old.journal.disk) (tells new.journal.disk)
 
 -- The command of an input, from a base on, that a disk failed, and the position behind it: it is accepted behind these
 -- statements, which lead to this position, and it is told DISKFAULT.

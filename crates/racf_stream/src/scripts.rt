@@ -5,8 +5,9 @@ ghost use Rattle.std.specs.Io.KnownBytes.{append_known};
 ghost use Rattle.racf_outside.specs.Causes.{HasCause, Rose};
 ghost use Rattle.racf_outside.specs.Reader.{at_start};
 ghost use Rattle.racf_desk.specs.Durable.{LeavesIt, SameIdle};
+ghost use Rattle.racf_desk.specs.Made.{number_at};
 ghost use Rattle.racf_desk.specs.Position.{Position};
-ghost use Rattle.racf_stream.specs.Durable.{DoesOn, Fails, LeavesInDoubt, Moves, StaysAlong, fault_in};
+ghost use Rattle.racf_stream.specs.Durable.{DoesOn, Fails, LeavesInDoubt, Moves, StaysAlong, fault_in, most_left, most_left_of};
 ghost use Rattle.racf_stream.specs.Gathering.{Acknowledges, IsCutShort};
 ghost use Rattle.racf_stream.specs.Runs.{Ran, longest_input};
 ghost use Rattle.racf_stream.specs.Script.{stream, stream as machine, fault_of, is_whole, script_output, script_status, StandsAt};
@@ -53,9 +54,10 @@ pub fn script<S: Source, O: Sink, D: Disk>(
     ensures whole { IsTrue (is_whole result.0) → IfSome (S.left source) (λ bytes.
         (O.taken sink.new ≡ append_known (O.taken sink.old) (script_output None issuing desk.position bytes)) × (result.0 ≡ script_status None issuing desk.position bytes)) }
 
-    // What every crash leaves: meanwhile what stands for the position behind some front of the statements, and then for
-    // that of the desk; or, where a disk failed, for this one or the one behind the command that was told so.
-    ensures moments { StaysAlong D.tells issuing desk.position (S.left source) desk.store result.2.store }
+    // What every crash leaves: meanwhile what stands for the position behind some front of the accepted commands, or of
+    // these and the one that a disk failed; and then for that of the desk, or, where a disk failed, for this one or the
+    // one behind the command that was told so.
+    ensures moments { StaysAlong D.tells issuing desk.position (S.left source) (most_left result.2.halted (number_at result.2.position)) desk.store result.2.store }
     ensures leaves { result.2.halted ≡ false → LeavesIt D.tells result.2.store result.2.position }
     ensures in_doubt { result.2.halted ≡ true → LeavesInDoubt D.tells issuing desk.position (S.left source) result.2.store result.2.position }
     ensures idle { SameIdle desk.store result.2.store }
@@ -101,7 +103,7 @@ fn run<S: Source, O: Sink, D: Disk>(
     ensures ran { Ran (machine (fault_in stream.new) stream.old.state.issuing stream.old.state.position) (λ s. stream.new.state ≡ s)
         (Rose lines.old.faults lines.new.faults) (Rose (O.faults sink.old) (O.faults sink.new))
         result lines.old.left lines.new.left (O.taken sink.old) (O.taken sink.new) }
-    ensures moments { StaysAlong D.tells stream.old.state.issuing stream.old.state.position lines.old.left stream.old.store stream.new.store }
+    ensures moments { StaysAlong D.tells stream.old.state.issuing stream.old.state.position lines.old.left (most_left_of stream.new.state) stream.old.store stream.new.store }
     ensures in_doubt { stream.new.state.halted ≡ true →
         LeavesInDoubt D.tells stream.old.state.issuing stream.old.state.position lines.old.left stream.new.store stream.new.state.position }
     ensures idle { SameIdle stream.old.store stream.new.store }

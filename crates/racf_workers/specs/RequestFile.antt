@@ -119,7 +119,8 @@ Course base (turn ∷ turns) = IsRight base turn × Course base turns
 -- ---- a whole file
 
 -- Behind the lines that were answered: each turn was right, and all that was seen is a beginning of what the caller has
--- seen now. It is the same, unless memory ran out before a line was answered for which the caller had looked for more.
+-- seen now. It is the same, unless memory ran out before a line was answered for which the caller had looked for more, or
+-- what waits couldn't be written before it.
 pub record Stands (base : Position) (status : Status) (now : List Event) (s : FileState) : Type 0 where
   pub course : Course base s.turns
   pub later : Extends s.seen now

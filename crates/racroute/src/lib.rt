@@ -11,11 +11,12 @@
 //! passes that are out. So the counts of all decks add up to what the history has, and a pass in hand is one that is
 //! out.
 //!
-//! ```
-//! let (racf, passes) = Racf::start(alloc, publisher, blanks, desk, 1)?; let reply = racf.submit(rt, alloc, &mut
-//! caller, &mut pass, ibmuser(), None, b"ADDUSER JOE"); let decision = auth(&mut caller, &acee, &request);      // on
-//! what the caller has seen, which is now this command too let end = racf.end_deck(rt, pass); let closed =
-//! racf.close(callers, ends)?;                // each caller saw a beginning of closed.accepted
+//! ```text
+//! let (racf, passes) = Racf::start(alloc, publisher, blanks, desk, 1)?;
+//! let reply = racf.submit(rt, alloc, &mut caller, &mut pass, ibmuser(), None, b"ADDUSER JOE");
+//! let decision = auth(&mut caller, &acee, &request);      // on what the caller has seen: this command too
+//! let end = racf.end_deck(rt, pass);
+//! let closed = racf.close(callers, ends)?;                // each caller saw a beginning of closed.accepted
 //! ```
 #![tactic(auto)]
 

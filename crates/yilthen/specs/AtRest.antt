@@ -1,5 +1,5 @@
 -- What contracts see of a desk between two calls, and what stays as it was behind a command that isn't accepted.
-use Rattle.std.specs.Prelude.{◌≡◌, ℕ, Bool, false, None, Result, Ok, Err}
+use Rattle.std.specs.Prelude.{◌≡◌, ℕ, Bool, true, false, None, Result, Ok, Err}
 use Rattle.racf_checkpoint.specs.Stored.{StoreOn}
 use Rattle.racf_desk.specs.Position.{Position}
 use Rattle.racf_desk.specs.Made.{DeskOn}
@@ -30,3 +30,11 @@ abbrev pub KeepsDesk : {D : Type 0} → (old new : AtRest D) → Result ℕ Erro
 KeepsDesk old new (Ok number) = Unit {0}
 KeepsDesk old new (Err error.DiskFault) = Unit {0}
 KeepsDesk old new (Err why) = new ≡ old
+
+-- A compaction that fails: at a desk that takes no more, and for want of memory, the desk is as it was; where a disk failed,
+-- it is halted where it stood.
+abbrev pub FailsToCompact : {D : Type 0} → (old new : AtRest D) → Error → Type 0
+FailsToCompact old new error.Halted = (old.halted ≡ true) × (new ≡ old)
+FailsToCompact old new error.NoMemory = (old.halted ≡ false) × (new ≡ old)
+FailsToCompact old new error.DiskFault = (old.halted ≡ false) × (new ≡ record old { store = new.store; halted = true })
+FailsToCompact old new why = ⊥

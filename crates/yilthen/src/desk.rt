@@ -1,12 +1,12 @@
 //! The desk between two calls.
-ghost use Rattle.std.specs.Prelude.{◌≡◌, ◌≢◌, ◌⊎◌, ◌≤◌, true, false, Ok, IfOk, IfErr, MatchResult};
+ghost use Rattle.std.specs.Prelude.{◌+◌, ◌-◌, ◌^◌, ◌≡◌, ◌≢◌, ◌⊎◌, ◌<◌, ◌≤◌, min, true, false, Ok, IfOk, IfErr, OnOk, MatchResult};
 ghost use Rattle.std.specs.Arc.{arc_value};
 ghost use Rattle.racf_outside.specs.Causes.{Rose};
 ghost use Rattle.racf_journal.specs.Opening.{OnlySynced};
 ghost use Rattle.checkpoint_disks.specs.declared.counting.Side.{Side};
 ghost use Rattle.racf_checkpoint.specs.Contents.{IsCausedByOne};
 ghost use Rattle.racf_checkpoint.specs.Formatting.{StaysBaring, StaysFormatting};
-ghost use Rattle.racf_checkpoint.specs.Stored.{NowRead, StaysPossible, disk_on};
+ghost use Rattle.racf_checkpoint.specs.Stored.{NowRead, StaysPossible, disk_on, other};
 
 use crate::error::{Error, Refused};
 use access_levels::Id;
@@ -37,13 +37,14 @@ impl<D: Disk> Model for Desk<D> {
 
 impl<D: Disk> Desk<D> {
     ghost use Rattle.racf_desk.specs.Outcome.{outcome};
-    ghost use Rattle.racf_desk.specs.Position.{first_position, position_after};
+    ghost use Rattle.racf_desk.specs.Position.{first_position, compacted, position_after};
     ghost use Rattle.racf_desk.specs.Made.{number_at, IsAnswer};
     ghost use Rattle.racf_desk.specs.Recovery.{standing, Refuses};
-    ghost use Rattle.racf_desk.specs.Durable.{LeavesIt, SameIdle, SaysEpoch, StaysEither};
+    ghost use Rattle.racf_desk.specs.Durable.{LeavesIt, LeavesCheckpoint, SameIdle, SaysEpoch, StaysEither, StaysThere};
     ghost use Rattle.racf_desk.specs.Executing.{SayWhatWasPossible};
     ghost use Rattle.racf_desk.specs.Formatting.{LeavesNoOlder};
-    ghost use Rattle.yilthen.specs.AtRest.{running, KeepsDesk};
+    ghost use Rattle.racf_desk.specs.Reopening.{LeadOn};
+    ghost use Rattle.yilthen.specs.AtRest.{running, KeepsDesk, FailsToCompact};
     ghost use Rattle.yilthen.specs.Errors.{AsReply, OfStore};
 
     /// A desk over a new database, whatever the disks held: the first has a checkpoint of it. At every moment a crash
@@ -76,6 +77,7 @@ impl<D: Disk> Desk<D> {
     /// what was possible before; after `Ok` it leaves what was opened. Otherwise the disks are handed back.
     pub fn open(alloc: Global, disks: Two<D>) -> Result<Desk<D>, (Two<D>, Error)>
         ensures stands { IfOk result (λ desk. NowRead (D.tells disks.first) (D.tells disks.second) (λ first second. standing first second ≡ Ok desk.position)) }
+        ensures history { IfOk result (λ desk. NowRead (D.tells disks.first) (D.tells disks.second) (LeadOn desk.position)) }
         ensures runs { IfOk result (λ desk. desk.halted ≡ false) }
         ensures epoch { IfOk result (λ desk. NowRead (D.tells disks.first) (D.tells disks.second) (SaysEpoch desk.store.epoch)) }
         ensures leaves { IfOk result (λ desk. LeavesIt D.tells desk.store desk.position) }
@@ -157,6 +159,36 @@ impl<D: Disk> Desk<D> {
             Reply::Halted(_) => Err(Error::Halted),
             Reply::DiskFault(_) => Err(Error::DiskFault),
             Reply::NoMemory => Err(Error::NoMemory),
+        }
+    }
+
+    /// Writes a checkpoint of the rows on the disk that doesn't count. It counts from then on, and its journal has no
+    /// records; the number and the state are as before. At every moment a crash leaves what stands for them. At the last
+    /// epoch, 2^64 - 1, nothing is written.
+    ///
+    /// # Errors
+    ///
+    /// `Halted` and `NoMemory` leave the desk and the disks as they were. `DiskFault` halts the desk where it stood.
+    pub fn compact(&mut self, alloc: Global) -> Result<(), Error>
+        ensures done { OnOk result (self.old.store.epoch < 2 ^ 64 - 1 → self.new ≡ running (compacted self.old.position) self.new.store) }
+        ensures side { OnOk result (self.old.store.epoch < 2 ^ 64 - 1 → self.new.store.side ≡ other self.old.store.side) }
+        ensures epoch { OnOk result (self.new.store.epoch ≡ min (self.old.store.epoch + 1) (2 ^ 64 - 1)) }
+        ensures last { self.old.store.epoch ≡ 2 ^ 64 - 1 → OnOk result (self.new ≡ self.old) }
+        ensures leaves { OnOk result (LeavesIt D.tells self.new.store self.new.position) }
+        ensures checkpoint { OnOk result (self.old.store.epoch < 2 ^ 64 - 1 → LeavesCheckpoint D.tells self.new.store (self.old.store.epoch + 1) self.old.position) }
+        ensures moments { self.old.halted ≡ false → StaysThere D.tells self.old.store self.new.store self.old.position }
+        ensures live { self.old.halted ≡ false → disk_on self.old.store.side self.new.store ≡ self.old.store.journal.disk }
+        ensures running { OnOk result (self.old.halted ≡ false) }
+        ensures fails { IfErr result (FailsToCompact self.old self.new) }
+        ensures cause { self.old.halted ≡ false → self.new.halted ≡ true → Rose (D.faults self.old.store.idle) (D.faults (disk_on (other self.old.store.side) self.new.store)) }
+        ensures no_fewer { self.old.halted ≡ false → D.faults self.old.store.idle ≤ D.faults (disk_on (other self.old.store.side) self.new.store) }
+    {
+        if self.desk.halted() {
+            return Err(Error::Halted);
+        }
+        match self.desk.compact(alloc) {
+            Ok(()) => Ok(()),
+            Err(fault) => Err(Error::of_store(fault)),
         }
     }
 

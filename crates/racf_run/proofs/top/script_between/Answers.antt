@@ -1,6 +1,5 @@
 use Rattle.std.proofs.Common.{rules, inl, inr, refl, arith}
 use Rattle.racf_outside.specs.Causes.{Rose}
-use Rattle.racf_stream.proofs.Moments.{StaysAlong-none}
 use Rattle.racf_run.proofs.TopLaws.{ends_new, ran_to, rose_taken}
 use Rattle.racf_run.proofs.top.script_between.Goals as goal
 
@@ -14,9 +13,6 @@ returns-in-Err-clause-runs g c =
       input_asked = c.in-Err.ensures.gives;
       outputs = c.in-Err.ensures.outputs;
     })
-
-pub returns-in-Err-clause-moments : goal.returns-in-Err-clause-moments
-returns-in-Err-clause-moments g c = StaysAlong-none g.D.Disk.tells c.args.issuing c.args.desk.position _ c.args.desk.store (c.is_at_rest.ensures c.requires.running)
 
 -- the output couldn't be
 pub returns-in-Err-sink-clause-runs : goal.returns-in-Err-sink-clause-runs
@@ -33,9 +29,6 @@ returns-in-Err-sink-clause-runs g c =
       input_back = c.take_back.ensures.gives;
       others = search rules;
     }))
-
-pub returns-in-Err-sink-clause-moments : goal.returns-in-Err-sink-clause-moments
-returns-in-Err-sink-clause-moments g c = StaysAlong-none g.D.Disk.tells c.args.issuing c.args.desk.position _ c.args.desk.store (c.is_at_rest.ensures c.requires.running)
 
 -- the stream was run
 pub returns-clause-runs : goal.returns-clause-runs
@@ -61,5 +54,5 @@ returns-clause-runs g c =
       worked_output = c.script-status.new.sink;
       input_back = c.take_back-2.ensures.gives;
       output_back = c.give_back.ensures.gives;
-      ran = ran_to g.D.Disk.tells c.args.issuing desk c.args.desk.position _ _ _ _ g.F.Shelf.tells c.script-status.result.0 _ _ _ _ _ c.args.output.now _ _ c.script-status.ensures.ran c.script-status.ensures.leaves c.script-status.ensures.in_doubt reads writes c.in-Ok.ensures.bytes c.in-Ok-sink.ensures.empty c.give_back.ensures.bytes (search rules);
+      ran = ran_to g.D.Disk.tells c.args.issuing c.args.desk.store desk c.args.desk.position _ _ _ _ g.F.Shelf.tells c.script-status.result.0 _ _ _ _ _ c.args.output.now _ _ c.script-status.ensures.ran c.script-status.ensures.leaves c.script-status.ensures.in_doubt c.script-status.ensures.moments reads writes c.in-Ok.ensures.bytes c.in-Ok-sink.ensures.empty c.give_back.ensures.bytes (search rules);
     }))

@@ -2,14 +2,17 @@ use Rattle.std.proofs.Common.{◌≡◌, true, inl, inr, refl, subst}
 use Rattle.std.proofs.Math.Nat.{le_trans}
 use Rattle.racf_outside.specs.Causes.{Rose}
 use Rattle.racf_run.proofs.Unsound.{no_disk_fault, is_neither}
-use Rattle.racf_run.proofs.DiskLaws.{ends_on, either_later, rose_along, no_fewer_along}
-use Rattle.racf_run.proofs.TopLaws.{RunsOnShelf-weaker, script_along}
-use Rattle.racf_run.specs.Racf.{IsUnsound, EndsAt, EndsOn, RoseEither}
+use Rattle.racf_run.proofs.DiskLaws.{ends_on, opens_on, either_later, rose_along, no_fewer_along}
+use Rattle.racf_run.proofs.TopLaws.{RunsOnShelf-weaker}
+use Rattle.racf_run.specs.Racf.{IsUnsound, EndsAt, EndsOn, RoseEither, opened_on}
 use Rattle.racf_run.proofs.top.script_on.Goals as goal
 
 pub returns-in-Ok-clause-runs : goal.returns-in-Ok-clause-runs
 returns-in-Ok-clause-runs g c =
+    let tells = g.D.Disk.tells in
+    let then = c.in-Ok.desk.store in
     let desk = c.script_between-status.result.1 in
+    let back = record { first = c.into_disks.ensures.first; second = c.into_disks.ensures.second } in
     let input = g.F.Shelf.input c.args.shelf.now c.args.input.now in
     let faults = g.D.Disk.faults in
     let rose : Type 0 = RoseEither (faults c.args.disks.first) (faults c.into_disks.result.first) (faults c.args.disks.second) (faults c.into_disks.result.second) in
@@ -21,20 +24,16 @@ returns-in-Ok-clause-runs g c =
     inr (record {
       base = c.in-Ok.desk.position;
       stood = c.in-Ok.ensures.stands;
-      ran =
-          RunsOnShelf-weaker g.F.Shelf.source_gives g.F.Shelf.sink_gives g.F.Shelf.take_back_gives g.F.Shelf.give_back_gives g.F.Shelf.tells g.F.Shelf.output
-          (Rose (g.F.Shelf.source_faults c.args.shelf.now) (g.F.Shelf.source_faults c.script_between-status.new.shelf)) (Rose (g.F.Shelf.sink_faults c.args.shelf.now) (g.F.Shelf.sink_faults c.script_between-status.new.shelf))
-          (EndsAt g.D.Disk.tells c.args.issuing c.in-Ok.desk.position input desk) (EndsOn c.args.issuing c.in-Ok.desk.position input (g.D.Disk.tells c.into_disks.result.first) (g.D.Disk.tells c.into_disks.result.second) rose) c.in-Ok.desk.position
-          (ends_on g.D.Disk.tells c.args.issuing c.in-Ok.desk.position input desk c.into_disks.result.first c.into_disks.result.second (record { first = c.into_disks.ensures.first; second = c.into_disks.ensures.second }) rose fault)
-          c.script_between-status.result.0 _ _ c.args.shelf.now c.script_between-status.new.shelf c.script_between-status.ensures.runs;
+      ran = (
+        opened_on tells then,
+        opens_on tells then (tells c.args.disks.first) (tells c.args.disks.second) c.in-Ok.ensures.first_moments c.in-Ok.ensures.second_moments,
+        RunsOnShelf-weaker g.F.Shelf.source_gives g.F.Shelf.sink_gives g.F.Shelf.take_back_gives g.F.Shelf.give_back_gives g.F.Shelf.tells g.F.Shelf.output
+            (Rose (g.F.Shelf.source_faults c.args.shelf.now) (g.F.Shelf.source_faults c.script_between-status.new.shelf)) (Rose (g.F.Shelf.sink_faults c.args.shelf.now) (g.F.Shelf.sink_faults c.script_between-status.new.shelf))
+            (EndsAt tells c.args.issuing c.in-Ok.desk.position input then desk) (EndsOn c.args.issuing c.in-Ok.desk.position input (opened_on tells then) (tells c.into_disks.result.first) (tells c.into_disks.result.second) rose) c.in-Ok.desk.position
+            (ends_on tells c.args.issuing c.in-Ok.desk.position input then desk c.into_disks.result.first c.into_disks.result.second back c.script_between-status.ensures.idle rose fault)
+            c.script_between-status.result.0 _ _ c.args.shelf.now c.script_between-status.new.shelf c.script_between-status.ensures.runs,
+      );
     })
-
-pub returns-in-Ok-clause-moments : goal.returns-in-Ok-clause-moments
-returns-in-Ok-clause-moments g c =
-    let tells = g.D.Disk.tells in
-    script_along tells (tells c.args.disks.first) (tells c.args.disks.second) c.args.issuing (g.F.Shelf.input c.args.shelf.now c.args.input.now) c.in-Ok.desk.store c.script_between-status.result.1.store c.into_disks.result.first c.into_disks.result.second c.in-Ok.desk.position
-    (record { first = c.into_disks.ensures.first; second = c.into_disks.ensures.second })
-    c.in-Ok.ensures.stands c.in-Ok.ensures.first_moments c.in-Ok.ensures.second_moments c.script_between-status.ensures.idle c.script_between-status.ensures.moments
 
 pub returns-in-Ok-clause-disk_fault : goal.returns-in-Ok-clause-disk_fault
 returns-in-Ok-clause-disk_fault g c = λ e.
@@ -75,6 +74,3 @@ returns-in-Err-clause-runs g c =
 
 pub returns-in-Err-clause-only_synced : goal.returns-in-Err-clause-only_synced
 returns-in-Err-clause-only_synced g c = λ e. c.in-Err.ensures.untouched (no_disk_fault c.in-Err.why (subst IsUnsound c.opening_status.ensures e))
-
-pub returns-in-Err-clause-moments : goal.returns-in-Err-clause-moments
-returns-in-Err-clause-moments g c = inl (c.in-Err.ensures.first_moments, c.in-Err.ensures.second_moments)

@@ -9,7 +9,7 @@ use Rattle.racf_desk.specs.Position.{Position}
 use Rattle.racf_stream.specs.declared.issuer.Issuing.{Issuing}
 use Rattle.racf_stream.specs.declared.statement.Statement.{Statement}
 use Rattle.racf_stream.specs.declared.stopping.Stop.TheVariants.{NoMemory}
-use Rattle.racf_stream.specs.Durable.{StreamOn, Moves, MovesBy, LeavesInDoubt, fault_in}
+use Rattle.racf_stream.specs.Durable.{StreamOn, Moves, MovesBy, LeavesInDoubt, fault_in, most_left_of}
 use Rattle.racf_stream.specs.Gathering.{Acknowledges}
 use Rattle.racf_stream.specs.NextStatement.{TakesStatements}
 use Rattle.racf_stream.specs.Processing.{Works}
@@ -20,7 +20,8 @@ use Rattle.racf_stream.proofs.StreamWalk.{begun, new_runs, passed_none, goes_on,
 use Rattle.racf_stream.proofs.Doubt.{doubt_stays}
 use Rattle.racf_stream.proofs.Ending.{ends_later}
 use Rattle.racf_stream.proofs.Processing.{none_worked}
-use Rattle.racf_stream.proofs.Moments.{StaysAlong-none, moved, idle_still, no_fewer, halts}
+use Rattle.racf_stream.proofs.LeftLaws.{left_at_least}
+use Rattle.racf_stream.proofs.Moments.{StaysAlong-none, moved, moved_none, idle_still, no_fewer, halts}
 use Rattle.racf_stream.proofs.scripts.run.Goals as goal
 
 -- what stands of a stream that is as it was
@@ -41,7 +42,7 @@ item-init g c =
     record {
       walk = begun issuing base c.args.lines.now c.args.stream.now.state _ c.new-replies.result c.requires.begins c.requires.new c.new-replies.ensures;
       most = passed_none c.args.lines.now c.requires.begins;
-      along = StaysAlong-none g.D.Disk.tells issuing base c.args.lines.now.left c.args.stream.now.store (c.is_at_rest.ensures runs);
+      along = StaysAlong-none g.D.Disk.tells issuing base c.args.lines.now.left (most_left_of c.args.stream.now.state) c.args.stream.now.store (left_at_least c.args.stream.now.state.halted base.image.generation) (c.is_at_rest.ensures runs);
       doubt = λ halted. let no : true ≡ false = sym halted ∙ runs in cc;
       idle = same_idle c.args.stream.now.store c.args.stream.now.store refl;
       halted = λ halted. cc;
@@ -95,10 +96,7 @@ pub returns-in-Err-process_statement-clause-moments : goal.returns-in-Err-proces
 returns-in-Err-process_statement-clause-moments g c =
     let issuing = c.args.stream.now.state.issuing in
     let base = c.args.stream.now.state.position in
-    let takes = rw c.in-Ok-Ok.field-0-is at c.in-Ok-Ok.ensures.item in
-    moved g.D.Disk.tells g.D.Disk.faults issuing base c.args.lines.now.left c.args.stream.now.store c.item.stream c.process_statement.new.stream c.item.lines c.next_statement.new.lines c.in-Ok-Ok.read takes.0 _ _ c.next_statement.new.replies
-    (Walk-settles (stream (fault_in c.item.stream) issuing base) _ c.item.lines 0 c.item.stream.state _ _ _ c.item.replies c.next_statement.new.replies c.item.invariant.walk c.in-Ok-Ok.ensures.settled)
-    takes.1 c.item.invariant.idle (given_moves g.D.Disk.tells g.D.Disk.faults c.in-Ok-Ok.read c.in-Some.item c.item.stream c.process_statement.new.stream c.in-Some.is c.process_statement.ensures.moves) c.item.invariant.along
+    moved_none g.D.Disk.tells g.D.Disk.faults issuing base c.args.lines.now.left c.args.stream.now.store c.item.stream c.process_statement.new.stream (c.in-Err-process_statement.ensures.processes issuing base).0 c.item.invariant.along
 
 pub returns-in-Err-process_statement-clause-idle : goal.returns-in-Err-process_statement-clause-idle
 returns-in-Err-process_statement-clause-idle g c =
@@ -156,7 +154,7 @@ item-preserved g c =
     record {
       walk = acknowledged issuing base c.in-Some.item takes.0 _ c.item.lines c.next_statement.new.lines old new _ _ _ c.next_statement.new.replies c.process_statement.new.replies c.acknowledge.new.replies before one works (acknowledged_at _ _ _ c.number-number.ensures c.in-Ok-acknowledge.ensures.settled);
       most = c.in-Ok-Ok.ensures.limit;
-      along = moved g.D.Disk.tells g.D.Disk.faults issuing base c.args.lines.now.left first old new c.item.lines c.next_statement.new.lines c.in-Ok-Ok.read takes.0 _ _ c.next_statement.new.replies before takes.1 c.item.invariant.idle moves c.item.invariant.along;
+      along = moved g.D.Disk.tells g.D.Disk.faults issuing base c.args.lines.now.left first old new c.item.lines c.next_statement.new.lines c.in-Some.item takes.0 _ _ c.next_statement.new.replies c.process_statement.new.replies before one works c.item.invariant.idle c.process_statement.ensures.moves c.item.invariant.along;
       doubt = doubt_stays g.D.Disk.tells g.D.Disk.faults issuing base c.args.lines.now.left old new c.item.lines c.next_statement.new.lines c.in-Some.item takes.0 _ _ c.next_statement.new.replies c.process_statement.new.replies before one works c.process_statement.ensures.moves c.process_statement.ensures.fails c.item.invariant.doubt;
       idle = idle_still g.D.Disk.tells g.D.Disk.faults issuing base c.args.lines.now.left first old new c.in-Ok-Ok.read moves c.item.invariant.idle;
       halted = halts g.D.Disk.tells g.D.Disk.faults issuing base c.args.lines.now.left first old new c.in-Ok-Ok.read moves c.item.invariant.disk_faults c.item.invariant.halted;
@@ -190,9 +188,10 @@ returns-in-Err-acknowledge-clause-moments g c =
     let issuing = c.args.stream.now.state.issuing in
     let base = c.args.stream.now.state.position in
     let takes = rw c.in-Ok-Ok.field-0-is at c.in-Ok-Ok.ensures.item in
-    moved g.D.Disk.tells g.D.Disk.faults issuing base c.args.lines.now.left c.args.stream.now.store c.item.stream c.process_statement.new.stream c.item.lines c.next_statement.new.lines c.in-Ok-Ok.read takes.0 _ _ c.next_statement.new.replies
+    moved g.D.Disk.tells g.D.Disk.faults issuing base c.args.lines.now.left c.args.stream.now.store c.item.stream c.process_statement.new.stream c.item.lines c.next_statement.new.lines c.in-Some.item takes.0 _ _ c.next_statement.new.replies c.process_statement.new.replies
     (Walk-settles (stream (fault_in c.item.stream) issuing base) _ c.item.lines 0 c.item.stream.state _ _ _ c.item.replies c.next_statement.new.replies c.item.invariant.walk c.in-Ok-Ok.ensures.settled)
-    takes.1 c.item.invariant.idle (given_moves g.D.Disk.tells g.D.Disk.faults c.in-Ok-Ok.read c.in-Some.item c.item.stream c.process_statement.new.stream c.in-Some.is c.process_statement.ensures.moves) c.item.invariant.along
+    (takes_one c.in-Ok-Ok.read c.in-Some.item takes.0 c.item.lines c.next_statement.new.lines c.in-Some.is takes.1) (c.in-Ok.ensures.processes issuing base)
+    c.item.invariant.idle c.process_statement.ensures.moves c.item.invariant.along
 
 pub returns-in-Err-acknowledge-clause-idle : goal.returns-in-Err-acknowledge-clause-idle
 returns-in-Err-acknowledge-clause-idle g c =

@@ -3,14 +3,15 @@ use Rattle.std.specs.Prelude.{Option}
 use Rattle.racf_outside.specs.Causes.{Rose}
 use Rattle.racf_outside.specs.Reader.{Reader}
 use Rattle.racf_desk.proofs.IdleLaws.{same_idle}
-use Rattle.racf_desk.specs.Made.{DeskOn}
-use Rattle.racf_stream.specs.Durable.{StreamOn, StaysAlong}
+use Rattle.racf_desk.specs.Made.{DeskOn, number_at}
+use Rattle.racf_stream.specs.Durable.{StreamOn, StaysAlong, most_left, most_left_of}
 use Rattle.racf_stream.specs.Runs.{Ran}
 use Rattle.racf_stream.specs.Script.{stream, fault_of, StandsAt}
 use Rattle.racf_stream.specs.declared.status.Status.TheVariants.{NoMemory}
 use Rattle.racf_stream.proofs.Walk.{none_read, ran_failed, Ran-causes}
+use Rattle.racf_stream.proofs.LeftLaws.{left_at_least}
 use Rattle.racf_stream.proofs.Moments.{StaysAlong-none}
-use Rattle.racf_stream.proofs.ScriptLaws.{begins_new, issuing_new, position_new, stands_new, ran_script, ran_whole, ran_too_long, along_as, idle_as, doubt_as}
+use Rattle.racf_stream.proofs.ScriptLaws.{begins_new, issuing_new, position_new, stands_new, ran_script, ran_whole, ran_too_long, along_as, left_is, idle_as, doubt_as}
 use Rattle.racf_stream.proofs.scripts.script.Goals as goal
 
 -- there was no memory for the reader
@@ -18,7 +19,7 @@ pub returns-in-Err-clause-ran : goal.returns-in-Err-clause-ran
 returns-in-Err-clause-ran g c = none_read (stream (fault_of c.args.desk) c.args.issuing c.args.desk.position) (StandsAt c.args.desk) _ _ _ _ _ (stands_new c.args.issuing c.args.desk c.requires.running c.requires.settled)
 
 pub returns-in-Err-clause-moments : goal.returns-in-Err-clause-moments
-returns-in-Err-clause-moments g c = StaysAlong-none g.D.Disk.tells c.args.issuing c.args.desk.position (g.S.Source.left c.args.source) c.args.desk.store (c.is_at_rest.ensures c.requires.running)
+returns-in-Err-clause-moments g c = StaysAlong-none g.D.Disk.tells c.args.issuing c.args.desk.position (g.S.Source.left c.args.source) _ c.args.desk.store (left_at_least c.args.desk.halted (number_at c.args.desk.position)) (c.is_at_rest.ensures c.requires.running)
 
 pub returns-in-Err-clause-idle : goal.returns-in-Err-clause-idle
 returns-in-Err-clause-idle g c = same_idle c.args.desk.store c.args.desk.store refl
@@ -31,8 +32,8 @@ returns-in-Err-new-clause-ran g c =
 
 pub returns-in-Err-new-clause-moments : goal.returns-in-Err-new-clause-moments
 returns-in-Err-new-clause-moments g c =
-    subst (λ (desk : DeskOn g.row.D.Denot). StaysAlong g.D.Disk.tells c.args.issuing c.args.desk.position (g.S.Source.left c.args.source) c.args.desk.store desk.store) (sym c.in-Err-new.ensures.back)
-    (StaysAlong-none g.D.Disk.tells c.args.issuing c.args.desk.position (g.S.Source.left c.args.source) c.args.desk.store (c.is_at_rest.ensures c.requires.running))
+    subst (λ (desk : DeskOn g.row.D.Denot). StaysAlong g.D.Disk.tells c.args.issuing c.args.desk.position (g.S.Source.left c.args.source) (most_left desk.halted (number_at desk.position)) c.args.desk.store desk.store) (sym c.in-Err-new.ensures.back)
+    (StaysAlong-none g.D.Disk.tells c.args.issuing c.args.desk.position (g.S.Source.left c.args.source) _ c.args.desk.store (left_at_least c.args.desk.halted (number_at c.args.desk.position)) (c.is_at_rest.ensures c.requires.running))
 
 pub returns-in-Err-new-clause-idle : goal.returns-in-Err-new-clause-idle
 returns-in-Err-new-clause-idle g c = same_idle c.args.desk.store _ (ap (λ (desk : DeskOn g.row.D.Denot). desk.store) c.in-Err-new.ensures.back)
@@ -67,10 +68,11 @@ returns-in-Ok-new-clause-too_long g c =
 
 pub returns-in-Ok-new-clause-moments : goal.returns-in-Ok-new-clause-moments
 returns-in-Ok-new-clause-moments g c =
-    along_as g.D.Disk.tells c.in-Ok-new.stream.state.issuing c.args.issuing c.in-Ok-new.stream.state.position c.args.desk.position c.in-Ok.lines.left (g.S.Source.left c.args.source) c.in-Ok-new.stream.store c.args.desk.store c.run-status.new.stream.store c.into_desk.result.store
+    along_as g.D.Disk.tells c.in-Ok-new.stream.state.issuing c.args.issuing c.in-Ok-new.stream.state.position c.args.desk.position c.in-Ok.lines.left (g.S.Source.left c.args.source) (most_left_of c.run-status.new.stream.state) (most_left c.into_desk.result.halted (number_at c.into_desk.result.position)) c.in-Ok-new.stream.store c.args.desk.store c.run-status.new.stream.store c.into_desk.result.store
     (issuing_new c.args.issuing c.args.desk.position c.in-Ok-new.stream.state (ap (λ (s : StreamOn g.row.D.Denot). s.state) c.in-Ok-new.ensures.state))
     (position_new c.args.issuing c.args.desk.position c.in-Ok-new.stream.state (ap (λ (s : StreamOn g.row.D.Denot). s.state) c.in-Ok-new.ensures.state))
     (ap (λ (r : Reader). r.left) c.in-Ok.ensures.start)
+    (left_is c.into_desk.result c.run-status.new.stream c.into_desk.ensures.stands)
     (ap (λ (s : StreamOn g.row.D.Denot). s.store) c.in-Ok-new.ensures.state)
     (sym c.into_desk.ensures.stands.store) c.run-status.ensures.moments
 

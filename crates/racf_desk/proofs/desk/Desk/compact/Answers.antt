@@ -93,6 +93,8 @@ returns g c =
       fault = search rules;
       halted = search rules;
       memory = search rules;
+      nothing_made = search rules;
+      settled = search rules;
       cause = search rules;
       no_fewer = search rules;
     }

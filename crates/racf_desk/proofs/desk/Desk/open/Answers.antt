@@ -9,7 +9,8 @@ use Rattle.racf_checkpoint.specs.Stored.{StoreOn, NowRead, StaysPossible, disk_o
 use Rattle.racf_desk.specs.Outcome.{most_number}
 use Rattle.racf_desk.specs.Made.{DeskOn}
 use Rattle.racf_desk.specs.Recovery.{standing}
-use Rattle.racf_desk.proofs.OpenLaws.{found, epoch_said, of_parts, stands_there, store_goes, first_stays, second_stays, refused_to_load, refused_to_recover, only_damage}
+use Rattle.racf_desk.specs.Reopening.{LeadOn}
+use Rattle.racf_desk.proofs.OpenLaws.{found, found_along, goes_on, epoch_said, of_parts, stands_there, store_goes, first_stays, second_stays, refused_to_load, refused_to_recover, only_damage}
 use Rattle.racf_desk.proofs.JointLaws.{joint}
 use Rattle.racf_desk.proofs.desk.Desk.open.Goals as goal
 
@@ -69,6 +70,19 @@ returns-in-Ok-open-clause-stands g c =
     subst (λ (d : DeskOn _). NowRead (g.D.Disk.tells disks.first) (g.D.Disk.tells disks.second) (λ one other. standing one other ≡ Ok d.position)) (sym c.fresh.ensures.desk)
     (found (g.D.Disk.tells disks.first) (g.D.Disk.tells disks.second) kept (record { image = arc_value at.image; gate = at.gate }) c.in-Ok.ensures.says
     (of_parts kept c.in-Ok.rows c.number.result c.start.result c.records.result.now c.in-Ok.ensures.rows c.number.ensures c.start.ensures c.records.ensures ∙ c.in-Ok-recover.ensures.position))
+
+pub returns-in-Ok-open-clause-history : goal.returns-in-Ok-open-clause-history
+returns-in-Ok-open-clause-history g c =
+    let disks = c.args.disks in
+    let kept = found_in c.in-Ok.found in
+    let at = c.in-Ok-recover.recovered in
+    let laws = c.records_lead_along_a_history.ensures in
+    let agree = c.recovery_agrees_with_the_running_desk.ensures in
+    subst (λ (d : DeskOn _). NowRead (g.D.Disk.tells disks.first) (g.D.Disk.tells disks.second) (LeadOn d.position)) (sym c.fresh.ensures.desk)
+    (found_along (g.D.Disk.tells disks.first) (g.D.Disk.tells disks.second) kept (record { image = arc_value at.image; gate = at.gate }) c.in-Ok.ensures.says
+    (goes_on laws.leads laws.room agree.outcome agree.history kept (record { image = arc_value at.image; gate = at.gate }) c.in-Ok.ensures.lawful
+    (c.in-Ok-recover.ensures.gate ∙ ap (λ n. n + length (spelled c.records.result.now)) c.start.ensures ∙ ap (λ records. kept.start + length (spelled records)) c.records.ensures)
+    (of_parts kept c.in-Ok.rows c.number.result c.start.result c.records.result.now c.in-Ok.ensures.rows c.number.ensures c.start.ensures c.records.ensures ∙ c.in-Ok-recover.ensures.position)))
 
 pub returns-in-Ok-open-clause-epoch : goal.returns-in-Ok-open-clause-epoch
 returns-in-Ok-open-clause-epoch g c =

@@ -6,6 +6,7 @@ ghost use Rattle.generic_names.specs.declared.kind.NameKind.{NameKind};
 ghost use Rattle.racf_profiles.specs.LawfulProfiles.{AreProfiles};
 
 use access_levels::{Categories, Entry, Id, Level, Who};
+use dataspace::Room;
 use generic_names::{NameKind, Pattern, Resource};
 use racf_profiles::{AuditRule, CondEntries, Entries, Members, Profile, Profiles};
 use raclist_image::ClassImage;
@@ -97,6 +98,9 @@ fn class_image(rt: HostRuntime) {
         panic!(rt; "no memory")
     };
     assert!(rt; image.len() == 3);
+    // The keys of A.B and A.* have five bytes each, and that of ** has two.
+    assert!(rt; ClassImage::room(&profiles.items) == (Room { bytes: 12, rows: 3 }));
+    assert!(rt; image.spare() == Room::none());
     assert!(rt; has_access(&image, b"A.B", Level::NoAccess));
     assert!(rt; has_access(&image, b"A.B.C", Level::Read));
     assert!(rt; has_access(&image, b"A", Level::Update));

@@ -9,8 +9,10 @@ ghost use Rattle.racf_profiles.specs.Limits.{most_class_profiles};
 ghost use Rattle.class_profiles.specs.Table.{best_profile, IsPlaceOf};
 ghost use Rattle.class_profiles.specs.Paired.{entry_of};
 ghost use Rattle.profile_index.specs.Buckets.{most_placed};
+ghost use Rattle.dataspace.specs.Rooms.{none};
 
 use crate::table::{is_spelled, of_kind};
+use dataspace::Room;
 use generic_names::{NameKind, Pattern, Resource};
 use profile_index::{Entry, Made, SharedIndex};
 use racf_profiles::{NoMemory, Profile};
@@ -80,6 +82,13 @@ impl SharedProfiles {
         ensures lawful { AreProfiles self.now.kind self.now.profiles }
     {
         self.profiles.len()
+    }
+
+    /// What is free in the regions of the names' keys: nothing, since each has just the room of its keys.
+    pub fn spare(&self) -> Room
+        ensures { result ≡ none }
+    {
+        self.profiles.spare()
     }
 
     /// The profile at that place, from 0, in order of specificity.

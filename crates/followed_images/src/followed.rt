@@ -8,7 +8,7 @@ use crate::taken::TakenImage;
 use command_parser::{Command, Issuer, ParseFault, Syntax, parse};
 use racf_database::{Conflict, Database};
 use racf_profiles::laws::rows_are_changed;
-use racf_profiles::{NoMemory, ibmuser, sys1};
+use racf_profiles::{NoMemory, Rows, ibmuser, sys1};
 use raclist_image::Image;
 use std::alloc::{AllocError, Global};
 use std::marker::Model;
@@ -82,6 +82,13 @@ impl Followed {
         ensures { IfOk result (λ taken. taken ≡ self.now) }
     {
         Ok(TakenImage::of(Arc::try_clone(&self.image)?))
+    }
+
+    /// All rows, copied.
+    pub fn rows(&self, alloc: Global) -> Result<Rows, NoMemory>
+        ensures { IfOk result (λ rows. rows ≡ self.now.state.rows) }
+    {
+        self.database.to_rows(alloc)
     }
 
     /// An image of all rows under that number, made from nothing.

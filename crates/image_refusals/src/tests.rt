@@ -3,11 +3,12 @@
 
 use access_levels::{Condition, Id, Level, PortClass};
 use acee::{Acee, VerifyFault, VerifyRequest};
+use dataspace::{Region, Room};
 use decision::{Decision, Request, Rule, auth, fastauth, verify};
 use followed_images::{Followed, Outcome, TakenImage};
 use generic_names::Resource;
-use racf_profiles::{FixedClass, User, ibmuser, kind_in, sys1};
-use raclist_image::{Facts, Image};
+use racf_profiles::{FixedClass, Rows, User, ibmuser, kind_in, sys1};
+use raclist_image::{ClassImage, Facts, Image};
 use std::alloc::Global;
 use std::test::Fail;
 
@@ -227,21 +228,55 @@ fn decides(image: &Image, acee: &Acee, asked: &Resources) -> bool {
         && is_decided(&fastauth(image, acee, &asked.run), 4, Rule::NotListed)
 }
 
-/// No call that reads an image, and no decision, takes memory.
+/// The room of the image of FACILITY's two profiles.
+fn room_of_profiles(rows: &Rows) -> Option<Room> {
+    for class in &rows.classes.items {
+        let profiles = class.profiles.items.as_slice();
+        if class.name == FixedClass::Facility.id() && profiles.len() == 2 {
+            return Some(ClassImage::room(profiles));
+        }
+    }
+    None
+}
+
+/// Whether the image of FACILITY's profiles takes the room of their keys, of which that of PAY.RUN has nine bytes and
+/// that of PAY.** six, and has none to spare.
+fn has_room(image: &Image, rows: &Rows) -> bool {
+    let Some(profiles) = image.effective(FixedClass::Facility.id()) else {
+        return false;
+    };
+    room_of_profiles(rows) == Some(Room { bytes: 15, rows: 2 }) && profiles.spare() == Room::none()
+}
+
+/// Whether a region has room for a text of three bytes alone, and none to spare where one was placed.
+fn is_filled(region: &mut Region) -> bool {
+    if region.spare() != Room::none().plus(3) || !region.fits(3) {
+        return false;
+    }
+    region.place(b"PAY");
+    region.spare() == Room::none()
+}
+
+/// No call that reads an image, and no decision, takes memory; nor does placing a text in a region.
 #[test]
 fn reads_without_memory(rt: HostRuntime) -> Result<(), Fail> {
     let names = Names::read()?;
     let asked = Resources::read()?;
-    let taken = small_image(rt.alloc())?;
+    let database = small_database(rt.alloc())?;
+    let rows = database.rows(rt.alloc())?;
+    let taken = database.image_of_rows(rt.alloc(), 7)?;
     let image = taken.image();
     let Ok(acee) = verify(rt.alloc(), image, &joe_at_terminal(&names)) else {
         return Err("an ACEE".into());
     };
+    let mut region = Region::with_room(rt.alloc(), 3, 1)?;
     println!(rt; "FROM HERE")?;
     assert!(rt; image.generation() == 7);
     assert!(rt; has_rows(image, &names));
     assert!(rt; has_profiles(image, &asked));
     assert!(rt; decides(image, &acee, &asked));
+    assert!(rt; has_room(image, &rows));
+    assert!(rt; is_filled(&mut region));
     Ok(())
 }
 

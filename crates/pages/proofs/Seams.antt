@@ -5,6 +5,7 @@ use Rattle.std.proofs.lemmas.List.{set-append_left, set-append_right, take-appen
 use Rattle.std.proofs.lemmas.List.Edits.{insert-append_left, insert-append_right, remove-append_left, remove-append_right}
 use Rattle.std.proofs.lemmas.List.Concat.{flat_map-append}
 use Rattle.std.proofs.Math.Seq.{drop-append-add}
+use Rattle.pages.specs.PartAt.{IsPartAt}
 
 -- what stands at a place n behind xs stands there at n + length xs
 behind : (n j : ℕ) → n + j - n ≡ j
@@ -127,3 +128,24 @@ module _ {P T : Type 0} (f : P → List T) (ps : List P) (k j place : ℕ) (p : 
       ∙ ap (λ n. drop n (flat_map f (take k ps) ++ (f p ++ flat_map f (drop (k + 1) ps)))) (sym e)
       ∙ drop-append-add (flat_map f (take k ps)) (f p ++ flat_map f (drop (k + 1) ps)) i
       ∙ drop-append-le i (f p) (flat_map f (drop (k + 1) ps)) h
+
+-- a part of a part is a part of the whole
+pub part_of_part : {T : Type 0} (items page leaf : List T) (place rest inner : ℕ) → IsPartAt items place page rest → IsPartAt page rest leaf inner → IsPartAt items place leaf inner
+part_of_part items page leaf place rest inner h i = record {
+  front = h.front ++ i.front;
+  back = i.back ++ h.back;
+  among = h.among
+      ∙ ap (λ l. h.front ++ (l ++ h.back)) i.among
+      ∙ ap (λ l. h.front ++ l) (append_assoc i.front (leaf ++ i.back) h.back ∙ ap (λ l. i.front ++ l) (append_assoc leaf i.back h.back))
+      ∙ sym (append_assoc h.front i.front (leaf ++ (i.back ++ h.back)));
+  start = omega (arith, length-append h.front i.front, h.start, i.start);
+  within = i.within;
+}
+
+-- no part ends behind the list
+pub part_within : {T : Type 0} (items part : List T) (place rest : ℕ) → IsPartAt items place part rest → place + (length part - rest) ≤ length items
+part_within items part place rest h =
+    let whole = ap length h.among in
+    let front = length-append h.front (part ++ h.back) in
+    let back = length-append part h.back in
+    omega (arith, whole, front, back, h.start, h.within)

@@ -3,13 +3,14 @@ ghost use Rattle.std.specs.List.{position_or_len};
 ghost use Rattle.std.specs.Arc.{arc_value};
 ghost use Rattle.std.specs.Option.{option_copied};
 ghost use Rattle.pages.specs.Rising.{Rises, reaches};
+ghost use Rattle.pages.specs.PartAt.{IsPartAt};
 
 use crate::keyed_part::KeyedPart;
 use crate::part::{Made, OpenPart, Part};
 use crate::search::{ByTest, first_of, found_of, is_number};
 use crate::search_key::SearchKey;
 use crate::shared_page::SharedPage;
-use crate::splice::{inserted, item_at, removed, replaced, share_all};
+use crate::splice::{inserted, item_at, part_at, removed, replaced, share_all};
 use crate::test::Test;
 use crate::walk::Walk;
 use std::alloc::{AllocError, Global};
@@ -106,6 +107,16 @@ impl<T: Drop, L: Part<T>> Pages<T, L> {
         ensures { slice_get self.now place ≡ Some (arc_value result.now) }
     {
         item_at(&self.pages, place)
+    }
+
+    /// The leaf in which the item at a place stands, and the place in it. Who goes on behind the leaf's last item comes
+    /// to each leaf once.
+    pub fn leaf_at(&self, place: usize) -> (&L, usize)
+        requires { place < length self.now }
+        ensures { IsPartAt self.now place (L.items result.0.now) result.1 }
+    {
+        let (page, rest) = part_at(&self.pages, place);
+        page.part_at(rest)
     }
 
     /// The list with another item at a place.

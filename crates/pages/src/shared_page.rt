@@ -2,12 +2,13 @@ ghost use Rattle.std.specs.Prelude.{◌≡◌, ◌+◌, ◌-◌, ◌^◌, ◌<�
 ghost use Rattle.std.specs.List.{flat_map};
 ghost use Rattle.std.specs.Arc.{arc_value};
 ghost use Rattle.pages.specs.Parts.{change_items};
+ghost use Rattle.pages.specs.PartAt.{IsPartAt};
 
 use crate::keyed_part::KeyedPart;
 use crate::part::{Change, Made, OpenPart, Part};
 use crate::search::{ByTest, first_of, found_of, is_number, last_part};
 use crate::search_key::SearchKey;
-use crate::splice::{inserted, item_at, removed, replaced, share_all};
+use crate::splice::{inserted, item_at, part_at, removed, replaced, share_all};
 use crate::test::Test;
 use std::alloc::{AllocError, Global};
 use std::marker::{Model, PhantomData};
@@ -57,6 +58,14 @@ impl<T: Drop, P: Part<T>> SharedPage<T, P> {
     {
         is_number(self.len);
         self.parts.as_slice()
+    }
+
+    /// The part in which the item at a place stands, and the place in it.
+    pub fn part_at(&self, place: usize) -> (&P, usize)
+        requires { place < length self.now }
+        ensures { IsPartAt self.now place (P.items result.0.now) result.1 }
+    {
+        part_at(self.parts(), place)
     }
 
     /// A page of these parts, or none where they are empty.

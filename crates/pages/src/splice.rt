@@ -2,6 +2,7 @@ ghost use Rattle.std.specs.Prelude.{◌≡◌, ◌+◌, ◌-◌, ◌^◌, ◌<�
 ghost use Rattle.std.specs.List.{flat_map};
 ghost use Rattle.std.specs.Arc.{arc_value};
 ghost use Rattle.pages.specs.Parts.{change_items, change_len};
+ghost use Rattle.pages.specs.PartAt.{IsPartAt};
 
 use crate::part::{Change, Made, Part};
 use std::alloc::{AllocError, Global};
@@ -154,4 +155,13 @@ pub(crate) fn item_at<T: Drop, P: Part<T>>(parts: &[P], place: usize) -> &Arc<T>
 {
     let (k, rest) = P::locate(parts, place);
     parts[k].at(rest)
+}
+
+/// The part in which the item at a place stands, and the place in it.
+pub(crate) fn part_at<T: Drop, P: Part<T>>(parts: &[P], place: usize) -> (&P, usize)
+    requires { place < length (flat_map P.items parts.now) }
+    ensures { IsPartAt (flat_map P.items parts.now) place (P.items result.0.now) result.1 }
+{
+    let (k, rest) = P::locate(parts, place);
+    (&parts[k], rest)
 }

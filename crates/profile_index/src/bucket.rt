@@ -5,10 +5,12 @@ ghost use Rattle.std.specs.Arc.{arc_value};
 ghost use Rattle.std.specs.Ordering.{nat_cmp, is_lt};
 ghost use Rattle.std.specs.Cmp.Lexicographic.{slice_cmp};
 ghost use Rattle.pages.specs.Parts.{change_items};
-ghost use Rattle.profile_index.specs.Buckets.{key_of, most_placed};
+ghost use Rattle.dataspace.specs.Rooms.{none};
+ghost use Rattle.profile_index.specs.Buckets.{key_of, most_placed, names_length};
 
 use crate::bucket_rows::{BucketRows, names_length};
 use crate::entry::Entry;
+use dataspace::Room;
 use generic_names::{Pattern, first_qualifier};
 use pages::{Change, KeyedPart, Made, Part, SearchKey, begin_of};
 use std::alloc::{AllocError, Global};
@@ -73,9 +75,17 @@ impl<T: Drop> Bucket<T> {
 
     /// How many bytes the names have.
     fn names_length(&self) -> usize
-        ensures { result ≤ 246 * length self.now }
+        ensures length { result ≡ names_length self.now }
+        ensures most { result ≤ 246 * length self.now }
     {
         names_length(self.rows().entries())
+    }
+
+    /// What is free in the region of the keys: nothing, since it has just the room of these.
+    pub(crate) fn spare(&self) -> Room
+        ensures { result ≡ none }
+    {
+        self.rows().spare()
     }
 
     /// Whether the key of the last entry is lower than this one. Where their begins differ, no key is looked at.

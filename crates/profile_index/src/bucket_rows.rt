@@ -3,6 +3,7 @@ ghost use Rattle.std.specs.Prelude.{◌≡◌, ◌+◌, ◌-◌, ◌*◌, ◌^�
 ghost use Rattle.std.specs.List.{remove};
 ghost use Rattle.std.specs.Arc.{arc_value};
 ghost use Rattle.generic_names.specs.OrderKey.{order_key};
+ghost use Rattle.dataspace.specs.Rooms.{none};
 ghost use Rattle.profile_index.specs.declared.entry.Entry.{Entry};
 ghost use Rattle.profile_index.specs.Buckets.{key_of, keys_room, names_length, both, with_entries, HasRoom};
 
@@ -83,6 +84,13 @@ impl<T: Drop> BucketRows<T> {
         ensures { slice_get (map key_of self.now) place ≡ Some result.now }
     {
         self.keys.row(place)
+    }
+
+    /// What is free in the region of the keys: nothing, since it has just the room of these.
+    pub(crate) fn spare(&self) -> Room
+        ensures { result ≡ none }
+    {
+        self.keys.spare()
     }
 
     /// This room, and that of the keys of the entries from one place up to another.

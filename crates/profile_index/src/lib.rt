@@ -2,8 +2,8 @@
 //!
 //! An [`Index`] keeps an item under each name, and finds the most specific name that covers a resource without looking
 //! at all of them; `class_profiles` keeps the profiles of a class in one. An entry comes in without memory where
-//! `reserve` made room before. [`Steps`] counts the comparisons of the search for a very name, of which there are as
-//! many as the number of entries has binary digits. A [`SharedIndex`] doesn't change: a changed version is an index of
+//! `reserve` made room before. [`Steps`] counts the comparisons of the search for a very name, of which there are at
+//! most as many as the number of entries has binary digits. A [`SharedIndex`] doesn't change: a changed version is an index of
 //! its own, and shares the rest with the one before.
 //!
 //! In both a name's place in the order is kept as bytes, its key, and a search computes the key of what it looks for

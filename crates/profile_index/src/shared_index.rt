@@ -1,15 +1,19 @@
-ghost use Rattle.std.specs.Prelude.{◌≡◌, ◌<◌, ◌≤◌, [], length, find, IfOk, Some, slice_get};
+ghost use Rattle.std.specs.Prelude.{◌≡◌, ◌+◌, ◌^◌, ◌<◌, ◌≤◌, [], length, find, IfOk, Some, slice_get};
 ghost use Rattle.std.specs.Option.{option_copied};
 ghost use Rattle.generic_names.specs.Best.{best, IsInOrder, AreNamed};
-ghost use Rattle.profile_index.specs.Buckets.{most_placed};
+ghost use Rattle.dataspace.specs.Rooms.{none};
+ghost use Rattle.pages.specs.PartAt.{IsPartAt};
+ghost use Rattle.profile_index.specs.Buckets.{both, most_placed};
 ghost use Rattle.profile_index.specs.Indexed.{name_of, AreOf};
 
+use crate::bucket::Bucket;
 use crate::entry::Entry;
 use crate::entry_list::SharedEntries;
 use crate::index::NoMemory;
 use crate::search::{is_pattern, most_specific, place_for};
+use dataspace::Room;
 use generic_names::{Pattern, Resource};
-use pages::{Made, Pages};
+use pages::{Made, Pages, Part};
 use std::alloc::Global;
 use std::marker::Model;
 use std::sync::Arc;
@@ -80,6 +84,29 @@ impl<T: Drop> SharedIndex<T> {
         ensures named { AreNamed name_of self.now }
     {
         self.entries.len()
+    }
+
+    /// What is free in the regions of the index: nothing, since each bucket's region has just the room of its keys.
+    pub fn spare(&self) -> Room
+        ensures { result ≡ none }
+    {
+        let mut sum = Room::none();
+        let mut place = 0;
+        while place < self.entries.len() {
+            let (bucket, rest) = self.bucket_at(place);
+            sum = both(sum, bucket.spare());
+            place += bucket.len() - rest;
+        }
+        sum
+    }
+
+    /// The bucket in which the entry at a place stands, and the place in it.
+    fn bucket_at(&self, place: usize) -> (&Bucket<T>, usize)
+        requires { place < length self.now }
+        ensures { IsPartAt self.now place result.0.now result.1 }
+    {
+        let (page, rest) = self.entries.leaf_at(place);
+        page.part_at(rest)
     }
 
     /// The name and the item at a place.
@@ -171,6 +198,18 @@ impl<T: Drop> SharedIndex<T> {
                 placed: 0,
             }),
         }
+    }
+}
+
+/// Both rooms together.
+fn both(one: Room, other: Room) -> Room
+    requires bytes { one.bytes + other.bytes < 2 ^ 64 }
+    requires rows { one.rows + other.rows < 2 ^ 64 }
+    ensures { result ≡ both one other }
+{
+    Room {
+        bytes: one.bytes + other.bytes,
+        rows: one.rows + other.rows,
     }
 }
 

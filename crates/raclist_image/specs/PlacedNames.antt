@@ -1,5 +1,6 @@
 -- The names of profiles that an image places anew.
-use Rattle.std.specs.Prelude.{ℕ, List, length, sum_by}
+use Rattle.std.specs.Prelude.{ℕ, List, length, map, sum_by}
+use Rattle.generic_names.specs.OrderKey.{order_key}
 use Rattle.racf_profiles.specs.declared.profiles.Profile.{Profile}
 use Rattle.racf_profiles.specs.declared.class_rows.ClassRow.{ClassRow}
 use Rattle.racf_profiles.specs.declared.rows.Rows.{Rows}
@@ -13,6 +14,10 @@ profile_names profiles = sum_by (λ (profile : Profile). length profile.name.tex
 
 abbrev pub names_placed : Rows → ℕ
 names_placed rows = sum_by (λ (class : ClassRow). profile_names class.profiles) rows.classes
+
+-- what an image keeps of these profiles' names, and goes by: their order keys, in the order of the profiles
+abbrev pub keys_of : List Profile → List (List ℕ)
+keys_of profiles = map (λ (profile : Profile). order_key profile.name.text) profiles
 
 -- An edit of a profile places at most the names of one full bucket and a new one, and any other edit none.
 abbrev pub placed_at_most : Edit → ℕ

@@ -8,11 +8,16 @@ ghost use Rattle.racf_profiles.specs.Edits.{put_profile, drop_row};
 ghost use Rattle.racf_profiles.specs.LawfulProfiles.{AreProfiles};
 ghost use Rattle.class_profiles.specs.Table.{best_profile};
 ghost use Rattle.profile_index.specs.Buckets.{most_placed};
+ghost use Rattle.dataspace.specs.Rooms.{none, room_for};
+ghost use Rattle.racf_profiles.specs.Limits.{most_class_profiles};
 ghost use Rattle.raclist_image.specs.Facts.{AreFacts, AreFactsOf};
+ghost use Rattle.raclist_image.specs.PlacedNames.{keys_of};
 
 use crate::facts::Facts;
 use class_profiles::{Made, SharedProfiles};
+use dataspace::Room;
 use generic_names::{NameKind, Pattern, Resource};
+use profile_index::key_length;
 use racf_profiles::{Member, NoMemory, Profile};
 use std::alloc::Global;
 use std::marker::Model;
@@ -41,6 +46,27 @@ impl ClassImage {
         Ok(ClassImage {
             profiles: SharedProfiles::of(alloc, kind, profiles)?,
         })
+    }
+
+    /// The room that the image of these profiles takes for names: a sum over the profiles, of the lengths of their
+    /// names' order keys, which it keeps and goes by, and a row for each. It takes no memory.
+    pub fn room(profiles: &[Profile]) -> Room
+        requires few { length profiles.now ≤ most_class_profiles }
+        ensures { result ≡ room_for (keys_of profiles.now) }
+    {
+        let mut room = Room::none();
+        for profile in profiles {
+            room = room.plus(key_length(&profile.name));
+        }
+        room
+    }
+
+    /// What is free in the regions of the image: nothing, since each has just the room of the keys that lie in it. It
+    /// takes no memory.
+    pub fn spare(&self) -> Room
+        ensures { result ≡ none }
+    {
+        self.profiles.spare()
     }
 
     /// How many profiles there are, at most 50,000.

@@ -1,5 +1,5 @@
 -- How many commands a crash may leave, statement by statement.
-use Rattle.std.proofs.Common.{◌≡◌, ℕ, ◌+◌, ◌≤◌, Bool, true, false, cond, None, Ok, Err, refl, sym, ap, subst, arith}
+use Rattle.std.proofs.Common.{◌≡◌, ℕ, ◌+◌, ◌≤◌, Bool, true, false, cond, List, None, Ok, Err, refl, sym, subst, arith}
 use Rattle.std.specs.Prelude.{Option, Result}
 use Rattle.std.proofs.Math.Nat.{le_trans}
 use Rattle.journal_records.specs.declared.record.CommandRecord.{CommandRecord}

@@ -27,7 +27,7 @@ use Rattle.racf_desk.specs.Position.{Position, at_checkpoint, start_behind, firs
 use Rattle.racf_desk.specs.Made.{DeskOn, is_fresh}
 use Rattle.racf_desk.specs.Outcome.{outcome}
 use Rattle.racf_desk.specs.History.{at, IsLegal, HadRoom}
-use Rattle.racf_desk.specs.Reopening.{GoesOn, LeadOn}
+use Rattle.racf_desk.specs.Reopening.{IsReopened, LeadOn}
 use Rattle.racf_desk.specs.Recovery.{unless_faulty, outcome_again, behind_outcome, behind_record, behind_records, base_of, recovered_from, recovered, standing, Refuses}
 use Rattle.racf_desk.specs.Durable.{LeadTo, SaysEpoch, StandsThere}
 use Rattle.racf_desk.proofs.RecoveryLaws.{standing_is}
@@ -86,7 +86,7 @@ stands_there tells store kept position lawful stores counts at ends leads = reco
 }
 
 -- The files lead on to where the checkpoint does that they say.
-pub found_along : (first second : Option History) (kept : CheckpointRead) (position : Position) → NowRead first second (Says kept) → GoesOn (base_of kept) kept.records position
+pub found_along : (first second : Option History) (kept : CheckpointRead) (position : Position) → NowRead first second (Says kept) → IsReopened (base_of kept) kept.records position
     → NowRead first second (LeadOn position)
 found_along first second kept position says goes = read_weaker first second (Says kept) (LeadOn position) (λ one other said. (kept, said, goes)) says
 
@@ -97,7 +97,7 @@ pub goes_on : ((base : Position) (records : List (List ℕ)) (position : Positio
     → ((position : Position) (id : List ℕ) (group : Option (List ℕ)) (text : List ℕ) → outcome (restarted position) id group text ≡ outcome position id group text)
     → ((base : Position) (history : List CommandRecord) → restarted (at (restarted base) history) ≡ restarted (at base history))
     → (kept : CheckpointRead) (position : Position) → IsCheckpoint kept → position.gate ≡ kept.start + length (spelled kept.records) → recovered kept ≡ Ok position
-    → GoesOn (base_of kept) kept.records position
+    → IsReopened (base_of kept) kept.records position
 goes_on leads room outcomes goes kept position lawful ends is =
     let (history, legal, reads, behind) = leads (base_of kept) kept.records position is in
     let gate : kept.gate ≡ (at (base_of kept) history).gate = counted kept lawful ∙ sym ends ∙ ap (λ (p : Position). p.gate) behind in

@@ -12,7 +12,7 @@ use Rattle.racf_desk.specs.History.{at, IsLegal, HadRoom}
 -- The records are those of a history that is legal from the base on, with room in the journal for each, and the position
 -- is the one behind it, as far as it outlives a restart. A desk that is opened there goes on as the one that ran: a
 -- command has the same outcome at both, and behind the same commands both are opened again as the same.
-pub record GoesOn (base : Position) (records : List (List ℕ)) (position : Position) : Type 0 where
+pub record IsReopened (base : Position) (records : List (List ℕ)) (position : Position) : Type 0 where
   pub history : List CommandRecord
   pub legal : IsLegal base history
   pub room : HadRoom base history
@@ -23,4 +23,4 @@ pub record GoesOn (base : Position) (records : List (List ℕ)) (position : Posi
 
 -- Two files say a checkpoint, from which the records behind it lead to a position so.
 abbrev pub LeadOn : Position → (first second : List ℕ) → Type 0
-LeadOn position first second = (kept : CheckpointRead) × Says kept first second × GoesOn (base_of kept) kept.records position
+LeadOn position first second = (kept : CheckpointRead) × Says kept first second × IsReopened (base_of kept) kept.records position

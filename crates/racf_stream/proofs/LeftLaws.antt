@@ -30,7 +30,7 @@ unfolding command
 command_left fault line s runs = by s.halted runs
   where
     by : (b : Bool) → b ≡ false → number_of (cond b (halt s) (answer_outcome None (outcome_of line s) s)).state ≤ most_left_of (cond b (halt s) (answer_outcome fault (outcome_of line s) s)).state
-    by true no = cc
+    by true never = cc
     by false is = outcome_left fault (outcome_of line s) s
 
 pub answer_left : (fault : Option ℕ) (i : Statement) (s : State) → s.halted ≡ false → number_of (answer None i s).state ≤ most_left_of (answer fault i s).state

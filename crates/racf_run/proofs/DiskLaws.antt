@@ -57,9 +57,9 @@ both_leave {D = D} tells store one two P back leaves =
     (subst (λ (d : D). LeavesBoth (tells (disk_on First store)) (tells d) P) (sym back.second)
     (leaves-both tells store.side store.journal.disk store.idle P leaves))
 
-pub ends_on : {D : Type 0} (tells : D → Option History) (issuing : Issuing) (base : Position) (input : Option (List ℕ)) (then : StoreOn D) (desk : DeskOn D) (one two : D) → HandsBack desk.store one two → SameIdle then desk.store
-    → (rose : Type 0) → (desk.halted ≡ true → rose) → (s : State) → EndsAt tells issuing base input then desk s → EndsOn issuing base input (opened_on tells then) (tells one) (tells two) rose s
-ends_on tells issuing base input then desk one two back same rose fault s ends =
+pub ends_on : {D : Type 0} (tells : D → Option History) (issuing : Issuing) (base : Position) (input : Option (List ℕ)) (start : StoreOn D) (desk : DeskOn D) (one two : D) → HandsBack desk.store one two → SameIdle start desk.store
+    → (rose : Type 0) → (desk.halted ≡ true → rose) → (s : State) → EndsAt tells issuing base input start desk s → EndsOn issuing base input (opened_on tells start) (tells one) (tells two) rose s
+ends_on tells issuing base input start desk one two back same rose fault s ends =
     record {
       leaves = λ running. both_leave tells desk.store one two (StandsFor s.position) back (ends.leaves running);
       in_doubt = λ halts.
@@ -67,7 +67,7 @@ ends_on tells issuing base input then desk one two back same rose fault s ends =
           record { next = doubt.next; in_doubt = doubt.in_doubt; leaves = both_leave tells desk.store one two (StandsForEither s.position doubt.next) back doubt.leaves };
       fault = λ halts. fault (ends.stands.halted ∙ halts);
       moments =
-          subst (StaysIn (BesideIdle (idle_of tells then) (StandsForFront issuing base input (most_left_of s))) (tells then.journal.disk))
+          subst (StaysIn (BesideIdle (idle_of tells start) (StandsForFront issuing base input (most_left_of s))) (tells start.journal.disk))
           (sym (ap (λ side. pick side (tells one) (tells two)) (sym same.side) ∙ live_told tells desk.store one two back)) ends.moments;
       idle = ap (λ side. pick side (tells two) (tells one)) (sym same.side) ∙ idle_told tells desk.store one two back ∙ ap tells same.idle;
     }

@@ -41,32 +41,32 @@ ends_new tells issuing input desk running settled leaves =
     }
 
 -- and behind a run
-ends_at : {D : Type 0} (tells : D → Option History) (issuing : Issuing) (base : Position) (input : Option (List ℕ)) (then : StoreOn D) (desk : DeskOn D) → (desk.halted ≡ false → LeavesIt tells desk.store desk.position)
+ends_at : {D : Type 0} (tells : D → Option History) (issuing : Issuing) (base : Position) (input : Option (List ℕ)) (start : StoreOn D) (desk : DeskOn D) → (desk.halted ≡ false → LeavesIt tells desk.store desk.position)
     → (desk.halted ≡ true → LeavesInDoubt tells issuing base input desk.store desk.position)
-    → StaysAlong tells issuing base input (most_left desk.halted (number_at desk.position)) then desk.store
-    → (s : State) → StandsAt desk s → (fault_of desk ≡ fault_at s.halted (number_of s)) × EndsAt tells issuing base input then desk s
-ends_at tells issuing base input then desk leaves in_doubt along s stands = (
+    → StaysAlong tells issuing base input (most_left desk.halted (number_at desk.position)) start desk.store
+    → (s : State) → StandsAt desk s → (fault_of desk ≡ fault_at s.halted (number_of s)) × EndsAt tells issuing base input start desk s
+ends_at tells issuing base input start desk leaves in_doubt along s stands = (
   ap (λ h. fault_at h desk.position.image.generation) stands.halted ∙ ap (λ (p : Position). fault_at s.halted p.image.generation) stands.position,
   record {
     stands = stands;
     moments =
-        subst (λ h. StaysAlong tells issuing base input (most_left h (number_of s)) then desk.store) stands.halted
-        (subst (λ (p : Position). StaysAlong tells issuing base input (most_left desk.halted (number_at p)) then desk.store) stands.position along);
+        subst (λ h. StaysAlong tells issuing base input (most_left h (number_of s)) start desk.store) stands.halted
+        (subst (λ (p : Position). StaysAlong tells issuing base input (most_left desk.halted (number_at p)) start desk.store) stands.position along);
     leaves = λ h. subst (LeavesIt tells desk.store) stands.position (leaves (stands.halted ∙ h));
     in_doubt = λ h. subst (LeavesInDoubt tells issuing base input desk.store) stands.position (in_doubt (stands.halted ∙ h));
   },
 )
 
-pub ran_to : {D : Type 0} (tells : D → Option History) (issuing : Issuing) (then : StoreOn D) (desk : DeskOn D) (base : Position) (R R2 W W2 : Type 0) (told_any : Bool) (status : Status) (source input left before now : Option (List ℕ)) (name : List ℕ) (old new : List ℕ → Option (List ℕ))
+pub ran_to : {D : Type 0} (tells : D → Option History) (issuing : Issuing) (start : StoreOn D) (desk : DeskOn D) (base : Position) (R R2 W W2 : Type 0) (told_any : Bool) (status : Status) (source input left before now : Option (List ℕ)) (name : List ℕ) (old new : List ℕ → Option (List ℕ))
     → Ran (stream (fault_of desk) issuing base) (StandsAt desk) R W status source left before now → (desk.halted ≡ false → LeavesIt tells desk.store desk.position)
     → (desk.halted ≡ true → LeavesInDoubt tells issuing base source desk.store desk.position)
-    → StaysAlong tells issuing base source (most_left desk.halted (number_at desk.position)) then desk.store → (R → R2) → (W → W2)
-    → source ≡ input → before ≡ told told_any [] → new name ≡ now → SameOthers name old new → RanTo (EndsAt tells issuing base input then desk) R2 W2 issuing base told_any status input name old new
-ran_to tells issuing then desk base R R2 W W2 told_any status source input left before now name old new ran leaves in_doubt along reads writes is_source is_before is_now others =
-    let P : State → Type 0 = λ s. (fault_of desk ≡ fault_at s.halted (number_of s)) × EndsAt tells issuing base input then desk s in
+    → StaysAlong tells issuing base source (most_left desk.halted (number_at desk.position)) start desk.store → (R → R2) → (W → W2)
+    → source ≡ input → before ≡ told told_any [] → new name ≡ now → SameOthers name old new → RanTo (EndsAt tells issuing base input start desk) R2 W2 issuing base told_any status input name old new
+ran_to tells issuing start desk base R R2 W W2 told_any status source input left before now name old new ran leaves in_doubt along reads writes is_source is_before is_now others =
+    let P : State → Type 0 = λ s. (fault_of desk ≡ fault_at s.halted (number_of s)) × EndsAt tells issuing base input start desk s in
     let doubt : desk.halted ≡ true → LeavesInDoubt tells issuing base input desk.store desk.position =
     subst (λ (o : Option (List ℕ)). desk.halted ≡ true → LeavesInDoubt tells issuing base o desk.store desk.position) is_source in_doubt in
-    let stays = subst (λ (o : Option (List ℕ)). StaysAlong tells issuing base o (most_left desk.halted (number_at desk.position)) then desk.store) is_source along in
+    let stays = subst (λ (o : Option (List ℕ)). StaysAlong tells issuing base o (most_left desk.halted (number_at desk.position)) start desk.store) is_source along in
     record {
       fault = fault_of desk;
       left = left;
@@ -75,7 +75,7 @@ ran_to tells issuing then desk base R R2 W W2 told_any status source input left 
           (subst (λ (b : Option (List ℕ)). Ran (stream (fault_of desk) issuing base) P R2 W2 status input left b now) is_before
           (subst (λ (s : Option (List ℕ)). Ran (stream (fault_of desk) issuing base) P R2 W2 status s left before now) is_source
           (Ran-causes (stream (fault_of desk) issuing base) P R R2 W W2 status source left before now reads writes
-          (Ran-weaker (stream (fault_of desk) issuing base) (StandsAt desk) P R W status source left before now (ends_at tells issuing base input then desk leaves doubt stays) ran))));
+          (Ran-weaker (stream (fault_of desk) issuing base) (StandsAt desk) P R W status source left before now (ends_at tells issuing base input start desk leaves doubt stays) ran))));
       others = others;
     }
 

@@ -198,11 +198,11 @@ pub record AreNoMore (before now : FaultCounts) : Type 0 where
   pub first : before.first ≤ now.first
   pub second : before.second ≤ now.second
 
--- The desk stands where the state says, and so do its disks, or they are in doubt. Since the store was as it was then, a
+-- The desk stands where the state says, and so do its disks, or they are in doubt. Since its store was `start` a
 -- crash left what stands for a front of the accepted commands, or of these and the one that is in doubt.
-pub record EndsAt {D : Type 0} (tells : D → Option History) (issuing : Issuing) (base : Position) (input : Option (List ℕ)) (then : StoreOn D) (desk : DeskOn D) (s : State) : Type 0 where
+pub record EndsAt {D : Type 0} (tells : D → Option History) (issuing : Issuing) (base : Position) (input : Option (List ℕ)) (start : StoreOn D) (desk : DeskOn D) (s : State) : Type 0 where
   pub stands : StandsAt desk s
-  pub moments : StaysAlong tells issuing base input (most_left_of s) then desk.store
+  pub moments : StaysAlong tells issuing base input (most_left_of s) start desk.store
   pub leaves : s.halted ≡ false → LeavesIt tells desk.store s.position
   pub in_doubt : s.halted ≡ true → LeavesInDoubt tells issuing base input desk.store s.position
 

@@ -10,7 +10,7 @@ use Rattle.racf_run.proofs.top.script_on.Goals as goal
 pub returns-in-Ok-clause-runs : goal.returns-in-Ok-clause-runs
 returns-in-Ok-clause-runs g c =
     let tells = g.D.Disk.tells in
-    let then = c.in-Ok.desk.store in
+    let start = c.in-Ok.desk.store in
     let desk = c.script_between-status.result.1 in
     let back = record { first = c.into_disks.ensures.first; second = c.into_disks.ensures.second } in
     let input = g.F.Shelf.input c.args.shelf.now c.args.input.now in
@@ -25,12 +25,12 @@ returns-in-Ok-clause-runs g c =
       base = c.in-Ok.desk.position;
       stood = c.in-Ok.ensures.stands;
       ran = (
-        opened_on tells then,
-        opens_on tells then (tells c.args.disks.first) (tells c.args.disks.second) c.in-Ok.ensures.first_moments c.in-Ok.ensures.second_moments,
+        opened_on tells start,
+        opens_on tells start (tells c.args.disks.first) (tells c.args.disks.second) c.in-Ok.ensures.first_moments c.in-Ok.ensures.second_moments,
         RunsOnShelf-weaker g.F.Shelf.source_gives g.F.Shelf.sink_gives g.F.Shelf.take_back_gives g.F.Shelf.give_back_gives g.F.Shelf.tells g.F.Shelf.output
             (Rose (g.F.Shelf.source_faults c.args.shelf.now) (g.F.Shelf.source_faults c.script_between-status.new.shelf)) (Rose (g.F.Shelf.sink_faults c.args.shelf.now) (g.F.Shelf.sink_faults c.script_between-status.new.shelf))
-            (EndsAt tells c.args.issuing c.in-Ok.desk.position input then desk) (EndsOn c.args.issuing c.in-Ok.desk.position input (opened_on tells then) (tells c.into_disks.result.first) (tells c.into_disks.result.second) rose) c.in-Ok.desk.position
-            (ends_on tells c.args.issuing c.in-Ok.desk.position input then desk c.into_disks.result.first c.into_disks.result.second back c.script_between-status.ensures.idle rose fault)
+            (EndsAt tells c.args.issuing c.in-Ok.desk.position input start desk) (EndsOn c.args.issuing c.in-Ok.desk.position input (opened_on tells start) (tells c.into_disks.result.first) (tells c.into_disks.result.second) rose) c.in-Ok.desk.position
+            (ends_on tells c.args.issuing c.in-Ok.desk.position input start desk c.into_disks.result.first c.into_disks.result.second back c.script_between-status.ensures.idle rose fault)
             c.script_between-status.result.0 _ _ c.args.shelf.now c.script_between-status.new.shelf c.script_between-status.ensures.runs,
       );
     })

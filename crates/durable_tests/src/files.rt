@@ -96,89 +96,125 @@ pub(crate) const NEW: Pair = ((Checkpoint::First, EMPTY), BARE);
 /// One with JOE.
 pub(crate) const WITH_JOE: Pair = ((Checkpoint::First, JOE), BARE);
 
+/// The parts of `First`.
+const FIRST: &[&[u8]] = &[
+    b"RACFDB01\x01\0\0\0\0\0\0\0\x01\0\0\0\0\0\0\0\0",
+    ONE_USER,
+    IBMUSER,
+    CLASSES,
+];
+
+/// The parts of `Second`.
+const SECOND: &[&[u8]] = &[
+    b"RACFDB01\x01\0\0\0\0\0\0\0\x02\0\0\0\0\0\0\0\x01",
+    TWO_USERS,
+    IBMUSER,
+    HAS_JOE,
+    CLASSES,
+];
+
+/// The parts of `SecondAgain`.
+const SECOND_AGAIN: &[&[u8]] = &[
+    b"RACFDB01\x01\0\0\0\0\0\0\0\x03\0\0\0\0\0\0\0\x01",
+    TWO_USERS,
+    IBMUSER,
+    HAS_JOE,
+    CLASSES,
+];
+
+/// The parts of `Third`.
+const THIRD: &[&[u8]] = &[
+    b"RACFDB01\x01\0\0\0\0\0\0\0\x03\0\0\0\0\0\0\0\x02",
+    THREE_USERS,
+    IBMUSER,
+    HAS_JOE,
+    HAS_BOB,
+    CLASSES,
+];
+
+/// The parts of `ThirdAgain`.
+const THIRD_AGAIN: &[&[u8]] = &[
+    b"RACFDB01\x01\0\0\0\0\0\0\0\x04\0\0\0\0\0\0\0\x02",
+    THREE_USERS,
+    IBMUSER,
+    HAS_JOE,
+    HAS_BOB,
+    CLASSES,
+];
+
+/// The parts of `LastButOne`.
+const LAST_BUT_ONE: &[&[u8]] = &[
+    b"RACFDB01\x01\xFF\xFF\xFF\xFF\xFF\xFF\xFF\xFE\0\0\0\0\0\0\0\0",
+    ONE_USER,
+    IBMUSER,
+    CLASSES,
+];
+
+/// The parts of `Last`.
+const LAST: &[&[u8]] = &[
+    b"RACFDB01\x01\xFF\xFF\xFF\xFF\xFF\xFF\xFF\xFF\0\0\0\0\0\0\0\x01",
+    TWO_USERS,
+    IBMUSER,
+    HAS_JOE,
+    CLASSES,
+];
+
+/// The parts of `Closed`.
+const CLOSED: &[&[u8]] = &[
+    b"RACFDB01\0\0\0\0\0\0\0\0\x02\0\0\0\0\0\0\0\x07",
+    ONE_USER,
+    IBMUSER,
+    CLASSES,
+];
+
+/// The parts of `ClosedFirst`.
+const CLOSED_FIRST: &[&[u8]] = &[
+    b"RACFDB01\0\0\0\0\0\0\0\0\x01\0\0\0\0\0\0\0\0",
+    ONE_USER,
+    IBMUSER,
+    CLASSES,
+];
+
+/// The parts of `Torn`.
+const TORN: &[&[u8]] = &[
+    b"RACFDB01\x02\0\0\0\0\0\0\0\x01\0\0\0\0\0\0\0\0",
+    ONE_USER,
+    IBMUSER,
+    CLASSES,
+];
+
+/// The parts of `NoEpoch`.
+const NO_EPOCH: &[&[u8]] = &[
+    b"RACFDB01\x01\0\0\0\0\0\0\0\0\0\0\0\0\0\0\0\0",
+    ONE_USER,
+    IBMUSER,
+    CLASSES,
+];
+
+/// The parts of `TooMany`.
+const TOO_MANY: &[&[u8]] = &[
+    b"RACFDB01\x01\0\0\0\0\0\0\0\x01\x40\0\0\0\0\0\0\x01",
+    ONE_USER,
+    IBMUSER,
+    CLASSES,
+];
+
 /// The parts of a checkpoint.
 fn parts_of(checkpoint: Checkpoint) -> &'static [&'static [u8]] {
     match checkpoint {
         Checkpoint::Nothing => &[],
-        Checkpoint::First => &[
-            b"RACFDB01\x01\0\0\0\0\0\0\0\x01\0\0\0\0\0\0\0\0",
-            ONE_USER,
-            IBMUSER,
-            CLASSES,
-        ],
-        Checkpoint::Second => &[
-            b"RACFDB01\x01\0\0\0\0\0\0\0\x02\0\0\0\0\0\0\0\x01",
-            TWO_USERS,
-            IBMUSER,
-            HAS_JOE,
-            CLASSES,
-        ],
-        Checkpoint::SecondAgain => &[
-            b"RACFDB01\x01\0\0\0\0\0\0\0\x03\0\0\0\0\0\0\0\x01",
-            TWO_USERS,
-            IBMUSER,
-            HAS_JOE,
-            CLASSES,
-        ],
-        Checkpoint::Third => &[
-            b"RACFDB01\x01\0\0\0\0\0\0\0\x03\0\0\0\0\0\0\0\x02",
-            THREE_USERS,
-            IBMUSER,
-            HAS_JOE,
-            HAS_BOB,
-            CLASSES,
-        ],
-        Checkpoint::ThirdAgain => &[
-            b"RACFDB01\x01\0\0\0\0\0\0\0\x04\0\0\0\0\0\0\0\x02",
-            THREE_USERS,
-            IBMUSER,
-            HAS_JOE,
-            HAS_BOB,
-            CLASSES,
-        ],
-        Checkpoint::LastButOne => &[
-            b"RACFDB01\x01\xFF\xFF\xFF\xFF\xFF\xFF\xFF\xFE\0\0\0\0\0\0\0\0",
-            ONE_USER,
-            IBMUSER,
-            CLASSES,
-        ],
-        Checkpoint::Last => &[
-            b"RACFDB01\x01\xFF\xFF\xFF\xFF\xFF\xFF\xFF\xFF\0\0\0\0\0\0\0\x01",
-            TWO_USERS,
-            IBMUSER,
-            HAS_JOE,
-            CLASSES,
-        ],
-        Checkpoint::Closed => &[
-            b"RACFDB01\0\0\0\0\0\0\0\0\x02\0\0\0\0\0\0\0\x07",
-            ONE_USER,
-            IBMUSER,
-            CLASSES,
-        ],
-        Checkpoint::ClosedFirst => &[
-            b"RACFDB01\0\0\0\0\0\0\0\0\x01\0\0\0\0\0\0\0\0",
-            ONE_USER,
-            IBMUSER,
-            CLASSES,
-        ],
-        Checkpoint::Torn => &[
-            b"RACFDB01\x02\0\0\0\0\0\0\0\x01\0\0\0\0\0\0\0\0",
-            ONE_USER,
-            IBMUSER,
-            CLASSES,
-        ],
-        Checkpoint::NoEpoch => &[
-            b"RACFDB01\x01\0\0\0\0\0\0\0\0\0\0\0\0\0\0\0\0",
-            ONE_USER,
-            IBMUSER,
-            CLASSES,
-        ],
-        Checkpoint::TooMany => &[
-            b"RACFDB01\x01\0\0\0\0\0\0\0\x01\x40\0\0\0\0\0\0\x01",
-            ONE_USER,
-            IBMUSER,
-            CLASSES,
-        ],
+        Checkpoint::First => FIRST,
+        Checkpoint::Second => SECOND,
+        Checkpoint::SecondAgain => SECOND_AGAIN,
+        Checkpoint::Third => THIRD,
+        Checkpoint::ThirdAgain => THIRD_AGAIN,
+        Checkpoint::LastButOne => LAST_BUT_ONE,
+        Checkpoint::Last => LAST,
+        Checkpoint::Closed => CLOSED,
+        Checkpoint::ClosedFirst => CLOSED_FIRST,
+        Checkpoint::Torn => TORN,
+        Checkpoint::NoEpoch => NO_EPOCH,
+        Checkpoint::TooMany => TOO_MANY,
     }
 }
 

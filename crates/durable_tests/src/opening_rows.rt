@@ -79,7 +79,7 @@ const OVER_NEWER: Deed = Deed {
 /// Over two, the second of the last epoch.
 const OVER_LAST: Deed = Deed {
     asked: INIT,
-    held: ((First, EMPTY), (Last, BOB)),
+    held: ((First, JOE), (Last, BOB)),
     again: Some(&["init"]),
     makes: true,
 };

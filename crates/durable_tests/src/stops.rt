@@ -78,6 +78,11 @@ pub(crate) fn byte_at(bytes: &[u8], place: usize) -> u8 {
 const NO_PART: Part = (0, None, NO_GATE, ("", NEW));
 
 impl Stop<'_> {
+    /// Whether a call fails: its place is below the number of calls.
+    fn fails(&self) -> bool {
+        self.place < self.row.calls.len()
+    }
+
     /// The part of the calls that it stops in, and the next.
     fn parts(&self) -> [Part; 2] {
         let mut now = NO_PART;
@@ -167,7 +172,7 @@ pub(crate) fn assert_answers(
     );
     let (is_next, (answers, _)) = stop.stand(image);
     let [_, (_, _, _, (next, _))] = stop.parts();
-    let makes = stop.row.deed.makes && !is_next;
+    let makes = stop.row.deed.makes && stop.fails() && !is_next;
     let answered = has_printed(&ended.shelf, Some(answers))
         || makes && (has_printed(&ended.shelf, Some(next)) || is_refused(&ended));
     assert!(rt;
@@ -209,9 +214,10 @@ fn assert_stop(
         shelf,
         disks,
     } = stop.run(rt, half);
-    let fails = stop.place < stop.row.calls.len();
+    let fails = stop.fails();
     let [(_, printed, _, _), _] = stop.parts();
     assert!(rt; (status == Status::DiskFault) == fails && has_printed(&shelf, printed));
+    assert!(rt; fails || printed.is_some() || status == Status::Done);
     let (disk, other) = stop.by_role(disks);
     assert!(rt; disk.faults() == u64::from(fails) && other.faults() == 0);
     assert_stands(rt, stop, disk.bytes(), other.bytes());

@@ -180,16 +180,16 @@ impl<D: Disk> Desk<D> {
         ensures live { self.old.halted ≡ false → disk_on self.old.store.side self.new.store ≡ self.old.store.journal.disk }
         ensures running { OnOk result (self.old.halted ≡ false) }
         ensures fails { IfErr result (FailsToCompact self.old self.new) }
-        ensures cause { self.old.halted ≡ false → self.new.halted ≡ true → Rose (D.faults self.old.store.idle) (D.faults (disk_on (other self.old.store.side) self.new.store)) }
+        ensures cause { IfErr result (λ why. why ≡ Error.DiskFault → Rose (D.faults self.old.store.idle) (D.faults (disk_on (other self.old.store.side) self.new.store))) }
         ensures no_fewer { self.old.halted ≡ false → D.faults self.old.store.idle ≤ D.faults (disk_on (other self.old.store.side) self.new.store) }
     {
         if self.desk.halted() {
             return Err(Error::Halted);
         }
-        match self.desk.compact(alloc) {
-            Ok(()) => Ok(()),
-            Err(fault) => Err(Error::of_store(fault)),
+        if let Err(fault) = self.desk.compact(alloc) {
+            return Err(Error::of_store(fault));
         }
+        Ok(())
     }
 
     /// The disks.

@@ -2,7 +2,7 @@ use Rattle.std.proofs.Common.{◌≡◌, true, inl, inr, refl, subst}
 use Rattle.std.proofs.Math.Nat.{le_trans}
 use Rattle.racf_outside.specs.Causes.{Rose}
 use Rattle.racf_run.proofs.Unsound.{no_disk_fault, is_neither}
-use Rattle.racf_run.proofs.DiskLaws.{ends_on, opens_on, either_later, rose_along, no_fewer_along}
+use Rattle.racf_run.proofs.DiskLaws.{HandsBack, ends_on, opens_on, either_later, rose_along, no_fewer_along}
 use Rattle.racf_run.proofs.TopLaws.{RunsOnShelf-weaker}
 use Rattle.racf_run.specs.Racf.{IsUnsound, EndsAt, EndsOn, RoseEither, opened_on}
 use Rattle.racf_run.proofs.top.script_on.Goals as goal
@@ -12,7 +12,7 @@ returns-in-Ok-clause-runs g c =
     let tells = g.D.Disk.tells in
     let start = c.in-Ok.desk.store in
     let desk = c.script_between-status.result.1 in
-    let back = record { first = c.into_disks.ensures.first; second = c.into_disks.ensures.second } in
+    let back : HandsBack desk.store c.into_disks.result.first c.into_disks.result.second = record { first = c.into_disks.ensures.first; second = c.into_disks.ensures.second } in
     let input = g.F.Shelf.input c.args.shelf.now c.args.input.now in
     let faults = g.D.Disk.faults in
     let rose : Type 0 = RoseEither (faults c.args.disks.first) (faults c.into_disks.result.first) (faults c.args.disks.second) (faults c.into_disks.result.second) in

@@ -1,8 +1,9 @@
-//! What is said on standard error: how a run ended, and behind it what it is about.
+//! What is said on standard error: how a run ended, and behind it what it is about. Where there is no room for it within
+//! the bound of a file's size nothing is said, so that the status stays.
 
 use crate::disks::DISKS;
 use crate::words::wrong_word;
-use racf_files::{Reason, Role, Trouble};
+use racf_files::{Reason, Role, Trouble, has_room_for_message};
 use racf_run::Status;
 
 /// What is known of a run's end beside its status.
@@ -18,11 +19,19 @@ pub(crate) struct Found {
     pub(crate) missing: Option<&'static str>,
 }
 
+/// Whether a line that tells this name may be said.
+pub(crate) fn may_say(rt: &HostRuntime, name: &str) -> bool {
+    has_room_for_message(rt.alloc(), rt, name)
+}
+
 /// Says how a run ended, where it didn't end well: the words of the status, in a line of its own.
-pub(crate) fn say_status(rt: &impl Eprint, status: Status) {
+pub(crate) fn say_status(rt: &HostRuntime, status: Status) {
     let Some(message) = status.message() else {
         return;
     };
+    if !may_say(rt, message) {
+        return;
+    }
     let _ = match status.place() {
         Some(place) => eprintln!(rt; "{message} {place}"),
         None => eprintln!(rt; "{message}"),
@@ -30,15 +39,19 @@ pub(crate) fn say_status(rt: &impl Eprint, status: Status) {
 }
 
 /// Refuses to make a database where one may be.
-pub(crate) fn refuse_init(rt: &impl Eprint, name: &str) -> Status {
+pub(crate) fn refuse_init(rt: &HostRuntime, name: &str) -> Status {
     say_status(rt, Status::Usage);
-    let _ = eprintln!(rt; "racf: {name}: a database may be here: racf init over makes a new one");
+    if may_say(rt, name) {
+        let _ = eprintln!(rt;
+            "racf: {name}: a database may be here: racf init over makes a new one"
+        );
+    }
     Status::Usage
 }
 
 /// Says what a run's end is about: each file at fault, with the system's reason.
 pub(crate) fn say_why(
-    rt: &impl Eprint,
+    rt: &HostRuntime,
     status: Status,
     words: &[String],
     found: &Found,
@@ -58,16 +71,23 @@ pub(crate) fn say_why(
 }
 
 /// Says which word is wrong.
-fn say_usage(rt: &impl Eprint, words: &[String]) {
-    let _ = match wrong_word(words) {
-        (Some(word), why) => eprintln!(rt; "racf: {word}: {why}"),
-        (None, why) => eprintln!(rt; "racf: {why}"),
+fn say_usage(rt: &HostRuntime, words: &[String]) {
+    let (word, why) = wrong_word(words);
+    if !may_say(rt, word.unwrap_or("")) {
+        return;
+    }
+    let _ = match word {
+        Some(word) => eprintln!(rt; "racf: {word}: {why}"),
+        None => eprintln!(rt; "racf: {why}"),
     };
 }
 
 /// Says that there is no database: of two files of which one lacks, which one.
-fn say_no_database(rt: &impl Eprint, found: &Found) {
+fn say_no_database(rt: &HostRuntime, found: &Found) {
     let [first, second] = DISKS;
+    if !may_say(rt, first) {
+        return;
+    }
     let _ = match (found.holding, found.missing) {
         (None, _) => eprintln!(rt; "racf: no database in this folder: racf init makes one"),
         (Some(_), Some(missing)) => eprintln!(rt; "racf: {missing}: no such file"),
@@ -76,14 +96,18 @@ fn say_no_database(rt: &impl Eprint, found: &Found) {
 }
 
 /// Says that the database is damaged.
-fn say_damaged(rt: &impl Eprint) {
+fn say_damaged(rt: &HostRuntime) {
     let [first, second] = DISKS;
-    let _ = eprintln!(rt; "racf: {first}, {second}: the one that counts is damaged at this place");
+    if may_say(rt, first) {
+        let _ = eprintln!(rt;
+            "racf: {first}, {second}: the one that counts is damaged at this place"
+        );
+    }
 }
 
 /// Says each file at fault.
 fn say_files(
-    rt: &impl Eprint,
+    rt: &HostRuntime,
     status: Status,
     words: &[String],
     found: &Found,
@@ -96,7 +120,7 @@ fn say_files(
     }
     for (name, reason) in DISKS.iter().zip(found.disks.iter()) {
         if let Some(reason) = reason {
-            say_disk(rt, name, *reason);
+            say_file(rt, name, *reason);
             said = true;
         }
     }
@@ -106,27 +130,36 @@ fn say_files(
 }
 
 /// Says what is in the way of a file of the words.
-fn say_trouble(rt: &impl Eprint, trouble: &Trouble) {
+fn say_trouble(rt: &HostRuntime, trouble: &Trouble) {
     let reason = trouble.reason;
     let name = match (trouble.name.as_str(), trouble.role) {
         ("-", Role::Input) => "standard input",
         ("-", Role::Output) => "standard output",
         (name, _) => name,
     };
-    let _ = eprintln!(rt; "racf: {name}: {reason}");
+    say_file(rt, name, reason);
 }
 
-/// Says what is in the way of a disk.
-pub(crate) fn say_disk(rt: &impl Eprint, name: &str, reason: Reason) {
-    let _ = eprintln!(rt; "racf: {name}: {reason}");
+/// Says what is in the way of the file of this name.
+pub(crate) fn say_file(rt: &HostRuntime, name: &str, reason: Reason) {
+    if may_say(rt, name) {
+        let _ = eprintln!(rt; "racf: {name}: {reason}");
+    }
 }
 
 /// Says which word it was where no file is known to be at fault.
-fn say_word(rt: &impl Eprint, status: Status, words: &[String]) {
+fn say_word(rt: &HostRuntime, status: Status, words: &[String]) {
     let why = match status {
         Status::NoMemory => "not enough memory",
         _ => "see racf --help",
     };
+    let verb = match words {
+        [verb, ..] => verb.as_str(),
+        [] => "",
+    };
+    if !may_say(rt, verb) {
+        return;
+    }
     let _ = match words {
         [verb, ..] => eprintln!(rt; "racf: {verb}: {why}"),
         [] => eprintln!(rt; "racf: {why}"),

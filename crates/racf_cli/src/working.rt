@@ -3,7 +3,7 @@
 use crate::disks::{
     DISKS, first_missing, first_that_holds, guard, open_disks, reasons, take_away, tell_disks,
 };
-use crate::explaining::{Found, refuse_init, say_disk, say_status, say_why};
+use crate::explaining::{Found, refuse_init, say_file, say_status, say_why};
 use crate::help::TYPED;
 use crate::watching::{end, watch};
 use crate::words::{are_standard, made_name, output_of, run_names, script_names, write_checkpoint};
@@ -165,7 +165,7 @@ fn disk_status(rt: &HostRuntime, trouble: DiskTrouble) -> Status {
         DatabaseFile::Second => DISKS[1],
         DatabaseFile::Mark => LOST,
     };
-    say_disk(rt, name, trouble.reason);
+    say_file(rt, name, trouble.reason);
     status
 }
 

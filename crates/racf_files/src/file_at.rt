@@ -98,29 +98,38 @@ impl<R: Files<File = File> + Drop> FileAt<R> {
     }
 
     /// Makes the file where it isn't there, and syncs its folder, so that the file is there after a power failure. Where
-    /// that fails it is taken away. One that another run has opened in between, and holds locked or has written, is that
-    /// run's, and stays.
+    /// that fails it is taken away. One that another run has made or opened in between, and holds locked or has written,
+    /// is that run's, and stays.
     fn make(&mut self) -> Result<(), Reason> {
         if self.file.is_some() {
             return Ok(());
         }
-        let file = OpenOptions::new()
-            .read(true)
-            .write(true)
-            .create_new(true)
-            .mode(0o600)
-            .open(&self.runtime, self.path.as_str())?;
-        let file = locked(behind_standard(file)?)?;
-        if file.metadata()?.len() > 0 {
-            return Err(Reason::InUse);
+        match alone(made(&self.runtime, self.path.as_str())?) {
+            Ok(file) => self.file = Some(file),
+            Err(why) => {
+                self.is_made = self.is_left(why);
+                self.take_away();
+                return Err(why);
+            }
         }
-        self.file = Some(file);
         self.is_made = true;
         let synced = self.sync_folder();
         if synced.is_err() {
             self.take_away();
         }
         synced
+    }
+
+    /// Whether the file that was made, and can't be used, is left to nobody: no other run holds it, and nothing was
+    /// written to it.
+    fn is_left(&self, why: Reason) -> bool {
+        if matches!(why, Reason::InUse) {
+            return false;
+        }
+        match fs::symlink_metadata(&self.runtime, self.path.as_str()) {
+            Ok(metadata) => metadata.is_file() && metadata.len() == 0,
+            Err(_) => false,
+        }
     }
 
     /// Takes the file away where this run made it, so that nothing is left of what can't be finished. It is locked until
@@ -209,6 +218,30 @@ impl<R: Files<File = File> + Drop> FileAt<R> {
         }
         self.sync()
     }
+}
+
+/// Makes a file that isn't there. One that is there by now was made by another run.
+fn made<R: Files<File = File>>(files: &R, path: &str) -> Result<File, Reason> {
+    let made = OpenOptions::new()
+        .read(true)
+        .write(true)
+        .create_new(true)
+        .mode(0o600)
+        .open(files, path);
+    match made {
+        Ok(file) => Ok(file),
+        Err(error) if error.kind() == ErrorKind::AlreadyExists => Err(Reason::InUse),
+        Err(error) => Err(Reason::from(error)),
+    }
+}
+
+/// The file that was made, locked by this run alone, and empty as yet.
+fn alone(file: File) -> Result<File, Reason> {
+    let file = locked(behind_standard(file)?)?;
+    if file.metadata()?.len() > 0 {
+        return Err(Reason::InUse);
+    }
+    Ok(file)
 }
 
 /// Opens and locks the regular file of this name, where there is one.

@@ -47,4 +47,5 @@ pub use planned::{Role, Trouble};
 pub use progress::{Phase, Progress};
 pub use read_alone::{ReadAlone, read_both};
 pub use reasons::{DatabaseFile, DiskTrouble, Reason};
+pub use size_bound::has_room_for_message;
 pub use standard::occupy_standard_streams;

@@ -6,7 +6,7 @@ use crate::file_sink::Room;
 use crate::guard::Guard;
 use crate::paths::behind_standard;
 use crate::reasons::Reason;
-use crate::size_bound::size_bound;
+use crate::size_bound::{has_room_for_message, size_bound};
 use std::alloc::Global;
 use std::fs;
 use std::fs::{File, Metadata, OpenOptions, TryLockError};
@@ -83,6 +83,7 @@ pub(crate) fn open_standard_input<R: Files<File = File>>(
 
 /// Opens an input. It is no file of the database, and no folder.
 pub(crate) fn open_named_input<R: Files<File = File> + Eprint>(
+    alloc: Global,
     files: &R,
     guard: &Guard,
     name: &str,
@@ -91,7 +92,7 @@ pub(crate) fn open_named_input<R: Files<File = File> + Eprint>(
     if metadata.is_dir() {
         return Err(Reason::Folder);
     }
-    name_pipe(files, name, &metadata);
+    name_pipe(alloc, files, name, &metadata);
     let file = behind_standard(File::open(files, name)?)?;
     let metadata = file.metadata()?;
     if metadata.is_dir() {
@@ -165,7 +166,7 @@ pub(crate) fn open_named_output<R: Files<File = File> + Eprint>(
     guard: &Guard,
     name: &str,
 ) -> Result<OpenOutput, Reason> {
-    let opened = open_writing(files, name)?;
+    let opened = open_writing(alloc, files, name)?;
     let metadata = opened.file.metadata()?;
     let identity = identity_of(&metadata);
     let mut room = Room::endless();
@@ -221,12 +222,16 @@ struct Writing {
 
 /// Opens a file for writing, and for reading where it is a regular one that may be read; it is made where it isn't
 /// there.
-fn open_writing<R: Files<File = File> + Eprint>(files: &R, name: &str) -> Result<Writing, Reason> {
+fn open_writing<R: Files<File = File> + Eprint>(
+    alloc: Global,
+    files: &R,
+    name: &str,
+) -> Result<Writing, Reason> {
     match fs::metadata(files, name) {
         Ok(metadata) if metadata.is_dir() => Err(Reason::Folder),
         Ok(metadata) if metadata.is_file() => open_regular(files, name),
         Ok(metadata) => {
-            name_pipe(files, name, &metadata);
+            name_pipe(alloc, files, name, &metadata);
             let file = OpenOptions::new().write(true).open(files, name)?;
             open_for_writing(file, false, false)
         }
@@ -250,17 +255,25 @@ fn open_regular<R: Files<File = File>>(files: &R, name: &str) -> Result<Writing,
     }
 }
 
-/// Makes a file. Where the name is that of a link to no file, the file that it leads to is made.
+/// Makes a file. Nothing is made where a link leads: the name of one that leads to no file is refused.
 fn make<R: Files<File = File>>(files: &R, name: &str) -> Result<Writing, Reason> {
-    let mut how = OpenOptions::new();
-    how.read(true).write(true);
-    match how.create_new(true).open(files, name) {
+    let made = OpenOptions::new()
+        .read(true)
+        .write(true)
+        .create_new(true)
+        .open(files, name);
+    match made {
         Ok(file) => open_for_writing(file, true, true),
-        Err(error) if error.kind() == ErrorKind::AlreadyExists => {
-            let file = how.create_new(false).create(true).open(files, name)?;
-            open_for_writing(file, true, false)
-        }
+        Err(error) if error.kind() == ErrorKind::AlreadyExists => open_found(files, name),
         Err(error) => Err(Reason::from(error)),
+    }
+}
+
+/// Opens a file that another program made in between. Where none is there the name is that of a link.
+fn open_found<R: Files<File = File>>(files: &R, name: &str) -> Result<Writing, Reason> {
+    match open_regular(files, name) {
+        Err(Reason::NoSuchFile) => Err(Reason::LeadsNowhere),
+        opened => opened,
     }
 }
 
@@ -311,8 +324,13 @@ fn is_named_pipe(name: &str, metadata: &Metadata) -> bool {
 }
 
 /// Names a pipe on standard error before it is opened, since that may wait for its other end.
-fn name_pipe<R: Eprint>(terminal: &R, name: &str, metadata: &Metadata) {
-    if is_named_pipe(name, metadata) {
-        let _ = eprintln!(terminal; "racf: {name}: a pipe, which waits for its other end");
+fn name_pipe<R: Files<File = File> + Eprint>(
+    alloc: Global,
+    files: &R,
+    name: &str,
+    metadata: &Metadata,
+) {
+    if is_named_pipe(name, metadata) && has_room_for_message(alloc, files, name) {
+        let _ = eprintln!(files; "racf: {name}: a pipe, which waits for its other end");
     }
 }

@@ -116,7 +116,7 @@ impl<R: Files<File = File> + Eprint + Drop> Open<R> {
         let opened = if name == STANDARD {
             open_standard_input(&self.runtime, &self.guard)?
         } else {
-            open_named_input(&self.runtime, &self.guard, name)?
+            open_named_input(self.alloc, &self.runtime, &self.guard, name)?
         };
         self.inputs.add(opened.identity)?;
         Ok(opened)

@@ -20,6 +20,8 @@ pub enum Reason {
     NoRegularFile,
     /// It is a symbolic link, through which no disk is opened.
     Link,
+    /// It is an output whose name is that of a link that leads to no file.
+    LeadsNowhere,
     /// Another file came in its place while it was opened.
     Replaced,
     /// It is a disk that another run has open.
@@ -94,6 +96,7 @@ impl Reason {
             Reason::Folder => "a folder",
             Reason::NoRegularFile => "no regular file",
             Reason::Link => "a symbolic link",
+            Reason::LeadsNowhere => "a link that leads to no file",
             Reason::Replaced => "another file came in its place",
             Reason::InUse => "in use by another run",
             Reason::Locked => "locked by another program",

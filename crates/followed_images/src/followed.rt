@@ -4,11 +4,11 @@ ghost use Rattle.racf_profiles.specs.State.{restart};
 ghost use Rattle.command_conflicts.specs.Conflicts.{conflict_of};
 ghost use Rattle.followed_images.specs.Given.{giver, first_image, image_behind, Becomes};
 
-use crate::taken::TakenImage;
+use crate::taken::{TakenImage, TakenRows};
 use command_parser::{Command, Issuer, ParseFault, Syntax, parse};
 use racf_database::{Conflict, Database};
 use racf_profiles::laws::rows_are_changed;
-use racf_profiles::{NoMemory, Rows, ibmuser, sys1};
+use racf_profiles::{NoMemory, ibmuser, sys1};
 use raclist_image::Image;
 use std::alloc::{AllocError, Global};
 use std::marker::Model;
@@ -85,10 +85,10 @@ impl Followed {
     }
 
     /// All rows, copied.
-    pub fn rows(&self, alloc: Global) -> Result<Rows, NoMemory>
-        ensures { IfOk result (λ rows. rows ≡ self.now.state.rows) }
+    pub fn rows(&self, alloc: Global) -> Result<TakenRows, NoMemory>
+        ensures { IfOk result (λ taken. taken ≡ self.now.state.rows) }
     {
-        self.database.to_rows(alloc)
+        Ok(TakenRows::of(self.database.to_rows(alloc)?))
     }
 
     /// An image of all rows under that number, made from nothing.

@@ -263,7 +263,7 @@ fn reads_without_memory(rt: HostRuntime) -> Result<(), Fail> {
     let names = Names::read()?;
     let asked = Resources::read()?;
     let database = small_database(rt.alloc())?;
-    let rows = database.rows(rt.alloc())?;
+    let taken_rows = database.rows(rt.alloc())?;
     let taken = database.image_of_rows(rt.alloc(), 7)?;
     let image = taken.image();
     let Ok(acee) = verify(rt.alloc(), image, &joe_at_terminal(&names)) else {
@@ -275,7 +275,7 @@ fn reads_without_memory(rt: HostRuntime) -> Result<(), Fail> {
     assert!(rt; has_rows(image, &names));
     assert!(rt; has_profiles(image, &asked));
     assert!(rt; decides(image, &acee, &asked));
-    assert!(rt; has_room(image, &rows));
+    assert!(rt; has_room(image, taken_rows.rows()));
     assert!(rt; is_filled(&mut region));
     Ok(())
 }

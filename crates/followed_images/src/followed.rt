@@ -4,7 +4,7 @@ ghost use Rattle.racf_profiles.specs.State.{restart};
 ghost use Rattle.command_conflicts.specs.Conflicts.{conflict_of};
 ghost use Rattle.followed_images.specs.Given.{giver, first_image, image_behind, Becomes};
 
-use crate::taken::{TakenImage, TakenRows};
+use crate::taken::TakenImage;
 use command_parser::{Command, Issuer, ParseFault, Syntax, parse};
 use racf_database::{Conflict, Database};
 use racf_profiles::laws::rows_are_changed;
@@ -82,13 +82,6 @@ impl Followed {
         ensures { IfOk result (λ taken. taken ≡ self.now) }
     {
         Ok(TakenImage::of(Arc::try_clone(&self.image)?))
-    }
-
-    /// All rows, copied.
-    pub fn rows(&self, alloc: Global) -> Result<TakenRows, NoMemory>
-        ensures { IfOk result (λ taken. taken ≡ self.now.state.rows) }
-    {
-        Ok(TakenRows::of(self.database.to_rows(alloc)?))
     }
 
     /// An image of all rows under that number, made from nothing.

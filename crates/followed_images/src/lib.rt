@@ -2,7 +2,7 @@
 //!
 //! A [`Followed`] is a new database with the image of its rows. [`Followed::give`] gives it a command of IBMUSER, and
 //! each accepted one makes the next image of the one before. [`Followed::take`] hands out the image as it stands, and
-//! [`Followed::image_of_rows`] makes one of all rows, which [`Followed::rows`] copies.
+//! [`Followed::image_of_rows`] makes one of all rows.
 //!
 //! ```
 //! let mut followed = Followed::new(alloc)?;
@@ -16,4 +16,4 @@ mod followed;
 mod taken;
 
 pub use followed::{Followed, Outcome};
-pub use taken::{TakenImage, TakenRows};
+pub use taken::TakenImage;

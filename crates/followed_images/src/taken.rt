@@ -1,8 +1,7 @@
-//! Images and rows that were taken.
+//! Images that were taken.
 ghost use Rattle.std.specs.Prelude.{◌≡◌};
 ghost use Rattle.std.specs.Arc.{arc_value};
 
-use racf_profiles::Rows;
 use raclist_image::Image;
 use std::marker::Model;
 use std::sync::Arc;
@@ -42,42 +41,5 @@ impl TakenImage {
 impl Drop for TakenImage {
     fn drop(self) {
         let TakenImage { image: _ } = self;
-    }
-}
-
-/// Rows that were taken. Later commands leave them as they are.
-pub struct TakenRows {
-    /// The rows, copied.
-    rows: Rows,
-}
-
-impl Model for TakenRows {
-    ghost use Rattle.racf_profiles.specs.declared.rows.Rows.{Rows};
-
-    ghost Value = { Rows };
-
-    ghost view = { λ taken. taken.rows };
-}
-
-impl TakenRows {
-    /// These rows.
-    pub(crate) fn of(rows: Rows) -> TakenRows
-        ensures { result ≡ rows }
-    {
-        TakenRows { rows }
-    }
-
-    /// The rows.
-    pub fn rows(&self) -> &Rows
-        ensures { result.now ≡ self.now }
-    {
-        &self.rows
-    }
-}
-
-/// Written out, so that what rows are made of is let go in this crate alone.
-impl Drop for TakenRows {
-    fn drop(self) {
-        let TakenRows { rows: _ } = self;
     }
 }

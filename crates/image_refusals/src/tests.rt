@@ -7,7 +7,7 @@ use dataspace::{Region, Room};
 use decision::{Decision, Request, Rule, auth, fastauth, verify};
 use followed_images::{Followed, Outcome, TakenImage};
 use generic_names::Resource;
-use racf_profiles::{FixedClass, Rows, User, ibmuser, kind_in, sys1};
+use racf_profiles::{FixedClass, User, ibmuser, kind_in, sys1};
 use raclist_image::{ClassImage, Facts, Image};
 use std::alloc::Global;
 use std::test::Fail;
@@ -228,24 +228,12 @@ fn decides(image: &Image, acee: &Acee, asked: &Resources) -> bool {
         && is_decided(&fastauth(image, acee, &asked.run), 4, Rule::NotListed)
 }
 
-/// The room of the image of FACILITY's two profiles.
-fn room_of_profiles(rows: &Rows) -> Option<Room> {
-    for class in &rows.classes.items {
-        let profiles = class.profiles.items.as_slice();
-        if class.name == FixedClass::Facility.id() && profiles.len() == 2 {
-            return Some(ClassImage::room(profiles));
-        }
+/// Whether the image of FACILITY's profiles has no room to spare.
+fn is_full(image: &Image) -> bool {
+    match image.effective(FixedClass::Facility.id()) {
+        Some(profiles) => profiles.len() == 2 && profiles.spare() == Room::none(),
+        None => false,
     }
-    None
-}
-
-/// Whether the image of FACILITY's profiles takes the room of their keys, of which that of PAY.RUN has nine bytes and
-/// that of PAY.** six, and has none to spare.
-fn has_room(image: &Image, rows: &Rows) -> bool {
-    let Some(profiles) = image.effective(FixedClass::Facility.id()) else {
-        return false;
-    };
-    room_of_profiles(rows) == Some(Room { bytes: 15, rows: 2 }) && profiles.spare() == Room::none()
 }
 
 /// Whether a region has room for a text of three bytes alone, and none to spare where one was placed.
@@ -262,9 +250,7 @@ fn is_filled(region: &mut Region) -> bool {
 fn reads_without_memory(rt: HostRuntime) -> Result<(), Fail> {
     let names = Names::read()?;
     let asked = Resources::read()?;
-    let database = small_database(rt.alloc())?;
-    let taken_rows = database.rows(rt.alloc())?;
-    let taken = database.image_of_rows(rt.alloc(), 7)?;
+    let taken = small_image(rt.alloc())?;
     let image = taken.image();
     let Ok(acee) = verify(rt.alloc(), image, &joe_at_terminal(&names)) else {
         return Err("an ACEE".into());
@@ -275,7 +261,8 @@ fn reads_without_memory(rt: HostRuntime) -> Result<(), Fail> {
     assert!(rt; has_rows(image, &names));
     assert!(rt; has_profiles(image, &asked));
     assert!(rt; decides(image, &acee, &asked));
-    assert!(rt; has_room(image, taken_rows.rows()));
+    assert!(rt; is_full(image));
+    assert!(rt; ClassImage::room(&[]) == Room::none());
     assert!(rt; is_filled(&mut region));
     Ok(())
 }

@@ -61,7 +61,8 @@ acee_of_user rows generation request (Some user) = acee_unless (checked_connecti
 unfoldable pub acee_of : State → ℕ → VerifyRequest → Result Acee VerifyFault
 acee_of state generation request = acee_of_user state.rows generation request (user_of request.user state.rows)
 
--- What is answered is what is told, but that memory may be wanting for an ACEE.
+-- What is answered is what is told, but that memory may be wanting for an ACEE: no clause says when there is enough, and
+-- tests alone show that it isn't told then.
 abbrev pub IsToldAcee : Result Acee VerifyFault → Result Acee VerifyFault → Type 0
 IsToldAcee told (Ok acee) = told ≡ Ok acee
 IsToldAcee told (Err NoMemory) = (acee : Acee) × (told ≡ Ok acee)

@@ -1,7 +1,7 @@
 //! Commands by several issuers, one after another: the words of each answer, and where the desk stands behind them.
 
 ghost use Rattle.std.specs.Prelude.{◌≡◌, false, Some, IfSome};
-ghost use Rattle.racf_desk.specs.Made.{made_in};
+ghost use Rattle.desk_rules.specs.Made.{made_in};
 
 use access_levels::Id;
 use racf_desk::{Desk, Ready, Refusal, Reply};

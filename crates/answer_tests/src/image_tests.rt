@@ -100,6 +100,7 @@ fn class_image(rt: HostRuntime) {
     assert!(rt; image.len() == 3);
     // The keys of A.B and A.* have five bytes each, and that of ** has two.
     assert!(rt; ClassImage::room(&profiles.items) == (Room { bytes: 12, rows: 3 }));
+    assert!(rt; image.taken() == (Room { bytes: 12, rows: 3 }));
     assert!(rt; image.spare() == Room::none());
     assert!(rt; has_access(&image, b"A.B", Level::NoAccess));
     assert!(rt; has_access(&image, b"A.B.C", Level::Read));

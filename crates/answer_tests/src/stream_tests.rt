@@ -1,7 +1,7 @@
 //! Streams with their outputs, stops at each fault and in mid-stream, and limits.
 ghost use Rattle.std.specs.Prelude.{◌≡◌, map, false, None, IfSome, IsTrue, string_bytes};
 ghost use Rattle.racf_run.specs.Racf.{script_files, IsWholeOutput, OpensDatabase};
-ghost use Rattle.racf_stream.specs.Script.{is_whole};
+ghost use Rattle.statements.specs.Status.{is_whole};
 
 use crate::desk_tests::{never_disks, new_desk};
 use access_levels::Id;
@@ -13,7 +13,7 @@ use racf_outside::{
     Source, Two,
 };
 use racf_run::{Idle, Status, racf, script};
-use racf_stream::Issuing;
+use statements::Issuing;
 use std::alloc::Global;
 use std::process::Abort;
 use std::sync::Wait;

@@ -8,11 +8,11 @@ ghost use Rattle.racf_profiles.specs.LawfulProfiles.{AreProfiles};
 ghost use Rattle.racf_profiles.specs.Limits.{most_class_profiles};
 ghost use Rattle.class_profiles.specs.Table.{best_profile, IsPlaceOf};
 ghost use Rattle.class_profiles.specs.Paired.{entry_of};
-ghost use Rattle.profile_index.specs.Buckets.{most_placed};
+ghost use Rattle.profile_index.specs.Buckets.{key_of, keys_room, most_placed, IsRegionAt};
 ghost use Rattle.dataspace.specs.Rooms.{none};
 
 use crate::table::{is_spelled, of_kind};
-use dataspace::Room;
+use dataspace::{Region, Room};
 use generic_names::{NameKind, Pattern, Resource};
 use profile_index::{Entry, Made, SharedIndex};
 use racf_profiles::{NoMemory, Profile};
@@ -82,6 +82,22 @@ impl SharedProfiles {
         ensures lawful { AreProfiles self.now.kind self.now.profiles }
     {
         self.profiles.len()
+    }
+
+    /// The region in which the key of the name at that place lies, and the row of the key in it. The keys of all names
+    /// lie in such regions in their order, one region behind another, and each region has just the room of its keys.
+    pub fn keys_at(&self, place: usize) -> (&Region, usize)
+        requires { place < length self.now.profiles }
+        ensures { IsRegionAt (map key_of (map entry_of self.now.profiles)) place result.0.now result.1 }
+    {
+        self.profiles.keys_at(place)
+    }
+
+    /// The room that was taken for the names' keys, free or not, summed over the regions: just that of the keys.
+    pub fn taken(&self) -> Room
+        ensures { result ≡ keys_room (map entry_of self.now.profiles) }
+    {
+        self.profiles.taken()
     }
 
     /// What is free in the regions of the names' keys: nothing, since each has just the room of its keys.

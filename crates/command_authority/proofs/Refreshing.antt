@@ -4,7 +4,7 @@ use Rattle.std.specs.List.{find}
 use Rattle.std.specs.Option.{option_or}
 use Rattle.std.proofs.lemmas.List.Folds.{find-append}
 use Rattle.racf_profiles.specs.declared.rows.Rows.{Rows}
-use Rattle.command_parser.specs.declared.commands.Issuer.{Issuer}
+use Rattle.command_fields.specs.declared.issuer.Issuer.{Issuer}
 use Rattle.command_authority.specs.declared.requirement.Requirement.{Requirement}
 use Rattle.command_authority.specs.Requirements.{refreshing}
 use Rattle.command_authority.specs.Authority.{is_met, is_withheld, first_unmet}

@@ -9,20 +9,20 @@ use Rattle.racf_profiles.specs.declared.users.User.{User}
 use Rattle.racf_profiles.specs.declared.groups.Group.{Group}
 use Rattle.racf_profiles.specs.declared.rows.Rows.{Rows}
 use Rattle.racf_profiles.specs.Lookup.{user_of, group_of}
-use Rattle.command_parser.specs.declared.commands.Issuer.{Issuer}
-use Rattle.command_parser.specs.declared.fields.CommandFields.{CommandFields}
-use Rattle.command_parser.specs.declared.fields.CommandFields.TheVariants as fields
+use Rattle.command_fields.specs.declared.issuer.Issuer.{Issuer}
+use Rattle.command_fields.specs.declared.fields.CommandFields.{CommandFields}
+use Rattle.command_fields.specs.declared.fields.CommandFields.TheVariants as fields
 use Rattle.command_authority.specs.declared.needs.Need.{Need}
 use Rattle.command_authority.specs.declared.needs.Need.TheVariants.{Special, Auditor, GroupSpecial}
 use Rattle.command_authority.specs.declared.requirement.Target.{Target}
 use Rattle.command_authority.specs.declared.requirement.Target.TheVariants as targets
 use Rattle.command_authority.specs.declared.requirement.Requirement.{Requirement}
 use Rattle.command_authority.specs.Operands.{some_stands, alters_attribute, alters_uaudit, alters_group_attribute}
-use Rattle.command_parser.specs.declared.option_fields.SetRopts.{SetRopts}
+use Rattle.command_fields.specs.declared.option_fields.SetRopts.{SetRopts}
 use Rattle.command_parser.specs.Operands.{slots_of_alt_user, slots_of_alt_sd, slots_of_r_alter, slots_of_set_ropts}
-use Rattle.command_parser.specs.LawfulFields.{AreLawfulFields}
+use Rattle.command_fields.specs.LawfulFields.{AreLawfulFields}
 use Rattle.generic_names.specs.Spelled.{is_empty}
-use Rattle.command_parser.specs.Issuers.{group_or_current}
+use Rattle.command_fields.specs.Issuers.{group_or_current}
 use Rattle.command_authority.specs.Requirements.{over, over_where, over_members, leaving, giving, requirements, add_user_requirements, alt_user_requirements, del_user_requirements, add_group_requirements, alt_group_requirements, del_group_requirements, connect_requirements, remove_requirements, add_sd_requirements, alt_sd_requirements, del_sd_requirements, r_define_requirements, r_alter_requirements, r_delete_requirements, permit_requirements, refreshing, refreshed_classes, setting, set_ropts_requirements}
 use Rattle.command_authority.specs.Authority.{holds, is_met, first_unmet, need}
 

@@ -6,10 +6,10 @@ use Rattle.access_levels.specs.Spelling.{id_of}
 use Rattle.generic_names.specs.Faults.{pattern_of}
 use Rattle.generic_names.specs.declared.kind.NameKind.TheVariants.{DataSet}
 use Rattle.generic_names.specs.Spelled.{Spelled, first_qualifier}
-use Rattle.command_parser.specs.declared.profile_fields.AddSd.{AddSd}
-use Rattle.command_parser.specs.declared.fields.CommandFields.{CommandFields}
-use Rattle.command_parser.specs.declared.fields.CommandFields.TheVariants as fields
-use Rattle.command_parser.specs.LawfulFields.{IsDataSetProfile, AreLawfulFields}
+use Rattle.command_fields.specs.declared.profile_fields.AddSd.{AddSd}
+use Rattle.command_fields.specs.declared.fields.CommandFields.{CommandFields}
+use Rattle.command_fields.specs.declared.fields.CommandFields.TheVariants as fields
+use Rattle.command_fields.specs.LawfulFields.{IsDataSetProfile, AreLawfulFields}
 
 where-true : (b : Bool) (o : Option Spelled) (name : Spelled) → cond b o None ≡ Some name → b ≡ true
 where-true true o name h = refl

@@ -3,8 +3,8 @@ use Rattle.std.specs.Prelude.{ℕ, Bool, ◌||◌, not, List, Option, is_some}
 use Rattle.generic_names.specs.Spelled.{is_empty}
 use Rattle.access_levels.specs.declared.levels.Level.{Level}
 use Rattle.racf_profiles.specs.declared.profiles.AuditRule.{AuditRule}
-use Rattle.command_parser.specs.declared.fields.AltUser.{AltUser}
-use Rattle.command_parser.specs.declared.option_fields.SetRopts.{SetRopts}
+use Rattle.command_fields.specs.declared.fields.AltUser.{AltUser}
+use Rattle.command_fields.specs.declared.option_fields.SetRopts.{SetRopts}
 
 -- ALTUSER: NAME, DFLTGRP and OWNER; the attributes; REVOKE to NOCLAUTH
 abbrev pub alters_person : AltUser → Bool

@@ -3,12 +3,12 @@
 use Rattle.std.specs.Prelude.{Bool, false, ◌&&◌, ◌||◌, not, List, [], Option, None, is_some}
 use Rattle.std.specs.List.{list_any}
 use Rattle.generic_names.specs.Spelled.{is_empty}
-use Rattle.command_parser.specs.declared.fields.AddUser.{AddUser}
-use Rattle.command_parser.specs.declared.fields.AltUser.{AltUser}
-use Rattle.command_parser.specs.declared.fields.Connect.{Connect}
-use Rattle.command_parser.specs.declared.profile_fields.AltSd.{AltSd}
-use Rattle.command_parser.specs.declared.profile_fields.RAlter.{RAlter}
-use Rattle.command_parser.specs.declared.option_fields.SetRopts.{SetRopts}
+use Rattle.command_fields.specs.declared.fields.AddUser.{AddUser}
+use Rattle.command_fields.specs.declared.fields.AltUser.{AltUser}
+use Rattle.command_fields.specs.declared.fields.Connect.{Connect}
+use Rattle.command_fields.specs.declared.profile_fields.AltSd.{AltSd}
+use Rattle.command_fields.specs.declared.profile_fields.RAlter.{RAlter}
+use Rattle.command_fields.specs.declared.option_fields.SetRopts.{SetRopts}
 use Rattle.command_parser.specs.Operands.{slots_of_alt_user}
 use Rattle.command_parser.specs.Operands.{slots_of_alt_sd, slots_of_r_alter, slots_of_set_ropts}
 

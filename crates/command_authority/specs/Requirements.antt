@@ -6,26 +6,26 @@ use Rattle.generic_names.specs.Covers.{is_generic}
 use Rattle.racf_profiles.specs.declared.groups.Group.{Group}
 use Rattle.racf_profiles.specs.declared.rows.Rows.{Rows}
 use Rattle.racf_profiles.specs.Lookup.{group_of}
-use Rattle.command_parser.specs.declared.commands.Issuer.{Issuer}
-use Rattle.command_parser.specs.Issuers.{group_or_current}
-use Rattle.command_parser.specs.declared.fields.AddUser.{AddUser}
-use Rattle.command_parser.specs.declared.fields.AltUser.{AltUser}
-use Rattle.command_parser.specs.declared.fields.DelUser.{DelUser}
-use Rattle.command_parser.specs.declared.fields.AddGroup.{AddGroup}
-use Rattle.command_parser.specs.declared.fields.AltGroup.{AltGroup}
-use Rattle.command_parser.specs.declared.fields.DelGroup.{DelGroup}
-use Rattle.command_parser.specs.declared.fields.Connect.{Connect as ConnectForm}
-use Rattle.command_parser.specs.declared.fields.Remove.{Remove}
-use Rattle.command_parser.specs.declared.profile_fields.AddSd.{AddSd}
-use Rattle.command_parser.specs.declared.profile_fields.AltSd.{AltSd}
-use Rattle.command_parser.specs.declared.profile_fields.DelSd.{DelSd}
-use Rattle.command_parser.specs.declared.profile_fields.RDefine.{RDefine}
-use Rattle.command_parser.specs.declared.profile_fields.RAlter.{RAlter}
-use Rattle.command_parser.specs.declared.profile_fields.RDelete.{RDelete}
-use Rattle.command_parser.specs.declared.profile_fields.Permit.{Permit}
-use Rattle.command_parser.specs.declared.option_fields.SetRopts.{SetRopts}
-use Rattle.command_parser.specs.declared.fields.CommandFields.{CommandFields}
-use Rattle.command_parser.specs.declared.fields.CommandFields.TheVariants as fields
+use Rattle.command_fields.specs.declared.issuer.Issuer.{Issuer}
+use Rattle.command_fields.specs.Issuers.{group_or_current}
+use Rattle.command_fields.specs.declared.fields.AddUser.{AddUser}
+use Rattle.command_fields.specs.declared.fields.AltUser.{AltUser}
+use Rattle.command_fields.specs.declared.fields.DelUser.{DelUser}
+use Rattle.command_fields.specs.declared.fields.AddGroup.{AddGroup}
+use Rattle.command_fields.specs.declared.fields.AltGroup.{AltGroup}
+use Rattle.command_fields.specs.declared.fields.DelGroup.{DelGroup}
+use Rattle.command_fields.specs.declared.fields.Connect.{Connect as ConnectForm}
+use Rattle.command_fields.specs.declared.fields.Remove.{Remove}
+use Rattle.command_fields.specs.declared.profile_fields.AddSd.{AddSd}
+use Rattle.command_fields.specs.declared.profile_fields.AltSd.{AltSd}
+use Rattle.command_fields.specs.declared.profile_fields.DelSd.{DelSd}
+use Rattle.command_fields.specs.declared.profile_fields.RDefine.{RDefine}
+use Rattle.command_fields.specs.declared.profile_fields.RAlter.{RAlter}
+use Rattle.command_fields.specs.declared.profile_fields.RDelete.{RDelete}
+use Rattle.command_fields.specs.declared.profile_fields.Permit.{Permit}
+use Rattle.command_fields.specs.declared.option_fields.SetRopts.{SetRopts}
+use Rattle.command_fields.specs.declared.fields.CommandFields.{CommandFields}
+use Rattle.command_fields.specs.declared.fields.CommandFields.TheVariants as fields
 use Rattle.command_authority.specs.declared.needs.Need.{Need}
 use Rattle.command_authority.specs.declared.needs.Need.TheVariants.{Special, Auditor, ClassAuthority, Join, Connect, Create, Authority, Owner, GroupSpecial, OwnData, AlterEntry, UserJoin, UserOwner, UserGroupSpecial}
 use Rattle.command_authority.specs.declared.requirement.Target.{Target}

@@ -8,7 +8,7 @@ use crate::needs::{Need, Needs};
 use crate::operands::alters_group_attribute;
 use crate::requirement::{Requirement, Target, over, over_where};
 use access_levels::{GroupAuthority, Id};
-use command_parser::{AddGroup, AltGroup, Connect, DelGroup, Issuer, Remove};
+use command_fields::{AddGroup, AltGroup, Connect, DelGroup, Issuer, Remove};
 use racf_profiles::View;
 
 /// What ADDGROUP requires.

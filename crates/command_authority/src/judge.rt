@@ -18,8 +18,9 @@ use crate::targets::{
 };
 use crate::users::{add_user, alt_user, del_user};
 use access_levels::{GroupAuthority, Id};
+use command_fields::{CommandFields, Ids, Issuer, SetRopts};
 use command_parser::laws::fields_of_a_text_are_lawful;
-use command_parser::{Command, CommandFields, Ids, Issuer, SetRopts, printed_is_read};
+use command_parser::{Command, printed_is_read};
 use group_tree::Tree;
 use group_tree::laws::scope_is_tested;
 use racf_profiles::{User, View};

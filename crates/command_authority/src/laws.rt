@@ -2,9 +2,9 @@
 ghost use Rattle.std.specs.Prelude.{◌≡◌, ◌⊎◌, ◌∷◌, [], Some, None, IsSome, IsSomeAnd, IsTrue};
 ghost use Rattle.racf_profiles.specs.declared.rows.Rows.{Rows};
 ghost use Rattle.racf_profiles.specs.Lookup.{user_of};
-ghost use Rattle.command_parser.specs.declared.commands.Issuer.{Issuer};
-ghost use Rattle.command_parser.specs.declared.fields.CommandFields.{CommandFields};
-ghost use Rattle.command_parser.specs.LawfulFields.{AreLawfulFields};
+ghost use Rattle.command_fields.specs.declared.issuer.Issuer.{Issuer};
+ghost use Rattle.command_fields.specs.declared.fields.CommandFields.{CommandFields};
+ghost use Rattle.command_fields.specs.LawfulFields.{AreLawfulFields};
 ghost use Rattle.command_authority.specs.declared.needs.Need.TheVariants.{Auditor};
 ghost use Rattle.command_authority.specs.Authority.{need};
 

@@ -5,7 +5,7 @@ ghost use Rattle.command_authority.specs.Operands.{gives_attribute, alters_attri
 ghost use Rattle.command_authority.specs.OperandGroups.{alters_person, alters_rights, alters_state, alters_security, alters_profile, sets_classes, sets_switches};
 
 use access_levels::{Id, Level};
-use command_parser::{AddUser, AltSd, AltUser, Connect, Ids, RAlter, SetRopts};
+use command_fields::{AddUser, AltSd, AltUser, Connect, Ids, RAlter, SetRopts};
 use racf_profiles::AuditRule;
 
 /// ADDUSER: SPECIAL, OPERATIONS, AUDITOR or CLAUTH stands.

@@ -7,7 +7,7 @@ use crate::operands::logs_alone;
 use crate::profiles::auditing;
 use crate::requirement::{Requirement, Target, over, over_where};
 use access_levels::Id;
-use command_parser::SetRopts;
+use command_fields::SetRopts;
 
 /// What SETROPTS requires without REFRESH.
 pub(crate) fn setting(command: &SetRopts) -> [Requirement; 2]

@@ -8,7 +8,7 @@ use crate::needs::{Need, Needs};
 use crate::operands::{alt_sd_audits_alone, r_alter_audits_alone};
 use crate::requirement::{Requirement, Target, over, over_where};
 use access_levels::Id;
-use command_parser::{AddSd, AltSd, DelSd, Permit, RAlter, RDefine, RDelete};
+use command_fields::{AddSd, AltSd, DelSd, Permit, RAlter, RDefine, RDelete};
 use generic_names::{Pattern, first_qualifier};
 use racf_profiles::FixedClass;
 

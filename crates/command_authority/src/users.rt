@@ -5,7 +5,7 @@ ghost use Rattle.command_authority.specs.Requirements.{add_user_requirements, al
 use crate::needs::{Need, Needs};
 use crate::operands::{alters_attribute, alters_uaudit, alters_uaudit_alone, gives_attribute};
 use crate::requirement::{Requirement, Target, over, over_where};
-use command_parser::{AddUser, AltUser, DelUser, Issuer};
+use command_fields::{AddUser, AltUser, DelUser, Issuer};
 
 /// What ADDUSER requires.
 #[tactic(auto, unfolding(crate::specs::Requirements::add_user_requirements))]

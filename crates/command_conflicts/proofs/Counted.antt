@@ -1,8 +1,8 @@
 -- A conflict that is met where a count is 0.
 use Rattle.std.proofs.Common.{◌≡◌, ℕ, ◌<◌, ◌==◌, false, cond, Some, None, ap, arith}
 use Rattle.std.proofs.lemmas.Bool.Decides.{nat_tests}
-use Rattle.command_conflicts.specs.declared.conflict.Conflict.{Conflict}
-use Rattle.command_conflicts.specs.Conflicts.{if_met}
+use Rattle.command_rules.specs.declared.conflict.Conflict.{Conflict}
+use Rattle.command_rules.specs.Conflicts.{if_met}
 
 pub met_at_0 : (n : ℕ) (conflict : Conflict) → n ≡ 0 → if_met (n == 0) conflict ≡ Some conflict
 met_at_0 n conflict e = ap (λ m. if_met (m == 0) conflict) e

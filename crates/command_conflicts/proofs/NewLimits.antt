@@ -7,16 +7,16 @@ use Rattle.racf_profiles.specs.Counts.{profile_count}
 use Rattle.racf_profiles.specs.Limits.{most_class_profiles, most_profiles, most_members, most_categories}
 use Rattle.racf_profiles.specs.LawfulProfiles.{AreClasses}
 use Rattle.racf_profiles.proofs.OrderedProfiles.{profile-put}
-use Rattle.command_parser.specs.declared.commands.Issuer.{Issuer}
-use Rattle.command_parser.specs.declared.profile_fields.AddSd.{AddSd}
-use Rattle.command_parser.specs.declared.profile_fields.RDefine.{RDefine}
-use Rattle.command_effects.specs.ProfileEffects.{dataset, new_data_set, new_resource, profile_put}
-use Rattle.command_effects.specs.Members.{categories_defined}
-use Rattle.command_conflicts.specs.declared.conflict.Conflict.{Conflict}
-use Rattle.command_conflicts.specs.declared.conflict.Limit.TheVariants.{ClassProfiles, Profiles, Members, Categories}
-use Rattle.command_conflicts.specs.Required.{first_met, over}
-use Rattle.command_conflicts.specs.ProfileConflicts.{profiles_in, class_profiles_full, profiles_full, members_full, categories_full, add_sd_requirements, add_sd_limits, r_define_requirements, r_define_limits, new_profile_limits, new_resource_limits}
-use Rattle.command_conflicts.proofs.Unmet.{each_unmet}
+use Rattle.command_fields.specs.declared.issuer.Issuer.{Issuer}
+use Rattle.command_fields.specs.declared.profile_fields.AddSd.{AddSd}
+use Rattle.command_fields.specs.declared.profile_fields.RDefine.{RDefine}
+use Rattle.command_rules.specs.ProfileEffects.{dataset, new_data_set, new_resource, profile_put}
+use Rattle.command_rules.specs.Members.{categories_defined}
+use Rattle.command_rules.specs.declared.conflict.Conflict.{Conflict}
+use Rattle.command_rules.specs.declared.conflict.Limit.TheVariants.{ClassProfiles, Profiles, Members, Categories}
+use Rattle.command_rules.specs.Required.{first_met, over}
+use Rattle.command_rules.specs.ProfileConflicts.{profiles_in, class_profiles_full, profiles_full, members_full, categories_full, add_sd_requirements, add_sd_limits, r_define_requirements, r_define_limits, new_profile_limits, new_resource_limits}
+use Rattle.command_rules.proofs.Unmet.{each_unmet}
 use Rattle.command_conflicts.proofs.NewProfiles.{profile_absent, class_there, dataset_there, some_class, length-profiles_in-put, profile_count-put}
 
 pub add_sd-limits : (issuer : Issuer) (c : AddSd) (rows : Rows) → AreClasses rows.classes → first_met (add_sd_requirements c rows) ≡ None → first_met (add_sd_limits issuer c rows) ≡ first_met (new_profile_limits dataset rows)

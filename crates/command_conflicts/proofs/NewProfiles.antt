@@ -22,12 +22,12 @@ use Rattle.std.proofs.lemmas.List.Sums.{sum_by-cons}
 use Rattle.access_levels.proofs.Options.{none_from_is_some}
 use Rattle.racf_profiles.proofs.Found.{all-found}
 use Rattle.class_profiles.specs.Classes.{profile_in}
-use Rattle.command_effects.specs.ProfileEffects.{profile_put, profile_changed, dataset}
-use Rattle.command_conflicts.specs.declared.conflict.Conflict.TheVariants.{Full}
-use Rattle.command_conflicts.specs.declared.conflict.Limit.{Limit}
-use Rattle.command_conflicts.specs.Required.{if_met, over}
-use Rattle.command_conflicts.specs.ProfileConflicts.{profile_taken, no_resource_class, profiles_in}
-use Rattle.command_conflicts.proofs.Unmet.{unmet}
+use Rattle.command_rules.specs.ProfileEffects.{profile_put, profile_changed, dataset}
+use Rattle.command_rules.specs.declared.conflict.Conflict.TheVariants.{Full}
+use Rattle.command_rules.specs.declared.conflict.Limit.{Limit}
+use Rattle.command_rules.specs.Required.{if_met, over}
+use Rattle.command_rules.specs.ProfileConflicts.{profile_taken, no_resource_class, profiles_in}
+use Rattle.command_rules.proofs.Unmet.{unmet}
 use Rattle.class_profiles.proofs.Counts.{found-le}
 
 -- ---- what the tests leave

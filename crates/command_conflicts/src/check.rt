@@ -1,10 +1,10 @@
 //! What a command conflicts with.
 ghost use Rattle.std.specs.Prelude.{◌≡◌};
 ghost use Rattle.std.specs.Result.{result_err};
-ghost use Rattle.command_effects.specs.ProfileEffects.{dataset};
-ghost use Rattle.command_conflicts.specs.ProfileConflicts.{add_sd_requirements, new_profile_limits, add_sd_conflicts, alt_sd_conflicts, del_sd_conflicts, r_define_requirements, new_resource_limits, r_define_conflicts, r_alter_conflicts, r_delete_conflicts, permit_conflicts};
-ghost use Rattle.command_conflicts.specs.OptionConflicts.{set_ropts_conflicts};
-ghost use Rattle.command_conflicts.specs.Conflicts.{conflict_of, conflicts, first_met, add_user_conflicts, alt_user_conflicts, del_user_conflicts, add_group_conflicts, alt_group_conflicts, del_group_conflicts, connect_conflicts, remove_conflicts};
+ghost use Rattle.command_rules.specs.ProfileEffects.{dataset};
+ghost use Rattle.command_rules.specs.ProfileConflicts.{add_sd_requirements, new_profile_limits, add_sd_conflicts, alt_sd_conflicts, del_sd_conflicts, r_define_requirements, new_resource_limits, r_define_conflicts, r_alter_conflicts, r_delete_conflicts, permit_conflicts};
+ghost use Rattle.command_rules.specs.OptionConflicts.{set_ropts_conflicts};
+ghost use Rattle.command_rules.specs.Conflicts.{conflict_of, conflicts, first_met, add_user_conflicts, alt_user_conflicts, del_user_conflicts, add_group_conflicts, alt_group_conflicts, del_group_conflicts, connect_conflicts, remove_conflicts};
 
 mod groups;
 mod members;
@@ -15,12 +15,11 @@ mod profiles;
 mod security;
 mod users;
 
-use crate::conflict::Conflict;
-use command_effects::dataset;
-use command_parser::{
-    AddGroup, AddSd, AddUser, AltGroup, AltSd, AltUser, Command, CommandFields, Connect, DelGroup,
-    DelSd, DelUser, Issuer, Permit, RAlter, RDefine, RDelete, Remove, SetRopts,
+use command_fields::{
+    AddGroup, AddSd, AddUser, AltGroup, AltSd, AltUser, CommandFields, Connect, DelGroup, DelSd,
+    DelUser, Issuer, Permit, RAlter, RDefine, RDelete, Remove, SetRopts,
 };
+use command_rules::{Conflict, dataset};
 use groups::{
     check_altered_owner, check_cycle, check_group_fits, check_new_owner, check_no_subgroup,
     check_root_gone, check_root_moved,
@@ -70,10 +69,14 @@ macro_rules! first_conflict {
 /// # Errors
 ///
 /// The first conflict that is met, by the order of the kinds and then of the operands in the canonical text.
-pub fn check_command(tables: &RowTables, issuer: &Issuer, command: &Command) -> Result<(), Conflict>
+pub fn check_command(
+    tables: &RowTables,
+    issuer: &Issuer,
+    command: &CommandFields,
+) -> Result<(), Conflict>
     ensures { result_err result ≡ conflict_of issuer.now command.now tables.now.rows }
 {
-    match command.fields() {
+    match command {
         CommandFields::AddUser(command) => check_add_user(tables, issuer, command),
         CommandFields::AltUser(command) => check_alt_user(tables, issuer, command),
         CommandFields::DelUser(command) => check_del_user(tables, issuer, command),
@@ -94,7 +97,7 @@ pub fn check_command(tables: &RowTables, issuer: &Issuer, command: &Command) -> 
 }
 
 /// The tests of ADDUSER, in their order.
-#[tactic(auto, unfolding(crate::specs::Conflicts::add_user_conflicts, crate::specs::Conflicts::user_full))]
+#[tactic(auto, unfolding(command_rules::specs::Conflicts::add_user_conflicts, command_rules::specs::Conflicts::user_full))]
 fn check_add_user(tables: &RowTables, issuer: &Issuer, command: &AddUser) -> Result<(), Conflict>
     ensures { result_err result ≡ first_met (add_user_conflicts issuer.now command.now tables.now.rows) }
 {
@@ -112,7 +115,7 @@ fn check_add_user(tables: &RowTables, issuer: &Issuer, command: &AddUser) -> Res
 }
 
 /// The tests of ALTUSER, in their order.
-#[tactic(auto, unfolding(crate::specs::Conflicts::alt_user_conflicts))]
+#[tactic(auto, unfolding(command_rules::specs::Conflicts::alt_user_conflicts))]
 fn check_alt_user(tables: &RowTables, issuer: &Issuer, command: &AltUser) -> Result<(), Conflict>
     ensures { result_err result ≡ first_met (alt_user_conflicts issuer.now command.now tables.now.rows) }
 {
@@ -132,7 +135,7 @@ fn check_alt_user(tables: &RowTables, issuer: &Issuer, command: &AltUser) -> Res
 }
 
 /// The tests of DELUSER, in their order.
-#[tactic(auto, unfolding(crate::specs::Conflicts::del_user_conflicts))]
+#[tactic(auto, unfolding(command_rules::specs::Conflicts::del_user_conflicts))]
 fn check_del_user(tables: &RowTables, issuer: &Issuer, command: &DelUser) -> Result<(), Conflict>
     ensures { result_err result ≡ first_met (del_user_conflicts issuer.now command.now tables.now.rows) }
 {
@@ -144,7 +147,7 @@ fn check_del_user(tables: &RowTables, issuer: &Issuer, command: &DelUser) -> Res
 }
 
 /// The tests of ADDGROUP, in their order.
-#[tactic(auto, unfolding(crate::specs::Conflicts::add_group_conflicts))]
+#[tactic(auto, unfolding(command_rules::specs::Conflicts::add_group_conflicts))]
 fn check_add_group(tables: &RowTables, issuer: &Issuer, command: &AddGroup) -> Result<(), Conflict>
     ensures { result_err result ≡ first_met (add_group_conflicts issuer.now command.now tables.now.rows) }
 {
@@ -158,7 +161,7 @@ fn check_add_group(tables: &RowTables, issuer: &Issuer, command: &AddGroup) -> R
 }
 
 /// The tests of ALTGROUP, in their order.
-#[tactic(auto, unfolding(crate::specs::Conflicts::alt_group_conflicts))]
+#[tactic(auto, unfolding(command_rules::specs::Conflicts::alt_group_conflicts))]
 fn check_alt_group(tables: &RowTables, command: &AltGroup) -> Result<(), Conflict>
     ensures { result_err result ≡ first_met (alt_group_conflicts command.now tables.now.rows) }
 {
@@ -173,7 +176,7 @@ fn check_alt_group(tables: &RowTables, command: &AltGroup) -> Result<(), Conflic
 }
 
 /// The tests of DELGROUP, in their order.
-#[tactic(auto, unfolding(crate::specs::Conflicts::del_group_conflicts))]
+#[tactic(auto, unfolding(command_rules::specs::Conflicts::del_group_conflicts))]
 fn check_del_group(tables: &RowTables, command: &DelGroup) -> Result<(), Conflict>
     ensures { result_err result ≡ first_met (del_group_conflicts command.now tables.now.rows) }
 {
@@ -187,7 +190,7 @@ fn check_del_group(tables: &RowTables, command: &DelGroup) -> Result<(), Conflic
 }
 
 /// The tests of CONNECT, in their order.
-#[tactic(auto, unfolding(crate::specs::Conflicts::connect_conflicts))]
+#[tactic(auto, unfolding(command_rules::specs::Conflicts::connect_conflicts))]
 fn check_connect(tables: &RowTables, issuer: &Issuer, command: &Connect) -> Result<(), Conflict>
     ensures { result_err result ≡ first_met (connect_conflicts issuer.now command.now tables.now.rows) }
 {
@@ -201,7 +204,7 @@ fn check_connect(tables: &RowTables, issuer: &Issuer, command: &Connect) -> Resu
 }
 
 /// The tests of REMOVE, in their order.
-#[tactic(auto, unfolding(crate::specs::Conflicts::remove_conflicts))]
+#[tactic(auto, unfolding(command_rules::specs::Conflicts::remove_conflicts))]
 fn check_remove(tables: &RowTables, issuer: &Issuer, command: &Remove) -> Result<(), Conflict>
     ensures { result_err result ≡ first_met (remove_conflicts issuer.now command.now tables.now.rows) }
 {
@@ -236,7 +239,7 @@ fn check_data_set_fits(tables: &RowTables) -> Result<(), Conflict>
 }
 
 /// The tests of a data set profile that is to be defined.
-#[tactic(auto, unfolding(crate::specs::ProfileConflicts::add_sd_requirements))]
+#[tactic(auto, unfolding(command_rules::specs::ProfileConflicts::add_sd_requirements))]
 fn check_new_data_set(tables: &RowTables, command: &AddSd) -> Result<(), Conflict>
     ensures { result_err result ≡ first_met (add_sd_requirements command.now tables.now.rows) }
 {
@@ -251,7 +254,7 @@ fn check_new_data_set(tables: &RowTables, command: &AddSd) -> Result<(), Conflic
 }
 
 /// The tests of ALTSD, in their order.
-#[tactic(auto, unfolding(crate::specs::ProfileConflicts::alt_sd_conflicts))]
+#[tactic(auto, unfolding(command_rules::specs::ProfileConflicts::alt_sd_conflicts))]
 fn check_alt_sd(tables: &RowTables, command: &AltSd) -> Result<(), Conflict>
     ensures { result_err result ≡ first_met (alt_sd_conflicts command.now tables.now.rows) }
 {
@@ -266,7 +269,7 @@ fn check_alt_sd(tables: &RowTables, command: &AltSd) -> Result<(), Conflict>
 }
 
 /// The tests of DELSD, in their order.
-#[tactic(auto, unfolding(crate::specs::ProfileConflicts::del_sd_conflicts))]
+#[tactic(auto, unfolding(command_rules::specs::ProfileConflicts::del_sd_conflicts))]
 fn check_del_sd(tables: &RowTables, command: &DelSd) -> Result<(), Conflict>
     ensures { result_err result ≡ first_met (del_sd_conflicts command.now tables.now.rows) }
 {
@@ -284,7 +287,7 @@ fn check_r_define(tables: &RowTables, issuer: &Issuer, command: &RDefine) -> Res
 }
 
 /// The tests of a general resource profile that is to be defined.
-#[tactic(auto, unfolding(crate::specs::ProfileConflicts::r_define_requirements))]
+#[tactic(auto, unfolding(command_rules::specs::ProfileConflicts::r_define_requirements))]
 fn check_new_resource(tables: &RowTables, command: &RDefine) -> Result<(), Conflict>
     ensures { result_err result ≡ first_met (r_define_requirements command.now tables.now.rows) }
 {
@@ -313,7 +316,7 @@ fn check_resource_fits(tables: &RowTables, command: &RDefine) -> Result<(), Conf
 }
 
 /// The tests of RALTER, in their order.
-#[tactic(auto, unfolding(crate::specs::ProfileConflicts::r_alter_conflicts, crate::specs::ProfileConflicts::categories_full))]
+#[tactic(auto, unfolding(command_rules::specs::ProfileConflicts::r_alter_conflicts, command_rules::specs::ProfileConflicts::categories_full))]
 fn check_r_alter(tables: &RowTables, issuer: &Issuer, command: &RAlter) -> Result<(), Conflict>
     ensures { result_err result ≡ first_met (r_alter_conflicts issuer.now command.now tables.now.rows) }
 {
@@ -331,7 +334,7 @@ fn check_r_alter(tables: &RowTables, issuer: &Issuer, command: &RAlter) -> Resul
 }
 
 /// The tests of RDELETE, in their order.
-#[tactic(auto, unfolding(crate::specs::ProfileConflicts::r_delete_conflicts))]
+#[tactic(auto, unfolding(command_rules::specs::ProfileConflicts::r_delete_conflicts))]
 fn check_r_delete(tables: &RowTables, command: &RDelete) -> Result<(), Conflict>
     ensures { result_err result ≡ first_met (r_delete_conflicts command.now tables.now.rows) }
 {
@@ -342,7 +345,7 @@ fn check_r_delete(tables: &RowTables, command: &RDelete) -> Result<(), Conflict>
 }
 
 /// The tests of PERMIT, in their order.
-#[tactic(auto, unfolding(crate::specs::ProfileConflicts::permit_conflicts))]
+#[tactic(auto, unfolding(command_rules::specs::ProfileConflicts::permit_conflicts))]
 fn check_permit(tables: &RowTables, issuer: &Issuer, command: &Permit) -> Result<(), Conflict>
     ensures { result_err result ≡ first_met (permit_conflicts issuer.now command.now tables.now.rows) }
 {
@@ -358,7 +361,7 @@ fn check_permit(tables: &RowTables, issuer: &Issuer, command: &Permit) -> Result
 }
 
 /// The tests of SETROPTS, in their order.
-#[tactic(auto, unfolding(crate::specs::OptionConflicts::set_ropts_conflicts))]
+#[tactic(auto, unfolding(command_rules::specs::OptionConflicts::set_ropts_conflicts))]
 fn check_set_ropts(tables: &RowTables, command: &SetRopts) -> Result<(), Conflict>
     ensures { result_err result ≡ first_met (set_ropts_conflicts command.now tables.now.rows) }
 {

@@ -1,9 +1,9 @@
 //! Counts that are over their limits.
 ghost use Rattle.std.specs.Prelude.{◌≡◌, ◌+◌};
 ghost use Rattle.std.specs.Result.{result_err};
-ghost use Rattle.command_conflicts.specs.Conflicts.{over};
+ghost use Rattle.command_rules.specs.Conflicts.{over};
 
-use crate::conflict::{Conflict, Limit};
+use command_rules::{Conflict, Limit};
 
 /// Refuses a count that is over its limit.
 #[inline(always)]

@@ -2,9 +2,9 @@
 use Rattle.std.proofs.Common.{ℕ, Bool, true, false, List}
 use Rattle.racf_profiles.specs.declared.users.Connect.{Connect as Connection}
 use Rattle.racf_profiles.specs.Edits.{drop_row}
-use Rattle.command_parser.specs.declared.fields.Connect.{Connect}
+use Rattle.command_fields.specs.declared.fields.Connect.{Connect}
 use Rattle.racf_profiles.specs.Names.{is_to}
-use Rattle.command_effects.specs.Effects.{connects_after}
+use Rattle.command_rules.specs.Effects.{connects_after}
 
 abbrev pub rest_after : Connect → List ℕ → Bool → List Connection → List Connection
 rest_after c group true connects = connects

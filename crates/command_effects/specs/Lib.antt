@@ -1,9 +1,1 @@
-pub mod Security
-pub mod UserEffects
-pub mod Members
-pub mod ProfileEffects
 pub mod Operands
-pub mod PermitEffects
-pub mod OptionEffects
-pub mod Effects
-pub mod Edits

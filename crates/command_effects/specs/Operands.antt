@@ -5,8 +5,8 @@ use Rattle.generic_names.specs.Spelled.{Spelled}
 use Rattle.racf_profiles.specs.declared.profiles.Profile.{Profile}
 use Rattle.racf_profiles.specs.declared.rows.Rows.{Rows}
 use Rattle.command_effects.specs.declared.made.operands.Operands.{Operands}
-use Rattle.command_effects.specs.UserEffects.{switched}
-use Rattle.command_effects.specs.ProfileEffects.{failures_from_read, no_audit, level_given, categories_given, label_given}
+use Rattle.command_rules.specs.UserEffects.{switched}
+use Rattle.command_rules.specs.ProfileEffects.{failures_from_read, no_audit, level_given, categories_given, label_given}
 
 -- A profile with what the operands name, and as it was in all else: of a new one the first profile, of an altered one
 -- what stands.

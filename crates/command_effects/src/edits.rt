@@ -1,19 +1,18 @@
 //! The edits that a command makes.
 ghost use Rattle.std.specs.Prelude.{◌≡◌, [], ◌∷◌, IfOk};
 ghost use Rattle.racf_profiles.specs.Lookup.{user_of, group_of};
-ghost use Rattle.command_effects.specs.Effects.{altered_user, connected_user, removed_user, altered_group};
-ghost use Rattle.command_parser.specs.declared.fields.CommandFields.TheVariants as fields;
-ghost use Rattle.command_parser.specs.declared.profile_fields.Permit.{Permit};
-ghost use Rattle.command_effects.specs.PermitEffects.{PermitFits};
-ghost use Rattle.command_effects.specs.Edits.{edits_of, put_user, put_group};
+ghost use Rattle.command_rules.specs.Effects.{altered_user, connected_user, removed_user, altered_group};
+ghost use Rattle.command_fields.specs.declared.fields.CommandFields.TheVariants as fields;
+ghost use Rattle.command_fields.specs.declared.profile_fields.Permit.{Permit};
+ghost use Rattle.command_rules.specs.PermitEffects.{PermitFits};
+ghost use Rattle.command_rules.specs.Edits.{edits_of, put_user, put_group};
 
 mod options;
 mod profiles;
 
-use crate::made::{
-    altered_group, altered_user, connected_user, dataset, new_group, new_user, removed_user,
-};
-use command_parser::{AltGroup, AltUser, Command, CommandFields, Connect, Issuer, Remove};
+use crate::made::{altered_user, connected_user, new_user, removed_user};
+use command_fields::{AltGroup, AltUser, CommandFields, Connect, Issuer, Remove};
+use command_rules::{altered_group, dataset, new_group};
 use options::edits_of_set_ropts;
 use profiles::{
     edits_of_add_sd, edits_of_alt_sd, edits_of_permit, edits_of_r_alter, edits_of_r_define,
@@ -32,12 +31,12 @@ pub fn edits_of(
     alloc: Global,
     tables: &RowTables,
     issuer: &Issuer,
-    command: &Command,
+    command: &CommandFields,
 ) -> Result<Vec<Edit>, NoMemory>
     requires { (permit : Permit) → command.now ≡ fields.Permit permit → PermitFits permit tables.now.rows }
     ensures { IfOk result (λ edits. edits.items ≡ edits_of issuer.now command.now tables.now.rows) }
 {
-    match command.fields() {
+    match command {
         CommandFields::AddUser(command) => one(
             alloc,
             Edit::PutUser(new_user(alloc, tables, issuer, command)?),

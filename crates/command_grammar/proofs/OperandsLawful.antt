@@ -9,7 +9,7 @@ use Rattle.command_values.specs.declared.value_kinds.ValueKind.TheVariants as ki
 use Rattle.command_grammar.specs.declared.table.Operand.{Operand}
 use Rattle.command_values.specs.declared.values.Content.{Content}
 use Rattle.command_values.specs.declared.values.Content.TheVariants as contents
-use Rattle.command_values.specs.declared.values.Reset.TheVariants as resets
+use Rattle.command_fields.specs.declared.resets.Reset.TheVariants as resets
 use Rattle.command_values.specs.declared.values.Scope.{Scope}
 use Rattle.command_values.specs.declared.values.Known.{Known}
 use Rattle.command_values.specs.Results.{◌>>=◌}

@@ -23,7 +23,7 @@ use Rattle.command_values.specs.declared.values.Content.TheVariants as contents
 use Rattle.command_values.specs.declared.values.Context.{Context}
 use Rattle.command_values.specs.Results.{◌>>=◌, or_fault}
 use Rattle.command_grammar.specs.Table.{operands_of}
-use Rattle.command_values.specs.ProfileNames.{dataset_profile, profile_in, form_in, general_form, named_by_form, any_named, any_profile, is_unclosed, text_by_kind, profile_text}
+use Rattle.command_fields.specs.ProfileNames.{dataset_profile, profile_in, form_in, general_form, named_by_form, any_named, any_profile, is_unclosed, text_by_kind, profile_text}
 use Rattle.command_grammar.specs.Reading.{Generic, Slots, row_at, operands_at, closed, no_slots, class_in, mark_of_slot, mark_in, unless_mark, late_word, late_name, late_closed, body_at, begun}
 use Rattle.command_grammar.specs.Canon.{positions_text, operands_text}
 use Rattle.command_values.specs.LawfulValues.{Fits}

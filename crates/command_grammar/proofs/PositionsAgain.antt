@@ -18,7 +18,7 @@ use Rattle.command_values.specs.declared.values.Content.{Content}
 use Rattle.command_values.specs.declared.values.Content.TheVariants as contents
 use Rattle.command_values.specs.declared.values.Scope.{Scope}
 use Rattle.command_values.specs.Results.{◌>>=◌, or_fault}
-use Rattle.command_values.specs.ProfileNames.{class_profile, text_by_kind}
+use Rattle.command_fields.specs.ProfileNames.{class_profile, text_by_kind}
 use Rattle.command_values.specs.Values.{name_of, one, text_of}
 use Rattle.command_grammar.specs.Reading.{takes_quotes, position_at, behind, positions_at}
 use Rattle.command_grammar.specs.Canon.{positions_text}

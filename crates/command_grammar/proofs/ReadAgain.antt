@@ -24,7 +24,7 @@ use Rattle.command_values.specs.declared.values.Context.{Context}
 use Rattle.command_values.specs.declared.values.Scope.{Scope}
 use Rattle.command_values.specs.Results.{◌>>=◌}
 use Rattle.command_grammar.specs.Table.{full_name, positions_of, operands_of}
-use Rattle.command_values.specs.ProfileNames.{dataset_profile, dataset_named, text_by_kind, profile_text}
+use Rattle.command_fields.specs.ProfileNames.{dataset_profile, dataset_named, text_by_kind, profile_text}
 use Rattle.command_grammar.specs.Reading.{Generic, Slots, is_late, known_behind, behind, positions_at, operands_at, closed, no_slots, plain_at, class_in, late_at, body_at, begins_with_name, begun, command_at, parsed}
 use Rattle.command_grammar.specs.Canon.{positions_text, operands_text, canon, spelled}
 use Rattle.command_grammar.specs.Lawful.{FitsPositions, SuitsPositions, known_last, SuitsAll, class_known, IsLawful}

@@ -25,7 +25,7 @@ use Rattle.command_values.specs.declared.values.Known.{Known}
 use Rattle.command_values.specs.Results.{◌>>=◌, or_fault}
 use Rattle.command_grammar.specs.Table.{positions_of, operands_of, verb_named}
 use Rattle.command_values.specs.WordsOfValues.{clean, unless_stray}
-use Rattle.command_values.specs.ProfileNames.{profile_in, form_in, named_by_form, any_named, any_profile}
+use Rattle.command_fields.specs.ProfileNames.{profile_in, form_in, named_by_form, any_named, any_profile}
 use Rattle.command_values.specs.Values.{one}
 use Rattle.command_grammar.specs.Reading.{Generic, Slots, placed, position_at, behind, positions_at, operands_at, clash, unless_clash, is_late, completed, lacking, unless_lacking, closed, no_slots, plain_at, class_in, mark_in, unless_mark, late_word, late_name, late_closed, late_at, body_at, begins_with_name, behind_first, begun, command_at, parsed}
 use Rattle.command_grammar.specs.Lawful.{FitsPositions, FitsAll, SuitsPositions, known_last, SuitsAll, class_known, first_known, IsLawful}

@@ -25,7 +25,7 @@ use Rattle.command_values.specs.declared.values.Context.{Context}
 use Rattle.command_values.specs.declared.values.Scope.{Scope}
 use Rattle.command_values.specs.declared.values.Known.{Known}
 use Rattle.command_values.specs.WordsOfValues.{clean, held, unless_stray}
-use Rattle.command_values.specs.ProfileNames.{is_unclosed, any_named}
+use Rattle.command_fields.specs.ProfileNames.{is_unclosed, any_named}
 use Rattle.command_values.specs.Values.{value, one, bare}
 use Rattle.generic_names.specs.Spelled.{Spelled}
 use Rattle.generic_names.specs.Covers.{is_generic}

@@ -1,13 +1,13 @@
 -- Where a list of events leads, behind one event more.
 use Rattle.std.proofs.Common.{◌≡◌, ℕ, Ok, List, [], ◌∷◌, ◌++◌, Option, Some, None, Result, Err, refl, sym, ◌∙◌, ap, subst}
-use Rattle.command_parser.specs.declared.fields.CommandFields.{CommandFields}
+use Rattle.command_fields.specs.declared.fields.CommandFields.{CommandFields}
 use Rattle.journal_records.specs.declared.record.CommandRecord.{CommandRecord}
-use Rattle.racf_desk.specs.Position.{Position, position_behind}
-use Rattle.racf_desk.specs.History.{at, IsLegal}
-use Rattle.racf_desk.specs.Outcome.{first_of, rules_of, journal_full, number_spent, refusal_of, unless_refused, command_of_text, judged, outcome_in, outcome}
-use Rattle.racf_desk.specs.Recovery.{outcome_again}
-use Rattle.racf_desk.specs.declared.refusal.Refusal.{Refusal}
-use Rattle.racf_desk.proofs.RecoveryLaws.{accepted_leads, judged_parts}
+use Rattle.desk_rules.specs.Position.{Position, position_behind}
+use Rattle.desk_rules.specs.History.{at, IsLegal}
+use Rattle.desk_rules.specs.Outcome.{first_of, rules_of, journal_full, number_spent, refusal_of, unless_refused, command_of_text, judged, outcome_in, outcome}
+use Rattle.desk_rules.specs.Recovery.{outcome_again}
+use Rattle.desk_rules.specs.declared.refusal.Refusal.{Refusal}
+use Rattle.desk_rules.proofs.RecoveryLaws.{accepted_leads, judged_parts}
 use Rattle.command_history.specs.declared.events.Accepted.{Accepted}
 use Rattle.command_history.specs.declared.events.Event.{Event}
 use Rattle.command_history.specs.declared.events.Event.TheVariants.{Added, Ended}

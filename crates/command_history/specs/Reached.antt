@@ -1,13 +1,13 @@
 -- Where a list of events leads.
 use Rattle.std.specs.Prelude.{◌≡◌, List, [], ◌∷◌, Option, Some, None, Ok}
 use Rattle.std.specs.Option.{option_map}
-use Rattle.command_parser.specs.declared.fields.CommandFields.{CommandFields}
+use Rattle.command_fields.specs.declared.fields.CommandFields.{CommandFields}
 use Rattle.journal_records.specs.declared.record.CommandRecord.{CommandRecord}
 use Rattle.journal_records.specs.Reading.{canonical_command}
-use Rattle.racf_desk.specs.Outcome.{journal_full}
-use Rattle.racf_desk.specs.Position.{Position, position_behind}
-use Rattle.racf_desk.specs.History.{at}
-use Rattle.racf_desk.specs.Recovery.{outcome_again}
+use Rattle.desk_rules.specs.Outcome.{journal_full}
+use Rattle.desk_rules.specs.Position.{Position, position_behind}
+use Rattle.desk_rules.specs.History.{at}
+use Rattle.desk_rules.specs.Recovery.{outcome_again}
 use Rattle.command_history.specs.declared.events.Accepted.{Accepted}
 use Rattle.command_history.specs.declared.events.Event.{Event}
 use Rattle.command_history.specs.Events.{entries_of}

@@ -3,18 +3,18 @@ ghost use Rattle.std.specs.Prelude.{◌≡◌, ◌⊎◌, ◌++◌, ◌∷◌, [
 ghost use mathlib.Core.List.{IsPrefix};
 ghost use Rattle.command_parser.specs.Canonical.{canonical, IsWritten};
 ghost use Rattle.journal_records.specs.declared.record.CommandRecord.{CommandRecord};
-ghost use Rattle.racf_desk.specs.History.{IsLegal};
-ghost use Rattle.racf_desk.specs.Made.{Made, made_of_outcome, installed};
-ghost use Rattle.racf_desk.specs.Outcome.{outcome};
-ghost use Rattle.racf_desk.specs.Position.{Position, position_behind};
+ghost use Rattle.desk_rules.specs.History.{IsLegal};
+ghost use Rattle.desk_rules.specs.Made.{Made, made_of_outcome, installed};
+ghost use Rattle.desk_rules.specs.Outcome.{outcome};
+ghost use Rattle.desk_rules.specs.Position.{Position, position_behind};
 ghost use Rattle.command_history.specs.declared.events.Accepted.{Accepted};
 ghost use Rattle.command_history.specs.declared.events.Event.{Event};
 ghost use Rattle.command_history.specs.declared.events.Event.TheVariants.{Added, Ended};
 ghost use Rattle.command_history.specs.Events.{all_of, ends_last, entries_of, failed_of, is_ended, Extends};
 ghost use Rattle.command_history.specs.Reached.{reached, record_of, records_of, AreLegal};
 
+use desk_rules::laws::accepted_commands_are_written;
 use journal_records::laws::canonical_texts_are_of_commands;
-use racf_desk::laws::accepted_commands_are_written;
 
 /// How lists of events extend each other: a list is extended by each event that is added, one after another, and lists
 /// that extend each other are one. A list in which nothing stands behind the final mark extends each of its beginnings.

@@ -88,8 +88,8 @@ pub trait Naming {
     ghost use Rattle.std.specs.Prelude.{ℕ, Option};
     ghost use Rattle.logbook.specs.Pages.{Book};
     ghost use Rattle.racf_outside.specs.Disk.{History};
-    ghost use Rattle.racf_desk.specs.Durable.{IdleDisk};
-    ghost use Rattle.racf_desk.specs.Position.{Position};
+    ghost use Rattle.desk_rules.specs.Durable.{IdleDisk};
+    ghost use Rattle.desk_rules.specs.Position.{Position};
 
     // The book of the history.
     ghost book: { Book };
@@ -108,7 +108,7 @@ pub trait Naming {
 impl Naming for Brand {
     ghost use Rattle.std.specs.Prelude.{None};
     ghost use Rattle.checkpoint_disks.specs.declared.counting.Side.TheVariants.{First};
-    ghost use Rattle.racf_desk.specs.Position.{first_position};
+    ghost use Rattle.desk_rules.specs.Position.{first_position};
 
     ghost book = { record { number = 0; log_name = 0; cells_name = 0 } };
 

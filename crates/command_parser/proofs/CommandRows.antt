@@ -9,8 +9,8 @@ use Rattle.command_values.specs.Results.{◌>>=◌}
 use Rattle.command_grammar.specs.Reading.{parsed}
 use Rattle.command_values.specs.declared.values.Context.{Context}
 use Rattle.command_grammar.specs.Canon.{canon, spelled}
-use Rattle.command_parser.specs.declared.fields.CommandFields.{CommandFields}
-use Rattle.command_parser.specs.declared.fields.CommandFields.TheVariants as command
+use Rattle.command_fields.specs.declared.fields.CommandFields.{CommandFields}
+use Rattle.command_fields.specs.declared.fields.CommandFields.TheVariants as command
 use Rattle.command_parser.specs.Canonical.{canonical}
 use Rattle.command_parser.specs.Fields.{front, behind}
 use Rattle.command_parser.specs.CommandOf.{command_of, command_in}

@@ -22,17 +22,18 @@ use Rattle.command_values.specs.declared.values.Known.{Known}
 use Rattle.command_grammar.specs.Table.{operands_of}
 use Rattle.command_values.specs.Values.{name_of, unless_dataset}
 use Rattle.command_grammar.specs.Reading.{Slots, has_word, lacking}
-use Rattle.command_values.specs.declared.log_options.LogClause.{LogClause}
-use Rattle.command_values.specs.LawfulValues.{Each, AreNames, AreNamed, IsClause, Fits, Suits}
+use Rattle.command_fields.specs.declared.log_clauses.LogClause.{LogClause}
+use Rattle.command_values.specs.LawfulValues.{AreNames, AreNamed, IsClause, Fits, Suits}
+use Rattle.command_fields.specs.LawfulMembers.{Each}
 use Rattle.command_grammar.specs.Lawful.{FitsAll, SuitsAll, IsLawful}
 use Rattle.command_values.proofs.Names.{name-plain, name-group}
 use Rattle.command_values.proofs.Patterns.{dataset-named, class-named}
-use Rattle.command_parser.specs.declared.option_fields.SetRopts.{SetRopts}
-use Rattle.command_parser.specs.declared.fields.CommandFields.{CommandFields}
-use Rattle.command_parser.specs.declared.fields.CommandFields.TheVariants as command
+use Rattle.command_fields.specs.declared.option_fields.SetRopts.{SetRopts}
+use Rattle.command_fields.specs.declared.fields.CommandFields.{CommandFields}
+use Rattle.command_fields.specs.declared.fields.CommandFields.TheVariants as command
 use Rattle.command_parser.specs.Operands.{id_value, name_value, ids_value, audit_value, whos_value, when_value, members_value, member_names_value, log_clauses_value, values_of, operands_of_set_ropts}
 use Rattle.command_parser.specs.Canonical.{generic_view}
-use Rattle.command_parser.specs.LawfulFields.{IsId, IsGroupName, IsUserName, IsClauthWord, IsAudit, IsNamedOne, AreWhosOfPermit, IsPort, AreMembersOf, AreMemberNamesOf, IsLogClause, refreshes_some, AreLawfulFields}
+use Rattle.command_fields.specs.LawfulFields.{IsId, IsGroupName, IsUserName, IsClauthWord, IsAudit, IsNamedOne, AreWhosOfPermit, IsPort, AreMembersOf, AreMemberNamesOf, IsLogClause, refreshes_some, AreLawfulFields}
 
 -- where the operand with this word stands among the rows
 abbrev place : Word → List Operand → ℕ

@@ -3,7 +3,7 @@ use Rattle.std.proofs.Common.{◌≡◌, ℕ, List, Option, Some, Result, Ok, Er
 use Rattle.command_values.specs.declared.faults.Syntax.{Syntax}
 use Rattle.command_values.specs.declared.faults.ParseFault.{ParseFault}
 use Rattle.command_values.specs.declared.faults.ParseFault.TheVariants as reasons
-use Rattle.command_parser.specs.declared.fields.CommandFields.{CommandFields}
+use Rattle.command_fields.specs.declared.fields.CommandFields.{CommandFields}
 use Rattle.command_grammar.specs.Reading.{Generic}
 use Rattle.command_values.specs.Results.{Gives}
 use Rattle.command_grammar.specs.Canon.{spelled}

@@ -10,10 +10,10 @@ use Rattle.command_grammar.specs.Reading.{Generic, parsed}
 use Rattle.command_values.specs.Results.{◌>>=◌}
 use Rattle.command_grammar.specs.Canon.{canon, spelled}
 use Rattle.command_grammar.specs.Lawful.{IsLawful}
-use Rattle.command_parser.specs.declared.fields.CommandFields.{CommandFields}
+use Rattle.command_fields.specs.declared.fields.CommandFields.{CommandFields}
 use Rattle.command_parser.specs.Canonical.{generic_view, given_by, Spells, fault}
 use Rattle.command_parser.specs.CommandOf.{command_of, command_in}
-use Rattle.command_parser.specs.LawfulFields.{AreLawfulFields}
+use Rattle.command_fields.specs.LawfulFields.{AreLawfulFields}
 use Rattle.command_parser.proofs.FieldsLawful.{fields-lawful}
 use Rattle.command_parser.proofs.Views.{command_of-generic, command_viewed, no_command, its_command}
 

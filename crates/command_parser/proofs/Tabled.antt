@@ -6,8 +6,8 @@ use Rattle.command_values.specs.declared.values.Content.{Content}
 use Rattle.command_values.specs.OperandWords.{spelling_of}
 use Rattle.command_grammar.specs.Table.{full_name, operands_of}
 use Rattle.command_grammar.specs.Canon.{value_text, positions_text, operands_text as table_text, canon}
-use Rattle.command_parser.specs.declared.fields.CommandFields.{CommandFields}
-use Rattle.command_parser.specs.declared.fields.CommandFields.TheVariants as command
+use Rattle.command_fields.specs.declared.fields.CommandFields.{CommandFields}
+use Rattle.command_fields.specs.declared.fields.CommandFields.TheVariants as command
 use Rattle.command_parser.specs.Operands.{Given, values_of, words_of, verb_of, names_of, operands_of_command}
 use Rattle.command_parser.specs.Canonical.{generic_view, operand_text, operands_text, canonical}
 

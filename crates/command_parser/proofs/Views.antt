@@ -18,10 +18,10 @@ use Rattle.command_grammar.specs.declared.table.Operand.{Operand}
 use Rattle.command_grammar.specs.CommandTable.{user, group, data_set_profile, class_and_profile, any_profile}
 use Rattle.command_values.specs.declared.values.Content.{Content}
 use Rattle.command_values.specs.declared.values.Content.TheVariants as contents
-use Rattle.command_values.specs.declared.values.Reset.{Reset}
-use Rattle.command_values.specs.declared.log_options.LogClause.{LogClause}
-use Rattle.command_parser.specs.declared.fields.CommandFields.{CommandFields}
-use Rattle.command_parser.specs.declared.fields.CommandFields.TheVariants as fields
+use Rattle.command_fields.specs.declared.resets.Reset.{Reset}
+use Rattle.command_fields.specs.declared.log_clauses.LogClause.{LogClause}
+use Rattle.command_fields.specs.declared.fields.CommandFields.{CommandFields}
+use Rattle.command_fields.specs.declared.fields.CommandFields.TheVariants as fields
 use Rattle.command_grammar.specs.Reading.{Generic, Slots, means_read, completed}
 use Rattle.command_values.specs.LawfulValues.{Fits}
 use Rattle.command_grammar.specs.Lawful.{FitsAll, FitsPositions, IsLawful}

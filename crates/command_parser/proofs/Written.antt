@@ -3,7 +3,7 @@ use Rattle.std.proofs.Common.{◌≡◌, ℕ, ◌≤◌, List, length, false, Ok
 use Rattle.std.specs.Prelude.{nat_lt}
 use Rattle.std.proofs.lemmas.Bool.Decides.{nat_tests}
 use Rattle.command_values.specs.declared.values.Context.{Context}
-use Rattle.command_parser.specs.declared.fields.CommandFields.{CommandFields}
+use Rattle.command_fields.specs.declared.fields.CommandFields.{CommandFields}
 use Rattle.command_grammar.specs.Reading.{Generic}
 use Rattle.command_grammar.specs.Canon.{canon, spelled}
 use Rattle.command_parser.specs.Canonical.{generic_view, given_by, IsWritten}

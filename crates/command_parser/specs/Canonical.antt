@@ -7,7 +7,7 @@ use Rattle.command_values.specs.declared.faults.ParseFault.TheVariants as reason
 use Rattle.command_values.specs.declared.values.Context.{Context}
 use Rattle.command_grammar.specs.Reading.{Generic}
 use Rattle.command_grammar.specs.Canon.{value_text, positions_text, spelled}
-use Rattle.command_parser.specs.declared.fields.CommandFields.{CommandFields}
+use Rattle.command_fields.specs.declared.fields.CommandFields.{CommandFields}
 use Rattle.command_values.specs.declared.operand_words.Word.{Word}
 use Rattle.command_values.specs.declared.values.Content.{Content}
 use Rattle.command_values.specs.OperandWords.{spelling_of}

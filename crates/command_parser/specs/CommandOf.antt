@@ -8,8 +8,8 @@ use Rattle.command_grammar.specs.declared.table.Verb.TheVariants as verbs
 use Rattle.command_values.specs.declared.values.Content.{Content}
 use Rattle.command_grammar.specs.Reading.{Generic, Slots}
 use Rattle.command_grammar.specs.Canon.{spelled}
-use Rattle.command_parser.specs.declared.fields.CommandFields.{CommandFields}
-use Rattle.command_parser.specs.declared.fields.CommandFields.TheVariants as fields
+use Rattle.command_fields.specs.declared.fields.CommandFields.{CommandFields}
+use Rattle.command_fields.specs.declared.fields.CommandFields.TheVariants as fields
 use Rattle.command_parser.specs.Canonical.{given_by}
 use Rattle.command_parser.specs.Fields.{found_for, id_in, no_word, only_id, only_profile, class_and_profile, add_user_in, alt_user_in, add_group_in, alt_group_in, connect_in, remove_in}
 use Rattle.command_parser.specs.OptionFields.{set_ropts_in}

@@ -9,23 +9,23 @@ use Rattle.racf_profiles.specs.declared.profiles.AuditRule.{AuditRule}
 use Rattle.racf_profiles.specs.declared.profiles.Member.{Member}
 use Rattle.command_values.specs.declared.values.Content.{Content}
 use Rattle.command_values.specs.declared.values.Content.TheVariants as contents
-use Rattle.command_values.specs.declared.values.Reset.{Reset}
-use Rattle.command_values.specs.declared.log_options.LogClause.{LogClause}
-use Rattle.command_parser.specs.declared.fields.AddUser.{AddUser}
-use Rattle.command_parser.specs.declared.fields.AltUser.{AltUser}
-use Rattle.command_parser.specs.declared.fields.AddGroup.{AddGroup}
-use Rattle.command_parser.specs.declared.fields.AltGroup.{AltGroup}
-use Rattle.command_parser.specs.declared.fields.Connect.{Connect}
-use Rattle.command_parser.specs.declared.fields.Remove.{Remove}
-use Rattle.command_parser.specs.declared.profile_fields.AddSd.{AddSd}
-use Rattle.command_parser.specs.declared.profile_fields.AltSd.{AltSd}
-use Rattle.command_parser.specs.declared.profile_fields.DelSd.{DelSd}
-use Rattle.command_parser.specs.declared.profile_fields.RDefine.{RDefine}
-use Rattle.command_parser.specs.declared.profile_fields.RAlter.{RAlter}
-use Rattle.command_parser.specs.declared.profile_fields.Permit.{Permit}
-use Rattle.command_parser.specs.declared.option_fields.SetRopts.{SetRopts}
-use Rattle.command_parser.specs.declared.fields.CommandFields.{CommandFields}
-use Rattle.command_parser.specs.declared.fields.CommandFields.TheVariants as command
+use Rattle.command_fields.specs.declared.resets.Reset.{Reset}
+use Rattle.command_fields.specs.declared.log_clauses.LogClause.{LogClause}
+use Rattle.command_fields.specs.declared.fields.AddUser.{AddUser}
+use Rattle.command_fields.specs.declared.fields.AltUser.{AltUser}
+use Rattle.command_fields.specs.declared.fields.AddGroup.{AddGroup}
+use Rattle.command_fields.specs.declared.fields.AltGroup.{AltGroup}
+use Rattle.command_fields.specs.declared.fields.Connect.{Connect}
+use Rattle.command_fields.specs.declared.fields.Remove.{Remove}
+use Rattle.command_fields.specs.declared.profile_fields.AddSd.{AddSd}
+use Rattle.command_fields.specs.declared.profile_fields.AltSd.{AltSd}
+use Rattle.command_fields.specs.declared.profile_fields.DelSd.{DelSd}
+use Rattle.command_fields.specs.declared.profile_fields.RDefine.{RDefine}
+use Rattle.command_fields.specs.declared.profile_fields.RAlter.{RAlter}
+use Rattle.command_fields.specs.declared.profile_fields.Permit.{Permit}
+use Rattle.command_fields.specs.declared.option_fields.SetRopts.{SetRopts}
+use Rattle.command_fields.specs.declared.fields.CommandFields.{CommandFields}
+use Rattle.command_fields.specs.declared.fields.CommandFields.TheVariants as command
 use Rattle.command_values.specs.declared.operand_words.Word.{Word}
 use Rattle.command_values.specs.declared.operand_words.Word.TheVariants as words
 use Rattle.command_grammar.specs.declared.table.Verb.{Verb}

@@ -2,7 +2,7 @@
 use Rattle.command_values.specs.declared.operand_words.Word.TheVariants as words
 use Rattle.command_grammar.specs.declared.table.Verb.TheVariants as verbs
 use Rattle.command_grammar.specs.Reading.{Slots}
-use Rattle.command_parser.specs.declared.option_fields.SetRopts.{SetRopts}
+use Rattle.command_fields.specs.declared.option_fields.SetRopts.{SetRopts}
 use Rattle.command_parser.specs.Fields.{found_for, flag_in, ids_in, log_clauses_in}
 
 -- SETROPTS

@@ -1,11 +1,11 @@
 -- The commands on profiles, each field read from the operand of its name.
 use Rattle.std.specs.Prelude.{ℕ, List}
 use Rattle.generic_names.specs.Spelled.{Spelled}
-use Rattle.command_parser.specs.declared.profile_fields.AddSd.{AddSd}
-use Rattle.command_parser.specs.declared.profile_fields.AltSd.{AltSd}
-use Rattle.command_parser.specs.declared.profile_fields.RDefine.{RDefine}
-use Rattle.command_parser.specs.declared.profile_fields.RAlter.{RAlter}
-use Rattle.command_parser.specs.declared.profile_fields.Permit.{Permit}
+use Rattle.command_fields.specs.declared.profile_fields.AddSd.{AddSd}
+use Rattle.command_fields.specs.declared.profile_fields.AltSd.{AltSd}
+use Rattle.command_fields.specs.declared.profile_fields.RDefine.{RDefine}
+use Rattle.command_fields.specs.declared.profile_fields.RAlter.{RAlter}
+use Rattle.command_fields.specs.declared.profile_fields.Permit.{Permit}
 use Rattle.command_values.specs.declared.operand_words.Word.TheVariants as words
 use Rattle.command_grammar.specs.declared.table.Verb.TheVariants as verbs
 use Rattle.command_grammar.specs.Reading.{Slots}

@@ -1,15 +1,14 @@
 //! Commands, read from their text and written as their canonical text.
 
-ghost use Rattle.std.specs.Prelude.{◌≡◌, ◌++◌, List, ℕ, IfOk, IfErr, OnOk, OnErr, IsTrue, IsErr, MatchOption, is_ok};
-ghost use Rattle.access_levels.specs.Spelling.{group_of};
-ghost use Rattle.command_parser.specs.declared.fields.CommandFields.{CommandFields};
+ghost use Rattle.std.specs.Prelude.{◌≡◌, ◌++◌, List, ℕ, IfOk, IfErr, OnOk, OnErr};
+ghost use Rattle.command_fields.specs.declared.fields.CommandFields.{CommandFields};
 ghost use Rattle.command_values.specs.Results.{Gives};
 ghost use Rattle.command_grammar.specs.Canon.{spelled};
 ghost use Rattle.command_parser.specs.Canonical.{generic_view, canonical, Spells, IsFault, IsUnlessMemory};
 
-use crate::convert::command_fields;
-use crate::fields::CommandFields;
+use crate::convert::fields_in_parts;
 use access_levels::Id;
+use command_fields::CommandFields;
 use command_grammar::{LONGEST, laws, printed, read};
 use command_values::{Context, ParseFault, Syntax};
 use std::alloc::{AllocError, Global};
@@ -17,35 +16,6 @@ use std::marker::Model;
 
 /// Want of memory.
 pub type NoMemory = AllocError;
-
-/// Who gives a command, and the group that is current for him.
-#[derive(Clone, Copy, Debug)]
-pub struct Issuer {
-    pub id: Id,
-    pub group: Id,
-    pub ghost group_spelled: { IsTrue (is_ok (group_of group)) },
-}
-
-impl Issuer {
-    ghost use Rattle.command_parser.specs.Issuers.{group_or_current};
-
-    /// The issuer, unless the group has no group name's spelling.
-    pub fn new(id: Id, group: Id) -> Option<Issuer>
-        ensures { MatchOption result (IsErr (group_of group)) (λ issuer. (issuer.id ≡ id) × (issuer.group ≡ group)) }
-    {
-        match Id::read_group(group.text()) {
-            Ok(_) => Some(Issuer { id, group }),
-            Err(_) => None,
-        }
-    }
-
-    /// The group that a command names, or else the issuer's current one.
-    pub fn group_or_current(&self, given: Option<Id>) -> Id
-        ensures { result ≡ group_or_current self.now given }
-    {
-        given.unwrap_or(self.group)
-    }
-}
 
 /// A command with its canonical text, seen by contracts as its `CommandFields`. The canonical text has at most 30,000
 /// bytes, and spells the command for every issuer.
@@ -58,7 +28,7 @@ pub struct Command {
 }
 
 impl Model for Command {
-    ghost use Rattle.command_parser.specs.declared.fields.CommandFields.{CommandFields};
+    ghost use Rattle.command_fields.specs.declared.fields.CommandFields.{CommandFields};
     ghost use Rattle.command_parser.specs.Canonical.{IsWritten};
 
     ghost Value = { CommandFields };
@@ -103,7 +73,7 @@ fn parse_exact(alloc: Global, at: &Context, text: &[u8]) -> Result<Command, Pars
     if canonical.len() > LONGEST {
         return Err(ParseFault::Syntax(Syntax::TextTooLong));
     }
-    let fields = command_fields(alloc, parts);
+    let fields = fields_in_parts(alloc, parts);
     Ok(Command {
         fields,
         text: canonical,

@@ -10,9 +10,8 @@ ghost use Rattle.command_parser.specs.Canonical.{generic_view};
 use crate::convert_options::set_ropts;
 use crate::convert_profiles::{add_sd, alt_sd, permit, r_alter, r_define};
 use crate::convert_users::{add_group, add_user, alt_group, alt_user, connect, remove};
-use crate::fields::{CommandFields, DelGroup, DelUser};
-use crate::profile_fields::{DelSd, RDelete};
 use access_levels::Id;
+use command_fields::{CommandFields, DelGroup, DelSd, DelUser, RDelete};
 use command_grammar::{Parts, Verb};
 use command_values::Content;
 use generic_names::Pattern;
@@ -102,7 +101,7 @@ fn command_in_parts(alloc: Global, parts: Parts) -> Option<CommandFields>
 }
 
 /// The command of which this is the table's view.
-pub fn command_fields(alloc: Global, parts: Parts) -> CommandFields
+pub fn fields_in_parts(alloc: Global, parts: Parts) -> CommandFields
     requires { IsLawful (generic parts) }
     ensures { generic_view result ≡ generic parts }
 {

@@ -3,8 +3,8 @@
 ghost use Rattle.std.specs.Prelude.{◌≡◌};
 ghost use Rattle.command_parser.specs.OptionFields.{set_ropts_in};
 
-use crate::option_fields::SetRopts;
 use crate::slots::Slots;
+use command_fields::SetRopts;
 use command_values::Content;
 use std::alloc::Global;
 

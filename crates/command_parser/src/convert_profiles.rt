@@ -7,9 +7,9 @@ ghost use Rattle.command_grammar.specs.declared.table.Verb.TheVariants as verbs;
 ghost use Rattle.command_parser.specs.Fields.{found_for, id_in};
 ghost use Rattle.command_parser.specs.ProfileFields.{add_sd_in, alt_sd_in, r_define_in, r_alter_in, permit_in};
 
-use crate::profile_fields::{AddSd, AltSd, Permit, RAlter, RDefine};
 use crate::slots::Slots;
 use access_levels::Id;
+use command_fields::{AddSd, AltSd, Permit, RAlter, RDefine};
 use command_values::Content;
 use generic_names::Pattern;
 use std::alloc::Global;

@@ -3,9 +3,9 @@
 ghost use Rattle.std.specs.Prelude.{◌≡◌};
 ghost use Rattle.command_parser.specs.Fields.{add_user_in, alt_user_in, add_group_in, alt_group_in, connect_in, remove_in};
 
-use crate::fields::{AddGroup, AddUser, AltGroup, AltUser, Connect, Remove};
 use crate::slots::Slots;
 use access_levels::Id;
+use command_fields::{AddGroup, AddUser, AltGroup, AltUser, Connect, Remove};
 use command_values::Content;
 use std::alloc::Global;
 

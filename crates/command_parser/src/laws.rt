@@ -3,13 +3,13 @@
 ghost use Rattle.std.specs.Prelude.{◌≡◌, ◌↔◌, ℕ, List, Ok, Some, None, IsSome, map};
 ghost use Rattle.command_grammar.specs.Reading.{Generic};
 ghost use Rattle.command_grammar.specs.Canon.{canon, spelled};
-ghost use Rattle.command_parser.specs.declared.fields.CommandFields.{CommandFields};
+ghost use Rattle.command_fields.specs.declared.fields.CommandFields.{CommandFields};
 ghost use Rattle.command_grammar.specs.declared.table.Operand.{Operand};
 ghost use Rattle.command_grammar.specs.Table.{operands_of};
 ghost use Rattle.command_parser.specs.Operands.{words_of, verb_of, operands_of_command};
 ghost use Rattle.command_parser.specs.Canonical.{generic_view, canonical, given_by, Spells, fault};
 ghost use Rattle.command_parser.specs.CommandOf.{command_of, command_in};
-ghost use Rattle.command_parser.specs.LawfulFields.{AreLawfulFields};
+ghost use Rattle.command_fields.specs.LawfulFields.{AreLawfulFields};
 
 use command_grammar::laws::what_is_read_is_lawful;
 

@@ -1,7 +1,8 @@
 //! The grammar of commands, both ways: `parse` reads a `Command` from its text, and `print` writes its canonical text.
 //!
-//! `CommandFields` says which command it is, with a field for each of its operands. The table of commands, their reader
-//! and their printer stand in `command_grammar`, and the values of operands in `command_values`.
+//! `CommandFields` says which command it is, with a field for each of its operands; it is the type of `command_fields`,
+//! handed on here. The table of commands, their reader and their printer stand in `command_grammar`, and the values of
+//! operands in `command_values`.
 //!
 //! ```text
 //! let command = parse(alloc, joe, b"ALG PAYROLL OWNER(MARY)")?;
@@ -18,18 +19,13 @@ mod convert;
 mod convert_options;
 mod convert_profiles;
 mod convert_users;
-mod fields;
 pub mod laws;
-mod option_fields;
-mod profile_fields;
 mod slots;
 
-pub use command_values::{
-    Ids, LogClause, LogClauses, MemberNames, ParseFault, Reset, Syntax, Whos, Word,
+pub use command_fields::{
+    AddGroup, AddSd, AddUser, AltGroup, AltSd, AltUser, CommandFields, Connect, DelGroup, DelSd,
+    DelUser, Ids, Issuer, LogClause, LogClauses, MemberNames, Permit, RAlter, RDefine, RDelete,
+    Remove, Reset, SetRopts, Whos,
 };
-pub use commands::{Command, Issuer, NoMemory, parse, print, printed_is_read};
-pub use fields::{
-    AddGroup, AddUser, AltGroup, AltUser, CommandFields, Connect, DelGroup, DelUser, Remove,
-};
-pub use option_fields::SetRopts;
-pub use profile_fields::{AddSd, AltSd, DelSd, Permit, RAlter, RDefine, RDelete};
+pub use command_values::{ParseFault, Syntax, Word};
+pub use commands::{Command, NoMemory, parse, print, printed_is_read};

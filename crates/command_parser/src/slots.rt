@@ -4,7 +4,8 @@ ghost use Rattle.std.specs.Prelude.{◌≡◌};
 ghost use Rattle.command_parser.specs.Fields.{front, behind, flag_in, id_in, authority_in, name_in, ids_in, level_in, audit_in, reset_in, whos_in, when_in, members_in, member_names_in, log_clauses_in};
 
 use access_levels::{Condition, GroupAuthority, Id, Level, Text};
-use command_values::{Content, Ids, LogClauses, MemberNames, Reset, Whos};
+use command_fields::{Ids, LogClauses, MemberNames, Reset, Whos};
+use command_values::Content;
 use racf_profiles::{AuditRule, Members};
 use std::alloc::Global;
 use std::marker::Model;

@@ -15,7 +15,8 @@ use Rattle.command_values.specs.declared.audits.AuditWord.{AuditWord}
 use Rattle.command_values.specs.declared.audits.AuditWord.TheVariants as audited
 use Rattle.command_values.specs.Results.{◌>>=◌, or_fault}
 use Rattle.command_values.proofs.WordItems.{valued_items}
-use Rattle.command_values.specs.Audits.{audit_word_name, so_far, with_word, is_audit_level, audit_level, with_level, audit_word, audit_more, audits, audit_rule, half_text, halves_text, audit_text, is_half, is_audit_rule}
+use Rattle.command_values.specs.Audits.{audit_word_name, so_far, with_word, audit_level, with_level, audit_word, audit_more, audits, audit_rule, half_text, halves_text, audit_text}
+use Rattle.command_fields.specs.AuditRules.{is_audit_level, is_half, is_audit_rule}
 
 pub level_calm : (l : Level) → list_all is_calm (level_name l) ≡ true
 level_calm NoAccess = refl

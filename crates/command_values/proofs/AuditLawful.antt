@@ -14,7 +14,8 @@ use Rattle.command_values.specs.declared.audits.AuditWord.{AuditWord}
 use Rattle.command_values.specs.declared.audits.AuditWord.TheVariants as audited
 use Rattle.command_values.specs.Results.{◌>>=◌, or_fault}
 use Rattle.command_values.specs.WordsOfValues.{held, unless_stray}
-use Rattle.command_values.specs.Audits.{so_far, with_word, is_audit_level, if_audit_level, audit_level, with_level, audit_word, audit_more, audits, audit_rule, is_half, is_audit_rule}
+use Rattle.command_values.specs.Audits.{so_far, with_word, if_audit_level, audit_level, with_level, audit_word, audit_more, audits, audit_rule}
+use Rattle.command_fields.specs.AuditRules.{is_audit_level, is_half, is_audit_rule}
 use Rattle.command_values.proofs.Outcomes.{bind-ok, or_fault-ok, unless_stray-ok}
 
 -- what is logged, from word to word

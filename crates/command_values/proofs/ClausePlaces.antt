@@ -4,7 +4,7 @@ use Rattle.std.specs.Prelude.{position, unwrap_or}
 use Rattle.std.specs.List.{insert, position_or_len}
 use Rattle.std.proofs.lemmas.Bool.Decides.{nat_tests}
 use Rattle.std.proofs.lemmas.List.Sums.{prefix_len-le-length}
-use Rattle.command_values.specs.declared.log_options.LogClause.{LogClause}
+use Rattle.command_fields.specs.declared.log_clauses.LogClause.{LogClause}
 use Rattle.command_values.specs.LogOptions.{applies_before, applies_behind, put_clause}
 
 place-or-end : {X : Type 0} (f : X → Bool) (xs : List X) → unwrap_or (position f xs) (length xs) ≡ position_or_len f xs

@@ -3,7 +3,8 @@ use Rattle.std.proofs.Common.{◌≡◌, ℕ, suc, ◌+◌, List, [], ◌∷◌,
 use Rattle.command_words.specs.declared.quoting.Quoting.TheVariants.{Outside, Met}
 use Rattle.command_words.specs.Tokens.{group_end}
 use Rattle.command_values.specs.Values.{more_text, ids_text}
-use Rattle.command_values.specs.LawfulValues.{Each, AreSome}
+use Rattle.command_values.specs.LawfulValues.{AreSome}
+use Rattle.command_fields.specs.LawfulMembers.{Each}
 
 -- what an element of a list is followed by: where quotes were closed right before, they stay closed
 abbrev pub IsBehind : List ℕ → Type 0

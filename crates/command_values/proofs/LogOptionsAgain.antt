@@ -15,11 +15,12 @@ use Rattle.command_words.specs.ValuedWords.{ValuedWord, Valued, valued_words, fa
 use Rattle.command_words.proofs.Letters.{is_letter}
 use Rattle.command_words.proofs.Spelled.{group_end-nested, calm-letters}
 use Rattle.command_values.specs.declared.value_kinds.ValueKind.TheVariants as kinds
-use Rattle.command_values.specs.declared.log_options.LogClause.{LogClause}
+use Rattle.command_fields.specs.declared.log_clauses.LogClause.{LogClause}
 use Rattle.command_values.specs.Results.{◌>>=◌}
 use Rattle.command_values.specs.LogOptions.{log_option_name, log_option_rank, log_option_of, applies_before, applies_behind, is_given, put_clause, is_in_order}
 use Rattle.command_values.specs.Values.{some_names, clause_at, clauses_from, log_clauses, clause_text, more_text, ids_text}
-use Rattle.command_values.specs.LawfulValues.{Each, IsClause, AreClauses}
+use Rattle.command_values.specs.LawfulValues.{IsClause, AreClauses}
+use Rattle.command_fields.specs.LawfulMembers.{Each}
 use Rattle.command_values.proofs.Patterns.{IsSome}
 use Rattle.command_values.proofs.WordItems.{valued_items}
 use Rattle.command_values.proofs.NamesAgain.{some_names_again, ids_calm}

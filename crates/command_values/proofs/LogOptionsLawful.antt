@@ -11,12 +11,13 @@ use Rattle.command_words.specs.Tokens.{tokens}
 use Rattle.command_words.specs.ValuedWords.{ValuedWord, Alone, Valued, Unclosed, Parenthesis, valued_words}
 use Rattle.command_values.specs.declared.faults.Syntax.TheVariants as faults
 use Rattle.command_values.specs.declared.value_kinds.ValueKind.TheVariants as kinds
-use Rattle.command_values.specs.declared.log_options.LogClause.{LogClause}
+use Rattle.command_fields.specs.declared.log_clauses.LogClause.{LogClause}
 use Rattle.command_values.specs.Results.{◌>>=◌, or_fault}
 use Rattle.command_values.specs.WordsOfValues.{clean}
 use Rattle.command_values.specs.LogOptions.{log_option_rank, log_option_of, applies_before, applies_behind, is_given, unless_given, put_clause, is_in_order}
 use Rattle.command_values.specs.Values.{some_names, log_option_at, clause_at, clauses_from, log_clauses}
-use Rattle.command_values.specs.LawfulValues.{Each, AreSome, IsClause, AreClauses}
+use Rattle.command_values.specs.LawfulValues.{AreSome, IsClause, AreClauses}
+use Rattle.command_fields.specs.LawfulMembers.{Each}
 use Rattle.command_values.proofs.Names.{if-none}
 use Rattle.command_values.proofs.Outcomes.{bind-ok, or_fault-ok}
 use Rattle.command_values.proofs.NamesLawful.{some_names-fit}

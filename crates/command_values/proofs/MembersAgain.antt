@@ -23,12 +23,14 @@ use Rattle.command_words.specs.Tokens.{Word, within, group_end, tokens, tokens_f
 use Rattle.command_words.specs.ValuedWords.{ValuedWord, Alone, valued_words, opens_value, faulty_at}
 use Rattle.command_words.proofs.Letters.{is_letter, letter-quote, Outside-steady, EndsWord}
 use Rattle.command_words.proofs.Spelled.{is_calm, letter-calm, word_token, quoted_word_token, quoted_word-through, group_end-through}
-use Rattle.command_values.specs.declared.members.MemberForm.{MemberForm}
-use Rattle.command_values.specs.declared.members.MemberForm.TheVariants as forms
-use Rattle.command_values.specs.ProfileNames.{text_by_kind, profile_text}
-use Rattle.command_values.specs.Members.{whole_text, named_so, member_named, parted, if_number, number_of, number_text, access_with, access_of, security_level_with, security_level_of, category_of, member_in, id_name, dropped_in, each_of, some_of, added, dropped, member_text}
+use Rattle.command_fields.specs.declared.member_form.MemberForm.{MemberForm}
+use Rattle.command_fields.specs.declared.member_form.MemberForm.TheVariants as forms
+use Rattle.command_fields.specs.ProfileNames.{text_by_kind, profile_text}
+use Rattle.command_values.specs.Members.{whole_text, named_so, member_named, parted, number_of, number_text, access_with, access_of, security_level_with, security_level_of, category_of, member_in, dropped_in, each_of, some_of, added, dropped, member_text}
+use Rattle.command_fields.specs.LawfulMembers.{if_number, id_name}
 use Rattle.command_values.specs.Values.{more_text, ids_text}
-use Rattle.command_values.specs.LawfulValues.{IsMember, IsDropped, Each, AreSome, AreMembers, AreDropped}
+use Rattle.command_values.specs.LawfulValues.{AreSome}
+use Rattle.command_fields.specs.LawfulMembers.{IsMember, IsDropped, Each, AreMembers, AreDropped}
 use Rattle.command_values.proofs.Names.{plain_name, all_of}
 use Rattle.command_values.proofs.Patterns.{IsSome, IsPlainText, is_sound_byte, sound-letters, sound-faultless, member-named-so, in-quotes}
 use Rattle.command_values.proofs.MemberParts.{parted-last}

@@ -11,16 +11,18 @@ use Rattle.command_words.specs.ValuedWords.{ValuedWord}
 use Rattle.command_values.specs.declared.faults.Syntax.TheVariants as faults
 use Rattle.command_values.specs.Results.{◌>>=◌, or_fault}
 use Rattle.command_values.specs.WordsOfValues.{word_of}
-use Rattle.command_values.specs.declared.members.MemberForm.{MemberForm}
-use Rattle.command_values.specs.declared.members.MemberForm.TheVariants as member_forms
-use Rattle.command_values.specs.Members.{whole_text, named_so, member_named, parted, number_behind, if_number, number_of, access_with, access_of, security_level_with, security_level_of, category_of, member_in, id_name, dropped_in, each_of, some_of, added, dropped}
+use Rattle.command_fields.specs.declared.member_form.MemberForm.{MemberForm}
+use Rattle.command_fields.specs.declared.member_form.MemberForm.TheVariants as member_forms
+use Rattle.command_values.specs.Members.{whole_text, named_so, member_named, parted, number_behind, number_of, access_with, access_of, security_level_with, security_level_of, category_of, member_in, dropped_in, each_of, some_of, added, dropped}
+use Rattle.command_fields.specs.LawfulMembers.{if_number, id_name}
 use Rattle.racf_profiles.specs.declared.profiles.Member.{Member}
 use Rattle.racf_profiles.specs.declared.profiles.Member.TheVariants as member
 use Rattle.generic_names.specs.declared.kind.NameKind.{NameKind}
 use Rattle.generic_names.specs.declared.kind.NameKind.TheVariants.{General}
 use Rattle.generic_names.specs.Faults.{member_of}
 use Rattle.command_values.specs.Values.{one}
-use Rattle.command_values.specs.LawfulValues.{IsMember, IsDropped, Each, AreSome, AreMembers, AreDropped}
+use Rattle.command_values.specs.LawfulValues.{AreSome}
+use Rattle.command_fields.specs.LawfulMembers.{IsMember, IsDropped, Each, AreMembers, AreDropped}
 use Rattle.command_values.proofs.Names.{if-none, result_ok-some, id_of-ok}
 use Rattle.command_values.proofs.Patterns.{if-there, member-named-so}
 use Rattle.command_values.proofs.Outcomes.{bind-ok, or_fault-ok}

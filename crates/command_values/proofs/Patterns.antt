@@ -19,7 +19,7 @@ use Rattle.command_words.specs.declared.quoting.Quoting.TheVariants.{Ignored}
 use Rattle.command_words.specs.Bytes.{is_faulty_byte, upper}
 use Rattle.command_words.specs.ValuedWords.{faulty_at}
 use Rattle.command_words.proofs.Letters.{is_letter, letter-quote}
-use Rattle.command_values.specs.ProfileNames.{dataset_profile, general_profile, if_label, is_level_or_category, profile_in, form_in, general_form, class_profile, in_quotes, dataset_named}
+use Rattle.command_fields.specs.ProfileNames.{dataset_profile, general_profile, if_label, is_level_or_category, profile_in, form_in, general_form, class_profile, in_quotes, dataset_named}
 use Rattle.generic_names.proofs.Bools.{either}
 use Rattle.command_values.proofs.Names.{result_ok-some}
 

@@ -24,10 +24,12 @@ use Rattle.command_values.specs.declared.value_kinds.ValueKind.TheVariants as ki
 use Rattle.command_values.specs.declared.values.Content.{Content}
 use Rattle.command_values.specs.declared.values.Content.TheVariants as contents
 use Rattle.command_values.specs.declared.values.Scope.{Scope}
-use Rattle.command_values.specs.declared.values.Reset.{Reset}
-use Rattle.command_values.specs.declared.values.Reset.TheVariants as resets
+use Rattle.command_fields.specs.declared.resets.Reset.{Reset}
+use Rattle.command_fields.specs.declared.resets.Reset.TheVariants as resets
 use Rattle.command_values.specs.Results.{◌>>=◌}
-use Rattle.command_values.specs.Values.{name_of, is_name, if_name, unquoted, name_text, reset_name, single, names, several, whos, value, more_text, ids_text, text_of}
+use Rattle.command_values.specs.Values.{name_of, if_name, unquoted, name_text, single, names, several, whos, value, more_text, ids_text, text_of}
+use Rattle.command_fields.specs.UserNames.{is_name}
+use Rattle.command_fields.specs.Resets.{reset_name}
 use Rattle.command_values.specs.LawfulValues.{AreNames, IsNonEmpty, AreWhos, Fits, Suits}
 use Rattle.command_values.proofs.Names.{IsPlainName, name-plain}
 use Rattle.command_values.proofs.WordItems.{word_items}
@@ -35,7 +37,7 @@ use Rattle.command_values.proofs.NamesAgain.{more_ends, no_empty, more_opens, na
 use Rattle.command_values.proofs.LogOptionsAgain.{log_clauses_again, log_clauses_end}
 use Rattle.command_values.specs.Entries.{whos_text}
 use Rattle.command_values.specs.declared.values.Known.{Known}
-use Rattle.command_values.specs.Members.{member_form}
+use Rattle.command_fields.specs.MemberForms.{member_form}
 use Rattle.command_values.proofs.MembersAgain.{added_again, dropped_again, added_end, dropped_end}
 use Rattle.command_values.proofs.EntriesAgain.{listed, port_again, port_ends}
 use Rattle.command_values.proofs.AuditAgain.{level_calm, audit_again, audit_ends}

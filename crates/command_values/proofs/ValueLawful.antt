@@ -20,11 +20,13 @@ use Rattle.command_values.specs.declared.values.Scope.{Scope}
 use Rattle.command_values.specs.declared.values.Known.{Known}
 use Rattle.command_values.specs.Results.{◌>>=◌, or_fault}
 use Rattle.command_values.specs.WordsOfValues.{clean, word_of, stray, held, unless_stray}
-use Rattle.command_values.specs.ProfileNames.{dataset_profile, class_profile, dataset_text, profile_of_text, dataset_named}
-use Rattle.command_values.specs.Members.{member_form, added, dropped}
+use Rattle.command_fields.specs.ProfileNames.{dataset_profile, class_profile, dataset_text, profile_of_text, dataset_named}
+use Rattle.command_values.specs.Members.{added, dropped}
+use Rattle.command_fields.specs.MemberForms.{member_form}
 use Rattle.command_values.specs.Entries.{port_name, port_of, port}
 use Rattle.command_values.specs.Audits.{audit_rule}
-use Rattle.command_values.specs.Values.{name_of, is_name, if_name, unquoted, name_text, reset_of, star_or, whos, one, quotes_of, single, names, some_names, several, failures_of, log_clauses, value}
+use Rattle.command_values.specs.Values.{name_of, if_name, unquoted, name_text, reset_of, star_or, whos, one, quotes_of, single, names, some_names, several, failures_of, log_clauses, value}
+use Rattle.command_fields.specs.UserNames.{is_name}
 use Rattle.command_values.specs.LawfulValues.{AreNames, IsNonEmpty, Fits, AreNamed, AreWhos, Suits}
 use Rattle.command_values.proofs.Names.{name-again}
 use Rattle.command_values.proofs.Patterns.{dataset-named, class-named}

@@ -1,10 +1,11 @@
 -- What AUDIT and GLOBALAUDIT hold: ALL, SUCCESS, FAILURES or NONE, each of the first three with a level if it isn't
 -- READ.
-use Rattle.std.specs.Prelude.{ℕ, List, [], ◌∷◌, ◌++◌, Bool, true, false, ◌&&◌, not, nat_le, map, find, codes, bytes_eq, is_some, if◌then◌else◌, Option, None, Some, Result, Ok, Err}
+use Rattle.std.specs.Prelude.{ℕ, List, [], ◌∷◌, ◌++◌, Bool, true, false, ◌&&◌, not, map, find, codes, bytes_eq, is_some, if◌then◌else◌, Option, None, Some, Result, Ok, Err}
 use Rattle.access_levels.specs.declared.levels.Level.{Level}
 use Rattle.access_levels.specs.declared.levels.Level.TheVariants.{Read}
-use Rattle.access_levels.specs.Level.{level_rank, level_name}
+use Rattle.access_levels.specs.Level.{level_name}
 use Rattle.racf_profiles.specs.declared.profiles.AuditRule.{AuditRule}
+use Rattle.command_fields.specs.AuditRules.{is_audit_level}
 use Rattle.command_words.specs.declared.quoting.Quoting.TheVariants.{Ignored}
 use Rattle.command_words.specs.Bytes.{upper}
 use Rattle.command_words.specs.Tokens.{tokens}
@@ -55,10 +56,7 @@ with_word rule audited.Success l = record { success = Some l; failures = rule.fa
 with_word rule audited.Failures l = record { success = rule.success; failures = Some l }
 with_word rule audited.Nothing l = nothing_logged
 
--- The levels of auditing are READ, UPDATE, CONTROL and ALTER.
-abbrev pub is_audit_level : Level → Bool
-is_audit_level l = nat_le 2 (level_rank l)
-
+-- the level behind a word, where it is one of auditing
 abbrev pub if_audit_level : Option Level → Option Level
 if_audit_level None = None
 if_audit_level (Some l) = if is_audit_level l then Some l else None
@@ -102,11 +100,3 @@ halves_text (Some l) (Some m) = half_text (codes "SUCCESS") l ++ (32 ∷ half_te
 
 abbrev pub audit_text : AuditRule → List ℕ
 audit_text rule = halves_text rule.success rule.failures
-
--- a rule that a text can spell
-abbrev pub is_half : Option Level → Bool
-is_half None = true
-is_half (Some l) = is_audit_level l
-
-abbrev pub is_audit_rule : AuditRule → Bool
-is_audit_rule rule = is_half rule.success && is_half rule.failures

@@ -1,25 +1,19 @@
 -- Which values a text can spell.
-use Rattle.std.specs.Prelude.{◌≡◌, ℕ, List, [], ◌∷◌, true, Option, None, Some, Ok}
-use Rattle.std.specs.Result.{result_ok}
-use Rattle.access_levels.specs.Spelling.{id_of}
+use Rattle.std.specs.Prelude.{◌≡◌, ℕ, List, [], ◌∷◌, true, Some}
 use Rattle.access_levels.specs.declared.entries.Who.{Who}
 use Rattle.access_levels.specs.declared.entries.Who.TheVariants.{Star, Named}
-use Rattle.generic_names.specs.Spelled.{Spelled}
-use Rattle.generic_names.specs.Faults.{member_of}
-use Rattle.racf_profiles.specs.declared.profiles.Member.{Member}
-use Rattle.racf_profiles.specs.declared.profiles.Member.TheVariants as member
 use Rattle.command_values.specs.declared.value_kinds.ValueKind.{ValueKind}
 use Rattle.command_values.specs.declared.value_kinds.ValueKind.TheVariants as kinds
 use Rattle.command_values.specs.declared.values.Content.{Content}
 use Rattle.command_values.specs.declared.values.Content.TheVariants as contents
 use Rattle.command_values.specs.declared.values.Known.{Known}
-use Rattle.command_values.specs.declared.members.MemberForm.{MemberForm}
-use Rattle.command_values.specs.declared.members.MemberForm.TheVariants as forms
-use Rattle.command_values.specs.ProfileNames.{dataset_profile, class_profile, any_profile}
-use Rattle.command_values.specs.Audits.{is_audit_rule}
-use Rattle.command_values.specs.Members.{member_form, if_number, id_name}
-use Rattle.command_values.specs.Values.{name_of, is_name}
-use Rattle.command_values.specs.declared.log_options.LogClause.{LogClause}
+use Rattle.command_fields.specs.ProfileNames.{dataset_profile, class_profile, any_profile}
+use Rattle.command_fields.specs.AuditRules.{is_audit_rule}
+use Rattle.command_fields.specs.MemberForms.{member_form}
+use Rattle.command_fields.specs.LawfulMembers.{Each, AreMembers, AreDropped}
+use Rattle.command_values.specs.Values.{name_of}
+use Rattle.command_fields.specs.UserNames.{is_name}
+use Rattle.command_fields.specs.declared.log_clauses.LogClause.{LogClause}
 use Rattle.command_values.specs.LogOptions.{is_in_order}
 
 -- names that are written as they are read
@@ -43,33 +37,9 @@ AreWhos (Star ∷ []) = Unit {0}
 AreWhos (Star ∷ (w ∷ ws)) = ⊥
 AreWhos (Named x ∷ ws) = (name_of kinds.Ids x ≡ Some x) × AreNamed ws
 
--- members of profiles of this form, and names of members
-abbrev pub IsMember : MemberForm → Member → Type 0
-IsMember (forms.Access kind) (member.Access n l) = result_ok (member_of kind n.text) ≡ Some n
-IsMember forms.SecurityLevel (member.SecurityLevel x n) = (id_of x ≡ Ok x) × (if_number (Some n) ≡ Some n)
-IsMember forms.Category (member.Category x) = id_of x ≡ Ok x
-IsMember form m = ⊥
-
-abbrev pub IsDropped : MemberForm → Spelled → Type 0
-IsDropped (forms.Access kind) n = result_ok (member_of kind n.text) ≡ Some n
-IsDropped forms.SecurityLevel n = id_name n.text ≡ Some n
-IsDropped forms.Category n = id_name n.text ≡ Some n
-
-abbrev pub Each : {X : Type 0} → (X → Type 0) → List X → Type 0
-Each P [] = Unit {0}
-Each P (x ∷ xs) = P x × Each P xs
-
 abbrev pub AreSome : {X : Type 0} → List X → Type 0
 AreSome [] = ⊥
 AreSome (x ∷ xs) = Unit {0}
-
-abbrev pub AreMembers : Option MemberForm → List Member → Type 0
-AreMembers None ms = ⊥
-AreMembers (Some form) ms = Each (IsMember form) ms
-
-abbrev pub AreDropped : Option MemberForm → List Spelled → Type 0
-AreDropped None ns = ⊥
-AreDropped (Some form) ns = Each (IsDropped form) ns
 
 -- words of LOGOPTIONS in their order, each with one class or more
 abbrev pub IsClause : LogClause → Type 0

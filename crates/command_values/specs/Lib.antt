@@ -2,7 +2,6 @@ pub mod OperandWords
 pub mod NamedWords
 pub mod Results
 pub mod WordsOfValues
-pub mod ProfileNames
 pub mod Audits
 pub mod Entries
 pub mod Members

@@ -3,7 +3,7 @@ use Rattle.std.specs.Prelude.{ℕ, ◌==◌, List, [], ◌∷◌, Bool, true, �
 use Rattle.std.specs.List.{list_all, list_any}
 use Rattle.racf_profiles.specs.declared.class_rows.LogOption.{LogOption}
 use Rattle.racf_profiles.specs.declared.class_rows.LogOption.TheVariants as log
-use Rattle.command_values.specs.declared.log_options.LogClause.{LogClause}
+use Rattle.command_fields.specs.declared.log_clauses.LogClause.{LogClause}
 
 abbrev pub log_option_name : LogOption → List ℕ
 log_option_name log.Always = codes "ALWAYS"

@@ -1,47 +1,26 @@
 -- Members of profiles: how ADDMEM and DELMEM read them, and how they are written. Classes GLOBAL and SECDATA alone have
 -- members.
-use Rattle.std.specs.Prelude.{ℕ, ◌+◌, ◌-◌, ◌*◌, ◌/◌, ◌%◌, List, [], ◌∷◌, ◌++◌, ◌&&◌, ◌==◌, nat_le, nat_lt, map, position, codes, bytes_eq, if◌then◌else◌, is_ok, Option, None, Some, Result, Ok, Err}
+use Rattle.std.specs.Prelude.{ℕ, ◌+◌, ◌-◌, ◌*◌, ◌/◌, ◌%◌, List, [], ◌∷◌, ◌++◌, ◌&&◌, ◌==◌, nat_le, nat_lt, map, position, if◌then◌else◌, Option, None, Some, Result, Ok, Err}
 use Rattle.std.specs.Result.{result_ok}
 use Rattle.access_levels.specs.declared.levels.Level.{Level}
 use Rattle.access_levels.specs.Level.{level_name}
-use Rattle.access_levels.specs.Spelling.{id_of}
 use Rattle.generic_names.specs.declared.kind.NameKind.{NameKind}
-use Rattle.generic_names.specs.declared.kind.NameKind.TheVariants.{General}
 use Rattle.generic_names.specs.Spelled.{Spelled}
 use Rattle.generic_names.specs.Faults.{member_of}
 use Rattle.racf_profiles.specs.declared.profiles.Member.{Member}
 use Rattle.racf_profiles.specs.declared.profiles.Member.TheVariants as member
-use Rattle.racf_profiles.specs.LawfulProfiles.{kind_in}
 use Rattle.command_words.specs.declared.quoting.Quoting.TheVariants.{Ignored}
 use Rattle.command_words.specs.Bytes.{upper}
 use Rattle.command_words.specs.ValuedWords.{ValuedWord}
 use Rattle.command_values.specs.declared.faults.Syntax.{Syntax}
 use Rattle.command_values.specs.declared.faults.Syntax.TheVariants as faults
-use Rattle.command_values.specs.declared.members.MemberForm.{MemberForm}
-use Rattle.command_values.specs.declared.members.MemberForm.TheVariants as forms
+use Rattle.command_fields.specs.declared.member_form.MemberForm.{MemberForm}
+use Rattle.command_fields.specs.declared.member_form.MemberForm.TheVariants as forms
 use Rattle.command_values.specs.Results.{◌>>=◌, or_fault}
 use Rattle.command_values.specs.NamedWords.{id_named, level_named}
 use Rattle.command_values.specs.WordsOfValues.{word_of}
-use Rattle.command_values.specs.ProfileNames.{in_quotes, profile_text}
-
--- What the members of a profile are. In GLOBAL: names and levels, the names as in the class that the profile names. In
--- SECDATA: the names and numbers of levels in SECLEVEL, the names of categories in CATEGORY.
-abbrev pub access_form : List ℕ → MemberForm
-access_form profile = forms.Access (kind_in profile)
-
-abbrev pub secdata_form : List ℕ → MemberForm
-secdata_form profile = if bytes_eq profile (codes "SECLEVEL") then forms.SecurityLevel else forms.Category
-
-abbrev pub form_by_class : List ℕ → List ℕ → Option MemberForm
-form_by_class class profile =
-    if bytes_eq class (codes "GLOBAL") then Some (access_form profile)
-    else if bytes_eq class (codes "SECDATA") then Some (secdata_form profile)
-    else None
-
-unfoldable pub member_form : Option (List ℕ) → Option Spelled → Option MemberForm
-member_form None name = None
-member_form (Some class) None = None
-member_form (Some class) (Some name) = form_by_class class name.text
+use Rattle.command_fields.specs.ProfileNames.{in_quotes, profile_text}
+use Rattle.command_fields.specs.LawfulMembers.{if_number, id_name}
 
 -- A member's name may stand in quotes, and has no prefix.
 abbrev pub whole_text : List ℕ → Option (List ℕ)
@@ -68,10 +47,6 @@ parted (b ∷ bs) = or_here b bs (parted bs)
 abbrev pub number_behind : ℕ → List ℕ → Option ℕ
 number_behind n [] = Some n
 number_behind n (b ∷ bs) = if nat_le 48 b && nat_le b 57 && nat_lt n 1000 then number_behind (10 * n + (b - 48)) bs else None
-
-abbrev pub if_number : Option ℕ → Option ℕ
-if_number None = None
-if_number (Some n) = if nat_le 1 n && nat_le n 254 then Some n else None
 
 abbrev pub number_of : List ℕ → Option ℕ
 number_of [] = None
@@ -112,9 +87,6 @@ member_in forms.SecurityLevel w = security_level_of (parted w)
 member_in forms.Category w = category_of (id_named w)
 
 -- DELMEM has the names alone.
-abbrev pub id_name : List ℕ → Option Spelled
-id_name t = if is_ok (id_of t) then result_ok (member_of General t) else None
-
 abbrev pub dropped_in : MemberForm → List ℕ → Option Spelled
 dropped_in (forms.Access kind) w = member_named kind w
 dropped_in forms.SecurityLevel w = id_name (map upper w)

@@ -1,6 +1,5 @@
 -- The values of positional words and operands: what is read, and how a value is written.
-use Rattle.std.specs.Prelude.{ℕ, List, [], ◌∷◌, ◌++◌, Bool, true, false, ◌&&◌, ◌==◌, nat_le, length, map, find, codes, bytes_eq, if◌then◌else◌, Option, None, Some, Result, Ok, Err}
-use Rattle.std.specs.List.{list_all}
+use Rattle.std.specs.Prelude.{ℕ, List, [], ◌∷◌, ◌++◌, Bool, true, false, ◌==◌, map, find, codes, bytes_eq, if◌then◌else◌, Option, None, Some, Result, Ok, Err}
 use Rattle.access_levels.specs.Level.{authority_name, level_name}
 use Rattle.generic_names.specs.Spelled.{Spelled}
 use Rattle.generic_names.specs.Covers.{is_generic}
@@ -16,17 +15,20 @@ use Rattle.command_values.specs.declared.value_kinds.ValueKind.{ValueKind}
 use Rattle.command_values.specs.declared.value_kinds.ValueKind.TheVariants as kinds
 use Rattle.command_values.specs.declared.values.Content.{Content}
 use Rattle.command_values.specs.declared.values.Content.TheVariants as contents
-use Rattle.command_values.specs.declared.values.Reset.{Reset}
-use Rattle.command_values.specs.declared.values.Reset.TheVariants as resets
+use Rattle.command_fields.specs.declared.resets.Reset.{Reset}
+use Rattle.command_fields.specs.declared.resets.Reset.TheVariants as resets
 use Rattle.command_values.specs.declared.values.Scope.{Scope}
 use Rattle.command_values.specs.Results.{◌>>=◌, or_fault}
 use Rattle.command_values.specs.NamedWords.{id_named, group_named, level_named, authority_named}
 use Rattle.command_values.specs.WordsOfValues.{clean, refused_at, word_of, stray, held, unless_stray}
-use Rattle.command_values.specs.ProfileNames.{dataset_named, class_profile, profile_text}
+use Rattle.command_fields.specs.ProfileNames.{dataset_named, class_profile, profile_text}
+use Rattle.command_fields.specs.UserNames.{is_name}
+use Rattle.command_fields.specs.Resets.{reset_name}
 use Rattle.command_values.specs.Audits.{audit_rule, audit_text}
-use Rattle.command_values.specs.Members.{member_form, added, dropped, member_text}
+use Rattle.command_values.specs.Members.{added, dropped, member_text}
+use Rattle.command_fields.specs.MemberForms.{member_form}
 use Rattle.command_values.specs.Entries.{whos_text, port, port_text}
-use Rattle.command_values.specs.declared.log_options.LogClause.{LogClause}
+use Rattle.command_fields.specs.declared.log_clauses.LogClause.{LogClause}
 use Rattle.command_values.specs.LogOptions.{log_option_name, log_option_of, unless_given, put_clause}
 use Rattle.racf_profiles.specs.declared.class_rows.LogOption.{LogOption}
 use Rattle.access_levels.specs.declared.entries.Who.{Who}
@@ -38,13 +40,6 @@ abbrev pub unquoted : Bool → List ℕ → List ℕ → Option (List ℕ)
 unquoted met front [] = if met then Some front else None
 unquoted false front (b ∷ bs) = if b == 39 then unquoted true front bs else unquoted false (front ++ b ∷ []) bs
 unquoted true front (b ∷ bs) = if b == 39 then unquoted false (front ++ 39 ∷ []) bs else None
-
--- a user's name has 1 to 20 bytes from X'20' to X'7E'
-abbrev pub is_printable : ℕ → Bool
-is_printable b = nat_le 32 b && nat_le b 126
-
-abbrev pub is_name : List ℕ → Bool
-is_name t = nat_le 1 (length t) && nat_le (length t) 20 && list_all is_printable t
 
 abbrev pub if_name : Option (List ℕ) → Option (List ℕ)
 if_name None = None
@@ -69,11 +64,6 @@ name_of kinds.Class w = id_named w
 name_of k w = None
 
 -- Which access lists RESET empties.
-abbrev pub reset_name : Reset → List ℕ
-reset_name resets.All = codes "ALL"
-reset_name resets.Standard = codes "STANDARD"
-reset_name resets.When = codes "WHEN"
-
 abbrev pub all_resets : List Reset
 all_resets = resets.All ∷ resets.Standard ∷ resets.When ∷ []
 

@@ -15,8 +15,8 @@ ghost use Rattle.command_values.specs.declared.value_kinds.ValueKind.TheVariants
 use crate::faults::{ParseFault, Syntax};
 use crate::named_words::{id_named, port_class_named};
 use crate::value_words::{clean, held, refused_at, stray, unless_stray, word_of};
-use crate::values::Whos;
 use access_levels::{Condition, Id, Who};
+use command_fields::Whos;
 use command_words::{Quoting, Tokens, ValuedWord};
 use std::alloc::{AllocError, Global};
 

@@ -4,7 +4,8 @@
 //! A `Content` is a value that was read. `value` reads what stands in an operand's parentheses, `one` the word of a
 //! positional place, `bare` an operand alone; each answers the value or the first fault. `push_content` writes it. What
 //! a value may depend on beside its text, the issuer and the class and the profile in front, is a `Scope`. The words
-//! come from `command_words`, and `command_grammar` says which operand takes which kind.
+//! come from `command_words`, the lists that are handed on from `command_fields`, and `command_grammar` says which operand
+//! takes which kind.
 //!
 //! ```text
 //! let level = value(alloc, &scope, ValueKind::Level, place, Tokens::new(b"read"))?;
@@ -26,8 +27,8 @@ mod value_reading;
 mod value_words;
 mod values;
 
+pub use command_fields::{Ids, LogClause, LogClauses, MemberNames, Reset, Whos};
 pub use faults::{ParseFault, Syntax};
-pub use log_options::{LogClause, LogClauses};
 pub use named_words::{group_named, id_named, level_named, port_class_named};
 pub use operand_words::{Word, is_same};
 pub use profile_names::{any_named, is_unclosed};
@@ -35,4 +36,4 @@ pub use value_kinds::ValueKind;
 pub use value_printing::push_content;
 pub use value_reading::{bare, one, value};
 pub use value_words::{clean, held, unless_stray};
-pub use values::{Content, Context, Ids, Known, MemberNames, ProfileName, Reset, Scope, Whos};
+pub use values::{Content, Context, Known, ProfileName, Scope};

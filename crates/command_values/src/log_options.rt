@@ -13,33 +13,10 @@ use crate::faults::{ParseFault, Syntax};
 use crate::value_kinds::ValueKind;
 use crate::value_reading::some_names;
 use crate::value_words::{clean, refused_at};
-use crate::values::Ids;
+use command_fields::{LogClause, LogClauses};
 use command_words::{Quoting, Tokens, ValuedWord, is_spelled};
 use racf_profiles::LogOption;
 use std::alloc::{AllocError, Global};
-use std::marker::Model;
-
-/// A word of LOGOPTIONS, and the classes under it.
-#[derive(Drop)]
-pub struct LogClause {
-    pub option: LogOption,
-    pub classes: Ids,
-}
-
-/// Words of LOGOPTIONS with their classes, in the order in which they apply.
-#[derive(Drop)]
-pub struct LogClauses {
-    pub items: Vec<LogClause>,
-}
-
-impl Model for LogClauses {
-    ghost use Rattle.std.specs.Prelude.{List};
-    ghost use Rattle.command_values.specs.declared.log_options.LogClause.{LogClause};
-
-    ghost Value = { List LogClause };
-
-    ghost view = { λ clauses. clauses.items.items };
-}
 
 /// The words of LOGOPTIONS (z/OS Security Server RACF Command Language Reference, SETROPTS), in the order in which they
 /// apply. DEFAULT leaves it to each profile.

@@ -6,29 +6,21 @@ ghost use Rattle.command_words.specs.Tokens.{tokens};
 ghost use Rattle.command_words.specs.ValuedWords.{valued_words};
 ghost use Rattle.command_values.specs.Results.{Gives};
 ghost use Rattle.command_values.specs.NamedWords.{id_named as id_in};
-ghost use Rattle.command_values.specs.Members.{access_form as form_of_access, secdata_form as form_of_secdata, form_by_class as form_in_class, member_form as form_known, whole_text as text_whole, member_named as named_member, parted as parts_of, number_behind, if_number as in_range, number_of, access_of, security_level_of, category_of, member_in as member_read, id_name as name_of_id, dropped_in as dropped_read, each_of, added as added_in, dropped as dropped_by};
+ghost use Rattle.command_values.specs.Members.{whole_text as text_whole, member_named as named_member, parted as parts_of, number_behind, number_of, access_of, security_level_of, category_of, member_in as member_read, dropped_in as dropped_read, each_of, added as added_in, dropped as dropped_by};
+ghost use Rattle.command_fields.specs.MemberForms.{access_form as form_of_access, secdata_form as form_of_secdata, form_by_class as form_in_class, member_form as form_known};
+ghost use Rattle.command_fields.specs.LawfulMembers.{if_number as in_range, id_name as name_of_id};
 
 use crate::faults::{ParseFault, Syntax};
 use crate::named_words::{id_named, level_named};
 use crate::profile_names::{folded_word, in_quotes};
 use crate::value_words::word_of;
-use crate::values::{Known, MemberNames};
+use crate::values::Known;
 use access_levels::{Id, Level};
+use command_fields::{MemberForm, MemberNames};
 use command_words::{Quoting, Tokens};
 use generic_names::{MemberName, NameKind};
 use racf_profiles::{Member, Members, kind_of_class};
 use std::alloc::{AllocError, Global};
-
-/// What the members of a profile are.
-#[derive(Clone, Copy, Debug, PartialEq, Eq)]
-pub enum MemberForm {
-    /// Names of this kind, each with the access that everyone has.
-    Access(NameKind),
-    /// Names of security levels, each with its number.
-    SecurityLevel,
-    /// Names of security categories.
-    Category,
-}
 
 /// The form of members of a profile of GLOBAL.
 fn access_form(profile: &[u8]) -> MemberForm
@@ -62,7 +54,7 @@ fn form_by_class(class: &[u8], profile: &[u8]) -> Option<MemberForm>
 }
 
 /// What the members of the profile are that a command names, if its class has members.
-#[tactic(auto, unfolding(crate::specs::Members::member_form))]
+#[tactic(auto, unfolding(command_fields::specs::MemberForms::member_form))]
 pub fn member_form(known: &Known) -> Option<MemberForm>
     ensures { result ≡ form_known known.now.class known.now.profile }
 {

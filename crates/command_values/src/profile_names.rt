@@ -4,7 +4,7 @@ ghost use Rattle.std.specs.Prelude.{◌≡◌, ◌==◌, ◌++◌, ◌<◌, leng
 ghost use Rattle.std.specs.List.{list_any};
 ghost use Rattle.access_levels.specs.Spelling.{id_of};
 ghost use Rattle.command_words.specs.Bytes.{upper};
-ghost use Rattle.command_values.specs.ProfileNames.{dataset_profile as profile_of_dataset, general_profile as profile_general, if_label, is_level_or_category as names_level_or_category, profile_in as profile_by_form, form_in as names_in, general_form as form_general, class_profile as profile_of_class, in_quotes as text_in_quotes, dataset_text as text_of_dataset, dataset_named as dataset_by_word, is_unclosed as begins_unclosed, named_by_form as profile_by_word, any_named as profile_of_any};
+ghost use Rattle.command_fields.specs.ProfileNames.{dataset_profile as profile_of_dataset, general_profile as profile_general, if_label, is_level_or_category as names_level_or_category, profile_in as profile_by_form, form_in as names_in, general_form as form_general, class_profile as profile_of_class, in_quotes as text_in_quotes, dataset_text as text_of_dataset, dataset_named as dataset_by_word, is_unclosed as begins_unclosed, named_by_form as profile_by_word, any_named as profile_of_any};
 
 use access_levels::Id;
 use command_words::folded;
@@ -91,7 +91,7 @@ fn profile_in(form: NameForm, text: &[u8]) -> Option<Pattern>
 }
 
 /// The form of the names of profiles in a class.
-#[tactic(auto, unfolding(crate::specs::ProfileNames::form_in))]
+#[tactic(auto, unfolding(command_fields::specs::ProfileNames::form_in))]
 fn form_in(class: Id) -> NameForm
     ensures { result ≡ names_in class }
 {

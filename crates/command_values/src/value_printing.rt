@@ -1,16 +1,17 @@
 //! How values are written.
 
-ghost use Rattle.std.specs.Prelude.{◌≡◌, ◌++◌, ◌∷◌, [], map, OnOk};
+ghost use Rattle.std.specs.Prelude.{◌≡◌, ◌++◌, ◌∷◌, [], map, OnErr, OnOk};
 ghost use Rattle.command_words.specs.Quotes.{doubled};
-ghost use Rattle.command_values.specs.ProfileNames.{profile_text};
+ghost use Rattle.command_fields.specs.ProfileNames.{profile_text};
 ghost use Rattle.command_values.specs.Audits.{half_text, audit_text};
 ghost use Rattle.command_values.specs.Members.{number_text, member_text};
 ghost use Rattle.command_values.specs.Entries.{who_text, whos_text, port_text};
 ghost use Rattle.command_values.specs.Values.{ids_text, clause_text, text_of};
 
-use crate::log_options::{LogClause, log_option_name};
+use crate::log_options::log_option_name;
 use crate::values::Content;
 use access_levels::{Condition, Id, Level, Text, Who};
+use command_fields::LogClause;
 use generic_names::{MemberName, NameKind, Pattern};
 use racf_profiles::{AuditRule, Member};
 use std::alloc::AllocError;
@@ -238,8 +239,18 @@ fn push_clauses(out: &mut Vec<u8>, clauses: &[LogClause]) -> Result<(), AllocErr
     Ok(())
 }
 
-/// Writes a value, without the parentheses of an operand.
+/// Writes a value, without the parentheses of an operand. Where memory is short, `out` stays as it was.
 pub fn push_content(out: &mut Vec<u8>, content: &Content) -> Result<(), AllocError>
+    ensures text { OnOk result (out.new.items ≡ out.old.items ++ text_of content.now) }
+    ensures kept { OnErr result (out.new.items ≡ out.old.items) }
+{
+    let mut text = Vec::new(*out.allocator());
+    push_text(&mut text, content)?;
+    out.extend_from_slice(&text)
+}
+
+/// The same, where `out` may keep the front of the value when memory is short.
+fn push_text(out: &mut Vec<u8>, content: &Content) -> Result<(), AllocError>
     ensures { OnOk result (out.new.items ≡ out.old.items ++ text_of content.now) }
 {
     match content {

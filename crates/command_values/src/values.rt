@@ -1,55 +1,11 @@
 //! The values of positional words and operands.
 
-use crate::log_options::LogClauses;
-use access_levels::{Condition, GroupAuthority, Id, Level, Text, Who};
-use generic_names::{MemberName, Pattern};
+use access_levels::{Condition, GroupAuthority, Id, Level, Text};
+use command_fields::{Ids, LogClauses, MemberNames, Reset, Whos};
+use generic_names::Pattern;
 use racf_profiles::{AuditRule, Members};
 use std::alloc::{AllocError, Global};
 use std::marker::Model;
-
-/// Names in the order in which they were given.
-#[derive(Debug, Drop)]
-pub struct Ids {
-    pub items: Vec<Id>,
-}
-
-impl Model for Ids {
-    ghost use Rattle.std.specs.Prelude.{List, ℕ};
-
-    ghost Value = { List (List ℕ) };
-
-    ghost view = { λ ids. ids.items.items };
-}
-
-/// Users and groups in the order in which they were given, or `*` alone.
-#[derive(Debug, Drop)]
-pub struct Whos {
-    pub items: Vec<Who>,
-}
-
-impl Model for Whos {
-    ghost use Rattle.std.specs.Prelude.{List};
-    ghost use Rattle.access_levels.specs.declared.entries.Who.{Who};
-
-    ghost Value = { List Who };
-
-    ghost view = { λ whos. whos.items.items };
-}
-
-/// Names of members in the order in which they were given.
-#[derive(Drop)]
-pub struct MemberNames {
-    pub items: Vec<MemberName>,
-}
-
-impl Model for MemberNames {
-    ghost use Rattle.std.specs.Prelude.{List};
-    ghost use Rattle.generic_names.specs.Spelled.{Spelled};
-
-    ghost Value = { List Spelled };
-
-    ghost view = { λ names. names.items.items };
-}
 
 /// The name of a profile, seen by contracts as that name. It lies in memory of its own, since it takes many times the
 /// room of all the other values, which are moved often.
@@ -87,34 +43,8 @@ impl ProfileName {
     }
 }
 
-/// Which access lists PERMIT empties.
-#[derive(Clone, Copy, Debug, PartialEq, Eq)]
-pub enum Reset {
-    /// Both.
-    All,
-    Standard,
-    /// The conditional one.
-    When,
-}
-
 /// The words of RESET.
 pub const RESETS: [Reset; 3] = [Reset::All, Reset::Standard, Reset::When];
-
-impl Reset {
-    ghost use Rattle.std.specs.Prelude.{◌≡◌};
-    ghost use Rattle.command_values.specs.Values.{reset_name};
-
-    /// The word that spells it.
-    pub fn name(self) -> &'static [u8]
-        ensures { result.now ≡ reset_name self }
-    {
-        match self {
-            Reset::All => b"ALL".as_slice(),
-            Reset::Standard => b"STANDARD".as_slice(),
-            Reset::When => b"WHEN".as_slice(),
-        }
-    }
-}
 
 /// The value of a positional word or an operand.
 #[derive(Drop)]

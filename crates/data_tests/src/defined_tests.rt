@@ -53,7 +53,7 @@ fn changed_by(
 type Change = ([u8; 2], u32, &'static str);
 
 /// Rows that come, are replaced and go.
-const CHANGES: [Change; 8] = [
+const CHANGES: &[Change] = &[
     (*b"PA", 1, "PA"),
     (*b"BO", 2, "PABO"),
     (*b"ZZ", 3, "PABOZZ"),
@@ -72,19 +72,30 @@ fn changed_and_shared(
     number: u32,
 ) -> DefinedRows<Item> {
     let changed = changed_by(rt.alloc(), table, name, number).expect(rt, "memory");
-    changed.share(rt.alloc()).expect(rt, "memory")
+    let shared = changed.share(rt.alloc()).expect(rt, "memory");
+    drop(changed);
+    shared
 }
 
-/// The changed table, which has what the row says. The table before it stays as it was.
-fn later(
+/// Whether a table has these keys, and this number under the name.
+fn is_as_told(
     rt: &(impl AllocGlobal + Abort),
     table: &DefinedRows<Item>,
-    before: &str,
     (name, number, keys): Change,
+) -> bool {
+    has_keys(rt, table, keys) && number_of(table, &name) == number
+}
+
+/// The changed table, which has what the row says. The table before it, which is let go, stays as it was until then.
+fn later(
+    rt: &(impl AllocGlobal + Abort),
+    table: DefinedRows<Item>,
+    before: &str,
+    row: Change,
 ) -> DefinedRows<Item> {
-    let later = changed_and_shared(rt, table, name, number);
-    assert!(rt; has_keys(rt, table, before));
-    assert!(rt; has_keys(rt, &later, keys) && number_of(&later, &name) == number);
+    let later = changed_and_shared(rt, &table, row.0, row.1);
+    assert!(rt; has_keys(rt, &table, before) && is_as_told(rt, &later, row));
+    drop(table);
     later
 }
 
@@ -94,11 +105,12 @@ fn later(
 fn worked_rows(rt: HostRuntime) {
     let mut table = DefinedRows::new(rt.alloc());
     let mut before = "";
-    for row in &CHANGES {
-        table = later(&rt, &table, before, *row);
+    for row in CHANGES {
+        table = later(&rt, table, before, *row);
         before = row.2;
     }
     assert!(rt; !table.is_empty());
+    drop(table);
 }
 
 /// A row of a plain list.
@@ -128,21 +140,29 @@ fn is_same(table: &DefinedRows<Item>, plain: &[Plain]) -> bool {
     table.len() == plain.len()
 }
 
-/// The table with a row put, or without it at each third number, and the same change made of a plain list.
+/// Puts a row into a plain list, or takes it out at each third number. The number that the row then has, 0 where it
+/// went.
+fn change(rt: &impl Abort, plain: &mut Vec<Plain>, name: [u8; 2], number: u32) -> u32 {
+    if number % 3 == 0 {
+        plain.retain(|item| item.0 != name);
+        return 0;
+    }
+    assert!(rt; put(plain, name, number));
+    number
+}
+
+/// The table, which is let go, with the same change made of it and of a plain list.
 fn changed_beside(
     rt: &(impl AllocGlobal + Abort),
-    table: &DefinedRows<Item>,
+    table: DefinedRows<Item>,
     plain: &mut Vec<Plain>,
     name: [u8; 2],
     number: u32,
 ) -> DefinedRows<Item> {
-    if number % 3 == 0 {
-        plain.retain(|item| item.0 != name);
-        return table.without_row(rt.alloc(), &name).expect(rt, "memory");
-    }
-    assert!(rt; put(plain, name, number));
-    let row = Item { name, number };
-    table.with_row(rt.alloc(), row).expect(rt, "memory")
+    let number = change(rt, plain, name, number);
+    let changed = changed_by(rt.alloc(), &table, name, number).expect(rt, "memory");
+    drop(table);
+    changed
 }
 
 /// A table of some of 200 keys, changed 400 times, has just the rows of a plain list.
@@ -155,7 +175,8 @@ fn changes_like_a_plain_list(rt: HostRuntime) {
         random = random.wrapping_mul(1_664_525).wrapping_add(1_013_904_223);
         let place = (random >> 8) % 200;
         let name = [(place / 100) as u8, (place % 100) as u8];
-        table = changed_beside(&rt, &table, &mut plain, name, number);
+        table = changed_beside(&rt, table, &mut plain, name, number);
     }
     assert!(rt; is_same(&table, &plain));
+    drop(table);
 }

@@ -2,8 +2,8 @@
 
 use racf_files::FileShelf;
 use racf_outside::{
-    Failed, Failing, Line, LineFault, Lines, MemoryShelf, MemorySource, NeverSink, NeverSource,
-    Shelf, Sink, Source,
+    Failed, Failing, Line, LineFault, Lines, MemoryShelf, MemorySink, MemorySource, NeverSink,
+    NeverSource, Shelf, Sink, Source,
 };
 use std::alloc::Global;
 use std::fs;
@@ -30,24 +30,39 @@ fn tell_next<S: Source>(rt: &impl Abort, lines: &mut Lines<S>, told: &mut Vec<u8
     true
 }
 
-/// The lines of bytes in memory, each with a bar behind it.
-fn lines_of(rt: &(impl AllocGlobal + Abort), bytes: &[u8]) -> Vec<u8> {
-    let mut told = Vec::new(rt.alloc());
-    let source = NeverSource::new(list(rt, bytes));
-    let Ok(mut lines) = Lines::new(rt.alloc(), source) else {
-        panic!(rt; "no memory")
-    };
+/// Writes all lines behind a text, each with a bar behind it.
+fn tell_all<S: Source>(rt: &impl Abort, lines: &mut Lines<S>, told: &mut Vec<u8>) {
     for _ in 0..u64::MAX {
-        if !tell_next(rt, &mut lines, &mut told) {
+        if !tell_next(rt, lines, told) {
             break;
         }
     }
+}
+
+/// The lines of a source.
+fn begun<S: Source + Drop>(rt: &(impl AllocGlobal + Abort), source: S) -> Lines<S> {
+    match Lines::new(rt.alloc(), source) {
+        Ok(lines) => lines,
+        Err(_) => panic!(rt; "no memory"),
+    }
+}
+
+/// The lines of bytes in memory, each with a bar behind it.
+fn lines_of(rt: &(impl AllocGlobal + Abort), bytes: &[u8]) -> Vec<u8> {
+    let mut told = Vec::new(rt.alloc());
+    let mut lines = begun(rt, NeverSource::new(list(rt, bytes)));
+    tell_all(rt, &mut lines, &mut told);
     drop(lines.into_source());
     told
 }
 
+/// Whether bytes in memory have these lines, each with a bar behind it.
+fn has_lines(rt: &(impl AllocGlobal + Abort), bytes: &[u8], wanted: &[u8]) -> bool {
+    lines_of(rt, bytes).as_slice() == wanted
+}
+
 /// Inputs with their lines.
-const LINES: [(&[u8], &[u8]); 11] = [
+const LINES: &[(&[u8], &[u8])] = &[
     (b"", b""),
     (b"A", b"A|"),
     (b"A\n", b"A|"),
@@ -63,27 +78,35 @@ const LINES: [(&[u8], &[u8]); 11] = [
 
 #[test]
 fn lines_are_those_of_the_input(rt: HostRuntime) {
-    for (input, wanted) in &LINES {
-        assert!(rt; lines_of(&rt, input).as_slice() == *wanted);
+    for (input, wanted) in LINES {
+        assert!(rt; has_lines(&rt, input, wanted));
     }
 }
 
-/// The lines of an input of as many letters as this, and then `end`.
-fn lines_of_letters(rt: &(impl AllocGlobal + Abort), count: usize, end: &[u8]) -> Vec<u8> {
-    let Ok(mut bytes) = vec![in rt.alloc(); b'A'; count] else {
-        panic!(rt; "no memory")
-    };
-    assert!(rt; bytes.extend_from_slice(end).is_ok());
-    lines_of(rt, &bytes)
+/// As many letters as this, and then `end`.
+fn letters(rt: &(impl AllocGlobal + Abort), count: usize, end: &[u8]) -> Vec<u8> {
+    let mut bytes = vec![in rt.alloc(); b'A'; count].expect(rt, "memory");
+    bytes.extend_from_slice(end).expect(rt, "memory");
+    bytes
+}
+
+/// Whether an input of as many letters as this, and then `end`, has these lines.
+fn letters_have_lines(
+    rt: &(impl AllocGlobal + Abort),
+    count: usize,
+    end: &[u8],
+    wanted: &[u8],
+) -> bool {
+    has_lines(rt, &letters(rt, count, end), wanted)
 }
 
 /// 4,096 bytes are a line, a carriage return counted, and one more is too many; a line that crosses a block is whole.
 #[test]
 fn long_lines_are_told(rt: HostRuntime) {
-    assert!(rt; lines_of_letters(&rt, 4_096, b"\nB").len() == 4_099);
-    assert!(rt; lines_of_letters(&rt, 4_097, b"\nB").as_slice() == b"?|B|".as_slice());
-    assert!(rt; lines_of_letters(&rt, 4_096, b"\r\nB").as_slice() == b"?|B|".as_slice());
-    assert!(rt; lines_of_letters(&rt, 200_000, b"").as_slice() == b"?|".as_slice());
+    assert!(rt; letters_have_lines(&rt, 4_096, b"\nB", &letters(&rt, 4_096, b"|B|")));
+    assert!(rt; letters_have_lines(&rt, 4_097, b"\nB", b"?|B|"));
+    assert!(rt; letters_have_lines(&rt, 4_096, b"\r\nB", b"?|B|"));
+    assert!(rt; letters_have_lines(&rt, 200_000, b"", b"?|"));
 }
 
 /// Whether the lines that are asked for hold a line as told, and are then read.
@@ -91,30 +114,43 @@ fn holds<S: Source>(lines: &mut Lines<S>, held: bool) -> bool {
     lines.holds_line() == held && lines.next().is_ok()
 }
 
+/// Whether the second of three lines alone is held before it is asked for, and none is behind them.
+fn holds_the_second<S: Source>(lines: &mut Lines<S>) -> bool {
+    holds(lines, false) && holds(lines, true) && holds(lines, false) && holds(lines, false)
+}
+
 #[test]
 fn lines_are_held(rt: HostRuntime) {
-    let source = NeverSource::new(list(&rt, b"A\nB\nC"));
-    let Ok(mut lines) = Lines::new(rt.alloc(), source) else {
-        panic!(rt; "no memory")
-    };
-    for held in [false, true, false, false] {
-        assert!(rt; holds(&mut lines, held));
-    }
+    let mut lines = begun(&rt, NeverSource::new(list(&rt, b"A\nB\nC")));
+    assert!(rt; holds_the_second(&mut lines));
     drop(lines.into_source());
+}
+
+/// Whether the next line, or the fault in its place, is this.
+fn is_next<S: Source>(lines: &mut Lines<S>, wanted: Result<Line, LineFault>) -> bool {
+    lines.next() == wanted
+}
+
+/// Whether a line is given, then the fault of a read, and then the end as often as it is asked for.
+fn fails_at_the_second<S: Source>(lines: &mut Lines<S>) -> bool {
+    is_next(lines, Ok(Line::Text(b"A")))
+        && is_next(lines, Err(LineFault::ReadFault))
+        && is_next(lines, Ok(Line::End))
+        && is_next(lines, Ok(Line::End))
+}
+
+/// Whether the lines of a source whose second read fails are given so, and it has one fault.
+fn counts_a_fault(rt: &(impl AllocGlobal + Abort)) -> bool {
+    let source = MemorySource::new(list(rt, b"A\nB"), list(rt, &[2]));
+    let mut lines = begun(rt, source);
+    let told = fails_at_the_second(&mut lines);
+    lines.into_source().faults() == 1 && told
 }
 
 /// The second read fails: the line that has begun isn't given, and the third read goes on behind it.
 #[test]
 fn faults_are_counted(rt: HostRuntime) {
-    let source = MemorySource::new(list(&rt, b"A\nB"), list(&rt, &[2]));
-    let Ok(mut lines) = Lines::new(rt.alloc(), source) else {
-        panic!(rt; "no memory")
-    };
-    assert!(rt; lines.next() == Ok(Line::Text(b"A")));
-    assert!(rt; lines.next() == Err(LineFault::ReadFault));
-    assert!(rt; lines.next() == Ok(Line::End));
-    assert!(rt; lines.next() == Ok(Line::End));
-    assert!(rt; lines.into_source().faults() == 1);
+    assert!(rt; counts_a_fault(&rt));
     assert!(rt; NeverSink.write(b"four") == Ok(4));
 }
 
@@ -146,10 +182,9 @@ fn failing_shelf(rt: &(impl AllocGlobal + Abort)) -> MemoryShelf {
         writes: list(rt, &[2]),
     };
     let mut shelf = MemoryShelf::new(rt.alloc(), failing);
-    let put = shelf.put("in", list(rt, b"text"), Vec::new(rt.alloc()));
-    assert!(rt; put.is_ok());
-    let put = shelf.put("bad", list(rt, b"text"), list(rt, &[1]));
-    assert!(rt; put.is_ok());
+    let first = shelf.put("in", list(rt, b"text"), Vec::new(rt.alloc()));
+    let second = shelf.put("bad", list(rt, b"text"), list(rt, &[1]));
+    assert!(rt; first.is_ok() && second.is_ok());
     shelf
 }
 
@@ -159,7 +194,7 @@ fn tells(shelf: &MemoryShelf, text: &str) -> bool {
 }
 
 /// Inputs that are copied to the output, whether they could be, and the output that is then told.
-const OPENINGS: [(&str, bool, &str); 6] = [
+const OPENINGS: &[(&str, bool, &str)] = &[
     ("in", true, "text"),
     ("in", false, "text"),
     ("bad", false, ""),
@@ -168,35 +203,48 @@ const OPENINGS: [(&str, bool, &str); 6] = [
     ("in", true, "text"),
 ];
 
-#[test]
-fn openings_fail_as_told(rt: HostRuntime) {
-    let mut shelf = failing_shelf(&rt);
-    for (input, copied, told) in &OPENINGS {
-        assert!(rt; copies(&mut shelf, input, "out") == *copied);
-        assert!(rt; tells(&shelf, told));
+/// Whether an input could be copied to the output of a shelf or not, as told here, and which output is then told.
+fn opens_as_told(shelf: &mut MemoryShelf, input: &str, copied: bool, told: &str) -> bool {
+    copies(shelf, input, "out") == copied && tells(shelf, told)
+}
+
+/// Opens the input of each row, one behind the other.
+fn open_all(rt: &impl Abort, shelf: &mut MemoryShelf) {
+    for (input, copied, told) in OPENINGS {
+        assert!(rt; opens_as_told(shelf, input, *copied, told));
     }
 }
 
+#[test]
+fn openings_fail_as_told(rt: HostRuntime) {
+    open_all(&rt, &mut failing_shelf(&rt));
+}
+
 /// Whether of two writes the second fails, and the sink has what the first wrote.
-fn fails_second<S: Sink>(sink: &mut S) -> bool {
-    sink.write(b"one ") == Ok(4) && sink.write(b"two ") == Err(Failed)
+fn fails_second(sink: &mut MemorySink) -> bool {
+    sink.write(b"one ") == Ok(4)
+        && sink.write(b"two ") == Err(Failed)
+        && sink.bytes() == b"one ".as_slice()
+        && sink.faults() == 1
+}
+
+/// Whether the second write of an output fails, which has no bytes until it is given back, and then those of the first.
+fn gives_the_first(shelf: &mut MemoryShelf) -> bool {
+    let Ok(mut sink) = shelf.sink("out") else {
+        return false;
+    };
+    let told = fails_second(&mut sink) && shelf.output("out").is_none();
+    shelf.give_back("out", sink);
+    told && tells(shelf, "one ")
 }
 
 #[test]
 fn writes_fail_as_told(rt: HostRuntime) {
-    let mut shelf = failing_shelf(&rt);
-    let Ok(mut sink) = shelf.sink("out") else {
-        panic!(rt; "no sink")
-    };
-    assert!(rt; fails_second(&mut sink));
-    assert!(rt; sink.bytes() == b"one ".as_slice() && sink.faults() == 1);
-    assert!(rt; shelf.output("out").is_none());
-    shelf.give_back("out", sink);
-    assert!(rt; tells(&shelf, "one "));
+    assert!(rt; gives_the_first(&mut failing_shelf(&rt)));
 }
 
 /// Inputs and outputs, and whether the one could be copied to the other.
-const COPIES: [(&str, &str, bool); 6] = [
+const COPIES: &[(&str, &str, bool)] = &[
     ("-", "-", true),
     ("shelf.in", "shelf.out", true),
     ("shelf.out", "./shelf.out", false),
@@ -213,20 +261,44 @@ fn has_text(rt: &HostRuntime, name: &str, text: &str) -> bool {
     }
 }
 
+/// Whether the file could be written with this text.
+fn is_written(rt: &HostRuntime, name: &str, text: &str) -> bool {
+    fs::write(rt, name, text).is_ok()
+}
+
+/// Whether a shelf copies its files, and refuses to, as told.
+fn copies_as_told<F: Shelf>(files: &mut F) -> bool {
+    for (input, output, copied) in COPIES {
+        if copies(files, input, output) != *copied {
+            return false;
+        }
+    }
+    true
+}
+
+/// Whether no input is lost by the copies. Once it is closed, an input is a file like any other.
+fn keeps_its_inputs<F: Shelf>(rt: &HostRuntime, files: &mut F) -> bool {
+    copies_as_told(files)
+        && has_text(rt, "shelf.in", "text")
+        && has_text(rt, "shelf.out", "text")
+        && is_written(rt, "shelf.in", "longer text")
+        && copies(files, "shelf.out", "shelf.link")
+        && has_text(rt, "shelf.in", "text")
+}
+
+/// Whether a shelf of files loses no input.
+fn keeps_files(rt: &HostRuntime) -> bool {
+    match rt.clone() {
+        Ok(runtime) => keeps_its_inputs(rt, &mut FileShelf::new(rt.alloc(), runtime)),
+        Err(_) => false,
+    }
+}
+
 #[test]
 fn files_are_not_lost(rt: HostRuntime) {
-    let mut files = FileShelf::new(rt.alloc(), rt.clone().expect(&rt, "a runtime"));
-    assert!(rt; fs::write(&rt, "shelf.in", "text").is_ok());
+    assert!(rt; is_written(&rt, "shelf.in", "text"));
     assert!(rt; fs::hard_link(&rt, "shelf.in", "shelf.link").is_ok());
-    for (input, output, copied) in &COPIES {
-        assert!(rt; copies(&mut files, input, output) == *copied);
-    }
-    assert!(rt; has_text(&rt, "shelf.in", "text") && has_text(&rt, "shelf.out", "text"));
-
-    // Once it is closed, an input is a file like any other.
-    assert!(rt; fs::write(&rt, "shelf.in", "longer text").is_ok());
-    assert!(rt; copies(&mut files, "shelf.out", "shelf.link"));
-    assert!(rt; has_text(&rt, "shelf.in", "text"));
+    assert!(rt; keeps_files(&rt));
     for name in ["shelf.in", "shelf.link", "shelf.out"] {
         assert!(rt; fs::remove_file(&rt, name).is_ok());
     }

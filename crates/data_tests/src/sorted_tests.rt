@@ -65,7 +65,7 @@ fn has_keys(rt: &(impl AllocGlobal + Abort), table: &SortedRows<Item>, keys: &st
 type Change = ([u8; 2], u32, &'static str);
 
 /// Rows that come, are replaced and go.
-const CHANGES: [Change; 7] = [
+const CHANGES: &[Change] = &[
     (*b"PA", 1, "PA"),
     (*b"BO", 2, "BOPA"),
     (*b"ZZ", 3, "BOPAZZ"),
@@ -75,15 +75,36 @@ const CHANGES: [Change; 7] = [
     (*b"XX", 0, "ANBOZZ"),
 ];
 
+/// The changed table. The one before it is let go.
+fn later(
+    rt: &(impl AllocGlobal + Abort),
+    table: SortedRows<Item>,
+    name: [u8; 2],
+    number: u32,
+) -> SortedRows<Item> {
+    let later = changed_by(rt, &table, name, number);
+    drop(table);
+    later
+}
+
+/// Whether a table has these keys, and this number under the name.
+fn is_as_told(
+    rt: &(impl AllocGlobal + Abort),
+    table: &SortedRows<Item>,
+    (name, number, keys): &Change,
+) -> bool {
+    has_keys(rt, table, keys) && number_of(table, name) == *number
+}
+
 /// Rows that come, are replaced and go, each with the keys that are then there, and the number of one of them.
 #[test]
 fn worked_rows(rt: HostRuntime) {
     let mut table = SortedRows::new(rt.alloc());
-    for (name, number, keys) in &CHANGES {
-        table = changed_by(&rt, &table, *name, *number);
-        assert!(rt; has_keys(&rt, &table, keys));
-        assert!(rt; number_of(&table, name) == *number);
+    for row in CHANGES {
+        table = later(&rt, table, row.0, row.1);
+        assert!(rt; is_as_told(&rt, &table, row));
     }
+    drop(table);
 }
 
 /// The key of one of 200 places.
@@ -112,8 +133,9 @@ fn changes_like_an_array(rt: HostRuntime) {
         random = random.wrapping_mul(1_664_525).wrapping_add(1_013_904_223);
         let place = (random >> 8) as usize % 200;
         let number = if change % 4 == 0 { 0 } else { change };
-        table = changed_by(&rt, &table, key_at(place), number);
+        table = later(&rt, table, key_at(place), number);
         numbers[place] = number;
     }
     assert!(rt; is_same(&table, &numbers));
+    drop(table);
 }

@@ -1,7 +1,6 @@
 //! A list in rows beside a plain list.
 ghost use Rattle.std.specs.Prelude.{◌≤◌};
 
-use std::process::Abort;
 use tiered_list::TieredList;
 
 /// Random numbers, the same in each run.
@@ -28,73 +27,88 @@ fn is_same(list: &TieredList<usize>, plain: &[usize]) -> bool {
     list.len() == plain.len()
 }
 
-/// Puts an item in at a place of both lists, if they are of one length.
-fn insert(
-    rt: &(impl AllocGlobal + Abort),
-    list: &mut TieredList<usize>,
-    plain: &mut Vec<usize>,
-    place: usize,
-    item: usize,
-) {
-    assert!(rt; list.len() == plain.len() && place <= plain.len());
-    assert!(rt; plain.insert(place, item).is_ok());
-    list.reserve(1).expect(rt, "memory");
+/// Puts an item in at a place of both lists, if they are of one length. Whether it could.
+fn insert(list: &mut TieredList<usize>, plain: &mut Vec<usize>, place: usize, item: usize) -> bool {
+    if list.len() != plain.len() || place > plain.len() {
+        return false;
+    }
+    if plain.insert(place, item).is_err() || list.reserve(1).is_err() {
+        return false;
+    }
     list.insert(place, item);
+    true
 }
 
-/// Puts an item in the place of another in both lists, if they are of one length.
+/// Puts an item in the place of another in both lists, if they are of one length. Whether it was the same in both.
 fn replace(
-    rt: &(impl AllocGlobal + Abort),
     list: &mut TieredList<usize>,
     plain: &mut Vec<usize>,
     place: usize,
     item: usize,
-) {
-    assert!(rt; list.len() == plain.len() && place < plain.len());
-    assert_eq!(rt; list.replace(place, item), plain[place], "{place}");
+) -> bool {
+    if list.len() != plain.len() || place >= plain.len() {
+        return false;
+    }
+    let before = plain[place];
     plain[place] = item;
+    list.replace(place, item) == before
 }
 
-/// Takes the item at a place out of both lists, if they are of one length.
-fn remove(
-    rt: &(impl AllocGlobal + Abort),
-    list: &mut TieredList<usize>,
-    plain: &mut Vec<usize>,
-    place: usize,
-) {
-    assert!(rt; list.len() == plain.len() && place < plain.len());
-    assert_eq!(rt; list.remove(place), plain.remove(place), "{place}");
+/// Takes the item at a place out of both lists, if they are of one length. Whether it was the same in both.
+fn remove(list: &mut TieredList<usize>, plain: &mut Vec<usize>, place: usize) -> bool {
+    if list.len() != plain.len() || place >= plain.len() {
+        return false;
+    }
+    list.remove(place) == plain.remove(place)
 }
 
-/// Makes room for one item, and puts it in at a random place of both lists.
-fn insert_anywhere(
-    rt: &(impl AllocGlobal + Abort),
-    numbers: &mut Numbers,
-    list: &mut TieredList<usize>,
-    plain: &mut Vec<usize>,
-    item: usize,
-) {
-    let place = numbers.up_to(plain.len());
-    insert(rt, list, plain, place, item);
+/// Puts 700 items in at random places of both lists. Whether it could.
+fn grow(numbers: &mut Numbers, list: &mut TieredList<usize>, plain: &mut Vec<usize>) -> bool {
+    for item in 0..700usize {
+        let place = numbers.up_to(plain.len());
+        if !insert(list, plain, place, item) {
+            return false;
+        }
+    }
+    true
+}
+
+/// Replaces each third of the first 600 items in both lists. Whether each was the same in both.
+fn replace_thirds(list: &mut TieredList<usize>, plain: &mut Vec<usize>) -> bool {
+    for third in 0..200usize {
+        if !replace(list, plain, 3 * third, 1_000 + third) {
+            return false;
+        }
+    }
+    true
+}
+
+/// Takes 700 items out of both lists at random places. Whether each was the same in both.
+fn shrink(numbers: &mut Numbers, list: &mut TieredList<usize>, plain: &mut Vec<usize>) -> bool {
+    for taken in 0..700usize {
+        let place = numbers.up_to(699 - taken);
+        if !remove(list, plain, place) {
+            return false;
+        }
+    }
+    true
+}
+
+/// Whether both lists stay the same while items are put in, replaced and taken out.
+fn is_alike(list: &mut TieredList<usize>, plain: &mut Vec<usize>) -> bool {
+    let mut numbers = Numbers(11);
+    grow(&mut numbers, list, plain)
+        && is_same(list, plain)
+        && replace_thirds(list, plain)
+        && is_same(list, plain)
+        && shrink(&mut numbers, list, plain)
+        && list.len() == 0
 }
 
 /// Items are put in at random places, and each third of what is then there is replaced. All are taken out again.
 #[test]
 fn rows_like_a_plain_list(rt: HostRuntime) {
-    let mut numbers = Numbers(11);
     let mut list = TieredList::new(rt.alloc());
     let mut plain = Vec::new(rt.alloc());
-    for item in 0..700usize {
-        insert_anywhere(&rt, &mut numbers, &mut list, &mut plain, item);
-    }
-    assert!(&rt; is_same(&list, &plain));
-    for third in 0..200usize {
-        replace(&rt, &mut list, &mut plain, 3 * third, 1_000 + third);
-    }
-    assert!(&rt; is_same(&list, &plain));
-    for taken in 0..700usize {
-        let place = numbers.up_to(699 - taken);
-        remove(&rt, &mut list, &mut plain, place);
-    }
-    assert_eq!(&rt; list.len(), 0);
+    assert!(rt; is_alike(&mut list, &mut plain));
 }

@@ -1,7 +1,7 @@
 //! Commands, given to a database.
 
 use anyhow::Result;
-use command_conflicts::Conflict;
+use command_rules::Conflict;
 use followed_images::{Followed, Outcome};
 
 /// Gives a command to the database, and prints why it is refused, if so.

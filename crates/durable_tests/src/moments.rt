@@ -118,7 +118,7 @@ enum Filler {
 }
 
 /// What is tried in the places that are in doubt.
-const FILLERS: [Filler; 7] = [
+const FILLERS: &[Filler] = &[
     Filler::Synced,
     Filler::Behind,
     Filler::Half,
@@ -196,7 +196,7 @@ pub(crate) fn assert_moment(
         behind: bytes_behind(rt, stop.row, stop.place.saturating_add(1)),
         doubt,
     };
-    for filler in &FILLERS {
+    for filler in FILLERS {
         assert_images(rt, stop, &moment, other.bytes(), *filler);
     }
 }

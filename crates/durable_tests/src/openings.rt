@@ -25,7 +25,7 @@ pub(crate) type Opening = (Pair, &'static str, Pair);
 /// with one in front of the record that isn't open, so that the record doesn't count; one whose last gate isn't there;
 /// and pairs of checkpoints, of which the one of the greater epoch counts, on equal epochs the first, and none whose
 /// head gate is closed.
-pub(crate) const OPENINGS: [Opening; 9] = [
+pub(crate) const OPENINGS: &[Opening] = &[
     (((First, EMPTY), BARE), AT_NONE, ((First, EMPTY), BARE)),
     (((First, JOE), BARE), AT_JOE, ((First, JOE), BARE)),
     (
@@ -72,7 +72,7 @@ pub(crate) const OPENINGS: [Opening; 9] = [
 /// ends within its fields; a record that isn't whole; records at whose place no such command is accepted, since the
 /// user isn't there, or is there already, or the issuer isn't there or may not give it; and one whose text isn't the
 /// canonical one. Beside a checkpoint of a lesser epoch it is the same: what counts is damaged.
-pub(crate) const REFUSED: [(Pair, Status); 17] = [
+pub(crate) const REFUSED: &[(Pair, Status)] = &[
     ((NOTHING, BARE), Status::NotFormatted),
     (((First, EMPTY), NOTHING), Status::NotFormatted),
     (

@@ -24,7 +24,7 @@ const NO_FILES: Pair = (NOTHING, NOTHING);
 const LETTERS: Pair = ((Nothing, b"ABCDEFGHIJKL"), (Nothing, b"XYZ"));
 
 /// Databases that aren't opened, and new ones.
-pub(crate) const OPENED: [Run; 16] = [
+pub(crate) const OPENED: &[Run] = &[
     // no database, and one that is damaged: nothing is opened
     (
         SCRIPT,
@@ -143,7 +143,7 @@ pub(crate) const OPENED: [Run; 16] = [
 ];
 
 /// Streams, checkpoints, and disks that fail under them.
-pub(crate) const WORKED: [Run; 15] = [
+pub(crate) const WORKED: &[Run] = &[
     // an input that isn't opened
     (
         SCRIPT,
@@ -279,7 +279,7 @@ pub(crate) const WORKED: [Run; 15] = [
 ];
 
 /// An issuer who is fixed: no line names another. His ID is read in letters of either case, and must be one.
-pub(crate) const ISSUED: [Run; 4] = [
+pub(crate) const ISSUED: &[Run] = &[
     (
         &["script", "--issuer", "ibmuser", "-", "-"],
         NEW,
@@ -319,9 +319,9 @@ pub(crate) const ISSUED: [Run; 4] = [
 ];
 
 /// The opening, the read and the write of the shelf that fail behind a fault of the disk, and what is printed then.
-pub(crate) const LATER_FAULTS: [([u64; 3], Run); 3] = [
+pub(crate) const LATER_FAULTS: &[((u64, u64, u64), Run)] = &[
     (
-        [0, 0, 0],
+        (0, 0, 0),
         (
             SCRIPT,
             NEW,
@@ -333,7 +333,7 @@ pub(crate) const LATER_FAULTS: [([u64; 3], Run); 3] = [
         ),
     ),
     (
-        [0, 2, 0],
+        (0, 2, 0),
         (
             SCRIPT,
             NEW,
@@ -345,7 +345,7 @@ pub(crate) const LATER_FAULTS: [([u64; 3], Run); 3] = [
         ),
     ),
     (
-        [0, 0, 1],
+        (0, 0, 1),
         (
             SCRIPT,
             NEW,

@@ -94,27 +94,37 @@ pub(crate) fn run(
     }
 }
 
+/// Whether a run ended as the row says, and a disk failed exactly where the status tells of it.
+fn is_as_asked(ended: &Ended, asked: &Run) -> bool {
+    let (_, _, _, _, (wanted, code), printed, left) = asked;
+    let disks = &ended.disks;
+    let faults = disks.first.faults().saturating_add(disks.second.faults());
+    ended.status == *wanted
+        && ended.status.code() == *code
+        && has_printed(&ended.shelf, *printed)
+        && read_as(disks, left)
+        && faults == u64::from(*wanted == Status::DiskFault)
+}
+
+/// Whether a run ends as the row says, over a shelf of which these calls fail.
+fn ends(
+    rt: &(impl AllocGlobal + Abort + Wait + Threads + Sync),
+    asked: &Run,
+    failing_shelf: [u64; 3],
+) -> bool {
+    let (words, held, failing, input, ..) = asked;
+    let disks = disks_of(rt, held, *failing, false);
+    let ended = run(rt, (words, input), failing_shelf, disks);
+    is_as_asked(&ended, asked)
+}
+
 /// Asserts how a run ends, over a shelf of which these calls fail.
 fn assert_ends(
     rt: &(impl AllocGlobal + Abort + Wait + Threads + Sync),
     asked: &Run,
     failing_shelf: [u64; 3],
 ) {
-    let (words, held, failing, input, (wanted, code), printed, left) = asked;
-    let disks = disks_of(rt, held, *failing, false);
-    let Ended {
-        status,
-        shelf,
-        disks,
-    } = run(rt, (words, input), failing_shelf, disks);
-    let faults = disks.first.faults().saturating_add(disks.second.faults());
-    assert!(rt; status == *wanted && status.code() == *code, "{input}");
-    assert!(rt; has_printed(&shelf, *printed), "{input}");
-    assert!(rt; read_as(&disks, left), "{input}");
-    assert!(rt;
-        faults == u64::from(*wanted == Status::DiskFault),
-        "{input}"
-    );
+    assert!(rt; ends(rt, asked, failing_shelf), "{}", asked.3);
 }
 
 /// Asserts how each of the runs ends. Where it is to open no output, the first opening of an input is to fail: only who
@@ -129,52 +139,52 @@ fn assert_all(rt: &(impl AllocGlobal + Abort + Wait + Threads + Sync), runs: &[R
 /// Runs that open no database, or make one, end so.
 #[test]
 fn databases_are_made(rt: HostRuntime) {
-    assert_all(&rt, &OPENED);
+    assert_all(&rt, OPENED);
 }
 
 /// Runs at a database end so.
 #[test]
 fn databases_are_worked(rt: HostRuntime) {
-    assert_all(&rt, &WORKED);
+    assert_all(&rt, WORKED);
 }
 
 /// Who gives the commands is told by the words.
 #[test]
 fn issuers_are_fixed(rt: HostRuntime) {
-    assert_all(&rt, &ISSUED);
+    assert_all(&rt, ISSUED);
 }
 
-/// Two files stand for a position, or are refused.
+/// Two files stand for a position.
 #[test]
 fn files_are_opened(rt: HostRuntime) {
-    for (held, answers, left) in &OPENINGS {
+    for (held, answers, left) in OPENINGS {
         let opened = (Status::Done, 0);
-        assert_all(
-            &rt,
-            &[(
-                SCRIPT,
-                *held,
-                (0, 0),
-                QUESTIONS,
-                opened,
-                Some(answers),
-                *left,
-            )],
+        let asked = (
+            SCRIPT,
+            *held,
+            (0, 0),
+            QUESTIONS,
+            opened,
+            Some(*answers),
+            *left,
         );
+        assert_ends(&rt, &asked, [0; 3]);
     }
-    for (held, fault) in &REFUSED {
-        let refused = (*fault, 24);
-        assert_all(
-            &rt,
-            &[(SCRIPT, *held, (0, 0), QUESTIONS, refused, None, *held)],
-        );
+}
+
+/// Or they are refused. The first opening of an input is to fail: only who has opened the database meets that.
+#[test]
+fn files_are_refused(rt: HostRuntime) {
+    for (held, fault) in REFUSED {
+        let asked = (SCRIPT, *held, (0, 0), QUESTIONS, (*fault, 24), None, *held);
+        assert_ends(&rt, &asked, [1, 0, 0]);
     }
 }
 
 /// Behind a fault of the disk a read or a write fails too: the status tells of the disk.
 #[test]
 fn a_fault_of_the_disk_counts_for_more(rt: HostRuntime) {
-    for (failing, asked) in &LATER_FAULTS {
-        assert_ends(&rt, asked, *failing);
+    for ((opening, read, write), asked) in LATER_FAULTS {
+        assert_ends(&rt, asked, [*opening, *read, *write]);
     }
 }

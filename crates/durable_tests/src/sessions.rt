@@ -106,253 +106,182 @@ fn judged(alloc: Global, desk: &mut Desk<MemoryDisk>, text: &[u8]) -> Answer
     kind_of(&reply)
 }
 
-/// The call of the first disk that fails; what is answered to `AU JOE`, `AU BOB` and `AX`, which is no command; and
-/// where the desk stands behind them. A new desk takes fourteen calls, and each accepted command four.
-const HALTS: [(u64, [Answer; 3], Stand); 6] = [
-    (
-        15,
-        [Answer::DiskFault(0), Answer::Halted(0), Answer::Halted(0)],
-        (0, [false; 3]),
-    ),
-    (
-        18,
-        [Answer::DiskFault(0), Answer::Halted(0), Answer::Halted(0)],
-        (0, [false; 3]),
-    ),
-    (
-        19,
-        [Answer::Accepted(1), Answer::DiskFault(1), Answer::Halted(1)],
-        (1, [true, false, false]),
-    ),
-    (
-        21,
-        [Answer::Accepted(1), Answer::DiskFault(1), Answer::Halted(1)],
-        (1, [true, false, false]),
-    ),
-    (
-        22,
-        [Answer::Accepted(1), Answer::DiskFault(1), Answer::Halted(1)],
-        (1, [true, false, false]),
-    ),
-    (
-        23,
-        [Answer::Accepted(1), Answer::Accepted(2), Answer::Other],
-        (2, [true, true, false]),
-    ),
-];
-
-/// Asserts that a new desk over disks of which that call fails answers so, and takes no more.
-fn assert_halts(rt: &(impl AllocGlobal + Abort), failing: u64, answers: [Answer; 3], stand: Stand) {
+/// Whether a new desk over disks of which that call of the first fails, or none, answers so to `AU JOE`, `AU BOB` and
+/// `AX`, which is no command, stands there behind them, and takes no more where it is halted. A new desk takes fourteen
+/// calls, and each accepted command four.
+fn halts(
+    rt: &(impl AllocGlobal + Abort),
+    failing: u64,
+    answers: [Answer; 3],
+    stand: Stand,
+) -> bool {
     let alloc = rt.alloc();
     let Ok(mut desk) = formatted(rt, disks_of(rt, &(NOTHING, BARE), (failing, 0), false)) else {
-        panic!(rt; "a disk failed")
+        return false;
     };
     let first = executed(alloc, &mut desk, b"AU JOE");
     let second = executed(alloc, &mut desk, b"AU BOB");
     let third = executed(alloc, &mut desk, b"AX");
     let last = judged(alloc, &mut desk, b"DU JOE");
     let halted = desk.halted();
-    let stands = stand_of(&desk);
-    let disks = desk.into_disks();
-    assert!(rt; [first, second, third] == answers, "at call {failing}");
-    assert!(rt;
-        halted == (failing < 23) && stands == stand,
-        "at call {failing}"
-    );
-    assert!(rt;
-        !halted || last == Answer::Halted(stand.0),
-        "at call {failing}"
-    );
-    assert!(rt;
-        disks.first.faults() == u64::from(halted),
-        "at call {failing}"
-    );
+    let stands = stand_of(&desk) == stand;
+    let faults = desk.into_disks().first.faults();
+    [first, second, third] == answers
+        && stands
+        && halted == (failing < 23)
+        && (!halted || last == Answer::Halted(stand.0))
+        && faults == u64::from(halted)
 }
 
 /// A desk whose disk failed a command answers each further one so, with the number, whatever that says; and its image
 /// is that of the commands before.
 #[test]
 fn halted_desks_take_no_more(rt: HostRuntime) {
-    for (failing, answers, stand) in &HALTS {
-        assert_halts(&rt, *failing, *answers, *stand);
-    }
+    let none = [Answer::DiskFault(0), Answer::Halted(0), Answer::Halted(0)];
+    let one = [Answer::Accepted(1), Answer::DiskFault(1), Answer::Halted(1)];
+    let two = [Answer::Accepted(1), Answer::Accepted(2), Answer::Other];
+    assert!(rt; halts(&rt, 15, none, (0, [false; 3])));
+    assert!(rt; halts(&rt, 18, none, (0, [false; 3])));
+    assert!(rt; halts(&rt, 19, one, (1, [true, false, false])));
+    assert!(rt; halts(&rt, 21, one, (1, [true, false, false])));
+    assert!(rt; halts(&rt, 22, one, (1, [true, false, false])));
+    assert!(rt; halts(&rt, 23, two, (2, [true, true, false])));
 }
 
-/// A new desk that is given `AU JOE`, compacted, and given `AU BOB`, where that call of the second disk fails, or none:
-/// what the compaction and the last command are answered, and where the desk stands. A new desk takes seven calls of
-/// that disk, the compaction seven, and the command four.
-const COMPACTED: [(u64, Result<(), StoreFault>, Answer, Stand); 15] = [
-    (
-        8,
-        Err(StoreFault::DiskFault),
-        Answer::Halted(1),
-        (1, [true, false, false]),
-    ),
-    (
-        9,
-        Err(StoreFault::DiskFault),
-        Answer::Halted(1),
-        (1, [true, false, false]),
-    ),
-    (
-        10,
-        Err(StoreFault::DiskFault),
-        Answer::Halted(1),
-        (1, [true, false, false]),
-    ),
-    (
-        11,
-        Err(StoreFault::DiskFault),
-        Answer::Halted(1),
-        (1, [true, false, false]),
-    ),
-    (
-        12,
-        Err(StoreFault::DiskFault),
-        Answer::Halted(1),
-        (1, [true, false, false]),
-    ),
-    (
-        13,
-        Err(StoreFault::DiskFault),
-        Answer::Halted(1),
-        (1, [true, false, false]),
-    ),
-    (
-        14,
-        Err(StoreFault::DiskFault),
-        Answer::Halted(1),
-        (1, [true, false, false]),
-    ),
-    (15, Ok(()), Answer::DiskFault(1), (1, [true, false, false])),
-    (16, Ok(()), Answer::DiskFault(1), (1, [true, false, false])),
-    (17, Ok(()), Answer::DiskFault(1), (1, [true, false, false])),
-    (18, Ok(()), Answer::DiskFault(1), (1, [true, false, false])),
-    (19, Ok(()), Answer::Accepted(2), (2, [true, true, false])),
-    (20, Ok(()), Answer::Accepted(2), (2, [true, true, false])),
-    (21, Ok(()), Answer::Accepted(2), (2, [true, true, false])),
-    (0, Ok(()), Answer::Accepted(2), (2, [true, true, false])),
-];
+/// What the disks tell of a compaction that fails, or not.
+fn tells_of(disks: &Two<MemoryDisk>, fails: bool) -> bool {
+    disks.first.faults() == 0
+        && disks.second.faults() == u64::from(fails)
+        && (fails || read_as(disks, &((First, JOE), (Second, BOB))))
+}
 
-/// Asserts what such a desk answers, and where it stands.
-fn assert_compacts(
+/// Whether a new desk that is given `AU JOE`, compacted, and given `AU BOB`, where that call of the second disk fails,
+/// or none, answers so to the compaction and the last command, and stands there. A new desk takes seven calls of that
+/// disk, the compaction seven, and the command four.
+fn compacts(
     rt: &(impl AllocGlobal + Abort),
     failing: u64,
     wanted: Result<(), StoreFault>,
     last: Answer,
     stand: Stand,
-) {
+) -> bool {
     let alloc = rt.alloc();
     let Ok(mut desk) = formatted(rt, disks_of(rt, &(NOTHING, NOTHING), (0, failing), false)) else {
-        panic!(rt; "a disk failed")
+        return false;
     };
     let first = executed(alloc, &mut desk, b"AU JOE");
     if desk.halted() {
-        panic!(rt; "a disk failed")
+        let _disks = desk.into_disks();
+        return false;
     }
     let compaction = compacted(alloc, &mut desk);
     let second = executed(alloc, &mut desk, b"AU BOB");
-    let stands = stand_of(&desk);
+    let stands = stand_of(&desk) == stand;
     let halted = desk.halted();
-    let disks = desk.into_disks();
     let fails = (1..19).contains(&failing);
-    assert!(rt;
-        first == Answer::Accepted(1) && compaction == wanted,
-        "at call {failing}"
-    );
-    assert!(rt;
-        second == last && stands == stand && halted == fails,
-        "at call {failing}"
-    );
-    assert!(rt; disks.first.faults() == 0 && disks.second.faults() == u64::from(fails));
-    assert!(rt; fails || read_as(&disks, &((First, JOE), (Second, BOB))));
+    tells_of(&desk.into_disks(), fails)
+        && first == Answer::Accepted(1)
+        && compaction == wanted
+        && second == last
+        && stands
+        && halted == fails
 }
 
-/// A compaction that a disk fails halts the desk, and one that is done leaves it taking commands, on the other disk.
+/// A compaction that a disk fails halts the desk: its seven calls.
 #[test]
-fn compacted_desks_go_on_or_are_halted(rt: HostRuntime) {
-    for (failing, wanted, last, stand) in &COMPACTED {
-        assert_compacts(&rt, *failing, *wanted, *last, *stand);
+fn compactions_halt_desks(rt: HostRuntime) {
+    let stand = (1, [true, false, false]);
+    for failing in 8..15 {
+        let wanted = Err(StoreFault::DiskFault);
+        assert!(rt;
+            compacts(&rt, failing, wanted, Answer::Halted(1), stand),
+            "at call {failing}"
+        );
     }
 }
 
-/// What the compaction is answered of a desk that is opened over two checkpoints, of which the older lies on the first
-/// disk, where that call of the first disk fails, or none: its opening takes two calls of that disk, and the compaction
-/// nine.
-const COMPACTED_AGAIN: [(u64, Result<(), StoreFault>); 11] = [
-    (3, Err(StoreFault::DiskFault)),
-    (4, Err(StoreFault::DiskFault)),
-    (5, Err(StoreFault::DiskFault)),
-    (6, Err(StoreFault::DiskFault)),
-    (7, Err(StoreFault::DiskFault)),
-    (8, Err(StoreFault::DiskFault)),
-    (9, Err(StoreFault::DiskFault)),
-    (10, Err(StoreFault::DiskFault)),
-    (11, Err(StoreFault::DiskFault)),
-    (12, Ok(())),
-    (0, Ok(())),
-];
+/// One that is done leaves it taking commands, on the other disk, which may fail the next one: its four calls.
+#[test]
+fn compacted_desks_are_halted(rt: HostRuntime) {
+    let stand = (1, [true, false, false]);
+    for failing in 15..19 {
+        assert!(rt;
+            compacts(&rt, failing, Ok(()), Answer::DiskFault(1), stand),
+            "at call {failing}"
+        );
+    }
+}
 
-/// Asserts what such a desk answers: where the compaction fails it is halted, and stands where it stood.
-fn assert_compacts_again(
+/// Behind these it goes on, and where no call fails.
+#[test]
+fn compacted_desks_go_on(rt: HostRuntime) {
+    let stand = (2, [true, true, false]);
+    for failing in 19..22 {
+        assert!(rt;
+            compacts(&rt, failing, Ok(()), Answer::Accepted(2), stand),
+            "at call {failing}"
+        );
+    }
+    assert!(rt; compacts(&rt, 0, Ok(()), Answer::Accepted(2), stand));
+}
+
+/// Whether the compaction is answered so of a desk that is opened over two checkpoints, of which the older lies on the
+/// first disk, where that call of the first disk fails, or none: where it fails the desk is halted, and stands where it
+/// stood. Its opening takes two calls of that disk, and the compaction nine.
+fn compacts_again(
     rt: &(impl AllocGlobal + Abort),
     failing: u64,
     wanted: Result<(), StoreFault>,
-) {
+) -> bool {
     let held = ((First, JOE), (Second, BOB));
     let Ok(mut desk) = Desk::open(rt.alloc(), disks_of(rt, &held, (failing, 0), false)) else {
-        panic!(rt; "a disk failed")
+        return false;
     };
     let compaction = desk.compact(rt.alloc());
     let halted = desk.halted();
-    let stands = stand_of(&desk);
-    let disks = desk.into_disks();
-    assert!(rt;
-        compaction == wanted && stands == (2, [true, true, false]),
-        "at call {failing}"
-    );
-    assert!(rt;
-        halted == wanted.is_err() && disks.first.faults() == u64::from(halted),
-        "at call {failing}"
-    );
+    let stands = stand_of(&desk) == (2, [true, true, false]);
+    let faults = desk.into_disks().first.faults();
+    compaction == wanted && stands && halted == wanted.is_err() && faults == u64::from(halted)
 }
 
-/// A compaction over an older checkpoint that a disk fails halts the desk too.
+/// A compaction over an older checkpoint that a disk fails halts the desk too; behind its calls, and where none fails,
+/// it is done.
 #[test]
 fn desks_that_are_compacted_again_are_halted(rt: HostRuntime) {
-    for (failing, wanted) in &COMPACTED_AGAIN {
-        assert_compacts_again(&rt, *failing, *wanted);
+    for failing in 3..12 {
+        let wanted = Err(StoreFault::DiskFault);
+        assert!(rt; compacts_again(&rt, failing, wanted), "at call {failing}");
     }
+    assert!(rt; compacts_again(&rt, 12, Ok(())));
+    assert!(rt; compacts_again(&rt, 0, Ok(())));
 }
 
 /// What both disks hold before a new database is made.
-const BEFORE: [Held; 4] = [NOTHING, (Nothing, b"ABC"), (First, NOBODY), (Second, EMPTY)];
+const BEFORE: &[Held] = &[NOTHING, (Nothing, b"ABC"), (First, NOBODY), (Second, EMPTY)];
 
-/// Asserts that a new desk over these disks stands behind no command.
-fn assert_made(rt: &(impl AllocGlobal + Abort), held: &Held) {
+/// Whether a new desk over these disks stands behind no command.
+fn is_made(rt: &(impl AllocGlobal + Abort), held: &Held) -> bool {
     let Ok(desk) = formatted(rt, disks_of(rt, &(*held, *held), (0, 0), false)) else {
-        panic!(rt; "a disk failed")
+        return false;
     };
-    assert!(rt; stand_of(&desk) == (0, [false; 3]));
-    assert!(rt; read_as(&desk.into_disks(), &NEW));
+    let stands = stand_of(&desk) == (0, [false; 3]);
+    read_as(&desk.into_disks(), &NEW) && stands
 }
 
-/// Asserts what its first command leaves.
-fn assert_first_command(rt: &(impl AllocGlobal + Abort), held: &Held) {
+/// Whether its first command leaves what it should.
+fn takes_a_command(rt: &(impl AllocGlobal + Abort), held: &Held) -> bool {
     let Ok(mut desk) = formatted(rt, disks_of(rt, &(*held, *held), (0, 0), false)) else {
-        panic!(rt; "a disk failed")
+        return false;
     };
     let answer = executed(rt.alloc(), &mut desk, b"AU JOE");
-    assert!(rt; answer == Answer::Accepted(1));
-    assert!(rt; read_as(&desk.into_disks(), &WITH_JOE));
+    read_as(&desk.into_disks(), &WITH_JOE) && answer == Answer::Accepted(1)
 }
 
 /// A new database is a checkpoint on the first disk, whatever the disks held, and its first command 32 bytes more.
 #[test]
 fn new_databases_are_the_same(rt: HostRuntime) {
-    for held in &BEFORE {
-        assert_made(&rt, held);
-        assert_first_command(&rt, held);
+    for held in BEFORE {
+        assert!(rt; is_made(&rt, held) && takes_a_command(&rt, held));
     }
     let (new, _) = NEW;
     let (joe, _) = WITH_JOE;

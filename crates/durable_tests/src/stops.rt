@@ -122,6 +122,32 @@ impl Stop<'_> {
         run(rt, self.row.deed.asked, [0; 3], disks)
     }
 
+    /// Whether the deed ended as its part says: with the fault of the disk exactly where the call fails, which that disk
+    /// counts and the other one doesn't.
+    fn is_end(&self, ended: &Ended) -> bool {
+        let Two { first, second } = &ended.disks;
+        let faults = if self.row.second {
+            (second.faults(), first.faults())
+        } else {
+            (first.faults(), second.faults())
+        };
+        let fails = self.fails();
+        let [(_, printed, _, _), _] = self.parts();
+        (ended.status == Status::DiskFault) == fails
+            && has_printed(&ended.shelf, printed)
+            && (fails || printed.is_some() || ended.status == Status::Done)
+            && faults == (u64::from(fails), 0)
+    }
+
+    /// Whether the three questions were answered so where the disk reads as this image.
+    fn is_answered(&self, image: &[u8], ended: &Ended) -> bool {
+        let (is_next, (answers, _)) = self.stand(image);
+        let [_, (_, _, _, (next, _))] = self.parts();
+        let makes = self.row.deed.makes && self.fails() && !is_next;
+        has_printed(&ended.shelf, Some(answers))
+            || makes && (has_printed(&ended.shelf, Some(next)) || is_refused(ended))
+    }
+
     /// The disk that fails, and the other one.
     pub(crate) fn by_role(&self, disks: Two<MemoryDisk>) -> (MemoryDisk, MemoryDisk) {
         let Two { first, second } = disks;
@@ -164,23 +190,28 @@ pub(crate) fn assert_answers(
     image: &[u8],
     other: &[u8],
 ) -> Two<MemoryDisk> {
-    let ended = run(
-        rt,
-        (SCRIPT, QUESTIONS),
-        [0; 3],
-        stop.disks(rt, image, other),
-    );
-    let (is_next, (answers, _)) = stop.stand(image);
-    let [_, (_, _, _, (next, _))] = stop.parts();
-    let makes = stop.row.deed.makes && stop.fails() && !is_next;
-    let answered = has_printed(&ended.shelf, Some(answers))
-        || makes && (has_printed(&ended.shelf, Some(next)) || is_refused(&ended));
+    let disks = stop.disks(rt, image, other);
+    let ended = run(rt, (SCRIPT, QUESTIONS), [0; 3], disks);
     assert!(rt;
-        answered,
-        "call {} fails: {answers} of {image:?}",
+        stop.is_answered(image, &ended),
+        "call {} fails: {image:?}",
         stop.place
     );
     ended.disks
+}
+
+/// The disks behind the questions, and behind the deed where it is gone on with.
+fn gone_on(
+    rt: &(impl AllocGlobal + Abort + Wait + Threads + Sync),
+    stop: &Stop<'_>,
+    image: &[u8],
+    other: &[u8],
+) -> Two<MemoryDisk> {
+    let disks = assert_answers(rt, stop, image, other);
+    let Some(words) = stop.row.deed.again else {
+        return disks;
+    };
+    run(rt, (words, ""), [0; 3], stop.disks(rt, image, other)).disks
 }
 
 /// Asserts that the disk that reads as this image stands for the database, and what is left where the deed is gone on
@@ -191,13 +222,9 @@ pub(crate) fn assert_stands(
     image: &[u8],
     other: &[u8],
 ) {
-    let mut disks = assert_answers(rt, stop, image, other);
-    if let Some(words) = stop.row.deed.again {
-        disks = run(rt, (words, ""), [0; 3], stop.disks(rt, image, other)).disks;
-    }
     let (_, (_, left)) = stop.stand(image);
     assert!(rt;
-        read_as(&disks, &left),
+        read_as(&gone_on(rt, stop, image, other), &left),
         "call {} fails: {image:?} isn't gone on with",
         stop.place
     );
@@ -209,17 +236,9 @@ fn assert_stop(
     stop: &Stop<'_>,
     half: bool,
 ) {
-    let Ended {
-        status,
-        shelf,
-        disks,
-    } = stop.run(rt, half);
-    let fails = stop.fails();
-    let [(_, printed, _, _), _] = stop.parts();
-    assert!(rt; (status == Status::DiskFault) == fails && has_printed(&shelf, printed));
-    assert!(rt; fails || printed.is_some() || status == Status::Done);
-    let (disk, other) = stop.by_role(disks);
-    assert!(rt; disk.faults() == u64::from(fails) && other.faults() == 0);
+    let ended = stop.run(rt, half);
+    assert!(rt; stop.is_end(&ended), "call {} fails", stop.place);
+    let (disk, other) = stop.by_role(ended.disks);
     assert_stands(rt, stop, disk.bytes(), other.bytes());
 }
 

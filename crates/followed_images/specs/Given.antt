@@ -2,11 +2,11 @@
 use Rattle.std.specs.Prelude.{◌≡◌, ℕ, ◌+◌, ◌-◌, ◌^◌, min, List, None, Some, codes, refl}
 use Rattle.racf_profiles.specs.State.{restart, changed_state}
 use Rattle.racf_profiles.specs.NewDatabase.{new_database}
-use Rattle.command_parser.specs.declared.commands.Issuer.{Issuer}
-use Rattle.command_parser.specs.declared.fields.CommandFields.{CommandFields}
+use Rattle.command_fields.specs.declared.issuer.Issuer.{Issuer}
+use Rattle.command_fields.specs.declared.fields.CommandFields.{CommandFields}
 use Rattle.command_parser.specs.Canonical.{Spells, fault}
-use Rattle.command_effects.specs.Edits.{edits_of}
-use Rattle.command_conflicts.specs.Conflicts.{conflict_of}
+use Rattle.command_rules.specs.Edits.{edits_of}
+use Rattle.command_rules.specs.Conflicts.{conflict_of}
 use Rattle.raclist_image.specs.Imaged.{Imaged}
 use Rattle.followed_images.specs.declared.followed.Outcome.{Outcome}
 use Rattle.followed_images.specs.declared.followed.Outcome.TheVariants.{Accepted, Faulty, Refused}

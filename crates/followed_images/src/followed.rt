@@ -1,7 +1,7 @@
 //! A database, and the image that follows it.
 ghost use Rattle.std.specs.Prelude.{◌≡◌, None, IfOk, OnOk, OnErr};
 ghost use Rattle.racf_profiles.specs.State.{restart};
-ghost use Rattle.command_conflicts.specs.Conflicts.{conflict_of};
+ghost use Rattle.command_rules.specs.Conflicts.{conflict_of};
 ghost use Rattle.followed_images.specs.Given.{giver, first_image, image_behind, Becomes};
 
 use crate::taken::TakenImage;

@@ -1,13 +1,18 @@
 //! Images, ACEEs and decisions where memory is wanting, and what an image places. Run alone, these tests have ample
 //! memory; the script `tests/refusals` runs them with allocations refused behind the line that they print first.
 
-use access_levels::{Condition, Id, Level, PortClass};
+ghost use Rattle.std.specs.Prelude.{◌<◌, ◌≤◌, length};
+ghost use Rattle.racf_profiles.specs.Limits.{most_class_profiles};
+
+use access_levels::{Categories, Condition, Id, Level, PortClass};
 use acee::{Acee, VerifyFault, VerifyRequest};
 use dataspace::{Region, Room};
 use decision::{Decision, Request, Rule, auth, fastauth, verify};
 use followed_images::{Followed, Outcome, TakenImage};
-use generic_names::Resource;
-use racf_profiles::{FixedClass, User, ibmuser, kind_in, sys1};
+use generic_names::{NameKind, Pattern, Resource};
+use racf_profiles::{
+    AuditRule, CondEntries, Entries, FixedClass, Members, Profile, User, ibmuser, kind_in, sys1,
+};
 use raclist_image::{ClassImage, Facts, Image};
 use std::alloc::Global;
 use std::test::Fail;
@@ -228,10 +233,54 @@ fn decides(image: &Image, acee: &Acee, asked: &Resources) -> bool {
         && is_decided(&fastauth(image, acee, &asked.run), 4, Rule::NotListed)
 }
 
-/// Whether the image of FACILITY's profiles has no room to spare.
-fn is_full(image: &Image) -> bool {
+/// A profile of that name, whose lists are empty.
+fn profile(alloc: Global, name: &[u8]) -> Result<Profile, Fail> {
+    let rule = AuditRule {
+        success: None,
+        failures: None,
+    };
+    Ok(Profile {
+        name: Pattern::read(NameKind::General, name)?,
+        owner: sys1(),
+        uacc: Level::NoAccess,
+        warning: false,
+        standard: Entries {
+            items: Vec::new(alloc),
+        },
+        conditional: CondEntries {
+            items: Vec::new(alloc),
+        },
+        level: 0,
+        categories: Categories::none(),
+        label: None,
+        audit: rule,
+        global_audit: rule,
+        members: Members {
+            items: Vec::new(alloc),
+        },
+    })
+}
+
+/// Whether the second name's key is the second in a region of this room, in which none is free.
+fn fills(profiles: &ClassImage, room: Room) -> bool
+    requires { 1 < length profiles.now.profiles }
+{
+    let (region, row) = profiles.keys_at(1);
+    row == 1 && region.size() == room.bytes && region.spare() == Room::none()
+}
+
+/// Whether the image of FACILITY's profiles took the room of profiles of these names, and has none to spare.
+fn is_full(image: &Image, profiles: &[Profile]) -> bool
+    requires { length profiles.now ≤ most_class_profiles }
+{
+    let room = ClassImage::room(profiles);
     match image.effective(FixedClass::Facility.id()) {
-        Some(profiles) => profiles.len() == 2 && profiles.spare() == Room::none(),
+        Some(found) => {
+            found.len() == 2
+                && found.taken() == room
+                && found.spare() == Room::none()
+                && fills(found, room)
+        }
         None => false,
     }
 }
@@ -255,13 +304,17 @@ fn reads_without_memory(rt: HostRuntime) -> Result<(), Fail> {
     let Ok(acee) = verify(rt.alloc(), image, &joe_at_terminal(&names)) else {
         return Err("an ACEE".into());
     };
+    let profiles = [
+        profile(rt.alloc(), b"PAY.**")?,
+        profile(rt.alloc(), b"PAY.RUN")?,
+    ];
     let mut region = Region::with_room(rt.alloc(), 3, 1)?;
     println!(rt; "FROM HERE")?;
     assert!(rt; image.generation() == 7);
     assert!(rt; has_rows(image, &names));
     assert!(rt; has_profiles(image, &asked));
     assert!(rt; decides(image, &acee, &asked));
-    assert!(rt; is_full(image));
+    assert!(rt; is_full(image, &profiles));
     assert!(rt; ClassImage::room(&[]) == Room::none());
     assert!(rt; is_filled(&mut region));
     Ok(())

@@ -14,7 +14,7 @@ use Rattle.command_grammar.specs.Table.{full_name}
 use Rattle.command_grammar.specs.Canon.{canon, spelled, positions_text}
 use Rattle.command_grammar.specs.Lawful.{IsLawful}
 use Rattle.command_grammar.proofs.TableFacts.{IsMore, full_name-plain}
-use Rattle.command_parser.specs.declared.fields.CommandFields.{CommandFields}
+use Rattle.command_fields.specs.declared.fields.CommandFields.{CommandFields}
 use Rattle.command_parser.specs.Canonical.{generic_view, operands_text, canonical, given_by, Spells, IsWritten}
 use Rattle.command_parser.specs.Operands.{verb_of, names_of, operands_of_command}
 use Rattle.command_parser.specs.CommandOf.{command_in}

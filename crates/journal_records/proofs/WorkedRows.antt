@@ -4,9 +4,9 @@ use Rattle.std.specs.Prelude.{codes}
 use Rattle.command_words.specs.Tokens.{tokens}
 use Rattle.command_grammar.specs.Reading.{parsed}
 use Rattle.command_grammar.specs.Canon.{canon}
-use Rattle.command_parser.specs.declared.commands.Issuer.{Issuer}
-use Rattle.command_parser.specs.declared.fields.CommandFields.{CommandFields}
-use Rattle.command_parser.specs.declared.fields.CommandFields.TheVariants as commands
+use Rattle.command_fields.specs.declared.issuer.Issuer.{Issuer}
+use Rattle.command_fields.specs.declared.fields.CommandFields.{CommandFields}
+use Rattle.command_fields.specs.declared.fields.CommandFields.TheVariants as commands
 use Rattle.command_parser.specs.Canonical.{canonical}
 use Rattle.command_parser.specs.Fields.{front, behind}
 use Rattle.command_parser.specs.CommandOf.{command_of}

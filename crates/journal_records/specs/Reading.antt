@@ -5,8 +5,8 @@ use Rattle.std.specs.Result.{result_err}
 use Rattle.std.specs.List.{before_first}
 use Rattle.byteorder.specs.Endian.{big_number}
 use Rattle.access_levels.specs.Spelling.{id_of, group_of}
-use Rattle.command_parser.specs.declared.commands.Issuer.{Issuer}
-use Rattle.command_parser.specs.declared.fields.CommandFields.{CommandFields}
+use Rattle.command_fields.specs.declared.issuer.Issuer.{Issuer}
+use Rattle.command_fields.specs.declared.fields.CommandFields.{CommandFields}
 use Rattle.command_parser.specs.Canonical.{canonical}
 use Rattle.command_parser.specs.CommandOf.{command_in}
 use Rattle.journal_records.specs.declared.record.CommandRecord.{CommandRecord}

@@ -2,8 +2,8 @@
 ghost use Rattle.std.specs.Prelude.{◌≡◌, ◌≤◌, ◌+◌, ◌↔◌, List, ℕ, Ok, Some, length, drop};
 ghost use Rattle.byteorder.specs.Endian.{big_number};
 ghost use Rattle.access_levels.specs.Spelling.{id_of};
-ghost use Rattle.command_parser.specs.declared.commands.Issuer.{Issuer};
-ghost use Rattle.command_parser.specs.declared.fields.CommandFields.{CommandFields};
+ghost use Rattle.command_fields.specs.declared.issuer.Issuer.{Issuer};
+ghost use Rattle.command_fields.specs.declared.fields.CommandFields.{CommandFields};
 ghost use Rattle.command_parser.specs.Canonical.{canonical, IsWritten};
 ghost use Rattle.journal_records.specs.declared.record.CommandRecord.{CommandRecord};
 ghost use Rattle.journal_records.specs.Spelling.{filled, spelled, IsLawful, AreBytes};

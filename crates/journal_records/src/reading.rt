@@ -1,6 +1,6 @@
 //! Records, read from their bytes.
 ghost use Rattle.std.specs.Prelude.{◌≡◌, List, ℕ, Ok, IfOk, IfErr};
-ghost use Rattle.command_parser.specs.declared.fields.CommandFields.{CommandFields};
+ghost use Rattle.command_fields.specs.declared.fields.CommandFields.{CommandFields};
 ghost use Rattle.journal_records.specs.declared.record.CommandRecord.{CommandRecord};
 ghost use Rattle.journal_records.specs.declared.record.RecordFault.TheVariants.{BadText};
 ghost use Rattle.journal_records.specs.Spelling.{spelled, IsLawful};

@@ -1,7 +1,7 @@
 //! The record of one command in a journal of its own: nine bytes become 41, and what stops on the way leaves nine or
 //! 41.
 
-use crate::layout_tests::{disk_of, gave, open_disk};
+use crate::layout_tests::{Opened, answer_at, disk_of, gave, open_disk};
 use racf_journal::{Journal, JournalFault};
 use racf_outside::MemoryDisk;
 use std::process::Abort;
@@ -29,26 +29,28 @@ fn appended(rt: &impl AllocGlobal, disk: MemoryDisk) -> (Result<(), JournalFault
     }
 }
 
-/// Asserts that these bytes are opened with the record or without, and what that leaves of them.
-fn assert_opens(rt: &(impl AllocGlobal + Abort), bytes: &[u8], has_record: bool) {
-    let opened = open_disk(rt, disk_of(rt, bytes, &[]));
+/// Whether an opening gave the record, or none, and left the journal with it, or a new one.
+fn has(opened: &Opened, has_record: bool) -> bool {
     if has_record {
-        assert!(rt;
-            gave(&opened, &Ok(&[RECORD])) && opened.disk.bytes() == ONE,
-            "{bytes:?}"
-        );
+        gave(opened, &[RECORD]) && opened.disk.bytes() == ONE
     } else {
-        assert!(rt;
-            gave(&opened, &Ok(&[])) && opened.disk.bytes() == NEW,
-            "{bytes:?}"
-        );
+        gave(opened, &[]) && opened.disk.bytes() == NEW
     }
 }
 
+/// Whether these bytes are opened with the record or without, as told, and what that leaves of them.
+fn opens(rt: &(impl AllocGlobal + Abort), bytes: &[u8], has_record: bool) -> bool {
+    let opened = open_disk(rt, disk_of(rt, bytes, &[]));
+    has(&opened, has_record)
+}
+
 /// The call that fails, or 0 where none does; what a read gives then; and whether the record is there when that is
-/// opened. A new journal takes three calls: a write, a cut and a sync. The append takes four: a write of the record and
-/// a sync, and a write of its gate and a sync.
-const STOPS: [(u64, &[u8], bool); 5] = [
+/// opened.
+type Stop = (u64, &'static [u8], bool);
+
+/// A new journal takes three calls: a write, a cut and a sync. The append takes four: a write of the record and a sync,
+/// and a write of its gate and a sync.
+const STOPS: &[Stop] = &[
     (4, NEW, false),
     (5, CLOSED, false),
     (6, CLOSED, false),
@@ -56,23 +58,44 @@ const STOPS: [(u64, &[u8], bool); 5] = [
     (0, ONE, true),
 ];
 
+/// Whether an append that stops as told answers so, and leaves what it should.
+fn stops_as_told(rt: &(impl AllocGlobal + Abort), (failing, left, has_record): &Stop) -> bool {
+    let (answer, disk) = appended(rt, disk_of(rt, b"ABC", &[*failing]));
+    answer == answer_at(*failing) && disk.bytes() == *left && opens(rt, disk.bytes(), *has_record)
+}
+
 /// An append stops at each of its calls: until the gate is written the record isn't there.
 #[test]
 fn the_append_of_a_command_stops(rt: HostRuntime) {
-    for (failing, left, has_record) in &STOPS {
-        let (answer, disk) = appended(&rt, disk_of(&rt, b"ABC", &[*failing]));
-        let wanted = if *failing == 0 {
-            Ok(())
-        } else {
-            Err(JournalFault::DiskFault)
-        };
-        assert!(rt;
-            answer == wanted && disk.bytes() == *left,
-            "at call {failing}"
-        );
-        assert_opens(&rt, disk.bytes(), *has_record);
+    for stop in STOPS {
+        assert!(rt; stops_as_told(&rt, stop), "at call {}", stop.0);
     }
     assert!(rt; NEW.len() == 9 && ONE.len() == 41);
+}
+
+/// Another byte in each place behind the new journal.
+fn write_behind(bytes: &mut [u8], other: u8) {
+    for (place, byte) in bytes.iter_mut().enumerate() {
+        if place >= NEW.len() {
+            *byte = other;
+        }
+    }
+}
+
+/// The journal while the record doesn't count yet, up to an end.
+fn cut_off(rt: &(impl AllocGlobal + Abort), end: usize) -> Vec<u8> {
+    let mut bytes = Vec::from_slice(rt.alloc(), CLOSED).expect(rt, "memory");
+    bytes.truncate(end);
+    bytes
+}
+
+/// Whether there is no record in what a crash leaves up to an end, as it was written or with another byte in each place
+/// of it.
+fn is_torn(rt: &(impl AllocGlobal + Abort), end: usize, other: u8) -> bool {
+    let mut bytes = cut_off(rt, end);
+    let written = opens(rt, &bytes, false);
+    write_behind(&mut bytes, other);
+    written && opens(rt, &bytes, false)
 }
 
 /// A crash while the record is written may leave any end and any bytes behind the closed gate.
@@ -80,29 +103,24 @@ fn the_append_of_a_command_stops(rt: HostRuntime) {
 fn the_record_of_a_command_is_torn(rt: HostRuntime) {
     for end in NEW.len()..=CLOSED.len() {
         for other in [0, 1, 0x37, 0xFF] {
-            let mut bytes = Vec::from_slice(rt.alloc(), CLOSED).expect(&rt, "memory");
-            bytes.truncate(end);
-            assert_opens(&rt, &bytes, false);
-            for (place, byte) in bytes.iter_mut().enumerate() {
-                if place >= NEW.len() {
-                    *byte = other;
-                }
-            }
-            assert_opens(&rt, &bytes, false);
+            assert!(rt; is_torn(&rt, end, other), "{other} up to {end}");
         }
     }
+}
+
+/// Whether the record is there behind X'01' as the gate alone.
+fn counts_behind(rt: &(impl AllocGlobal + Abort), gate: u8) -> bool {
+    let mut bytes = cut_off(rt, CLOSED.len());
+    if let Some(byte) = bytes.get_mut(8) {
+        *byte = gate;
+    }
+    opens(rt, &bytes, gate == 1)
 }
 
 /// A crash while the gate is written may leave any byte there: the record is there behind X'01' alone.
 #[test]
 fn the_gate_of_a_command_is_torn(rt: HostRuntime) {
     for gate in [0, 1, 2, 0x37, 0x81, 0xFF] {
-        let mut bytes = Vec::from_slice(rt.alloc(), CLOSED).expect(&rt, "memory");
-        for (place, byte) in bytes.iter_mut().enumerate() {
-            if place == 8 {
-                *byte = gate;
-            }
-        }
-        assert_opens(&rt, &bytes, gate == 1);
+        assert!(rt; counts_behind(&rt, gate), "{gate}");
     }
 }

@@ -1,6 +1,6 @@
 //! Runs that stop: at a call of the disk that fails, and by a crash before that call or within the one before it.
 
-use crate::layout_tests::{Opened, disk_of, gave, open_disk};
+use crate::layout_tests::{Opened, answer_at, disk_of, gave, open_disk};
 use racf_journal::{Journal, JournalFault};
 use racf_outside::MemoryDisk;
 use std::process::Abort;
@@ -110,8 +110,30 @@ impl Moment<'_> {
         open_disk(rt, disk_of(rt, &image, &[]))
     }
 
-    /// Opens images of each length: that of the bytes as they are, and for each choice of bytes in doubt those with
+    /// Counts that image once it is opened.
+    fn counted(
+        &self,
+        rt: &(impl AllocGlobal + Abort),
+        counts: Counts,
+        (end, choice, other): (usize, u64, u8),
+    ) -> Counts {
+        let opened = self.opened(rt, end, choice, other);
+        counts.with(&opened)
+    }
+
+    /// Opens images of one length: that of the bytes as they are, and for each choice of bytes in doubt those with
     /// X'00', X'01', X'02' and X'FF' in their places.
+    fn counted_to(&self, rt: &(impl AllocGlobal + Abort), counts: Counts, end: usize) -> Counts {
+        let mut counts = self.counted(rt, counts, (end, 0, 0));
+        for choice in 1..self.choices(end) {
+            for other in [0, 1, 2, 0xFF] {
+                counts = self.counted(rt, counts, (end, choice, other));
+            }
+        }
+        counts
+    }
+
+    /// Opens images of each length.
     fn counts(&self, rt: &(impl AllocGlobal + Abort)) -> Counts {
         let mut counts = Counts {
             first: 0,
@@ -119,12 +141,7 @@ impl Moment<'_> {
             other: 0,
         };
         for end in self.ends.0..=self.ends.1 {
-            counts = counts.with(&self.opened(rt, end, 0, 0));
-            for choice in 1..self.choices(end) {
-                for other in [0, 1, 2, 0xFF] {
-                    counts = counts.with(&self.opened(rt, end, choice, other));
-                }
-            }
+            counts = self.counted_to(rt, counts, end);
         }
         counts
     }
@@ -133,27 +150,21 @@ impl Moment<'_> {
 impl Counts {
     /// Counts an opening.
     fn with(self, opened: &Opened) -> Counts {
-        let Counts { first, both, other } = self;
-        if gave(opened, &Ok(&[FIRST])) && opened.disk.bytes() == ONE {
-            return Counts {
-                first: first.saturating_add(1),
-                both,
-                other,
-            };
+        let mut counts = self;
+        if holds(opened, &[FIRST], ONE) {
+            counts.first = counts.first.saturating_add(1);
+        } else if holds(opened, &[FIRST, SECOND], BOTH) {
+            counts.both = counts.both.saturating_add(1);
+        } else {
+            counts.other = counts.other.saturating_add(1);
         }
-        if gave(opened, &Ok(&[FIRST, SECOND])) && opened.disk.bytes() == BOTH {
-            return Counts {
-                first,
-                both: both.saturating_add(1),
-                other,
-            };
-        }
-        Counts {
-            first,
-            both,
-            other: other.saturating_add(1),
-        }
+        counts
     }
+}
+
+/// Whether an opening gave these records, and left these bytes.
+fn holds(opened: &Opened, records: &[&[u8]], bytes: &[u8]) -> bool {
+    gave(opened, records) && opened.disk.bytes() == bytes
 }
 
 /// Opens a journal, and appends the second record where it is to. The disk, and the answer.
@@ -190,7 +201,7 @@ type Stop = (
 
 /// Runs that open the file with the first record (a sync and three reads) and append the second (a write and a sync of
 /// the record, a write and a sync of the gate). No run has a ninth call.
-const APPENDS: [Stop; 9] = [
+const APPENDS: &[Stop] = &[
     (1, ONE, (0, 0), (15, 15), &[FIRST], (1, 0)),
     (2, ONE, (0, 0), (15, 15), &[FIRST], (1, 0)),
     (3, ONE, (0, 0), (15, 15), &[FIRST], (1, 0)),
@@ -204,7 +215,7 @@ const APPENDS: [Stop; 9] = [
 
 /// Runs that open a file whose closed gate is X'02' and has a record behind it (a sync, three reads, a cut and its
 /// sync, a write of the gate and its sync).
-const OPENINGS: [Stop; 9] = [
+const OPENINGS: &[Stop] = &[
     (1, UNTIDY, (0, 0), (21, 21), &[FIRST], (1, 0)),
     (2, UNTIDY, (0, 0), (21, 21), &[FIRST], (1, 0)),
     (3, UNTIDY, (0, 0), (21, 21), &[FIRST], (1, 0)),
@@ -216,33 +227,48 @@ const OPENINGS: [Stop; 9] = [
     (0, ONE, (0, 0), (15, 15), &[FIRST], (1, 0)),
 ];
 
+/// Whether the images of the moment that a run left open as told.
+fn opens_as_told(
+    rt: &(impl AllocGlobal + Abort),
+    file: &[u8],
+    (_, bytes, written, ends, _, (first, both)): &Stop,
+) -> bool {
+    let moment = Moment {
+        file,
+        bytes,
+        written: *written,
+        ends: *ends,
+    };
+    let counts = Counts {
+        first: *first,
+        both: *both,
+        other: 0,
+    };
+    moment.counts(rt) == counts
+}
+
+/// Whether the run of a row answers as told and leaves its bytes, and its disk, opened again, gives its records.
+fn stops_as_told(
+    rt: &(impl AllocGlobal + Abort),
+    file: &[u8],
+    appends: bool,
+    (failing, bytes, _, _, records, _): &Stop,
+) -> bool {
+    let (disk, answer) = run(rt, disk_of(rt, file, &[*failing]), appends);
+    let told = answer == answer_at(*failing)
+        && disk.faults() == u64::from(*failing != 0)
+        && disk.bytes() == *bytes;
+    let opened = open_disk(rt, disk);
+    told && gave(&opened, records)
+}
+
 /// Makes the run of each row, opens the images of the moment that it left, and then its disk again.
-fn stop(rt: &(impl AllocGlobal + Abort), file: &[u8], appends: bool, stops: &[Stop; 9]) {
-    for (failing, bytes, written, ends, records, (first, both)) in stops {
-        let (disk, answer) = run(rt, disk_of(rt, file, &[*failing]), appends);
-        let fails = *failing != 0;
-        let wanted = if fails {
-            Err(JournalFault::DiskFault)
-        } else {
-            Ok(())
-        };
-        assert!(rt; answer == wanted, "at call {failing}");
-        assert!(rt; disk.faults() == u64::from(fails) && disk.bytes() == *bytes);
-        let moment = Moment {
-            file,
-            bytes,
-            written: *written,
-            ends: *ends,
-        };
-        let counts = Counts {
-            first: *first,
-            both: *both,
-            other: 0,
-        };
-        assert!(rt; moment.counts(rt) == counts, "at call {failing}");
+fn stop(rt: &(impl AllocGlobal + Abort), file: &[u8], appends: bool, stops: &[Stop]) {
+    for stop in stops {
         assert!(rt;
-            gave(&open_disk(rt, disk), &Ok(*records)),
-            "at call {failing}"
+            stops_as_told(rt, file, appends, stop) && opens_as_told(rt, file, stop),
+            "at call {}",
+            stop.0
         );
     }
 }
@@ -251,11 +277,11 @@ fn stop(rt: &(impl AllocGlobal + Abort), file: &[u8], appends: bool, stops: &[St
 /// or both, and behind the sync of the gate both stay.
 #[test]
 fn runs_stop_within_an_append(rt: HostRuntime) {
-    stop(&rt, ONE, true, &APPENDS);
+    stop(&rt, ONE, true, APPENDS);
 }
 
 /// An opening that stops leaves the record from before, though a whole one stands behind the closed gate.
 #[test]
 fn runs_stop_within_an_opening(rt: HostRuntime) {
-    stop(&rt, UNTIDY, false, &OPENINGS);
+    stop(&rt, UNTIDY, false, OPENINGS);
 }

@@ -52,31 +52,46 @@ fn opened_at(rt: &impl AllocGlobal, disk: MemoryDisk, start: u64) -> Opened {
     behind(Journal::open(rt.alloc(), disk, start))
 }
 
-/// Whether an opening gave just these records, or that fault.
-pub(crate) fn gave(opened: &Opened, wanted: &Result<&[&[u8]], JournalFault>) -> bool {
-    match (&opened.found, wanted) {
-        (Ok(found), Ok(records)) => are(found, records),
-        (Err(fault), Err(other)) => fault == other,
-        _ => false,
+/// Whether an opening gave just these records.
+pub(crate) fn gave(opened: &Opened, records: &[&[u8]]) -> bool {
+    match &opened.found {
+        Ok(found) => are(found, records),
+        Err(_) => false,
+    }
+}
+
+/// Whether an opening gave this fault.
+fn refused(opened: &Opened, fault: JournalFault) -> bool {
+    match &opened.found {
+        Ok(_) => false,
+        Err(other) => *other == fault,
     }
 }
 
 /// Whether these texts are just these records.
 fn are(found: &[Text], records: &[&[u8]]) -> bool {
-    if found.len() != records.len() {
-        return false;
-    }
-    for (text, record) in found.iter().zip(records) {
-        if text.bytes() != *record {
+    for (place, text) in found.iter().enumerate() {
+        if place >= records.len() || text.bytes() != records[place] {
             return false;
         }
     }
-    true
+    found.len() == records.len()
 }
 
-/// What the disk holds, which call of `format` is to fail, and what a read gives behind it. The calls are a write, a
-/// cut and a sync.
-const FORMATS: [(&[u8], &[u64], &[u8]); 6] = [
+/// What a run answers whose call of this number fails, or none where it is 0.
+pub(crate) fn answer_at(failing: u64) -> Result<(), JournalFault> {
+    if failing == 0 {
+        Ok(())
+    } else {
+        Err(JournalFault::DiskFault)
+    }
+}
+
+/// What the disk holds, which call of `format` is to fail, and what a read gives behind it.
+type Formatting = (&'static [u8], &'static [u64], &'static [u8]);
+
+/// The calls are a write, a cut and a sync.
+const FORMATS: &[Formatting] = &[
     (b"", &[], b"RACFJNL1\0"),
     (b"ABC", &[], b"RACFJNL1\0"),
     (b"RACFJNL1\x01\0\0\0\x01A\0", &[], b"RACFJNL1\0"),
@@ -85,25 +100,37 @@ const FORMATS: [(&[u8], &[u64], &[u8]); 6] = [
     (b"ABCDEFGHIJKL", &[3], b"RACFJNL1\0"),
 ];
 
-/// A disk is formatted whatever it held; one that fails is handed back, and has counted that.
-#[test]
-fn disks_are_formatted(rt: HostRuntime) {
-    for (held, failing, left) in &FORMATS {
-        match Journal::format(disk_of(&rt, held, failing)) {
-            Ok(journal) => {
-                assert!(rt; failing.is_empty());
-                assert!(rt; journal.into_disk().bytes() == *left);
-            }
-            Err((disk, fault)) => {
-                assert!(rt; failing.len() == 1 && fault == JournalFault::DiskFault);
-                assert!(rt; disk.faults() == 1 && disk.bytes() == *left);
-            }
+/// Whether a disk is formatted, or fails, as told: then it is handed back, and has counted that.
+fn formats_as_told(rt: &(impl AllocGlobal + Abort), (held, failing, left): &Formatting) -> bool {
+    match Journal::format(disk_of(rt, held, failing)) {
+        Ok(journal) => journal.into_disk().bytes() == *left && failing.is_empty(),
+        Err((disk, fault)) => {
+            failing.len() == 1
+                && fault == JournalFault::DiskFault
+                && disk.faults() == 1
+                && disk.bytes() == *left
         }
     }
 }
 
+/// A disk is formatted whatever it held; one that fails is handed back, and has counted that.
+#[test]
+fn disks_are_formatted(rt: HostRuntime) {
+    for formatting in FORMATS {
+        assert!(rt; formats_as_told(&rt, formatting));
+    }
+}
+
 /// The file, where the journal begins, what opening it gives, and what it leaves.
-const OPENINGS: [(&[u8], u64, Result<&[&[u8]], JournalFault>, &[u8]); 16] = [
+type Opening = (
+    &'static [u8],
+    u64,
+    Result<&'static [&'static [u8]], JournalFault>,
+    &'static [u8],
+);
+
+/// Files that are opened, or not.
+const OPENINGS: &[Opening] = &[
     // another first byte, another last one, and a file that is too short
     (
         b"XACFJNL1\0",
@@ -166,13 +193,24 @@ const OPENINGS: [(&[u8], u64, Result<&[&[u8]], JournalFault>, &[u8]); 16] = [
     ),
 ];
 
+/// Whether an opening gave the records or the fault.
+fn is_as_told(opened: &Opened, wanted: &Result<&[&[u8]], JournalFault>) -> bool {
+    match wanted {
+        Ok(records) => gave(opened, records),
+        Err(fault) => refused(opened, *fault),
+    }
+}
+
+/// Whether a file is opened, or refused, as told.
+fn opens_as_told(rt: &(impl AllocGlobal + Abort), (file, start, wanted, left): &Opening) -> bool {
+    let opened = opened_at(rt, disk_of(rt, file, &[]), *start);
+    is_as_told(&opened, wanted) && opened.disk.bytes() == *left && opened.disk.faults() == 0
+}
+
 /// A file is opened, or refused and left as it is.
 #[test]
 fn files_are_opened(rt: HostRuntime) {
-    for (file, start, wanted, left) in &OPENINGS {
-        let opened = opened_at(&rt, disk_of(&rt, file, &[]), *start);
-        assert!(rt; gave(&opened, wanted), "at {file:?}");
-        assert!(rt; opened.disk.bytes() == *left, "at {file:?}");
-        assert!(rt; opened.disk.faults() == 0);
+    for opening in OPENINGS {
+        assert!(rt; opens_as_told(&rt, opening), "at {:?}", opening.0);
     }
 }

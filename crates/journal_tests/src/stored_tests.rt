@@ -7,10 +7,16 @@ use racf_journal::Journal;
 use racf_outside::MemoryDisk;
 use std::process::Abort;
 
+/// The first record of a stored disk.
+const FIRST: &[u8] = b"\0\0\0'IBMUSER SYS1    ADDGROUP G1 OWNER(SYS1)";
+
+/// The second.
+const SECOND: &[u8] = b"\0\0\0*IBMUSER SYS1    ADDGROUP G3 SUPGROUP(SYS1)";
+
 /// The records of a stored disk, which an independent program wrote: commands behind their issuers and groups.
-const STORED_RECORDS: [&[u8]; 19] = [
-    b"\0\0\0'IBMUSER SYS1    ADDGROUP G1 OWNER(SYS1)",
-    b"\0\0\0*IBMUSER SYS1    ADDGROUP G3 SUPGROUP(SYS1)",
+const STORED_RECORDS: &[&[u8]] = &[
+    FIRST,
+    SECOND,
     b"\0\0\0%IBMUSER SYS1    ADDUSER U3 RESTRICTED",
     b"\0\0\0)IBMUSER SYS1    ADDSD 'SYS1.A' UACC(READ)",
     b"\0\0\0\x1dIBMUSER SYS1    ADDSD 'G1.**'",
@@ -59,12 +65,16 @@ const FIRST_TWO: &[u8] = b"RACFJNL1\
     \x01\0\0\0*IBMUSER SYS1    ADDGROUP G3 SUPGROUP(SYS1)\
     \0";
 
+/// Whether the stored disk is opened as it is, and gives its records.
+fn is_opened(rt: &(impl AllocGlobal + Abort)) -> bool {
+    let opened = open_disk(rt, disk_of(rt, STORED, &[]));
+    gave(&opened, STORED_RECORDS) && opened.disk.bytes() == STORED
+}
+
 /// The stored disk is opened as it is, and gives its records.
 #[test]
 fn a_stored_disk_is_opened(rt: HostRuntime) {
-    let opened = open_disk(&rt, disk_of(&rt, STORED, &[]));
-    assert!(rt; gave(&opened, &Ok(&STORED_RECORDS)));
-    assert!(rt; opened.disk.bytes() == STORED);
+    assert!(rt; is_opened(&rt));
 }
 
 /// Makes a new journal of the disk, and appends the first two records. Whether it did, and the disk.
@@ -73,19 +83,25 @@ fn two_appended(rt: &impl AllocGlobal, disk: MemoryDisk) -> (bool, MemoryDisk) {
         Ok(journal) => journal,
         Err((disk, _)) => return (false, disk),
     };
-    if journal.append(rt.alloc(), STORED_RECORDS[0]).is_err() {
+    if journal.append(rt.alloc(), FIRST).is_err() {
         return (false, journal.into_disk());
     }
-    let appended = journal.append(rt.alloc(), STORED_RECORDS[1]).is_ok();
+    let appended = journal.append(rt.alloc(), SECOND).is_ok();
     (appended, journal.into_disk())
+}
+
+/// Whether two records that are appended stand behind gates, and opening gives them back.
+fn are_laid_out(rt: &(impl AllocGlobal + Abort)) -> bool {
+    let (appended, disk) = two_appended(rt, disk_of(rt, b"ABC", &[]));
+    let told = appended && disk.bytes() == FIRST_TWO;
+    let opened = open_disk(rt, disk);
+    told && gave(&opened, &[FIRST, SECOND])
 }
 
 /// Two records that are appended stand behind gates, and opening gives them back.
 #[test]
 fn records_are_laid_out(rt: HostRuntime) {
-    let (appended, disk) = two_appended(&rt, disk_of(&rt, b"ABC", &[]));
-    assert!(rt; appended && disk.bytes() == FIRST_TWO);
-    assert!(rt; gave(&open_disk(&rt, disk), &Ok(&STORED_RECORDS[..2])));
+    assert!(rt; are_laid_out(&rt));
 }
 
 /// A record of 32,772 bytes, which is longer than any of a command.
@@ -97,17 +113,23 @@ fn long_record(rt: &(impl AllocGlobal + Abort)) -> Vec<u8>
     bytes
 }
 
+/// Whether a record is appended to a new journal of the disk, and is given back once that is opened.
+fn is_given_back(rt: &impl AllocGlobal, disk: MemoryDisk, record: &[u8]) -> bool
+    requires { IsRecord record.now }
+{
+    match Journal::format(disk) {
+        Ok(mut journal) => {
+            let appended = journal.append(rt.alloc(), record).is_ok();
+            let opened = open_disk(rt, journal.into_disk());
+            appended && gave(&opened, &[record])
+        }
+        Err(_) => false,
+    }
+}
+
 /// A record that is longer than any of a command takes memory to append, and is given back.
 #[test]
 fn a_long_record_is_appended(rt: HostRuntime) {
     let record = long_record(&rt);
-    match Journal::format(disk_of(&rt, b"", &[])) {
-        Ok(mut journal) => {
-            let answer = journal.append(rt.alloc(), &record);
-            let opened = open_disk(&rt, journal.into_disk());
-            assert!(rt; answer == Ok(()));
-            assert!(rt; gave(&opened, &Ok(&[record.as_slice()])));
-        }
-        Err((_, fault)) => panic!(rt; "{fault}"),
-    }
+    assert!(rt; is_given_back(&rt, disk_of(&rt, b"", &[]), &record));
 }

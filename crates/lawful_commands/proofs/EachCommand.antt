@@ -3,13 +3,13 @@ use Rattle.std.proofs.Common.{◌≡◌, None}
 use Rattle.generic_names.specs.Laws.{OneIsBefore, PassedOn, ReadsBack}
 use Rattle.racf_profiles.specs.declared.rows.Rows.{Rows}
 use Rattle.racf_profiles.specs.Lawful.{AreLawful}
-use Rattle.command_parser.specs.declared.commands.Issuer.{Issuer}
-use Rattle.command_parser.specs.declared.fields.CommandFields.{CommandFields}
-use Rattle.command_parser.specs.declared.fields.CommandFields.TheVariants as command
-use Rattle.command_parser.specs.LawfulFields.{AreLawfulFields}
-use Rattle.command_effects.specs.ProfileEffects.{dataset}
-use Rattle.command_effects.specs.Effects.{step}
-use Rattle.command_conflicts.specs.Conflicts.{conflict_of}
+use Rattle.command_fields.specs.declared.issuer.Issuer.{Issuer}
+use Rattle.command_fields.specs.declared.fields.CommandFields.{CommandFields}
+use Rattle.command_fields.specs.declared.fields.CommandFields.TheVariants as command
+use Rattle.command_fields.specs.LawfulFields.{AreLawfulFields}
+use Rattle.command_rules.specs.ProfileEffects.{dataset}
+use Rattle.command_rules.specs.Effects.{step}
+use Rattle.command_rules.specs.Conflicts.{conflict_of}
 use Rattle.lawful_commands.proofs.FieldFacts.{name-lawful, clauth-lawful, audit-lawful, data_set-lawful, class_profile-lawful, class_profile-spelled, members-lawful}
 use Rattle.lawful_commands.proofs.UserCommands.{add_user-lawful, alt_user-lawful, del_user-lawful, connect-lawful, remove-lawful}
 use Rattle.lawful_commands.proofs.GroupCommands.{add_group-lawful, alt_group-lawful, del_group-lawful}

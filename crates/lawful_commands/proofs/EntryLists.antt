@@ -14,11 +14,11 @@ use Rattle.racf_profiles.specs.Limits.{most_list_entries}
 use Rattle.racf_profiles.specs.LawfulProfiles.{AreEntries, is_same_entry}
 use Rattle.access_lists.specs.Lists.{is_for, is_for_under, entry_put}
 use Rattle.group_tree.proofs.Rows.{same}
-use Rattle.command_values.specs.declared.values.Reset.{Reset}
-use Rattle.command_values.specs.declared.values.Reset.TheVariants as reset
-use Rattle.command_parser.specs.declared.profile_fields.Permit.{Permit}
-use Rattle.command_effects.specs.PermitEffects.{standard_reset, conditional_reset, with_entry, with_conditional, standard_entries, conditional_entries, standard_after, conditional_after, permitted_profile, level_of}
-use Rattle.command_effects.proofs.ListCounts.{same_who}
+use Rattle.command_fields.specs.declared.resets.Reset.{Reset}
+use Rattle.command_fields.specs.declared.resets.Reset.TheVariants as reset
+use Rattle.command_fields.specs.declared.profile_fields.Permit.{Permit}
+use Rattle.command_rules.specs.PermitEffects.{standard_reset, conditional_reset, with_entry, with_conditional, standard_entries, conditional_entries, standard_after, conditional_after, permitted_profile, level_of}
+use Rattle.command_rules.proofs.ListCounts.{same_who}
 use Rattle.lawful_commands.proofs.RowLists.{distinct-filter, distinct-put, map-itself, distinct-none}
 
 like-who : (a b c : Who) → is_same_who a b ≡ true → is_same_who a c ≡ false → is_same_who b c ≡ false

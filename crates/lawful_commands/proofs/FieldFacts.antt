@@ -27,13 +27,13 @@ use Rattle.racf_profiles.specs.LawfulUsers.{is_user_name, is_printable}
 use Rattle.racf_profiles.specs.LawfulProfiles.{is_logged_level, is_audit, is_of_kind, kind_in}
 use Rattle.racf_profiles.proofs.Tables.{facts_of-each}
 use Rattle.group_tree.proofs.Rows.{same, itself}
-use Rattle.command_values.specs.declared.members.MemberForm.TheVariants as forms
-use Rattle.command_values.specs.Audits.{is_half}
-use Rattle.command_values.specs.ProfileNames.{general_profile, is_level_or_category, if_label, profile_in, general_form, form_in, form_of}
-use Rattle.command_values.specs.Members.{member_form, form_by_class, access_form, secdata_form}
-use Rattle.command_values.specs.LawfulValues.{Each, AreMembers, IsMember}
-use Rattle.command_parser.specs.LawfulFields.{IsUserName, IsClauthWord, IsDataSetProfile, IsClassProfile, IsAudit, AreMembersOf}
-use Rattle.command_effects.specs.ProfileEffects.{dataset}
+use Rattle.command_fields.specs.declared.member_form.MemberForm.TheVariants as forms
+use Rattle.command_fields.specs.AuditRules.{is_half}
+use Rattle.command_fields.specs.ProfileNames.{general_profile, is_level_or_category, if_label, profile_in, general_form, form_in, form_of}
+use Rattle.command_fields.specs.MemberForms.{member_form, form_by_class, access_form, secdata_form}
+use Rattle.command_fields.specs.LawfulMembers.{Each, AreMembers, IsMember}
+use Rattle.command_fields.specs.LawfulFields.{IsUserName, IsClauthWord, IsDataSetProfile, IsClassProfile, IsAudit, AreMembersOf}
+use Rattle.command_rules.specs.ProfileEffects.{dataset}
 use Rattle.lawful_commands.proofs.MemberLists.{is_fitting}
 use Rattle.lawful_commands.proofs.ProfileNames.{is_spelled_by}
 

@@ -23,18 +23,18 @@ use Rattle.group_tree.specs.Answers.{CanAdd, CanMove, CanRemove}
 use Rattle.group_tree.proofs.Rows.{same, turned, some_of, find_group-push_other, find_group-drop_other}
 use Rattle.group_tree.proofs.Edits.{one_there, both_there, none_from_map, is_some-at_group, tree-with_group, tree-with_superior, tree-with_owner, tree-drop}
 use Rattle.row_tables.proofs.GroupLaws.{at_group-at_row}
-use Rattle.command_parser.specs.declared.commands.Issuer.{Issuer}
-use Rattle.command_parser.specs.declared.fields.AddGroup.{AddGroup}
-use Rattle.command_parser.specs.declared.fields.AltGroup.{AltGroup}
-use Rattle.command_parser.specs.declared.fields.DelGroup.{DelGroup}
-use Rattle.command_parser.specs.declared.fields.CommandFields.TheVariants as command
-use Rattle.command_effects.specs.Effects.{step, group_or_current, owner_or_issuer, new_group, altered_group}
-use Rattle.command_conflicts.specs.declared.conflict.Conflict.TheVariants.{Root, InUse}
-use Rattle.command_conflicts.specs.declared.conflict.Holder.TheVariants.{Connected}
-use Rattle.command_conflicts.specs.declared.conflict.Limit.TheVariants.{Groups}
-use Rattle.command_conflicts.specs.Conflicts.{first_met, if_met, is_root, cycle, no_named_group, has_connected, groups_full, add_group_conflicts, alt_group_conflicts, del_group_conflicts}
-use Rattle.command_conflicts.proofs.Unmet.{AreUnmet, each_unmet, unmet, group_there, named_there, name_free, within, no_subgroup, no_root, no_root_moved, no_cycle}
-use Rattle.command_conflicts.proofs.Walks.{meets-within}
+use Rattle.command_fields.specs.declared.issuer.Issuer.{Issuer}
+use Rattle.command_fields.specs.declared.fields.AddGroup.{AddGroup}
+use Rattle.command_fields.specs.declared.fields.AltGroup.{AltGroup}
+use Rattle.command_fields.specs.declared.fields.DelGroup.{DelGroup}
+use Rattle.command_fields.specs.declared.fields.CommandFields.TheVariants as command
+use Rattle.command_rules.specs.Effects.{step, group_or_current, owner_or_issuer, new_group, altered_group}
+use Rattle.command_rules.specs.declared.conflict.Conflict.TheVariants.{Root, InUse}
+use Rattle.command_rules.specs.declared.conflict.Holder.TheVariants.{Connected}
+use Rattle.command_rules.specs.declared.conflict.Limit.TheVariants.{Groups}
+use Rattle.command_rules.specs.Conflicts.{first_met, if_met, is_root, cycle, no_named_group, has_connected, groups_full, add_group_conflicts, alt_group_conflicts, del_group_conflicts}
+use Rattle.command_rules.proofs.Unmet.{AreUnmet, each_unmet, unmet, group_there, named_there, name_free, within, no_subgroup, no_root, no_root_moved, no_cycle}
+use Rattle.command_rules.proofs.Walks.{meets-within}
 use Rattle.lawful_commands.proofs.RowLists.{all-each, both-each, all-push, all-at, none-found, found-none, none-any}
 use Rattle.lawful_commands.proofs.Kept.{Fits, groups-changed}
 

@@ -12,8 +12,8 @@ use Rattle.racf_profiles.specs.Limits.{most_members, most_categories}
 use Rattle.racf_profiles.specs.LawfulProfiles.{AreMembers, member_name as name_of, is_member_of, is_of_kind, kind_in}
 use Rattle.racf_profiles.specs.Lawful.{AreCategories}
 use Rattle.group_tree.proofs.Rows.{same, itself}
-use Rattle.command_effects.specs.UserEffects.{with_class}
-use Rattle.command_effects.specs.Members.{member_name, is_member_named, with_member, is_named_in, without_members, members_after, with_category_name, categories_defined, options_after}
+use Rattle.command_rules.specs.UserEffects.{with_class}
+use Rattle.command_rules.specs.Members.{member_name, is_member_named, with_member, is_named_in, without_members, members_after, with_category_name, categories_defined, options_after}
 use Rattle.lawful_commands.proofs.RowLists.{all-filter, all-put, all-passes, passes-all, any-push, distinct-filter, distinct-put}
 use Rattle.lawful_commands.proofs.UserParts.{distinct-with_class}
 use Rattle.lawful_commands.proofs.Kept.{Extends}

@@ -9,14 +9,14 @@ use Rattle.racf_profiles.specs.LawfulProfiles.{AreProfiles, IsClass, kind_in}
 use Rattle.racf_profiles.specs.Counts.{entries_in}
 use Rattle.racf_profiles.specs.Lawful.{AreLawful}
 use Rattle.group_tree.proofs.Rows.{same, itself}
-use Rattle.command_parser.specs.declared.option_fields.SetRopts.{SetRopts}
-use Rattle.command_effects.specs.UserEffects.{switched}
-use Rattle.command_effects.specs.OptionEffects.{names_class, set_class, set_options, after_set_ropts}
-use Rattle.command_effects.specs.ProfileEffects.{dataset}
-use Rattle.command_conflicts.specs.declared.conflict.Conflict.{Conflict}
-use Rattle.command_conflicts.specs.OptionConflicts.{may_be_listed, always_active_class, never_listed_class, listed_anew, set_ropts_conflicts}
-use Rattle.command_conflicts.specs.Conflicts.{first_met}
-use Rattle.command_conflicts.proofs.Unmet.{each_unmet}
+use Rattle.command_fields.specs.declared.option_fields.SetRopts.{SetRopts}
+use Rattle.command_rules.specs.UserEffects.{switched}
+use Rattle.command_rules.specs.OptionEffects.{names_class, set_class, set_options, after_set_ropts}
+use Rattle.command_rules.specs.ProfileEffects.{dataset}
+use Rattle.command_rules.specs.declared.conflict.Conflict.{Conflict}
+use Rattle.command_rules.specs.OptionConflicts.{may_be_listed, always_active_class, never_listed_class, listed_anew, set_ropts_conflicts}
+use Rattle.command_rules.specs.Conflicts.{first_met}
+use Rattle.command_rules.proofs.Unmet.{each_unmet}
 use Rattle.lawful_commands.proofs.RowLists.{all-each, all-map}
 use Rattle.lawful_commands.proofs.Kept.{Extends, class-kept, classes-changed}
 

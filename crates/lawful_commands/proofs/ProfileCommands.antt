@@ -25,22 +25,22 @@ use Rattle.racf_profiles.specs.Lawful.{AreLawful}
 use Rattle.racf_profiles.proofs.OrderedProfiles.{profile-put}
 use Rattle.racf_profiles.proofs.States.{find-passes}
 use Rattle.group_tree.proofs.Rows.{same}
-use Rattle.command_parser.specs.declared.commands.Issuer.{Issuer}
-use Rattle.command_parser.specs.declared.profile_fields.AddSd.{AddSd}
-use Rattle.command_parser.specs.declared.profile_fields.AltSd.{AltSd}
-use Rattle.command_parser.specs.declared.profile_fields.RDefine.{RDefine}
-use Rattle.command_parser.specs.declared.profile_fields.RAlter.{RAlter}
-use Rattle.command_parser.specs.declared.profile_fields.Permit.{Permit}
-use Rattle.command_parser.specs.declared.fields.CommandFields.{CommandFields}
-use Rattle.command_parser.specs.declared.fields.CommandFields.TheVariants as command
-use Rattle.command_effects.specs.Members.{options_after}
-use Rattle.command_effects.specs.ProfileEffects.{dataset, failures_from_read, new_data_set, altered_data_set, new_resource, altered_resource, profile_put}
-use Rattle.command_effects.specs.PermitEffects.{permitted_profile, standard_after, conditional_after}
-use Rattle.command_effects.specs.Effects.{step}
-use Rattle.command_conflicts.specs.declared.conflict.Limit.TheVariants.{ClassProfiles, Profiles, Entries, AllEntries, Members, Categories}
-use Rattle.command_conflicts.specs.Conflicts.{first_met, over}
-use Rattle.command_conflicts.specs.ProfileConflicts.{profiles_in, class_profiles_full, profiles_full, list_full, standard_full, conditional_full, entries_full, members_full, categories_full, add_sd_conflicts, add_sd_requirements, add_sd_limits, r_define_conflicts, r_define_requirements, r_define_limits, r_alter_conflicts, permit_conflicts}
-use Rattle.command_conflicts.proofs.Unmet.{AreUnmet, each_unmet, within}
+use Rattle.command_fields.specs.declared.issuer.Issuer.{Issuer}
+use Rattle.command_fields.specs.declared.profile_fields.AddSd.{AddSd}
+use Rattle.command_fields.specs.declared.profile_fields.AltSd.{AltSd}
+use Rattle.command_fields.specs.declared.profile_fields.RDefine.{RDefine}
+use Rattle.command_fields.specs.declared.profile_fields.RAlter.{RAlter}
+use Rattle.command_fields.specs.declared.profile_fields.Permit.{Permit}
+use Rattle.command_fields.specs.declared.fields.CommandFields.{CommandFields}
+use Rattle.command_fields.specs.declared.fields.CommandFields.TheVariants as command
+use Rattle.command_rules.specs.Members.{options_after}
+use Rattle.command_rules.specs.ProfileEffects.{dataset, failures_from_read, new_data_set, altered_data_set, new_resource, altered_resource, profile_put}
+use Rattle.command_rules.specs.PermitEffects.{permitted_profile, standard_after, conditional_after}
+use Rattle.command_rules.specs.Effects.{step}
+use Rattle.command_rules.specs.declared.conflict.Limit.TheVariants.{ClassProfiles, Profiles, Entries, AllEntries, Members, Categories}
+use Rattle.command_rules.specs.Conflicts.{first_met, over}
+use Rattle.command_rules.specs.ProfileConflicts.{profiles_in, class_profiles_full, profiles_full, list_full, standard_full, conditional_full, entries_full, members_full, categories_full, add_sd_conflicts, add_sd_requirements, add_sd_limits, r_define_conflicts, r_define_requirements, r_define_limits, r_alter_conflicts, permit_conflicts}
+use Rattle.command_rules.proofs.Unmet.{AreUnmet, each_unmet, within}
 use Rattle.lawful_commands.proofs.RowLists.{distinct-none, all-each}
 use Rattle.lawful_commands.proofs.Kept.{Extends, extends_itself, defined-none, defined-kept, name-kept, profile-kept, class-kept}
 use Rattle.lawful_commands.proofs.UserParts.{defined-added, defined-taken}

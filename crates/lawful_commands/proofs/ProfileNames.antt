@@ -20,9 +20,9 @@ use Rattle.racf_profiles.specs.Lookup.{class_of}
 use Rattle.racf_profiles.specs.LawfulProfiles.{AreClasses, is_profile_name}
 use Rattle.racf_profiles.proofs.Tables.{facts_of-each}
 use Rattle.group_tree.proofs.Rows.{same, itself}
-use Rattle.command_effects.specs.ProfileEffects.{dataset}
-use Rattle.command_conflicts.specs.ProfileConflicts.{no_resource_class, no_global_class, classless, not_generic, has_generic}
-use Rattle.command_conflicts.proofs.Unmet.{unmet}
+use Rattle.command_rules.specs.ProfileEffects.{dataset}
+use Rattle.command_rules.specs.ProfileConflicts.{no_resource_class, no_global_class, classless, not_generic, has_generic}
+use Rattle.command_rules.proofs.Unmet.{unmet}
 use Rattle.lawful_commands.proofs.Kept.{found-named}
 
 -- ---- a class that is there is one of the fixed classes

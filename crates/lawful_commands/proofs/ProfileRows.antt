@@ -24,7 +24,7 @@ use Rattle.group_tree.proofs.Rows.{same}
 use Rattle.class_profiles.specs.Classes.{profile_in}
 use Rattle.row_tables.specs.ChangedRow.{at_row}
 use Rattle.row_tables.proofs.RowLaws.{sum-drop_row}
-use Rattle.command_effects.specs.ProfileEffects.{profile_put, profile_dropped, profile_changed}
+use Rattle.command_rules.specs.ProfileEffects.{profile_put, profile_dropped, profile_changed}
 use Rattle.lawful_commands.proofs.RowLists.{all-at, names-at, sum-at-le}
 use Rattle.lawful_commands.proofs.Kept.{Extends, extends_itself, classes-changed}
 

@@ -14,19 +14,19 @@ use Rattle.racf_profiles.specs.Lawful.{AreLawful}
 use Rattle.racf_profiles.proofs.EditLaws.{all-drop_row, length-drop_row}
 use Rattle.group_tree.proofs.Rows.{itself}
 use Rattle.group_tree.proofs.Edits.{none_from_map}
-use Rattle.command_parser.specs.declared.commands.Issuer.{Issuer}
-use Rattle.command_parser.specs.declared.fields.AddUser.{AddUser}
-use Rattle.command_parser.specs.declared.fields.AltUser.{AltUser}
-use Rattle.command_parser.specs.declared.fields.DelUser.{DelUser}
-use Rattle.command_parser.specs.declared.fields.Connect.{Connect}
-use Rattle.command_parser.specs.declared.fields.Remove.{Remove}
-use Rattle.command_parser.specs.declared.fields.CommandFields.{CommandFields}
-use Rattle.command_parser.specs.declared.fields.CommandFields.TheVariants as command
-use Rattle.command_effects.specs.Effects.{step, group_or_current, new_user, altered_user, connected_user, removed_user, connects_after, with_class}
-use Rattle.command_conflicts.specs.declared.conflict.Conflict.TheVariants.{NoClass, DefaultGroup}
-use Rattle.command_conflicts.specs.declared.conflict.Limit.TheVariants.{Users, Connections, AllConnections}
-use Rattle.command_conflicts.specs.Conflicts.{first_met, if_met, no_class, not_connected, default_not_connected, default_group, last_special, users_full, user_full, connections_full, add_user_conflicts, alt_user_conflicts, del_user_conflicts, connect_conflicts, remove_conflicts}
-use Rattle.command_conflicts.proofs.Unmet.{AreUnmet, each_unmet, unmet, group_there, name_free, within}
+use Rattle.command_fields.specs.declared.issuer.Issuer.{Issuer}
+use Rattle.command_fields.specs.declared.fields.AddUser.{AddUser}
+use Rattle.command_fields.specs.declared.fields.AltUser.{AltUser}
+use Rattle.command_fields.specs.declared.fields.DelUser.{DelUser}
+use Rattle.command_fields.specs.declared.fields.Connect.{Connect}
+use Rattle.command_fields.specs.declared.fields.Remove.{Remove}
+use Rattle.command_fields.specs.declared.fields.CommandFields.{CommandFields}
+use Rattle.command_fields.specs.declared.fields.CommandFields.TheVariants as command
+use Rattle.command_rules.specs.Effects.{step, group_or_current, new_user, altered_user, connected_user, removed_user, connects_after, with_class}
+use Rattle.command_rules.specs.declared.conflict.Conflict.TheVariants.{NoClass, DefaultGroup}
+use Rattle.command_rules.specs.declared.conflict.Limit.TheVariants.{Users, Connections, AllConnections}
+use Rattle.command_rules.specs.Conflicts.{first_met, if_met, no_class, not_connected, default_not_connected, default_group, last_special, users_full, user_full, connections_full, add_user_conflicts, alt_user_conflicts, del_user_conflicts, connect_conflicts, remove_conflicts}
+use Rattle.command_rules.proofs.Unmet.{AreUnmet, each_unmet, unmet, group_there, name_free, within}
 use Rattle.lawful_commands.proofs.RowLists.{all_pass-filter, any-at, none-found, sum-at-le, distinct-drop, distinct-none, distinct-one}
 use Rattle.lawful_commands.proofs.Kept.{defined-none}
 use Rattle.lawful_commands.proofs.UserRows.{special_user-counted, user-added, user-changed, user-dropped}

@@ -11,9 +11,9 @@ use Rattle.racf_profiles.specs.declared.rows.Rows.{Rows}
 use Rattle.racf_profiles.specs.Names.{is_to}
 use Rattle.racf_profiles.specs.Edits.{drop_row}
 use Rattle.racf_profiles.specs.LawfulUsers.{AreDefined}
-use Rattle.command_parser.specs.declared.fields.Connect.{Connect}
-use Rattle.command_effects.specs.Security.{category_number, with_category, without_category}
-use Rattle.command_effects.specs.UserEffects.{with_class, without_classes, connects_after, altered_connection}
+use Rattle.command_fields.specs.declared.fields.Connect.{Connect}
+use Rattle.command_rules.specs.Security.{category_number, with_category, without_category}
+use Rattle.command_rules.specs.UserEffects.{with_class, without_classes, connects_after, altered_connection}
 use Rattle.group_tree.proofs.Rows.{same, itself}
 use Rattle.lawful_commands.proofs.RowLists.{all-map, all-unmap, none-any, all_pass-push, map-itself, distinct-push, distinct-filter}
 

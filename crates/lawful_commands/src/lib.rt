@@ -1,6 +1,6 @@
 //! The law that ties the commands to what holds of the rows of every database: a command that meets no conflict
-//! leaves lawful rows (`racf_profiles` says what these are, `command_conflicts` which conflicts a command meets, and
-//! `command_effects` what it makes of the rows).
+//! leaves lawful rows (`racf_profiles` says what these are, `command_rules` which conflicts a command meets and what it
+//! makes of the rows).
 //!
 //! The functions do nothing: their contracts are what is proved. `racf_database` rests on them, and whoever keeps
 //! rows of his own can do the same:
@@ -18,11 +18,11 @@ ghost use Rattle.racf_profiles.specs.declared.fixed_classes.FixedClass.{FixedCla
 ghost use Rattle.racf_profiles.specs.declared.fixed_classes.FixedClass.TheVariants.{Dataset};
 ghost use Rattle.racf_profiles.specs.NewDatabase.{new_rows};
 ghost use Rattle.racf_profiles.specs.Lawful.{AreLawful};
-ghost use Rattle.command_parser.specs.declared.commands.Issuer.{Issuer};
-ghost use Rattle.command_parser.specs.declared.fields.CommandFields.{CommandFields};
-ghost use Rattle.command_parser.specs.LawfulFields.{AreLawfulFields};
-ghost use Rattle.command_effects.specs.Effects.{step};
-ghost use Rattle.command_conflicts.specs.Conflicts.{conflict_of};
+ghost use Rattle.command_fields.specs.declared.issuer.Issuer.{Issuer};
+ghost use Rattle.command_fields.specs.declared.fields.CommandFields.{CommandFields};
+ghost use Rattle.command_fields.specs.LawfulFields.{AreLawfulFields};
+ghost use Rattle.command_rules.specs.Effects.{step};
+ghost use Rattle.command_rules.specs.Conflicts.{conflict_of};
 
 use class_profiles::laws::puts_are_counted;
 use generic_names::laws;

@@ -1,20 +1,22 @@
 -- The room of the keys of a bucket's entries: sums over the entries.
-use Rattle.std.proofs.Common.{◌≡◌, ℕ, zero, suc, ◌+◌, ◌<◌, ◌≤◌, List, [], ◌∷◌, ◌++◌, length, map, take, drop, get_or, Some, refl, ap, sym, ◌∙◌, append_assoc, length-append, arith}
+use Rattle.std.proofs.Common.{◌≡◌, ℕ, zero, suc, ◌+◌, ◌-◌, ◌<◌, ◌≤◌, List, [], ◌∷◌, ◌++◌, length, map, take, drop, get_or, Some, refl, ap, sym, ◌∙◌, append_assoc, length-append, arith}
 use Rattle.std.specs.Prelude.{IsTrue}
 use Rattle.std.specs.List.{slice_get}
 use Rattle.std.proofs.lemmas.Bool.{and_from, le-leb, lt-ltb}
-use Rattle.std.proofs.lemmas.List.{length-map, map-append, take_all, drop_all, length-take-le}
+use Rattle.std.proofs.lemmas.List.{length-map, map-append, take_all, drop_all, length-take-le, take-append-drop, take-append-le}
 use Rattle.std.proofs.lemmas.List.Sums.{sum_by-cons, sum_by-append}
+use Rattle.std.proofs.Math.Seq.{take-append-add}
 use Rattle.dataspace.specs.declared.room.Room.{Room}
 use Rattle.dataspace.specs.Placed.{Placed, used, fits}
-use Rattle.dataspace.specs.Rooms.{none, plus, spare}
+use Rattle.dataspace.specs.Rooms.{none, plus, spare, placed_in}
 use Rattle.generic_names.specs.Spelled.{Spelled, qualifiers}
 use Rattle.generic_names.specs.Before.{ranks}
 use Rattle.generic_names.specs.OrderKey.{order_key, squeezed}
 use Rattle.generic_names.specs.Laws.{IsPattern}
 use Rattle.generic_names.proofs.KeyLaws.{ranks-length}
 use Rattle.profile_index.specs.declared.entry.Entry.{Entry}
-use Rattle.profile_index.specs.Buckets.{key_of, keys_room, both, Filled, with_entries, HasRoom}
+use Rattle.profile_index.specs.Buckets.{key_of, keys_room, region_of, both, Filled, with_entries, HasRoom, IsRegionAt}
+use Rattle.pages.specs.PartAt.{IsPartAt}
 use Rattle.profile_index.proofs.BucketLaws.{name-fits, drop-next, get-mapped}
 
 -- the key of a profile's name has at most 248 bytes
@@ -30,6 +32,10 @@ split-at : {A : Type 0} (xs : List A) (i : ℕ) (x : A) → i < length xs → x 
 split-at [] i x below is = absurd (omega arith)
 split-at (y ∷ xs) zero x below is = ap (λ z. z ∷ xs) is
 split-at (y ∷ xs) (suc i) x below is = ap (λ l. y ∷ l) (split-at xs i x (omega arith) is)
+
+-- a region of just the room of the texts that lie in it has none to spare
+pub none-spare : (keys : Placed) (texts : List (List ℕ)) → keys ≡ region_of texts → spare keys ≡ none
+none-spare keys texts is = ap (λ (k : Placed). spare k) is ∙ same-room _ _ _ _ (omega arith) (omega arith)
 
 module _ {T : Type 0} where
   bytes-append : (xs ys : List (Entry T)) → (keys_room (xs ++ ys)).bytes ≡ (keys_room xs).bytes + (keys_room ys).bytes
@@ -91,14 +97,11 @@ module _ {T : Type 0} where
       and_from _ _ (le-leb (used keys.texts + length key) keys.bytes (omega (arith, more, one, none, old, ap length is, h.bytes)))
       (lt-ltb (length keys.texts) keys.rows (omega (arith, rows, keys-rows xs, length-append xs (e ∷ []), h.rows)))
 
-  -- where the room is that of the keys, none is left
-  pub none-spare : (keys : Placed) (xs : List (Entry T)) → keys.texts ≡ map key_of xs → ◌≡◌ {A = Room} record { bytes = keys.bytes; rows = keys.rows } (keys_room xs) → spare keys ≡ none
-  none-spare keys xs texts room =
-      let bytes = ap (λ (r : Room). r.bytes) room in
-      let rows = ap (λ (r : Room). r.rows) room in
-      let taken = ap (λ l. used l) texts in
-      let count = ap (λ (l : List (List ℕ)). length l) texts in
-      same-room _ _ _ _ (omega (arith, bytes, taken)) (omega (arith, rows, count))
+  -- a region of the keys of entries, and of their room
+  pub just-room : (keys : Placed) (xs : List (Entry T)) → keys.texts ≡ map key_of xs → ◌≡◌ {A = Room} record { bytes = keys.bytes; rows = keys.rows } (keys_room xs) → keys ≡ region_of (map key_of xs)
+  just-room keys xs texts room =
+      ap (λ l. placed_in (record { bytes = keys.bytes; rows = keys.rows }) l) texts
+      ∙ ap (λ (r : Room). placed_in r (map key_of xs)) room
 
   -- ---- sums
   -- the key of an entry is short
@@ -149,3 +152,64 @@ module _ {T : Type 0} where
 
   pub room-alone : (first all : Room) (xs : List (Entry T)) → first ≡ none → all ≡ both first (keys_room xs) → all ≡ keys_room xs
   room-alone first all xs f0 f1 = f1 ∙ ap (λ (r : Room). both r (keys_room xs)) f0 ∙ same-room _ _ _ _ (omega arith) (omega arith)
+
+  -- ---- regions one behind another
+  -- a part of the entries has its keys in a part of the keys
+  pub region-at : (xs part : List (Entry T)) (place row : ℕ) (region : Placed) → IsPartAt xs place part row → region ≡ region_of (map key_of part) → IsRegionAt (map key_of xs) place region row
+  region-at xs part place row region at is =
+      let texts : region.texts ≡ map key_of part = ap (λ (k : Placed). k.texts) is in
+      record {
+        part = record {
+          front = map key_of at.front;
+          back = map key_of at.back;
+          among = ap (λ l. map key_of l) at.among
+              ∙ map-append key_of at.front (part ++ at.back)
+              ∙ ap (λ l. map key_of at.front ++ l) (map-append key_of part at.back ∙ ap (λ l. l ++ map key_of at.back) (sym texts));
+          start = omega (arith, length-map at.front key_of, at.start);
+          within = omega (arith, ap (λ (l : List (List ℕ)). length l) texts, length-map part key_of, at.within);
+        };
+        just = is ∙ ap (λ l. region_of l) (sym texts);
+      }
+
+  -- the room of the keys of a list and of those behind it
+  both-appended : (xs ys : List (Entry T)) → keys_room (xs ++ ys) ≡ both (keys_room xs) (keys_room ys)
+  both-appended xs ys = same-room _ _ _ _ (bytes-append xs ys) (omega (arith, keys-rows (xs ++ ys), keys-rows xs, keys-rows ys, length-append xs ys))
+
+  -- what a region has taken, but for what the keys before a place take, is the room of the rest
+  pub room-behind : (xs : List (Entry T)) (place : ℕ) (first front free : Room) (bytes count : ℕ) → first ≡ none → front ≡ both first (keys_room (take place xs)) → free ≡ none → bytes ≡ (keys_room xs).bytes → count ≡ length xs
+      → (front.bytes ≤ bytes + free.bytes) × ((front.rows ≤ count + free.rows) × ◌≡◌ {A = Room} record { bytes = bytes + free.bytes - front.bytes; rows = count + free.rows - front.rows } (keys_room (drop place xs)))
+  room-behind xs place first front free bytes count f0 f1 f2 taken all =
+      let parts = ap (λ l. keys_room l) (sym (take-append-drop place xs)) ∙ both-appended (take place xs) (drop place xs) in
+      let is = f1 ∙ ap (λ (r : Room). both r (keys_room (take place xs))) f0 in
+      let b1 = ap (λ (r : Room). r.bytes) parts in
+      let n1 = ap (λ (r : Room). r.rows) parts in
+      let b2 = ap (λ (r : Room). r.bytes) is in
+      let n2 = ap (λ (r : Room). r.rows) is in
+      let b3 = ap (λ (r : Room). r.bytes) f2 in
+      let n3 = ap (λ (r : Room). r.rows) f2 in
+      let rows = keys-rows xs in
+      (omega (arith, b1, b2, b3, taken), (omega (arith, n1, n2, n3, all, rows), same-room _ _ _ _ (omega (arith, b1, b2, b3, taken)) (omega (arith, n1, n2, n3, all, rows))))
+
+  -- the room of the keys up to the end of a part
+  pub room-up-to : (xs part : List (Entry T)) (place row next : ℕ) → IsPartAt xs place part row → next ≡ place + (length part - row)
+      → (both (keys_room (take place xs)) (keys_room (drop row part)) ≡ keys_room (take next xs)) × (next ≤ length xs)
+  room-up-to xs part place row next at is =
+      let within = at.within in
+      let up : place ≡ length at.front + row = omega (arith, at.start) in
+      let to : next ≡ length at.front + length part = omega (arith, is, at.start, within) in
+      let size : next ≤ length xs = omega (arith, ap (λ (l : List (Entry T)). length l) at.among, length-append at.front (part ++ at.back), length-append part at.back, to) in
+      let before : take place xs ≡ at.front ++ take row part =
+      ap (λ l. take place l) at.among
+      ∙ ap (λ n. take n (at.front ++ (part ++ at.back))) up
+      ∙ take-append-add at.front (part ++ at.back) row
+      ∙ ap (λ l. at.front ++ l) (take-append-le row part at.back (omega (arith, within))) in
+      let behind : take next xs ≡ at.front ++ part =
+      ap (λ l. take next l) at.among
+      ∙ ap (λ n. take n (at.front ++ (part ++ at.back))) to
+      ∙ take-append-add at.front (part ++ at.back) (length part)
+      ∙ ap (λ l. at.front ++ l) (take-append-le (length part) part at.back (omega arith) ∙ take_all (length part) part (omega arith)) in
+      let whole : at.front ++ part ≡ take place xs ++ drop row part =
+      ap (λ l. at.front ++ l) (sym (take-append-drop row part))
+      ∙ sym (append_assoc at.front (take row part) (drop row part))
+      ∙ ap (λ l. l ++ drop row part) (sym before) in
+      (sym (both-appended (take place xs) (drop row part)) ∙ ap (λ l. keys_room l) (sym (behind ∙ whole)), size)

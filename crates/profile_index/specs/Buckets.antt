@@ -1,15 +1,26 @@
--- Words of buckets: the keys of entries, and the lengths of their names.
+-- Words of buckets: the keys of entries, the regions in which these lie, and the lengths of the names.
 use Rattle.std.specs.Prelude.{◌≡◌, ℕ, ◌+◌, ◌-◌, ◌<◌, ◌≤◌, List, ◌++◌, length, map, slice_get, sum_by, IsSomeAnd}
 use Rattle.dataspace.specs.declared.room.Room.{Room}
 use Rattle.dataspace.specs.Placed.{Placed}
-use Rattle.dataspace.specs.Rooms.{room_for}
+use Rattle.dataspace.specs.Rooms.{room_for, placed_in}
 use Rattle.generic_names.specs.OrderKey.{order_key}
 use Rattle.pages.specs.KeyBegin.{begin_of, AreBytes}
+use Rattle.pages.specs.PartAt.{IsPartAt}
 use Rattle.profile_index.specs.declared.entry.Entry.{Entry}
 
 -- both rooms together
 abbrev pub both : Room → Room → Room
 both one other = record { bytes = one.bytes + other.bytes; rows = one.rows + other.rows }
+
+-- the region of these keys: of just their room, in which they were placed in their order
+abbrev pub region_of : List (List ℕ) → Placed
+region_of keys = placed_in (room_for keys) keys
+
+-- Of keys that lie in regions, one region behind another, the key of this place lies in this region, as the text of this
+-- row. The region has just the room of the keys that lie in it.
+pub record IsRegionAt (keys : List (List ℕ)) (place : ℕ) (region : Placed) (row : ℕ) : Type 0 where
+  pub part : IsPartAt keys place region.texts row
+  pub just : region ≡ region_of region.texts
 
 -- Entries with which a bucket is filled, and the room for the keys of all that are to come.
 pub record Filled (T : Type 0) : Type 0 where

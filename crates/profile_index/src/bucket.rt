@@ -1,16 +1,16 @@
 //! The leaves of a shared index.
-ghost use Rattle.std.specs.Prelude.{◌≡◌, ◌+◌, ◌-◌, ◌*◌, ◌^◌, ◌<◌, ◌≤◌, [], ◌∷◌, ◌++◌, length, map, IfOk, Some, option_map, slice_get, slice_set};
+ghost use Rattle.std.specs.Prelude.{◌≡◌, ◌+◌, ◌-◌, ◌*◌, ◌^◌, ◌<◌, ◌≤◌, [], ◌∷◌, ◌++◌, length, map, drop, IfOk, Some, option_map, slice_get, slice_set};
 ghost use Rattle.std.specs.List.{insert};
 ghost use Rattle.std.specs.Arc.{arc_value};
 ghost use Rattle.std.specs.Ordering.{nat_cmp, is_lt};
 ghost use Rattle.std.specs.Cmp.Lexicographic.{slice_cmp};
 ghost use Rattle.pages.specs.Parts.{change_items};
 ghost use Rattle.dataspace.specs.Rooms.{none};
-ghost use Rattle.profile_index.specs.Buckets.{key_of, most_placed, names_length};
+ghost use Rattle.profile_index.specs.Buckets.{key_of, keys_room, region_of, most_placed, names_length};
 
 use crate::bucket_rows::{BucketRows, names_length};
 use crate::entry::Entry;
-use dataspace::Room;
+use dataspace::{Region, Room};
 use generic_names::{Pattern, first_qualifier};
 use pages::{Change, KeyedPart, Made, Part, SearchKey, begin_of};
 use std::alloc::{AllocError, Global};
@@ -79,6 +79,22 @@ impl<T: Drop> Bucket<T> {
         ensures most { result ≤ 246 * length self.now }
     {
         names_length(self.rows().entries())
+    }
+
+    /// The region of the keys: of just their room, in which they lie in the order of the entries.
+    pub(crate) fn keys(&self) -> &Region
+        ensures { result.now ≡ region_of (map key_of self.now) }
+    {
+        self.rows().keys()
+    }
+
+    /// The room that was taken for the keys, free or not, but for what the keys of the entries before a place take.
+    pub(crate) fn taken_from(&self, place: usize) -> Room
+        requires { place ≤ length self.now }
+        ensures room { result ≡ keys_room (drop place self.now) }
+        ensures bytes { result.bytes < 2 ^ 32 }
+    {
+        self.rows().taken_from(place)
     }
 
     /// What is free in the region of the keys: nothing, since it has just the room of these.

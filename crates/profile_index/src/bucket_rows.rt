@@ -5,7 +5,7 @@ ghost use Rattle.std.specs.Arc.{arc_value};
 ghost use Rattle.generic_names.specs.OrderKey.{order_key};
 ghost use Rattle.dataspace.specs.Rooms.{none};
 ghost use Rattle.profile_index.specs.declared.entry.Entry.{Entry};
-ghost use Rattle.profile_index.specs.Buckets.{key_of, keys_room, names_length, both, with_entries, HasRoom};
+ghost use Rattle.profile_index.specs.Buckets.{key_of, keys_room, region_of, names_length, both, with_entries, HasRoom};
 
 use crate::entry::Entry;
 use crate::search::is_pattern;
@@ -28,15 +28,14 @@ pub(crate) struct BucketRows<T: Drop> {
 impl<T: Drop> Model for BucketRows<T> {
     ghost use Rattle.std.specs.Prelude.{◌≡◌, List, map};
     ghost use Rattle.std.specs.Arc.{arc_value};
-    ghost use Rattle.dataspace.specs.Rooms.{none, spare};
     ghost use Rattle.profile_index.specs.declared.entry.Entry.{Entry};
-    ghost use Rattle.profile_index.specs.Buckets.{key_of};
+    ghost use Rattle.profile_index.specs.Buckets.{key_of, region_of};
 
     ghost Value = { List (Entry T) };
 
     ghost view = { λ b. map arc_value b.rows.items };
 
-    ghost invariant = { λ b. (b.keys.texts ≡ map key_of (map arc_value b.rows.items)) × (spare b.keys ≡ none) };
+    ghost invariant = { λ b. b.keys ≡ region_of (map key_of (map arc_value b.rows.items)) };
 }
 
 impl<T: Drop> BucketRows<T> {
@@ -84,6 +83,28 @@ impl<T: Drop> BucketRows<T> {
         ensures { slice_get (map key_of self.now) place ≡ Some result.now }
     {
         self.keys.row(place)
+    }
+
+    /// The region of the keys: of just their room, in which they lie in the order of the entries.
+    pub(crate) fn keys(&self) -> &Region
+        ensures { result.now ≡ region_of (map key_of self.now) }
+    {
+        &self.keys
+    }
+
+    /// The room that was taken for the keys, free or not, but for what the keys of the entries before a place take.
+    pub(crate) fn taken_from(&self, place: usize) -> Room
+        requires place { place ≤ length self.now }
+        requires few { length self.now ≤ 16 }
+        ensures room { result ≡ keys_room (drop place self.now) }
+        ensures bytes { result.bytes < 2 ^ 32 }
+    {
+        let front = self.room_with(Room::none(), 0, place);
+        let spare = self.keys.spare();
+        Room {
+            bytes: self.keys.used() + spare.bytes - front.bytes,
+            rows: self.rows.len() + spare.rows - front.rows,
+        }
     }
 
     /// What is free in the region of the keys: nothing, since it has just the room of these.

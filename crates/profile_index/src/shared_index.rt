@@ -1,9 +1,9 @@
-ghost use Rattle.std.specs.Prelude.{◌≡◌, ◌+◌, ◌^◌, ◌<◌, ◌≤◌, [], length, find, IfOk, Some, slice_get};
+ghost use Rattle.std.specs.Prelude.{◌≡◌, ◌+◌, ◌^◌, ◌<◌, ◌≤◌, [], length, map, find, IfOk, Some, slice_get};
 ghost use Rattle.std.specs.Option.{option_copied};
 ghost use Rattle.generic_names.specs.Best.{best, IsInOrder, AreNamed};
 ghost use Rattle.dataspace.specs.Rooms.{none};
 ghost use Rattle.pages.specs.PartAt.{IsPartAt};
-ghost use Rattle.profile_index.specs.Buckets.{both, most_placed};
+ghost use Rattle.profile_index.specs.Buckets.{key_of, keys_room, both, most_placed, IsRegionAt};
 ghost use Rattle.profile_index.specs.Indexed.{name_of, AreOf};
 
 use crate::bucket::Bucket;
@@ -11,7 +11,7 @@ use crate::entry::Entry;
 use crate::entry_list::SharedEntries;
 use crate::index::NoMemory;
 use crate::search::{is_pattern, most_specific, place_for};
-use dataspace::Room;
+use dataspace::{Region, Room};
 use generic_names::{Pattern, Resource};
 use pages::{Made, Pages, Part};
 use std::alloc::Global;
@@ -84,6 +84,31 @@ impl<T: Drop> SharedIndex<T> {
         ensures named { AreNamed name_of self.now }
     {
         self.entries.len()
+    }
+
+    /// The region in which the key of the entry at a place lies, and the row of the key in it. The keys of all entries
+    /// lie in such regions in their order, one region behind another, and each region has just the room of its keys.
+    pub fn keys_at(&self, place: usize) -> (&Region, usize)
+        requires { place < length self.now }
+        ensures { IsRegionAt (map key_of self.now) place result.0.now result.1 }
+    {
+        let (bucket, row) = self.bucket_at(place);
+        (bucket.keys(), row)
+    }
+
+    /// The room that was taken for keys, free or not, summed over the regions of the index: just that of the keys.
+    pub fn taken(&self) -> Room
+        requires { length self.now < 2 ^ 31 }
+        ensures { result ≡ keys_room self.now }
+    {
+        let mut sum = Room::none();
+        let mut place = 0;
+        while place < self.entries.len() {
+            let (bucket, row) = self.bucket_at(place);
+            sum = both(sum, bucket.taken_from(row));
+            place += bucket.len() - row;
+        }
+        sum
     }
 
     /// What is free in the regions of the index: nothing, since each bucket's region has just the room of its keys.

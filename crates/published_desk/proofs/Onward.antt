@@ -1,8 +1,8 @@
 -- What a desk makes goes on from what is published.
 use Rattle.std.proofs.Common.{◌≡◌, ℕ, List, [], ◌∷◌, ◌++◌, Option, Ok, ap, sym, subst, ◌∙◌}
-use Rattle.racf_desk.specs.Position.{Position}
-use Rattle.racf_desk.specs.Outcome.{outcome}
-use Rattle.racf_desk.specs.Made.{Made, made_of_outcome, installed}
+use Rattle.desk_rules.specs.Position.{Position}
+use Rattle.desk_rules.specs.Outcome.{outcome}
+use Rattle.desk_rules.specs.Made.{Made, made_of_outcome, installed}
 use Rattle.command_history.specs.declared.events.Accepted.{Accepted}
 use Rattle.command_history.specs.declared.events.Event.{Event}
 use Rattle.command_history.specs.declared.events.Event.TheVariants.{Added}

@@ -1,8 +1,8 @@
 -- A desk over a new database stands where a history begins that was just opened.
 use Rattle.std.proofs.Common.{◌≡◌, ap, refl}
 use Rattle.racf_outside.specs.declared.never_disk.NeverDisk.{NeverDisk}
-use Rattle.racf_desk.specs.Made.{is_fresh, DeskOn}
-use Rattle.racf_desk.specs.Position.{first_position}
+use Rattle.desk_rules.specs.Made.{is_fresh, DeskOn}
+use Rattle.desk_rules.specs.Position.{first_position}
 use Rattle.command_history.specs.Reached.{reached}
 use Rattle.published_desk.specs.Standing.{AreTogether, nothing_published}
 

@@ -1,7 +1,7 @@
 -- How a desk and its publisher stand between two commands.
 use Rattle.std.specs.Prelude.{◌≡◌, [], false, None}
-use Rattle.racf_desk.specs.Position.{Position}
-use Rattle.racf_desk.specs.Made.{DeskOn}
+use Rattle.desk_rules.specs.Position.{Position}
+use Rattle.desk_rules.specs.Made.{DeskOn}
 use Rattle.command_history.specs.Events.{is_ended}
 use Rattle.command_history.specs.Reached.{reached}
 use Rattle.raclist_snapshots.specs.Publishing.{Publishing}

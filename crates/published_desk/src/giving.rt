@@ -1,7 +1,7 @@
 //! A command that is given, and published where it is accepted.
 ghost use Rattle.std.specs.Prelude.{◌≡◌, Some, OnOk, OnErr, IfOk};
-ghost use Rattle.racf_desk.specs.Made.{is_fresh};
-ghost use Rattle.racf_desk.specs.Position.{first_position};
+ghost use Rattle.desk_rules.specs.Made.{is_fresh};
+ghost use Rattle.desk_rules.specs.Position.{first_position};
 ghost use Rattle.command_history.specs.declared.events.Accepted.{Accepted};
 ghost use Rattle.raclist_snapshots.specs.Publishing.{ended_with};
 ghost use Rattle.published_desk.specs.Standing.{AreTogether, nothing_published};

@@ -2,18 +2,18 @@
 use Rattle.std.proofs.Common.{◌≡◌, ℕ, true, false, List, [], ◌∷◌, Option, None, Some, codes, refl}
 use Rattle.racf_profiles.specs.declared.rows.Rows.{Rows}
 use Rattle.racf_profiles.specs.NewDatabase.{new_rows}
-use Rattle.command_conflicts.specs.declared.conflict.Conflict.{Conflict}
-use Rattle.command_conflicts.specs.declared.conflict.Conflict.TheVariants.{Exists, Root, InUse, Cycle, DefaultGroup, UnknownName}
-use Rattle.command_conflicts.specs.declared.conflict.Named.TheVariants as named
-use Rattle.command_conflicts.specs.declared.conflict.Holder.TheVariants.{Subgroup, Connected}
-use Rattle.command_parser.specs.declared.commands.Issuer.{Issuer}
-use Rattle.command_parser.specs.declared.fields.AddUser.{AddUser}
-use Rattle.command_parser.specs.declared.fields.AltUser.{AltUser}
-use Rattle.command_parser.specs.declared.fields.Connect.{Connect}
-use Rattle.command_parser.specs.declared.fields.CommandFields.{CommandFields}
-use Rattle.command_parser.specs.declared.fields.CommandFields.TheVariants as fields
-use Rattle.command_effects.specs.Effects.{step}
-use Rattle.command_conflicts.specs.Conflicts.{conflict_of, no_user, no_owner, no_group, no_named_group, no_class, name_taken, not_connected, default_not_connected, has_subgroup, has_connected, has_profile, cycle, owner_not_superior, default_group, last_special, unknown_level, unknown_category, never_category, unknown_label, is_root, meets, users_full, groups_full, connections_full, user_full, add_user_conflicts, alt_user_conflicts, del_user_conflicts, add_group_conflicts, alt_group_conflicts, del_group_conflicts, connect_conflicts, remove_conflicts}
+use Rattle.command_rules.specs.declared.conflict.Conflict.{Conflict}
+use Rattle.command_rules.specs.declared.conflict.Conflict.TheVariants.{Exists, Root, InUse, Cycle, DefaultGroup, UnknownName}
+use Rattle.command_rules.specs.declared.conflict.Named.TheVariants as named
+use Rattle.command_rules.specs.declared.conflict.Holder.TheVariants.{Subgroup, Connected}
+use Rattle.command_fields.specs.declared.issuer.Issuer.{Issuer}
+use Rattle.command_fields.specs.declared.fields.AddUser.{AddUser}
+use Rattle.command_fields.specs.declared.fields.AltUser.{AltUser}
+use Rattle.command_fields.specs.declared.fields.Connect.{Connect}
+use Rattle.command_fields.specs.declared.fields.CommandFields.{CommandFields}
+use Rattle.command_fields.specs.declared.fields.CommandFields.TheVariants as fields
+use Rattle.command_rules.specs.Effects.{step}
+use Rattle.command_rules.specs.Conflicts.{conflict_of, no_user, no_owner, no_group, no_named_group, no_class, name_taken, not_connected, default_not_connected, has_subgroup, has_connected, has_profile, cycle, owner_not_superior, default_group, last_special, unknown_level, unknown_category, never_category, unknown_label, is_root, meets, users_full, groups_full, connections_full, user_full, add_user_conflicts, alt_user_conflicts, del_user_conflicts, add_group_conflicts, alt_group_conflicts, del_group_conflicts, connect_conflicts, remove_conflicts}
 
 abbrev start : Rows
 start = new_rows (λ _. true)

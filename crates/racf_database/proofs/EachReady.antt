@@ -14,19 +14,19 @@ use Rattle.racf_profiles.specs.Lawful.{AreLawful}
 use Rattle.racf_profiles.proofs.Found.{all-found}
 use Rattle.row_tables.specs.Tables.{Tables}
 use Rattle.row_tables.specs.Applying.{CanApply, HasRoom}
-use Rattle.command_parser.specs.declared.commands.Issuer.{Issuer}
-use Rattle.command_parser.specs.declared.fields.CommandFields.{CommandFields}
-use Rattle.command_parser.specs.declared.fields.CommandFields.TheVariants as command
-use Rattle.command_parser.specs.declared.profile_fields.RDefine.{RDefine}
-use Rattle.command_parser.specs.declared.profile_fields.Permit.{Permit}
-use Rattle.command_parser.specs.LawfulFields.{AreLawfulFields}
-use Rattle.command_effects.specs.Effects.{new_user, altered_user, connected_user, removed_user}
-use Rattle.command_effects.specs.ProfileEffects.{dataset, new_data_set, altered_data_set, new_resource, altered_resource}
-use Rattle.command_effects.specs.PermitEffects.{permitted_profile, ListsFit, PermitFits}
-use Rattle.command_effects.specs.Edits.{edits_of}
-use Rattle.command_conflicts.specs.Conflicts.{first_met, conflicts}
-use Rattle.command_conflicts.specs.ProfileConflicts.{r_define_conflicts, r_define_requirements, r_define_limits, permit_conflicts}
-use Rattle.command_conflicts.proofs.Unmet.{each_unmet}
+use Rattle.command_fields.specs.declared.issuer.Issuer.{Issuer}
+use Rattle.command_fields.specs.declared.fields.CommandFields.{CommandFields}
+use Rattle.command_fields.specs.declared.fields.CommandFields.TheVariants as command
+use Rattle.command_fields.specs.declared.profile_fields.RDefine.{RDefine}
+use Rattle.command_fields.specs.declared.profile_fields.Permit.{Permit}
+use Rattle.command_fields.specs.LawfulFields.{AreLawfulFields}
+use Rattle.command_rules.specs.Effects.{new_user, altered_user, connected_user, removed_user}
+use Rattle.command_rules.specs.ProfileEffects.{dataset, new_data_set, altered_data_set, new_resource, altered_resource}
+use Rattle.command_rules.specs.PermitEffects.{permitted_profile, ListsFit, PermitFits}
+use Rattle.command_rules.specs.Edits.{edits_of}
+use Rattle.command_rules.specs.Conflicts.{first_met, conflicts}
+use Rattle.command_rules.specs.ProfileConflicts.{r_define_conflicts, r_define_requirements, r_define_limits, permit_conflicts}
+use Rattle.command_rules.proofs.Unmet.{each_unmet}
 use Rattle.lawful_commands.proofs.FieldFacts.{data_set-lawful, class_profile-lawful}
 use Rattle.lawful_commands.proofs.GroupCommands.{can_remove, not_root}
 use Rattle.lawful_commands.proofs.Kept.{found-named}

@@ -16,14 +16,14 @@ use Rattle.racf_profiles.specs.Lawful.{AreLawful}
 use Rattle.group_tree.proofs.Rows.{itself}
 use Rattle.row_tables.specs.Tables.{Tables}
 use Rattle.row_tables.specs.Applying.{CanMake, CanApply, tables_after}
-use Rattle.command_parser.specs.declared.option_fields.SetRopts.{SetRopts}
-use Rattle.command_effects.specs.OptionEffects.{names_class, set_class, set_options, after_set_ropts}
-use Rattle.command_effects.specs.Edits.{sets_options, sets_flags, lists, unlists, put_flags, refreshes_listed, edits_of_set_ropts}
-use Rattle.command_effects.proofs.ClassEdits.{AreApart, lawful-apart}
-use Rattle.command_effects.proofs.SetRoptsEdits.{set_ropts-rows}
-use Rattle.command_conflicts.specs.OptionConflicts.{refreshed, unlisted_class, set_ropts_conflicts}
-use Rattle.command_conflicts.specs.Conflicts.{first_met}
-use Rattle.command_conflicts.proofs.Unmet.{each_unmet}
+use Rattle.command_fields.specs.declared.option_fields.SetRopts.{SetRopts}
+use Rattle.command_rules.specs.OptionEffects.{names_class, set_class, set_options, after_set_ropts}
+use Rattle.command_rules.specs.Edits.{sets_options, sets_flags, lists, unlists, put_flags, refreshes_listed, edits_of_set_ropts}
+use Rattle.command_rules.proofs.ClassEdits.{AreApart, lawful-apart}
+use Rattle.command_rules.proofs.SetRoptsEdits.{set_ropts-rows}
+use Rattle.command_rules.specs.OptionConflicts.{refreshed, unlisted_class, set_ropts_conflicts}
+use Rattle.command_rules.specs.Conflicts.{first_met}
+use Rattle.command_rules.proofs.Unmet.{each_unmet}
 use Rattle.lawful_commands.proofs.RowLists.{both-each, all-both, all-each, passes-all}
 use Rattle.lawful_commands.proofs.OptionCommands.{unmapped, never-named}
 

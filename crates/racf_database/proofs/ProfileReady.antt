@@ -22,7 +22,7 @@ use Rattle.group_tree.proofs.Rows.{itself}
 use Rattle.row_tables.specs.Tables.{Tables, classes_in}
 use Rattle.row_tables.specs.Applying.{CanApply, HasRoom, adds_into}
 use Rattle.class_profiles.specs.Classes.{room_in}
-use Rattle.command_effects.specs.Edits.{put_changed, put_options}
+use Rattle.command_rules.specs.Edits.{put_changed, put_options}
 use Rattle.lawful_commands.proofs.ProfileRows.{PutsAreCounted, found-at_class, found-profile, new-kind}
 
 -- What holds behind a profile that is put, where the rows after the whole change are lawful.

@@ -13,23 +13,23 @@ use Rattle.racf_profiles.specs.declared.profiles.Member.{Member}
 use Rattle.racf_profiles.specs.declared.profiles.Member.TheVariants as member
 use Rattle.racf_profiles.specs.declared.rows.Rows.{Rows}
 use Rattle.racf_profiles.specs.NewDatabase.{new_rows}
-use Rattle.command_values.specs.declared.values.Reset.TheVariants as reset
-use Rattle.command_parser.specs.declared.commands.Issuer.{Issuer}
-use Rattle.command_parser.specs.declared.profile_fields.AddSd.{AddSd}
-use Rattle.command_parser.specs.declared.profile_fields.AltSd.{AltSd}
-use Rattle.command_parser.specs.declared.profile_fields.RDefine.{RDefine}
-use Rattle.command_parser.specs.declared.profile_fields.RAlter.{RAlter}
-use Rattle.command_parser.specs.declared.profile_fields.RDelete.{RDelete}
-use Rattle.command_parser.specs.declared.profile_fields.Permit.{Permit}
-use Rattle.command_conflicts.specs.declared.conflict.Conflict.TheVariants.{NoUser, NoProfile, NoClass, Exists, InUse, NotGeneric, UnknownName}
-use Rattle.command_conflicts.specs.declared.conflict.Named.TheVariants as named
-use Rattle.command_conflicts.specs.declared.conflict.Holder.TheVariants as holder
-use Rattle.command_effects.specs.ProfileEffects.{dataset, new_data_set, altered_data_set, after_add_sd, after_r_define, after_r_alter}
-use Rattle.command_effects.specs.PermitEffects.{permitted_profile}
-use Rattle.command_effects.specs.Members.{members_after}
-use Rattle.command_conflicts.specs.Required.{first_met, no_owner, unknown_level, unknown_category, never_category, unknown_label}
-use Rattle.command_conflicts.specs.Conflicts.{has_profile}
-use Rattle.command_conflicts.specs.ProfileConflicts.{profiles_in, no_first_qualifier, no_permitted, no_such_class, no_resource_class, no_resource_profile, no_global_class, no_profile, profile_taken, not_generic, class_profiles_full, profiles_full, standard_full, conditional_full, entries_full, members_full, categories_full, add_sd_conflicts, add_sd_requirements, add_sd_limits, alt_sd_conflicts, r_define_conflicts, r_define_requirements, r_define_limits, r_alter_conflicts, r_delete_conflicts, permit_conflicts}
+use Rattle.command_fields.specs.declared.resets.Reset.TheVariants as reset
+use Rattle.command_fields.specs.declared.issuer.Issuer.{Issuer}
+use Rattle.command_fields.specs.declared.profile_fields.AddSd.{AddSd}
+use Rattle.command_fields.specs.declared.profile_fields.AltSd.{AltSd}
+use Rattle.command_fields.specs.declared.profile_fields.RDefine.{RDefine}
+use Rattle.command_fields.specs.declared.profile_fields.RAlter.{RAlter}
+use Rattle.command_fields.specs.declared.profile_fields.RDelete.{RDelete}
+use Rattle.command_fields.specs.declared.profile_fields.Permit.{Permit}
+use Rattle.command_rules.specs.declared.conflict.Conflict.TheVariants.{NoUser, NoProfile, NoClass, Exists, InUse, NotGeneric, UnknownName}
+use Rattle.command_rules.specs.declared.conflict.Named.TheVariants as named
+use Rattle.command_rules.specs.declared.conflict.Holder.TheVariants as holder
+use Rattle.command_rules.specs.ProfileEffects.{dataset, new_data_set, altered_data_set, after_add_sd, after_r_define, after_r_alter}
+use Rattle.command_rules.specs.PermitEffects.{permitted_profile}
+use Rattle.command_rules.specs.Members.{members_after}
+use Rattle.command_rules.specs.Required.{first_met, no_owner, unknown_level, unknown_category, never_category, unknown_label}
+use Rattle.command_rules.specs.Conflicts.{has_profile}
+use Rattle.command_rules.specs.ProfileConflicts.{profiles_in, no_first_qualifier, no_permitted, no_such_class, no_resource_class, no_resource_profile, no_global_class, no_profile, profile_taken, not_generic, class_profiles_full, profiles_full, standard_full, conditional_full, entries_full, members_full, categories_full, add_sd_conflicts, add_sd_requirements, add_sd_limits, alt_sd_conflicts, r_define_conflicts, r_define_requirements, r_define_limits, r_alter_conflicts, r_delete_conflicts, permit_conflicts}
 
 abbrev start : Rows
 start = new_rows (λ _. true)

@@ -13,14 +13,14 @@ use Rattle.group_tree.specs.Answers.{CanAdd, CanMove}
 use Rattle.group_tree.proofs.Rows.{id-find_group}
 use Rattle.row_tables.specs.Tables.{Tables, groups_in}
 use Rattle.row_tables.specs.Applying.{CanAddGroup, CanMoveGroup, CanPutGroup, CanApply, HasRoom}
-use Rattle.command_parser.specs.declared.commands.Issuer.{Issuer}
-use Rattle.command_parser.specs.declared.fields.AddGroup.{AddGroup}
-use Rattle.command_parser.specs.declared.fields.AltGroup.{AltGroup}
-use Rattle.command_effects.specs.Effects.{new_group, altered_group, group_or_current}
-use Rattle.command_effects.specs.Edits.{put_user, put_group}
-use Rattle.command_conflicts.specs.declared.conflict.Conflict.TheVariants.{Root}
-use Rattle.command_conflicts.specs.Conflicts.{first_met, if_met, is_root, cycle, no_named_group, add_group_conflicts, alt_group_conflicts}
-use Rattle.command_conflicts.proofs.Unmet.{each_unmet, no_root, no_root_moved}
+use Rattle.command_fields.specs.declared.issuer.Issuer.{Issuer}
+use Rattle.command_fields.specs.declared.fields.AddGroup.{AddGroup}
+use Rattle.command_fields.specs.declared.fields.AltGroup.{AltGroup}
+use Rattle.command_rules.specs.Effects.{new_group, altered_group, group_or_current}
+use Rattle.command_rules.specs.Edits.{put_user, put_group}
+use Rattle.command_rules.specs.declared.conflict.Conflict.TheVariants.{Root}
+use Rattle.command_rules.specs.Conflicts.{first_met, if_met, is_root, cycle, no_named_group, add_group_conflicts, alt_group_conflicts}
+use Rattle.command_rules.proofs.Unmet.{each_unmet, no_root, no_root_moved}
 use Rattle.lawful_commands.proofs.GroupCommands.{free, can_add, can_move}
 
 module _ (tables : Tables) where

@@ -8,22 +8,22 @@ use Rattle.racf_profiles.specs.Lookup.{user_of, group_of, is_user, is_group}
 use Rattle.racf_profiles.specs.Edits.{put_row, changed}
 use Rattle.racf_profiles.proofs.States.{find-passes}
 use Rattle.group_tree.proofs.Rows.{same}
-use Rattle.command_parser.specs.declared.commands.Issuer.{Issuer}
-use Rattle.command_parser.specs.declared.fields.AddUser.{AddUser}
-use Rattle.command_parser.specs.declared.fields.AddGroup.{AddGroup}
-use Rattle.command_parser.specs.declared.fields.CommandFields.{CommandFields}
-use Rattle.command_parser.specs.declared.fields.CommandFields.TheVariants as fields
-use Rattle.command_effects.specs.Effects.{at_row, step, new_user, altered_user, new_group, altered_group, connected_user, removed_user}
-use Rattle.command_effects.specs.Edits.{edits_of, put_user, put_group}
-use Rattle.command_conflicts.specs.Conflicts.{first_met, conflicts, add_user_conflicts, add_group_conflicts}
-use Rattle.command_effects.specs.ProfileEffects.{dataset, altered_data_set}
-use Rattle.command_effects.specs.PermitEffects.{permitted_profile}
-use Rattle.command_effects.proofs.ProfileSteps.{changed-put_changed, changed-r_define, changed-r_alter}
+use Rattle.command_fields.specs.declared.issuer.Issuer.{Issuer}
+use Rattle.command_fields.specs.declared.fields.AddUser.{AddUser}
+use Rattle.command_fields.specs.declared.fields.AddGroup.{AddGroup}
+use Rattle.command_fields.specs.declared.fields.CommandFields.{CommandFields}
+use Rattle.command_fields.specs.declared.fields.CommandFields.TheVariants as fields
+use Rattle.command_rules.specs.Effects.{at_row, step, new_user, altered_user, new_group, altered_group, connected_user, removed_user}
+use Rattle.command_rules.specs.Edits.{edits_of, put_user, put_group}
+use Rattle.command_rules.specs.Conflicts.{first_met, conflicts, add_user_conflicts, add_group_conflicts}
+use Rattle.command_rules.specs.ProfileEffects.{dataset, altered_data_set}
+use Rattle.command_rules.specs.PermitEffects.{permitted_profile}
+use Rattle.command_rules.proofs.ProfileSteps.{changed-put_changed, changed-r_define, changed-r_alter}
 use Rattle.row_tables.proofs.RowLaws.{put_row-at_row, put_row-new}
-use Rattle.command_effects.proofs.AfterLaws.{at_row-absent}
+use Rattle.command_rules.proofs.AfterLaws.{at_row-absent}
 use Rattle.racf_profiles.specs.Lawful.{AreLawful}
 use Rattle.racf_database.proofs.OptionReady.{changed-set_ropts}
-use Rattle.command_conflicts.proofs.Unmet.{each_unmet, name_free}
+use Rattle.command_rules.proofs.Unmet.{each_unmet, name_free}
 
 -- ---- a row that is there
 put_user-at : (change : User → User) → ((user : User) → (change user).id ≡ user.id) → (id : List ℕ) (users : List User) (user : User) → find (is_user id) users ≡ Some user

@@ -4,11 +4,12 @@ ghost use Rattle.std.specs.Result.{result_err};
 ghost use Rattle.racf_profiles.specs.Edits.{changed};
 ghost use Rattle.racf_profiles.specs.Lawful.{AreLawful};
 ghost use Rattle.racf_profiles.specs.NewDatabase.{new_database};
-ghost use Rattle.command_conflicts.specs.Conflicts.{conflict_of};
+ghost use Rattle.command_rules.specs.Conflicts.{conflict_of};
 
 use access_levels::Id;
-use command_conflicts::{Conflict, check_command};
+use command_conflicts::check_command;
 use command_parser::{Command, Issuer};
+use command_rules::Conflict;
 use generic_names::Pattern;
 use group_tree::Tree;
 use lawful_commands::new_rows_are_lawful;
@@ -80,7 +81,7 @@ impl Database {
     pub fn check(&self, issuer: &Issuer, command: &Command) -> Result<(), Conflict>
         ensures { result_err result ≡ conflict_of issuer.now command.now self.now.rows }
     {
-        check_command(&self.tables, issuer, command)
+        check_command(&self.tables, issuer, command.fields())
     }
 
     /// Makes the change that was prepared last. It takes no memory. A user or a group that goes takes time that grows

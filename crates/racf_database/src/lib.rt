@@ -18,7 +18,7 @@
 mod database;
 mod prepare;
 
-pub use command_conflicts::{Conflict, Holder, Limit, Named};
+pub use command_rules::{Conflict, Holder, Limit, Named};
 pub use database::Database;
 pub use row_tables::{
     MOST_CATEGORIES, MOST_CONNECTIONS, MOST_CONNECTIONS_IN_ALL, MOST_GROUPS, MOST_MEMBERS,

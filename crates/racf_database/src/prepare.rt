@@ -5,16 +5,16 @@ ghost use Rattle.racf_profiles.specs.declared.edits.Edit.{Edit};
 ghost use Rattle.racf_profiles.specs.Edits.{changed};
 ghost use Rattle.racf_profiles.specs.State.{is_of_copies};
 ghost use Rattle.racf_profiles.specs.Lawful.{AreLawful, LeaveLawfulClasses};
-ghost use Rattle.command_effects.specs.Effects.{step};
-ghost use Rattle.command_effects.specs.Edits.{edits_of, is_set_ropts};
-ghost use Rattle.command_conflicts.specs.Conflicts.{conflict_of};
+ghost use Rattle.command_rules.specs.Effects.{step};
+ghost use Rattle.command_rules.specs.Edits.{edits_of, is_set_ropts};
+ghost use Rattle.command_rules.specs.Conflicts.{conflict_of};
 
 use crate::database::Database;
 use class_profiles::laws::puts_are_counted;
 use command_effects::edits_of;
-use command_effects::laws::commands_edit_rows_alone;
 use command_parser::laws::fields_of_a_text_are_lawful;
 use command_parser::{Command, Issuer, printed_is_read};
+use command_rules::laws::commands_edit_rows_alone;
 use generic_names::laws::{order_is_total, text_reads_back};
 use lawful_commands::commands_leave_lawful_rows;
 use racf_profiles::{Change, Edits, NoMemory};
@@ -55,7 +55,7 @@ impl Database {
         order_is_total();
         text_reads_back();
         puts_are_counted();
-        let edits = edits_of(alloc, &self.tables, issuer, command)?;
+        let edits = edits_of(alloc, &self.tables, issuer, command.fields())?;
         self.tables.reserve(edits.as_slice())?;
         let change = Change {
             edits: Edits { items: edits },

@@ -22,18 +22,18 @@ use Rattle.racf_checkpoint.specs.Stored.{IsStored, IsPassedOver, Beside, Stores,
 use Rattle.journal_records.specs.declared.record.CommandRecord.{CommandRecord}
 use Rattle.journal_records.specs.Spelling.{spelled}
 use Rattle.racf_database.specs.Contents.{Contents as Database}
-use Rattle.racf_desk.specs.declared.answers.Ready.{Ready}
+use Rattle.desk_rules.specs.declared.answers.Ready.{Ready}
 use Rattle.racf_desk.specs.declared.desk.Desk.TheInside.{Inside}
-use Rattle.racf_desk.specs.declared.refusal.Refusal.{Refusal}
-use Rattle.racf_desk.specs.declared.refusal.Refusal.TheVariants as refusal
-use Rattle.racf_desk.specs.Images.{IsImageOf}
-use Rattle.racf_desk.specs.Outcome.{most_bytes, first_of, rules_of, journal_full, number_spent, refusal_of, outcome_in, outcome}
-use Rattle.racf_desk.specs.Position.{Position, at_checkpoint, start_behind, compacted, position_after, restarted}
-use Rattle.racf_desk.specs.Made.{Made, DeskOn, made_at, made_in, made_of_outcome, installed, is_fresh, IsRecorded}
-use Rattle.racf_desk.specs.Recovery.{base_of, recovered_from, recovered, StandsFor, StandsForEither, outcome_again}
-use Rattle.racf_desk.specs.Durable.{LeadTo, StandsThere, LeavesIt, LeavesCheckpoint, StaysEither, StaysThere, stands_at}
+use Rattle.desk_rules.specs.declared.refusal.Refusal.{Refusal}
+use Rattle.desk_rules.specs.declared.refusal.Refusal.TheVariants as refusal
+use Rattle.desk_rules.specs.Images.{IsImageOf}
+use Rattle.desk_rules.specs.Outcome.{most_bytes, first_of, rules_of, journal_full, number_spent, refusal_of, outcome_in, outcome}
+use Rattle.desk_rules.specs.Position.{Position, at_checkpoint, start_behind, compacted, position_after, restarted}
+use Rattle.desk_rules.specs.Made.{Made, DeskOn, made_at, made_in, made_of_outcome, installed, is_fresh, IsRecorded}
+use Rattle.desk_rules.specs.Recovery.{base_of, recovered_from, recovered, StandsFor, StandsForEither, outcome_again}
+use Rattle.desk_rules.specs.Durable.{LeadTo, StandsThere, LeavesIt, LeavesCheckpoint, StaysEither, StaysThere, stands_at}
 use Rattle.racf_desk.specs.Kept.{contents_of, IsReady, IsKept}
-use Rattle.racf_desk.proofs.RecoveryLaws.{accepted_leads, leads_on, standing_is}
+use Rattle.desk_rules.proofs.RecoveryLaws.{accepted_leads, leads_on, standing_is}
 
 -- ---- what was made
 

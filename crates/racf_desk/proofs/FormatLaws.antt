@@ -11,10 +11,10 @@ use Rattle.racf_checkpoint.specs.Contents.{contents, Says}
 use Rattle.racf_checkpoint.specs.Formatting.{WasOrSaysNothing, WasOrIsNew, StaysBaring, StaysFormatting, WasSaid, SaysNoOlder}
 use Rattle.racf_checkpoint.specs.Formatting.{LeavesNoOlder as SayNoOlder}
 use Rattle.racf_checkpoint.proofs.Syncing.{nothing_stays}
-use Rattle.racf_desk.specs.Position.{Position, first_position, restarted}
-use Rattle.racf_desk.specs.Recovery.{unless_faulty, recovered, standing}
-use Rattle.racf_desk.specs.Formatting.{MightHaveStoodFor, StandsForNoOlder, LeavesNoOlder}
-use Rattle.racf_desk.proofs.RecoveryLaws.{standing_is}
+use Rattle.desk_rules.specs.Position.{Position, first_position, restarted}
+use Rattle.desk_rules.specs.Recovery.{unless_faulty, recovered, standing}
+use Rattle.desk_rules.specs.Formatting.{MightHaveStoodFor, StandsForNoOlder, LeavesNoOlder}
+use Rattle.desk_rules.proofs.RecoveryLaws.{standing_is}
 
 -- two files that stand for a position say a checkpoint that leads there
 says_it : (first second : List ℕ) (position : Position) → standing first second ≡ Ok position → (kept : CheckpointRead) × Says kept first second × (recovered kept ≡ Ok position)

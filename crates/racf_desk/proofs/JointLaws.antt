@@ -5,10 +5,10 @@ use Rattle.racf_outside.specs.Moments.{Moment, IsImage}
 use Rattle.checkpoint_disks.specs.Counting.{said}
 use Rattle.racf_checkpoint.specs.Stored.{WasPossible, StaysPossible}
 use Rattle.racf_checkpoint.proofs.Syncing.{left_last}
-use Rattle.racf_desk.specs.declared.answers.Reply.{Reply}
-use Rattle.racf_desk.specs.declared.answers.Reply.TheVariants as reply
-use Rattle.racf_desk.specs.Made.{DeskOn}
-use Rattle.racf_desk.specs.Executing.{KeepsDesk, SayWhatWasPossible}
+use Rattle.desk_rules.specs.declared.answers.Reply.{Reply}
+use Rattle.desk_rules.specs.declared.answers.Reply.TheVariants as reply
+use Rattle.desk_rules.specs.Made.{DeskOn}
+use Rattle.desk_rules.specs.Executing.{KeepsDesk, SayWhatWasPossible}
 
 -- what was possible of each is said together: the law of the crate below
 abbrev PossibleIsSaid : Type 0

@@ -9,19 +9,19 @@ use Rattle.racf_profiles.specs.declared.edits.Edit.TheVariants.{List as ListCopy
 use Rattle.racf_profiles.specs.Edits.{changed}
 use Rattle.racf_profiles.specs.State.{State, ListedCopy, copies_after, is_of_copies, edited_state, changed_state}
 use Rattle.racf_profiles.specs.declared.edits.Change.{Change}
-use Rattle.command_parser.specs.declared.commands.Issuer.{Issuer}
-use Rattle.command_parser.specs.declared.fields.CommandFields.{CommandFields}
-use Rattle.command_parser.specs.declared.fields.CommandFields.TheVariants as fields
+use Rattle.command_fields.specs.declared.issuer.Issuer.{Issuer}
+use Rattle.command_fields.specs.declared.fields.CommandFields.{CommandFields}
+use Rattle.command_fields.specs.declared.fields.CommandFields.TheVariants as fields
 use Rattle.command_parser.specs.Canonical.{canonical}
-use Rattle.command_effects.specs.Effects.{step}
-use Rattle.command_effects.specs.Edits.{edits_of, is_set_ropts}
+use Rattle.command_rules.specs.Effects.{step}
+use Rattle.command_rules.specs.Edits.{edits_of, is_set_ropts}
 use Rattle.raclist_image.specs.Imaged.{Imaged}
-use Rattle.racf_desk.specs.declared.refusal.Refusal.TheVariants as refusal
+use Rattle.desk_rules.specs.declared.refusal.Refusal.TheVariants as refusal
 use Rattle.journal_records.specs.declared.record.CommandRecord.{CommandRecord}
 use Rattle.journal_records.specs.Spelling.{spelled}
-use Rattle.racf_desk.specs.Outcome.{most_number, number_spent}
-use Rattle.racf_desk.specs.Position.{copies_behind, state_behind}
-use Rattle.racf_desk.specs.Made.{Made, made_at}
+use Rattle.desk_rules.specs.Outcome.{most_number, number_spent}
+use Rattle.desk_rules.specs.Position.{copies_behind, state_behind}
+use Rattle.desk_rules.specs.Made.{Made, made_at}
 
 -- the numbers aren't spent
 pub unspent : (number : ℕ) → number_spent number ≡ None → nat_le most_number number ≡ false

@@ -22,15 +22,15 @@ use Rattle.racf_checkpoint.proofs.Syncing.{possible_joined}
 use Rattle.journal_records.specs.declared.record.CommandRecord.{CommandRecord}
 use Rattle.journal_records.specs.declared.record.RecordFault.{RecordFault}
 use Rattle.journal_records.specs.Reading.{record_of}
-use Rattle.racf_desk.specs.declared.refusal.Refusal.{Refusal}
-use Rattle.racf_desk.specs.Position.{Position, at_checkpoint, start_behind, first_position, restarted}
-use Rattle.racf_desk.specs.Made.{DeskOn, is_fresh}
-use Rattle.racf_desk.specs.Outcome.{outcome}
-use Rattle.racf_desk.specs.History.{at, IsLegal, HadRoom}
-use Rattle.racf_desk.specs.Reopening.{IsReopened, LeadOn}
-use Rattle.racf_desk.specs.Recovery.{unless_faulty, outcome_again, behind_outcome, behind_record, behind_records, base_of, recovered_from, recovered, standing, Refuses}
-use Rattle.racf_desk.specs.Durable.{LeadTo, SaysEpoch, StandsThere}
-use Rattle.racf_desk.proofs.RecoveryLaws.{standing_is}
+use Rattle.desk_rules.specs.declared.refusal.Refusal.{Refusal}
+use Rattle.desk_rules.specs.Position.{Position, at_checkpoint, start_behind, first_position, restarted}
+use Rattle.desk_rules.specs.Made.{DeskOn, is_fresh}
+use Rattle.desk_rules.specs.Outcome.{outcome}
+use Rattle.desk_rules.specs.History.{at, IsLegal, HadRoom}
+use Rattle.desk_rules.specs.Reopening.{IsReopened, LeadOn}
+use Rattle.desk_rules.specs.Recovery.{unless_faulty, outcome_again, behind_outcome, behind_record, behind_records, base_of, recovered_from, recovered, standing, Refuses}
+use Rattle.desk_rules.specs.Durable.{LeadTo, SaysEpoch, StandsThere}
+use Rattle.desk_rules.proofs.RecoveryLaws.{standing_is}
 
 -- What is read of both disks has more, where that is known of every file.
 pub read_weaker : (first second : Option History) (P Q : (first second : List ℕ) → Type 0) → ((one other : List ℕ) → P one other → Q one other) → NowRead first second P → NowRead first second Q

@@ -6,8 +6,8 @@ use Rattle.racf_profiles.specs.declared.rows.Rows.{Rows}
 use Rattle.racf_profiles.specs.NewDatabase.{new_database}
 use Rattle.racf_profiles.specs.State.{restart}
 use Rattle.raclist_image.specs.Imaged.{Imaged}
-use Rattle.command_conflicts.specs.Conflicts.{conflict_of}
-use Rattle.command_effects.specs.Effects.{step}
+use Rattle.command_rules.specs.Conflicts.{conflict_of}
+use Rattle.command_rules.specs.Effects.{step}
 use Rattle.journal_records.specs.declared.record.CommandRecord.{CommandRecord}
 use Rattle.journal_records.specs.Reading.{record_of}
 use Rattle.journal_records.specs.Spelling.{spelled as record_bytes}
@@ -15,13 +15,13 @@ use Rattle.racf_journal.specs.Reading.{spelled}
 use Rattle.racf_checkpoint.specs.declared.fault.StoreFault.{StoreFault}
 use Rattle.racf_checkpoint.specs.declared.fault.StoreFault.TheVariants.{NoMemory}
 use Rattle.racf_desk.specs.declared.recovery.Recovery.{Recovery}
-use Rattle.racf_desk.specs.declared.refusal.Refusal.{Refusal}
-use Rattle.racf_desk.specs.Outcome.{most_number, first_of, rules_of, number_spent, judged}
-use Rattle.racf_desk.specs.Position.{Position, at_checkpoint, first_position, position_behind, restarted}
-use Rattle.racf_desk.specs.Recovery.{unless_faulty, refusal_again, behind_outcome, behind_record, behind_records, recovered_from}
+use Rattle.desk_rules.specs.declared.refusal.Refusal.{Refusal}
+use Rattle.desk_rules.specs.Outcome.{most_number, first_of, rules_of, number_spent, judged}
+use Rattle.desk_rules.specs.Position.{Position, at_checkpoint, first_position, position_behind, restarted}
+use Rattle.desk_rules.specs.Recovery.{unless_faulty, refusal_again, behind_outcome, behind_record, behind_records, recovered_from}
 use Rattle.racf_desk.specs.Recovering.{IsAt}
 use Rattle.racf_desk.proofs.MakingLaws.{unspent, within}
-use Rattle.racf_desk.proofs.RecoveryLaws.{judged_parts, same_again, behind_append}
+use Rattle.desk_rules.proofs.RecoveryLaws.{judged_parts, same_again, behind_append}
 
 -- ---- one record
 

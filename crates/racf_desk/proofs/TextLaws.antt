@@ -6,11 +6,11 @@ use Rattle.std.specs.Result.{result_ok, result_err}
 use Rattle.command_values.specs.declared.faults.Syntax.{Syntax}
 use Rattle.command_grammar.specs.Reading.{Generic}
 use Rattle.command_grammar.specs.Canon.{spelled}
-use Rattle.command_parser.specs.declared.fields.CommandFields.{CommandFields}
+use Rattle.command_fields.specs.declared.fields.CommandFields.{CommandFields}
 use Rattle.command_parser.specs.Canonical.{given_by, Spells, fault}
 use Rattle.command_parser.specs.CommandOf.{command_of, command_in}
-use Rattle.racf_desk.specs.declared.refusal.Refusal.TheVariants as refusal
-use Rattle.racf_desk.specs.Outcome.{command_of_text}
+use Rattle.desk_rules.specs.declared.refusal.Refusal.TheVariants as refusal
+use Rattle.desk_rules.specs.Outcome.{command_of_text}
 
 pub reads_command : (id text : List ℕ) (command : CommandFields) → (Spells id text command ↔ (command_in id text ≡ Some command)) → Spells id text command → Ok command ≡ command_of_text id text
 reads_command id text command one spells = let found : command_in id text ≡ Some command = one.0 spells in rw found refl

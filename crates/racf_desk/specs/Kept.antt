@@ -10,10 +10,10 @@ use Rattle.checkpoint_disks.specs.Compacting.{IsCheckpoint}
 use Rattle.racf_checkpoint.specs.Contents.{and_record}
 use Rattle.racf_database.specs.Contents.{Contents as Database}
 use Rattle.racf_desk.specs.declared.desk.Desk.TheInside.{Inside}
-use Rattle.racf_desk.specs.Images.{IsImageOf}
-use Rattle.racf_desk.specs.Position.{Position}
-use Rattle.racf_desk.specs.Made.{Made, DeskOn, made_in, installed}
-use Rattle.racf_desk.specs.Durable.{LeadTo, StandsThere, stands_at}
+use Rattle.desk_rules.specs.Images.{IsImageOf}
+use Rattle.desk_rules.specs.Position.{Position}
+use Rattle.desk_rules.specs.Made.{Made, DeskOn, made_in, installed}
+use Rattle.desk_rules.specs.Durable.{LeadTo, StandsThere, stands_at}
 
 abbrev pub contents_of : {D : Type 0} → Inside D → DeskOn D
 contents_of desk =

@@ -1,14 +1,2 @@
-pub mod Words
-pub mod Issuers
-pub mod Position
-pub mod Outcome
-pub mod Recovery
-pub mod Made
-pub mod Durable
-pub mod Executing
-pub mod Formatting
-pub mod Images
 pub mod Kept
 pub mod Recovering
-pub mod History
-pub mod Reopening

@@ -1,8 +1,8 @@
 -- How far a recovery is.
 use Rattle.std.specs.Prelude.{◌≡◌, ◌≤◌}
 use Rattle.racf_desk.specs.declared.recovery.Recovery.{Recovery}
-use Rattle.racf_desk.specs.Outcome.{most_number}
-use Rattle.racf_desk.specs.Position.{Position}
+use Rattle.desk_rules.specs.Outcome.{most_number}
+use Rattle.desk_rules.specs.Position.{Position}
 
 -- It has the rows, the number and the gate of this position.
 pub record IsAt (recovery : Recovery) (position : Position) : Type 0 where

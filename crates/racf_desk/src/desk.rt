@@ -8,12 +8,12 @@ ghost use Rattle.racf_checkpoint.specs.Contents.{IsCaused, IsCausedByOne};
 ghost use Rattle.racf_checkpoint.specs.Formatting.{StaysBaring, StaysFormatting};
 ghost use Rattle.racf_checkpoint.specs.Stored.{NowRead, StaysPossible, disk_on, other};
 
-use crate::answers::{Ready, Reply};
-use crate::laws::{records_lead_along_a_history, recovery_agrees_with_the_running_desk};
 use crate::making::{is_recorded, make};
 use crate::outcome::outcome_in;
 use crate::recovery::{Recovered, new_database, recover};
 use access_levels::Id;
+use desk_rules::laws::{records_lead_along_a_history, recovery_agrees_with_the_running_desk};
+use desk_rules::{Ready, Reply};
 use racf_checkpoint::{
     Store, StoreFault, a_new_database_is_stored, what_is_stored_is_said, what_was_possible_is_said,
 };
@@ -49,7 +49,7 @@ pub struct Desk<D: Disk> {
 }
 
 impl<D: Disk> Model for Desk<D> {
-    ghost use Rattle.racf_desk.specs.Made.{DeskOn};
+    ghost use Rattle.desk_rules.specs.Made.{DeskOn};
     ghost use Rattle.racf_desk.specs.Kept.{contents_of, IsKept};
 
     ghost Value = { DeskOn D };
@@ -60,15 +60,15 @@ impl<D: Disk> Model for Desk<D> {
 }
 
 impl<D: Disk> Desk<D> {
-    ghost use Rattle.racf_desk.specs.Outcome.{outcome};
-    ghost use Rattle.racf_desk.specs.Position.{first_position, compacted, position_after};
-    ghost use Rattle.racf_desk.specs.Made.{installed, is_fresh, made_in, made_of_outcome, number_at, IsRefusal, IsAnswer};
-    ghost use Rattle.racf_desk.specs.Recovery.{standing, Refuses};
-    ghost use Rattle.racf_desk.specs.Durable.{LeavesIt, LeavesCheckpoint, SameIdle, SaysEpoch, StandsThere, StaysEither, StaysThere};
-    ghost use Rattle.racf_desk.specs.Images.{IsImageOf};
-    ghost use Rattle.racf_desk.specs.Executing.{KeepsDesk, SayWhatWasPossible};
-    ghost use Rattle.racf_desk.specs.Formatting.{LeavesNoOlder};
-    ghost use Rattle.racf_desk.specs.Reopening.{LeadOn};
+    ghost use Rattle.desk_rules.specs.Outcome.{outcome};
+    ghost use Rattle.desk_rules.specs.Position.{first_position, compacted, position_after};
+    ghost use Rattle.desk_rules.specs.Made.{installed, is_fresh, made_in, made_of_outcome, number_at, IsRefusal, IsAnswer};
+    ghost use Rattle.desk_rules.specs.Recovery.{standing, Refuses};
+    ghost use Rattle.desk_rules.specs.Durable.{LeavesIt, LeavesCheckpoint, SameIdle, SaysEpoch, StandsThere, StaysEither, StaysThere};
+    ghost use Rattle.desk_rules.specs.Images.{IsImageOf};
+    ghost use Rattle.desk_rules.specs.Executing.{KeepsDesk, SayWhatWasPossible};
+    ghost use Rattle.desk_rules.specs.Formatting.{LeavesNoOlder};
+    ghost use Rattle.desk_rules.specs.Reopening.{LeadOn};
 
     /// A desk over a new database, whatever the disks held: the first has a checkpoint of it. At every moment a crash
     /// leaves of each disk a file that says what it said, or nothing, or is that of the new database. Where the call
@@ -104,9 +104,9 @@ impl<D: Disk> Desk<D> {
 
     /// Opens the database that the disks stand for: takes the rows of the checkpoint that counts, repeats the commands
     /// of the records behind it, in time that grows with their number, and makes the image of the rows once. The desk
-    /// goes on as the one that wrote the records. Both disks are synced, and nothing is written before all records are
-    /// judged. At every moment a crash leaves files that say
-    /// what was possible before; after `Ok` it leaves what was opened. Otherwise the disks are handed back.
+    /// goes on as one that ran through the history that the records are of. Both disks are synced, and nothing is
+    /// written before all records are judged. At every moment a crash leaves files that say what was possible before;
+    /// after `Ok` it leaves what was opened. Otherwise the disks are handed back.
     pub fn open(alloc: Global, disks: Two<D>) -> Result<Desk<D>, (Two<D>, StoreFault)>
         ensures stands { IfOk result (λ desk. NowRead (D.tells disks.first) (D.tells disks.second) (λ first second. standing first second ≡ Ok desk.position)) }
         ensures history { IfOk result (λ desk. NowRead (D.tells disks.first) (D.tells disks.second) (LeadOn desk.position)) }

@@ -1,11 +1,11 @@
 //! Who gives a command.
 ghost use Rattle.std.specs.Prelude.{◌≡◌, is_ok, refl};
 ghost use Rattle.access_levels.specs.Spelling.{group_of};
-ghost use Rattle.racf_desk.specs.Issuers.{is_connected, issuer_in, issuer_of, unless_revoked, unless_not_connected};
+ghost use Rattle.desk_rules.specs.Issuers.{is_connected, issuer_in, issuer_of, unless_revoked, unless_not_connected};
 
-use crate::refusal::Refusal;
 use access_levels::Id;
 use command_parser::Issuer;
+use desk_rules::Refusal;
 use racf_profiles::{User, View};
 
 /// The issuer of that ID, with the group that was named or else his default group, as the rows have him: he is a user

@@ -7,7 +7,8 @@
 //! its record on the disks, and [`Desk::install`] puts the image in place; [`Desk::execute`] is the three.
 //! [`Desk::compact`] writes a checkpoint of the rows on the other disk, behind which the journal begins anew. The
 //! commands are those of `command_parser`, their records those of `journal_records`; `racf_database` says what they
-//! conflict with and `command_authority` who may give them. [`Refusal::write`] has the words of every refusal.
+//! conflict with and `command_authority` who may give them. What a desk may answer, where it stands behind a command,
+//! and the words of every refusal are those of `desk_rules`.
 //!
 //! ```
 //! let mut desk = Desk::open(alloc, disks)?;
@@ -20,18 +21,12 @@
 //! ```
 #![tactic(auto)]
 
-mod answers;
 mod desk;
 mod issuers;
-pub mod laws;
 mod making;
 mod outcome;
 mod recovery;
-mod refusal;
-mod refusal_words;
 
-pub use answers::{Ready, Reply};
 pub use desk::Desk;
-pub use outcome::MOST_NUMBER;
+pub use desk_rules::{MOST_NUMBER, Ready, Refusal, Reply};
 pub use racf_profiles::NoMemory;
-pub use refusal::Refusal;

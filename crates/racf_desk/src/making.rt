@@ -3,12 +3,12 @@ ghost use Rattle.std.specs.Prelude.{◌≡◌, Some, None, IfOk};
 ghost use Rattle.std.specs.Arc.{arc_value};
 ghost use Rattle.racf_profiles.specs.Edits.{changed};
 ghost use Rattle.journal_records.specs.Spelling.{spelled};
-ghost use Rattle.racf_desk.specs.Outcome.{rules_of, number_spent};
-ghost use Rattle.racf_desk.specs.Images.{IsImageOf};
-ghost use Rattle.racf_desk.specs.Made.{made_at, made_in, IsRecorded};
+ghost use Rattle.desk_rules.specs.Outcome.{rules_of, number_spent};
+ghost use Rattle.desk_rules.specs.Images.{IsImageOf};
+ghost use Rattle.desk_rules.specs.Made.{made_at, made_in, IsRecorded};
 
-use crate::answers::Ready;
 use access_levels::Text;
+use desk_rules::Ready;
 use journal_records::laws::{lengths_are_those_of_the_texts, written_is_read};
 use journal_records::{CommandRecord, write};
 use racf_database::Database;

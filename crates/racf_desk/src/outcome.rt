@@ -1,25 +1,21 @@
 //! The outcome of a command: the tests in their order.
 ghost use Rattle.std.specs.Prelude.{◌≡◌, ◌+◌, ◌≤◌, ◌^◌, ◌↔◌, None, IfOk, IsTrue, length};
 ghost use Rattle.journal_records.specs.Spelling.{spelled};
-ghost use Rattle.racf_desk.specs.Outcome.{command_of_text, outcome_in, refusal_of, rules_of};
+ghost use Rattle.desk_rules.specs.Outcome.{command_of_text, outcome_in, refusal_of, rules_of};
 
 use crate::issuers::issuer_of;
-use crate::refusal::Refusal;
 use access_levels::Id;
 use command_authority::authorised;
-use command_conflicts::Conflict;
-use command_conflicts::laws::first_conflicts;
 use command_parser::laws::one_command_is_spelled;
 use command_parser::{Command, ParseFault, parse};
+use command_rules::Conflict;
+use command_rules::laws::first_conflicts;
+use desk_rules::{MOST_NUMBER, Refusal};
 use journal_records::CommandRecord;
 use journal_records::laws::{lengths_are_those_of_the_texts, written_is_read};
 use racf_database::Database;
 use racf_profiles::NoMemory;
 use std::alloc::{AllocError, Global};
-
-/// The last number that a command gets (this product's own limit). A desk that stands there refuses every further
-/// command.
-pub const MOST_NUMBER: u64 = 1 << 62;
 
 /// The most bytes that the file of a journal gets by a command (this product's own limit).
 const MOST_BYTES: u64 = 1 << 28;
@@ -27,7 +23,7 @@ const MOST_BYTES: u64 = 1 << 28;
 /// The outcome of a command over the rows, with this number of commands before it and the journal's last gate at this
 /// place: the record of it where it is accepted.
 #[inline(always)]
-#[tactic(auto, unfolding(crate::specs::Outcome::outcome_in))]
+#[tactic(auto, unfolding(desk_rules::specs::Outcome::outcome_in))]
 pub(crate) fn outcome_in(
     alloc: Global,
     gate: u64,

@@ -7,12 +7,12 @@ use Rattle.racf_outside.specs.Disk.{History}
 use Rattle.racf_checkpoint.specs.declared.fault.StoreFault.{StoreFault}
 use Rattle.racf_checkpoint.specs.declared.fault.StoreFault.TheVariants as fault
 use Rattle.racf_checkpoint.specs.Stored.{StoreOn, Beside, NowRead, StaysPossible, pick, other, disk_on}
-use Rattle.racf_desk.specs.Durable.{LeavesBoth, SaysEpoch, SaysCheckpoint, StaysThere}
-use Rattle.racf_desk.specs.Position.{Position, compacted}
-use Rattle.racf_desk.specs.Recovery.{StandsFor, StandsForEither}
-use Rattle.racf_desk.proofs.IdleLaws.{told-pick}
-use Rattle.racf_stream.specs.declared.status.Status.{Status}
-use Rattle.racf_stream.specs.declared.status.Status.TheVariants.{Done, Usage, ReadFault, WriteFault, DiskFault, NotFormatted, Damaged, NoMemory, InputTooLong}
+use Rattle.desk_rules.specs.Durable.{LeavesBoth, SaysEpoch, SaysCheckpoint, StaysThere}
+use Rattle.desk_rules.specs.Position.{Position, compacted}
+use Rattle.desk_rules.specs.Recovery.{StandsFor, StandsForEither}
+use Rattle.desk_rules.proofs.IdleLaws.{told-pick}
+use Rattle.statements.specs.declared.status.Status.{Status}
+use Rattle.statements.specs.declared.status.Status.TheVariants.{Done, Usage, ReadFault, WriteFault, DiskFault, NotFormatted, Damaged, NoMemory, InputTooLong}
 use Rattle.racf_run.specs.Compacting.{EndsCompact, MovesToCompact}
 use Rattle.racf_run.specs.Racf.{opening_status, StoodFor, opened_on}
 use Rattle.racf_run.proofs.DiskLaws.{HandsBack, opens_on, other_side}

@@ -8,12 +8,12 @@ use Rattle.racf_outside.proofs.Rises.{Rose-later}
 use Rattle.checkpoint_disks.specs.declared.counting.Side.{Side}
 use Rattle.checkpoint_disks.specs.declared.counting.Side.TheVariants.{First, Second}
 use Rattle.racf_checkpoint.specs.Stored.{StoreOn, StaysPossible, pick, other, disk_on}
-use Rattle.racf_desk.specs.Durable.{SameIdle, idle_of, BesideIdle, LeavesBoth, LeavesIt}
-use Rattle.racf_desk.specs.Made.{DeskOn}
-use Rattle.racf_desk.specs.Position.{Position}
-use Rattle.racf_desk.specs.Recovery.{StandsFor, StandsForEither}
-use Rattle.racf_desk.proofs.IdleLaws.{leaves-both, told-pick}
-use Rattle.racf_stream.specs.declared.issuer.Issuing.{Issuing}
+use Rattle.desk_rules.specs.Durable.{SameIdle, idle_of, BesideIdle, LeavesBoth, LeavesIt}
+use Rattle.desk_rules.specs.Made.{DeskOn}
+use Rattle.desk_rules.specs.Position.{Position}
+use Rattle.desk_rules.specs.Recovery.{StandsFor, StandsForEither}
+use Rattle.desk_rules.proofs.IdleLaws.{leaves-both, told-pick}
+use Rattle.statements.specs.declared.issuer.Issuing.{Issuing}
 use Rattle.racf_stream.specs.Durable.{StandsForFront, most_left_of}
 use Rattle.racf_stream.specs.Stream.{State}
 use Rattle.racf_run.specs.Racf.{EndsAt, EndsOn, OpensOn, StandsStill, RoseEither, opened_on}

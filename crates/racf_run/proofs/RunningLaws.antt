@@ -10,17 +10,17 @@ use Rattle.racf_outside.specs.Disk.{History}
 use Rattle.racf_outside.specs.Shelf.{told}
 use Rattle.racf_outside.proofs.Rises.{Rose-later}
 use Rattle.racf_checkpoint.specs.Stored.{pick}
-use Rattle.racf_desk.specs.Position.{Position}
+use Rattle.desk_rules.specs.Position.{Position}
 use Rattle.command_history.specs.declared.events.Accepted.{Accepted}
 use Rattle.command_history.specs.declared.events.Event.{Event}
 use Rattle.command_history.specs.Events.{all_of}
 use Rattle.command_history.specs.Reached.{reached, AreLegal}
 use Rattle.racroute.specs.Disks.{StandAt, StaysAlong}
-use Rattle.racf_stream.specs.Status.{code_of}
-use Rattle.racf_stream.specs.declared.issuer.Issuing.{Issuing}
-use Rattle.racf_stream.specs.declared.status.Status.{Status}
-use Rattle.racf_stream.specs.declared.status.Status.TheVariants.{Done, Usage, ReadFault, WriteFault, DiskFault, NotFormatted, Damaged, NoMemory, InputTooLong}
-use Rattle.racf_stream.specs.Runs.{longest_input}
+use Rattle.statements.specs.Status.{code_of}
+use Rattle.statements.specs.declared.issuer.Issuing.{Issuing}
+use Rattle.statements.specs.declared.status.Status.{Status}
+use Rattle.statements.specs.declared.status.Status.TheVariants.{Done, Usage, ReadFault, WriteFault, DiskFault, NotFormatted, Damaged, NoMemory, InputTooLong}
+use Rattle.statements.specs.Runs.{longest_input}
 use Rattle.racf_threads.specs.Outputs.{DeckRan, FileRan, StopsFor}
 use Rattle.racf_threads.specs.Together.{Worked, HasStopped, AreDecks, AreFiles, RunsTogether, greater, greatest}
 use Rattle.racf_run.proofs.OpeningLaws.{AreNew-length}

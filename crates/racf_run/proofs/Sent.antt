@@ -3,11 +3,11 @@ use Rattle.std.proofs.Common.{◌≡◌, ◌≢◌, ◌⊎◌, inl, inr, ℕ, Li
 use Rattle.std.specs.Prelude.{Option, Some}
 use Rattle.std.specs.Io.KnownBytes.{append_known}
 use Rattle.std.proofs.lemmas.List.{take-append-drop}
-use Rattle.racf_stream.specs.Gathering.{IsCutShort}
-use Rattle.racf_stream.specs.declared.status.Status.{Status}
-use Rattle.racf_stream.specs.declared.status.Status.TheVariants.{Done, Usage, Refusals, ReadFault, WriteFault, DiskFault, NotFormatted, Damaged, NoMemory, InputTooLong}
+use Rattle.statements.specs.Gathering.{IsCutShort}
+use Rattle.statements.specs.declared.status.Status.{Status}
+use Rattle.statements.specs.declared.status.Status.TheVariants.{Done, Usage, Refusals, ReadFault, WriteFault, DiskFault, NotFormatted, Damaged, NoMemory, InputTooLong}
 use Rattle.racf_run.specs.Making.{WroteFront, WroteText}
-use Rattle.racf_stream.proofs.Folds.{append_known-append, append_known-nil}
+use Rattle.statements.proofs.Folds.{append_known-append, append_known-nil}
 
 -- all of it but a rest
 pub record WroteBut (text rest : List ℕ) (before now : Option (List ℕ)) : Type 0 where

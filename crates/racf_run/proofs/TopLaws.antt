@@ -6,18 +6,19 @@ use Rattle.racf_outside.specs.declared.streams.Failed.{Failed}
 use Rattle.racf_outside.specs.Disk.{History}
 use Rattle.racf_outside.specs.Shelf.{told, SameOthers}
 use Rattle.racf_checkpoint.specs.Stored.{StoreOn}
-use Rattle.racf_desk.specs.Durable.{LeavesIt}
-use Rattle.racf_desk.specs.Made.{DeskOn, number_at}
-use Rattle.racf_desk.specs.Position.{Position}
-use Rattle.racf_stream.specs.declared.issuer.Issuing.{Issuing}
-use Rattle.racf_stream.specs.declared.status.Status.{Status}
+use Rattle.desk_rules.specs.Durable.{LeavesIt}
+use Rattle.desk_rules.specs.Made.{DeskOn, number_at}
+use Rattle.desk_rules.specs.Position.{Position}
+use Rattle.statements.specs.declared.issuer.Issuing.{Issuing}
+use Rattle.statements.specs.declared.status.Status.{Status}
 use Rattle.racf_stream.specs.Durable.{StaysAlong, LeavesInDoubt, most_left, most_left_of}
 use Rattle.racf_run.specs.Racf.{Files, RanTo, RunsOnShelf, EndsAt}
-use Rattle.racf_stream.specs.Runs.{Ran}
+use Rattle.statements.specs.Runs.{Ran}
 use Rattle.racf_stream.specs.Script.{stream, fault_at, fault_of, StandsAt}
 use Rattle.racf_stream.specs.Stream.{State, number_of, new_stream}
-use Rattle.racf_stream.proofs.ScriptLaws.{Ran-weaker, stands_new, position_new}
-use Rattle.racf_stream.proofs.Walk.{Ran-causes}
+use Rattle.racf_stream.proofs.ScriptLaws.{stands_new, position_new}
+use Rattle.statements.proofs.RunLaws.{Ran-weaker}
+use Rattle.statements.proofs.Walk.{Ran-causes}
 use Rattle.racf_stream.proofs.LeftLaws.{left_at_least}
 use Rattle.racf_stream.proofs.Moments.{StaysAlong-none}
 

@@ -3,8 +3,8 @@ use Rattle.std.proofs.Common.{◌≡◌, ◌≢◌, ℕ, inl, inr, subst}
 use Rattle.std.specs.Prelude.{◌⊎◌}
 use Rattle.racf_checkpoint.specs.declared.fault.StoreFault.{StoreFault}
 use Rattle.racf_checkpoint.specs.declared.fault.StoreFault.TheVariants as fault
-use Rattle.racf_stream.specs.declared.status.Status.{Status}
-use Rattle.racf_stream.specs.declared.status.Status.TheVariants.{Done, ReadFault, WriteFault, DiskFault, NotFormatted, Damaged, NoMemory}
+use Rattle.statements.specs.declared.status.Status.{Status}
+use Rattle.statements.specs.declared.status.Status.TheVariants.{Done, ReadFault, WriteFault, DiskFault, NotFormatted, Damaged, NoMemory}
 use Rattle.racf_run.specs.Racf.{IsUnsound, opening_status}
 use Rattle.racf_run.specs.Running.{unopened_status}
 use Rattle.racf_run.specs.declared.opening.Unopened.{Unopened}

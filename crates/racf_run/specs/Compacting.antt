@@ -4,11 +4,11 @@ use Rattle.std.specs.Str.{bytes_eq}
 use Rattle.racf_outside.specs.Crashes.{StaysIn}
 use Rattle.racf_outside.specs.Disk.{History}
 use Rattle.racf_checkpoint.specs.Stored.{Beside, NowRead, StaysPossible, other, pick}
-use Rattle.racf_desk.specs.Durable.{LeavesBoth, SaysEpoch, SaysCheckpoint}
-use Rattle.racf_desk.specs.Position.{Position, compacted}
-use Rattle.racf_desk.specs.Recovery.{StandsFor, StandsForEither}
-use Rattle.racf_stream.specs.declared.status.Status.{Status}
-use Rattle.racf_stream.specs.declared.status.Status.TheVariants.{Done, DiskFault, NoMemory}
+use Rattle.desk_rules.specs.Durable.{LeavesBoth, SaysEpoch, SaysCheckpoint}
+use Rattle.desk_rules.specs.Position.{Position, compacted}
+use Rattle.desk_rules.specs.Recovery.{StandsFor, StandsForEither}
+use Rattle.statements.specs.declared.status.Status.{Status}
+use Rattle.statements.specs.declared.status.Status.TheVariants.{Done, DiskFault, NoMemory}
 use Rattle.racf_run.specs.Racf.{OpenedDisks, OpensOn, StoodFor}
 
 -- The words `compact`.

@@ -5,10 +5,10 @@ use Rattle.std.specs.Io.KnownBytes.{append_known}
 use Rattle.request_files.specs.Spellings.{number_word}
 use Rattle.racf_generator.specs.MadeText.{made_lines, made_text}
 use Rattle.racf_generator.specs.Tally.{tally, ended_lines, summary}
-use Rattle.racf_desk.specs.Position.{first_position}
-use Rattle.racf_stream.specs.declared.status.Status.{Status}
-use Rattle.racf_stream.specs.declared.status.Status.TheVariants.{Done, WriteFault, NoMemory}
-use Rattle.racf_stream.specs.declared.issuer.Issuing.TheVariants.{Free}
+use Rattle.desk_rules.specs.Position.{first_position}
+use Rattle.statements.specs.declared.status.Status.{Status}
+use Rattle.statements.specs.declared.status.Status.TheVariants.{Done, WriteFault, NoMemory}
+use Rattle.statements.specs.declared.issuer.Issuing.TheVariants.{Free}
 use Rattle.racf_stream.specs.Script.{script_output}
 
 -- The last line: the counts of what the stream of the text is answered on a new database.

@@ -10,16 +10,16 @@ use Rattle.racf_journal.specs.Opening.{OnlySynced}
 use Rattle.racf_checkpoint.specs.declared.fault.StoreFault.{StoreFault}
 use Rattle.racf_checkpoint.specs.declared.fault.StoreFault.TheVariants as fault
 use Rattle.racf_checkpoint.specs.Stored.{StoreOn, NowRead, StaysPossible, pick}
-use Rattle.racf_desk.specs.Durable.{IdleDisk, idle_of, BesideIdle, LeavesBoth, LeavesIt}
-use Rattle.racf_desk.specs.Made.{DeskOn}
-use Rattle.racf_desk.specs.Position.{Position}
-use Rattle.racf_desk.specs.Recovery.{standing, Refuses, StandsFor, StandsForEither}
-use Rattle.racf_stream.specs.declared.issuer.Issuing.{Issuing}
-use Rattle.racf_stream.specs.declared.issuer.Issuing.TheVariants.{Free}
-use Rattle.racf_stream.specs.declared.status.Status.{Status}
-use Rattle.racf_stream.specs.declared.status.Status.TheVariants.{ReadFault, WriteFault, DiskFault, NotFormatted, Damaged, NoMemory}
+use Rattle.desk_rules.specs.Durable.{IdleDisk, idle_of, BesideIdle, LeavesBoth, LeavesIt}
+use Rattle.desk_rules.specs.Made.{DeskOn}
+use Rattle.desk_rules.specs.Position.{Position}
+use Rattle.desk_rules.specs.Recovery.{standing, Refuses, StandsFor, StandsForEither}
+use Rattle.statements.specs.declared.issuer.Issuing.{Issuing}
+use Rattle.statements.specs.declared.issuer.Issuing.TheVariants.{Free}
+use Rattle.statements.specs.declared.status.Status.{Status}
+use Rattle.statements.specs.declared.status.Status.TheVariants.{ReadFault, WriteFault, DiskFault, NotFormatted, Damaged, NoMemory}
 use Rattle.racf_stream.specs.Durable.{StandsForFront, StaysAlong, CommandInDoubt, LeavesInDoubt, most_left_of}
-use Rattle.racf_stream.specs.Runs.{Ran}
+use Rattle.statements.specs.Runs.{Ran}
 use Rattle.racf_stream.specs.Script.{stream, script_output, script_status, fault_at, StandsAt}
 use Rattle.racf_stream.specs.Stream.{State, new_stream, number_of}
 use Rattle.racf_run.specs.Issuers.{is_issuer_word, fixed_issuer}

@@ -7,7 +7,7 @@ use Rattle.racf_outside.specs.declared.streams.Failed.{Failed}
 use Rattle.racf_outside.specs.Disk.{History}
 use Rattle.racf_outside.specs.Shelf.{told}
 use Rattle.racf_checkpoint.specs.Stored.{pick}
-use Rattle.racf_desk.specs.Position.{Position}
+use Rattle.desk_rules.specs.Position.{Position}
 use Rattle.command_history.specs.declared.events.Accepted.{Accepted}
 use Rattle.command_history.specs.declared.events.Event.{Event}
 use Rattle.command_history.specs.Events.{all_of}
@@ -15,11 +15,11 @@ use Rattle.command_history.specs.Reached.{reached, AreLegal}
 use Rattle.racroute.specs.Disks.{StandAt, StaysAlong}
 use Rattle.racroute.specs.Kept.{fault_count}
 use Rattle.request_files.specs.Spellings.{number_word}
-use Rattle.racf_stream.specs.declared.issuer.Issuing.{Issuing}
-use Rattle.racf_stream.specs.declared.issuer.Issuing.TheVariants.{Free}
-use Rattle.racf_stream.specs.declared.status.Status.{Status}
-use Rattle.racf_stream.specs.declared.status.Status.TheVariants.{ReadFault, WriteFault, NoMemory}
-use Rattle.racf_stream.specs.Status.{code_of}
+use Rattle.statements.specs.declared.issuer.Issuing.{Issuing}
+use Rattle.statements.specs.declared.issuer.Issuing.TheVariants.{Free}
+use Rattle.statements.specs.declared.status.Status.{Status}
+use Rattle.statements.specs.declared.status.Status.TheVariants.{ReadFault, WriteFault, NoMemory}
+use Rattle.statements.specs.Status.{code_of}
 use Rattle.racf_threads.specs.Outputs.{DeckRan, FileRan, StopsFor}
 use Rattle.racf_threads.specs.Together.{greatest}
 use Rattle.racf_run.specs.declared.opening.Unopened.{Unopened}

@@ -5,16 +5,16 @@ ghost use Rattle.racf_outside.specs.Causes.{Rose};
 ghost use Rattle.racf_outside.specs.Crashes.{StaysIn};
 ghost use Rattle.racf_journal.specs.Opening.{OnlySynced};
 ghost use Rattle.racf_checkpoint.specs.Stored.{Beside, other, pick};
-ghost use Rattle.racf_desk.specs.Durable.{LeavesBoth, SaysCheckpoint};
-ghost use Rattle.racf_desk.specs.Position.{compacted};
-ghost use Rattle.racf_desk.specs.Recovery.{StandsFor, StandsForEither};
+ghost use Rattle.desk_rules.specs.Durable.{LeavesBoth, SaysCheckpoint};
+ghost use Rattle.desk_rules.specs.Position.{compacted};
+ghost use Rattle.desk_rules.specs.Recovery.{StandsFor, StandsForEither};
 ghost use Rattle.racf_run.specs.Compacting.{is_compact, EndsCompact, MovesToCompact};
 ghost use Rattle.racf_run.specs.Racf.{IsUnsound, StaysUnopened, OpensDatabase, RoseEither};
 
 use crate::top::opening_status;
 use racf_desk::Desk;
 use racf_outside::{Disk, Two};
-use racf_stream::Status;
+use statements::Status;
 use std::alloc::Global;
 
 /// Whether the words are `compact`.

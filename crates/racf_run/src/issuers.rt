@@ -4,7 +4,7 @@ ghost use Rattle.std.specs.Prelude.{◌≡◌};
 ghost use Rattle.racf_run.specs.Issuers.{fixed_issuer, is_issuer_word};
 
 use command_values::id_named;
-use racf_stream::Issuing;
+use statements::Issuing;
 
 /// Whether the word fixes the issuer, whose ID is the next one.
 pub(crate) fn is_issuer_word(word: &str) -> bool

@@ -21,7 +21,8 @@ mod running;
 mod top;
 
 pub use making::make;
-pub use racf_stream::{Issuing, Status, script};
+pub use racf_stream::script;
 pub use racf_threads::{Ran, run};
 pub use racf_workers::{Gate, Idle};
+pub use statements::{Issuing, Status};
 pub use top::{racf, works_on_disks};

@@ -4,14 +4,15 @@ ghost use Rattle.std.specs.Prelude.{◌≡◌, ◌⊎◌, ◌<◌, ◌≤◌, fa
 ghost use Rattle.racf_outside.specs.Causes.{Rose};
 ghost use Rattle.racf_generator.specs.MadeText.{made_text};
 ghost use Rattle.racf_run.specs.Making.{make_text, summary_text, most_users, WroteText};
-ghost use Rattle.racf_desk.specs.Position.{first_position};
+ghost use Rattle.desk_rules.specs.Position.{first_position};
 ghost use Rattle.racf_stream.specs.Script.{script_output};
 
 use racf_desk::Desk;
 use racf_generator::laws::made_text_is_short;
 use racf_generator::{AnswerTally, MadeText, line_count};
 use racf_outside::{Failed, NeverDisk, Sink, Source, Two};
-use racf_stream::{Issuing, Status, script, write_all};
+use racf_stream::script;
+use statements::{Issuing, Status, write_all};
 use std::alloc::{AllocError, Global};
 
 /// How many bytes of the text are written at once.

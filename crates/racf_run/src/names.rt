@@ -8,8 +8,8 @@ ghost use Rattle.racf_run.specs.Running.{are_apart, are_run_words, run_behind, r
 
 use crate::issuers::{fixed_issuer, is_issuer_word};
 use crate::opening::OUTPUT;
-use racf_stream::Issuing;
 use request_files::number_word;
+use statements::Issuing;
 
 /// The most decks of a run.
 const MOST_DECKS: u64 = 4;

@@ -3,15 +3,15 @@ use Rattle.std.proofs.Common.{◌≡◌, ℕ, Bool, true, false, List, Result, O
 use Rattle.std.specs.Prelude.{unwrap_or, if◌then◌else◌}
 use Rattle.std.specs.Result.{result_ok}
 use Rattle.journal_records.specs.declared.record.CommandRecord.{CommandRecord}
-use Rattle.racf_desk.specs.declared.refusal.Refusal.{Refusal as OfCommand}
-use Rattle.racf_desk.specs.Position.{position_after}
+use Rattle.desk_rules.specs.declared.refusal.Refusal.{Refusal as OfCommand}
+use Rattle.desk_rules.specs.Position.{position_after}
 use Rattle.request_files.specs.declared.issuer_line.NamedIssuer.{NamedIssuer}
-use Rattle.racf_stream.specs.declared.reply.Refusal.{Refusal}
-use Rattle.racf_stream.specs.declared.reply.Reply.TheVariants.{Halted}
-use Rattle.racf_stream.specs.declared.statement.Statement.{Statement}
-use Rattle.racf_stream.specs.declared.statement.Statement.TheVariants as item
-use Rattle.racf_stream.specs.IssuerLines.{issuer_named}
-use Rattle.racf_stream.specs.Replies.{reply_line}
+use Rattle.statements.specs.declared.reply.Refusal.{Refusal}
+use Rattle.statements.specs.declared.reply.Reply.TheVariants.{Halted}
+use Rattle.statements.specs.declared.statement.Statement.{Statement}
+use Rattle.statements.specs.declared.statement.Statement.TheVariants as item
+use Rattle.statements.specs.IssuerLines.{issuer_named}
+use Rattle.statements.specs.Replies.{reply_line}
 use Rattle.racf_stream.specs.Stream as s
 use Rattle.racf_stream.specs.Stream.{Answer, number_of, fails_behind, fail, accept, halt, answer_outcome, outcome_of, issue_by}
 use Rattle.racf_stream.specs.Printed.{Turn, printed, behind}

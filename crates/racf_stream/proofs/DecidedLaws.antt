@@ -9,7 +9,7 @@ use Rattle.request_files.specs.declared.line.LineRefusal.{LineRefusal}
 use Rattle.request_files.specs.Acees.{acee_named, put_refusal}
 use Rattle.request_files.specs.Grammar.{Access, Line, Auth, Fastauth, Verify, read}
 use Rattle.request_files.specs.Worked.{decision_text, answer_for, auth_for, fastauth_for, verify_told, verify_unless}
-use Rattle.racf_stream.specs.declared.statement.Statement.TheVariants as item
+use Rattle.statements.specs.declared.statement.Statement.TheVariants as item
 use Rattle.racf_stream.specs.Stream as s
 use Rattle.racf_stream.specs.Stream.{State, number_of}
 

@@ -10,25 +10,26 @@ use Rattle.racf_outside.specs.Moments.{Moment}
 use Rattle.racf_outside.specs.Reader.{Reader}
 use Rattle.racf_outside.proofs.Runs.{same_history}
 use Rattle.racf_checkpoint.specs.Stored.{StoreOn}
-use Rattle.racf_desk.specs.Durable.{SameIdle, IdleDisk, idle_of, BesideIdle, StaysEither}
-use Rattle.racf_desk.specs.Position.{Position, position_behind}
-use Rattle.racf_desk.specs.Recovery.{StandsForEither}
-use Rattle.racf_desk.proofs.IdleLaws.{same_idle-told}
-use Rattle.racf_stream.specs.declared.issuer.Issuing.{Issuing}
-use Rattle.racf_stream.specs.declared.reply.Reply.TheVariants.{DiskFault}
-use Rattle.racf_stream.specs.declared.statement.Statement.{Statement}
-use Rattle.racf_stream.specs.declared.statement.Statement.TheVariants.{Command}
+use Rattle.desk_rules.specs.Durable.{SameIdle, IdleDisk, idle_of, BesideIdle, StaysEither}
+use Rattle.desk_rules.specs.Position.{Position, position_behind}
+use Rattle.desk_rules.specs.Recovery.{StandsForEither}
+use Rattle.desk_rules.proofs.IdleLaws.{same_idle-told}
+use Rattle.statements.specs.declared.issuer.Issuing.{Issuing}
+use Rattle.statements.specs.declared.reply.Reply.TheVariants.{DiskFault}
+use Rattle.statements.specs.declared.statement.Statement.{Statement}
+use Rattle.statements.specs.declared.statement.Statement.TheVariants.{Command}
 use Rattle.racf_stream.specs.Durable.{StreamOn, fault_in, Moves, Fails, CommandInDoubt, LeavesEither, LeavesInDoubt}
-use Rattle.racf_stream.specs.NextStatement.{TakesStatements}
+use Rattle.statements.specs.NextStatement.{TakesStatements}
 use Rattle.racf_stream.specs.Processing.{Works}
-use Rattle.racf_stream.specs.Replies.{reply_line}
-use Rattle.racf_stream.specs.Runs.{BeginsWith}
-use Rattle.racf_stream.specs.Script.{stream, statements, fault_at}
+use Rattle.statements.specs.Replies.{reply_line}
+use Rattle.statements.specs.Runs.{BeginsWith}
+use Rattle.racf_stream.specs.Script.{stream, fault_at}
+use Rattle.statements.specs.Inputs.{statements}
 use Rattle.racf_stream.specs.Stream.{State, Answer, number_of, fail, accept, outcome_of, answer, text}
 use Rattle.racf_stream.proofs.Faults.{text_is, position_rests}
 use Rattle.racf_stream.proofs.Settled.{command_runs}
 use Rattle.racf_stream.proofs.StreamWalk.{StreamWalk}
-use Rattle.racf_stream.proofs.Walk.{Walk, given_items, first_items}
+use Rattle.statements.proofs.Walk.{Walk, given_items, first_items}
 
 -- ---- the last moment of a call
 heads : (a b : Moment) (earlier others : List Moment) → a ∷ earlier ≡ b ∷ others → a ≡ b

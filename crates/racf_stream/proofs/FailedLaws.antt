@@ -22,13 +22,13 @@ use Rattle.request_files.specs.Acees.{acee_named, put_refusal}
 use Rattle.request_files.specs.Grammar.{Access, Line, Verify, Auth, Fastauth, Delete, After, Skip, read}
 use Rattle.request_files.specs.Worked as request
 use Rattle.request_files.specs.declared.issuer_line.NamedIssuer.{NamedIssuer}
-use Rattle.racf_desk.specs.declared.refusal.Refusal.{Refusal as OfCommand}
-use Rattle.racf_stream.specs.declared.statement.Statement.{Statement}
-use Rattle.racf_stream.specs.declared.statement.Statement.TheVariants as item
-use Rattle.racf_stream.specs.declared.reply.Refusal.{Refusal}
-use Rattle.racf_stream.specs.declared.reply.Refusal.TheVariants as refusal
-use Rattle.racf_stream.specs.Replies.{refusal_words, reply_line}
-use Rattle.racf_stream.specs.IssuerLines.{issuer_named}
+use Rattle.desk_rules.specs.declared.refusal.Refusal.{Refusal as OfCommand}
+use Rattle.statements.specs.declared.statement.Statement.{Statement}
+use Rattle.statements.specs.declared.statement.Statement.TheVariants as item
+use Rattle.statements.specs.declared.reply.Refusal.{Refusal}
+use Rattle.statements.specs.declared.reply.Refusal.TheVariants as refusal
+use Rattle.statements.specs.Replies.{refusal_words, reply_line}
+use Rattle.statements.specs.IssuerLines.{issuer_named}
 use Rattle.racf_stream.specs.Stream as s
 use Rattle.racf_stream.specs.Stream.{State, Answer, number_of}
 use Rattle.racf_stream.specs.Printed.{says_failed}

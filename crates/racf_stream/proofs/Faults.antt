@@ -5,19 +5,19 @@ use Rattle.std.specs.Io.KnownBytes.{append_known}
 use Rattle.std.proofs.lemmas.Bool.{ne_eqb}
 use Rattle.journal_records.specs.declared.record.CommandRecord.{CommandRecord}
 use Rattle.racf_outside.specs.Reader.{Reader}
-use Rattle.racf_desk.specs.Position.{Position}
-use Rattle.racf_desk.specs.declared.refusal.Refusal.{Refusal as OfCommand}
+use Rattle.desk_rules.specs.Position.{Position}
+use Rattle.desk_rules.specs.declared.refusal.Refusal.{Refusal as OfCommand}
 use Rattle.request_files.specs.declared.issuer_line.NamedIssuer.{NamedIssuer}
-use Rattle.racf_stream.specs.declared.issuer.Issuing.{Issuing}
-use Rattle.racf_stream.specs.declared.statement.Statement.{Statement}
-use Rattle.racf_stream.specs.declared.statement.Statement.TheVariants as item
-use Rattle.racf_stream.specs.declared.reply.Refusal.{Refusal}
-use Rattle.racf_stream.specs.IssuerLines.{issuer_named}
+use Rattle.statements.specs.declared.issuer.Issuing.{Issuing}
+use Rattle.statements.specs.declared.statement.Statement.{Statement}
+use Rattle.statements.specs.declared.statement.Statement.TheVariants as item
+use Rattle.statements.specs.declared.reply.Refusal.{Refusal}
+use Rattle.statements.specs.IssuerLines.{issuer_named}
 use Rattle.racf_stream.specs.Stream.{State, Answer, number_of, new_stream, fails_behind, fail, accept, halt, answer_outcome, outcome_of, command, issue_by, request, answer, step, text}
 use Rattle.racf_stream.specs.Script.{stream, fault_at}
-use Rattle.racf_stream.specs.Runs.{after, output}
-use Rattle.racf_stream.proofs.Folds.{after-append}
-use Rattle.racf_stream.proofs.Walk.{Walk, Grows}
+use Rattle.statements.specs.Runs.{after, output}
+use Rattle.statements.proofs.Folds.{after-append}
+use Rattle.statements.proofs.Walk.{Walk, Grows}
 
 -- ---- a state in which no disk has failed
 -- an accepted command is failed only where its number says so
@@ -156,6 +156,12 @@ module _ (failed : ℕ) (issuing : Issuing) (base : Position) where
             ∙ sym (same_output w.waiting s_told (all_run w.told start new_runs) below_waiting)
             ∙ ap (λ x. output (stream (Some failed) issuing base) w.waiting x) (sym same_told);
         few = subst (λ x. number_of s ≤ number_of x + slack) (sym same_told) w.few;
+        alone =
+            λ front final is.
+            let at : number_of (after (stream None issuing base) (w.told ++ front) start) ≤ number_of s_told = w.alone front final is in
+            let below_front : number_of (after (stream None issuing base) (w.told ++ front) start) ≤ failed = omega (arith, at, below_told) in
+            subst (λ x. number_of x ≤ number_of (after (stream (Some failed) issuing base) w.told start)) (sym (same_state (w.told ++ front) start new_runs below_front))
+            (subst (λ x. number_of (after (stream None issuing base) (w.told ++ front) start) ≤ number_of x) (sym same_told) at);
       }
 
 -- ---- behind a disk that failed

@@ -14,10 +14,10 @@ use Rattle.racf_profiles.proofs.Found.{all-found}
 use Rattle.command_words.specs.declared.quoting.Quoting.TheVariants.{Ignored}
 use Rattle.command_words.specs.Bytes.{is_faulty_byte}
 use Rattle.command_words.specs.ValuedWords.{faulty_at}
-use Rattle.command_values.specs.ProfileNames.{profile_in, form_in}
+use Rattle.command_fields.specs.ProfileNames.{profile_in, form_in}
 use Rattle.command_values.proofs.Names.{id_of-ok, group_of-ok}
 use Rattle.command_values.proofs.Patterns.{dataset-named, general-named, class-named}
-use Rattle.command_parser.specs.LawfulFields.{IsId, IsGroupName, IsDataSetProfile, IsClassProfile, IsAnyProfile}
+use Rattle.command_fields.specs.LawfulFields.{IsId, IsGroupName, IsDataSetProfile, IsClassProfile, IsAnyProfile}
 use Rattle.lawful_commands.proofs.RowLists.{all_pass-each}
 use Rattle.racf_stream.proofs.PrintedLaws.{AllDigits, decimal-AllDigits}
 

@@ -19,26 +19,26 @@ use Rattle.racf_profiles.specs.Lookup.{is_class, is_group, user_of, group_of, cl
 use Rattle.racf_profiles.specs.Names.{is_connected_to}
 use Rattle.group_tree.specs.Groups.{first_subgroup}
 use Rattle.class_profiles.specs.Classes.{is_under, first_under}
-use Rattle.command_values.specs.LawfulValues.{Each}
-use Rattle.command_parser.specs.declared.commands.Issuer.{Issuer}
-use Rattle.command_parser.specs.declared.fields.AltGroup.{AltGroup}
-use Rattle.command_parser.specs.declared.fields.CommandFields.{CommandFields}
-use Rattle.command_parser.specs.declared.fields.CommandFields.TheVariants as command
-use Rattle.command_parser.specs.declared.profile_fields.Permit.{Permit}
-use Rattle.command_parser.specs.LawfulFields.{IsClauthWord, AreLawfulFields}
-use Rattle.command_effects.specs.UserEffects.{altered_group, new_group}
-use Rattle.command_effects.specs.Effects.{step}
-use Rattle.command_conflicts.specs.declared.conflict.Conflict.{Conflict}
-use Rattle.command_conflicts.specs.declared.conflict.Conflict.TheVariants.{NoUser, NoGroup, NoProfile, NoClass, Exists, NotConnected, Root, InUse, Cycle, OwnerNotSuperior, NotGeneric, NotListed, ClassFixed, DefaultGroup, LastSpecial, UnknownName, Full}
-use Rattle.command_conflicts.specs.declared.conflict.Named.TheVariants as named
-use Rattle.command_conflicts.specs.declared.conflict.Holder.TheVariants.{Subgroup, Connected, Profile as ProfileOf}
-use Rattle.command_conflicts.specs.declared.conflict.Limit.{Limit}
-use Rattle.command_conflicts.specs.declared.conflict.Limit.TheVariants as kind
-use Rattle.command_conflicts.specs.Numbers as numbers
-use Rattle.command_conflicts.specs.Numbers.{is_early}
-use Rattle.command_conflicts.specs.Required.{if_met, first_met, over, no_user, no_group, no_owner, no_named_group, no_class, name_taken, not_connected, default_not_connected, unknown_level, unknown_category, never_category, unknown_label}
-use Rattle.command_conflicts.specs.OptionConflicts.{absent_class, class_without_generic, unlisted_class, always_active_class, never_listed_class, set_ropts_conflicts}
-use Rattle.command_conflicts.specs.ProfileConflicts.{
+use Rattle.command_fields.specs.LawfulMembers.{Each}
+use Rattle.command_fields.specs.declared.issuer.Issuer.{Issuer}
+use Rattle.command_fields.specs.declared.fields.AltGroup.{AltGroup}
+use Rattle.command_fields.specs.declared.fields.CommandFields.{CommandFields}
+use Rattle.command_fields.specs.declared.fields.CommandFields.TheVariants as command
+use Rattle.command_fields.specs.declared.profile_fields.Permit.{Permit}
+use Rattle.command_fields.specs.LawfulFields.{IsClauthWord, AreLawfulFields}
+use Rattle.command_rules.specs.UserEffects.{altered_group, new_group}
+use Rattle.command_rules.specs.Effects.{step}
+use Rattle.command_rules.specs.declared.conflict.Conflict.{Conflict}
+use Rattle.command_rules.specs.declared.conflict.Conflict.TheVariants.{NoUser, NoGroup, NoProfile, NoClass, Exists, NotConnected, Root, InUse, Cycle, OwnerNotSuperior, NotGeneric, NotListed, ClassFixed, DefaultGroup, LastSpecial, UnknownName, Full}
+use Rattle.command_rules.specs.declared.conflict.Named.TheVariants as named
+use Rattle.command_rules.specs.declared.conflict.Holder.TheVariants.{Subgroup, Connected, Profile as ProfileOf}
+use Rattle.command_rules.specs.declared.conflict.Limit.{Limit}
+use Rattle.command_rules.specs.declared.conflict.Limit.TheVariants as kind
+use Rattle.command_rules.specs.Numbers as numbers
+use Rattle.command_rules.specs.Numbers.{is_early}
+use Rattle.command_rules.specs.Required.{if_met, first_met, over, no_user, no_group, no_owner, no_named_group, no_class, name_taken, not_connected, default_not_connected, unknown_level, unknown_category, never_category, unknown_label}
+use Rattle.command_rules.specs.OptionConflicts.{absent_class, class_without_generic, unlisted_class, always_active_class, never_listed_class, set_ropts_conflicts}
+use Rattle.command_rules.specs.ProfileConflicts.{
   no_first_qualifier,
   named_unknown,
   is_unknown,
@@ -68,7 +68,7 @@ use Rattle.command_conflicts.specs.ProfileConflicts.{
   r_delete_conflicts,
   permit_conflicts,
 }
-use Rattle.command_conflicts.specs.Conflicts.{
+use Rattle.command_rules.specs.Conflicts.{
   has_subgroup,
   has_connected,
   has_profile,
@@ -94,7 +94,7 @@ use Rattle.command_conflicts.specs.Conflicts.{
   first_conflict_of,
 }
 use Rattle.lawful_commands.proofs.FieldFacts.{each-all}
-use Rattle.racf_desk.specs.Words.{kind_words, conflict_words}
+use Rattle.desk_rules.specs.Words.{kind_words, conflict_words}
 use Rattle.racf_stream.proofs.Feedless.{IsFeedless, joined, decimal-feedless, read_id-feedless, id-feedless, group-feedless, data_set-feedless, class_profile-feedless, any_profile-feedless, either, always, if-map, if-then, if-found, if-given, if-ok}
 use Rattle.racf_stream.proofs.FeedlessRows.{IsFeedlessUser, IsFeedlessGroup, IsFeedlessProfile, IsFeedlessWho, AreFeedlessProfiles, AreFeedless, ids-feedless, groups-feedless, names-feedless, logged-feedless, whos-feedless, current-feedless, owner-feedless}
 

@@ -12,14 +12,14 @@ use Rattle.racf_profiles.specs.Lookup.{is_class, class_of}
 use Rattle.racf_profiles.specs.Edits.{put_row, drop_row, at_class, with_flags, with_listed}
 use Rattle.racf_profiles.specs.State.{State, ListedCopy, is_copy_of, copy_of_class, edited_state, changed_state}
 use Rattle.racf_profiles.proofs.EditLaws.{all-drop_row}
-use Rattle.command_parser.specs.declared.option_fields.SetRopts.{SetRopts}
-use Rattle.command_parser.specs.declared.fields.CommandFields.{CommandFields}
-use Rattle.command_parser.specs.declared.fields.CommandFields.TheVariants as fields
-use Rattle.command_effects.specs.OptionEffects.{set_class, set_options}
-use Rattle.command_effects.specs.Edits.{sets_options, sets_flags, lists, unlists, put_flags, edits_of_set_ropts}
+use Rattle.command_fields.specs.declared.option_fields.SetRopts.{SetRopts}
+use Rattle.command_fields.specs.declared.fields.CommandFields.{CommandFields}
+use Rattle.command_fields.specs.declared.fields.CommandFields.TheVariants as fields
+use Rattle.command_rules.specs.OptionEffects.{set_class, set_options}
+use Rattle.command_rules.specs.Edits.{sets_options, sets_flags, lists, unlists, put_flags, edits_of_set_ropts}
 use Rattle.lawful_commands.proofs.RowLists.{all-both}
 use Rattle.lawful_commands.proofs.ProfileRows.{all-at_class}
-use Rattle.racf_desk.specs.Position.{copies_behind}
+use Rattle.desk_rules.specs.Position.{copies_behind}
 use Rattle.racf_stream.proofs.Feedless.{IsFeedless, if-found}
 use Rattle.racf_stream.proofs.FeedlessRows.{IsFeedlessProfile, AreFeedlessProfiles, AreFeedless, IsFeedlessState}
 

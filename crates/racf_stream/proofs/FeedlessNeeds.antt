@@ -11,12 +11,12 @@ use Rattle.generic_names.specs.Covers.{is_generic}
 use Rattle.racf_profiles.specs.declared.groups.Group.{Group}
 use Rattle.racf_profiles.specs.declared.rows.Rows.{Rows}
 use Rattle.racf_profiles.specs.Lookup.{is_group, group_of}
-use Rattle.command_parser.specs.declared.commands.Issuer.{Issuer}
-use Rattle.command_parser.specs.declared.fields.CommandFields.{CommandFields}
-use Rattle.command_parser.specs.declared.fields.CommandFields.TheVariants as command
-use Rattle.command_parser.specs.declared.option_fields.SetRopts.{SetRopts}
-use Rattle.command_parser.specs.LawfulFields.{IsLawfulSetRopts, AreLawfulFields}
-use Rattle.command_parser.specs.Issuers.{group_or_current}
+use Rattle.command_fields.specs.declared.issuer.Issuer.{Issuer}
+use Rattle.command_fields.specs.declared.fields.CommandFields.{CommandFields}
+use Rattle.command_fields.specs.declared.fields.CommandFields.TheVariants as command
+use Rattle.command_fields.specs.declared.option_fields.SetRopts.{SetRopts}
+use Rattle.command_fields.specs.LawfulFields.{IsLawfulSetRopts, AreLawfulFields}
+use Rattle.command_fields.specs.Issuers.{group_or_current}
 use Rattle.command_authority.specs.declared.needs.Need.{Need}
 use Rattle.command_authority.specs.declared.needs.Need.TheVariants as needs
 use Rattle.command_authority.specs.declared.requirement.Requirement.{Requirement}
@@ -50,7 +50,7 @@ use Rattle.command_authority.specs.Requirements.{
   requirements,
 }
 use Rattle.lawful_commands.proofs.RowLists.{all-both}
-use Rattle.racf_desk.specs.Words.{in_parentheses, need_words, each_need}
+use Rattle.desk_rules.specs.Words.{in_parentheses, need_words, each_need}
 use Rattle.racf_stream.proofs.Feedless.{IsFeedless, joined, id-feedless, group-feedless, data_set-feedless, qualifier-feedless, if-found, if-given, if-map, if-then}
 use Rattle.racf_stream.proofs.FeedlessRows.{IsFeedlessGroup, AreFeedless, groups-feedless, names-feedless, current-feedless}
 

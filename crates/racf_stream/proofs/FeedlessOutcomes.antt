@@ -11,23 +11,23 @@ use Rattle.command_values.specs.declared.faults.Syntax.TheVariants as syntax
 use Rattle.command_values.specs.declared.operand_words.Word.{Word}
 use Rattle.command_values.specs.declared.operand_words.Word.TheVariants as words
 use Rattle.command_values.specs.OperandWords.{spelling_of}
-use Rattle.command_parser.specs.declared.commands.Issuer.{Issuer}
-use Rattle.command_parser.specs.declared.fields.CommandFields.{CommandFields}
-use Rattle.command_parser.specs.LawfulFields.{AreLawfulFields}
-use Rattle.command_conflicts.specs.declared.conflict.Conflict.{Conflict}
-use Rattle.command_conflicts.specs.Conflicts.{conflict_of, first_conflict_of}
+use Rattle.command_fields.specs.declared.issuer.Issuer.{Issuer}
+use Rattle.command_fields.specs.declared.fields.CommandFields.{CommandFields}
+use Rattle.command_fields.specs.LawfulFields.{AreLawfulFields}
+use Rattle.command_rules.specs.declared.conflict.Conflict.{Conflict}
+use Rattle.command_rules.specs.Conflicts.{conflict_of, first_conflict_of}
 use Rattle.command_authority.specs.declared.needs.Need.{Need}
 use Rattle.command_authority.specs.Authority.{need}
 use Rattle.journal_records.specs.declared.record.CommandRecord.{CommandRecord}
 use Rattle.journal_records.specs.Spelling.{spelled}
-use Rattle.racf_desk.specs.declared.refusal.Refusal.{Refusal as OfCommand}
-use Rattle.racf_desk.specs.declared.refusal.Refusal.TheVariants as of_command
-use Rattle.racf_desk.specs.Issuers.{current_group, is_connected, issuer_in, unless_not_connected, issuer_among, issuer_of}
-use Rattle.racf_desk.specs.Outcome.{most_number, most_bytes, unless_refused, command_of_text, first_of, rules_of, journal_full, number_spent, refusal_of, unless_met, judged, outcome_in, outcome}
-use Rattle.racf_desk.specs.Position.{Position, position_behind}
-use Rattle.racf_desk.specs.Recovery.{refusal_again, outcome_again}
-use Rattle.racf_desk.specs.Words.{syntax_words, each_need}
-use Rattle.racf_desk.specs.Words.{refusal_words as command_refusal_words}
+use Rattle.desk_rules.specs.declared.refusal.Refusal.{Refusal as OfCommand}
+use Rattle.desk_rules.specs.declared.refusal.Refusal.TheVariants as of_command
+use Rattle.desk_rules.specs.Issuers.{current_group, is_connected, issuer_in, unless_not_connected, issuer_among, issuer_of}
+use Rattle.desk_rules.specs.Outcome.{most_number, most_bytes, unless_refused, command_of_text, first_of, rules_of, journal_full, number_spent, refusal_of, unless_met, judged, outcome_in, outcome}
+use Rattle.desk_rules.specs.Position.{Position, position_behind}
+use Rattle.desk_rules.specs.Recovery.{refusal_again, outcome_again}
+use Rattle.desk_rules.specs.Words.{syntax_words, each_need}
+use Rattle.desk_rules.specs.Words.{refusal_words as command_refusal_words}
 use Rattle.racf_stream.proofs.Feedless.{IsFeedless, joined, decimal-feedless, either, if-given, if-found}
 use Rattle.racf_stream.proofs.FeedlessCopies.{copies-feedless}
 use Rattle.racf_stream.proofs.FeedlessRows.{IsFeedlessUser, AreFeedless, IsFeedlessState, step-feedless}

@@ -8,17 +8,17 @@ use Rattle.racf_profiles.specs.State.{restart}
 use Rattle.checkpoint_disks.specs.Files.{CheckpointRead}
 use Rattle.racf_checkpoint.specs.declared.fault.StoreFault.{StoreFault}
 use Rattle.racf_checkpoint.specs.Contents.{contents}
-use Rattle.command_parser.specs.declared.commands.Issuer.{Issuer}
-use Rattle.command_parser.specs.declared.fields.CommandFields.{CommandFields}
-use Rattle.command_parser.specs.LawfulFields.{AreLawfulFields}
+use Rattle.command_fields.specs.declared.issuer.Issuer.{Issuer}
+use Rattle.command_fields.specs.declared.fields.CommandFields.{CommandFields}
+use Rattle.command_fields.specs.LawfulFields.{AreLawfulFields}
 use Rattle.journal_records.specs.declared.record.CommandRecord.{CommandRecord}
 use Rattle.journal_records.specs.declared.record.RecordFault.{RecordFault}
 use Rattle.journal_records.specs.declared.record.RecordFault.TheVariants as faults
 use Rattle.journal_records.specs.Reading.{issuer_in, canonical_command, ◌>>=◌, or_fault, item_from, item_in, record_of}
 use Rattle.lawful_commands.proofs.RowLists.{all-filter}
-use Rattle.racf_desk.specs.declared.refusal.Refusal.{Refusal}
-use Rattle.racf_desk.specs.Position.{Position, position_behind, restarted}
-use Rattle.racf_desk.specs.Recovery.{unless_faulty, outcome_again, behind_outcome, behind_record, behind_records, base_of, recovered}
+use Rattle.desk_rules.specs.declared.refusal.Refusal.{Refusal}
+use Rattle.desk_rules.specs.Position.{Position, position_behind, restarted}
+use Rattle.desk_rules.specs.Recovery.{unless_faulty, outcome_again, behind_outcome, behind_record, behind_records, base_of, recovered}
 use Rattle.racf_stream.specs.Printed.{IsReached}
 use Rattle.racf_stream.proofs.Feedless.{read_id-feedless, spelled_group-feedless}
 use Rattle.racf_stream.proofs.FeedlessCopies.{copies-all}

@@ -25,27 +25,27 @@ use Rattle.racf_profiles.specs.State.{State, ListedCopy, is_copy_of, copy_of}
 use Rattle.racf_profiles.specs.Edits.{with_profile, without_profile}
 use Rattle.racf_profiles.proofs.OrderedProfiles.{all-put_profile}
 use Rattle.racf_profiles.proofs.EditLaws.{all-drop_row}
-use Rattle.command_values.specs.declared.values.Reset.{Reset}
-use Rattle.command_values.specs.declared.values.Reset.TheVariants as reset
-use Rattle.command_parser.specs.declared.commands.Issuer.{Issuer}
-use Rattle.command_parser.specs.declared.fields.Connect.{Connect}
-use Rattle.command_parser.specs.declared.fields.CommandFields.{CommandFields}
-use Rattle.command_parser.specs.declared.fields.CommandFields.TheVariants as command
-use Rattle.command_parser.specs.declared.profile_fields.Permit.{Permit}
-use Rattle.command_values.specs.LawfulValues.{Each, IsMember, AreMembers}
-use Rattle.command_values.specs.declared.members.MemberForm.{MemberForm}
-use Rattle.command_values.specs.declared.members.MemberForm.TheVariants as forms
-use Rattle.command_values.specs.Members.{member_form}
+use Rattle.command_fields.specs.declared.resets.Reset.{Reset}
+use Rattle.command_fields.specs.declared.resets.Reset.TheVariants as reset
+use Rattle.command_fields.specs.declared.issuer.Issuer.{Issuer}
+use Rattle.command_fields.specs.declared.fields.Connect.{Connect}
+use Rattle.command_fields.specs.declared.fields.CommandFields.{CommandFields}
+use Rattle.command_fields.specs.declared.fields.CommandFields.TheVariants as command
+use Rattle.command_fields.specs.declared.profile_fields.Permit.{Permit}
+use Rattle.command_fields.specs.LawfulMembers.{Each, IsMember, AreMembers}
+use Rattle.command_fields.specs.declared.member_form.MemberForm.{MemberForm}
+use Rattle.command_fields.specs.declared.member_form.MemberForm.TheVariants as forms
+use Rattle.command_fields.specs.MemberForms.{member_form}
 use Rattle.racf_profiles.specs.LawfulProfiles.{member_name}
-use Rattle.command_effects.specs.Members.{is_member_named, with_member, without_members, members_after, with_category_name, categories_defined}
-use Rattle.command_values.specs.declared.log_options.LogClause.{LogClause}
-use Rattle.command_parser.specs.LawfulFields.{IsId, IsGroupName, IsNamedOne, AreWhosOfPermit, IsPort, IsLogClause, AreMembersOf, AreLawfulFields}
-use Rattle.command_parser.specs.Issuers.{group_or_current}
-use Rattle.command_effects.specs.UserEffects.{new_user, altered_user, new_group, altered_group, altered_connection, connects_after, connected_user, removed_user, owner_or_issuer}
-use Rattle.command_effects.specs.ProfileEffects.{dataset, new_data_set, altered_data_set, new_resource, altered_resource, profile_put, profile_dropped, profile_changed}
-use Rattle.command_effects.specs.PermitEffects.{standard_reset, conditional_reset, with_entry, with_conditional, standard_entries, conditional_entries, permitted_profile, level_of}
-use Rattle.command_effects.specs.OptionEffects.{set_class}
-use Rattle.command_effects.specs.Effects.{step}
+use Rattle.command_rules.specs.Members.{is_member_named, with_member, without_members, members_after, with_category_name, categories_defined}
+use Rattle.command_fields.specs.declared.log_clauses.LogClause.{LogClause}
+use Rattle.command_fields.specs.LawfulFields.{IsId, IsGroupName, IsNamedOne, AreWhosOfPermit, IsPort, IsLogClause, AreMembersOf, AreLawfulFields}
+use Rattle.command_fields.specs.Issuers.{group_or_current}
+use Rattle.command_rules.specs.UserEffects.{new_user, altered_user, new_group, altered_group, altered_connection, connects_after, connected_user, removed_user, owner_or_issuer}
+use Rattle.command_rules.specs.ProfileEffects.{dataset, new_data_set, altered_data_set, new_resource, altered_resource, profile_put, profile_dropped, profile_changed}
+use Rattle.command_rules.specs.PermitEffects.{standard_reset, conditional_reset, with_entry, with_conditional, standard_entries, conditional_entries, permitted_profile, level_of}
+use Rattle.command_rules.specs.OptionEffects.{set_class}
+use Rattle.command_rules.specs.Effects.{step}
 use Rattle.lawful_commands.proofs.RowLists.{all-push, all-filter, all-at, all-put, all-map, all-both}
 use Rattle.lawful_commands.proofs.FieldFacts.{each-all}
 use Rattle.lawful_commands.proofs.ProfileRows.{all-at_class}

@@ -15,10 +15,10 @@ use Rattle.decision.specs.Verify.{verified}
 use Rattle.audit_records.specs.Logged.{logged}
 use Rattle.audit_records.specs.Line.{audit_line}
 use Rattle.command_values.specs.declared.faults.Syntax.TheVariants as syntax
-use Rattle.command_parser.specs.declared.fields.CommandFields.{CommandFields}
+use Rattle.command_fields.specs.declared.fields.CommandFields.{CommandFields}
 use Rattle.command_parser.specs.CommandOf.{command_in}
 use Rattle.command_parser.specs.Canonical.{fault}
-use Rattle.command_parser.specs.LawfulFields.{AreLawfulFields}
+use Rattle.command_fields.specs.LawfulFields.{AreLawfulFields}
 use Rattle.request_files.specs.declared.acees.NamedAcee.{NamedAcee}
 use Rattle.request_files.specs.declared.issuer_line.NamedIssuer.{NamedIssuer}
 use Rattle.request_files.specs.IssuerLines.{issuer_of_line}
@@ -29,22 +29,22 @@ use Rattle.request_files.specs.Answers.{numbered, refused_words, verified_words,
 use Rattle.request_files.specs.Grammar.{Access, Line, Verify, Auth, Fastauth, Delete, After, Skip, read}
 use Rattle.request_files.specs.Worked as request
 use Rattle.lawful_commands.proofs.RowLists.{all-push}
-use Rattle.racf_stream.specs.declared.issuer.Issuing.{Issuing}
-use Rattle.racf_stream.specs.declared.issuer.Issuing.TheVariants.{Free, Fixed}
-use Rattle.racf_stream.specs.declared.statement.Statement.{Statement}
-use Rattle.racf_stream.specs.declared.statement.Statement.TheVariants as item
-use Rattle.racf_stream.specs.declared.reply.Refusal.{Refusal}
-use Rattle.racf_stream.specs.declared.reply.Refusal.TheVariants as refusal
-use Rattle.racf_desk.specs.declared.refusal.Refusal.{Refusal as OfCommand}
+use Rattle.statements.specs.declared.issuer.Issuing.{Issuing}
+use Rattle.statements.specs.declared.issuer.Issuing.TheVariants.{Free, Fixed}
+use Rattle.statements.specs.declared.statement.Statement.{Statement}
+use Rattle.statements.specs.declared.statement.Statement.TheVariants as item
+use Rattle.statements.specs.declared.reply.Refusal.{Refusal}
+use Rattle.statements.specs.declared.reply.Refusal.TheVariants as refusal
+use Rattle.desk_rules.specs.declared.refusal.Refusal.{Refusal as OfCommand}
 use Rattle.journal_records.specs.declared.record.CommandRecord.{CommandRecord}
-use Rattle.racf_desk.specs.Outcome.{found_command, command_of_text}
-use Rattle.racf_desk.specs.Position.{Position}
-use Rattle.racf_stream.specs.Replies.{refusal_words, reply_line}
-use Rattle.racf_stream.specs.IssuerLines.{issuer_refusal, named_or_refused, issuer_named, first_issuer}
+use Rattle.desk_rules.specs.Outcome.{found_command, command_of_text}
+use Rattle.desk_rules.specs.Position.{Position}
+use Rattle.statements.specs.Replies.{refusal_words, reply_line}
+use Rattle.statements.specs.IssuerLines.{issuer_refusal, named_or_refused, issuer_named, first_issuer}
 use Rattle.racf_stream.specs.Stream as s
 use Rattle.racf_stream.specs.Stream.{State, Answer, number_of}
 use Rattle.racf_stream.specs.Printed.{Turn, turns, input_turns, printed, behind, audit_text, IsSpelled, PrintsItsLines}
-use Rattle.racf_stream.specs.Script.{statements}
+use Rattle.statements.specs.Inputs.{statements}
 use Rattle.racf_stream.proofs.Feedless.{IsFeedless, id-feedless, decimal-feedless, either, if-map, if-found}
 use Rattle.racf_stream.proofs.FeedlessRows.{IsFeedlessState}
 use Rattle.racf_stream.proofs.FeedlessOutcomes.{IsFeedlessOutcome, IsFeedlessAccepted, IsFeedlessCommand, syntax-words, outcome-feedless, behind-feedless}

@@ -3,19 +3,19 @@ use Rattle.std.proofs.Common.{◌≡◌, ℕ, Bool, true, false, cond, List, [],
 use Rattle.std.specs.Prelude.{Option}
 use Rattle.std.specs.List.{AllByRecursion}
 use Rattle.journal_records.specs.declared.record.CommandRecord.{CommandRecord}
-use Rattle.racf_desk.specs.Position.{Position}
-use Rattle.racf_desk.specs.declared.refusal.Refusal.{Refusal as OfCommand}
+use Rattle.desk_rules.specs.Position.{Position}
+use Rattle.desk_rules.specs.declared.refusal.Refusal.{Refusal as OfCommand}
 use Rattle.request_files.specs.declared.issuer_line.NamedIssuer.{NamedIssuer}
-use Rattle.racf_stream.specs.declared.issuer.Issuing.{Issuing}
-use Rattle.racf_stream.specs.declared.issuer.Issuing.TheVariants.{Fixed}
-use Rattle.racf_stream.specs.declared.reply.Refusal.{Refusal}
-use Rattle.racf_stream.specs.declared.reply.Refusal.TheVariants.{IssuerFixed}
-use Rattle.racf_stream.specs.declared.reply.Reply.TheVariants.{Refused}
-use Rattle.racf_stream.specs.declared.statement.Statement.{Statement}
-use Rattle.racf_stream.specs.declared.statement.Statement.TheVariants as item
-use Rattle.racf_stream.specs.IssuerLines.{first_issuer, issuer_named}
-use Rattle.racf_stream.specs.Replies.{reply_line}
-use Rattle.racf_stream.specs.Script.{statements}
+use Rattle.statements.specs.declared.issuer.Issuing.{Issuing}
+use Rattle.statements.specs.declared.issuer.Issuing.TheVariants.{Fixed}
+use Rattle.statements.specs.declared.reply.Refusal.{Refusal}
+use Rattle.statements.specs.declared.reply.Refusal.TheVariants.{IssuerFixed}
+use Rattle.statements.specs.declared.reply.Reply.TheVariants.{Refused}
+use Rattle.statements.specs.declared.statement.Statement.{Statement}
+use Rattle.statements.specs.declared.statement.Statement.TheVariants as item
+use Rattle.statements.specs.IssuerLines.{first_issuer, issuer_named}
+use Rattle.statements.specs.Replies.{reply_line}
+use Rattle.statements.specs.Inputs.{statements}
 use Rattle.racf_stream.specs.Stream as s
 use Rattle.racf_stream.specs.Stream.{State, Answer, number_of, issue_by}
 use Rattle.racf_stream.specs.Printed.{Turn, turns, input_turns, printed, behind}

@@ -3,10 +3,10 @@ use Rattle.std.proofs.Common.{◌≡◌, ℕ, ◌+◌, ◌≤◌, Bool, true, fa
 use Rattle.std.specs.Prelude.{Option, Result}
 use Rattle.std.proofs.Math.Nat.{le_trans}
 use Rattle.journal_records.specs.declared.record.CommandRecord.{CommandRecord}
-use Rattle.racf_desk.specs.declared.refusal.Refusal.{Refusal as OfCommand}
-use Rattle.racf_stream.specs.declared.reply.Refusal.TheVariants as refusal
-use Rattle.racf_stream.specs.declared.statement.Statement.{Statement}
-use Rattle.racf_stream.specs.declared.statement.Statement.TheVariants as item
+use Rattle.desk_rules.specs.declared.refusal.Refusal.{Refusal as OfCommand}
+use Rattle.statements.specs.declared.reply.Refusal.TheVariants as refusal
+use Rattle.statements.specs.declared.statement.Statement.{Statement}
+use Rattle.statements.specs.declared.statement.Statement.TheVariants as item
 use Rattle.racf_stream.specs.Durable.{most_left, most_left_of}
 use Rattle.racf_stream.specs.Stream.{State, number_of, refuse, accept, fail, halt, fails_behind, answer_outcome, outcome_of, command, name_issuer, request, answer}
 use Rattle.racf_stream.proofs.Faults.{answer_keeps, answer_rests}

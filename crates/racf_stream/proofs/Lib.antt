@@ -1,24 +1,13 @@
 mod Rows
-mod JoinRows
-pub mod Folds
-pub mod CutLaws
-pub mod Walk
-pub mod Stops
-pub mod MarkLaws
 pub mod Settled
 pub mod CommandLaws
 pub mod IssuingLaws
-pub mod FrontLaws
-pub mod StatementLaws
-pub mod Pieces
 pub mod Faults
 pub mod Processing
-pub mod Settling
 pub mod StreamWalk
 pub mod LeftLaws
 pub mod Moments
 pub mod Doubt
-pub mod Ending
 pub mod ScriptLaws
 pub mod Resting
 pub mod PrintedLaws

@@ -8,21 +8,22 @@ use Rattle.racf_outside.specs.Reader.{Reader, at_start}
 use Rattle.racf_outside.proofs.Rises.{Rose-later}
 use Rattle.racf_outside.proofs.Runs.{Leaves-weaker, StaysIn-none, StaysIn-joined, StaysIn-weaker}
 use Rattle.racf_checkpoint.specs.Stored.{StoreOn}
-use Rattle.racf_desk.specs.Durable.{SameIdle, IdleDisk, idle_of, BesideIdle, LeavesIt, StaysEither}
-use Rattle.racf_desk.proofs.IdleLaws.{same_idle, same_idle-then, same_idle-told, beside-weaker}
-use Rattle.racf_desk.specs.Position.{Position}
-use Rattle.racf_desk.specs.Recovery.{StandsFor, StandsForEither}
-use Rattle.racf_stream.specs.declared.issuer.Issuing.{Issuing}
-use Rattle.racf_stream.specs.declared.statement.Statement.{Statement}
+use Rattle.desk_rules.specs.Durable.{SameIdle, IdleDisk, idle_of, BesideIdle, LeavesIt, StaysEither}
+use Rattle.desk_rules.proofs.IdleLaws.{same_idle, same_idle-then, same_idle-told, beside-weaker}
+use Rattle.desk_rules.specs.Position.{Position}
+use Rattle.desk_rules.specs.Recovery.{StandsFor, StandsForEither}
+use Rattle.statements.specs.declared.issuer.Issuing.{Issuing}
+use Rattle.statements.specs.declared.statement.Statement.{Statement}
 use Rattle.racf_stream.specs.Durable.{StreamOn, Moves, MovesBy, StandsForFront, StaysAlong, fault_in, most_left_of}
-use Rattle.racf_stream.specs.NextStatement.{TakesStatements}
+use Rattle.statements.specs.NextStatement.{TakesStatements}
 use Rattle.racf_stream.specs.Processing.{Works}
-use Rattle.racf_stream.specs.Runs.{output}
-use Rattle.racf_stream.specs.Script.{stream, statements, fault_at}
+use Rattle.statements.specs.Runs.{output}
+use Rattle.racf_stream.specs.Script.{stream, fault_at}
+use Rattle.statements.specs.Inputs.{statements}
 use Rattle.racf_stream.specs.Stream.{State, number_of, new_stream, answer, step}
 use Rattle.racf_stream.proofs.Faults.{step_is, step_few}
 use Rattle.racf_stream.proofs.LeftLaws.{left_at_least, left_grows, answer_left}
-use Rattle.racf_stream.proofs.Walk.{Walk, Walk-none, Walk-items, Walk-first}
+use Rattle.statements.proofs.Walk.{Walk, Walk-none, Walk-items, Walk-first}
 use Rattle.racf_stream.proofs.StreamWalk.{StreamWalk}
 
 -- where the stream is, some front of the statements led
@@ -89,7 +90,7 @@ module _ {D : Type 0} (tells : D → Option History) (faults : D → ℕ) (issui
       let m = stream None issuing base in
       let next : State = step None item s.state in
       let same : (answer None item s.state).state ≡ next = sym (step_is None item s.state) in
-      let behind : Walk m source new 1 next before now (gathered ++ output m (item ∷ []) s.state) = Walk-items m (item ∷ []) bytes source old new 0 1 s.state next before now gathered (gathered ++ output m (item ∷ []) s.state) w takes refl refl (let few = step_few None item s.state in omega (arith, few)) in
+      let behind : Walk m source new 1 next before now (gathered ++ output m (item ∷ []) s.state) = Walk-items m (item ∷ []) bytes source old new 1 s.state next before now gathered (gathered ++ output m (item ∷ []) s.state) w takes tt refl refl (let few = step_few None item s.state in omega (arith, few)) in
       let front : (one other : List ℕ) → StandsForEither s.state.position (answer None item s.state).state.position one other → StandsForFront issuing base source most one other =
       by_either s.state.position (answer None item s.state).state.position (stands_walked issuing base source old 0 s.state before now gathered w most few s.state.position refl)
       (stands_walked issuing base source new 1 next before now (gathered ++ output m (item ∷ []) s.state) behind most (subst (λ (x : State). number_of x ≤ most) same more) (answer None item s.state).state.position (ap (λ (x : State). x.position) same)) in

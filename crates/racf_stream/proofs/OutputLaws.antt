@@ -3,12 +3,13 @@ use Rattle.std.proofs.Common.{◌≡◌, ℕ, Bool, ◌||◌, List, [], ◌∷�
 use Rattle.std.specs.Prelude.{Option, map}
 use Rattle.std.specs.List.{concat, list_any}
 use Rattle.std.proofs.Math.Bool.{or-false, or_assoc}
-use Rattle.racf_desk.specs.Position.{Position}
-use Rattle.racf_stream.specs.declared.issuer.Issuing.{Issuing}
-use Rattle.racf_stream.specs.declared.statement.Statement.{Statement}
-use Rattle.racf_stream.specs.Runs.{after, output, whole_status}
+use Rattle.desk_rules.specs.Position.{Position}
+use Rattle.statements.specs.declared.issuer.Issuing.{Issuing}
+use Rattle.statements.specs.declared.statement.Statement.{Statement}
+use Rattle.statements.specs.Runs.{after, output, whole_status}
 use Rattle.racf_stream.specs.Stream.{State, step, text, new_stream}
-use Rattle.racf_stream.specs.Script.{statements, stream, script_status}
+use Rattle.racf_stream.specs.Script.{stream, script_status}
+use Rattle.statements.specs.Inputs.{statements}
 use Rattle.racf_stream.specs.Printed.{turns, input_turns, printed, says_failed, says_refused}
 use Rattle.racf_stream.proofs.PrintedLaws.{item_says}
 use Rattle.racf_stream.proofs.FailedLaws.{item_fails}

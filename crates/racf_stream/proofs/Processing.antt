@@ -1,9 +1,9 @@
 -- A statement that was worked, and whose text was gathered.
 use Rattle.std.proofs.Common.{◌≡◌, List, ℕ, ◌++◌, None, Some, refl, sym, ◌∙◌, ap, append-nil}
 use Rattle.std.specs.Prelude.{Option, Result, Ok, Err, OnOk, OnErr}
-use Rattle.racf_desk.specs.Position.{Position}
-use Rattle.racf_stream.specs.declared.issuer.Issuing.{Issuing}
-use Rattle.racf_stream.specs.declared.statement.Statement.{Statement}
+use Rattle.desk_rules.specs.Position.{Position}
+use Rattle.statements.specs.declared.issuer.Issuing.{Issuing}
+use Rattle.statements.specs.declared.statement.Statement.{Statement}
 use Rattle.racf_stream.specs.Durable.{StreamOn, DoesOn, fault_in}
 use Rattle.racf_stream.specs.Stream.{answer, text}
 use Rattle.racf_stream.specs.Processing.{Works, Processes}

@@ -2,8 +2,8 @@
 use Rattle.std.proofs.Common.{◌≡◌, ℕ, ◌≤◌, true, false, inl, sym, ◌∙◌, subst, arith}
 use Rattle.std.specs.Prelude.{Option}
 use Rattle.racf_outside.specs.Disk.{History}
-use Rattle.racf_desk.proofs.IdleLaws.{same_idle}
-use Rattle.racf_stream.specs.declared.statement.Statement.{Statement}
+use Rattle.desk_rules.proofs.IdleLaws.{same_idle}
+use Rattle.statements.specs.declared.statement.Statement.{Statement}
 use Rattle.racf_stream.specs.Durable.{StreamOn, Stays, Moves}
 
 pub stays_moves : {D : Type 0} (tells : D → Option History) (faults : D → ℕ) (item : Statement) (s t : StreamOn D) → Stays s t → Moves tells faults item s t

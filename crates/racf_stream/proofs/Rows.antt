@@ -2,31 +2,32 @@
 use Rattle.std.proofs.Common.{◌≡◌, ℕ, List, [], ◌++◌, refl}
 use Rattle.std.specs.Prelude.{Option, None, Some, codes}
 use Rattle.std.specs.Fmt.{digits}
-use Rattle.racf_stream.specs.declared.status.Status.{Status}
-use Rattle.racf_stream.specs.declared.status.Status.TheVariants.{Done, Refusals, DiskFault}
+use Rattle.statements.specs.declared.status.Status.{Status}
+use Rattle.statements.specs.declared.status.Status.TheVariants.{Done, Refusals, DiskFault}
 use Rattle.command_grammar.specs.Canon.{canon}
-use Rattle.command_values.specs.ProfileNames.{form_in}
+use Rattle.command_fields.specs.ProfileNames.{form_in}
 use Rattle.command_grammar.specs.Reading.{parsed}
 use Rattle.command_parser.specs.Fields.{front, behind}
 use Rattle.command_parser.specs.Canonical.{canonical}
 use Rattle.command_parser.specs.CommandOf.{command_of}
 use Rattle.command_words.specs.Tokens.{tokens}
-use Rattle.command_conflicts.specs.Conflicts.{is_root, has_subgroup, has_connected, has_profile, meets, cycle, owner_not_superior, default_group, last_special, users_full, groups_full, connections_full, user_full, add_user_conflicts, alt_user_conflicts, del_user_conflicts, add_group_conflicts, alt_group_conflicts, del_group_conflicts, connect_conflicts, remove_conflicts}
-use Rattle.command_conflicts.specs.ProfileConflicts.{no_first_qualifier, no_permitted, no_such_class, no_resource_class, no_global_class, no_profile, profile_taken, not_generic, class_profiles_full, profiles_full, standard_full, conditional_full, entries_full, members_full, no_resource_profile, add_sd_requirements, add_sd_limits, r_define_requirements, r_define_limits, categories_full, alt_sd_conflicts, del_sd_conflicts, r_alter_conflicts, r_delete_conflicts, permit_conflicts}
-use Rattle.command_conflicts.specs.OptionConflicts.{absent_class, class_without_generic, unlisted_class, never_listed_class, always_active_class, set_ropts_conflicts}
-use Rattle.command_conflicts.specs.Required.{no_user, no_group, no_owner, no_named_group, no_class, name_taken, not_connected, default_not_connected, unknown_level, unknown_category, never_category, unknown_label}
+use Rattle.command_rules.specs.Conflicts.{is_root, has_subgroup, has_connected, has_profile, meets, cycle, owner_not_superior, default_group, last_special, users_full, groups_full, connections_full, user_full, add_user_conflicts, alt_user_conflicts, del_user_conflicts, add_group_conflicts, alt_group_conflicts, del_group_conflicts, connect_conflicts, remove_conflicts}
+use Rattle.command_rules.specs.ProfileConflicts.{no_first_qualifier, no_permitted, no_such_class, no_resource_class, no_global_class, no_profile, profile_taken, not_generic, class_profiles_full, profiles_full, standard_full, conditional_full, entries_full, members_full, no_resource_profile, add_sd_requirements, add_sd_limits, r_define_requirements, r_define_limits, categories_full, alt_sd_conflicts, del_sd_conflicts, r_alter_conflicts, r_delete_conflicts, permit_conflicts}
+use Rattle.command_rules.specs.OptionConflicts.{absent_class, class_without_generic, unlisted_class, never_listed_class, always_active_class, set_ropts_conflicts}
+use Rattle.command_rules.specs.Required.{no_user, no_group, no_owner, no_named_group, no_class, name_taken, not_connected, default_not_connected, unknown_level, unknown_category, never_category, unknown_label}
 use Rattle.command_authority.specs.Requirements.{add_user_requirements, alt_user_requirements, del_user_requirements, add_group_requirements, alt_group_requirements, del_group_requirements, connect_requirements, remove_requirements, add_sd_requirements as add_sd_needs, r_define_requirements as r_define_needs, alt_sd_requirements, del_sd_requirements, r_alter_requirements, r_delete_requirements, permit_requirements, set_ropts_requirements}
 use Rattle.command_authority.specs.Authority.{is_met, need}
 use Rattle.database_image.specs.Description.{image, options, group, user, connection, class}
 use Rattle.database_image.specs.Image.{image_of}
-use Rattle.racf_desk.specs.Outcome.{outcome_in}
-use Rattle.racf_desk.specs.Position.{first_position}
+use Rattle.desk_rules.specs.Outcome.{outcome_in}
+use Rattle.desk_rules.specs.Position.{first_position}
 use Rattle.journal_records.specs.Spelling.{spelled}
-use Rattle.racf_stream.specs.Statements.{request_of, is_request}
-use Rattle.racf_stream.specs.Replies.{reply_line}
-use Rattle.racf_stream.specs.Script.{statements_of, script_output, script_status}
-use Rattle.racf_stream.specs.declared.issuer.Issuing.{Issuing}
-use Rattle.racf_stream.specs.declared.issuer.Issuing.TheVariants.{Free, Fixed}
+use Rattle.statements.specs.Statements.{request_of, is_request}
+use Rattle.statements.specs.Replies.{reply_line}
+use Rattle.racf_stream.specs.Script.{script_output, script_status}
+use Rattle.statements.specs.Inputs.{statements_of}
+use Rattle.statements.specs.declared.issuer.Issuing.{Issuing}
+use Rattle.statements.specs.declared.issuer.Issuing.TheVariants.{Free, Fixed}
 use Rattle.racf_stream.specs.Stream.{new_stream, request, command, step, text}
 use Rattle.access_levels.specs.Number.{as_number}
 use Rattle.command_words.specs.LineWords.{words_at}

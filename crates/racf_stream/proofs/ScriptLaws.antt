@@ -1,19 +1,21 @@
 -- What a stream's run says of the desk that it was given and gives back.
-use Rattle.std.proofs.Common.{◌≡◌, ℕ, ◌+◌, ◌<◌, Bool, true, false, List, [], ◌++◌, length, None, Some, refl, sym, ◌∙◌, ap, subst, arith, append-nil, length-append}
+use Rattle.std.proofs.Common.{◌≡◌, ℕ, ◌+◌, Bool, true, false, List, [], ◌++◌, None, Some, refl, sym, ◌∙◌, ap, subst, append-nil}
 use Rattle.std.specs.Prelude.{Option, IsTrue, IfSome}
 use Rattle.std.specs.Io.KnownBytes.{prepend_known, append_known, IsAtEnd}
 use Rattle.racf_outside.specs.Disk.{History}
 use Rattle.racf_checkpoint.specs.Stored.{StoreOn}
-use Rattle.racf_desk.specs.Durable.{SameIdle}
-use Rattle.racf_desk.specs.Made.{DeskOn, number_at}
-use Rattle.racf_desk.specs.Position.{Position}
-use Rattle.racf_stream.specs.declared.issuer.Issuing.{Issuing}
-use Rattle.racf_stream.specs.declared.statement.Statement.{Statement}
-use Rattle.racf_stream.specs.declared.status.Status.{Status}
-use Rattle.racf_stream.specs.declared.status.Status.TheVariants.{Done, Refusals, Usage, ReadFault, WriteFault, DiskFault, NotFormatted, Damaged, NoMemory, InputTooLong}
+use Rattle.desk_rules.specs.Durable.{SameIdle}
+use Rattle.desk_rules.specs.Made.{DeskOn, number_at}
+use Rattle.desk_rules.specs.Position.{Position}
+use Rattle.statements.specs.declared.issuer.Issuing.{Issuing}
+use Rattle.statements.specs.declared.statement.Statement.{Statement}
+use Rattle.statements.specs.declared.status.Status.{Status}
+use Rattle.statements.specs.declared.status.Status.TheVariants.{Done, Refusals, Usage, ReadFault, WriteFault, DiskFault, NotFormatted, Damaged, NoMemory, InputTooLong}
 use Rattle.racf_stream.specs.Durable.{StreamOn, StandsIn, StaysAlong, LeavesInDoubt, fault_in, most_left, most_left_of}
-use Rattle.racf_stream.specs.Runs.{Machine, after, output, longest_input, Ran, Wrote, WroteAll, whole_status, status_of}
-use Rattle.racf_stream.specs.Script.{stream, fault_at, fault_of, is_whole, script_output, script_status, StandsAt}
+use Rattle.statements.specs.Runs.{after, output, Ran, WroteAll, whole_status, status_of}
+use Rattle.racf_stream.specs.Script.{stream, fault_at, fault_of, script_output, script_status, StandsAt}
+use Rattle.statements.specs.Status.{is_whole}
+use Rattle.statements.proofs.RunLaws.{Ran-weaker}
 use Rattle.racf_stream.specs.Stream.{State, number_of, new_stream}
 
 -- a new stream stands at its base
@@ -33,21 +35,6 @@ issuing_new issuing base s is = ap (λ (x : State). x.issuing) is
 pub stands_new : {D : Type 0} (issuing : Issuing) (desk : DeskOn D) → desk.halted ≡ false → desk.committed ≡ false → StandsAt desk (new_stream issuing desk.position)
 unfolding new_stream
 stands_new issuing desk running settled = record { position = refl; halted = running; settled = settled }
-
--- what stands behind a run has a weaker property
-pub Ran-weaker : {S I : Type 0} (m : Machine S I) (P Q : S → Type 0) (R W : Type 0) (status : Status) (source left before now : Option (List ℕ)) → ((s : S) → P s → Q s) → Ran m P R W status source left before now → Ran m Q R W status source left before now
-Ran-weaker m P Q R W status source left before now weaker r =
-    record {
-      read = r.read;
-      more = r.more;
-      worked = r.worked;
-      written = r.written;
-      given = r.given;
-      gained = r.gained;
-      begins = r.begins;
-      stands = weaker (after m r.worked m.start) r.stands;
-      wrote = r.wrote;
-    }
 
 -- the run of a stream as one of the desk
 pub ran_script : {D : Type 0} (desk : DeskOn D) (s t : StreamOn D) (issuing : Issuing) (base : Position) (R W : Type 0) (status : Status) (source left before now : Option (List ℕ))
@@ -70,11 +57,6 @@ read_all (Some bytes) (Some told) read given end = let same : Some bytes ≡ Som
   where
     same_bytes : Some bytes ≡ Some (read ++ []) → bytes ≡ read
     same_bytes h = let is : bytes ≡ read ++ [] = cc in is ∙ append-nil read
-
-read_more : (source more : Option (List ℕ)) (read : List ℕ) → source ≡ prepend_known read more → longest_input < length read → IfSome source (λ bytes. longest_input < length bytes)
-read_more None more read given long = tt
-read_more (Some bytes) None read given long = cc
-read_more (Some bytes) (Some told) read given long = let is : bytes ≡ read ++ told = cc in let size : length bytes ≡ length read + length told = ap length is ∙ length-append read told in omega (arith, size, long)
 
 if_read : (source : Option (List ℕ)) (P Q : List ℕ → Type 0) → ((bytes : List ℕ) → P bytes → Q bytes) → IfSome source P → IfSome source Q
 if_read None P Q f p = tt
@@ -114,11 +96,6 @@ ran_whole desk issuing base R W NotFormatted source left before now is r = cc
 ran_whole desk issuing base R W (Damaged place) source left before now is r = cc
 ran_whole desk issuing base R W NoMemory source left before now is r = cc
 ran_whole desk issuing base R W InputTooLong source left before now is r = cc
-
-pub ran_too_long : {S I : Type 0} (m : Machine S I) (P : S → Type 0) (R W : Type 0) (status : Status) (source left before now : Option (List ℕ)) → Ran m P R W status source left before now → status ≡ InputTooLong → IfSome source (λ bytes. longest_input < length bytes)
-ran_too_long m P R W status source left before now r is =
-    let long = subst (λ (x : Status). Wrote m R W x r.read r.more left r.worked r.written) is r.wrote in
-    read_more source r.more r.read r.given long.too_long
 
 -- what every crash leaves, of the same input, base and stores under other names
 pub along_as : {D : Type 0} (tells : D → Option History) (given issuing : Issuing) (at base : Position) (known source : Option (List ℕ)) (few most : ℕ) (old first new last : StoreOn D)

@@ -5,18 +5,18 @@ use Rattle.std.proofs.lemmas.Bool.{eq-eqb}
 use Rattle.journal_records.specs.declared.record.CommandRecord.{CommandRecord}
 use Rattle.racf_outside.specs.Disk.{History}
 use Rattle.racf_checkpoint.specs.Stored.{StoreOn}
-use Rattle.racf_desk.specs.declared.refusal.Refusal.{Refusal}
-use Rattle.racf_desk.specs.Durable.{StaysEither}
-use Rattle.racf_desk.specs.Made.{Made, DeskOn, made_at, made_of_outcome, installed}
-use Rattle.racf_desk.specs.Outcome.{outcome}
-use Rattle.racf_desk.specs.Position.{Position, position_behind}
+use Rattle.desk_rules.specs.declared.refusal.Refusal.{Refusal}
+use Rattle.desk_rules.specs.Durable.{StaysEither}
+use Rattle.desk_rules.specs.Made.{Made, DeskOn, made_at, made_of_outcome, installed}
+use Rattle.desk_rules.specs.Outcome.{outcome}
+use Rattle.desk_rules.specs.Position.{Position, position_behind}
 use Rattle.request_files.specs.declared.acees.NamedAcee.{NamedAcee}
 use Rattle.request_files.specs.declared.issuer_line.NamedIssuer.{NamedIssuer}
-use Rattle.racf_stream.specs.declared.issuer.Issuing.{Issuing}
-use Rattle.racf_stream.specs.declared.reply.Reply.TheVariants.{Accepted, DiskFault}
-use Rattle.racf_stream.specs.declared.statement.Statement.TheVariants.{Command}
+use Rattle.statements.specs.declared.issuer.Issuing.{Issuing}
+use Rattle.statements.specs.declared.reply.Reply.TheVariants.{Accepted, DiskFault}
+use Rattle.statements.specs.declared.statement.Statement.TheVariants.{Command}
 use Rattle.racf_stream.specs.Durable.{stream_on, fault_in, DoesOn, Fails, Settles}
-use Rattle.racf_stream.specs.Replies.{reply_line}
+use Rattle.statements.specs.Replies.{reply_line}
 use Rattle.racf_stream.specs.Stream.{State, Answer, accept, fail, halt, answer_outcome, outcome_of, command}
 
 -- a command where no disk has failed

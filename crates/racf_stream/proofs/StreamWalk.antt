@@ -4,25 +4,27 @@ use Rattle.std.specs.Prelude.{Option}
 use Rattle.std.specs.Option.{option_to_list}
 use Rattle.racf_outside.specs.Causes.{Rose}
 use Rattle.racf_outside.specs.Reader.{Reader, at_start}
-use Rattle.racf_desk.specs.Position.{Position}
-use Rattle.racf_stream.specs.declared.issuer.Issuing.{Issuing}
-use Rattle.racf_stream.specs.declared.stopping.Stop.{Stop}
-use Rattle.racf_stream.specs.declared.stopping.Stop.TheVariants as stop
-use Rattle.racf_stream.specs.declared.statement.Kind.TheVariants as kind
-use Rattle.racf_stream.specs.declared.statement.Statement.{Statement}
-use Rattle.racf_stream.specs.declared.status.Status.{Status}
-use Rattle.racf_stream.specs.declared.status.Status.TheVariants.{WriteFault}
+use Rattle.desk_rules.specs.Position.{Position}
+use Rattle.statements.specs.declared.issuer.Issuing.{Issuing}
+use Rattle.statements.specs.declared.stopping.Stop.{Stop}
+use Rattle.statements.specs.declared.stopping.Stop.TheVariants as stop
+use Rattle.statements.specs.declared.statement.Kind.TheVariants as kind
+use Rattle.statements.specs.declared.statement.Statement.{Statement}
+use Rattle.statements.specs.declared.status.Status.{Status}
+use Rattle.statements.specs.declared.status.Status.TheVariants.{WriteFault}
 use Rattle.racf_stream.specs.Durable.{StreamOn, fault_in}
-use Rattle.racf_stream.specs.Runs.{Machine, Ran}
-use Rattle.racf_stream.specs.Gathering.{Acknowledges, IsCutShort}
-use Rattle.racf_stream.specs.NextStatement.{TakesStatements, NextsStatement}
+use Rattle.statements.specs.Runs.{Machine, Ran}
+use Rattle.statements.specs.Gathering.{Acknowledges, IsCutShort}
+use Rattle.statements.specs.NextStatement.{TakesStatements, NextsStatement}
 use Rattle.racf_stream.specs.Stream.{State, number_of, new_stream}
-use Rattle.racf_stream.specs.Script.{stream, statements, fault_at}
-use Rattle.racf_stream.specs.Processing.{Ends, Works, unless_failed}
+use Rattle.racf_stream.specs.Script.{stream, fault_at}
+use Rattle.statements.specs.Inputs.{statements}
+use Rattle.racf_stream.specs.Processing.{Works}
+use Rattle.statements.specs.Stopping.{Ends, unless_failed}
 use Rattle.racf_stream.proofs.Faults.{step_is, step_few, stream_grows, fault_of_next}
-use Rattle.racf_stream.proofs.FrontLaws.{no_items}
-use Rattle.racf_stream.proofs.Walk.{Walk, Walk-none, Walk-items, Walk-settles, Walk-written}
-use Rattle.racf_stream.proofs.Stops as stops
+use Rattle.statements.proofs.FrontLaws.{no_items}
+use Rattle.statements.proofs.Walk.{Walk, Walk-none, Walk-items, Walk-settles, Walk-written}
+use Rattle.statements.proofs.Stops as stops
 
 -- a run so far, with the fault that the state tells
 abbrev pub StreamWalk : Issuing → (base : Position) → (source : Option (List ℕ)) → Reader → (slack : ℕ) → State → (before now : Option (List ℕ)) → (gathered : List ℕ) → Type 0
@@ -43,19 +45,16 @@ pub new_runs : (issuing : Issuing) (base : Position) (s : State) → s ≡ new_s
 unfolding new_stream
 new_runs issuing base s new = ap (λ (x : State). x.halted) new
 
-pub passed_none : (reader : Reader) → reader ≡ at_start reader.left reader.faults → reader.passed ≤ 2 ^ 28
-passed_none reader fresh = subst (λ (r : Reader). r.passed ≤ 2 ^ 28) (sym fresh) (omega arith)
-
 -- a statement was worked, or a line was skipped
 pub goes_on : {D : Type 0} (issuing : Issuing) (base : Position) (given : Option Statement) (bytes : List ℕ) (source : Option (List ℕ)) (old new : Reader) (next : ℕ) (s t : StreamOn D) (before now : Option (List ℕ)) (gathered more : List ℕ)
     → StreamWalk issuing base source old 0 s.state before now gathered → TakesStatements statements (option_to_list given) bytes old new → Works issuing base given s t gathered more → number_of t.state ≤ number_of s.state + next
     → StreamWalk issuing base source new next t.state before now more
 goes_on issuing base None bytes source old new next s t before now gathered more w takes works few =
-    Walk-items (stream (fault_in t) issuing base) [] bytes source old new 0 next s.state t.state before now gathered more
-    (subst (λ (x : State). Walk (stream (fault_at x.halted (number_of x)) issuing base) source old 0 s.state before now gathered) (sym works.state) w) takes works.state works.text (omega (arith, few))
+    Walk-items (stream (fault_in t) issuing base) [] bytes source old new next s.state t.state before now gathered more
+    (subst (λ (x : State). Walk (stream (fault_at x.halted (number_of x)) issuing base) source old 0 s.state before now gathered) (sym works.state) w) takes tt works.state works.text (omega (arith, few))
 goes_on issuing base (Some item) bytes source old new next s t before now gathered more w takes works few =
-    Walk-items (stream (fault_in t) issuing base) (item ∷ []) bytes source old new 0 next s.state t.state before now gathered more
-    (fault_of_next issuing base source old 0 item s.state t.state before now gathered (works.state ∙ step_is (fault_in t) item s.state) w) takes works.state works.text (omega (arith, few))
+    Walk-items (stream (fault_in t) issuing base) (item ∷ []) bytes source old new next s.state t.state before now gathered more
+    (fault_of_next issuing base source old 0 item s.state t.state before now gathered (works.state ∙ step_is (fault_in t) item s.state) w) takes tt works.state works.text (omega (arith, few))
 
 -- it accepts one command at most
 pub works_few : {D : Type 0} (issuing : Issuing) (base : Position) (item : Statement) (s t : StreamOn D) (gathered more : List ℕ) → Works issuing base (Some item) s t gathered more → number_of t.state ≤ number_of s.state + 1

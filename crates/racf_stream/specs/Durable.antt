@@ -5,20 +5,21 @@ use Rattle.racf_outside.specs.Causes.{Rose}
 use Rattle.racf_outside.specs.Crashes.{Leaves, StaysIn}
 use Rattle.racf_outside.specs.Disk.{History, Now}
 use Rattle.racf_checkpoint.specs.Stored.{StoreOn}
-use Rattle.racf_desk.specs.Durable.{SameIdle, idle_of, BesideIdle, StaysEither}
-use Rattle.racf_desk.specs.Made.{Made, DeskOn, installed}
-use Rattle.racf_desk.specs.Position.{Position, position_behind}
-use Rattle.racf_desk.specs.Recovery.{StandsFor, StandsForEither}
+use Rattle.desk_rules.specs.Durable.{SameIdle, idle_of, BesideIdle, StaysEither}
+use Rattle.desk_rules.specs.Made.{Made, DeskOn, installed}
+use Rattle.desk_rules.specs.Position.{Position, position_behind}
+use Rattle.desk_rules.specs.Recovery.{StandsFor, StandsForEither}
 use Rattle.journal_records.specs.declared.record.CommandRecord.{CommandRecord}
 use Rattle.request_files.specs.declared.acees.NamedAcee.{NamedAcee}
 use Rattle.request_files.specs.declared.issuer_line.NamedIssuer.{NamedIssuer}
-use Rattle.racf_stream.specs.declared.issuer.Issuing.{Issuing}
-use Rattle.racf_stream.specs.declared.reply.Reply.TheVariants.{Accepted, DiskFault}
-use Rattle.racf_stream.specs.declared.statement.Statement.{Statement}
-use Rattle.racf_stream.specs.declared.statement.Statement.TheVariants.{Command}
-use Rattle.racf_stream.specs.Replies.{reply_line}
-use Rattle.racf_stream.specs.Runs.{BeginsWith, after}
-use Rattle.racf_stream.specs.Script.{stream, statements, fault_at}
+use Rattle.statements.specs.declared.issuer.Issuing.{Issuing}
+use Rattle.statements.specs.declared.reply.Reply.TheVariants.{Accepted, DiskFault}
+use Rattle.statements.specs.declared.statement.Statement.{Statement}
+use Rattle.statements.specs.declared.statement.Statement.TheVariants.{Command}
+use Rattle.statements.specs.Replies.{reply_line}
+use Rattle.statements.specs.Runs.{BeginsWith, after}
+use Rattle.racf_stream.specs.Script.{stream, fault_at}
+use Rattle.statements.specs.Inputs.{statements}
 use Rattle.racf_stream.specs.Stream.{State, Answer, number_of, outcome_of, new_stream, answer, text}
 
 -- The state of a stream, and the store that its desk stands on.

@@ -1,16 +1,5 @@
-pub mod Status
-pub mod Fronts
-pub mod Statements
-pub mod Joining
-pub mod Replies
-pub mod IssuerLines
 pub mod Stream
-pub mod Runs
 pub mod Script
 pub mod Durable
-pub mod NextStatement
-pub mod NextRole
-pub mod Gathering
-pub mod Lending
 pub mod Processing
 pub mod Printed

@@ -3,14 +3,14 @@ use Rattle.std.specs.Prelude.{◌≡◌, ◌⊎◌, ℕ, ◌==◌, nat_eq, Bool,
 use Rattle.std.specs.List.{starts_with, onto_first}
 use Rattle.racf_outside.specs.Lines.{NoFeed}
 use Rattle.request_files.specs.Answers.{numbered, never_line}
-use Rattle.command_parser.specs.LawfulFields.{IsId}
-use Rattle.racf_stream.specs.declared.issuer.Issuing.{Issuing}
-use Rattle.racf_stream.specs.declared.issuer.Issuing.TheVariants.{Free, Fixed}
-use Rattle.racf_stream.specs.declared.statement.Statement.{Statement}
-use Rattle.racf_desk.specs.Position.{Position}
-use Rattle.racf_desk.specs.Recovery.{standing}
+use Rattle.command_fields.specs.LawfulFields.{IsId}
+use Rattle.statements.specs.declared.issuer.Issuing.{Issuing}
+use Rattle.statements.specs.declared.issuer.Issuing.TheVariants.{Free, Fixed}
+use Rattle.statements.specs.declared.statement.Statement.{Statement}
+use Rattle.desk_rules.specs.Position.{Position}
+use Rattle.desk_rules.specs.Recovery.{standing}
 use Rattle.racf_stream.specs.Stream.{State, new_stream, number_of, step, text}
-use Rattle.racf_stream.specs.Script.{statements}
+use Rattle.statements.specs.Inputs.{statements}
 
 -- A statement at its turn: what stands before it, and where a disk fails a command, if one does.
 pub record Turn : Type 0 where

@@ -1,22 +1,22 @@
 -- The stream: what stands between two lines, and the answer to each statement.
 use Rattle.std.specs.Prelude.{ℕ, ◌+◌, ◌==◌, Bool, true, false, ◌||◌, Option, None, Some, Result, Ok, Err, List, [], if◌then◌else◌}
-use Rattle.racf_stream.specs.declared.issuer.Issuing.{Issuing}
-use Rattle.racf_stream.specs.declared.statement.Statement.{Statement}
-use Rattle.racf_stream.specs.declared.statement.Statement.TheVariants as item
-use Rattle.racf_stream.specs.declared.reply.Refusal.{Refusal}
-use Rattle.racf_stream.specs.declared.reply.Refusal.TheVariants as refusal
-use Rattle.racf_stream.specs.declared.reply.Reply.TheVariants.{Accepted, Refused, DiskFault, Halted}
-use Rattle.racf_desk.specs.declared.refusal.Refusal.{Refusal as OfCommand}
+use Rattle.statements.specs.declared.issuer.Issuing.{Issuing}
+use Rattle.statements.specs.declared.statement.Statement.{Statement}
+use Rattle.statements.specs.declared.statement.Statement.TheVariants as item
+use Rattle.statements.specs.declared.reply.Refusal.{Refusal}
+use Rattle.statements.specs.declared.reply.Refusal.TheVariants as refusal
+use Rattle.statements.specs.declared.reply.Reply.TheVariants.{Accepted, Refused, DiskFault, Halted}
+use Rattle.desk_rules.specs.declared.refusal.Refusal.{Refusal as OfCommand}
 use Rattle.journal_records.specs.declared.record.CommandRecord.{CommandRecord}
-use Rattle.racf_desk.specs.Outcome.{outcome}
-use Rattle.racf_desk.specs.Position.{Position, position_behind}
+use Rattle.desk_rules.specs.Outcome.{outcome}
+use Rattle.desk_rules.specs.Position.{Position, position_behind}
 use Rattle.request_files.specs.declared.acees.NamedAcee.{NamedAcee}
 use Rattle.request_files.specs.declared.issuer_line.NamedIssuer.{NamedIssuer}
 use Rattle.request_files.specs.declared.line.LineRefusal.{LineRefusal}
 use Rattle.request_files.specs.Grammar.{Line, read}
 use Rattle.request_files.specs.Worked.{Outcome, worked}
-use Rattle.racf_stream.specs.Replies.{reply_line}
-use Rattle.racf_stream.specs.IssuerLines.{first_issuer, issuer_named}
+use Rattle.statements.specs.Replies.{reply_line}
+use Rattle.statements.specs.IssuerLines.{first_issuer, issuer_named}
 
 -- The position is that of the desk: the number of accepted commands, and the rows that they led to. Beside it stand who
 -- gives the commands, and whether lines may name him; the ACEEs in use, each under its name; and whether a disk failed a

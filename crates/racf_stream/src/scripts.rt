@@ -4,27 +4,26 @@ ghost use Rattle.std.specs.Prelude.{ℕ, ◌≡◌, ◌≢◌, ◌<◌, ◌≤�
 ghost use Rattle.std.specs.Io.KnownBytes.{append_known};
 ghost use Rattle.racf_outside.specs.Causes.{HasCause, Rose};
 ghost use Rattle.racf_outside.specs.Reader.{at_start};
-ghost use Rattle.racf_desk.specs.Durable.{LeavesIt, SameIdle};
-ghost use Rattle.racf_desk.specs.Made.{number_at};
-ghost use Rattle.racf_desk.specs.Position.{Position};
+ghost use Rattle.desk_rules.specs.Durable.{LeavesIt, SameIdle};
+ghost use Rattle.desk_rules.specs.Made.{number_at};
+ghost use Rattle.desk_rules.specs.Position.{Position};
 ghost use Rattle.racf_stream.specs.Durable.{DoesOn, Fails, LeavesInDoubt, Moves, StaysAlong, fault_in, most_left, most_left_of};
-ghost use Rattle.racf_stream.specs.Gathering.{Acknowledges, IsCutShort};
-ghost use Rattle.racf_stream.specs.Runs.{Ran, longest_input};
-ghost use Rattle.racf_stream.specs.Script.{stream, stream as machine, fault_of, is_whole, script_output, script_status, StandsAt};
-ghost use Rattle.racf_stream.specs.Processing.{Ends, Processes};
-ghost use Rattle.racf_stream.specs.Status.{code_of};
+ghost use Rattle.statements.specs.Gathering.{Acknowledges, IsCutShort};
+ghost use Rattle.statements.specs.Runs.{Ran, longest_input};
+ghost use Rattle.racf_stream.specs.Script.{stream, stream as machine, fault_of, script_output, script_status, StandsAt};
+ghost use Rattle.statements.specs.Status.{is_whole};
+ghost use Rattle.racf_stream.specs.Processing.{Processes};
+ghost use Rattle.statements.specs.Stopping.{Ends};
+ghost use Rattle.statements.specs.Status.{code_of};
 ghost use Rattle.racf_stream.specs.Stream.{answer, new_stream, number_of};
-ghost use Rattle.racf_stream.specs.declared.issuer.Issuing.{Issuing};
+ghost use Rattle.statements.specs.declared.issuer.Issuing.{Issuing};
 
-use crate::input::next_statement;
-use crate::issuer::Issuing;
-use crate::replies::Replies;
-use crate::statement::{Kind, Statement};
-use crate::status::Status;
-use crate::stopping::{Stop, end_run, unless_failed};
 use crate::stream::Stream;
 use racf_desk::Desk;
 use racf_outside::{Disk, Failed, Lines, Sink, Source};
+use statements::{
+    Issuing, Kind, Replies, Statement, Status, Stop, end_run, next_statement, unless_failed,
+};
 use std::alloc::{AllocError, Global};
 
 /// Works the lines of a source at a desk, and writes the text of each to the sink; skipped lines have none. The status

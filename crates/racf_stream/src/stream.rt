@@ -2,16 +2,16 @@
 
 ghost use Rattle.std.specs.Prelude.{◌≡◌, ◌≤◌, true, false, Some, OnOk, OnErr, IfOk, IfErr};
 ghost use Rattle.racf_outside.specs.Causes.{Rose};
-ghost use Rattle.racf_desk.specs.Durable.{LeavesIt};
-ghost use Rattle.racf_desk.specs.Made.{made_in};
+ghost use Rattle.desk_rules.specs.Durable.{LeavesIt};
+ghost use Rattle.desk_rules.specs.Made.{made_in};
 ghost use Rattle.racf_stream.specs.Durable.{Settles};
 
-use crate::issuer::{Issuing, first_issuer, issuer_named};
-use crate::reply::{LONGEST_LINE, Refusal, Reply};
-use crate::statement::{LineText, Statement};
 use racf_desk::{Desk, Ready, Reply as Judgement};
 use racf_outside::{Disk, Failed};
 use request_files::{AceeTable, LineRefusal, NamedIssuer, RequestLine, read_line, respond};
+use statements::{
+    Issuing, LONGEST_LINE, LineText, Refusal, Reply, Statement, first_issuer, issuer_named,
+};
 use std::alloc::{AllocError, Global};
 use std::marker::Model;
 

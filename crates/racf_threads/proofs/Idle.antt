@@ -4,12 +4,12 @@ use Rattle.std.specs.Prelude.{Option, None}
 use Rattle.std.specs.List.{sum_by}
 use Rattle.std.proofs.lemmas.List.Elements.{All-nil}
 use Rattle.std.proofs.lemmas.List.Sums.{sum_by-cons}
-use Rattle.racf_desk.specs.Position.{Position}
+use Rattle.desk_rules.specs.Position.{Position}
 use Rattle.command_history.specs.declared.events.Accepted.{Accepted}
 use Rattle.command_history.specs.Events.{all_of, Extends}
 use Rattle.racroute.specs.Core.{Passing}
-use Rattle.racf_stream.specs.declared.issuer.Issuing.{Issuing}
-use Rattle.racf_stream.specs.declared.status.Status.TheVariants as statuses
+use Rattle.statements.specs.declared.issuer.Issuing.{Issuing}
+use Rattle.statements.specs.declared.status.Status.TheVariants as statuses
 use Rattle.racf_workers.proofs.DeckWalk.{none_given}
 use Rattle.racf_workers.proofs.FileWalk.{none_answered}
 use Rattle.racf_threads.specs.Outputs.{new_pass}

@@ -4,16 +4,16 @@ use Rattle.std.proofs.Common.{◌≡◌, ℕ, zero, suc, ◌+◌, ◌<◌, ◌�
 use Rattle.std.specs.Prelude.{Option, ◌⊎◌}
 use Rattle.std.specs.List.{All, sum_by}
 use Rattle.std.proofs.lemmas.List.Sums.{sum_by-cons}
-use Rattle.racf_desk.specs.Position.{Position}
+use Rattle.desk_rules.specs.Position.{Position}
 use Rattle.command_history.specs.declared.events.Accepted.{Accepted}
 use Rattle.command_history.specs.declared.events.Event.{Event}
 use Rattle.command_history.specs.Events.{entries_of, all_of, Extends}
 use Rattle.command_history.proofs.Extensions.{extends_trans, entries_of_all}
 use Rattle.racroute.specs.Core.{Passing}
 use Rattle.racroute.specs.Kept.{fault_count}
-use Rattle.racf_stream.specs.declared.issuer.Issuing.{Issuing}
-use Rattle.racf_stream.specs.declared.status.Status.{Status}
-use Rattle.racf_stream.specs.Status.{code_of}
+use Rattle.statements.specs.declared.issuer.Issuing.{Issuing}
+use Rattle.statements.specs.declared.status.Status.{Status}
+use Rattle.statements.specs.Status.{code_of}
 use Rattle.racf_workers.proofs.DeckLaws.{stays_marked}
 use Rattle.racf_threads.specs.Outputs.{entries_by, made_in, state_of, DeckRan}
 use Rattle.racf_threads.specs.Together.{Worked, ReadFailed, WriteFailed, AreDecks, greatest}

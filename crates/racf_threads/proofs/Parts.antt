@@ -3,16 +3,16 @@ use Rattle.std.proofs.Common.{◌≡◌, ℕ, zero, suc, ◌<◌, ◌≤◌, tru
 use Rattle.std.specs.Prelude.{Option, None, is_some}
 use Rattle.std.specs.List.{All, AllZip, filter_map, sum_by}
 use Rattle.std.proofs.lemmas.List.{take-append-drop}
-use Rattle.racf_desk.specs.Position.{Position}
+use Rattle.desk_rules.specs.Position.{Position}
 use Rattle.command_history.specs.declared.events.Accepted.{Accepted}
 use Rattle.command_history.specs.Events.{all_of, Extends}
 use Rattle.command_history.proofs.Extensions.{failed_of_all}
 use Rattle.raclist_snapshots.specs.Publishing.{Seeing}
 use Rattle.racroute.specs.Core.{Passing, new_passes}
 use Rattle.racroute.specs.Kept.{fault_count}
-use Rattle.racf_stream.specs.declared.issuer.Issuing.{Issuing}
-use Rattle.racf_stream.specs.declared.status.Status.{Status}
-use Rattle.racf_stream.specs.declared.status.Status.TheVariants as statuses
+use Rattle.statements.specs.declared.issuer.Issuing.{Issuing}
+use Rattle.statements.specs.declared.status.Status.{Status}
+use Rattle.statements.specs.declared.status.Status.TheVariants as statuses
 use Rattle.racf_threads.specs.Together.{RunsTogether, greatest}
 use Rattle.racf_threads.specs.Working.{Working, new_workers, HasWorked}
 use Rattle.racf_threads.proofs.Runs.{runs, failed, ends_are, later}

@@ -4,10 +4,10 @@ use Rattle.std.specs.Prelude.{Option, None}
 use Rattle.racf_outside.specs.Disk.{History}
 use Rattle.checkpoint_disks.specs.declared.counting.Side.TheVariants.{First, Second}
 use Rattle.racf_checkpoint.specs.Stored.{StoreOn, disk_on, pick}
-use Rattle.racf_desk.specs.Durable.{idle_of, LeavesIt}
-use Rattle.racf_desk.specs.Position.{Position}
-use Rattle.racf_desk.specs.Recovery.{StandsFor}
-use Rattle.racf_desk.proofs.IdleLaws.{leaves-both}
+use Rattle.desk_rules.specs.Durable.{idle_of, LeavesIt}
+use Rattle.desk_rules.specs.Position.{Position}
+use Rattle.desk_rules.specs.Recovery.{StandsFor}
+use Rattle.desk_rules.proofs.IdleLaws.{leaves-both}
 use Rattle.command_history.specs.Events.{all_of}
 use Rattle.command_history.specs.Reached.{reached}
 use Rattle.command_history.proofs.Leading.{reached_ended, reached_none}

@@ -4,17 +4,17 @@ use Rattle.std.specs.Prelude.{Option, ◌⊎◌, is_some, if◌then◌else◌}
 use Rattle.std.specs.List.{All, AllZip, cons_option, filter_map, sum_by}
 use Rattle.std.proofs.lemmas.List.{length-map}
 use Rattle.std.proofs.lemmas.List.Elements.{All-head, All-tail}
-use Rattle.racf_desk.specs.Position.{Position}
+use Rattle.desk_rules.specs.Position.{Position}
 use Rattle.command_history.specs.declared.events.Accepted.{Accepted}
 use Rattle.command_history.specs.declared.events.Event.{Event}
 use Rattle.command_history.specs.Events.{all_of, failed_of, Extends}
 use Rattle.raclist_snapshots.specs.Publishing.{Seeing}
 use Rattle.racroute.specs.Core.{Passing, new_passes}
 use Rattle.racroute.specs.Kept.{fault_count}
-use Rattle.racf_stream.specs.declared.issuer.Issuing.{Issuing}
-use Rattle.racf_stream.specs.declared.status.Status.{Status}
-use Rattle.racf_stream.specs.declared.status.Status.TheVariants as statuses
-use Rattle.racf_stream.specs.Status.{code_of}
+use Rattle.statements.specs.declared.issuer.Issuing.{Issuing}
+use Rattle.statements.specs.declared.status.Status.{Status}
+use Rattle.statements.specs.declared.status.Status.TheVariants as statuses
+use Rattle.statements.specs.Status.{code_of}
 use Rattle.racf_workers.proofs.DeckLaws.{stays_marked}
 use Rattle.racf_threads.specs.Outputs.{new_pass}
 use Rattle.racf_threads.specs.Together.{Worked, AreFiles, RunsTogether, greater, greatest}

@@ -4,7 +4,7 @@ use Rattle.std.specs.Prelude.{Option, IsSome}
 use Rattle.std.specs.Option.{option_to_list}
 use Rattle.raclist_snapshots.specs.Publishing.{Seeing}
 use Rattle.racroute.specs.Core.{Passing}
-use Rattle.racf_stream.specs.declared.status.Status.TheVariants as statuses
+use Rattle.statements.specs.declared.status.Status.TheVariants as statuses
 use Rattle.racf_threads.specs.Working.{Working, new_workers}
 
 module _ {I K : Type 0} where

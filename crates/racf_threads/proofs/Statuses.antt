@@ -1,9 +1,9 @@
 -- The greatest of the statuses: it doesn't matter in which order they are compared.
 use Rattle.std.proofs.Common.{◌≡◌, ◌≤◌, nat_lt, Bool, true, false, List, [], ◌∷◌, map, length, refl, sym, ◌∙◌, inl, inr, arith}
 use Rattle.std.specs.Prelude.{◌⊎◌, if◌then◌else◌}
-use Rattle.racf_stream.specs.declared.status.Status.{Status}
-use Rattle.racf_stream.specs.declared.status.Status.TheVariants as statuses
-use Rattle.racf_stream.specs.Status.{code_of}
+use Rattle.statements.specs.declared.status.Status.{Status}
+use Rattle.statements.specs.declared.status.Status.TheVariants as statuses
+use Rattle.statements.specs.Status.{code_of}
 use Rattle.racf_threads.specs.Together.{greater, greatest}
 use Rattle.std.proofs.lemmas.Bool.Decides.{nat_tests}
 

@@ -1,9 +1,9 @@
 -- Behind each of a deck's commands: its pass has counted what was made, which stands among the deck's entries.
 use Rattle.std.proofs.Common.{◌≡◌, ◌≢◌, ℕ, ◌+◌, List, [], ◌∷◌, ◌++◌, length, refl, sym, ◌∙◌, ap, subst, arith, append-nil, append_assoc, length-append}
 use Rattle.std.specs.Prelude.{Result, Ok, Err, Some}
-use Rattle.racf_desk.specs.Position.{Position}
-use Rattle.racf_desk.specs.declared.answers.Reply.{Reply}
-use Rattle.racf_desk.specs.declared.answers.Reply.TheVariants as reply
+use Rattle.desk_rules.specs.Position.{Position}
+use Rattle.desk_rules.specs.declared.answers.Reply.{Reply}
+use Rattle.desk_rules.specs.declared.answers.Reply.TheVariants as reply
 use Rattle.command_history.specs.declared.events.Accepted.{Accepted}
 use Rattle.command_history.specs.declared.events.Event.{Event}
 use Rattle.command_history.specs.declared.events.Event.TheVariants.{Ended}
@@ -11,12 +11,12 @@ use Rattle.command_history.specs.Events.{entries_of, Extends}
 use Rattle.racroute.specs.Core.{Passing}
 use Rattle.racroute.specs.Replies.{Given, Says}
 use Rattle.request_files.specs.declared.issuer_line.NamedIssuer.{NamedIssuer}
-use Rattle.racf_stream.specs.declared.reply.Refusal.{Refusal}
-use Rattle.racf_stream.specs.declared.statement.Statement.{Statement}
-use Rattle.racf_stream.specs.declared.statement.Statement.TheVariants as item
-use Rattle.racf_stream.specs.IssuerLines.{issuer_named}
-use Rattle.racf_stream.specs.Runs.{after}
-use Rattle.racf_stream.specs.declared.issuer.Issuing.{Issuing}
+use Rattle.statements.specs.declared.reply.Refusal.{Refusal}
+use Rattle.statements.specs.declared.statement.Statement.{Statement}
+use Rattle.statements.specs.declared.statement.Statement.TheVariants as item
+use Rattle.statements.specs.IssuerLines.{issuer_named}
+use Rattle.statements.specs.Runs.{after}
+use Rattle.statements.specs.declared.issuer.Issuing.{Issuing}
 use Rattle.racf_workers.specs.Deck.{Met, Turn, DeckState, counted, new_deck, turn_of, behind_command, behind_issuer, step, deck_machine, IsRight, Course}
 use Rattle.racf_threads.specs.Outputs.{entries_by, last_of, made_by, made_in, fault_of, faults_in, new_pass, AreDoubted}
 use Rattle.racf_threads.proofs.Doubts.{says_extends, told_doubted, doubted_later, doubted_push}

@@ -1,15 +1,15 @@
 -- Worked rows of decks' entries, of what their commands made, and of statuses, computed on the definitions.
 use Rattle.std.proofs.Common.{◌≡◌, ℕ, true, List, [], ◌∷◌, refl}
 use Rattle.std.specs.Prelude.{Some, None, codes}
-use Rattle.command_parser.specs.declared.commands.Issuer.{Issuer}
-use Rattle.racf_desk.specs.declared.refusal.Refusal.{Refusal}
-use Rattle.racf_desk.specs.declared.answers.Reply.{Reply}
-use Rattle.racf_desk.specs.declared.answers.Reply.TheVariants as reply
+use Rattle.command_fields.specs.declared.issuer.Issuer.{Issuer}
+use Rattle.desk_rules.specs.declared.refusal.Refusal.{Refusal}
+use Rattle.desk_rules.specs.declared.answers.Reply.{Reply}
+use Rattle.desk_rules.specs.declared.answers.Reply.TheVariants as reply
 use Rattle.command_history.specs.declared.events.Accepted.{Accepted}
 use Rattle.command_history.specs.declared.events.Event.{Event}
 use Rattle.command_history.specs.declared.events.Event.TheVariants.{Added, Ended}
 use Rattle.racroute.specs.Replies.{given_by}
-use Rattle.racf_stream.specs.declared.status.Status.TheVariants.{Done, Refusals, ReadFault, WriteFault, DiskFault, NoMemory, InputTooLong}
+use Rattle.statements.specs.declared.status.Status.TheVariants.{Done, Refusals, ReadFault, WriteFault, DiskFault, NoMemory, InputTooLong}
 use Rattle.racf_workers.specs.Deck.{Turn}
 use Rattle.racf_threads.specs.Outputs.{entries_by, made_in, faults_in, new_pass}
 use Rattle.racf_threads.specs.Together.{greatest}

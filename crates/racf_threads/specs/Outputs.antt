@@ -1,19 +1,19 @@
 -- What the worker of a deck, and that of a request file, leaves in a run whose history is known whole.
 use Rattle.std.specs.Prelude.{◌≡◌, ◌≢◌, ◌≤◌, ◌<◌, ◌+◌, ℕ, nat_eq, true, List, [], ◌∷◌, ◌++◌, length, Option, Some, IfSome, is_some, if◌then◌else◌}
 use Rattle.racf_outside.specs.Causes.{Rose}
-use Rattle.racf_desk.specs.Position.{Position}
-use Rattle.racf_desk.specs.declared.answers.Reply.{Reply}
-use Rattle.racf_desk.specs.declared.answers.Reply.TheVariants as reply
+use Rattle.desk_rules.specs.Position.{Position}
+use Rattle.desk_rules.specs.declared.answers.Reply.{Reply}
+use Rattle.desk_rules.specs.declared.answers.Reply.TheVariants as reply
 use Rattle.command_history.specs.declared.events.Accepted.{Accepted}
 use Rattle.command_history.specs.declared.events.Event.{Event}
 use Rattle.command_history.specs.declared.events.Event.TheVariants.{Ended}
 use Rattle.command_history.specs.Events.{entries_of, failed_of, Extends}
 use Rattle.racroute.specs.Core.{Passing}
-use Rattle.racf_stream.specs.declared.issuer.Issuing.{Issuing}
-use Rattle.racf_stream.specs.declared.status.Status.{Status}
-use Rattle.racf_stream.specs.declared.status.Status.TheVariants as statuses
-use Rattle.racf_stream.specs.Runs.{after, longest_input}
-use Rattle.racf_stream.specs.Status.{code_of}
+use Rattle.statements.specs.declared.issuer.Issuing.{Issuing}
+use Rattle.statements.specs.declared.status.Status.{Status}
+use Rattle.statements.specs.declared.status.Status.TheVariants as statuses
+use Rattle.statements.specs.Runs.{after, longest_input}
+use Rattle.statements.specs.Status.{code_of}
 use Rattle.racf_workers.specs.Deck.{DeckState, Turn, new_deck, deck_machine, Gives}
 use Rattle.racf_workers.specs.RequestFile.{Answers}
 

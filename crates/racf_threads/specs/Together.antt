@@ -2,15 +2,15 @@
 use Rattle.std.specs.Prelude.{◌≡◌, ℕ, suc, ◌<◌, ◌≤◌, nat_lt, true, List, [], ◌∷◌, ◌++◌, length, map, Option, None, is_some, if◌then◌else◌}
 use Rattle.std.specs.List.{All, sum_by}
 use Rattle.racf_outside.specs.Causes.{Rose}
-use Rattle.racf_desk.specs.Position.{Position}
+use Rattle.desk_rules.specs.Position.{Position}
 use Rattle.command_history.specs.declared.events.Accepted.{Accepted}
 use Rattle.command_history.specs.declared.events.Event.{Event}
 use Rattle.command_history.specs.Events.{all_of}
 use Rattle.racroute.specs.Kept.{fault_count}
-use Rattle.racf_stream.specs.declared.issuer.Issuing.{Issuing}
-use Rattle.racf_stream.specs.declared.status.Status.{Status}
-use Rattle.racf_stream.specs.declared.status.Status.TheVariants as statuses
-use Rattle.racf_stream.specs.Status.{code_of}
+use Rattle.statements.specs.declared.issuer.Issuing.{Issuing}
+use Rattle.statements.specs.declared.status.Status.{Status}
+use Rattle.statements.specs.declared.status.Status.TheVariants as statuses
+use Rattle.statements.specs.Status.{code_of}
 use Rattle.racf_threads.specs.Outputs.{DeckRan, FileRan, StopsFor}
 
 -- ---- statuses

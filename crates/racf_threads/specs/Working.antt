@@ -1,14 +1,14 @@
 -- The workers of a run, before they work and behind it.
 use Rattle.std.specs.Prelude.{◌≡◌, ◌≢◌, ◌<◌, ◌≤◌, ℕ, true, List, [], ◌∷◌, Option, Some, None, is_some}
 use Rattle.racf_outside.specs.Causes.{Rose}
-use Rattle.racf_desk.specs.Position.{Position}
+use Rattle.desk_rules.specs.Position.{Position}
 use Rattle.command_history.specs.Events.{failed_of}
 use Rattle.raclist_snapshots.specs.Publishing.{Seeing}
 use Rattle.racroute.specs.Core.{Passing}
-use Rattle.racf_stream.specs.declared.issuer.Issuing.{Issuing}
-use Rattle.racf_stream.specs.declared.status.Status.{Status}
-use Rattle.racf_stream.specs.declared.status.Status.TheVariants as statuses
-use Rattle.racf_stream.specs.Status.{code_of}
+use Rattle.statements.specs.declared.issuer.Issuing.{Issuing}
+use Rattle.statements.specs.declared.status.Status.{Status}
+use Rattle.statements.specs.declared.status.Status.TheVariants as statuses
+use Rattle.statements.specs.Status.{code_of}
 use Rattle.racf_workers.specs.Deck.{Gives}
 use Rattle.racf_workers.specs.RequestFile.{Answers}
 use Rattle.racf_threads.specs.Outputs.{StopsFor}

@@ -8,9 +8,9 @@ ghost use Rattle.racf_threads.specs.Together.{greater, greatest};
 use crate::worker::Worker;
 use command_history::Naming;
 use racf_profiles::NoMemory;
-use racf_stream::Status;
 use raclist_snapshots::Caller;
 use racroute::DeckEnd;
+use statements::Status;
 use std::alloc::Global;
 use std::sync::ledger::Ledger;
 

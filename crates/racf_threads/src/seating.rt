@@ -6,9 +6,9 @@ ghost use Rattle.racf_threads.specs.Working.{new_workers};
 
 use crate::worker::Worker;
 use command_history::Naming;
-use racf_stream::Status;
 use raclist_snapshots::Caller;
 use racroute::DeckPass;
+use statements::Status;
 use std::sync::ledger::Ledger;
 
 /// The workers of these sources with their sinks: decks as long as there are passes, then request files.

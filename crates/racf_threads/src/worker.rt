@@ -3,17 +3,17 @@
 ghost use Rattle.std.specs.Prelude.{◌≡◌, ◌<◌, ◌≤◌, true, is_some, Some};
 ghost use Rattle.racf_outside.specs.Causes.{Rose};
 ghost use Rattle.command_history.specs.Events.{failed_of};
-ghost use Rattle.racf_stream.specs.Status.{code_of};
+ghost use Rattle.statements.specs.Status.{code_of};
 ghost use Rattle.racf_workers.specs.Deck.{Gives};
 ghost use Rattle.racf_threads.specs.Outputs.{StopsFor};
 
 use command_history::Naming;
 use left_right::Absorb;
 use racf_outside::{Disk, Sink, Source};
-use racf_stream::{Issuing, Status};
 use racf_workers::{Gate, answer_requests, give_commands};
 use raclist_snapshots::{Caller, Note, Opens};
 use racroute::{DeckEnd, DeckPass, Racf};
+use statements::{Issuing, Status};
 use std::alloc::Global;
 use std::marker::Model;
 use std::sync::Wait;

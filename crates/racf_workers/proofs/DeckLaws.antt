@@ -1,9 +1,9 @@
 -- What a command that was given leaves.
 use Rattle.std.proofs.Common.{◌≡◌, ◌≢◌, ℕ, Bool, true, false, List, [], ◌∷◌, ◌++◌, refl, ◌∙◌, ap, subst}
 use Rattle.std.specs.Prelude.{◌||◌, Option, Some, is_some}
-use Rattle.racf_desk.specs.Position.{Position}
-use Rattle.racf_desk.specs.declared.answers.Reply.{Reply}
-use Rattle.racf_desk.specs.declared.answers.Reply.TheVariants as reply
+use Rattle.desk_rules.specs.Position.{Position}
+use Rattle.desk_rules.specs.declared.answers.Reply.{Reply}
+use Rattle.desk_rules.specs.declared.answers.Reply.TheVariants as reply
 use Rattle.command_history.specs.declared.events.Accepted.{Accepted}
 use Rattle.command_history.specs.declared.events.Event.{Event}
 use Rattle.command_history.specs.declared.events.Event.TheVariants.{Added, Ended}

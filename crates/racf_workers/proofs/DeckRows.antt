@@ -3,9 +3,9 @@ use Rattle.std.proofs.Common.{◌≡◌, ℕ, Bool, true, false, List, [], ◌�
 use Rattle.std.specs.Prelude.{Some, codes}
 use Rattle.std.specs.Fmt.{digits}
 use Rattle.command_words.specs.LineWords.{words_at}
-use Rattle.racf_desk.specs.Position.{first_position}
-use Rattle.racf_desk.specs.declared.answers.Reply.{Reply}
-use Rattle.racf_desk.specs.declared.answers.Reply.TheVariants as reply
+use Rattle.desk_rules.specs.Position.{first_position}
+use Rattle.desk_rules.specs.declared.answers.Reply.{Reply}
+use Rattle.desk_rules.specs.declared.answers.Reply.TheVariants as reply
 use Rattle.command_history.specs.declared.events.Accepted.{Accepted}
 use Rattle.command_history.specs.declared.events.Event.{Event}
 use Rattle.command_history.specs.declared.events.Event.TheVariants.{Ended}
@@ -13,12 +13,12 @@ use Rattle.command_history.specs.Reached.{reached}
 use Rattle.racroute.specs.Core.{Passing}
 use Rattle.request_files.specs.Grammar.{next}
 use Rattle.request_files.specs.IssuerLines.{issuer_by, issuer_of_line}
-use Rattle.racf_stream.specs.declared.issuer.Issuing.{Issuing}
-use Rattle.racf_stream.specs.declared.issuer.Issuing.TheVariants.{Free, Fixed}
-use Rattle.racf_stream.specs.Replies.{reply_line}
-use Rattle.racf_stream.specs.Runs.{after, output}
-use Rattle.racf_stream.specs.Script.{deck_statements, statements_of}
-use Rattle.racf_stream.specs.Statements.{request_of}
+use Rattle.statements.specs.declared.issuer.Issuing.{Issuing}
+use Rattle.statements.specs.declared.issuer.Issuing.TheVariants.{Free, Fixed}
+use Rattle.statements.specs.Replies.{reply_line}
+use Rattle.statements.specs.Runs.{after, output}
+use Rattle.statements.specs.Inputs.{deck_statements, statements_of}
+use Rattle.statements.specs.Statements.{request_of}
 use Rattle.racf_workers.specs.Deck.{Met, DeckState, new_deck, step, text_at, deck_machine}
 
 abbrev passing : ℕ → ℕ → Passing

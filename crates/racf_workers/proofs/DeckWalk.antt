@@ -7,34 +7,34 @@ use Rattle.std.specs.Io.KnownBytes.{append_known}
 use Rattle.racf_outside.specs.Causes.{Rose}
 use Rattle.std.specs.Option.{option_to_list}
 use Rattle.racf_outside.specs.Reader.{Reader, at_start}
-use Rattle.racf_desk.specs.Position.{Position}
-use Rattle.racf_desk.specs.declared.answers.Reply.{Reply}
-use Rattle.racf_desk.specs.declared.answers.Reply.TheVariants as reply
+use Rattle.desk_rules.specs.Position.{Position}
+use Rattle.desk_rules.specs.declared.answers.Reply.{Reply}
+use Rattle.desk_rules.specs.declared.answers.Reply.TheVariants as reply
 use Rattle.command_history.specs.declared.events.Event.{Event}
 use Rattle.command_history.specs.Events.{Extends, failed_of}
 use Rattle.racroute.specs.Core.{Passing}
 use Rattle.request_files.specs.declared.issuer_line.NamedIssuer.{NamedIssuer}
-use Rattle.racf_stream.specs.IssuerLines.{issuer_named}
-use Rattle.racf_stream.specs.declared.issuer.Issuing.{Issuing}
-use Rattle.racf_stream.specs.declared.reply.Refusal.{Refusal}
-use Rattle.racf_stream.specs.declared.reply.Refusal.TheVariants as refusal
-use Rattle.racf_stream.specs.declared.statement.Kind.TheVariants as kind
-use Rattle.racf_stream.specs.declared.statement.Statement.{Statement}
-use Rattle.racf_stream.specs.declared.statement.Statement.TheVariants as item
-use Rattle.racf_stream.specs.declared.stopping.Stop.{Stop}
-use Rattle.racf_stream.specs.declared.stopping.Stop.TheVariants as stop
-use Rattle.racf_stream.specs.declared.status.Status.{Status}
-use Rattle.racf_stream.specs.declared.status.Status.TheVariants.{DiskFault, WriteFault, NoMemory, InputTooLong}
-use Rattle.racf_stream.specs.Gathering.{Settles, Acknowledges, IsCutShort}
-use Rattle.racf_stream.specs.NextStatement.{TakesStatements, NextsStatement}
-use Rattle.racf_stream.specs.Processing.{Ends, unless_failed}
-use Rattle.racf_stream.specs.Status.{code_of}
-use Rattle.racf_stream.specs.Runs.{after, output, longest_input}
-use Rattle.racf_stream.specs.Script.{deck_statements}
-use Rattle.racf_stream.proofs.FrontLaws.{no_items}
-use Rattle.racf_stream.proofs.Walk.{Walk, Grows, Walk-none, Walk-items, Walk-settles, Walk-written, Ran-causes, ran_failed, none_read}
-use Rattle.racf_stream.proofs.Stops as stops
-use Rattle.racf_stream.proofs.ScriptLaws.{ran_too_long}
+use Rattle.statements.specs.IssuerLines.{issuer_named}
+use Rattle.statements.specs.declared.issuer.Issuing.{Issuing}
+use Rattle.statements.specs.declared.reply.Refusal.{Refusal}
+use Rattle.statements.specs.declared.reply.Refusal.TheVariants as refusal
+use Rattle.statements.specs.declared.statement.Kind.TheVariants as kind
+use Rattle.statements.specs.declared.statement.Statement.{Statement}
+use Rattle.statements.specs.declared.statement.Statement.TheVariants as item
+use Rattle.statements.specs.declared.stopping.Stop.{Stop}
+use Rattle.statements.specs.declared.stopping.Stop.TheVariants as stop
+use Rattle.statements.specs.declared.status.Status.{Status}
+use Rattle.statements.specs.declared.status.Status.TheVariants.{DiskFault, WriteFault, NoMemory, InputTooLong}
+use Rattle.statements.specs.Gathering.{Settles, Acknowledges, IsCutShort}
+use Rattle.statements.specs.NextStatement.{TakesStatements, NextsStatement}
+use Rattle.statements.specs.Stopping.{Ends, unless_failed}
+use Rattle.statements.specs.Status.{code_of}
+use Rattle.statements.specs.Runs.{after, output, longest_input}
+use Rattle.statements.specs.Inputs.{deck_statements}
+use Rattle.statements.proofs.FrontLaws.{no_items}
+use Rattle.statements.proofs.Walk.{Walk, Grows, IsOneAtMost, Walk-none, Walk-items, Walk-settles, Walk-written, Ran-causes, ran_failed, none_read}
+use Rattle.statements.proofs.Stops as stops
+use Rattle.statements.proofs.RunLaws.{ran_too_long}
 use Rattle.racf_workers.specs.Deck.{Met, Turn, DeckState, new_deck, told_line, counted, is_failure, any_failure, turn_of, behind_command, behind_issuer, issuer_text, refused_line, step, text_at, deck_machine, IsRight, Course, Stands, Gives}
 use Rattle.racf_workers.specs.Giving.{Giving, new_giving, Apart, turn_at, told_of, Commands, Leaves, refused_of, named_of, NamesIssuer, WorksNext, Keeps}
 use Rattle.racf_workers.proofs.DeckLaws.{failure_ends, marked_ends, stays_marked}
@@ -130,9 +130,9 @@ module _ (base : Position) (issuing : Issuing) (before seen : List Event) (first
         walk =
             λ rest.
             let start = state_at s pass seen w.turns (met ∷ rest) in
-            Walk-items (deck_machine base issuing before first ((w.schedule ++ met ∷ []) ++ rest)) (given ∷ []) bytes source old new 0 next start (state_at t back front turns rest) sunk now gathered more
+            Walk-items (deck_machine base issuing before first ((w.schedule ++ met ∷ []) ++ rest)) (given ∷ []) bytes source old new next start (state_at t back front turns rest) sunk now gathered more
             (subst (λ (all : List Met). Walk (deck_machine base issuing before first all) source old 0 start sunk now gathered) (sym (append_assoc w.schedule (met ∷ []) rest)) (w.walk (met ∷ rest)))
-            takes
+            takes tt
             (ap (λ (x : Giving). state_at x back front turns rest) c.state
             ∙ ap (λ (p : Passing). state_at (told_of met.reply s) p front turns rest) c.back_is
             ∙ ap (λ (e : List Event). state_at (told_of met.reply s) (counted met.reply pass) e turns rest) c.front_is
@@ -148,10 +148,10 @@ module _ (base : Position) (issuing : Issuing) (before seen : List Event) (first
   apart : (items : List Statement) (left : Giving) (text bytes : List ℕ) (front : List Event) (back : Passing) (old new : Reader) (next : ℕ) (s t : Giving) (sunk now : Option (List ℕ)) (gathered more : List ℕ)
       → ((all : List Met) (turns : List Turn) (rest : List Met) → state_at left pass seen turns rest ≡ after (deck_machine base issuing before first all) items (state_at s pass seen turns rest))
       → ((all : List Met) (turns : List Turn) (rest : List Met) → text ≡ output (deck_machine base issuing before first all) items (state_at s pass seen turns rest))
-      → left.has_failed ≡ s.has_failed
+      → left.has_failed ≡ s.has_failed → IsOneAtMost items
       → DeckWalk base issuing before seen first pass source old 0 s sunk now gathered → TakesStatements deck_statements items bytes old new → Apart seen front pass back (Leaves left text t gathered more)
       → DeckWalk base issuing before front first back source new next t sunk now more
-  apart items left text bytes front back old new next s t sunk now gathered more steps prints same w takes a =
+  apart items left text bytes front back old new next s t sunk now gathered more steps prints same one w takes a =
       let there : DeckWalk base issuing before seen first pass source new next left sunk now (gathered ++ text) =
       record {
         schedule = w.schedule;
@@ -159,8 +159,8 @@ module _ (base : Position) (issuing : Issuing) (before seen : List Event) (first
         walk =
             λ rest.
             let all = w.schedule ++ rest in
-            Walk-items (deck_machine base issuing before first all) items bytes source old new 0 next (state_at s pass seen w.turns rest) (state_at left pass seen w.turns rest) sunk now gathered (gathered ++ text)
-            (w.walk rest) takes (steps all w.turns rest) (ap (λ bs. gathered ++ bs) (prints all w.turns rest)) (omega arith);
+            Walk-items (deck_machine base issuing before first all) items bytes source old new next (state_at s pass seen w.turns rest) (state_at left pass seen w.turns rest) sunk now gathered (gathered ++ text)
+            (w.walk rest) takes one (steps all w.turns rest) (ap (λ bs. gathered ++ bs) (prints all w.turns rest)) (omega arith);
         course = w.course;
         fails = same ∙ w.fails;
         failed = λ h. w.failed (sym same ∙ h);
@@ -178,12 +178,12 @@ module _ (base : Position) (issuing : Issuing) (before seen : List Event) (first
       apart (item.Issuer line ∷ []) (named_of issuer s) [] bytes front back old new next s t sunk now gathered more
       (λ all turns rest. ap (λ (r : Result NamedIssuer Refusal). behind_issuer r (state_at s pass seen turns rest)) (sym e))
       (λ all turns rest. ap (λ (r : Result NamedIssuer Refusal). issuer_text base seen r ++ []) (sym e))
-      refl w takes a
+      refl tt w takes a
   named line (Err why) bytes front back old new next s t sunk now gathered more e w takes a =
       apart (item.Issuer line ∷ []) (refused_of s) (refused_line base seen why) bytes front back old new next s t sunk now gathered more
       (λ all turns rest. ap (λ (r : Result NamedIssuer Refusal). behind_issuer r (state_at s pass seen turns rest)) (sym e))
       (λ all turns rest. sym (append-nil (refused_line base seen why)) ∙ ap (λ (r : Result NamedIssuer Refusal). issuer_text base seen r ++ []) (sym e))
-      refl w takes a
+      refl tt w takes a
 
   -- A statement was worked, or a line was skipped.
   pub goes_on : (given : Option Statement) (bytes : List ℕ) (front : List Event) (back : Passing) (old new : Reader) (next : ℕ) (s t : Giving) (sunk now : Option (List ℕ)) (gathered more : List ℕ)
@@ -191,7 +191,7 @@ module _ (base : Position) (issuing : Issuing) (before seen : List Event) (first
       → DeckWalk base issuing before front first back source new next t sunk now more
   unfolding step text_at
   goes_on None bytes front back old new next s t sunk now gathered more w takes later a few =
-      apart [] s [] bytes front back old new next s t sunk now gathered more (λ all turns rest. refl) (λ all turns rest. refl) refl w takes a
+      apart [] s [] bytes front back old new next s t sunk now gathered more (λ all turns rest. refl) (λ all turns rest. refl) refl tt w takes a
   goes_on (Some (item.Command text)) bytes front back old new next s t sunk now gathered more w takes later a few =
       commanded (item.Command text) text front back bytes old new next s t sunk now gathered more (λ d. refl) (λ d. refl) w takes later a few
   goes_on (Some (item.Request text)) bytes front back old new next s t sunk now gathered more w takes later a few =
@@ -200,7 +200,7 @@ module _ (base : Position) (issuing : Issuing) (before seen : List Event) (first
       named text (issuer_named s.issuing text) bytes front back old new next s t sunk now gathered more refl w takes a
   goes_on (Some item.LineTooLong) bytes front back old new next s t sunk now gathered more w takes later a few =
       apart (item.LineTooLong ∷ []) (refused_of s) (refused_line base seen refusal.LineTooLong) bytes front back old new next s t sunk now gathered more
-      (λ all turns rest. refl) (λ all turns rest. sym (append-nil (refused_line base seen refusal.LineTooLong))) refl w takes a
+      (λ all turns rest. refl) (λ all turns rest. sym (append-nil (refused_line base seen refusal.LineTooLong))) refl tt w takes a
 
   -- it accepts one command at most
   counted_few : (told : Reply) (p : Passing) → (counted told p).commands ≤ p.commands + 1

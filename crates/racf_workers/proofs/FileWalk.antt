@@ -6,23 +6,23 @@ use Rattle.std.specs.Io.KnownBytes.{append_known}
 use Rattle.racf_outside.specs.Causes.{Rose}
 use Rattle.racf_outside.specs.Lines as text
 use Rattle.racf_outside.specs.Reader.{Reader, at_start}
-use Rattle.racf_desk.specs.Position.{Position}
+use Rattle.desk_rules.specs.Position.{Position}
 use Rattle.command_history.specs.declared.events.Event.{Event}
 use Rattle.command_history.specs.Events.{Extends}
 use Rattle.request_files.specs.declared.acees.NamedAcee.{NamedAcee}
 use Rattle.request_files.specs.declared.line.RequestLine.{RequestLine}
 use Rattle.request_files.specs.declared.line.LineRefusal.{LineRefusal}
-use Rattle.racf_stream.specs.declared.stopping.Stop.{Stop}
-use Rattle.racf_stream.specs.declared.stopping.Stop.TheVariants as stop
-use Rattle.racf_stream.specs.declared.status.Status.{Status}
-use Rattle.racf_stream.specs.declared.status.Status.TheVariants.{WriteFault, NoMemory, InputTooLong}
-use Rattle.racf_stream.specs.Gathering.{Settles, IsCutShort}
-use Rattle.racf_stream.specs.NextStatement.{TakesStatements}
-use Rattle.racf_stream.specs.Processing.{Ends}
-use Rattle.racf_stream.specs.Runs.{longest_input}
-use Rattle.racf_stream.proofs.Walk.{Walk, Grows, Walk-none, Walk-items, Walk-settles, Ran-causes, none_read}
-use Rattle.racf_stream.proofs.Stops as stops
-use Rattle.racf_stream.proofs.ScriptLaws.{ran_too_long}
+use Rattle.statements.specs.declared.stopping.Stop.{Stop}
+use Rattle.statements.specs.declared.stopping.Stop.TheVariants as stop
+use Rattle.statements.specs.declared.status.Status.{Status}
+use Rattle.statements.specs.declared.status.Status.TheVariants.{WriteFault, NoMemory, InputTooLong}
+use Rattle.statements.specs.Gathering.{Settles, IsCutShort}
+use Rattle.statements.specs.NextStatement.{TakesStatements}
+use Rattle.statements.specs.Stopping.{Ends}
+use Rattle.statements.specs.Runs.{longest_input}
+use Rattle.statements.proofs.Walk.{Walk, Grows, Walk-none, Walk-items, Walk-settles, Ran-causes, none_read}
+use Rattle.statements.proofs.Stops as stops
+use Rattle.statements.proofs.RunLaws.{ran_too_long}
 use Rattle.racf_workers.specs.Lines.{asked, request_lines, IsRead, NextsRequest}
 use Rattle.racf_workers.specs.RequestFile.{Turn, FileState, file_state, new_file, turn_of, outcome_at, answered, step, text_at, request_machine, IsRight, Course, Stands, Answers}
 use Rattle.racf_workers.specs.Answering.{Between, Gathers, AnswersAt, AnswersNext, Skips}
@@ -81,6 +81,7 @@ lengthened base before seen source reader state sunk now gathered fronts more tu
       gained = w.gained ∙ ap (append_known sunk) (sym (output_more base before fronts more w.told [] false [] before fronts (omega (arith, few, parts))));
       whole = w.whole ∙ sym (output_behind base before fronts more w.told w.waiting [] false [] before fronts (omega (arith, few, parts)));
       few = omega arith;
+      alone = λ front final is. omega arith;
     }
 
 course_more : (base : Position) (turns : List Turn) (turn : Turn) → Course base turns → IsRight base turn → Course base (turns ++ turn ∷ [])
@@ -114,8 +115,8 @@ answers_line base before seen front l bytes source old new s t sunk now then gat
       fronts = v.fronts ++ front ∷ [];
       turns = v.turns ++ turn ∷ [];
       walk =
-          Walk-items m (l ∷ []) bytes source old new 0 0 start (state_at t (v.turns ++ turn ∷ []) front []) sunk then a.rest more
-          (lengthened base before seen source old s sunk then a.rest v.fronts (front ∷ []) v.turns v.counted v.walk) takes
+          Walk-items m (l ∷ []) bytes source old new 0 start (state_at t (v.turns ++ turn ∷ []) front []) sunk then a.rest more
+          (lengthened base before seen source old s sunk then a.rest v.fronts (front ∷ []) v.turns v.counted v.walk) takes tt
           (step_is base l s t v.turns seen front a.rest more a.gathers)
           (text_is base l s t v.turns seen front a.rest more a.gathers) (omega arith);
       course = course_more base v.turns turn v.course (record { later = later; moved = a.moved });
@@ -127,7 +128,7 @@ skips_line : (base : Position) (before seen front : List Event) (bytes : List �
     → FileWalk base before front source new t sunk then more
 skips_line base before seen front bytes source old new s t sunk now then gathered more w takes k =
     let m = request_machine base before w.fronts in
-    let walk = Walk-items m [] bytes source old new 0 0 (state_at s w.turns seen []) (state_at s w.turns seen []) sunk now gathered gathered w.walk takes refl (sym (append-nil gathered)) (omega arith) in
+    let walk = Walk-items m [] bytes source old new 0 (state_at s w.turns seen []) (state_at s w.turns seen []) sunk now gathered gathered w.walk takes tt refl (sym (append-nil gathered)) (omega arith) in
     let here : FileWalk base before seen source new s sunk now gathered = record { fronts = w.fronts; turns = w.turns; walk = walk; course = w.course; counted = w.counted } in
     subst (λ (e : List Event). FileWalk base before e source new t sunk then more) (sym k.front_is)
     (subst (λ (x : Between). FileWalk base before seen source new x sunk then more) (sym k.state)

@@ -2,10 +2,10 @@
 use Rattle.std.proofs.Common.{◌≡◌, ◌+◌, ◌≤◌, Bool, ◌++◌, List, [], ◌∷◌, length, refl, ap, arith, length-append}
 use Rattle.std.specs.Prelude.{◌||◌}
 use Rattle.racf_outside.specs.Lines as text
-use Rattle.racf_desk.specs.Position.{Position}
+use Rattle.desk_rules.specs.Position.{Position}
 use Rattle.command_history.specs.declared.events.Event.{Event}
 use Rattle.request_files.specs.declared.acees.NamedAcee.{NamedAcee}
-use Rattle.racf_stream.specs.Runs.{after, output}
+use Rattle.statements.specs.Runs.{after, output}
 use Rattle.racf_workers.specs.RequestFile.{Turn, FileState, file_state, turn_of, answered, step, text_at, request_machine}
 
 unfoldable pub with_more : List (List Event) → FileState → FileState

@@ -14,8 +14,8 @@ use Rattle.racf_outside.proofs.LineLaws as laws
 use Rattle.request_files.specs.declared.line.RequestLine.{RequestLine}
 use Rattle.request_files.specs.declared.line.LineRefusal.{LineRefusal}
 use Rattle.request_files.specs.declared.line.LineRefusal.TheVariants as refusal
-use Rattle.racf_stream.specs.declared.stopping.Stop.TheVariants as stop
-use Rattle.racf_stream.specs.NextStatement.{IsWalked, TakesStatements, TakesFront, TakesTooMuch}
+use Rattle.statements.specs.declared.stopping.Stop.TheVariants as stop
+use Rattle.statements.specs.NextStatement.{IsWalked, TakesStatements, TakesFront, TakesTooMuch}
 use Rattle.racf_workers.specs.Lines.{unskipped, all_unskipped, request_lines, IsRead, NextsRequest}
 
 pub no_lines : request_lines.items [] ≡ []

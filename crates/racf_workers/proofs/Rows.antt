@@ -3,12 +3,12 @@ use Rattle.std.proofs.Common.{◌≡◌, ℕ, Bool, true, false, List, [], ◌�
 use Rattle.std.specs.Prelude.{None, codes}
 use Rattle.std.specs.Fmt.{digits}
 use Rattle.command_words.specs.LineWords.{words_at}
-use Rattle.racf_desk.specs.Position.{first_position}
+use Rattle.desk_rules.specs.Position.{first_position}
 use Rattle.command_history.specs.declared.events.Event.{Event}
 use Rattle.command_history.specs.declared.events.Event.TheVariants.{Ended}
 use Rattle.command_history.specs.Reached.{reached}
 use Rattle.request_files.specs.Grammar.{next, deleted, number_after, requested, read}
-use Rattle.racf_stream.specs.Runs.{after, output}
+use Rattle.statements.specs.Runs.{after, output}
 use Rattle.racf_workers.specs.Lines.{request_lines}
 use Rattle.racf_workers.specs.RequestFile.{FileState, new_file, outcome_at, step, text_at, request_machine, Course}
 

@@ -1,7 +1,7 @@
 -- The steps in which the lines of a request file are answered.
 use Rattle.std.specs.Prelude.{◌≡◌, ◌++◌, ◌||◌, ℕ, Bool, List, Option, Some, None, Result}
 use Rattle.racf_outside.specs.Causes.{Rose}
-use Rattle.racf_desk.specs.Position.{Position}
+use Rattle.desk_rules.specs.Position.{Position}
 use Rattle.command_history.specs.declared.events.Event.{Event}
 use Rattle.request_files.specs.declared.acees.NamedAcee.{NamedAcee}
 use Rattle.request_files.specs.declared.line.LineRefusal.{LineRefusal}
@@ -9,7 +9,7 @@ use Rattle.request_files.specs.declared.line.RequestLine.{RequestLine}
 use Rattle.request_files.specs.Grammar.{Line}
 use Rattle.request_files.specs.Seen.{line_read}
 use Rattle.request_files.specs.Worked.{Outcome}
-use Rattle.racf_stream.specs.Gathering.{Settles, IsCutShort}
+use Rattle.statements.specs.Gathering.{Settles, IsCutShort}
 use Rattle.racf_workers.specs.declared.answering.Unanswered.{Unanswered}
 use Rattle.racf_workers.specs.declared.answering.Unanswered.TheVariants.{WriteFault, NoMemory}
 use Rattle.racf_workers.specs.RequestFile.{Moves, outcome_at}

@@ -1,25 +1,25 @@
 -- What a deck prints: each command is given behind some list of the history, and what had been seen only grows.
 use Rattle.std.specs.Prelude.{◌≡◌, ◌≢◌, ◌+◌, ℕ, Bool, true, false, ◌||◌, List, [], ◌∷◌, ◌++◌, Option, is_some, Result, Ok, Err}
-use Rattle.racf_desk.specs.Position.{Position}
-use Rattle.racf_desk.specs.declared.answers.Reply.{Reply}
-use Rattle.racf_desk.specs.declared.answers.Reply.TheVariants as reply
+use Rattle.desk_rules.specs.Position.{Position}
+use Rattle.desk_rules.specs.declared.answers.Reply.{Reply}
+use Rattle.desk_rules.specs.declared.answers.Reply.TheVariants as reply
 use Rattle.command_history.specs.declared.events.Event.{Event}
 use Rattle.command_history.specs.Events.{Extends, failed_of}
 use Rattle.racroute.specs.Core.{Passing, number_behind}
 use Rattle.racroute.specs.Replies.{Given, given_by, Says}
 use Rattle.request_files.specs.declared.issuer_line.NamedIssuer.{NamedIssuer}
-use Rattle.racf_stream.specs.declared.issuer.Issuing.{Issuing}
-use Rattle.racf_stream.specs.declared.reply.Refusal.{Refusal}
-use Rattle.racf_stream.specs.declared.reply.Refusal.TheVariants as refusal
-use Rattle.racf_stream.specs.declared.reply.Reply.TheVariants as printed
-use Rattle.racf_stream.specs.declared.statement.Statement.{Statement}
-use Rattle.racf_stream.specs.declared.statement.Statement.TheVariants as item
-use Rattle.racf_stream.specs.declared.status.Status.{Status}
-use Rattle.racf_stream.specs.declared.status.Status.TheVariants.{NoMemory, WriteFault}
-use Rattle.racf_stream.specs.IssuerLines.{first_issuer, issuer_named}
-use Rattle.racf_stream.specs.Replies.{reply_line}
-use Rattle.racf_stream.specs.Runs.{Machine, Ran}
-use Rattle.racf_stream.specs.Script.{deck_statements}
+use Rattle.statements.specs.declared.issuer.Issuing.{Issuing}
+use Rattle.statements.specs.declared.reply.Refusal.{Refusal}
+use Rattle.statements.specs.declared.reply.Refusal.TheVariants as refusal
+use Rattle.statements.specs.declared.reply.Reply.TheVariants as printed
+use Rattle.statements.specs.declared.statement.Statement.{Statement}
+use Rattle.statements.specs.declared.statement.Statement.TheVariants as item
+use Rattle.statements.specs.declared.status.Status.{Status}
+use Rattle.statements.specs.declared.status.Status.TheVariants.{NoMemory, WriteFault}
+use Rattle.statements.specs.IssuerLines.{first_issuer, issuer_named}
+use Rattle.statements.specs.Replies.{reply_line}
+use Rattle.statements.specs.Runs.{Machine, Ran}
+use Rattle.statements.specs.Inputs.{deck_statements}
 
 -- ---- replies
 

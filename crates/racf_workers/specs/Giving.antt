@@ -1,18 +1,18 @@
 -- The steps in which the statements of a deck are worked.
 use Rattle.std.specs.Prelude.{◌≡◌, ◌++◌, ◌||◌, ℕ, Bool, true, false, List, [], Option, Some, None, Result, Ok, Err}
-use Rattle.racf_desk.specs.Position.{Position}
-use Rattle.racf_desk.specs.declared.answers.Reply.{Reply}
-use Rattle.racf_desk.specs.declared.answers.Reply.TheVariants as reply
+use Rattle.desk_rules.specs.Position.{Position}
+use Rattle.desk_rules.specs.declared.answers.Reply.{Reply}
+use Rattle.desk_rules.specs.declared.answers.Reply.TheVariants as reply
 use Rattle.command_history.specs.declared.events.Event.{Event}
 use Rattle.racroute.specs.Core.{Passing}
 use Rattle.racroute.specs.Replies.{given_by}
 use Rattle.request_files.specs.declared.issuer_line.NamedIssuer.{NamedIssuer}
-use Rattle.racf_stream.specs.declared.issuer.Issuing.{Issuing}
-use Rattle.racf_stream.specs.declared.reply.Refusal.{Refusal}
-use Rattle.racf_stream.specs.declared.reply.Refusal.TheVariants as refusal
-use Rattle.racf_stream.specs.declared.statement.Statement.{Statement}
-use Rattle.racf_stream.specs.declared.statement.Statement.TheVariants as item
-use Rattle.racf_stream.specs.IssuerLines.{first_issuer, issuer_named}
+use Rattle.statements.specs.declared.issuer.Issuing.{Issuing}
+use Rattle.statements.specs.declared.reply.Refusal.{Refusal}
+use Rattle.statements.specs.declared.reply.Refusal.TheVariants as refusal
+use Rattle.statements.specs.declared.statement.Statement.{Statement}
+use Rattle.statements.specs.declared.statement.Statement.TheVariants as item
+use Rattle.statements.specs.IssuerLines.{first_issuer, issuer_named}
 use Rattle.racf_workers.specs.Deck.{Met, Turn, told_line, is_refusal, is_failure, counted, refused_line, IsRight}
 
 -- What stands between two lines of a deck, but for the history and the pass.

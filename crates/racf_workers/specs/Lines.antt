@@ -8,10 +8,10 @@ use Rattle.request_files.specs.declared.line.LineRefusal.{LineRefusal}
 use Rattle.request_files.specs.declared.line.LineRefusal.TheVariants.{LineTooLong}
 use Rattle.request_files.specs.Grammar.{Line, read}
 use Rattle.request_files.specs.Seen.{line_read}
-use Rattle.racf_stream.specs.declared.stopping.Stop.{Stop}
-use Rattle.racf_stream.specs.NextStatement.{TakesStatements, Stops}
-use Rattle.racf_stream.specs.Runs.{Input}
-use Rattle.racf_stream.specs.Statements.{is_skipped}
+use Rattle.statements.specs.declared.stopping.Stop.{Stop}
+use Rattle.statements.specs.NextStatement.{TakesStatements, Stops}
+use Rattle.statements.specs.Runs.{Input}
+use Rattle.statements.specs.Statements.{is_skipped}
 
 -- A line of blanks and tabs alone, and a comment, are skipped.
 abbrev pub unskipped : text.Line → Option text.Line

@@ -1,7 +1,7 @@
 -- What a request file prints: each line is answered at some front of the history, and the fronts only grow.
 use Rattle.std.specs.Prelude.{◌≡◌, ◌≢◌, ◌⊎◌, ◌≤◌, ℕ, Bool, true, false, ◌||◌, List, [], ◌∷◌, ◌++◌, Option, is_some, is_none, Result, Ok, Err}
 use Rattle.racf_outside.specs.Lines as text
-use Rattle.racf_desk.specs.Position.{Position}
+use Rattle.desk_rules.specs.Position.{Position}
 use Rattle.command_history.specs.declared.events.Event.{Event}
 use Rattle.command_history.specs.Events.{is_ended, Extends}
 use Rattle.command_history.specs.Reached.{reached}
@@ -11,9 +11,9 @@ use Rattle.request_files.specs.declared.line.LineRefusal.{LineRefusal}
 use Rattle.request_files.specs.Acees.{acee_named, put_refusal}
 use Rattle.request_files.specs.Grammar.{Line, Verify, Auth, Fastauth, Delete, After, Skip}
 use Rattle.request_files.specs.Worked.{Outcome, worked}
-use Rattle.racf_stream.specs.declared.status.Status.{Status}
-use Rattle.racf_stream.specs.declared.status.Status.TheVariants.{NoMemory, WriteFault}
-use Rattle.racf_stream.specs.Runs.{Machine, Ran}
+use Rattle.statements.specs.declared.status.Status.{Status}
+use Rattle.statements.specs.declared.status.Status.TheVariants.{NoMemory, WriteFault}
+use Rattle.statements.specs.Runs.{Machine, Ran}
 use Rattle.racf_workers.specs.Lines.{request_lines, asked}
 
 -- ---- the machine

@@ -4,9 +4,9 @@ ghost use Rattle.std.specs.Prelude.{◌≡◌, [], false, OnOk, OnErr, IfOk};
 ghost use Rattle.request_files.specs.Seen.{line_read};
 
 use command_history::Naming;
-use racf_stream::Replies;
 use raclist_snapshots::Caller;
 use request_files::{AceeTable, LineRefusal, RequestLine, respond};
+use statements::Replies;
 use std::alloc::{AllocError, Global};
 use std::marker::Model;
 

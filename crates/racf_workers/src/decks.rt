@@ -4,10 +4,10 @@ ghost use Rattle.std.specs.Prelude.{ℕ, ◌≡◌, ◌≢◌, ◌≤◌, ◌<�
 ghost use Rattle.racf_outside.specs.Causes.{HasCause, Rose};
 ghost use Rattle.racf_outside.specs.Reader.{at_start};
 ghost use Rattle.command_history.specs.Events.{Extends, failed_of};
-ghost use Rattle.racf_stream.specs.Gathering.{Acknowledges, IsCutShort};
-ghost use Rattle.racf_stream.specs.Processing.{Ends};
-ghost use Rattle.racf_stream.specs.Runs.{longest_input};
-ghost use Rattle.racf_stream.specs.Status.{code_of};
+ghost use Rattle.statements.specs.Gathering.{Acknowledges, IsCutShort};
+ghost use Rattle.statements.specs.Stopping.{Ends};
+ghost use Rattle.statements.specs.Runs.{longest_input};
+ghost use Rattle.statements.specs.Status.{code_of};
 ghost use Rattle.racf_workers.specs.Deck.{Gives};
 ghost use Rattle.racf_workers.specs.Giving.{Keeps, WorksItem, WorksNext};
 
@@ -16,11 +16,11 @@ use crate::giving::Giving;
 use command_history::Naming;
 use left_right::Absorb;
 use racf_outside::{Disk, Failed, Lines, Sink, Source};
-use racf_stream::{
-    Issuing, Kind, Replies, Statement, Status, Stop, end_run, next_statement, unless_failed,
-};
 use raclist_snapshots::{Caller, Note, Opens};
 use racroute::{DeckPass, Racf};
+use statements::{
+    Issuing, Kind, Replies, Statement, Status, Stop, end_run, next_statement, unless_failed,
+};
 use std::alloc::{AllocError, Global};
 use std::sync::Wait;
 use std::sync::ledger::Ledger;

@@ -7,13 +7,13 @@ use crate::telling::{is_accepted, is_failure, is_refusal, write_reply};
 use command_history::Naming;
 use left_right::Absorb;
 use racf_outside::Disk;
-use racf_stream::{
-    Issuing, LONGEST_LINE, LineText, Refusal, Reply as Printed, Statement, first_issuer,
-    issuer_named,
-};
 use raclist_snapshots::{Caller, Note, Opens};
 use racroute::{DeckPass, Racf};
 use request_files::NamedIssuer;
+use statements::{
+    Issuing, LONGEST_LINE, LineText, Refusal, Reply as Printed, Statement, first_issuer,
+    issuer_named,
+};
 use std::alloc::{AllocError, Global};
 use std::marker::Model;
 use std::sync::Wait;
@@ -41,7 +41,7 @@ impl Model for Giving {
 }
 
 impl Giving {
-    ghost use Rattle.racf_stream.specs.IssuerLines.{issuer_named};
+    ghost use Rattle.statements.specs.IssuerLines.{issuer_named};
     ghost use Rattle.racf_workers.specs.Giving.{new_giving, Commands, NamesIssuer, Refuses, WorksItem};
 
     /// Before the first line.

@@ -3,7 +3,7 @@
 //! [`answer_requests`] answers the lines of a request file over one `Racf` of `racroute`, by a `Caller` of
 //! `raclist_snapshots`. A line that reaches a decision is answered on the newest image that the caller knows of, and
 //! waits for nobody; `*AFTER` waits for a number of commands. The lines are those of `racf_outside`, read and answered
-//! by `request_files`; what a stop leaves is said by the definitions of `racf_stream`. A [`Gate`] is asked before each
+//! by `request_files`; what a stop leaves is said by the definitions of `statements`. A [`Gate`] is asked before each
 //! line and behind it, so that a run can take a course that is known; [`Idle`] lets everything pass.
 //!
 //! [`give_commands`] gives the commands of a deck, with a pass. The room of each reply is there before its command is

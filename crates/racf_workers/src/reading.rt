@@ -5,8 +5,8 @@ ghost use Rattle.racf_outside.specs.Lines.{Text};
 ghost use Rattle.racf_workers.specs.Lines.{unskipped, IsRead, NextsRequest};
 
 use racf_outside::{Line, LineFault, Lines, Source};
-use racf_stream::{Stop, is_skipped};
 use request_files::{LineRefusal, RequestLine, read_line};
+use statements::{Stop, is_skipped};
 
 /// What the next line asks for; `None` where it is skipped. It takes no memory.
 #[inline(always)]

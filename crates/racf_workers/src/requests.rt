@@ -4,7 +4,7 @@ ghost use Rattle.std.specs.Prelude.{ℕ, ◌≡◌, ◌≢◌, ◌≤◌, ◌<�
 ghost use Rattle.racf_outside.specs.Causes.{Rose};
 ghost use Rattle.racf_outside.specs.Reader.{at_start};
 ghost use Rattle.command_history.specs.Events.{Extends};
-ghost use Rattle.racf_stream.specs.Runs.{longest_input};
+ghost use Rattle.statements.specs.Runs.{longest_input};
 ghost use Rattle.racf_workers.specs.RequestFile.{Answers};
 
 use crate::answering::{Unanswered, answer_line};
@@ -14,9 +14,9 @@ use crate::reading::next_request;
 use command_history::Naming;
 use left_right::Absorb;
 use racf_outside::{Disk, Failed, Lines, Sink, Source};
-use racf_stream::{Replies, Status, Stop, end_run, write_before_read};
 use raclist_snapshots::{Caller, Note, Opens};
 use racroute::Racf;
+use statements::{Replies, Status, Stop, end_run, write_before_read};
 use std::alloc::Global;
 use std::sync::Wait;
 use std::sync::ledger::Ledger;

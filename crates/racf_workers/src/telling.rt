@@ -1,12 +1,12 @@
 //! What a command is told, as it is printed.
 
 ghost use Rattle.std.specs.Prelude.{◌≡◌, ◌≢◌, ◌+◌, ◌≤◌, ◌++◌, true, OnOk, OnErr, vec_len, vec_capacity};
-ghost use Rattle.racf_stream.specs.Replies.{longest_line};
+ghost use Rattle.statements.specs.Replies.{longest_line};
 ghost use Rattle.racf_workers.specs.Deck.{told_line, is_acceptance, is_refusal, is_failure};
 ghost use Rattle.racf_workers.specs.Giving.{may_be_lost};
 
 use racf_desk::Reply;
-use racf_stream::{Refusal, Reply as Printed};
+use statements::{Refusal, Reply as Printed};
 use std::alloc::AllocError;
 
 /// Whether a command was accepted, so that its reply is to be written at once.

@@ -3,3 +3,4 @@ pub mod PutKinds
 pub mod Copied
 mod Placing
 mod Found
+mod Keyed

@@ -7,15 +7,15 @@ ghost use Rattle.racf_profiles.specs.Lookup.{is_profile};
 ghost use Rattle.racf_profiles.specs.Edits.{put_profile, drop_row};
 ghost use Rattle.racf_profiles.specs.LawfulProfiles.{AreProfiles};
 ghost use Rattle.class_profiles.specs.Table.{best_profile};
-ghost use Rattle.profile_index.specs.Buckets.{most_placed};
+ghost use Rattle.profile_index.specs.Buckets.{most_placed, IsRegionAt};
 ghost use Rattle.dataspace.specs.Rooms.{none, room_for};
 ghost use Rattle.racf_profiles.specs.Limits.{most_class_profiles};
 ghost use Rattle.raclist_image.specs.Facts.{AreFacts, AreFactsOf};
-ghost use Rattle.raclist_image.specs.PlacedNames.{keys_of};
+ghost use Rattle.raclist_image.specs.PlacedNames.{keys_of, room_taken};
 
 use crate::facts::Facts;
 use class_profiles::{Made, SharedProfiles};
-use dataspace::Room;
+use dataspace::{Region, Room};
 use generic_names::{NameKind, Pattern, Resource};
 use profile_index::key_length;
 use racf_profiles::{Member, NoMemory, Profile};
@@ -38,10 +38,12 @@ impl Model for ClassImage {
 }
 
 impl ClassImage {
-    /// The image of these profiles, copied, in time that grows with their number.
+    /// The image of these profiles, copied, in time that grows with their number. The room that it takes for keys is
+    /// that which `room` answers.
     pub fn of(alloc: Global, profiles: &[Profile], kind: NameKind) -> Result<ClassImage, NoMemory>
         requires { AreProfiles kind profiles.now }
-        ensures { IfOk result (λ image. image ≡ record { kind = kind; profiles = profiles.now }) }
+        ensures image { IfOk result (λ image. image ≡ record { kind = kind; profiles = profiles.now }) }
+        ensures taken { IfOk result (λ image. room_taken image ≡ room_for (keys_of profiles.now)) }
     {
         Ok(ClassImage {
             profiles: SharedProfiles::of(alloc, kind, profiles)?,
@@ -59,6 +61,23 @@ impl ClassImage {
             room = room.plus(key_length(&profile.name));
         }
         room
+    }
+
+    /// The room that was taken for keys, free or not, summed over the regions of the image: just that of the keys,
+    /// which `room` answers of the same profiles. It takes no memory.
+    pub fn taken(&self) -> Room
+        ensures { result ≡ room_taken self.now }
+    {
+        self.profiles.taken()
+    }
+
+    /// The region in which the key of the name at that place lies, and the row of the key in it. The keys of all names
+    /// lie in such regions in their order, one region behind another, and each region has just the room of its keys.
+    pub fn keys_at(&self, place: usize) -> (&Region, usize)
+        requires { place < length self.now.profiles }
+        ensures { IsRegionAt (keys_of self.now.profiles) place result.0.now result.1 }
+    {
+        self.profiles.keys_at(place)
     }
 
     /// What is free in the regions of the image: nothing, since each has just the room of the keys that lie in it. It

@@ -1,12 +1,12 @@
 -- A legal history is no longer than the numbers that commands get.
 use Rattle.std.proofs.Common.{◌≡◌, ◌⊎◌, ℕ, ◌+◌, ◌<◌, ◌≤◌, ◌^◌, true, false, List, [], ◌∷◌, ◌++◌, length, Ok, Bool, Option, Some, None, nat_le, if◌then◌else◌, leb-false, inl, inr, refl, ◌∙◌, arith, ⊎_elim}
 use Rattle.journal_records.specs.declared.record.CommandRecord.{CommandRecord}
-use Rattle.racf_desk.specs.declared.refusal.Refusal.{Refusal}
-use Rattle.racf_desk.specs.declared.refusal.Refusal.TheVariants as refusal
-use Rattle.racf_desk.specs.Outcome.{most_number, first_of, rules_of, number_spent}
-use Rattle.racf_desk.specs.Position.{Position, position_behind}
-use Rattle.racf_desk.specs.Recovery.{outcome_again, refusal_again}
-use Rattle.racf_desk.proofs.RecoveryLaws.{judged_parts}
+use Rattle.desk_rules.specs.declared.refusal.Refusal.{Refusal}
+use Rattle.desk_rules.specs.declared.refusal.Refusal.TheVariants as refusal
+use Rattle.desk_rules.specs.Outcome.{most_number, first_of, rules_of, number_spent}
+use Rattle.desk_rules.specs.Position.{Position, position_behind}
+use Rattle.desk_rules.specs.Recovery.{outcome_again, refusal_again}
+use Rattle.desk_rules.proofs.RecoveryLaws.{judged_parts}
 use Rattle.command_history.specs.declared.events.Accepted.{Accepted}
 use Rattle.command_history.specs.declared.events.Event.{Event}
 use Rattle.command_history.specs.declared.events.Event.TheVariants.{Added, Ended}

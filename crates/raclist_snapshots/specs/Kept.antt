@@ -1,7 +1,7 @@
 -- How notes, callers and publishers are kept.
 use Rattle.std.specs.Prelude.{ℕ, ◌≡◌, ◌+◌, false, List, [], ◌∷◌, ◌++◌, length, Option, Some, None, IfSome, if◌then◌else◌}
 use Rattle.raclist_image.specs.Imaged.{Imaged}
-use Rattle.racf_desk.specs.Position.{Position}
+use Rattle.desk_rules.specs.Position.{Position}
 use Rattle.command_history.specs.declared.events.Accepted.{Accepted}
 use Rattle.command_history.specs.declared.events.Event.{Event}
 use Rattle.command_history.specs.declared.events.Event.TheVariants.{Added}

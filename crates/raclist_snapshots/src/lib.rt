@@ -9,8 +9,8 @@
 //! What is published, told and kept is the same pair: an image, with the history that it is the image of. So
 //! [`Caller::image`] is always the state behind what the caller has seen, and of what two callers have seen one is a
 //! beginning of the other. The type parameter `J` says which history it is, and where it begins. The images are those
-//! of `raclist_image`, the commands are made by `racf_desk`; a command's way through both is the work of the layer
-//! above.
+//! of `raclist_image`, the positions those of `desk_rules`; a command's way through a desk and through this is the
+//! work of the layer above.
 //!
 //! ```
 //! publisher.hold(alloc, image, &entry)?;     // takes all memory; what comes behind it isn't refused

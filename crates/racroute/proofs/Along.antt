@@ -4,13 +4,13 @@ use Rattle.std.proofs.Common.{◌≡◌, ℕ, true, List, [], ◌∷◌, Option,
 use Rattle.racf_outside.specs.Disk.{History}
 use Rattle.racf_outside.proofs.Runs.{Leaves-weaker, StaysIn-none, StaysIn-joined, StaysIn-weaker}
 use Rattle.racf_checkpoint.specs.Stored.{StoreOn}
-use Rattle.racf_desk.specs.declared.answers.Ready.{Ready}
-use Rattle.racf_desk.specs.Durable.{IdleDisk, idle_of, BesideIdle, LeavesIt, StaysEither}
-use Rattle.racf_desk.specs.Made.{Made, made_at, made_in, installed}
-use Rattle.racf_desk.specs.Outcome.{outcome}
-use Rattle.racf_desk.specs.Position.{Position}
-use Rattle.racf_desk.specs.Recovery.{StandsFor, StandsForEither}
-use Rattle.racf_desk.proofs.IdleLaws.{beside-weaker}
+use Rattle.desk_rules.specs.declared.answers.Ready.{Ready}
+use Rattle.desk_rules.specs.Durable.{IdleDisk, idle_of, BesideIdle, LeavesIt, StaysEither}
+use Rattle.desk_rules.specs.Made.{Made, made_at, made_in, installed}
+use Rattle.desk_rules.specs.Outcome.{outcome}
+use Rattle.desk_rules.specs.Position.{Position}
+use Rattle.desk_rules.specs.Recovery.{StandsFor, StandsForEither}
+use Rattle.desk_rules.proofs.IdleLaws.{beside-weaker}
 use Rattle.command_history.specs.declared.events.Accepted.{Accepted}
 use Rattle.command_history.specs.declared.events.Event.{Event}
 use Rattle.command_history.specs.declared.events.Event.TheVariants.{Added, Ended}

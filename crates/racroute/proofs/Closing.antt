@@ -5,8 +5,8 @@ use Rattle.racf_outside.specs.Disk.{History}
 use Rattle.checkpoint_disks.specs.declared.counting.Side.{Side}
 use Rattle.checkpoint_disks.specs.declared.counting.Side.TheVariants.{First, Second}
 use Rattle.racf_checkpoint.specs.Stored.{StoreOn, disk_on, pick}
-use Rattle.racf_desk.specs.Durable.{IdleDisk, idle_of}
-use Rattle.racf_desk.specs.Position.{Position}
+use Rattle.desk_rules.specs.Durable.{IdleDisk, idle_of}
+use Rattle.desk_rules.specs.Position.{Position}
 use Rattle.command_history.specs.declared.events.Accepted.{Accepted}
 use Rattle.command_history.specs.declared.events.Event.{Event}
 use Rattle.command_history.specs.declared.events.Event.TheVariants.{Added, Ended}

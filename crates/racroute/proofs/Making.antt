@@ -2,8 +2,8 @@
 use Rattle.std.proofs.Common.{◌≡◌, Result, Ok, Err, refl}
 use Rattle.raclist_image.specs.Imaged.{Imaged}
 use Rattle.journal_records.specs.declared.record.CommandRecord.{CommandRecord}
-use Rattle.racf_desk.specs.declared.refusal.Refusal.{Refusal}
-use Rattle.racf_desk.specs.Made.{Made, made_at, made_of_outcome}
+use Rattle.desk_rules.specs.declared.refusal.Refusal.{Refusal}
+use Rattle.desk_rules.specs.Made.{Made, made_at, made_of_outcome}
 
 -- What was made of a command that is accepted is made of that command.
 pub record IsMadeOf (image : Imaged) (o : Result CommandRecord Refusal) (made : Made) : Type 0 where

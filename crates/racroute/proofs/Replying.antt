@@ -1,8 +1,8 @@
 -- What callers learn of replies.
 use Rattle.std.proofs.Common.{◌≡◌, ◌⊎◌, ℕ, ◌+◌, ◌%◌, ◌^◌, true, List, [], ◌∷◌, ◌++◌, Some, None, refl, sym, ◌∙◌, ap, subst}
-use Rattle.racf_desk.specs.declared.answers.Reply.{Reply}
-use Rattle.racf_desk.specs.declared.answers.Reply.TheVariants as reply
-use Rattle.racf_desk.specs.Position.{Position}
+use Rattle.desk_rules.specs.declared.answers.Reply.{Reply}
+use Rattle.desk_rules.specs.declared.answers.Reply.TheVariants as reply
+use Rattle.desk_rules.specs.Position.{Position}
 use Rattle.command_history.specs.declared.events.Event.{Event}
 use Rattle.command_history.specs.declared.events.Event.TheVariants.{Added, Ended}
 use Rattle.command_history.specs.Events.{Extends}

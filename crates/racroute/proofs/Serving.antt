@@ -5,14 +5,14 @@ use Rattle.racf_outside.specs.Causes.{Rose}
 use Rattle.racf_outside.specs.Disk.{History}
 use Rattle.command_parser.specs.Canonical.{canonical, IsWritten}
 use Rattle.journal_records.specs.declared.record.CommandRecord.{CommandRecord}
-use Rattle.racf_desk.specs.declared.answers.Ready.{Ready}
-use Rattle.racf_desk.specs.Outcome.{outcome}
+use Rattle.desk_rules.specs.declared.answers.Ready.{Ready}
+use Rattle.desk_rules.specs.Outcome.{outcome}
 use Rattle.checkpoint_disks.specs.declared.counting.Side.TheVariants.{First, Second}
 use Rattle.racf_checkpoint.specs.Stored.{disk_on}
-use Rattle.racf_desk.specs.Durable.{SameIdle, idle_of, LeavesIt, StaysEither}
-use Rattle.racf_desk.proofs.IdleLaws.{same_idle-told}
-use Rattle.racf_desk.specs.Made.{Made, made_in, installed}
-use Rattle.racf_desk.specs.Position.{Position}
+use Rattle.desk_rules.specs.Durable.{SameIdle, idle_of, LeavesIt, StaysEither}
+use Rattle.desk_rules.proofs.IdleLaws.{same_idle-told}
+use Rattle.desk_rules.specs.Made.{Made, made_in, installed}
+use Rattle.desk_rules.specs.Position.{Position}
 use Rattle.command_history.specs.declared.events.Accepted.{Accepted}
 use Rattle.command_history.specs.declared.events.Event.{Event}
 use Rattle.command_history.specs.declared.events.Event.TheVariants.{Added, Ended}

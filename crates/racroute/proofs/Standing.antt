@@ -5,13 +5,13 @@ use Rattle.racf_outside.specs.Crashes.{Leaves}
 use Rattle.racf_outside.specs.Disk.{History, Now}
 use Rattle.checkpoint_disks.specs.declared.counting.Side.TheVariants.{First, Second}
 use Rattle.racf_checkpoint.specs.Stored.{StoreOn, disk_on}
-use Rattle.racf_desk.specs.declared.answers.Ready.{Ready}
-use Rattle.racf_desk.specs.Durable.{SameIdle, IdleDisk, idle_of, BesideIdle, LeavesIt, StaysEither}
-use Rattle.racf_desk.specs.Made.{Made, made_at, made_in, installed}
-use Rattle.racf_desk.specs.Outcome.{outcome}
-use Rattle.racf_desk.specs.Position.{Position}
-use Rattle.racf_desk.specs.Recovery.{StandsFor, StandsForEither}
-use Rattle.racf_desk.proofs.IdleLaws.{same_idle-told, leaves-both}
+use Rattle.desk_rules.specs.declared.answers.Ready.{Ready}
+use Rattle.desk_rules.specs.Durable.{SameIdle, IdleDisk, idle_of, BesideIdle, LeavesIt, StaysEither}
+use Rattle.desk_rules.specs.Made.{Made, made_at, made_in, installed}
+use Rattle.desk_rules.specs.Outcome.{outcome}
+use Rattle.desk_rules.specs.Position.{Position}
+use Rattle.desk_rules.specs.Recovery.{StandsFor, StandsForEither}
+use Rattle.desk_rules.proofs.IdleLaws.{same_idle-told, leaves-both}
 use Rattle.command_history.specs.declared.events.Accepted.{Accepted}
 use Rattle.command_history.specs.Reached.{reached, record_of}
 use Rattle.racroute.specs.Core.{Core}

@@ -3,7 +3,7 @@ use Rattle.std.specs.Prelude.{OnOk, OnErr, is_some}
 use Rattle.std.proofs.Common.{not, ◌&&◌, nat_lt, ◌<◌, ◌≡◌, ◌⊎◌, inl, inr, Result, Ok, Err, ℕ, ◌||◌, Bool, true, false, List, [], ◌∷◌, ◌++◌, Option, None, refl, sym, ◌∙◌, ap, subst, arith, nat_eq, if◌then◌else◌}
 use Rattle.std.proofs.lemmas.Bool.Decides.{nat_tests}
 use Rattle.racf_outside.specs.Disk.{History}
-use Rattle.racf_desk.specs.Position.{Position}
+use Rattle.desk_rules.specs.Position.{Position}
 use Rattle.command_history.specs.declared.events.Accepted.{Accepted}
 use Rattle.command_history.specs.declared.events.Event.{Event}
 use Rattle.command_history.specs.declared.events.Event.TheVariants.{Ended}
@@ -11,7 +11,7 @@ use Rattle.command_history.specs.Events.{entries_of, failed_of, is_ended, Extend
 use Rattle.command_history.specs.Reached.{reached, AreLegal}
 use Rattle.command_history.proofs.Leading.{reached_ended}
 use Rattle.command_history.proofs.Extensions.{extends_push, extends_trans, learned_all}
-use Rattle.racf_desk.specs.Made.{number_at}
+use Rattle.desk_rules.specs.Made.{number_at}
 use Rattle.racroute.proofs.Replying.{extends_self}
 use Rattle.raclist_snapshots.specs.Publishing.{Publishing, ended_with}
 use Rattle.racroute.specs.Core.{Core, is_over, is_waited, number_behind, told}

@@ -1,8 +1,8 @@
 -- What contracts see of an office, of passes and of ends.
 use Rattle.std.specs.Prelude.{ℕ, ◌||◌, ◌&&◌, not, nat_eq, nat_lt, is_some, Bool, List, [], ◌∷◌, ◌++◌, zero, suc, Option, if◌then◌else◌}
 use Rattle.racf_checkpoint.specs.Stored.{StoreOn}
-use Rattle.racf_desk.specs.Position.{Position}
-use Rattle.racf_desk.specs.Made.{number_at}
+use Rattle.desk_rules.specs.Position.{Position}
+use Rattle.desk_rules.specs.Made.{number_at}
 use Rattle.command_history.specs.declared.events.Accepted.{Accepted}
 use Rattle.command_history.specs.declared.events.Event.{Event}
 use Rattle.command_history.specs.Reached.{reached}

@@ -4,10 +4,10 @@ use mathlib.Core.List.{IsPrefix}
 use Rattle.racf_outside.specs.Crashes.{StaysIn}
 use Rattle.racf_outside.specs.Disk.{History}
 use Rattle.journal_records.specs.declared.record.CommandRecord.{CommandRecord}
-use Rattle.racf_desk.specs.Durable.{IdleDisk, BesideIdle, LeavesBoth}
-use Rattle.racf_desk.specs.Outcome.{outcome}
-use Rattle.racf_desk.specs.Position.{Position, position_behind}
-use Rattle.racf_desk.specs.Recovery.{StandsFor, StandsForEither}
+use Rattle.desk_rules.specs.Durable.{IdleDisk, BesideIdle, LeavesBoth}
+use Rattle.desk_rules.specs.Outcome.{outcome}
+use Rattle.desk_rules.specs.Position.{Position, position_behind}
+use Rattle.desk_rules.specs.Recovery.{StandsFor, StandsForEither}
 use Rattle.command_history.specs.declared.events.Accepted.{Accepted}
 use Rattle.command_history.specs.declared.events.Event.{Event}
 use Rattle.command_history.specs.Events.{failed_of}

@@ -4,10 +4,10 @@ use Rattle.racf_outside.specs.Causes.{Rose}
 use Rattle.racf_outside.specs.Disk.{History}
 use Rattle.checkpoint_disks.specs.declared.counting.Side.TheVariants.{First, Second}
 use Rattle.racf_checkpoint.specs.Stored.{disk_on}
-use Rattle.racf_desk.specs.declared.answers.Ready.{Ready}
-use Rattle.racf_desk.specs.Durable.{IdleDisk, idle_of}
-use Rattle.racf_desk.specs.Made.{made_in, made_of_outcome}
-use Rattle.racf_desk.specs.Position.{Position}
+use Rattle.desk_rules.specs.declared.answers.Ready.{Ready}
+use Rattle.desk_rules.specs.Durable.{IdleDisk, idle_of}
+use Rattle.desk_rules.specs.Made.{made_in, made_of_outcome}
+use Rattle.desk_rules.specs.Position.{Position}
 use Rattle.command_history.specs.declared.events.Accepted.{Accepted}
 use Rattle.command_history.specs.declared.events.Event.{Event}
 use Rattle.command_history.specs.Events.{entries_of, is_ended}

@@ -4,12 +4,12 @@ use Rattle.racf_outside.specs.Causes.{Rose}
 use Rattle.racf_outside.specs.Disk.{History}
 use Rattle.command_parser.specs.Canonical.{canonical}
 use Rattle.journal_records.specs.declared.record.CommandRecord.{CommandRecord}
-use Rattle.racf_desk.specs.declared.refusal.Refusal.{Refusal}
-use Rattle.racf_desk.specs.declared.answers.Reply.{Reply}
-use Rattle.racf_desk.specs.declared.answers.Reply.TheVariants as reply
-use Rattle.racf_desk.specs.Durable.{SameIdle, StaysEither}
-use Rattle.racf_desk.specs.Outcome.{outcome}
-use Rattle.racf_desk.specs.Position.{Position, position_behind}
+use Rattle.desk_rules.specs.declared.refusal.Refusal.{Refusal}
+use Rattle.desk_rules.specs.declared.answers.Reply.{Reply}
+use Rattle.desk_rules.specs.declared.answers.Reply.TheVariants as reply
+use Rattle.desk_rules.specs.Durable.{SameIdle, StaysEither}
+use Rattle.desk_rules.specs.Outcome.{outcome}
+use Rattle.desk_rules.specs.Position.{Position, position_behind}
 use Rattle.command_history.specs.declared.events.Accepted.{Accepted}
 use Rattle.command_history.specs.declared.events.Event.{Event}
 use Rattle.command_history.specs.declared.events.Event.TheVariants.{Added, Ended}
@@ -144,3 +144,8 @@ abbrev pub IsAmiss : Position → (number : ℕ) → AfterFault → (old new : S
 IsAmiss base number (fault.Final last) old new =
     (last < number) × (last ≡ number_behind base new.events) × (is_ended new.events ≡ true) × (new.learned ≡ (old.learned + 1) % 2 ^ 64)
 IsAmiss base number fault.NoMemory old new = new ≡ old
+
+-- Where memory was wanting, what was asked is as it was.
+abbrev pub StaysFor : {T : Type 0} → AfterFault → T → T → Type 0
+StaysFor (fault.Final last) old new = Unit {0}
+StaysFor fault.NoMemory old new = new ≡ old

@@ -1,6 +1,6 @@
 //! What is made ready before a command is committed.
 ghost use Rattle.std.specs.Prelude.{◌≡◌, ◌+◌, ◌++◌, ◌∷◌, ◌<◌, [], Some, None, false, IfOk, OnOk, OnErr, vec_len, vec_capacity};
-ghost use Rattle.racf_desk.specs.Made.{installed, made_in};
+ghost use Rattle.desk_rules.specs.Made.{installed, made_in};
 ghost use Rattle.command_history.specs.declared.events.Event.TheVariants.{Added};
 ghost use Rattle.command_history.specs.Events.{entries_of, is_ended};
 ghost use Rattle.command_history.specs.Reached.{reached, AreLegal};

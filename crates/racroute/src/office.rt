@@ -4,8 +4,8 @@ ghost use Rattle.std.specs.List.{All, sum_by};
 ghost use Rattle.racf_outside.specs.Causes.{Rose};
 ghost use Rattle.checkpoint_disks.specs.declared.counting.Side.TheVariants.{First, Second};
 ghost use Rattle.racf_checkpoint.specs.Stored.{disk_on, pick};
-ghost use Rattle.racf_desk.specs.Durable.{idle_of};
-ghost use Rattle.racf_desk.specs.Made.{number_at};
+ghost use Rattle.desk_rules.specs.Durable.{idle_of};
+ghost use Rattle.desk_rules.specs.Made.{number_at};
 ghost use Rattle.command_history.specs.declared.events.Event.{Event};
 ghost use Rattle.command_history.specs.Events.{all_of, Extends};
 ghost use Rattle.command_history.specs.Reached.{reached, AreLegal};
@@ -13,7 +13,7 @@ ghost use Rattle.raclist_snapshots.specs.Publishing.{ended_with};
 ghost use Rattle.racroute.specs.Core.{is_over, is_waited, number_behind, told};
 ghost use Rattle.racroute.specs.Disks.{StandAt, StaysAlong};
 ghost use Rattle.racroute.specs.Kept.{fault_count};
-ghost use Rattle.racroute.specs.Replies.{given_by, IsAmiss, IsNoted, Learns, Leaves, Says};
+ghost use Rattle.racroute.specs.Replies.{given_by, IsAmiss, IsNoted, Learns, Leaves, Says, StaysFor};
 
 use crate::holding::hold;
 use crate::passes::{DeckEnd, DeckPass};
@@ -22,8 +22,8 @@ use crate::waiting::AfterFault;
 use access_levels::Id;
 use command_history::laws::an_entry_has_the_record_of_its_command;
 use command_history::{Accepted, Naming};
+use desk_rules::laws::accepted_commands_are_written;
 use left_right::Absorb;
-use racf_desk::laws::accepted_commands_are_written;
 use racf_desk::{Desk, Reply};
 use racf_outside::{Disk, Two};
 use racf_profiles::NoMemory;
@@ -78,7 +78,7 @@ impl<
     D: Disk,
 > Model for Office<J, T, O, R, S, F, P, D> {
     ghost use Rattle.std.specs.Prelude.{◌≡◌, ◌+◌, None, false, is_some};
-    ghost use Rattle.racf_desk.specs.Made.{number_at};
+    ghost use Rattle.desk_rules.specs.Made.{number_at};
     ghost use Rattle.racroute.specs.Core.{Core};
     ghost use Rattle.racroute.specs.Kept.{disks_before, IsOffice};
 
@@ -346,7 +346,8 @@ impl<
     ///
     /// # Errors
     ///
-    /// `Final`, where nothing more is accepted and they are fewer; or memory is wanting for the note.
+    /// `Final`, where nothing more is accepted and they are fewer; or memory is wanting for the note, and nothing has
+    /// changed.
     pub fn after(&mut self, caller: &mut Caller<J>, number: u64) -> Result<(), AfterFault>
         requires { is_waited J.base number self.old ≡ false }
         ensures there { OnOk result (number ≤ number_behind J.base caller.new.events) }
@@ -354,6 +355,7 @@ impl<
         ensures amiss { IfErr result (λ fault. IsAmiss J.base number fault caller.old caller.new) }
         ensures later { Extends caller.old.events caller.new.events }
         ensures office { (self.new ≡ self.old) ⊎ (self.new ≡ told self.old) }
+        ensures same { IfErr result (λ fault. StaysFor fault self.old self.new) }
     {
         self.publisher.covers(caller);
         let note = match self.tell() {

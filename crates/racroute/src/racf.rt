@@ -3,8 +3,8 @@ ghost use Rattle.std.specs.Prelude.{◌≡◌, ◌≢◌, ◌+◌, ◌%◌, ◌^
 ghost use Rattle.std.specs.List.{All, sum_by};
 ghost use Rattle.racf_outside.specs.Causes.{Rose};
 ghost use Rattle.racf_checkpoint.specs.Stored.{pick};
-ghost use Rattle.racf_desk.specs.Durable.{idle_of};
-ghost use Rattle.racf_desk.specs.Made.{number_at};
+ghost use Rattle.desk_rules.specs.Durable.{idle_of};
+ghost use Rattle.desk_rules.specs.Made.{number_at};
 ghost use Rattle.command_history.specs.declared.events.Event.{Event};
 ghost use Rattle.command_history.specs.Events.{all_of, Extends};
 ghost use Rattle.command_history.specs.Reached.{reached, AreLegal};

@@ -146,9 +146,9 @@ impl RowTables {
     ///
     /// # Errors
     ///
-    /// Want of memory, where an edit adds a row: the rows are as they were.
+    /// Want of memory, where an edit adds a row: the rows are as they were, and there is no less room.
     pub fn reserve(&mut self, edits: &[Edit]) -> Result<(), NoMemory>
-        ensures rows { self.new.rows ≡ self.old.rows }
+        ensures kept { HasAtLeast self.old self.new }
         ensures room { OnOk result (HasRoom self.new edits.now) }
         ensures err { OnErr result (IsTrue (list_any (adds self.old.rows) edits.now)) }
     {

@@ -6,7 +6,7 @@
 
 ghost use Rattle.std.specs.Prelude.{◌≡◌, ◌<◌, [], false, None, IfSome};
 ghost use Rattle.std.specs.Arc.{arc_value};
-ghost use Rattle.racf_desk.specs.Position.{first_position};
+ghost use Rattle.desk_rules.specs.Position.{first_position};
 ghost use Rattle.published_desk.specs.Standing.{AreTogether, nothing_published};
 
 use anyhow::{Result, anyhow};

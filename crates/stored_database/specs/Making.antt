@@ -23,7 +23,8 @@ abbrev pub Makes : Result Contents RowsFault → Result Rows ℕ → Type 0
 Makes (Ok database) read = read ≡ Ok database.rows
 Makes (Err fault) read = Tells fault read
 
--- A fault is the first place at which rows aren't lawful, unless memory ran out.
+-- A fault is the first place at which rows aren't lawful, unless memory ran out: no clause says when there is enough, and
+-- tests alone show that it isn't told then.
 abbrev pub IsFirst : Rows → RowsFault → Type 0
 IsFirst rows faults.NoMemory = Unit {0}
 IsFirst rows (faults.BadRow place) = FirstUnlawful rows place

@@ -1,4 +1,4 @@
-//! No code, but tests: decks and request files, side by side over one history.
+//! No code, but tests: decks and request files, side by side over one history, and callers that ask.
 #![tactic(auto)]
 
 #[cfg(test)]

@@ -1,14 +1,21 @@
 //! Runs of decks and request files. What is printed depends on how the workers meet, but where a gate holds them.
 
+mod asking;
 mod gates;
+mod memory;
 mod runs;
 
+use self::asking::codes;
 use self::gates::{Hold, Holding};
 use self::runs::{Asked, Told, number_of, ran, ran_on_failing};
+use command_history::Opened;
+use published_desk::new_desk;
 use racf_outside::{MemoryDisk, Two};
-use racf_stream::Status;
 use racf_workers::Idle;
+use statements::Status;
 use std::alloc::Global;
+use std::marker::Brand;
+use std::sync::Arc;
 use std::test::*;
 
 /// A deck of five commands, and a file that waits for each of the first four, and for more than will come.
@@ -178,5 +185,19 @@ fn the_second_sync_of_the_fourth_command_fails(rt: HostRuntime) -> Result<(), Fa
     assert!(rt; (b'0'..=b'3').contains(number) && waited == WAITED);
     let numbers = opened_twice(rt.alloc(), disks)?;
     assert_eq!(rt; numbers, [4, 3]);
+    Ok(())
+}
+
+/// Each question is one on the newest command, though nobody told the caller of any.
+#[test]
+fn who_asks_is_answered_on_the_newest_command(rt: HostRuntime) -> Result<(), Fail> {
+    let mut desk = new_desk(rt.alloc())?;
+    let image = Arc::try_clone(desk.image());
+    let told = match image {
+        Ok(image) => codes::<Brand, HostRuntime>(&rt, rt.alloc(), Opened::new(), image, &mut desk),
+        Err(_) => Err("memory".into()),
+    };
+    let _ = desk.into_disks();
+    assert_eq!(rt; told?, [0, 0]);
     Ok(())
 }

@@ -1,8 +1,8 @@
 -- What contracts see of a desk between two calls, and what stays as it was behind a command that isn't accepted.
 use Rattle.std.specs.Prelude.{◌≡◌, ℕ, Bool, true, false, None, Result, Ok, Err}
 use Rattle.racf_checkpoint.specs.Stored.{StoreOn}
-use Rattle.racf_desk.specs.Position.{Position}
-use Rattle.racf_desk.specs.Made.{DeskOn}
+use Rattle.desk_rules.specs.Position.{Position}
+use Rattle.desk_rules.specs.Made.{DeskOn}
 use Rattle.yilthen.specs.declared.error.Error.{Error}
 use Rattle.yilthen.specs.declared.error.Error.TheVariants as error
 

@@ -5,9 +5,9 @@ use Rattle.acee.specs.declared.request.VerifyFault.{VerifyFault}
 use Rattle.acee.specs.declared.request.VerifyFault.TheVariants as verify
 use Rattle.racf_checkpoint.specs.declared.fault.StoreFault.{StoreFault}
 use Rattle.racf_checkpoint.specs.declared.fault.StoreFault.TheVariants as fault
-use Rattle.racf_desk.specs.declared.answers.Reply.{Reply}
-use Rattle.racf_desk.specs.declared.answers.Reply.TheVariants as reply
-use Rattle.racf_desk.specs.Words.{refusal_words}
+use Rattle.desk_rules.specs.declared.answers.Reply.{Reply}
+use Rattle.desk_rules.specs.declared.answers.Reply.TheVariants as reply
+use Rattle.desk_rules.specs.Words.{refusal_words}
 use Rattle.request_files.specs.Answers.{verify_fault_words}
 use Rattle.yilthen.specs.declared.error.Error.{Error}
 use Rattle.yilthen.specs.declared.error.Error.TheVariants as error

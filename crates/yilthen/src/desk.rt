@@ -36,14 +36,14 @@ impl<D: Disk> Model for Desk<D> {
 }
 
 impl<D: Disk> Desk<D> {
-    ghost use Rattle.racf_desk.specs.Outcome.{outcome};
-    ghost use Rattle.racf_desk.specs.Position.{first_position, compacted, position_after};
-    ghost use Rattle.racf_desk.specs.Made.{number_at, IsAnswer};
-    ghost use Rattle.racf_desk.specs.Recovery.{standing, Refuses};
-    ghost use Rattle.racf_desk.specs.Durable.{LeavesIt, LeavesCheckpoint, SameIdle, SaysEpoch, StaysEither, StaysThere};
-    ghost use Rattle.racf_desk.specs.Executing.{SayWhatWasPossible};
-    ghost use Rattle.racf_desk.specs.Formatting.{LeavesNoOlder};
-    ghost use Rattle.racf_desk.specs.Reopening.{LeadOn};
+    ghost use Rattle.desk_rules.specs.Outcome.{outcome};
+    ghost use Rattle.desk_rules.specs.Position.{first_position, compacted, position_after};
+    ghost use Rattle.desk_rules.specs.Made.{number_at, IsAnswer};
+    ghost use Rattle.desk_rules.specs.Recovery.{standing, Refuses};
+    ghost use Rattle.desk_rules.specs.Durable.{LeavesIt, LeavesCheckpoint, SameIdle, SaysEpoch, StaysEither, StaysThere};
+    ghost use Rattle.desk_rules.specs.Executing.{SayWhatWasPossible};
+    ghost use Rattle.desk_rules.specs.Formatting.{LeavesNoOlder};
+    ghost use Rattle.desk_rules.specs.Reopening.{LeadOn};
     ghost use Rattle.yilthen.specs.AtRest.{running, KeepsDesk, FailsToCompact};
     ghost use Rattle.yilthen.specs.Errors.{AsReply, OfStore};
 

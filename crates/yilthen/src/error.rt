@@ -5,8 +5,8 @@ ghost use Rattle.request_files.specs.Answers.{verify_fault_words};
 ghost use Rattle.yilthen.specs.Errors.{OfStore};
 
 use acee::VerifyFault;
+use desk_rules::Refusal;
 use racf_checkpoint::StoreFault;
-use racf_desk::Refusal;
 use std::alloc::Global;
 use std::fmt;
 
@@ -99,7 +99,7 @@ fn verify_words(fault: VerifyFault) -> &'static str
 impl Refused {
     ghost use Rattle.std.specs.Prelude.{Some};
     ghost use Rattle.std.specs.Fmt.{DisplaysOnOk};
-    ghost use Rattle.racf_desk.specs.Words.{refusal_words};
+    ghost use Rattle.desk_rules.specs.Words.{refusal_words};
 
     /// Writes why.
     fn write<W: fmt::Write>(&self, f: &mut fmt::Formatter<W>) -> fmt::Result
@@ -116,7 +116,7 @@ impl Refused {
 
 impl fmt::Display for Refused {
     ghost use Rattle.std.specs.Prelude.{Some};
-    ghost use Rattle.racf_desk.specs.Words.{refusal_words};
+    ghost use Rattle.desk_rules.specs.Words.{refusal_words};
 
     ghost output = { λ refused. Some (refusal_words refused.refusal) };
 

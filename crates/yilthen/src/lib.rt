@@ -25,9 +25,9 @@ pub use acee::{Acee, VerifyFault, VerifyRequest};
 pub use audit_records::logged;
 pub use decision::{Decision, Request, Rule, auth, fastauth};
 pub use desk::Desk;
+pub use desk_rules::Refusal;
 pub use error::{Error, Refused};
 pub use generic_names::{NameKind, Resource};
-pub use racf_desk::Refusal;
 pub use racf_files::{
     DatabaseFile, DiskTrouble, FileDisk, Reason, occupy_standard_streams, open_both,
 };

@@ -2,21 +2,20 @@
 ghost use Rattle.std.specs.Prelude.{◌≡◌, ◌&&◌, Some, is_some};
 ghost use Rattle.std.specs.Option.{option_map};
 ghost use Rattle.std.specs.Result.{result_err};
-ghost use Rattle.command_parser.specs.declared.fields.CommandFields.TheVariants as fields;
+ghost use Rattle.command_fields.specs.declared.fields.CommandFields.TheVariants as fields;
 ghost use Rattle.racf_profiles.specs.Lookup.{group_of};
-ghost use Rattle.command_effects.specs.Effects.{new_group, altered_group};
-ghost use Rattle.command_conflicts.specs.Conflicts.{if_met, is_root, has_subgroup, cycle, owner_not_superior, owner_apart, groups_full, meets};
+ghost use Rattle.command_rules.specs.Effects.{new_group, altered_group};
+ghost use Rattle.command_rules.specs.Conflicts.{if_met, is_root, has_subgroup, cycle, owner_not_superior, owner_apart, groups_full, meets};
 
-use crate::conflict::{Conflict, Holder, Limit};
 use crate::limits::check_count;
 use access_levels::Id;
-use command_effects::{altered_group, new_group};
-use command_parser::{AddGroup, AltGroup, DelGroup, Issuer};
+use command_fields::{AddGroup, AltGroup, DelGroup, Issuer};
+use command_rules::{Conflict, Holder, Limit, altered_group, new_group};
 use racf_profiles::{Group, View, sys1};
 use row_tables::{MOST_GROUPS, RowTables};
 
 /// No group is below the group.
-#[tactic(auto, unfolding(crate::specs::Conflicts::has_subgroup))]
+#[tactic(auto, unfolding(command_rules::specs::Conflicts::has_subgroup))]
 pub(super) fn check_no_subgroup(tables: &RowTables, group: Id) -> Result<(), Conflict>
     ensures { result_err result ≡ has_subgroup group tables.now.rows }
 {
@@ -27,7 +26,7 @@ pub(super) fn check_no_subgroup(tables: &RowTables, group: Id) -> Result<(), Con
 }
 
 /// The new superior group isn't the group or below it.
-#[tactic(auto, unfolding(crate::specs::Conflicts::cycle))]
+#[tactic(auto, unfolding(command_rules::specs::Conflicts::cycle))]
 pub(super) fn check_cycle(
     tables: &RowTables,
     group: Id,
@@ -69,7 +68,7 @@ pub(super) fn check_new_owner(
 }
 
 /// A group that would own the altered group is its superior group.
-#[tactic(auto, unfolding(crate::specs::Conflicts::owner_not_superior))]
+#[tactic(auto, unfolding(command_rules::specs::Conflicts::owner_not_superior))]
 pub(super) fn check_altered_owner(tables: &RowTables, command: &AltGroup) -> Result<(), Conflict>
     ensures { result_err result ≡ owner_not_superior command.now.supgroup command.now.owner (option_map (altered_group command.now) (group_of command.now.group tables.now.rows)) tables.now.rows }
 {
@@ -83,7 +82,7 @@ pub(super) fn check_altered_owner(tables: &RowTables, command: &AltGroup) -> Res
 }
 
 /// The same, of a group as it is after the command.
-#[tactic(auto, unfolding(crate::specs::Conflicts::owner_not_superior))]
+#[tactic(auto, unfolding(command_rules::specs::Conflicts::owner_not_superior))]
 fn check_owner_superior(
     tables: &RowTables,
     superior: Option<Id>,
@@ -115,7 +114,7 @@ fn check_owner_apart(tables: &RowTables, group: &Group) -> Result<(), Conflict>
 }
 
 /// One more group is within the limit.
-#[tactic(auto, unfolding(crate::specs::Conflicts::groups_full))]
+#[tactic(auto, unfolding(command_rules::specs::Conflicts::groups_full))]
 pub(super) fn check_group_fits(
     tables: &RowTables,
     issuer: &Issuer,
@@ -149,7 +148,7 @@ pub(super) fn check_root_gone(command: &DelGroup) -> Result<(), Conflict>
 }
 
 /// Whether the group is SYS1.
-#[tactic(auto, unfolding(crate::specs::Conflicts::is_root))]
+#[tactic(auto, unfolding(command_rules::specs::Conflicts::is_root))]
 fn is_root(group: Id) -> bool
     ensures { result ≡ is_root group }
 {

@@ -2,15 +2,14 @@
 ghost use Rattle.std.specs.Prelude.{◌≡◌, [], length};
 ghost use Rattle.std.specs.Result.{result_err};
 ghost use Rattle.racf_profiles.specs.Limits.{most_members, most_categories};
-ghost use Rattle.command_parser.specs.declared.fields.CommandFields.TheVariants as fields;
-ghost use Rattle.command_effects.specs.Members.{members_after, categories_defined};
-ghost use Rattle.command_conflicts.specs.Required.{over};
-ghost use Rattle.command_conflicts.specs.ProfileConflicts.{members_full};
+ghost use Rattle.command_fields.specs.declared.fields.CommandFields.TheVariants as fields;
+ghost use Rattle.command_rules.specs.Members.{members_after, categories_defined};
+ghost use Rattle.command_rules.specs.Required.{over};
+ghost use Rattle.command_rules.specs.ProfileConflicts.{members_full};
 
-use crate::conflict::{Conflict, Limit};
 use crate::limits::check_count;
-use command_effects::{categories_count, members_count};
-use command_parser::{Issuer, RAlter, RDefine};
+use command_fields::{Issuer, RAlter, RDefine};
+use command_rules::{Conflict, Limit, categories_count, members_count};
 use racf_profiles::{Members, View};
 use row_tables::{MOST_CATEGORIES, MOST_MEMBERS, RowTables};
 

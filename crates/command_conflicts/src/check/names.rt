@@ -3,16 +3,16 @@ ghost use Rattle.std.specs.Prelude.{◌≡◌, is_some, codes, bytes_eq};
 ghost use Rattle.racf_profiles.specs.Lookup.{class_of};
 ghost use Rattle.std.specs.Result.{result_err};
 ghost use Rattle.racf_profiles.specs.Names.{is_taken, is_class_word};
-ghost use Rattle.command_conflicts.specs.Conflicts.{no_user, no_group, no_owner, no_named_group, no_class, name_taken, not_connected, default_not_connected, default_group, has_profile, has_connected};
+ghost use Rattle.command_rules.specs.Conflicts.{no_user, no_group, no_owner, no_named_group, no_class, name_taken, not_connected, default_not_connected, default_group, has_profile, has_connected};
 
-use crate::conflict::{Conflict, Holder, Named};
 use access_levels::Id;
-use command_parser::Ids;
+use command_fields::Ids;
+use command_rules::{Conflict, Holder, Named};
 use racf_profiles::View;
 use row_tables::{RowTables, is_connected_to};
 
 /// There is a user of that ID.
-#[tactic(auto, unfolding(crate::specs::Required::no_user))]
+#[tactic(auto, unfolding(command_rules::specs::Required::no_user))]
 pub(super) fn check_user(tables: &RowTables, id: Id) -> Result<(), Conflict>
     ensures { result_err result ≡ no_user id tables.now.rows }
 {
@@ -23,7 +23,7 @@ pub(super) fn check_user(tables: &RowTables, id: Id) -> Result<(), Conflict>
 }
 
 /// There is a group of that name.
-#[tactic(auto, unfolding(crate::specs::Required::no_group))]
+#[tactic(auto, unfolding(command_rules::specs::Required::no_group))]
 pub(super) fn check_group(tables: &RowTables, id: Id) -> Result<(), Conflict>
     ensures { result_err result ≡ no_group id tables.now.rows }
 {
@@ -34,7 +34,7 @@ pub(super) fn check_group(tables: &RowTables, id: Id) -> Result<(), Conflict>
 }
 
 /// The same, where a group is named.
-#[tactic(auto, unfolding(crate::specs::Required::no_named_group))]
+#[tactic(auto, unfolding(command_rules::specs::Required::no_named_group))]
 pub(super) fn check_named_group(tables: &RowTables, group: Option<Id>) -> Result<(), Conflict>
     ensures { result_err result ≡ no_named_group group tables.now.rows }
 {
@@ -45,7 +45,7 @@ pub(super) fn check_named_group(tables: &RowTables, group: Option<Id>) -> Result
 }
 
 /// An owner that is named is a user or a group.
-#[tactic(auto, unfolding(crate::specs::Required::no_owner))]
+#[tactic(auto, unfolding(command_rules::specs::Required::no_owner))]
 pub(super) fn check_owner(tables: &RowTables, owner: Option<Id>) -> Result<(), Conflict>
     ensures { result_err result ≡ no_owner owner tables.now.rows }
 {
@@ -62,7 +62,7 @@ pub(super) fn check_owner(tables: &RowTables, owner: Option<Id>) -> Result<(), C
 }
 
 /// Neither a user nor a group has the name.
-#[tactic(auto, unfolding(crate::specs::Required::name_taken))]
+#[tactic(auto, unfolding(command_rules::specs::Required::name_taken))]
 pub(super) fn check_free(tables: &RowTables, id: Id) -> Result<(), Conflict>
     ensures { result_err result ≡ name_taken id tables.now.rows }
 {
@@ -74,7 +74,7 @@ pub(super) fn check_free(tables: &RowTables, id: Id) -> Result<(), Conflict>
 }
 
 /// Each class is in the table, or is the word USER.
-#[tactic(auto, unfolding(crate::specs::Required::no_class))]
+#[tactic(auto, unfolding(command_rules::specs::Required::no_class))]
 pub(super) fn check_classes(tables: &RowTables, classes: &Ids) -> Result<(), Conflict>
     ensures { result_err result ≡ no_class classes.now tables.now.rows }
 {
@@ -89,7 +89,7 @@ pub(super) fn check_classes(tables: &RowTables, classes: &Ids) -> Result<(), Con
 }
 
 /// The user is connected to the group.
-#[tactic(auto, unfolding(crate::specs::Required::not_connected))]
+#[tactic(auto, unfolding(command_rules::specs::Required::not_connected))]
 pub(super) fn check_connected(tables: &RowTables, user: Id, group: Id) -> Result<(), Conflict>
     ensures { result_err result ≡ not_connected user group tables.now.rows }
 {
@@ -105,7 +105,7 @@ pub(super) fn check_connected(tables: &RowTables, user: Id, group: Id) -> Result
 }
 
 /// The same of a default group that is named.
-#[tactic(auto, unfolding(crate::specs::Required::default_not_connected))]
+#[tactic(auto, unfolding(command_rules::specs::Required::default_not_connected))]
 pub(super) fn check_default_connected(
     tables: &RowTables,
     user: Id,
@@ -120,7 +120,7 @@ pub(super) fn check_default_connected(
 }
 
 /// The group isn't the user's default group.
-#[tactic(auto, unfolding(crate::specs::Conflicts::default_group))]
+#[tactic(auto, unfolding(command_rules::specs::Conflicts::default_group))]
 pub(super) fn check_not_default(tables: &RowTables, user: Id, group: Id) -> Result<(), Conflict>
     ensures { result_err result ≡ default_group user group tables.now.rows }
 {
@@ -137,7 +137,7 @@ pub(super) fn check_not_default(tables: &RowTables, user: Id, group: Id) -> Resu
 }
 
 /// No user is connected to the group.
-#[tactic(auto, unfolding(crate::specs::Conflicts::has_connected))]
+#[tactic(auto, unfolding(command_rules::specs::Conflicts::has_connected))]
 pub(super) fn check_none_connected(tables: &RowTables, group: Id) -> Result<(), Conflict>
     ensures { result_err result ≡ has_connected group tables.now.rows }
 {
@@ -148,7 +148,7 @@ pub(super) fn check_none_connected(tables: &RowTables, group: Id) -> Result<(), 
 }
 
 /// No data set profile begins with the ID.
-#[tactic(auto, unfolding(crate::specs::Conflicts::has_profile))]
+#[tactic(auto, unfolding(command_rules::specs::Conflicts::has_profile))]
 pub(super) fn check_no_profile(tables: &RowTables, id: Id) -> Result<(), Conflict>
     ensures { result_err result ≡ has_profile id tables.now.rows }
 {

@@ -4,20 +4,19 @@ ghost use Rattle.std.specs.List.{flat_map};
 ghost use Rattle.std.specs.Result.{result_err};
 ghost use Rattle.racf_profiles.specs.Lookup.{class_of};
 ghost use Rattle.racf_profiles.specs.State.{is_listed};
-ghost use Rattle.command_values.specs.declared.log_options.LogClause.{LogClause};
-ghost use Rattle.command_conflicts.specs.OptionConflicts.{absent_class, class_without_generic, unlisted_class, may_be_listed, never_listed_class, always_active_class, logged_classes, refreshed, listed_anew};
+ghost use Rattle.command_fields.specs.declared.log_clauses.LogClause.{LogClause};
+ghost use Rattle.command_rules.specs.OptionConflicts.{absent_class, class_without_generic, unlisted_class, may_be_listed, never_listed_class, always_active_class, logged_classes, refreshed, listed_anew};
 
 use super::names::has_class;
 use super::profiles::has_generic;
-use crate::conflict::Conflict;
 use access_levels::Id;
-use command_effects::dataset;
-use command_parser::{Ids, LogClause, SetRopts};
+use command_fields::{Ids, LogClause, SetRopts};
+use command_rules::{Conflict, dataset};
 use racf_profiles::class_facts;
 use row_tables::RowTables;
 
 /// Each class is in the table.
-#[tactic(auto, unfolding(crate::specs::OptionConflicts::absent_class))]
+#[tactic(auto, unfolding(command_rules::specs::OptionConflicts::absent_class))]
 pub(super) fn check_known_classes(tables: &RowTables, classes: &Ids) -> Result<(), Conflict>
     ensures { result_err result ≡ absent_class classes.now tables.now.rows }
 {
@@ -28,7 +27,7 @@ pub(super) fn check_known_classes(tables: &RowTables, classes: &Ids) -> Result<(
 }
 
 /// Each class of LOGOPTIONS is in the table.
-#[tactic(auto, unfolding(crate::specs::OptionConflicts::absent_class))]
+#[tactic(auto, unfolding(command_rules::specs::OptionConflicts::absent_class))]
 pub(super) fn check_logged_classes(tables: &RowTables, command: &SetRopts) -> Result<(), Conflict>
     ensures { result_err result ≡ absent_class (logged_classes command.now) tables.now.rows }
 {
@@ -61,7 +60,7 @@ fn first_absent(tables: &RowTables, classes: &[Id]) -> Option<Id>
 }
 
 /// Each class has generic profiles.
-#[tactic(auto, unfolding(crate::specs::OptionConflicts::class_without_generic))]
+#[tactic(auto, unfolding(command_rules::specs::OptionConflicts::class_without_generic))]
 pub(super) fn check_generic_classes(classes: &Ids) -> Result<(), Conflict>
     ensures { result_err result ≡ class_without_generic classes.now }
 {
@@ -72,7 +71,7 @@ pub(super) fn check_generic_classes(classes: &Ids) -> Result<(), Conflict>
 }
 
 /// Each class is RACLISTed.
-#[tactic(auto, unfolding(crate::specs::OptionConflicts::unlisted_class))]
+#[tactic(auto, unfolding(command_rules::specs::OptionConflicts::unlisted_class))]
 pub(super) fn check_listed_classes(tables: &RowTables, classes: &Ids) -> Result<(), Conflict>
     ensures { result_err result ≡ unlisted_class classes.now tables.now.rows }
 {
@@ -87,7 +86,7 @@ pub(super) fn check_listed_classes(tables: &RowTables, classes: &Ids) -> Result<
 }
 
 /// Each class of RACLIST with REFRESH is RACLISTed.
-#[tactic(auto, unfolding(crate::specs::OptionConflicts::unlisted_class))]
+#[tactic(auto, unfolding(command_rules::specs::OptionConflicts::unlisted_class))]
 pub(super) fn check_refreshed(tables: &RowTables, command: &SetRopts) -> Result<(), Conflict>
     ensures { result_err result ≡ unlisted_class (refreshed command.now) tables.now.rows }
 {
@@ -98,7 +97,7 @@ pub(super) fn check_refreshed(tables: &RowTables, command: &SetRopts) -> Result<
 }
 
 /// No class is one that is never inactive.
-#[tactic(auto, unfolding(crate::specs::OptionConflicts::always_active_class))]
+#[tactic(auto, unfolding(command_rules::specs::OptionConflicts::always_active_class))]
 pub(super) fn check_not_always_active(classes: &Ids) -> Result<(), Conflict>
     ensures { result_err result ≡ always_active_class classes.now }
 {
@@ -109,7 +108,7 @@ pub(super) fn check_not_always_active(classes: &Ids) -> Result<(), Conflict>
 }
 
 /// Each class may be RACLISTed.
-#[tactic(auto, unfolding(crate::specs::OptionConflicts::never_listed_class))]
+#[tactic(auto, unfolding(command_rules::specs::OptionConflicts::never_listed_class))]
 fn check_may_be_listed(classes: &Ids) -> Result<(), Conflict>
     ensures { result_err result ≡ never_listed_class classes.now }
 {
@@ -120,7 +119,7 @@ fn check_may_be_listed(classes: &Ids) -> Result<(), Conflict>
 }
 
 /// Each class of RACLIST without REFRESH may be RACLISTed.
-#[tactic(auto, unfolding(crate::specs::OptionConflicts::never_listed_class))]
+#[tactic(auto, unfolding(command_rules::specs::OptionConflicts::never_listed_class))]
 pub(super) fn check_listed_anew(command: &SetRopts) -> Result<(), Conflict>
     ensures { result_err result ≡ never_listed_class (listed_anew command.now) }
 {

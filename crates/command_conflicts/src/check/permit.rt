@@ -4,22 +4,21 @@ ghost use Rattle.std.specs.Option.{option_copied};
 ghost use Rattle.std.specs.Result.{result_err};
 ghost use Rattle.racf_profiles.specs.Counts.{entries_in};
 ghost use Rattle.racf_profiles.specs.Lookup.{profile_of};
-ghost use Rattle.command_conflicts.specs.ProfileConflicts.{is_unknown, named_unknown, no_permitted, standard_full, conditional_full, entries_full};
+ghost use Rattle.command_rules.specs.ProfileConflicts.{is_unknown, named_unknown, no_permitted, standard_full, conditional_full, entries_full};
 
 use super::names::is_taken;
-use crate::conflict::{Conflict, Limit};
 use crate::limits::{check_count, check_sum};
 use access_levels::Who;
 use access_lists::MOST_ENTRIES;
 use class_profiles::MOST_ENTRIES_IN_ALL;
-use command_effects::{conditional_count, standard_count};
-use command_parser::{Issuer, Permit};
+use command_fields::{Issuer, Permit};
+use command_rules::{Conflict, Limit, conditional_count, standard_count};
 use racf_profiles::Profile;
 use row_tables::RowTables;
 
 /// Each ID that gets access is `*`, a user or a group.
 #[inline(always)]
-#[tactic(auto, unfolding(crate::specs::ProfileConflicts::no_permitted))]
+#[tactic(auto, unfolding(command_rules::specs::ProfileConflicts::no_permitted))]
 pub(super) fn check_permitted(tables: &RowTables, command: &Permit) -> Result<(), Conflict>
     ensures { result_err result ≡ no_permitted command.now.delete command.now.id tables.now.rows }
 {

@@ -7,22 +7,21 @@ ghost use Rattle.generic_names.specs.Spelled.{first_qualifier};
 ghost use Rattle.racf_profiles.specs.Limits.{most_class_profiles, most_profiles};
 ghost use Rattle.racf_profiles.specs.Counts.{profile_count};
 ghost use Rattle.racf_profiles.specs.Lookup.{profile_of};
-ghost use Rattle.command_effects.specs.ProfileEffects.{dataset};
-ghost use Rattle.command_conflicts.specs.ProfileConflicts.{no_first_qualifier, no_such_class, no_resource_class, no_global_class, classless, no_profile, no_resource_profile, profile_taken, has_generic, not_generic, profiles_in};
-ghost use Rattle.command_conflicts.specs.Required.{over};
+ghost use Rattle.command_rules.specs.ProfileEffects.{dataset};
+ghost use Rattle.command_rules.specs.ProfileConflicts.{no_first_qualifier, no_such_class, no_resource_class, no_global_class, classless, no_profile, no_resource_profile, profile_taken, has_generic, not_generic, profiles_in};
+ghost use Rattle.command_rules.specs.Required.{over};
 
 use super::names::{check_owner, has_class};
-use crate::conflict::{Conflict, Limit, Named};
 use crate::limits::check_count;
 use access_levels::Id;
 use class_profiles::{MOST_CLASS_PROFILES, MOST_PROFILES};
-use command_effects::dataset;
+use command_rules::{Conflict, Limit, Named, dataset};
 use generic_names::{Pattern, first_qualifier};
 use racf_profiles::{FixedClass, Profile, View, class_facts};
 use row_tables::RowTables;
 
 /// The first qualifier of a data set profile is a user or a group.
-#[tactic(auto, unfolding(crate::specs::ProfileConflicts::no_first_qualifier))]
+#[tactic(auto, unfolding(command_rules::specs::ProfileConflicts::no_first_qualifier))]
 pub(super) fn check_first_qualifier(tables: &RowTables, name: &Pattern) -> Result<(), Conflict>
     ensures { result_err result ≡ no_first_qualifier name.now tables.now.rows }
 {
@@ -31,7 +30,7 @@ pub(super) fn check_first_qualifier(tables: &RowTables, name: &Pattern) -> Resul
 
 /// The class is in the table.
 #[inline(always)]
-#[tactic(auto, unfolding(crate::specs::ProfileConflicts::no_such_class))]
+#[tactic(auto, unfolding(command_rules::specs::ProfileConflicts::no_such_class))]
 pub(super) fn check_class(tables: &RowTables, class: Id) -> Result<(), Conflict>
     ensures { result_err result ≡ no_such_class class tables.now.rows }
 {
@@ -43,7 +42,7 @@ pub(super) fn check_class(tables: &RowTables, class: Id) -> Result<(), Conflict>
 }
 
 /// The class is in the table, and isn't that of the data sets.
-#[tactic(auto, unfolding(crate::specs::ProfileConflicts::no_resource_class, crate::specs::ProfileConflicts::no_such_class))]
+#[tactic(auto, unfolding(command_rules::specs::ProfileConflicts::no_resource_class, command_rules::specs::ProfileConflicts::no_such_class))]
 pub(super) fn check_resource_class(tables: &RowTables, class: Id) -> Result<(), Conflict>
     ensures { result_err result ≡ no_resource_class class tables.now.rows }
 {
@@ -54,7 +53,7 @@ pub(super) fn check_resource_class(tables: &RowTables, class: Id) -> Result<(), 
 }
 
 /// A profile of class GLOBAL has the name of a class.
-#[tactic(auto, unfolding(crate::specs::ProfileConflicts::no_global_class))]
+#[tactic(auto, unfolding(command_rules::specs::ProfileConflicts::no_global_class))]
 pub(super) fn check_global_class(
     tables: &RowTables,
     class: Id,
@@ -90,7 +89,7 @@ pub(super) fn check_profile(tables: &RowTables, class: Id, name: &Pattern) -> Re
 
 /// The same, where the profile of that name was looked up.
 #[inline(always)]
-#[tactic(auto, unfolding(crate::specs::ProfileConflicts::no_profile))]
+#[tactic(auto, unfolding(command_rules::specs::ProfileConflicts::no_profile))]
 pub(super) fn check_found(
     tables: &RowTables,
     class: Id,
@@ -107,7 +106,7 @@ pub(super) fn check_found(
 }
 
 /// The same of a class of resources.
-#[tactic(auto, unfolding(crate::specs::ProfileConflicts::no_resource_profile))]
+#[tactic(auto, unfolding(command_rules::specs::ProfileConflicts::no_resource_profile))]
 pub(super) fn check_resource_profile(
     tables: &RowTables,
     class: Id,
@@ -123,7 +122,7 @@ pub(super) fn check_resource_profile(
 
 /// There is no profile of that name.
 #[inline(always)]
-#[tactic(auto, unfolding(crate::specs::ProfileConflicts::profile_taken))]
+#[tactic(auto, unfolding(command_rules::specs::ProfileConflicts::profile_taken))]
 pub(super) fn check_profile_free(
     tables: &RowTables,
     class: Id,
@@ -166,7 +165,7 @@ fn profiles_in(tables: &RowTables, class: Id) -> usize
 }
 
 /// A generic name stands only in a class that has generic profiles.
-#[tactic(auto, unfolding(crate::specs::ProfileConflicts::not_generic))]
+#[tactic(auto, unfolding(command_rules::specs::ProfileConflicts::not_generic))]
 pub(super) fn check_generic(class: Id, name: &Pattern) -> Result<(), Conflict>
     ensures { result_err result ≡ not_generic class name.now }
 {

@@ -1,17 +1,16 @@
 //! Levels, categories and labels that a command names.
 ghost use Rattle.std.specs.Prelude.{◌≡◌, not, find};
-ghost use Rattle.command_effects.specs.Security.{is_category};
+ghost use Rattle.command_rules.specs.Security.{is_category};
 ghost use Rattle.std.specs.Result.{result_err};
-ghost use Rattle.command_conflicts.specs.Conflicts.{unknown_level, unknown_category, never_category, unknown_label};
+ghost use Rattle.command_rules.specs.Conflicts.{unknown_level, unknown_category, never_category, unknown_label};
 
-use crate::conflict::Conflict;
 use access_levels::Id;
-use command_effects::{is_category, is_label, level_number, was_category};
-use command_parser::Ids;
+use command_fields::Ids;
+use command_rules::{Conflict, is_category, is_label, level_number, was_category};
 use row_tables::RowTables;
 
 /// A level that is named is one.
-#[tactic(auto, unfolding(crate::specs::Required::unknown_level))]
+#[tactic(auto, unfolding(command_rules::specs::Required::unknown_level))]
 pub(super) fn check_level(tables: &RowTables, level: Option<Id>) -> Result<(), Conflict>
     ensures { result_err result ≡ unknown_level level tables.now.rows }
 {
@@ -25,7 +24,7 @@ pub(super) fn check_level(tables: &RowTables, level: Option<Id>) -> Result<(), C
 }
 
 /// Each category is one.
-#[tactic(auto, unfolding(crate::specs::Required::unknown_category))]
+#[tactic(auto, unfolding(command_rules::specs::Required::unknown_category))]
 pub(super) fn check_categories(tables: &RowTables, categories: &Ids) -> Result<(), Conflict>
     ensures { result_err result ≡ unknown_category categories.now tables.now.rows }
 {
@@ -46,7 +45,7 @@ fn first_no_category(tables: &RowTables, names: &[Id]) -> Option<Id>
 }
 
 /// Each category was one at some time.
-#[tactic(auto, unfolding(crate::specs::Required::never_category))]
+#[tactic(auto, unfolding(command_rules::specs::Required::never_category))]
 pub(super) fn check_former_categories(tables: &RowTables, categories: &Ids) -> Result<(), Conflict>
     ensures { result_err result ≡ never_category categories.now tables.now.rows }
 {
@@ -61,7 +60,7 @@ pub(super) fn check_former_categories(tables: &RowTables, categories: &Ids) -> R
 }
 
 /// A label that is named is one.
-#[tactic(auto, unfolding(crate::specs::Required::unknown_label))]
+#[tactic(auto, unfolding(command_rules::specs::Required::unknown_label))]
 pub(super) fn check_label(tables: &RowTables, label: Option<Id>) -> Result<(), Conflict>
     ensures { result_err result ≡ unknown_label label tables.now.rows }
 {

@@ -1,19 +1,18 @@
 //! What has to hold of the users after the command: the limits, and that someone can still administer everything.
 ghost use Rattle.std.specs.Prelude.{◌≡◌, false};
 ghost use Rattle.std.specs.Result.{result_err};
-ghost use Rattle.command_parser.specs.declared.fields.CommandFields.TheVariants as fields;
+ghost use Rattle.command_fields.specs.declared.fields.CommandFields.TheVariants as fields;
 ghost use Rattle.std.specs.Option.{option_map_or};
 ghost use Rattle.racf_profiles.specs.Lookup.{user_of};
 ghost use Rattle.racf_profiles.specs.declared.users.User.{User};
 ghost use Rattle.racf_profiles.specs.Names.{connects_of, is_special_user};
-ghost use Rattle.command_effects.specs.Effects.{connects_after, altered_user, group_or_current};
-ghost use Rattle.command_conflicts.specs.Conflicts.{users_full, connections_full, user_full, last_special};
+ghost use Rattle.command_rules.specs.Effects.{connects_after, altered_user, group_or_current};
+ghost use Rattle.command_rules.specs.Conflicts.{users_full, connections_full, user_full, last_special};
 
-use crate::conflict::{Conflict, Limit};
 use crate::limits::check_count;
 use access_levels::Id;
-use command_effects::attributes_after;
-use command_parser::{AddUser, AltUser, Connect, DelUser, Issuer};
+use command_fields::{AddUser, AltUser, Connect, DelUser, Issuer};
+use command_rules::{Conflict, Limit, attributes_after};
 use racf_profiles::View;
 use row_tables::{
     MOST_CONNECTIONS, MOST_CONNECTIONS_IN_ALL, MOST_USERS, RowTables, connections_added,
@@ -21,7 +20,7 @@ use row_tables::{
 };
 
 /// One more user is within the limit.
-#[tactic(auto, unfolding(crate::specs::Conflicts::users_full))]
+#[tactic(auto, unfolding(command_rules::specs::Conflicts::users_full))]
 pub(super) fn check_user_fits(
     tables: &RowTables,
     issuer: &Issuer,
@@ -33,7 +32,7 @@ pub(super) fn check_user_fits(
 }
 
 /// One more connection, that of a new user, is within the limit of all.
-#[tactic(auto, unfolding(crate::specs::Conflicts::connections_full))]
+#[tactic(auto, unfolding(command_rules::specs::Conflicts::connections_full))]
 pub(super) fn check_new_connection_fits(
     tables: &RowTables,
     issuer: &Issuer,
@@ -49,7 +48,7 @@ pub(super) fn check_new_connection_fits(
 }
 
 /// The user's connections are within the limit, once he is connected to the group.
-#[tactic(auto, unfolding(crate::specs::Conflicts::user_full))]
+#[tactic(auto, unfolding(command_rules::specs::Conflicts::user_full))]
 pub(super) fn check_connects_of_user(
     tables: &RowTables,
     command: &Connect,
@@ -68,7 +67,7 @@ pub(super) fn check_connects_of_user(
 }
 
 /// All connections are within the limit, once the user is connected to the group.
-#[tactic(auto, unfolding(crate::specs::Conflicts::connections_full))]
+#[tactic(auto, unfolding(command_rules::specs::Conflicts::connections_full))]
 pub(super) fn check_connection_fits(
     tables: &RowTables,
     issuer: &Issuer,
@@ -90,7 +89,7 @@ pub(super) fn check_connection_fits(
 }
 
 /// After ALTUSER a user who isn't revoked has SPECIAL.
-#[tactic(auto, unfolding(crate::specs::Conflicts::last_special))]
+#[tactic(auto, unfolding(command_rules::specs::Conflicts::last_special))]
 pub(super) fn check_special_user_altered(
     tables: &RowTables,
     issuer: &Issuer,
@@ -108,7 +107,7 @@ pub(super) fn check_special_user_altered(
 }
 
 /// After DELUSER a user who isn't revoked has SPECIAL.
-#[tactic(auto, unfolding(crate::specs::Conflicts::last_special))]
+#[tactic(auto, unfolding(command_rules::specs::Conflicts::last_special))]
 pub(super) fn check_special_user_gone(
     tables: &RowTables,
     issuer: &Issuer,

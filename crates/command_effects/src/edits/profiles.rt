@@ -1,17 +1,18 @@
 //! The edits of the commands on profiles.
 ghost use Rattle.std.specs.Prelude.{◌≡◌, ◌++◌, IfOk};
 ghost use Rattle.racf_profiles.specs.Lookup.{profile_of};
-ghost use Rattle.command_effects.specs.Members.{options_after};
-ghost use Rattle.command_effects.specs.ProfileEffects.{dataset, altered_data_set, altered_resource};
-ghost use Rattle.command_effects.specs.PermitEffects.{permitted_profile, PermitFits};
-ghost use Rattle.command_effects.specs.Edits.{put_changed, put_options, edits_of_add_sd, edits_of_alt_sd, edits_of_r_define, edits_of_r_alter, edits_of_permit};
+ghost use Rattle.command_rules.specs.Members.{options_after};
+ghost use Rattle.command_rules.specs.ProfileEffects.{dataset, altered_data_set, altered_resource};
+ghost use Rattle.command_rules.specs.PermitEffects.{permitted_profile, PermitFits};
+ghost use Rattle.command_rules.specs.Edits.{put_changed, put_options, edits_of_add_sd, edits_of_alt_sd, edits_of_r_define, edits_of_r_alter, edits_of_permit};
 
 use super::one;
 use crate::made::{
-    altered_data_set, altered_resource, categories_defined, dataset, new_data_set, new_resource,
+    altered_data_set, altered_resource, categories_defined, new_data_set, new_resource,
     permitted_profile,
 };
-use command_parser::{AddSd, AltSd, Issuer, Permit, RAlter, RDefine};
+use command_fields::{AddSd, AltSd, Issuer, Permit, RAlter, RDefine};
+use command_rules::dataset;
 use racf_profiles::{CategoryNames, Edit, Members, NoMemory, Options, View};
 use row_tables::RowTables;
 use std::alloc::Global;

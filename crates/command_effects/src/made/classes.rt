@@ -1,6 +1,6 @@
 //! Lists of classes.
 ghost use Rattle.std.specs.Prelude.{◌≡◌, fold, IfOk, OnOk};
-ghost use Rattle.command_effects.specs.Effects.{with_class, without_classes};
+ghost use Rattle.command_rules.specs.Effects.{with_class, without_classes};
 
 use access_levels::Id;
 use racf_profiles::{Classes, NoMemory};

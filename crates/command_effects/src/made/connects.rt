@@ -3,11 +3,11 @@ ghost use Rattle.std.specs.Prelude.{◌≡◌, [], ◌∷◌, unwrap_or, IfOk};
 ghost use Rattle.access_levels.specs.declared.authorities.GroupAuthority.TheVariants.{MayUse};
 ghost use Rattle.racf_profiles.specs.Edits.{drop_row};
 ghost use Rattle.racf_profiles.specs.Names.{is_to};
-ghost use Rattle.command_effects.specs.Effects.{new_connection, altered_connection, connects_after};
+ghost use Rattle.command_rules.specs.Effects.{new_connection, altered_connection, connects_after};
 
-use super::switched;
 use access_levels::{GroupAuthority, Id};
-use command_parser::Connect;
+use command_fields::Connect;
+use command_rules::switched;
 use racf_profiles::{Connect as Connection, NoMemory};
 use std::alloc::Global;
 

@@ -3,8 +3,8 @@ ghost use Rattle.std.specs.Prelude.{◌≡◌};
 ghost use Rattle.command_effects.specs.Operands.{with_operands};
 
 use super::security::{label_given, level_given, with_categories, without_categories};
-use super::switched;
 use access_levels::{Id, Level};
+use command_rules::switched;
 use racf_profiles::{AuditRule, Profile};
 use row_tables::RowTables;
 

@@ -1,17 +1,15 @@
 //! Profiles as a command makes them.
 ghost use Rattle.std.specs.Prelude.{◌≡◌, [], IfOk};
-ghost use Rattle.command_effects.specs.ProfileEffects.{dataset, new_data_set, altered_data_set, new_resource, altered_resource};
+ghost use Rattle.command_rules.specs.ProfileEffects.{new_data_set, altered_data_set, new_resource, altered_resource};
 ghost use Rattle.command_effects.specs.Operands.{first_profile};
-ghost use Rattle.command_effects.specs.Members.{members_after};
+ghost use Rattle.command_rules.specs.Members.{members_after};
 
 use super::members::members_after;
 use super::operands::{Operands, operands_of_altered, operands_of_new, with_operands};
 use access_levels::{Categories, Id, Level};
-use command_parser::{AddSd, AltSd, Issuer, RAlter, RDefine};
+use command_fields::{AddSd, AltSd, Issuer, RAlter, RDefine};
 use generic_names::{MemberName, Pattern};
-use racf_profiles::{
-    AuditRule, CondEntries, Entries, FixedClass, Member, Members, NoMemory, Profile,
-};
+use racf_profiles::{AuditRule, CondEntries, Entries, Member, Members, NoMemory, Profile};
 use row_tables::RowTables;
 use std::alloc::Global;
 
@@ -125,13 +123,6 @@ const NO_AUDIT: AuditRule = AuditRule {
     success: None,
     failures: None,
 };
-
-/// The class of the data set profiles.
-pub fn dataset() -> Id
-    ensures { result ≡ dataset }
-{
-    FixedClass::Dataset.id()
-}
 
 /// No entry.
 fn no_entries(alloc: Global) -> Entries

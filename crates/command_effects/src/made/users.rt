@@ -1,13 +1,13 @@
 //! Users as a command makes them.
 ghost use Rattle.std.specs.Prelude.{◌≡◌, unwrap_or, IfOk};
-ghost use Rattle.command_effects.specs.Effects.{new_user, first_attributes, altered_user, attributes_after, connected_user, removed_user};
+ghost use Rattle.command_rules.specs.Effects.{new_user, first_attributes, altered_user, connected_user, removed_user};
 
 use super::classes::{classes_after, with_classes};
 use super::connects::{connects_after, first_connects, without_connect};
 use super::security::{label_given, level_given, with_categories, without_categories};
-use super::{owner_or_issuer, switched};
 use access_levels::{Attributes, Categories, Id, Text};
-use command_parser::{AddUser, AltUser, Connect, Ids, Issuer, Remove};
+use command_fields::{AddUser, AltUser, Connect, Ids, Issuer, Remove};
+use command_rules::{attributes_after, owner_or_issuer, switched};
 use racf_profiles::{Classes, Connects, NoMemory, User};
 use row_tables::RowTables;
 use std::alloc::Global;
@@ -132,20 +132,6 @@ fn first_attributes(command: &AddUser) -> Attributes
         restricted: switched(command.restricted, command.norestricted, false),
         revoked: false,
         uaudit: false,
-    }
-}
-
-/// The attributes of a user after ALTUSER.
-pub fn attributes_after(command: &AltUser, old: Attributes) -> Attributes
-    ensures { result ≡ attributes_after command.now old }
-{
-    Attributes {
-        special: switched(command.special, command.nospecial, old.special),
-        operations: switched(command.operations, command.nooperations, old.operations),
-        auditor: switched(command.auditor, command.noauditor, old.auditor),
-        restricted: switched(command.restricted, command.norestricted, old.restricted),
-        revoked: switched(command.revoke, command.resume, old.revoked),
-        uaudit: switched(command.uaudit, command.nouaudit, old.uaudit),
     }
 }
 

@@ -1,6 +1,6 @@
 use Rattle.std.specs.Prelude.{None}
 use Rattle.checkpoint_disks.specs.declared.counting.Side.TheVariants.{First}
-use Rattle.racf_desk.specs.Position.{first_position}
+use Rattle.desk_rules.specs.Position.{first_position}
 use Rattle.snapshot_times.proofs.work_row.Given as goal
 
 -- the history that was just opened

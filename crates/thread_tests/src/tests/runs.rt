@@ -1,13 +1,13 @@
 //! Runs at a new database.
 ghost use Rattle.std.specs.Prelude.{◌≡◌, ◌≤◌, ◌<◌, length, IfOk, vec_len};
-ghost use Rattle.racf_desk.specs.Made.{is_fresh};
-ghost use Rattle.racf_desk.specs.Position.{first_position};
+ghost use Rattle.desk_rules.specs.Made.{is_fresh};
+ghost use Rattle.desk_rules.specs.Position.{first_position};
 
 use racf_desk::Desk;
 use racf_outside::{Disk, MemoryDisk, MemorySink, MemorySource, NeverDisk, Two};
-use racf_stream::{Issuing, Status};
 use racf_threads::{Ran, run};
 use racf_workers::Gate;
+use statements::{Issuing, Status};
 use std::alloc::{AllocError, Global};
 use std::sync::Wait;
 use std::test::*;
@@ -115,7 +115,10 @@ fn over<G: Gate + Sync, D: Disk + Drop + Send, R: Wait + Threads + Sync>(
 }
 
 /// A source of each of these lines, with an empty sink.
-fn files(alloc: Global, texts: &[&[u8]]) -> Result<Vec<(MemorySource, MemorySink)>, AllocError>
+pub(super) fn files(
+    alloc: Global,
+    texts: &[&[u8]],
+) -> Result<Vec<(MemorySource, MemorySink)>, AllocError>
     ensures { IfOk result (λ files. vec_len files ≡ length texts.now) }
 {
     let mut files = Vec::with_capacity(alloc, texts.len())?;

@@ -1,6 +1,6 @@
 use Rattle.std.proofs.Common.{◌≡◌}
 use Rattle.command_parser.specs.Canonical.{canonical}
-use Rattle.command_parser.specs.declared.fields.CommandFields.TheVariants as fields
+use Rattle.command_fields.specs.declared.fields.CommandFields.TheVariants as fields
 use Rattle.command_authority.proofs.SpelledNames.{add_sd-spelled}
 use Rattle.command_authority.proofs.judge.authorised.Goals as goal
 

@@ -1,7 +1,7 @@
 use Rattle.std.proofs.Common.{◌≡◌, ℕ, Bool, List, Option, Some, option_map, sym, ap, ◌∙◌}
 use Rattle.std.specs.List.{find}
 use Rattle.std.specs.Option.{option_or}
-use Rattle.command_parser.specs.declared.option_fields.SetRopts.{SetRopts}
+use Rattle.command_fields.specs.declared.option_fields.SetRopts.{SetRopts}
 use Rattle.command_authority.specs.declared.requirement.Requirement.{Requirement}
 use Rattle.command_authority.specs.Requirements.{refreshing, refreshed_classes}
 use Rattle.command_authority.specs.Authority.{is_withheld}

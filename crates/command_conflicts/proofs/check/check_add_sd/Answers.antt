@@ -1,9 +1,9 @@
 -- The requirements, and then the limits of a profile that is new.
 use Rattle.std.proofs.Common.{◌≡◌, ◌∙◌, None, sym, ap}
 use Rattle.std.specs.Result.{result_err}
-use Rattle.command_conflicts.specs.Required.{first_met}
-use Rattle.command_conflicts.specs.ProfileConflicts.{add_sd_requirements, add_sd_limits}
-use Rattle.command_conflicts.proofs.Numbered.{first_met-append, first_met-behind}
+use Rattle.command_rules.specs.Required.{first_met}
+use Rattle.command_rules.specs.ProfileConflicts.{add_sd_requirements, add_sd_limits}
+use Rattle.command_rules.proofs.Numbered.{first_met-append, first_met-behind}
 use Rattle.command_conflicts.proofs.NewLimits.{add_sd-limits}
 use Rattle.command_conflicts.proofs.check.check_add_sd.Goals as goal
 

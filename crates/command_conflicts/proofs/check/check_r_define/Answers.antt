@@ -1,9 +1,9 @@
 -- The requirements, and then the limits of a profile that is new.
 use Rattle.std.proofs.Common.{◌≡◌, ◌∙◌, None, sym, ap}
 use Rattle.std.specs.Result.{result_err}
-use Rattle.command_conflicts.specs.Required.{first_met}
-use Rattle.command_conflicts.specs.ProfileConflicts.{r_define_requirements, r_define_limits}
-use Rattle.command_conflicts.proofs.Numbered.{first_met-append, first_met-behind}
+use Rattle.command_rules.specs.Required.{first_met}
+use Rattle.command_rules.specs.ProfileConflicts.{r_define_requirements, r_define_limits}
+use Rattle.command_rules.proofs.Numbered.{first_met-append, first_met-behind}
 use Rattle.command_conflicts.proofs.NewLimits.{r_define-limits}
 use Rattle.command_conflicts.proofs.check.check_r_define.Goals as goal
 

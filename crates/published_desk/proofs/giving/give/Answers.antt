@@ -1,6 +1,6 @@
 use Rattle.std.proofs.Common.{◌≡◌, [], ◌∷◌, ◌++◌, Some, ap, sym, ◌∙◌, subst}
-use Rattle.racf_desk.specs.Position.{Position}
-use Rattle.racf_desk.specs.Made.{DeskOn, made_in, installed}
+use Rattle.desk_rules.specs.Position.{Position}
+use Rattle.desk_rules.specs.Made.{DeskOn, made_in, installed}
 use Rattle.command_history.specs.declared.events.Event.TheVariants.{Added}
 use Rattle.command_history.specs.Reached.{reached}
 use Rattle.raclist_snapshots.specs.Publishing.{Publishing, ended_with, MarkIs}

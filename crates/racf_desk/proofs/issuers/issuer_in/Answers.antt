@@ -1,4 +1,4 @@
-use Rattle.racf_desk.proofs.IssuerLaws.{issuer_in_spelled, issuer_in_unspelled}
+use Rattle.desk_rules.proofs.IssuerLaws.{issuer_in_spelled, issuer_in_unspelled}
 use Rattle.racf_desk.proofs.issuers.issuer_in.Goals as goal
 
 pub returns-in-Some : goal.returns-in-Some

@@ -1,6 +1,6 @@
 use Rattle.std.proofs.Common.{◌∙◌, ap, sym, cond, Err}
-use Rattle.racf_desk.specs.declared.refusal.Refusal.TheVariants.{IssuerRevoked}
-use Rattle.racf_desk.specs.Issuers.{current_group, unless_not_connected}
+use Rattle.desk_rules.specs.declared.refusal.Refusal.TheVariants.{IssuerRevoked}
+use Rattle.desk_rules.specs.Issuers.{current_group, unless_not_connected}
 use Rattle.racf_desk.proofs.issuers.unless_revoked.Goals as goal
 
 pub returns : goal.returns

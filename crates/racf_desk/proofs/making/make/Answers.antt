@@ -3,9 +3,9 @@ use Rattle.std.specs.Arc.{arc_value}
 use Rattle.racf_profiles.specs.State.{State, changed_state}
 use Rattle.raclist_image.specs.Imaged.{Imaged}
 use Rattle.racf_profiles.specs.Edits.{changed}
-use Rattle.command_effects.specs.Effects.{step}
-use Rattle.command_effects.specs.Edits.{edits_of}
-use Rattle.racf_desk.specs.Outcome.{most_number}
+use Rattle.command_rules.specs.Effects.{step}
+use Rattle.command_rules.specs.Edits.{edits_of}
+use Rattle.desk_rules.specs.Outcome.{most_number}
 use Rattle.racf_desk.proofs.MakingLaws.{unspent, within, behind, made_is}
 use Rattle.racf_desk.proofs.making.make.Goals as goal
 

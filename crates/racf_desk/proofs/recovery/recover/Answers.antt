@@ -1,6 +1,6 @@
 use Rattle.std.proofs.Common.{◌≡◌, Err, rules}
 use Rattle.std.specs.Arc.{arc_value}
-use Rattle.racf_desk.specs.Position.{at_checkpoint}
+use Rattle.desk_rules.specs.Position.{at_checkpoint}
 use Rattle.racf_desk.proofs.RepeatLaws.{recovered_there, recovered_fault}
 use Rattle.racf_desk.proofs.recovery.recover.Goals as goal
 

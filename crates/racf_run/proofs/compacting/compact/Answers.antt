@@ -1,9 +1,9 @@
 use Rattle.std.proofs.Common.{◌+◌, ap, subst, sym, ◌∙◌}
 use Rattle.racf_checkpoint.specs.Stored.{StoreOn}
-use Rattle.racf_desk.specs.Durable.{LeavesIt, SaysCheckpoint}
-use Rattle.racf_desk.specs.Made.{DeskOn}
-use Rattle.racf_desk.specs.Position.{compacted}
-use Rattle.racf_desk.specs.Recovery.{StandsFor}
+use Rattle.desk_rules.specs.Durable.{LeavesIt, SaysCheckpoint}
+use Rattle.desk_rules.specs.Made.{DeskOn}
+use Rattle.desk_rules.specs.Position.{compacted}
+use Rattle.desk_rules.specs.Recovery.{StandsFor}
 use Rattle.racf_run.proofs.CompactLaws.{of_disks, of_disk_fault, of_no_memory, ends_by, written_along, rose_written, no_fewer_written}
 use Rattle.racf_run.proofs.DiskLaws.{both_leave, this_side}
 use Rattle.racf_run.proofs.compacting.compact.Goals as goal

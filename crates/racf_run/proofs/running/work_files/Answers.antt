@@ -1,8 +1,8 @@
 use Rattle.std.proofs.Common.{◌≤◌, ℕ, List, length, map, string_bytes, vec_len, sym, ◌∙◌, subst, arith}
 use Rattle.std.proofs.lemmas.List.{length-map}
 use Rattle.command_history.specs.Events.{all_of}
-use Rattle.racf_desk.specs.Durable.{idle_of}
-use Rattle.racf_desk.proofs.IdleLaws.{told-pick}
+use Rattle.desk_rules.specs.Durable.{idle_of}
+use Rattle.desk_rules.proofs.IdleLaws.{told-pick}
 use Rattle.racroute.specs.Disks.{StaysAlong}
 use Rattle.racf_run.specs.Opening.{Returned, AreKept, AreOpen, OthersStay, ClosesAll}
 use Rattle.racf_run.specs.Racf.{fault_counts, opened_on}

@@ -1,6 +1,6 @@
 use Rattle.std.proofs.Common.{sym, ◌∙◌}
-use Rattle.racf_desk.specs.Position.{first_position}
-use Rattle.racf_desk.specs.Recovery.{StandsFor}
+use Rattle.desk_rules.specs.Position.{first_position}
+use Rattle.desk_rules.specs.Recovery.{StandsFor}
 use Rattle.racf_run.proofs.CompactLaws.{of_no_memory}
 use Rattle.racf_run.proofs.DiskLaws.{both_leave}
 use Rattle.racf_run.proofs.top.init.Goals as goal

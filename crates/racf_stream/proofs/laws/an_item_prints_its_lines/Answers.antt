@@ -1,5 +1,5 @@
 use Rattle.std.proofs.Common.{◌∷◌, ◌∙◌, ap}
-use Rattle.racf_stream.specs.Script.{statements}
+use Rattle.statements.specs.Inputs.{statements}
 use Rattle.racf_stream.specs.Stream.{new_stream}
 use Rattle.racf_stream.specs.Printed.{turns, input_turns, split_lines}
 use Rattle.racf_stream.proofs.OutputLaws.{output_of_turns, turns-append}

@@ -4,21 +4,23 @@ use Rattle.racf_outside.specs.Causes.{Rose}
 use Rattle.racf_outside.specs.Disk.{History}
 use Rattle.racf_outside.specs.Reader.{Reader}
 use Rattle.racf_outside.proofs.Rises.{Rose-later}
-use Rattle.racf_desk.proofs.IdleLaws.{same_idle}
-use Rattle.racf_desk.specs.Position.{Position}
-use Rattle.racf_stream.specs.declared.issuer.Issuing.{Issuing}
-use Rattle.racf_stream.specs.declared.statement.Statement.{Statement}
-use Rattle.racf_stream.specs.declared.stopping.Stop.TheVariants.{NoMemory}
+use Rattle.desk_rules.proofs.IdleLaws.{same_idle}
+use Rattle.desk_rules.specs.Position.{Position}
+use Rattle.statements.specs.declared.issuer.Issuing.{Issuing}
+use Rattle.statements.specs.declared.statement.Statement.{Statement}
+use Rattle.statements.specs.declared.stopping.Stop.TheVariants.{NoMemory}
 use Rattle.racf_stream.specs.Durable.{StreamOn, Moves, MovesBy, LeavesInDoubt, fault_in, most_left_of}
-use Rattle.racf_stream.specs.Gathering.{Acknowledges}
-use Rattle.racf_stream.specs.NextStatement.{TakesStatements}
+use Rattle.statements.specs.Gathering.{Acknowledges}
+use Rattle.statements.specs.NextStatement.{TakesStatements}
 use Rattle.racf_stream.specs.Processing.{Works}
-use Rattle.racf_stream.specs.Script.{stream, statements}
+use Rattle.racf_stream.specs.Script.{stream}
+use Rattle.statements.specs.Inputs.{statements}
 use Rattle.racf_stream.specs.Stream.{State}
-use Rattle.racf_stream.proofs.Walk.{Walk-settles}
-use Rattle.racf_stream.proofs.StreamWalk.{begun, new_runs, passed_none, goes_on, works_few, acknowledged, cut, stopped, failed_status, unanswered_at}
+use Rattle.statements.proofs.Walk.{Walk-settles}
+use Rattle.racf_stream.proofs.StreamWalk.{begun, new_runs, goes_on, works_few, acknowledged, cut, stopped, failed_status, unanswered_at}
+use Rattle.statements.proofs.Walk.{passed_none}
 use Rattle.racf_stream.proofs.Doubt.{doubt_stays}
-use Rattle.racf_stream.proofs.Ending.{ends_later}
+use Rattle.statements.proofs.Ending.{ends_later}
 use Rattle.racf_stream.proofs.Processing.{none_worked}
 use Rattle.racf_stream.proofs.LeftLaws.{left_at_least}
 use Rattle.racf_stream.proofs.Moments.{StaysAlong-none, moved, moved_none, idle_still, no_fewer, halts}

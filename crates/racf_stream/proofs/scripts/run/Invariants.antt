@@ -1,6 +1,6 @@
 use Rattle.std.proofs.Common.{◌≡◌, ◌≤◌, ◌-◌, ◌^◌, true}
 use Rattle.racf_outside.specs.Causes.{Rose}
-use Rattle.racf_desk.specs.Durable.{SameIdle}
+use Rattle.desk_rules.specs.Durable.{SameIdle}
 use Rattle.racf_stream.specs.Durable.{StaysAlong, LeavesInDoubt, most_left_of}
 use Rattle.racf_stream.proofs.StreamWalk.{StreamWalk}
 use Rattle.racf_stream.proofs.scripts.run.Given as goal

@@ -2,16 +2,17 @@ use Rattle.std.proofs.Common.{◌≡◌, ℕ, List, refl, sym, ◌∙◌, ap, su
 use Rattle.std.specs.Prelude.{Option}
 use Rattle.racf_outside.specs.Causes.{Rose}
 use Rattle.racf_outside.specs.Reader.{Reader}
-use Rattle.racf_desk.proofs.IdleLaws.{same_idle}
-use Rattle.racf_desk.specs.Made.{DeskOn, number_at}
+use Rattle.desk_rules.proofs.IdleLaws.{same_idle}
+use Rattle.desk_rules.specs.Made.{DeskOn, number_at}
 use Rattle.racf_stream.specs.Durable.{StreamOn, StaysAlong, most_left, most_left_of}
-use Rattle.racf_stream.specs.Runs.{Ran}
+use Rattle.statements.specs.Runs.{Ran}
 use Rattle.racf_stream.specs.Script.{stream, fault_of, StandsAt}
-use Rattle.racf_stream.specs.declared.status.Status.TheVariants.{NoMemory}
-use Rattle.racf_stream.proofs.Walk.{none_read, ran_failed, Ran-causes}
+use Rattle.statements.specs.declared.status.Status.TheVariants.{NoMemory}
+use Rattle.statements.proofs.Walk.{none_read, ran_failed, Ran-causes}
 use Rattle.racf_stream.proofs.LeftLaws.{left_at_least}
 use Rattle.racf_stream.proofs.Moments.{StaysAlong-none}
-use Rattle.racf_stream.proofs.ScriptLaws.{begins_new, issuing_new, position_new, stands_new, ran_script, ran_whole, ran_too_long, along_as, left_is, idle_as, doubt_as}
+use Rattle.racf_stream.proofs.ScriptLaws.{begins_new, issuing_new, position_new, stands_new, ran_script, ran_whole, along_as, left_is, idle_as, doubt_as}
+use Rattle.statements.proofs.RunLaws.{ran_too_long}
 use Rattle.racf_stream.proofs.scripts.script.Goals as goal
 
 -- there was no memory for the reader

@@ -3,7 +3,7 @@ use denote.Param.Send.{param_sync, arg_sync, recorded_sync, struct_sync, shr_syn
 use Rattle.std.proofs.Crossing.{sync}
 use Rattle.racroute.proofs.Crossing.{Racf-sync}
 use Rattle.std.proofs.Common.{slice_index_or}
-use Rattle.racf_stream.proofs.issuer.Issuing.TheSendSync as issuing
+use Rattle.statements.proofs.issuer.Issuing.TheSendSync as issuing
 use Rattle.racf_threads.specs.Working.{Working, HasWorked}
 use Rattle.racf_threads.proofs.Captures.{each_of_five, at_each, carried}
 use Rattle.racf_threads.proofs.begin.in_threads.Goals as goal

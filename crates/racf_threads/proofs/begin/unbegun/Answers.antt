@@ -1,5 +1,5 @@
 use Rattle.std.proofs.Common.{◌≡◌, ◌<◌, length, [], None, refl, ap, arith, rules}
-use Rattle.racf_desk.specs.Durable.{idle_of}
+use Rattle.desk_rules.specs.Durable.{idle_of}
 use Rattle.racroute.proofs.Closing.{live_is, idle_is, faults_are}
 use Rattle.racf_threads.proofs.Parts.{idle_over}
 use Rattle.racf_threads.proofs.Rests.{rests, rested}

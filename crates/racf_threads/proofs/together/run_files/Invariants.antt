@@ -1,4 +1,4 @@
-use Rattle.racf_desk.specs.Durable.{idle_of}
+use Rattle.desk_rules.specs.Durable.{idle_of}
 use Rattle.racf_threads.proofs.together.run_files.Given as goal
 
 -- the history that was just opened, from where the desk stands, and a ledger for each blank

@@ -2,9 +2,9 @@ use Rattle.std.proofs.Common.{arith, false, refl}
 use Rattle.racf_outside.specs.Causes.{Rose}
 use Rattle.racf_outside.proofs.Rises.{Rose-later}
 use Rattle.command_history.proofs.Extensions.{extends_trans}
-use Rattle.racf_stream.specs.declared.stopping.Stop.TheVariants.{NoMemory}
-use Rattle.racf_stream.proofs.StreamWalk.{passed_none}
-use Rattle.racf_stream.proofs.Ending.{ends_later}
+use Rattle.statements.specs.declared.stopping.Stop.TheVariants.{NoMemory}
+use Rattle.statements.proofs.Walk.{passed_none}
+use Rattle.statements.proofs.Ending.{ends_later}
 use Rattle.racf_workers.proofs.FileWalk.{begun, same_events, settles, goes_on, passes_more, stopped, cut, unanswered}
 use Rattle.racf_workers.proofs.requests.run.Goals as goal
 

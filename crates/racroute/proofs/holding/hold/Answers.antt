@@ -1,6 +1,6 @@
 use Rattle.std.proofs.Common.{sym, ◌∙◌, ap}
-use Rattle.racf_desk.specs.Position.{Position}
-use Rattle.racf_desk.specs.Made.{made_in}
+use Rattle.desk_rules.specs.Position.{Position}
+use Rattle.desk_rules.specs.Made.{made_in}
 use Rattle.racroute.proofs.holding.hold.Goals as goal
 
 -- what the desk made goes on from what is published

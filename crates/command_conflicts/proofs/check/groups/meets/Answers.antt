@@ -1,8 +1,8 @@
 use Rattle.std.proofs.Common.{◌∙◌, ap, sym, subst}
 use Rattle.generic_names.proofs.CoverLaws.{same_tests}
 use Rattle.racf_profiles.specs.Tree.{IsTree}
-use Rattle.command_conflicts.specs.Conflicts.{meets}
-use Rattle.command_conflicts.proofs.Walks.{meets-within, within-meets}
+use Rattle.command_rules.specs.Conflicts.{meets}
+use Rattle.command_rules.proofs.Walks.{meets-within, within-meets}
 use Rattle.command_conflicts.proofs.check.groups.meets.Goals as goal
 
 -- in a tree, what is below the group is what meets it on a walk up

@@ -3,13 +3,13 @@ use Rattle.std.proofs.Common.{◌∙◌, length, refl, sym, ap}
 use Rattle.std.specs.Prelude.{option_and_then}
 use Rattle.racf_profiles.specs.declared.profiles.Profile.{Profile}
 use Rattle.racf_profiles.specs.Lookup.{profile_of}
-use Rattle.command_parser.specs.declared.profile_fields.RAlter.{RAlter}
+use Rattle.command_fields.specs.declared.profile_fields.RAlter.{RAlter}
 use Rattle.racf_profiles.specs.Limits.{most_members}
-use Rattle.command_effects.specs.Members.{members_after}
-use Rattle.command_effects.specs.ProfileEffects.{altered_resource}
-use Rattle.command_conflicts.specs.declared.conflict.Limit.TheVariants.{Members}
-use Rattle.command_conflicts.specs.Required.{over}
-use Rattle.command_conflicts.specs.ProfileConflicts.{members_full}
+use Rattle.command_rules.specs.Members.{members_after}
+use Rattle.command_rules.specs.ProfileEffects.{altered_resource}
+use Rattle.command_rules.specs.declared.conflict.Limit.TheVariants.{Members}
+use Rattle.command_rules.specs.Required.{over}
+use Rattle.command_rules.specs.ProfileConflicts.{members_full}
 use Rattle.command_conflicts.proofs.NewProfiles.{changed-none, changed-there}
 use Rattle.command_conflicts.proofs.check.members.check_members_fit.Goals as goal
 

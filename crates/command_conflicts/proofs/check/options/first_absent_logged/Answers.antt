@@ -6,7 +6,7 @@ use Rattle.std.proofs.lemmas.List.{at_drop_more}
 use Rattle.std.proofs.lemmas.List.Folds.{find-append}
 use Rattle.racf_profiles.specs.declared.rows.Rows.{Rows}
 use Rattle.racf_profiles.specs.Lookup.{class_of}
-use Rattle.command_values.specs.declared.log_options.LogClause.{LogClause}
+use Rattle.command_fields.specs.declared.log_clauses.LogClause.{LogClause}
 use Rattle.command_conflicts.proofs.check.options.first_absent_logged.Invariants.{first_absent_in}
 use Rattle.command_conflicts.proofs.check.options.first_absent_logged.Goals as goal
 

@@ -5,10 +5,10 @@ use Rattle.racf_profiles.specs.declared.profiles.Profile.{Profile}
 use Rattle.racf_profiles.specs.declared.rows.Rows.{Rows}
 use Rattle.racf_profiles.specs.Counts.{entry_count}
 use Rattle.racf_profiles.specs.Limits.{most_entries_in_all}
-use Rattle.command_effects.specs.PermitEffects.{permitted_profile, after_permit, standard_after, conditional_after}
-use Rattle.command_conflicts.specs.declared.conflict.Limit.TheVariants.{AllEntries}
-use Rattle.command_conflicts.specs.Required.{over}
-use Rattle.command_conflicts.specs.ProfileConflicts.{entries_full}
+use Rattle.command_rules.specs.PermitEffects.{permitted_profile, after_permit, standard_after, conditional_after}
+use Rattle.command_rules.specs.declared.conflict.Limit.TheVariants.{AllEntries}
+use Rattle.command_rules.specs.Required.{over}
+use Rattle.command_rules.specs.ProfileConflicts.{entries_full}
 use Rattle.command_conflicts.proofs.NewProfiles.{changed-absent, entry_count-changed, entries-le, not_over}
 use Rattle.command_conflicts.proofs.check.permit.check_entries_fit.Goals as goal
 

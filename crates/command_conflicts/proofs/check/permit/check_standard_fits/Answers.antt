@@ -3,10 +3,10 @@ use Rattle.std.proofs.Common.{◌∙◌, length, refl, sym, ap}
 use Rattle.std.specs.Option.{option_copied}
 use Rattle.racf_profiles.specs.declared.profiles.Profile.{Profile}
 use Rattle.racf_profiles.specs.Limits.{most_list_entries}
-use Rattle.command_effects.specs.PermitEffects.{permitted_profile, standard_after}
-use Rattle.command_conflicts.specs.declared.conflict.Limit.TheVariants.{Entries}
-use Rattle.command_conflicts.specs.Required.{over}
-use Rattle.command_conflicts.specs.ProfileConflicts.{list_full, standard_full}
+use Rattle.command_rules.specs.PermitEffects.{permitted_profile, standard_after}
+use Rattle.command_rules.specs.declared.conflict.Limit.TheVariants.{Entries}
+use Rattle.command_rules.specs.Required.{over}
+use Rattle.command_rules.specs.ProfileConflicts.{list_full, standard_full}
 use Rattle.command_conflicts.proofs.NewProfiles.{changed-none, changed-there}
 use Rattle.command_conflicts.proofs.check.permit.check_standard_fits.Goals as goal
 

@@ -1,10 +1,10 @@
 use Rattle.std.proofs.Common.{◌≡◌, ◌∙◌, ap, sym, arith}
 use Rattle.racf_profiles.specs.Lookup.{is_user}
-use Rattle.command_conflicts.specs.declared.conflict.Limit.TheVariants.{AllConnections}
+use Rattle.command_rules.specs.declared.conflict.Limit.TheVariants.{AllConnections}
 use Rattle.racf_profiles.specs.Names.{connections, connections_added}
-use Rattle.command_effects.specs.Effects.{connected_user, group_or_current}
-use Rattle.command_conflicts.specs.Conflicts.{connections_full, over}
-use Rattle.command_effects.proofs.AfterLaws.{at_row-absent, connections-connected}
+use Rattle.command_rules.specs.Effects.{connected_user, group_or_current}
+use Rattle.command_rules.specs.Conflicts.{connections_full, over}
+use Rattle.command_rules.proofs.AfterLaws.{at_row-absent, connections-connected}
 use Rattle.command_conflicts.proofs.check.users.check_connection_fits.Goals as goal
 
 pub returns-in-None : goal.returns-in-None

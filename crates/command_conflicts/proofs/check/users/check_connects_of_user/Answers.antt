@@ -1,10 +1,10 @@
 use Rattle.std.proofs.Common.{◌∙◌, [], ap, sym, length}
 use Rattle.std.specs.Option.{option_map_or}
 use Rattle.racf_profiles.specs.declared.users.User.{User}
-use Rattle.command_conflicts.specs.declared.conflict.Limit.TheVariants.{Connections}
-use Rattle.command_effects.specs.Effects.{connects_after}
-use Rattle.command_conflicts.specs.Conflicts.{user_full, over}
-use Rattle.command_effects.proofs.AfterLaws.{length-connects_after}
+use Rattle.command_rules.specs.declared.conflict.Limit.TheVariants.{Connections}
+use Rattle.command_rules.specs.Effects.{connects_after}
+use Rattle.command_rules.specs.Conflicts.{user_full, over}
+use Rattle.command_rules.proofs.AfterLaws.{length-connects_after}
 use Rattle.command_conflicts.proofs.check.users.check_connects_of_user.Goals as goal
 
 pub returns-in-Some : goal.returns-in-Some

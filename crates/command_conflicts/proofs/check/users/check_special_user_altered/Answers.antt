@@ -3,11 +3,11 @@ use Rattle.std.specs.Option.{option_map_or}
 use Rattle.racf_profiles.specs.declared.users.User.{User}
 use Rattle.racf_profiles.specs.Lookup.{is_user}
 use Rattle.racf_profiles.specs.Edits.{drop_row}
-use Rattle.command_conflicts.specs.declared.conflict.Conflict.TheVariants.{LastSpecial}
+use Rattle.command_rules.specs.declared.conflict.Conflict.TheVariants.{LastSpecial}
 use Rattle.racf_profiles.specs.Names.{special_users, is_special_user}
-use Rattle.command_effects.specs.Effects.{at_row, altered_user}
-use Rattle.command_conflicts.specs.Conflicts.{last_special}
-use Rattle.command_effects.proofs.AfterLaws.{special_users-altered}
+use Rattle.command_rules.specs.Effects.{at_row, altered_user}
+use Rattle.command_rules.specs.Conflicts.{last_special}
+use Rattle.command_rules.proofs.AfterLaws.{special_users-altered}
 use Rattle.command_conflicts.proofs.Counted.{met_at_0, not_met_above_0}
 use Rattle.command_conflicts.proofs.check.users.check_special_user_altered.Goals as goal
 

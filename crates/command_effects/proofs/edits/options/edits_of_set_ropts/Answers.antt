@@ -2,7 +2,7 @@
 use Rattle.std.proofs.Common.{◌∙◌, Result, Ok, Err}
 use Rattle.std.specs.Prelude.{IfOk}
 use Rattle.class_profiles.specs.Summed.{rows_in}
-use Rattle.command_effects.proofs.SetRoptsEdits.{parts-joined}
+use Rattle.command_rules.proofs.SetRoptsEdits.{parts-joined}
 use Rattle.command_effects.proofs.edits.options.edits_of_set_ropts.Goals as goal
 
 if-ok : {X E : Type 0} (P Q : X → Type 0) (r : Result X E) → ((x : X) → P x → Q x) → IfOk r P → IfOk r Q

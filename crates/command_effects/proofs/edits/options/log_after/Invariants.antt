@@ -1,5 +1,5 @@
 use Rattle.std.proofs.Common.{◌≡◌, drop}
-use Rattle.command_effects.specs.OptionEffects.{log_after}
+use Rattle.command_rules.specs.OptionEffects.{log_after}
 use Rattle.command_effects.proofs.edits.options.log_after.Given as goal
 
 -- what is left makes the same of the log option so far

@@ -3,7 +3,7 @@ use Rattle.std.specs.List.{filter}
 use Rattle.racf_profiles.specs.declared.class_rows.ClassRow.{ClassRow}
 use Rattle.racf_profiles.specs.declared.edits.Edit.TheVariants.{List as ListCopy}
 use Rattle.class_profiles.specs.Summed.{rows_in}
-use Rattle.command_effects.specs.Edits.{lists}
+use Rattle.command_rules.specs.Edits.{lists}
 use Rattle.command_effects.proofs.edits.options.with_lists.Given as goal
 
 -- the edits so far, and those of the classes that are left

@@ -3,7 +3,7 @@ use Rattle.std.specs.List.{filter}
 use Rattle.racf_profiles.specs.declared.class_rows.ClassRow.{ClassRow}
 use Rattle.racf_profiles.specs.declared.edits.Edit.TheVariants.{Unlist}
 use Rattle.class_profiles.specs.Summed.{rows_in}
-use Rattle.command_effects.specs.Edits.{unlists}
+use Rattle.command_rules.specs.Edits.{unlists}
 use Rattle.command_effects.proofs.edits.options.with_unlists.Given as goal
 
 -- the edits so far, and those of the classes that are left

@@ -1,6 +1,6 @@
 use Rattle.std.proofs.Common.{sym, subst}
 use Rattle.std.specs.Prelude.{IfSome}
-use Rattle.command_effects.specs.PermitEffects.{ListsFit}
+use Rattle.command_rules.specs.PermitEffects.{ListsFit}
 use Rattle.command_effects.proofs.edits.profiles.edits_of_permit.Goals as goal
 
 pub permitted_profile-requires-clause-standard_fits : goal.permitted_profile-requires-clause-standard_fits

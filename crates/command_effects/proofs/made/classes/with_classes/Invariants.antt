@@ -1,5 +1,5 @@
 use Rattle.std.proofs.Common.{◌≡◌, fold, drop}
-use Rattle.command_effects.specs.Effects.{with_class}
+use Rattle.command_rules.specs.Effects.{with_class}
 use Rattle.command_effects.proofs.made.classes.with_classes.Given as goal
 
 -- what is left to add makes the same of what was added

@@ -1,5 +1,5 @@
 use Rattle.std.proofs.Common.{◌≡◌, ◌++◌, drop}
-use Rattle.command_effects.specs.Effects.{connects_after}
+use Rattle.command_rules.specs.Effects.{connects_after}
 use Rattle.command_effects.proofs.ConnectLaws.{rest_after}
 use Rattle.command_effects.proofs.made.connects.connects_after.Given as goal
 

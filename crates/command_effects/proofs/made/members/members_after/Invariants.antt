@@ -1,5 +1,5 @@
 use Rattle.std.proofs.Common.{◌≡◌, fold, drop}
-use Rattle.command_effects.specs.Members.{with_member, without_members}
+use Rattle.command_rules.specs.Members.{with_member, without_members}
 use Rattle.command_effects.proofs.made.members.members_after.Given as goal
 
 -- what is left to add makes the same of what was added

@@ -1,7 +1,7 @@
 -- The member is written at the place of the one of its name, or goes last.
 use Rattle.std.proofs.Common.{◌∙◌, sym, ap}
 use Rattle.std.specs.List.{position}
-use Rattle.command_effects.specs.Members.{member_name, is_member_named}
+use Rattle.command_rules.specs.Members.{member_name, is_member_named}
 use Rattle.access_lists.proofs.PutLaws.{set_at_position, new_without_position}
 use Rattle.command_effects.proofs.made.members.put_member.Goals as goal
 

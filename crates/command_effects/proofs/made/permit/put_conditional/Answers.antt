@@ -2,7 +2,7 @@ use Rattle.std.proofs.Common.{◌≡◌, ◌∙◌, Err, true, sym, ap, true≢f
 use Rattle.access_levels.specs.declared.entries.CondEntry.{CondEntry}
 use Rattle.access_lists.specs.declared.edits.ListFault.{ListFault}
 use Rattle.access_lists.specs.Lists.{is_full_when}
-use Rattle.command_effects.proofs.ListCounts.{conditional-fits}
+use Rattle.command_rules.proofs.ListCounts.{conditional-fits}
 use Rattle.command_effects.proofs.made.permit.put_conditional.Goals as goal
 
 -- the list has room for the entry

@@ -1,7 +1,7 @@
 use Rattle.std.proofs.Common.{◌≡◌, ◌∙◌, Err, true, sym, ap, true≢false}
 use Rattle.access_lists.specs.declared.edits.ListFault.{ListFault}
 use Rattle.access_lists.specs.Lists.{is_full}
-use Rattle.command_effects.proofs.ListCounts.{entry-fits}
+use Rattle.command_rules.proofs.ListCounts.{entry-fits}
 use Rattle.command_effects.proofs.made.permit.put_entry.Goals as goal
 
 -- the list has room for the entry

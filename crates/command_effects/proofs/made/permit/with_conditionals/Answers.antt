@@ -1,8 +1,8 @@
 use Rattle.std.proofs.Common.{◌≡◌, ◌∙◌, ◌∷◌, List, length, suc, fold, drop, sym, ap, arith, drop-cons}
 use Rattle.access_levels.specs.declared.entries.Who.{Who}
 use Rattle.access_levels.specs.declared.entries.CondEntry.{CondEntry}
-use Rattle.command_effects.specs.PermitEffects.{with_conditional}
-use Rattle.command_effects.proofs.ListCounts.{conditionals-longer}
+use Rattle.command_rules.specs.PermitEffects.{with_conditional}
+use Rattle.command_rules.proofs.ListCounts.{conditionals-longer}
 use Rattle.command_effects.proofs.made.permit.with_conditionals.Goals as goal
 
 -- the list at last is within the limit, and the one with this entry is no longer

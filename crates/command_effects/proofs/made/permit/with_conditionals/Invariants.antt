@@ -1,5 +1,5 @@
 use Rattle.std.proofs.Common.{◌≡◌, fold, drop}
-use Rattle.command_effects.specs.PermitEffects.{with_conditional}
+use Rattle.command_rules.specs.PermitEffects.{with_conditional}
 use Rattle.command_effects.proofs.made.permit.with_conditionals.Given as goal
 
 -- what is left makes the same of what was made

@@ -1,8 +1,8 @@
 use Rattle.std.proofs.Common.{◌≡◌, ◌∙◌, ◌∷◌, List, length, suc, fold, drop, sym, ap, arith, drop-cons}
 use Rattle.access_levels.specs.declared.entries.Who.{Who}
 use Rattle.access_levels.specs.declared.entries.Entry.{Entry}
-use Rattle.command_effects.specs.PermitEffects.{with_entry}
-use Rattle.command_effects.proofs.ListCounts.{entries-longer}
+use Rattle.command_rules.specs.PermitEffects.{with_entry}
+use Rattle.command_rules.proofs.ListCounts.{entries-longer}
 use Rattle.command_effects.proofs.made.permit.with_entries.Goals as goal
 
 -- the list at last is within the limit, and the one with this entry is no longer

@@ -1,5 +1,5 @@
 use Rattle.std.proofs.Common.{◌≡◌, fold, drop}
-use Rattle.command_effects.specs.Security.{with_category}
+use Rattle.command_rules.specs.Security.{with_category}
 use Rattle.command_effects.proofs.made.security.with_categories.Given as goal
 
 -- what is left makes the same of what was made

@@ -1,4 +1,4 @@
-use Rattle.racf_desk.specs.Made.{made_in}
+use Rattle.desk_rules.specs.Made.{made_in}
 use Rattle.racf_desk.proofs.DeskLaws.{kept_takes, commit_stays, commit_leaves, commit_kept}
 use Rattle.racf_desk.proofs.desk.Desk.commit.Goals as goal
 

@@ -2,8 +2,8 @@
 use Rattle.std.proofs.Common.{◌≤◌, ◌∙◌, ap, subst, sym, rules}
 use Rattle.racf_profiles.specs.Lawful.{AreLawful}
 use Rattle.raclist_image.specs.Imaged.{Imaged}
-use Rattle.racf_desk.specs.Made.{DeskOn}
-use Rattle.racf_desk.specs.Outcome.{most_number}
+use Rattle.desk_rules.specs.Made.{DeskOn}
+use Rattle.desk_rules.specs.Outcome.{most_number}
 use Rattle.racf_desk.proofs.DeskLaws.{kept_takes, rests_there, next_epoch, checkpoint_stays, checkpoint_leaves, checkpoint_said, checkpoint_kept, checkpoint_done, checkpoint_last}
 use Rattle.racf_desk.proofs.desk.Desk.compact.Goals as goal
 

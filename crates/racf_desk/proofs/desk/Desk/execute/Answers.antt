@@ -1,8 +1,8 @@
 use Rattle.std.proofs.Common.{ap, subst, sym}
-use Rattle.racf_desk.specs.Outcome.{outcome}
-use Rattle.racf_desk.specs.Position.{Position, position_after}
-use Rattle.racf_desk.specs.Made.{DeskOn, made_in, installed}
-use Rattle.racf_desk.specs.Durable.{StaysEither}
+use Rattle.desk_rules.specs.Outcome.{outcome}
+use Rattle.desk_rules.specs.Position.{Position, position_after}
+use Rattle.desk_rules.specs.Made.{DeskOn, made_in, installed}
+use Rattle.desk_rules.specs.Durable.{StaysEither}
 use Rattle.racf_desk.proofs.DeskLaws.{behind_made, rests_on}
 use Rattle.racf_desk.proofs.JointLaws.{keeps}
 use Rattle.racf_desk.proofs.desk.Desk.execute.Goals as goal

@@ -3,9 +3,9 @@ use Rattle.std.specs.Arc.{arc_value}
 use Rattle.checkpoint_disks.specs.declared.counting.Side.TheVariants.{First, Second}
 use Rattle.racf_checkpoint.specs.Formatting.{StaysBaring, StaysFormatting}
 use Rattle.racf_checkpoint.specs.Stored.{StoreOn, disk_on}
-use Rattle.racf_desk.specs.Position.{Position}
-use Rattle.racf_desk.specs.Made.{DeskOn}
-use Rattle.racf_desk.specs.Durable.{LeavesIt}
+use Rattle.desk_rules.specs.Position.{Position}
+use Rattle.desk_rules.specs.Made.{DeskOn}
+use Rattle.desk_rules.specs.Durable.{LeavesIt}
 use Rattle.racf_desk.proofs.OpenLaws.{first_is, stands_first, fresh_at}
 use Rattle.racf_desk.proofs.FormatLaws.{leaves_no_older, nothing_older, nothing_bares, nothing_formats}
 use Rattle.racf_desk.proofs.desk.Desk.format.Goals as goal

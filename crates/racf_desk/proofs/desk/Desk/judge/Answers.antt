@@ -3,10 +3,10 @@ use Rattle.std.specs.Arc.{arc_value}
 use Rattle.racf_profiles.specs.declared.rows.Rows.{Rows}
 use Rattle.raclist_image.specs.Imaged.{Imaged}
 use Rattle.journal_records.specs.declared.record.CommandRecord.{CommandRecord}
-use Rattle.racf_desk.specs.declared.refusal.Refusal.{Refusal}
-use Rattle.racf_desk.specs.Outcome.{refusal_of}
-use Rattle.racf_desk.specs.Images.{IsImageOf}
-use Rattle.racf_desk.specs.Made.{DeskOn, made_in}
+use Rattle.desk_rules.specs.declared.refusal.Refusal.{Refusal}
+use Rattle.desk_rules.specs.Outcome.{refusal_of}
+use Rattle.desk_rules.specs.Images.{IsImageOf}
+use Rattle.desk_rules.specs.Made.{DeskOn, made_in}
 use Rattle.racf_desk.specs.Kept.{contents_of}
 use Rattle.racf_desk.proofs.DeskLaws.{ready, still_stands}
 use Rattle.racf_desk.proofs.desk.Desk.judge.Goals as goal

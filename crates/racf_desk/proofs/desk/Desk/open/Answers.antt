@@ -6,10 +6,10 @@ use Rattle.checkpoint_disks.specs.declared.counting.Side.TheVariants.{First, Sec
 use Rattle.racf_checkpoint.specs.declared.fault.StoreFault.TheVariants.{NoMemory}
 use Rattle.racf_checkpoint.specs.Finding.{found_in}
 use Rattle.racf_checkpoint.specs.Stored.{StoreOn, NowRead, StaysPossible, disk_on}
-use Rattle.racf_desk.specs.Outcome.{most_number}
-use Rattle.racf_desk.specs.Made.{DeskOn}
-use Rattle.racf_desk.specs.Recovery.{standing}
-use Rattle.racf_desk.specs.Reopening.{LeadOn}
+use Rattle.desk_rules.specs.Outcome.{most_number}
+use Rattle.desk_rules.specs.Made.{DeskOn}
+use Rattle.desk_rules.specs.Recovery.{standing}
+use Rattle.desk_rules.specs.Reopening.{LeadOn}
 use Rattle.racf_desk.proofs.OpenLaws.{found, found_along, goes_on, epoch_said, of_parts, stands_there, store_goes, first_stays, second_stays, refused_to_load, refused_to_recover, only_damage}
 use Rattle.racf_desk.proofs.JointLaws.{joint}
 use Rattle.racf_desk.proofs.desk.Desk.open.Goals as goal

@@ -1,8 +1,8 @@
 use Rattle.std.proofs.Common.{◌≡◌, ℕ, List, Ok, subst}
-use Rattle.racf_desk.specs.Made.{made_in, made_of_outcome}
-use Rattle.racf_desk.specs.Outcome.{outcome}
+use Rattle.desk_rules.specs.Made.{made_in, made_of_outcome}
+use Rattle.desk_rules.specs.Outcome.{outcome}
 use Rattle.std.specs.Prelude.{OnOk}
-use Rattle.racf_stream.specs.declared.statement.Statement.TheVariants.{Command}
+use Rattle.statements.specs.declared.statement.Statement.TheVariants.{Command}
 use Rattle.racf_stream.specs.Durable.{StreamOn, stream_on, fault_in, DoesOn, Fails}
 use Rattle.racf_stream.specs.Stream.{command}
 use Rattle.racf_stream.proofs.Settled.{settles_command, fails_command}

@@ -3,11 +3,11 @@ use Rattle.std.specs.Prelude.{is_some}
 use Rattle.racf_outside.specs.Causes.{Rose}
 use Rattle.racf_checkpoint.specs.Stored.{StoreOn}
 use Rattle.command_history.specs.declared.events.Accepted.{Accepted}
-use Rattle.racf_desk.specs.Durable.{SameIdle, LeavesIt, StaysEither}
-use Rattle.racf_desk.proofs.IdleLaws.{same_idle, same_idle-then}
-use Rattle.racf_desk.specs.Outcome.{outcome}
-use Rattle.racf_desk.specs.Position.{Position}
-use Rattle.racf_desk.specs.Made.{DeskOn, made_in, installed, number_at}
+use Rattle.desk_rules.specs.Durable.{SameIdle, LeavesIt, StaysEither}
+use Rattle.desk_rules.proofs.IdleLaws.{same_idle, same_idle-then}
+use Rattle.desk_rules.specs.Outcome.{outcome}
+use Rattle.desk_rules.specs.Position.{Position}
+use Rattle.desk_rules.specs.Made.{DeskOn, made_in, installed, number_at}
 use Rattle.command_history.specs.declared.events.Event.{Event}
 use Rattle.command_history.specs.declared.events.Event.TheVariants.{Added}
 use Rattle.raclist_snapshots.specs.Publishing.{Publishing, ended_with, MarkIs}

@@ -1,5 +1,5 @@
 use Rattle.std.proofs.Common.{ap, refl, sym, ◌∙◌}
-use Rattle.racf_desk.specs.Made.{number_at}
+use Rattle.desk_rules.specs.Made.{number_at}
 use Rattle.racroute.specs.Kept.{disks_before}
 use Rattle.racroute.proofs.Serving.{opened_kept}
 use Rattle.racroute.proofs.office.Office.opened.Goals as goal

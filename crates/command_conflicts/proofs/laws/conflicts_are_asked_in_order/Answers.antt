@@ -1,6 +1,0 @@
--- Command by command.
-use Rattle.command_conflicts.proofs.Orders.{conflicts-ascending}
-use Rattle.command_conflicts.proofs.laws.conflicts_are_asked_in_order.Goals as goal
-
-pub returns : goal.returns
-returns c = λ issuer command rows. conflicts-ascending issuer command rows

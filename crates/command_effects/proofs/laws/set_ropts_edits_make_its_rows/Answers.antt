@@ -1,5 +1,0 @@
-use Rattle.command_effects.proofs.SetRoptsEdits.{set_ropts-rows}
-use Rattle.command_effects.proofs.laws.set_ropts_edits_make_its_rows.Goals as goal
-
-pub returns : goal.returns
-returns c = λ command rows lawful refreshes. set_ropts-rows command rows lawful refreshes

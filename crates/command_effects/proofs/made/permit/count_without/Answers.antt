@@ -1,7 +1,0 @@
--- What isn't taken away is left.
-use Rattle.std.proofs.Common.{◌∙◌}
-use Rattle.command_effects.proofs.ListCounts.{entries-left}
-use Rattle.command_effects.proofs.made.permit.count_without.Goals as goal
-
-pub returns : goal.returns
-returns c = c.count_left.ensures ∙ entries-left c.args.command.now c.requires c.args.list.now c.args.whos.now

@@ -1,7 +1,0 @@
--- What isn't taken away is left.
-use Rattle.std.proofs.Common.{◌∙◌}
-use Rattle.command_effects.proofs.ListCounts.{conditionals-left}
-use Rattle.command_effects.proofs.made.permit.count_without_conditional.Goals as goal
-
-pub returns : goal.returns
-returns c = c.count_left_under.ensures ∙ conditionals-left c.args.command.now c.args.condition.now c.requires c.args.list.now c.args.whos.now

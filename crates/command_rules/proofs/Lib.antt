@@ -1,0 +1,11 @@
+pub mod AfterLaws
+pub mod LengthAfterPuts
+pub mod ListCounts
+pub mod ProfileSteps
+pub mod ClassEdits
+pub mod SetRoptsEdits
+pub mod EditsOfCommands
+pub mod Walks
+pub mod Unmet
+pub mod Numbered
+pub mod Orders

@@ -1,0 +1,13 @@
+pub mod Security
+pub mod UserEffects
+pub mod Members
+pub mod ProfileEffects
+pub mod PermitEffects
+pub mod OptionEffects
+pub mod Effects
+pub mod Edits
+pub mod Numbers
+pub mod Required
+pub mod ProfileConflicts
+pub mod OptionConflicts
+pub mod Conflicts

@@ -1,6 +1,0 @@
-use Rattle.racf_desk.proofs.RecoveryLaws.{at_restarted}
-use Rattle.racf_desk.proofs.laws.recovery_agrees_with_the_running_desk.Goals as goal
-
--- what is opened again goes on to the same
-pub returns-clause-history : goal.returns-clause-history
-returns-clause-history c = at_restarted

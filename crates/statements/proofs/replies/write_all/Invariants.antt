@@ -1,0 +1,14 @@
+use Rattle.std.proofs.Common.{◌≡◌, ◌-◌, ◌≤◌, length, take}
+use Rattle.std.specs.Io.KnownBytes.{append_known}
+use Rattle.statements.proofs.replies.write_all.Given as goal
+
+abbrev pub invariant-loop-at : goal.invariant-loop-at
+invariant-loop-at g l =
+    record {
+      within : l.at ≤ length l.bytes;
+      written : g.O.Sink.taken l.sink ≡ append_known (g.O.Sink.taken l.fn.sink) (take l.at l.bytes);
+      faults : g.O.Sink.faults l.fn.sink ≤ g.O.Sink.faults l.sink;
+    }
+
+abbrev pub decreases-loop-at : goal.decreases-loop-at
+decreases-loop-at g l = length l.bytes - l.at

@@ -1,0 +1,13 @@
+pub mod Status
+pub mod Fronts
+pub mod Statements
+pub mod Joining
+pub mod Replies
+pub mod IssuerLines
+pub mod Runs
+pub mod Inputs
+pub mod NextStatement
+pub mod NextRole
+pub mod Gathering
+pub mod Lending
+pub mod Stopping

@@ -1,0 +1,74 @@
+"""Several words, one after another in one folder, as a file NAME.session has them; a module of tests/conform.
+
+A line `$ WORD ..` is a call of the program; `<FILE` among its words is a file that is laid down before, with the bytes of NAME.FILE.
+Lines `> TEXT` below it are its standard input, `= STATUS SAID` how it ends and the first line that it says where it fails, and
+all others what it prints. A line `. are none` says that there is no database, `. folder NAME` makes a folder, and `. long FILE N`
+lays that file down, N bytes long. A line that begins with `#` is a comment.
+"""
+import os
+import subprocess
+
+import databases
+
+# From this status on a program says why.
+FAILED = 8
+
+
+def steps_of(text):
+    """The steps, each with the lines that belong to it."""
+    steps = []
+    for line in text.split("\n"):
+        if line.startswith(("$ ", ". ")):
+            steps.append((line, []))
+        elif line and not line.startswith("#"):
+            steps[-1][1].append(line)
+    return steps
+
+
+def lay(session, folder, name):
+    """Lays down a file that the session has beside it, where it isn't there yet."""
+    if not (folder / name).exists():
+        (folder / name).write_bytes(session.with_suffix(f".{name}").read_bytes())
+
+
+def call_fault(program, session, folder, words, lines, seconds):
+    """What is wrong with a call, in words; None where nothing is."""
+    given = "".join(line[2:] + "\n" for line in lines if line.startswith("> "))
+    ends, *printed = [line for line in lines if not line.startswith("> ")]
+    for word in words:
+        if word.startswith("<"):
+            lay(session, folder, word[1:])
+    run = subprocess.run([program, *(word.removeprefix("<") for word in words)], input=given.encode(), cwd=folder, capture_output=True, timeout=seconds)
+    said = run.stderr.decode().split("\n")[0] if run.returncode >= FAILED else ""
+    wanted = (ends, "".join(line + "\n" for line in printed))
+    got = (f"= {run.returncode} {said}".rstrip(), run.stdout.decode())
+    return None if got == wanted else f"wanted {wanted}, got {got}"
+
+
+def step_fault(session, folder, words):
+    """Does a step that is no call; what is wrong, in words; None where nothing is."""
+    match words:
+        case ["are", "none"]:
+            left = [disk for disk in databases.DISKS if (folder / disk).exists()]
+            return f"{left[0]} is there" if left else None
+        case ["folder", name]:
+            (folder / name).mkdir()
+        case ["long", name, length]:
+            lay(session, folder, name)
+            os.truncate(folder / name, int(length))
+        case _:
+            return "no step that is known"
+    return None
+
+
+def session_fault(program, session, folder, seconds):
+    """The first step of a session that fails, in words; None where none does."""
+    for line, lines in steps_of(session.read_text()):
+        words = line[2:].split(" ")
+        if line.startswith("$ "):
+            fault = call_fault(program, session, folder, words, lines, seconds)
+        else:
+            fault = step_fault(session, folder, words)
+        if fault:
+            return f"{line}: {fault}"
+    return None

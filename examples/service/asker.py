@@ -2,7 +2,7 @@
 """asker.py PROGRAM USER CLASS NAME LEVEL: asks racf through pipes whether a user may use a resource at a level.
 
 PROGRAM is racf, and this folder has its database. Prints what was answered; lines of AUDIT go to standard error. The exit status is
-0 for yes, 1 for everything else, and 2 where racf ended, which has said why on standard error.
+0 for yes, 1 for everything else, and 2 where racf can't be started or ended, which has said why on standard error then.
 """
 import re
 import subprocess
@@ -70,11 +70,14 @@ class Asker:
 def main():
     if len(sys.argv) != 6:
         sys.exit("usage: asker.py PROGRAM USER CLASS NAME LEVEL")
-    asker = Asker(sys.argv[1])
     try:
+        asker = Asker(sys.argv[1])
         allowed, answer = asker.may(*sys.argv[2:])
-    except Ended as ended:
-        print(f"racf ended with {ended}", file=sys.stderr)
+    except OSError as fault:
+        print(f"asker.py: {fault}", file=sys.stderr)
+        return 2
+    except Ended as status:
+        print(f"asker.py: racf ended with {status}", file=sys.stderr)
         return 2
     except ValueError as unfit:
         allowed, answer = False, unfit

@@ -2,21 +2,23 @@
 
 What a block is, its own lines tell. Of README.md and docs/GUIDE.md each is one of these four:
 - Its first line begins with `$ `: a session. Each such line is worked in a new folder, where `racf` is the program and `examples`
-  the repository's, at a new database, where it makes none itself; and what it prints is what stands below it, where a line `..`
-  stands for lines that are left out. A file that isn't there is what `$ cat FILE` shows of it, or that of an example, where one
-  alone has a file of that name.
+  the repository's, at a new database, where the session makes none; and what it prints is what stands below it, where a line
+  `..` stands for lines that are left out. A file that isn't there is what `$ cat FILE` shows of it, or that of an example, where
+  one alone has a file of that name.
 - A line proves or compiles the program (KIT): not run, and counted.
-- Its first line begins with `racf` or a word of the shell: worked as a whole, and it ends with 0, or with 4.
+- Its first line begins with `racf` or a word of the shell: worked as a whole in such a folder, and it ends with 0, or with 4.
 - It begins with a command or a request: a part of a deck. Behind the parts above it in its section, at a new database, no line
   of it is refused.
 On the other pages stand parts of programs, whose first line ends in `;` or `{`, and walks through the code, which begin with
 a crate's name (tests/docs holds their names). A block that is none of all these is a fault.
 """
 import collections
+import os
 import pathlib
 import re
 import shutil
 import subprocess
+import tempfile
 
 import databases
 from statements import REQUESTS
@@ -35,33 +37,44 @@ exec "{program}" "$@"
 
 
 class Folder:
-    """A new folder in which a shell works, with `racf` and the examples."""
+    """A new folder in which a shell works, with `racf` and the examples. `at` is where the shell stands."""
 
     def __init__(self, program):
-        self.place = databases.new_folder()
-        self.path = pathlib.Path(self.place.name)
-        (self.path / "racf").write_text(RACF.format(top=TOP, program=program))
-        (self.path / "racf").chmod(0o755)
-        (self.path / "examples").symlink_to(TOP / "examples")
+        # a folder in memory may be one from which nothing is started
+        self.place, self.started = databases.new_folder(), tempfile.TemporaryDirectory()
+        self.at = self.top = pathlib.Path(self.place.name)
+        launcher = pathlib.Path(self.started.name, "racf")
+        launcher.write_text(RACF.format(top=TOP, program=program))
+        launcher.chmod(0o755)
+        for name, place in (("racf", launcher), ("examples", TOP / "examples")):
+            (self.top / name).symlink_to(place)
 
     def __enter__(self):
         return self
 
     def __exit__(self, *how):
         self.place.cleanup()
+        self.started.cleanup()
 
     def work(self, words, given=""):
         """How bash ends with these words; what is said on standard error stands within what is printed."""
-        words = f'PATH=.:..:"$PATH"; {words}'
-        return subprocess.run(["bash", "-c", words], cwd=self.path, input=given, stdout=subprocess.PIPE, stderr=subprocess.STDOUT,
-                              text=True, errors="replace", timeout=SECONDS)
+        shell = os.environ | {"PATH": f"{self.top}:{os.environ['PATH']}", "STANDS": f"{self.top}/.at"}
+        ended = subprocess.run(["bash", "-c", f"trap 'pwd >$STANDS' EXIT\n{words}"], cwd=self.at, env=shell, input=given,
+                               stdout=subprocess.PIPE, stderr=subprocess.STDOUT, text=True, errors="replace", timeout=SECONDS)
+        self.at = pathlib.Path((self.top / ".at").read_text().rstrip("\n"))
+        return ended
+
+    def begin(self, lines):
+        """Makes a database, where these lines make none."""
+        if not re.search(r"\bracf init\b", "\n".join(lines)):
+            self.work("racf init")
 
     def lay(self, words):
         """Copies the files among the words that one example has."""
         for word in words.split():
             found = list(TOP.glob(f"examples/*/{word}")) if re.fullmatch(r"[\w-]+", word) else []
-            if len(found) == 1 and not (self.path / word).exists():
-                shutil.copy(found[0], self.path)
+            if len(found) == 1 and not (self.at / word).exists():
+                shutil.copy(found[0], self.at)
 
 
 def commands():
@@ -102,11 +115,10 @@ def is_printed(printed, shown):
 
 
 def session(folder, lines):
-    """Whether each step of a session prints what stands below it, at a new database, where it makes none itself."""
-    if "$ racf init" not in lines:
-        folder.work("racf init")
+    """Whether each step of a session prints what stands below it."""
+    folder.begin(lines)
     for words, shown in steps_of(lines):
-        file = folder.path / words.removeprefix("cat ")
+        file = folder.at / words.removeprefix("cat ")
         if words.startswith("cat ") and not file.exists():
             file.write_text("".join(line + "\n" for line in shown))
             continue
@@ -117,6 +129,7 @@ def session(folder, lines):
 
 def shell(folder, lines):
     """Whether the lines end with 0 or, for a refused line of a deck, with 4."""
+    folder.begin(lines)
     ended = folder.work("\n".join(lines))
     yield ended.returncode in (0, 4), f"`{lines[0]}` ends with {ended.returncode}, and says {ended.stdout!r}"
 

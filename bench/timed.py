@@ -8,7 +8,7 @@ import databases
 NAME = f"bench/{os.path.basename(sys.argv[0])}"
 program = os.path.abspath(os.environ.get("RACF", os.path.join(top, "crates", "racf_cli", "out", "racf_cli")))
 if not os.path.isfile(program):
-    raise SystemExit(f"{NAME}: no built program at {program}; .ci/run and ./racf build it")
+    raise SystemExit(f"{NAME}: no built program at {program}; .ci/run and ./racf --version build it")
 
 
 def run(words, folder, ends=(0,)):

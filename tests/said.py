@@ -1,10 +1,11 @@
-"""The tables of docs/GUIDE.md that say what a wrong word or line gets, worked on the program; a module of tests/docs.
+"""Tables of docs/GUIDE.md, worked on the program: what a wrong word or line gets, and what profiles cover; a module of tests/docs.
 
 Each line that standard error may have is brought about by the words that CAUSES has for it, or by another script of tests/, in
-which the words of its reason stand: those that take a failing call, little memory or another user. Each row of what you wrote, what you get
-and what to write instead is worked at a new database, behind the lines of FRONTS: what stands first in the second cell is
-what is said or printed of what stands first in the first, and nothing is refused of what stands in the third. A cell that
-doesn't begin with such a text, and a text with `..`, tell it in words, which nobody works.
+which the words of its reason stand: those that take a failing call, little memory or another user. Each row of what you wrote,
+what you get and what to write instead is worked at a new database, behind the lines of FRONTS: what stands first in the second
+cell is what is said or printed of what stands first in the first, and nothing is refused of what stands in the third. A cell
+that doesn't begin with such a text, and a text with `..`, tell it in words, which nobody works. Of the table of what profiles
+cover each name is asked about at a new database that has the profile.
 """
 import pathlib
 import re
@@ -145,3 +146,17 @@ def row_held(program, row):
 def check_written(program, guide):
     for row in cells(section(guide, "You wrote, you get, write instead")):
         yield from row_held(program, row)
+
+
+def check_covers(program, guide):
+    """Whether each profile of the guide's table covers the names that it is said to cover, and not the others."""
+    table = [row for row in cells(section(guide, "Classes and the names of profiles")) if row[1] in ("DATASET", "FACILITY")]
+    for profile, kind, covered, others in table:
+        names = names_in(covered) + names_in(others)
+        define = f"ADDSD '{names_in(profile)[0]}'" if kind == "DATASET" else f"RDEFINE FACILITY {names_in(profile)[0]}"
+        lines = ["ADDGROUP PAY", "SETROPTS CLASSACT(FACILITY)", f"{define} UACC(READ)", "VERIFY A IBMUSER"]
+        with Folder(program) as folder:
+            ended = folder.work("racf init; racf script - -", "\n".join(lines + [f"AUTH A {kind} {name} READ" for name in names]))
+        answers = [line.split()[2] for line in ended.stdout.splitlines()[len(lines):]]
+        wanted = ["UACC"] * len(names_in(covered)) + ["NOPROFILE"] * len(names_in(others))
+        yield answers == wanted, f"docs/GUIDE.md: {profile} of {kind}: {names} are answered {answers}"

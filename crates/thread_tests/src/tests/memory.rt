@@ -23,16 +23,41 @@ const REQUESTS: &[u8] = b"*AFTER 2\nVERIFY A IBMUSER\n";
 /// What is left of the run.
 type InMemory = Ran<MemorySource, MemorySink, MemoryDisk>;
 
-/// What the deck and the request file print where so many commands are accepted, and a disk fails the next one or none.
-fn printed(accepted: usize, failed: bool) -> Option<[&'static [u8]; 2]> {
-    match (accepted, failed) {
-        (2, false) => Some([b"1 ACCEPTED\n2 ACCEPTED\n", b"2 0 VERIFIED\n"]),
-        (1, false) => Some([b"1 ACCEPTED\n", b"NEVER 1\n1 0 VERIFIED\n"]),
-        (0, false) => Some([b"", b"NEVER 0\n0 0 VERIFIED\n"]),
-        (1, true) => Some([b"1 ACCEPTED\n1 DISKFAULT\n", b"NEVER 1\n1 0 VERIFIED\n"]),
-        (0, true) => Some([b"0 DISKFAULT\n0 HALTED\n", b"NEVER 0\n0 0 VERIFIED\n"]),
-        _ => None,
-    }
+/// What the deck and the request file print.
+#[derive(Clone, Copy)]
+struct Printed {
+    /// The deck.
+    deck: &'static [u8],
+    /// The request file.
+    file: &'static [u8],
+}
+
+/// What they print where so many commands are accepted, and a disk fails the next one or none.
+fn printed_for(accepted: usize, failed: bool) -> Option<Printed> {
+    let both = match (accepted, failed) {
+        (2, false) => Printed {
+            deck: b"1 ACCEPTED\n2 ACCEPTED\n",
+            file: b"2 0 VERIFIED\n",
+        },
+        (1, false) => Printed {
+            deck: b"1 ACCEPTED\n",
+            file: b"NEVER 1\n1 0 VERIFIED\n",
+        },
+        (0, false) => Printed {
+            deck: b"",
+            file: b"NEVER 0\n0 0 VERIFIED\n",
+        },
+        (1, true) => Printed {
+            deck: b"1 ACCEPTED\n1 DISKFAULT\n",
+            file: b"NEVER 1\n1 0 VERIFIED\n",
+        },
+        (0, true) => Printed {
+            deck: b"0 DISKFAULT\n0 HALTED\n",
+            file: b"NEVER 0\n0 0 VERIFIED\n",
+        },
+        _ => return None,
+    };
+    Some(both)
 }
 
 /// Whether a sink has what its worker prints: a front in whole lines of it, and all of it unless memory ran out or a call
@@ -51,11 +76,14 @@ fn has_printed(out: &(MemorySource, MemorySink), status: Status, whole: &[u8]) -
 fn have_printed(ran: &InMemory) -> bool {
     let accepted = ran.accepted.len();
     let failed = ran.doubt.is_some();
-    match (ran.outs.as_slice(), printed(accepted, failed)) {
-        ([deck, file], Some([told, answered])) => {
-            has_printed(deck, ran.status, told) && has_printed(file, ran.status, answered)
+    let Some(whole) = printed_for(accepted, failed) else {
+        return false;
+    };
+    match ran.outs.as_slice() {
+        [deck, file] => {
+            has_printed(deck, ran.status, whole.deck) && has_printed(file, ran.status, whole.file)
         }
-        ([], Some(_)) => ran.status == Status::NoMemory && accepted == 0 && !failed,
+        [] => ran.status == Status::NoMemory && accepted == 0 && !failed,
         _ => false,
     }
 }

@@ -27,8 +27,8 @@ run opens it too, and works the first K of the files NAME.., from 1 to 4, as dec
 request files, all side by side, each in a thread of its own. The output of NAME is NAME.out. A deck holds commands and
 lines *ISSUER, a request file requests; each request is answered on what all decks have done by then. No NAME stands
 twice, and none is the output of another.
-Behind script, check and run, --issuer ID lets ID give all commands, and a line that names another issuer is refused: so are
-lines worked that others wrote.
+Behind script, check and run, --issuer ID lets ID give all commands, and a line that names another issuer is refused:
+so are lines worked that others wrote.
 compact opens it and writes a checkpoint of it: all that the database holds now, and no commands behind it. Users,
 profiles, options and the number of the last command stay as they are. Opening it is then as fast as reading the
 checkpoint, however many commands led there, and the commands from then on have all of the journal's room again. The

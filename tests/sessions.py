@@ -2,8 +2,9 @@
 
 A line `$ WORD ..` is a call of the program; `<FILE` among its words is a file that is laid down before, with the bytes of NAME.FILE.
 Lines `> TEXT` below it are its standard input, `= STATUS SAID` how it ends and the first line that it says where it fails, and
-all others what it prints. A line `. are none` says that there is no database, `. folder NAME` makes a folder, and `. long FILE N`
-lays that file down, N bytes long. A line that begins with `#` is a comment.
+all others what it prints. A line `. are none` says that there is no database, `. as before` that the call in front of it left its
+files as they were, `. folder NAME` makes a folder, and `. long FILE N` lays that file down, N bytes long. A line that begins with
+`#` is a comment.
 """
 import os
 import subprocess
@@ -45,12 +46,18 @@ def call_fault(program, session, folder, words, lines, seconds):
     return None if got == wanted else f"wanted {wanted}, got {got}"
 
 
-def step_fault(session, folder, words):
-    """Does a step that is no call; what is wrong, in words; None where nothing is."""
+def held_by(folder):
+    """What each file of the database holds; None where there is none."""
+    return [(folder / disk).read_bytes() if (folder / disk).exists() else None for disk in databases.DISKS]
+
+
+def step_fault(session, folder, words, before):
+    """Does a step that is no call; what is wrong, in words; None where nothing is. The files held `before` in front of the last call."""
     match words:
         case ["are", "none"]:
-            left = [disk for disk in databases.DISKS if (folder / disk).exists()]
-            return f"{left[0]} is there" if left else None
+            return None if held_by(folder) == [None, None] else "a file is there"
+        case ["as", "before"]:
+            return None if held_by(folder) == before else "a file was changed"
         case ["folder", name]:
             (folder / name).mkdir()
         case ["long", name, length]:
@@ -63,12 +70,14 @@ def step_fault(session, folder, words):
 
 def session_fault(program, session, folder, seconds):
     """The first step of a session that fails, in words; None where none does."""
+    before = held_by(folder)
     for line, lines in steps_of(session.read_text()):
         words = line[2:].split(" ")
         if line.startswith("$ "):
+            before = held_by(folder)
             fault = call_fault(program, session, folder, words, lines, seconds)
         else:
-            fault = step_fault(session, folder, words)
+            fault = step_fault(session, folder, words, before)
         if fault:
             return f"{line}: {fault}"
     return None

@@ -21,7 +21,7 @@ use access_levels::Text;
 use checkpoint_disks::laws::records_are_read_behind_an_image;
 use checkpoint_disks::{Checkpoint, Side};
 use racf_journal::{FoundJournal, FoundRecords};
-use racf_outside::{Disk, Two};
+use racf_outside::{Disk, NeverDisk, Two};
 use racf_profiles::Rows;
 use std::alloc::Global;
 use std::marker::Model;
@@ -182,6 +182,34 @@ impl<D: Disk> FoundStore<D> {
             }
             Err((live, _)) => Err((in_order(side, live, idle), StoreFault::DiskFault)),
         }
+    }
+
+    /// What was read, over disks that keep nothing and never fail, and apart from it the disks, as they are: for who
+    /// looks at a database and changes nothing.
+    pub fn apart(self) -> (FoundStore<NeverDisk>, Two<D>)
+        ensures found { found_in result.0 ≡ found_in self }
+        ensures side { result.0.side ≡ self.side }
+        ensures first { result.1.first ≡ pick self.side self.journal.disk self.idle }
+        ensures second { result.1.second ≡ pick self.side self.idle self.journal.disk }
+    {
+        let FoundStore {
+            journal,
+            idle,
+            side,
+            epoch,
+            number,
+            rows,
+        } = self;
+        let (journal, live) = journal.apart();
+        let found = FoundStore {
+            journal,
+            idle: NeverDisk,
+            side,
+            epoch,
+            number,
+            rows,
+        };
+        (found, in_order(side, live, idle))
     }
 
     /// The disks.

@@ -1,6 +1,9 @@
 //! The disks of the folder that the program runs in.
 
-use racf_files::{DiskTrouble, FileDisk, FileShelf, LOST, Progress, Reason, open_both};
+use racf_files::{
+    DiskTrouble, FileDisk, FileIdentity, FileShelf, LOST, Progress, ReadAlone, Reason, open_both,
+    read_both,
+};
 use racf_outside::Two;
 use std::alloc::AllocError;
 use std::fs;
@@ -17,6 +20,14 @@ where
     R: AllocGlobal + Files<File = File> + Clone + Drop,
 {
     open_both(rt.alloc(), rt, DISKS)
+}
+
+/// What both disks of the folder hold, read alone.
+pub(crate) fn read_disks<R>(rt: &R) -> Result<Two<ReadAlone>, DiskTrouble>
+where
+    R: AllocGlobal + Files<File = File>,
+{
+    read_both(rt.alloc(), rt, DISKS)
 }
 
 /// The first of the disks that may hold a database: a regular file that isn't empty.
@@ -71,18 +82,22 @@ pub(crate) fn reasons<R: Files<File = File> + Drop>(
     [disks.first.reason(), disks.second.reason()]
 }
 
-/// Keeps a shelf from the files of the database: those that are open, and what their names lead to.
+/// Which files the disks are.
+pub(crate) fn identities<R: Files<File = File> + Drop>(
+    disks: &Two<FileDisk<R>>,
+) -> [Option<FileIdentity>; 2] {
+    [disks.first.identity(), disks.second.identity()]
+}
+
+/// Keeps a shelf from the files of the database: those that are open or were read, and what their names lead to.
 pub(crate) fn guard<R>(
     shelf: &mut FileShelf<R>,
-    disks: Option<&Two<FileDisk<R>>>,
+    disks: [Option<FileIdentity>; 2],
 ) -> Result<(), AllocError>
 where
     R: Files<File = File> + Input + Print + Eprint + Clone + Drop,
 {
-    let [first, second] = match disks {
-        Some(disks) => [disks.first.identity(), disks.second.identity()],
-        None => [None, None],
-    };
+    let [first, second] = disks;
     shelf.guard_disk(DISKS[0], first)?;
     shelf.guard_disk(DISKS[1], second)?;
     shelf.guard_mark(LOST)

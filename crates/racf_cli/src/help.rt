@@ -8,6 +8,8 @@ pub(crate) const HELP: &str = "usage: racf init
        racf init over
        racf script IN OUT
        racf script --issuer ID IN OUT
+       racf check IN OUT
+       racf check --issuer ID IN OUT
        racf run K NAME..
        racf run --issuer ID K NAME..
        racf compact
@@ -19,12 +21,14 @@ either holds anything it is refused, and init over makes a new database whatever
 script opens that database, works the lines of the file IN, and writes a reply or an answer for each to the file OUT.
 IN and OUT differ, or both are -: standard input and standard output. A command that is answered ACCEPTED stands on the
 disk, and outlives the program and the machine's power.
+check tries the file IN: it writes to OUT what script would write now, and keeps nothing of it. It only reads the
+database, which others may read or work meanwhile.
 run opens it too, and works the first K of the files NAME.., from 1 to 4, as decks, and the others, at most 16, as
 request files, all side by side, each in a thread of its own. The output of NAME is NAME.out. A deck holds commands and
 lines *ISSUER, a request file requests; each request is answered on what all decks have done by then. No NAME stands
 twice, and none is the output of another.
-Behind script and run, --issuer ID lets ID give all commands, and a line that names another issuer is refused: so are
-lines worked that others wrote.
+Behind script, check and run, --issuer ID lets ID give all commands, and a line that names another issuer is refused:
+so are lines worked that others wrote.
 compact opens it and writes a checkpoint of it: all that the database holds now, and no commands behind it. Users,
 profiles, options and the number of the last command stay as they are. Opening it is then as fast as reading the
 checkpoint, however many commands led there, and the commands from then on have all of the journal's room again. The
@@ -82,6 +86,14 @@ script opens the database of this folder, works the lines of the file IN, and wr
 the file OUT, which is made anew. IN and OUT differ, or both are -: standard input and standard output. With --issuer
 ID gives all commands, and lines *ISSUER are refused. A file of that name is ./--issuer.";
 
+/// What `racf check --help` prints.
+const CHECK: &str = "usage: racf check IN OUT
+       racf check --issuer ID IN OUT
+
+check reads the database of this folder, works the lines of the file IN, and writes to the file OUT what script would
+write now; nothing of it is kept, and the database stays as it is. IN and OUT differ, or both are -: standard input and
+standard output. With --issuer ID gives all commands, and lines *ISSUER are refused.";
+
 /// What `racf run --help` prints.
 const RUN: &str = "usage: racf run K NAME..
        racf run --issuer ID K NAME..
@@ -114,7 +126,7 @@ pub(crate) struct Word {
 }
 
 /// The words.
-const WORDS: [Word; 5] = [
+const WORDS: [Word; 6] = [
     Word {
         name: "init",
         form: "nothing behind it, or over",
@@ -124,6 +136,11 @@ const WORDS: [Word; 5] = [
         name: "script",
         form: "IN OUT behind it, two files that differ or both -, or --issuer ID IN OUT",
         help: SCRIPT,
+    },
+    Word {
+        name: "check",
+        form: "IN OUT behind it, two files that differ or both -, or --issuer ID IN OUT",
+        help: CHECK,
     },
     Word {
         name: "run",

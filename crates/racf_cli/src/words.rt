@@ -9,7 +9,10 @@ const RUN: &str = "run";
 /// The word of a stream.
 const SCRIPT: &str = "script";
 
-/// Behind `script` or `run`: who gives all commands.
+/// The word of a stream that is tried.
+const CHECK: &str = "check";
+
+/// Behind `script`, `check` or `run`: who gives all commands.
 const ISSUER: &str = "--issuer";
 
 /// What stands behind the name of a deck or a request file in that of its output.
@@ -49,20 +52,26 @@ pub(crate) fn asked_for(words: &[String]) -> Asked {
 
 /// Whether the words are those of a dialogue: a stream from standard input to standard output.
 pub(crate) fn are_standard(words: &[String]) -> bool {
-    match script_names(words) {
+    match stream_names(words) {
         Some((input, output)) => input == "-" && output == "-",
         None => false,
     }
 }
 
-/// IN and OUT, where the words are those of a stream.
-pub(crate) fn script_names(words: &[String]) -> Option<(&str, &str)> {
+/// IN and OUT, where the words are those of a stream that is worked or tried.
+pub(crate) fn stream_names(words: &[String]) -> Option<(&str, &str)> {
     match words {
-        [verb, input, output] if verb.as_str() == SCRIPT => Some((input.as_str(), output.as_str())),
-        [verb, option, _, input, output] if verb.as_str() == SCRIPT && option.as_str() == ISSUER =>
-            { Some((input.as_str(), output.as_str())) }
+        [verb, input, output] if is_stream_word(verb) => Some((input.as_str(), output.as_str())),
+        [verb, option, _, input, output] if is_stream_word(verb) && option.as_str() == ISSUER => {
+            Some((input.as_str(), output.as_str()))
+        }
         _ => None,
     }
+}
+
+/// Whether it is the word of a stream.
+fn is_stream_word(verb: &String) -> bool {
+    verb.as_str() == SCRIPT || verb.as_str() == CHECK
 }
 
 /// The names of the decks and the request files, where the words are those of a run.

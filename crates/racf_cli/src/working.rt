@@ -1,15 +1,18 @@
 //! The top call over the real files, disks and standard streams.
 
 use crate::disks::{
-    DISKS, first_missing, first_that_holds, guard, open_disks, reasons, take_away, tell_disks,
+    DISKS, first_missing, first_that_holds, guard, identities, open_disks, read_disks, reasons,
+    take_away, tell_disks,
 };
 use crate::explaining::{Found, refuse_init, say_file, say_status, say_why};
 use crate::help::TYPED;
 use crate::watching::{end, watch};
-use crate::words::{are_standard, made_name, output_of, run_names, script_names, write_checkpoint};
-use racf_files::{DatabaseFile, DiskTrouble, FileDisk, FileShelf, LOST, Phase, Progress, Reason};
+use crate::words::{are_standard, made_name, output_of, run_names, stream_names, write_checkpoint};
+use racf_files::{
+    DatabaseFile, DiskTrouble, FileDisk, FileShelf, LOST, Phase, Progress, ReadAlone, Reason,
+};
 use racf_outside::{NeverDisk, Two};
-use racf_run::{Gate, Status, racf, works_on_disks};
+use racf_run::{Gate, Status, looks_at_disks, racf, works_on_disks};
 use std::alloc::{AllocError, Global};
 use std::io::IsTerminal;
 use std::sync::Wait;
@@ -52,7 +55,8 @@ pub(crate) fn nothing_found(alloc: Global) -> Found {
     }
 }
 
-/// Runs the top call over the real files, and says how it ended. The disks are opened where the words work on them.
+/// Runs the top call over the real files, and says how it ended. The disks are opened where the words work on them, and
+/// read alone where they only look.
 pub(crate) fn work<T: Wait + Threads + Eprint + Clone + Drop + Send + Sync + 'static>(
     rt: &HostRuntime,
     threads: &T,
@@ -61,6 +65,8 @@ pub(crate) fn work<T: Wait + Threads + Eprint + Clone + Drop + Send + Sync + 'st
 ) -> Status {
     let worked = if works_on_disks(words) {
         work_watched(rt, threads, words, may_hold)
+    } else if looks_at_disks(words) {
+        work_looking(rt, threads, words)
     } else {
         work_without_disks(rt, threads, words)
     };
@@ -85,13 +91,44 @@ fn work_without_disks<T: Wait + Threads + Sync>(
     words: &[String],
 ) -> Result<Status, AllocError> {
     let mut shelf = FileShelf::new(rt.alloc(), rt.clone()?);
-    guard(&mut shelf, None)?;
+    guard(&mut shelf, [None, None])?;
     shelf.plan(None, made_name(words))?;
     let none = Two {
         first: NeverDisk,
         second: NeverDisk,
     };
     let status = racf(threads, rt.alloc(), words, &mut shelf, none, &Fair).0;
+    conclude(rt, status, words, &shelf, [None, None]);
+    Ok(status)
+}
+
+/// Reads both files of the database, lets them go, and runs the top call over what was read: so others may read or work
+/// them meanwhile. The shelf keeps from both all the same.
+fn work_looking<T: Wait + Threads + Sync>(
+    rt: &HostRuntime,
+    threads: &T,
+    words: &[String],
+) -> Result<Status, AllocError> {
+    let Two { first, second } = match read_disks(rt) {
+        Ok(read) => read,
+        Err(trouble) => return Ok(disk_status(rt, trouble)),
+    };
+    let ReadAlone {
+        disk: first,
+        identity: first_file,
+    } = first;
+    let ReadAlone {
+        disk: second,
+        identity: second_file,
+    } = second;
+    let mut shelf = FileShelf::new(rt.alloc(), rt.clone()?);
+    guard(&mut shelf, [first_file, second_file])?;
+    plan(rt.alloc(), &mut shelf, words)?;
+    if are_standard(words) && is_dialogue(rt) {
+        shelf.converse(TYPED)?;
+    }
+    let disks = Two { first, second };
+    let status = racf(threads, rt.alloc(), words, &mut shelf, disks, &Fair).0;
     conclude(rt, status, words, &shelf, [None, None]);
     Ok(status)
 }
@@ -179,7 +216,7 @@ fn work_on_disks<T: Wait + Threads + Sync>(
     progress: &Progress,
 ) -> Result<Worked, AllocError> {
     let mut shelf = FileShelf::new(rt.alloc(), rt.clone()?);
-    guard(&mut shelf, Some(&disks))?;
+    guard(&mut shelf, identities(&disks))?;
     plan(rt.alloc(), &mut shelf, words)?;
     shelf.tell(progress.share()?);
     if are_standard(words) && is_dialogue(rt) {
@@ -207,7 +244,7 @@ fn plan(
     shelf: &mut FileShelf<HostRuntime>,
     words: &[String],
 ) -> Result<(), AllocError> {
-    if let Some((input, output)) = script_names(words) {
+    if let Some((input, output)) = stream_names(words) {
         shelf.plan(Some(input), Some(output))?;
     }
     for name in run_names(words) {

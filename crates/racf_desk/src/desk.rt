@@ -147,7 +147,7 @@ impl<D: Disk> Desk<D> {
     }
 
     /// A desk at what was recovered, whose store stands there.
-    fn fresh(alloc: Global, found: Recovered, store: Store<D>) -> Desk<D>
+    pub(crate) fn fresh(alloc: Global, found: Recovered, store: Store<D>) -> Desk<D>
         requires image { IsImageOf found.database.rows (arc_value found.image) }
         requires stands { StandsThere D.tells store (record { image = arc_value found.image; gate = found.gate }) }
         ensures desk { result ≡ is_fresh (record { image = arc_value found.image; gate = found.gate }) store }

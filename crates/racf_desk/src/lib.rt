@@ -2,7 +2,8 @@
 //! installed.
 //!
 //! A [`Desk`] has the database, the image of its rows, and the store of `racf_checkpoint` with the records of the
-//! commands. [`Desk::format`] makes a new database and [`Desk::open`] opens the one that the disks stand for.
+//! commands. [`Desk::format`] makes a new database and [`Desk::open`] opens the one that the disks stand for;
+//! [`Desk::look`] gives a desk at that database that keeps nothing, and leaves the disks as they are.
 //! [`Desk::judge`] tests a command in a fixed order, takes all memory and makes the next image; [`Desk::commit`] puts
 //! its record on the disks, and [`Desk::install`] puts the image in place; [`Desk::execute`] is the three.
 //! [`Desk::compact`] writes a checkpoint of the rows on the other disk, behind which the journal begins anew. The
@@ -23,6 +24,7 @@
 
 mod desk;
 mod issuers;
+mod looking;
 mod making;
 mod outcome;
 mod recovery;

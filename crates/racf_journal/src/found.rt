@@ -17,7 +17,7 @@ use crate::reading::{is_formatted, read_from};
 use crate::repair::repair;
 use crate::scan::{FoundRecords, read_records};
 use access_levels::Text;
-use racf_outside::Disk;
+use racf_outside::{Disk, NeverDisk};
 use std::alloc::Global;
 use std::marker::Model;
 
@@ -138,6 +138,28 @@ impl<D: Disk> FoundJournal<D> {
             Ok(()) => Ok((Journal { disk, start, gate }, records)),
             Err(fault) => Err((disk, JournalFault::from(fault))),
         }
+    }
+
+    /// What was read, over a disk that keeps nothing and never fails, and apart from it the disk, as it is.
+    pub fn apart(self) -> (FoundJournal<NeverDisk>, D)
+        ensures start { result.0.start ≡ self.start }
+        ensures gate { result.0.gate ≡ self.gate }
+        ensures records { result.0.records ≡ self.records }
+        ensures disk { result.1 ≡ self.disk }
+    {
+        let FoundJournal {
+            disk,
+            start,
+            found,
+            end,
+        } = self;
+        let found = FoundJournal {
+            disk: NeverDisk,
+            start,
+            found,
+            end,
+        };
+        (found, disk)
     }
 
     /// The disk.

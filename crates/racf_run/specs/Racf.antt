@@ -36,13 +36,17 @@ abbrev pub files_of : Issuing → (input output : List ℕ) → Option Files
 files_of issuing input output =
     if not (bytes_eq input output) || bytes_eq input (codes "-") then Some (record { issuing = issuing; input = input; output = output }) else None
 
--- `script IN OUT`, or `script --issuer ID IN OUT`. The forms go by the count of words.
+-- The files behind a verb: `VERB IN OUT`, or `VERB --issuer ID IN OUT`. The forms go by the count of words.
+abbrev pub stream_files : (verb : List ℕ) → List (List ℕ) → Option Files
+stream_files verb (first ∷ input ∷ output ∷ []) =
+    if bytes_eq first verb then files_of Free input output else None
+stream_files verb (first ∷ word ∷ id ∷ input ∷ output ∷ []) =
+    if bytes_eq first verb && is_issuer_word word then option_and_then (λ issuing. files_of issuing input output) (fixed_issuer id) else None
+stream_files verb others = None
+
+-- `script IN OUT`, or `script --issuer ID IN OUT`.
 abbrev pub script_files : List (List ℕ) → Option Files
-script_files (verb ∷ input ∷ output ∷ []) =
-    if bytes_eq verb (codes "script") then files_of Free input output else None
-script_files (verb ∷ word ∷ id ∷ input ∷ output ∷ []) =
-    if bytes_eq verb (codes "script") && is_issuer_word word then option_and_then (λ issuing. files_of issuing input output) (fixed_issuer id) else None
-script_files others = None
+script_files = stream_files (codes "script")
 
 -- The words `init`.
 abbrev pub is_init : List (List ℕ) → Bool

@@ -12,6 +12,7 @@
 //! ```
 #![tactic(auto)]
 
+mod checking;
 mod compacting;
 mod issuers;
 mod making;
@@ -25,4 +26,4 @@ pub use racf_stream::script;
 pub use racf_threads::{Ran, run};
 pub use racf_workers::{Gate, Idle};
 pub use statements::{Issuing, Status};
-pub use top::{racf, works_on_disks};
+pub use top::{looks_at_disks, racf, works_on_disks};

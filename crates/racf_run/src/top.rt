@@ -10,14 +10,16 @@ ghost use Rattle.desk_rules.specs.Formatting.{LeavesNoOlder};
 ghost use Rattle.desk_rules.specs.Position.{first_position};
 ghost use Rattle.desk_rules.specs.Durable.{LeavesBoth, SameIdle};
 ghost use Rattle.desk_rules.specs.Recovery.{StandsFor};
-ghost use Rattle.racf_run.specs.Racf.{files_of, script_files, is_init, opening_status, RunsOnShelf, MakesOnShelf, IsWholeOutput, OpensNone};
+ghost use Rattle.racf_run.specs.Racf.{files_of, script_files, stream_files, is_init, opening_status, RunsOnShelf, MakesOnShelf, IsWholeOutput, OpensNone};
 ghost use Rattle.racf_run.specs.Racf.{IsUnsound, OpensNoDatabase, OpensDatabase, OpenedDisks, OpensOn, StandsStill, EndsOn, EndsAt, RoseEither, fault_counts};
+ghost use Rattle.racf_run.specs.Checking.{check_files, Checks};
 ghost use Rattle.racf_run.specs.Compacting.{is_compact, EndsCompact, MovesToCompact};
 ghost use Rattle.racf_run.specs.Making.{make_words, most_users};
 ghost use Rattle.racf_run.specs.Running.{run_words, NamedRan, RunsFiles};
 ghost use Rattle.statements.specs.Runs.{longest_input};
 ghost use Rattle.statements.specs.Status.{is_whole};
 
+use crate::checking::check_on;
 use crate::compacting::{compact_on, is_compact};
 use crate::issuers::{fixed_issuer, is_issuer_word};
 use crate::making::make;
@@ -37,7 +39,7 @@ use std::thread::Threads;
 /// The most users that `make` is asked for.
 const MOST_USERS: u64 = 10_000;
 
-/// What the words of a script name.
+/// What the words of a stream name.
 #[derive(Clone, Copy)]
 struct Files<'a> {
     /// Who gives the commands.
@@ -61,10 +63,11 @@ struct MakeWords<'a> {
 /// word `init` makes a new database, whatever the disks held. The word `compact` opens the database and writes a
 /// checkpoint of it, on the disk that doesn't count: then that one counts, and there are no records behind it. The
 /// words `script IN OUT` open the database, work the stream of the input IN, and write to the output OUT; IN and OUT
-/// differ or are both `-`. The words `run K NAME..` open the database, and work the first K of the names, from 1 to 4,
+/// differ or are both `-`. The words `check IN OUT` do the same at a desk that looks at the database: the stream is tried,
+/// and nothing of it is kept. The words `run K NAME..` open the database, and work the first K of the names, from 1 to 4,
 /// as decks, and the others, at most 16, as request files, each in a thread of its own: the output of NAME is
 /// `NAME.out`. The names differ, and none is the output of another. The words `make N OUT` write the generated text of
-/// N users, from 1 to 10,000, to the output OUT. Behind `script` and `run` the words `--issuer ID` may stand: then that
+/// N users, from 1 to 10,000, to the output OUT. Behind `script`, `check` and `run` the words `--issuer ID` may stand: then that
 /// user gives all commands, and each line that would name an issuer is refused. Other words are `Usage`. (The words are
 /// this product's own.)
 ///
@@ -132,6 +135,13 @@ where
 
     // The database is opened, or why not; and then a checkpoint of it is written, or a disk failed, or memory ran out,
     // which leaves it as it was. At every moment a crash leaves what stands for the database as it was opened.
+    // A stream is tried at what is seen of the database, and the disks stay as they are.
+    ensures checks { IfSome (check_files (map string_bytes words.now)) (λ files.
+        Checks F.source_gives F.sink_gives F.take_back_gives F.give_back_gives F.tells F.output
+        (Rose (F.source_faults shelf.old) (F.source_faults shelf.new)) (Rose (F.sink_faults shelf.old) (F.sink_faults shelf.new))
+        (D.tells disks.first) (D.tells disks.second) (D.tells result.1.first) (D.tells result.1.second) result.0
+        (F.input shelf.old files.input) files shelf.old shelf.new) }
+
     ensures compacts { is_compact (map string_bytes words.now) ≡ true →
         OpensNoDatabase (D.tells disks.first) (D.tells disks.second) (D.tells result.1.first) (D.tells result.1.second) result.0 shelf.old shelf.new
         ⊎ OpensDatabase (D.tells disks.first) (D.tells disks.second)
@@ -140,7 +150,7 @@ where
         MovesToCompact (D.tells disks.first) (D.tells disks.second) (D.tells result.1.first) (D.tells result.1.second) }
 
     // Why it stopped.
-    ensures usage { (result.0 ≡ Status.Usage) ↔ (IsNone (script_files (map string_bytes words.now)) × IsNone (make_words (map string_bytes words.now))
+    ensures usage { (result.0 ≡ Status.Usage) ↔ (IsNone (script_files (map string_bytes words.now)) × IsNone (check_files (map string_bytes words.now)) × IsNone (make_words (map string_bytes words.now))
         × (is_init (map string_bytes words.now) ≡ false) × (is_compact (map string_bytes words.now) ≡ false) × IsNone (run_words (map string_bytes words.now))) }
     ensures nothing_opened { (result.0 ≡ Status.Usage) ⊎ ((is_init (map string_bytes words.now) ≡ true) ⊎ (is_compact (map string_bytes words.now) ≡ true)) → shelf.new ≡ shelf.old }
     ensures read_fault { result.0 ≡ Status.ReadFault → Rose (F.source_faults shelf.old) (F.source_faults shelf.new) }
@@ -163,6 +173,16 @@ where
 {
     if let Some(files) = script_files(words) {
         return script_on(
+            alloc,
+            files.issuing,
+            files.input,
+            files.output,
+            shelf,
+            disks,
+        );
+    }
+    if let Some(files) = check_files(words) {
+        return check_on(
             alloc,
             files.issuing,
             files.input,
@@ -206,6 +226,14 @@ pub fn works_on_disks(words: &[String]) -> bool
         || is_init(words)
         || is_compact(words)
         || run_words(words).is_some()
+}
+
+/// Whether the words are of a form that only looks at the database: it syncs the disks and reads them, and makes no other
+/// call of them, so that a program may open them for reading alone.
+pub fn looks_at_disks(words: &[String]) -> bool
+    ensures { result ≡ is_some (check_files (map string_bytes words.now)) }
+{
+    check_files(words).is_some()
 }
 
 /// Makes a new database on the disks.
@@ -300,7 +328,7 @@ fn make_into<F: Shelf>(alloc: Global, users: u32, output: &str, shelf: &mut F) -
 }
 
 /// Works a stream from an input of a shelf to an output, at a desk that was opened.
-fn script_between<F: Shelf, D: Disk>(
+pub(crate) fn script_between<F: Shelf, D: Disk>(
     alloc: Global,
     issuing: Issuing,
     input: &str,
@@ -363,16 +391,30 @@ fn is_init(words: &[String]) -> bool
 fn script_files(words: &[String]) -> Option<Files<'_>>
     ensures { option_map (λ files. record { issuing = files.issuing; input = files.input.now; output = files.output.now }) result ≡ script_files (map string_bytes words.now) }
 {
-    if let [verb, input, output] = words {
-        if verb.as_str() != "script" {
+    stream_files("script", words)
+}
+
+/// The same of `check`.
+fn check_files(words: &[String]) -> Option<Files<'_>>
+    ensures { option_map (λ files. record { issuing = files.issuing; input = files.input.now; output = files.output.now }) result ≡ check_files (map string_bytes words.now) }
+{
+    stream_files("check", words)
+}
+
+/// The files that the words name behind a verb, and who gives the commands.
+fn stream_files<'a>(verb: &str, words: &'a [String]) -> Option<Files<'a>>
+    ensures { option_map (λ files. record { issuing = files.issuing; input = files.input.now; output = files.output.now }) result ≡ stream_files verb.now (map string_bytes words.now) }
+{
+    if let [first, input, output] = words {
+        if first.as_str() != verb {
             return None;
         }
         return files_of(Issuing::Free, input.as_str(), output.as_str());
     }
-    let [verb, word, id, input, output] = words else {
+    let [first, word, id, input, output] = words else {
         return None;
     };
-    if verb.as_str() != "script" || !is_issuer_word(word.as_str()) {
+    if first.as_str() != verb || !is_issuer_word(word.as_str()) {
         return None;
     }
     let issuing = fixed_issuer(id.as_str())?;

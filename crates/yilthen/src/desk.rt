@@ -12,7 +12,7 @@ use crate::error::{Error, Refused};
 use access_levels::Id;
 use racf_checkpoint::StoreFault;
 use racf_desk::Reply;
-use racf_outside::{Disk, Two};
+use racf_outside::{Disk, NeverDisk, Two};
 use raclist_image::Image;
 use std::alloc::Global;
 use std::marker::Model;
@@ -96,6 +96,31 @@ impl<D: Disk> Desk<D> {
         match racf_desk::Desk::open(alloc, disks) {
             Ok(desk) => Ok(Desk { desk }),
             Err((disks, fault)) => Err((disks, Error::of_store(fault))),
+        }
+    }
+
+    /// Looks at the database that the disks stand for: a desk at that position, over disks that keep nothing and never
+    /// fail, and beside it the disks. Both are synced and read, and that is all, so that at every moment a crash leaves
+    /// what it might have left before. What is given to that desk is answered as by the one that [`Desk::open`] gives,
+    /// and ends with it.
+    pub fn look(alloc: Global, disks: Two<D>) -> (Two<D>, Result<Desk<NeverDisk>, Error>)
+        ensures stands { IfOk result.1 (λ desk. NowRead (D.tells disks.first) (D.tells disks.second) (λ first second. standing first second ≡ Ok desk.position)) }
+        ensures history { IfOk result.1 (λ desk. NowRead (D.tells disks.first) (D.tells disks.second) (LeadOn desk.position)) }
+        ensures runs { IfOk result.1 (λ desk. desk.halted ≡ false) }
+        ensures epoch { IfOk result.1 (λ desk. NowRead (D.tells disks.first) (D.tells disks.second) (SaysEpoch desk.store.epoch)) }
+        ensures untouched { MatchResult result.1 (λ desk. OnlySynced (D.tells disks.first) (D.tells result.0.first) × OnlySynced (D.tells disks.second) (D.tells result.0.second))
+            (λ error. OfStore error (λ why. why ≢ StoreFault.DiskFault → OnlySynced (D.tells disks.first) (D.tells result.0.first) × OnlySynced (D.tells disks.second) (D.tells result.0.second))) }
+        ensures first_moments { StaysPossible (D.tells disks.first) (D.tells result.0.first) }
+        ensures second_moments { StaysPossible (D.tells disks.second) (D.tells result.0.second) }
+        ensures joint { SayWhatWasPossible (D.tells disks.first) (D.tells disks.second) (D.tells result.0.first) (D.tells result.0.second) }
+        ensures fault { IfErr result.1 (λ error. OfStore error (λ why. NowRead (D.tells disks.first) (D.tells disks.second) (Refuses why))) }
+        ensures cause { IfErr result.1 (λ error. OfStore error (IsCausedByOne (D.faults disks.first) (D.faults result.0.first) (D.faults disks.second) (D.faults result.0.second))) }
+        ensures first_no_fewer { D.faults disks.first ≤ D.faults result.0.first }
+        ensures second_no_fewer { D.faults disks.second ≤ D.faults result.0.second }
+    {
+        match racf_desk::Desk::look(alloc, disks) {
+            (disks, Ok(desk)) => (disks, Ok(Desk { desk })),
+            (disks, Err(fault)) => (disks, Err(Error::of_store(fault))),
         }
     }
 

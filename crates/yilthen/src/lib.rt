@@ -1,9 +1,9 @@
 //! What a program of one's own names: the desk between two commands, who a user is, what he may access, and the disks.
 //!
-//! A [`Desk`] stands over two disks. [`Desk::format`] makes a new database and [`Desk::open`] opens the one that the
-//! disks stand for; [`Desk::execute`] gives a command, and [`Desk::compact`] writes a checkpoint. Nothing is ever under
-//! way at it between two calls: whose commands are judged in one step and committed in another takes `racf_desk`, which
-//! this crate stands on. [`verify`] makes an [`Acee`] of the image of a desk; [`auth`], [`fastauth`] and [`logged`] ask it.
+//! A [`Desk`] stands over two disks. [`Desk::format`] makes a new database, [`Desk::open`] opens the one that the disks
+//! stand for, and [`Desk::look`] leaves them as they are; [`Desk::execute`] gives a command, and [`Desk::compact`] writes
+//! a checkpoint. Nothing is ever under way at it between two calls: whose commands are judged in one step and committed
+//! in another takes `racf_desk`, which this crate stands on. [`verify`] makes an [`Acee`] of the image of a desk; [`auth`], [`fastauth`] and [`logged`] ask it.
 //! All that can be refused or fail is an [`Error`], which is shown in the words of the guide.
 //!
 //! This crate stands on no thread and no lock. What threads share is in `racroute`.

@@ -60,3 +60,27 @@ def commands_of(data, requests=()):
             line = lines[at]
             at += 1
         yield lines[first:at]
+
+
+def joined(lines):
+    """The text of a command over its lines, and where the part of each line begins: in the text, and in the line."""
+    parts, places, length, strips = [], [], 0, False
+    for line in map(text_of, lines):
+        begin = len(line) - len(line.lstrip(b" \t")) if strips else 0
+        marked = line.rstrip(b" \t")
+        part = marked[begin:-1] if goes_on(line) else line[begin:]
+        strips = marked.endswith(b"+")
+        places.append((length, begin))
+        parts.append(part)
+        length += len(part)
+    return b"".join(parts), places
+
+
+def shown(text):
+    """A text as it is printed: bytes that aren't UTF-8, and what no terminal shows, are written as \\xNN and \\uNNNN."""
+    letters = text.decode("utf-8", "backslashreplace")
+    return letters if letters.isprintable() else "".join(letter if letter.isprintable() or letter == "\t" else escaped(letter) for letter in letters)
+
+
+def escaped(letter):
+    return f"\\x{ord(letter):02x}" if ord(letter) < 0x80 else f"\\u{ord(letter):04x}"

@@ -1,3 +1,4 @@
+pub mod CheckLaws
 pub mod CompactLaws
 pub mod DiskLaws
 pub mod OpeningLaws

@@ -133,8 +133,6 @@ where
     ensures init_moments { is_init (map string_bytes words.now) ≡ true →
         StaysFormatting (D.tells disks.first) (D.tells result.1.first) × StaysBaring (D.tells disks.second) (D.tells result.1.second) }
 
-    // The database is opened, or why not; and then a checkpoint of it is written, or a disk failed, or memory ran out,
-    // which leaves it as it was. At every moment a crash leaves what stands for the database as it was opened.
     // A stream is tried at what is seen of the database, and the disks stay as they are.
     ensures checks { IfSome (check_files (map string_bytes words.now)) (λ files.
         Checks F.source_gives F.sink_gives F.take_back_gives F.give_back_gives F.tells F.output
@@ -142,6 +140,8 @@ where
         (D.tells disks.first) (D.tells disks.second) (D.tells result.1.first) (D.tells result.1.second) result.0
         (F.input shelf.old files.input) files shelf.old shelf.new) }
 
+    // The database is opened, or why not; and then a checkpoint of it is written, or a disk failed, or memory ran out,
+    // which leaves it as it was. At every moment a crash leaves what stands for the database as it was opened.
     ensures compacts { is_compact (map string_bytes words.now) ≡ true →
         OpensNoDatabase (D.tells disks.first) (D.tells disks.second) (D.tells result.1.first) (D.tells result.1.second) result.0 shelf.old shelf.new
         ⊎ OpensDatabase (D.tells disks.first) (D.tells disks.second)

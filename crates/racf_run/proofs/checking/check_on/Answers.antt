@@ -1,0 +1,43 @@
+use Rattle.std.proofs.Common.{◌≡◌, ◌≢◌, inr, subst}
+use Rattle.std.specs.Prelude.{Ok, IfOk, MatchResult}
+use Rattle.racf_journal.specs.Opening.{OnlySynced}
+use Rattle.racf_checkpoint.specs.Stored.{NowRead}
+use Rattle.racf_checkpoint.specs.declared.fault.StoreFault.TheVariants.{DiskFault}
+use Rattle.desk_rules.specs.Made.{DeskOn}
+use Rattle.desk_rules.specs.Recovery.{standing}
+use Rattle.racf_outside.specs.Causes.{Rose}
+use Rattle.racf_run.proofs.CheckLaws.{runs_unfailed}
+use Rattle.racf_run.proofs.checking.check_on.Goals as goal
+
+pub returns-in-Ok-clause-checks : goal.returns-in-Ok-clause-checks
+returns-in-Ok-clause-checks g c =
+    let first = g.D.Disk.tells c.args.disks.first in
+    let second = g.D.Disk.tells c.args.disks.second in
+    let looked = c.look-disks.ensures in
+    let now = c.look-disks.result.0 in
+    let base = c.in-Ok.desk.position in
+    let ran = c.script_between-status in
+    let stood : NowRead first second (λ one other. standing one other ≡ Ok base) =
+    subst (λ seen. IfOk seen (λ (desk : DeskOn _). NowRead first second (λ one other. standing one other ≡ Ok desk.position))) c.in-Ok.is looked.stands in
+    let synced : OnlySynced first (g.D.Disk.tells now.first) × OnlySynced second (g.D.Disk.tells now.second) =
+    subst (λ seen. MatchResult seen (λ (desk : DeskOn _). OnlySynced first (g.D.Disk.tells now.first) × OnlySynced second (g.D.Disk.tells now.second)) (λ why. why ≢ DiskFault → OnlySynced first (g.D.Disk.tells now.first) × OnlySynced second (g.D.Disk.tells now.second)))
+    c.in-Ok.is looked.untouched in
+    record {
+      runs =
+          inr (record {
+            base = base;
+            stood = stood;
+            ran =
+                runs_unfailed g.F.Shelf.source_gives g.F.Shelf.sink_gives g.F.Shelf.take_back_gives g.F.Shelf.give_back_gives g.F.Shelf.tells g.F.Shelf.output
+                (Rose (g.F.Shelf.source_faults c.args.shelf.now) (g.F.Shelf.source_faults ran.new.shelf)) (Rose (g.F.Shelf.sink_faults c.args.shelf.now) (g.F.Shelf.sink_faults ran.new.shelf))
+                _ c.args.issuing base (g.F.Shelf.input c.args.shelf.now c.args.input.now) c.in-Ok.desk.store ran.result.1 ran.ensures.halted
+                ran.result.0 _ _ c.args.shelf.now ran.new.shelf ran.ensures.runs;
+          });
+      whole = λ is. record { base = base; stood = stood; ran = ran.ensures.whole is };
+      only_synced = λ sound. synced;
+      first_moments = looked.first_moments;
+      second_moments = looked.second_moments;
+      joint = looked.joint;
+      too_long = ran.ensures.too_long;
+      not_too_long = ran.ensures.not_too_long;
+    }

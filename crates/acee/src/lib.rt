@@ -1,4 +1,4 @@
-//! The environment of a verified user (ACEE): who he is, his groups and attributes, and where he came from.
+//! The accessor environment element (ACEE) of a verified user: who he is, his groups and attributes, and where he came from.
 //!
 //! [`Acee::of`] makes one of an image, or answers the first check of VERIFY that fails. It stays as it was made,
 //! whatever commands change afterwards. Images are those of `raclist_image`; `decision` makes the other checks of

@@ -1,10 +1,10 @@
 //! A shelf in memory.
 
-ghost use Rattle.std.specs.Prelude.{ℕ, ◌≡◌, true, None, Some, find, is_none, List, ◌∷◌, IfSome, IfOk, OnOk, OnErr};
+ghost use Rattle.std.specs.Prelude.{ℕ, ◌≡◌, ◌≢◌, true, None, Some, find, is_none, List, ◌∷◌, IfSome, IfOk, OnOk, OnErr};
 ghost use Rattle.std.specs.Option.{option_copied};
 ghost use Rattle.racf_outside.specs.Calls.{no_calls};
 ghost use Rattle.racf_outside.specs.MemoryShelf.{OpensInput, OpensOutput, GivesBack, TakesBack};
-ghost use Rattle.racf_outside.specs.Shelf.{SameBytes, SameOthers};
+ghost use Rattle.racf_outside.specs.Shelf.{SameOthers};
 ghost use Rattle.racf_outside.specs.Slots.{output_of, is_lent};
 ghost use Rattle.racf_outside.specs.Stored.{input_of, failing_of, is_stored_as};
 
@@ -153,9 +153,11 @@ impl MemoryShelf {
         ensures here { OnOk result (⟦<MemoryShelf as Shelf>⟧.input self.new name.now ≡ Some bytes.items) }
         ensures others { SameOthers name.now
             (⟦<MemoryShelf as Shelf>⟧.input self.old) (⟦<MemoryShelf as Shelf>⟧.input self.new) }
-        ensures err { OnErr result (SameBytes
-            (⟦<MemoryShelf as Shelf>⟧.input self.old) (⟦<MemoryShelf as Shelf>⟧.input self.new)) }
         ensures failing { OnOk result (failing_of self.new.inputs name.now ≡ failing.items) }
+        ensures other_reads { (other : List ℕ) → other ≢ name.now → failing_of self.new.inputs other ≡ failing_of self.old.inputs other }
+
+        // Where memory is wanting, every input is as it was, and so are the reads that are to fail.
+        ensures err { OnErr result (self.new.inputs.stored.items ≡ self.old.inputs.stored.items) }
         ensures outputs { self.new.outputs ≡ self.old.outputs }
         ensures failing_writes { self.new.failing_writes ≡ self.old.failing_writes }
 

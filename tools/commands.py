@@ -1,7 +1,7 @@
 """The commands as they are written, for the tools that read decks.
 
 TABLE has each command with its abbreviation, its positional words and its operands, in the order of the program's own table;
-`tests/tools` holds it against crates/command_grammar. `pieces` parts a text as the program does. Texts have a
+`tests/deck-tools` holds it against crates/command_grammar. `pieces` parts a text as the program does. Texts have a
 character for each byte, and places count from 0.
 """
 import re

@@ -8,6 +8,7 @@ use Rattle.racf_checkpoint.specs.declared.fault.StoreFault.{StoreFault}
 use Rattle.racf_checkpoint.specs.declared.fault.StoreFault.TheVariants as fault
 use Rattle.racf_checkpoint.specs.Stored.{StoreOn, Beside, NowRead, StaysPossible, pick, other, disk_on}
 use Rattle.desk_rules.specs.Durable.{LeavesBoth, SaysEpoch, SaysCheckpoint, StaysThere}
+use Rattle.desk_rules.specs.Executing.{SayWhatWasPossible}
 use Rattle.desk_rules.specs.Position.{Position, compacted}
 use Rattle.desk_rules.specs.Recovery.{StandsFor, StandsForEither}
 use Rattle.desk_rules.proofs.IdleLaws.{told-pick}
@@ -89,14 +90,15 @@ ends_compact first second next_first next_second status base epoch (inr (inr is)
 
 pub compact_along : {D : Type 0} (tells : D → Option History) (first second : Option History) (store : StoreOn D) (one two : D) (base : Position)
     → StoodFor first second base → StaysPossible first (tells (pick store.side store.journal.disk store.idle)) → StaysPossible second (tells (pick store.side store.idle store.journal.disk))
+    → SayWhatWasPossible first second (tells (pick store.side store.journal.disk store.idle)) (tells (pick store.side store.idle store.journal.disk))
     → StaysIn (Beside (other store.side) (tells store.journal.disk) (StandsForEither base (compacted base))) (tells store.idle) (tells (pick store.side two one))
     → pick store.side one two ≡ store.journal.disk → MovesToCompact first second (tells one) (tells two)
-compact_along tells first second store one two base stood first_moments second_moments along live =
+compact_along tells first second store one two base stood first_moments second_moments both along live =
     inr (record {
       base = base;
       stood = stood;
       opened = opened_on tells store;
-      opens = opens_on tells store first second first_moments second_moments;
+      opens = opens_on tells store first second first_moments second_moments both;
       along = subst (StaysIn (Beside (other store.side) (tells store.journal.disk) (StandsForEither base (compacted base))) (tells store.idle)) (told-pick tells store.side two one) along;
       live = sym (told-pick tells store.side one two) ∙ ap tells live;
     })

@@ -9,6 +9,7 @@ use Rattle.checkpoint_disks.specs.declared.counting.Side.{Side}
 use Rattle.checkpoint_disks.specs.declared.counting.Side.TheVariants.{First, Second}
 use Rattle.racf_checkpoint.specs.Stored.{StoreOn, StaysPossible, pick, other, disk_on}
 use Rattle.desk_rules.specs.Durable.{SameIdle, idle_of, BesideIdle, LeavesBoth, LeavesIt}
+use Rattle.desk_rules.specs.Executing.{SayWhatWasPossible}
 use Rattle.desk_rules.specs.Made.{DeskOn}
 use Rattle.desk_rules.specs.Position.{Position}
 use Rattle.desk_rules.specs.Recovery.{StandsFor, StandsForEither}
@@ -84,11 +85,15 @@ stands_still tells desk one two back leaves =
 
 -- where a database was opened
 pub opens_on : {D : Type 0} (tells : D → Option History) (store : StoreOn D) (first second : Option History)
-    → StaysPossible first (tells (pick store.side store.journal.disk store.idle)) → StaysPossible second (tells (pick store.side store.idle store.journal.disk)) → OpensOn first second (opened_on tells store)
-opens_on tells store first second one two =
+    → StaysPossible first (tells (pick store.side store.journal.disk store.idle)) → StaysPossible second (tells (pick store.side store.idle store.journal.disk))
+    → SayWhatWasPossible first second (tells (pick store.side store.journal.disk store.idle)) (tells (pick store.side store.idle store.journal.disk)) → OpensOn first second (opened_on tells store)
+opens_on tells store first second one two both =
     record {
       first_moments = subst (StaysPossible first) (told-pick tells store.side store.journal.disk store.idle) one;
       second_moments = subst (StaysPossible second) (told-pick tells store.side store.idle store.journal.disk) two;
+      joint =
+          subst (λ (now : Option History). SayWhatWasPossible first second (pick store.side (tells store.journal.disk) (tells store.idle)) now) (told-pick tells store.side store.idle store.journal.disk)
+          (subst (λ (now : Option History). SayWhatWasPossible first second now (tells (pick store.side store.idle store.journal.disk))) (told-pick tells store.side store.journal.disk store.idle) both);
     }
 
 -- ---- what they count

@@ -24,7 +24,7 @@ use Rattle.statements.specs.Runs.{longest_input}
 use Rattle.racf_threads.specs.Outputs.{DeckRan, FileRan, StopsFor}
 use Rattle.racf_threads.specs.Together.{Worked, HasStopped, AreDecks, AreFiles, RunsTogether, greater, greatest}
 use Rattle.racf_run.proofs.OpeningLaws.{AreNew-length}
-use Rattle.racf_run.specs.Opening.{output_name, is_among, are_distinct, IsNew, AreNew, AreKept, OthersStay, RoseFor}
+use Rattle.racf_run.specs.Opening.{output_name, is_among, are_distinct, IsNew, AreNew, AreKept, OthersStay, RoseFor, reads_of, writes_of}
 use Rattle.racf_run.specs.Racf.{IsUnsound, OpensNone, OpenedDisks, RoseEither, FaultCounts}
 use Rattle.racf_run.specs.Running.{are_run_words, are_apart, Named, NamedStops, DecksNamed, FilesNamed, NamedRan, unopened_status}
 use Rattle.racf_run.specs.declared.opening.Unopened.{Unopened}
@@ -132,6 +132,18 @@ module _ {I K : Type 0} (left : I → Option (List ℕ)) (reads : I → ℕ) (ta
   named_statuses [] (w ∷ ws) h = absurd h
   named_statuses (name ∷ names) [] h = absurd h
 
+  named_reads : (names : List (List ℕ)) (ws : List (Worked I K)) → AreNew left reads taken writes tells input names (map (λ w. w.given) ws) → map (λ w. w.reads) (named reads writes names ws) ≡ reads_of reads (map (λ (w : Worked I K). w.back) ws)
+  named_reads [] [] h = refl
+  named_reads (name ∷ names) (w ∷ ws) h = ap (λ ns. reads w.back.0 ∷ ns) (named_reads names ws h.1)
+  named_reads [] (w ∷ ws) h = absurd h
+  named_reads (name ∷ names) [] h = absurd h
+
+  named_writes : (names : List (List ℕ)) (ws : List (Worked I K)) → AreNew left reads taken writes tells input names (map (λ w. w.given) ws) → map (λ w. w.writes) (named reads writes names ws) ≡ writes_of writes (map (λ (w : Worked I K). w.back) ws)
+  named_writes [] [] h = refl
+  named_writes (name ∷ names) (w ∷ ws) h = ap (λ ns. writes w.back.1 ∷ ns) (named_writes names ws h.1)
+  named_writes [] (w ∷ ws) h = absurd h
+  named_writes (name ∷ names) [] h = absurd h
+
   named_faults : (names : List (List ℕ)) (ws : List (Worked I K)) → AreNew left reads taken writes tells input names (map (λ w. w.given) ws) → sum_by (λ w. w.faults) (named reads writes names ws) ≡ sum_by (λ (w : Worked I K). w.faults) ws
   named_faults [] [] h = refl
   named_faults (name ∷ names) (w ∷ ws) h =
@@ -207,7 +219,7 @@ module _ {I K : Type 0} (left : I → Option (List ℕ)) (reads : I → ℕ) (ta
       → (is_some doubt ≡ true → RoseEither before.first now.first before.second now.second)
       → AreLegal base entries → StandAt doubt first second (reached base (all_of entries doubt)) → StaysAlong base (all_of entries doubt) opened.idle opened.live (pick opened.idle.side first second)
       → pick opened.idle.side second first ≡ opened.idle.told → OthersStay names old output
-      → NamedRan opened first second before now base tells status (record { issuing = issuing; decks = decks; names = names }) input old output
+      → NamedRan opened first second before now base tells status (record { issuing = issuing; decks = decks; names = names }) (reads_of reads outs) (writes_of writes outs) input old output
   named_run opened first second before now base issuing entries doubt status decks names files outs old enough new kept together reads_rose writes_rose rose legal stand moments idle others =
       let dw = together.deck_workers in
       let fw = together.file_workers in
@@ -241,6 +253,18 @@ module _ {I K : Type 0} (left : I → Option (List ℕ)) (reads : I → ℕ) (ta
         of_decks = subst (λ (n : ℕ). All (λ (entry : Accepted). entry.deck < n) entries) (length-take-le decks files enough) together.of_decks;
         deck_names_are = named_names (take decks names) dw news.0;
         file_names_are = named_names (drop decks names) fw news.1;
+        reads_are =
+            map-append (λ (w : Named). w.reads) (named reads writes (take decks names) dw) (named reads writes (drop decks names) fw)
+            ∙ ap (λ xs. xs ++ map (λ (w : Named). w.reads) (named reads writes (drop decks names) fw)) (named_reads (take decks names) dw news.0)
+            ∙ ap (λ xs. reads_of reads (map (λ (w : Worked I K). w.back) dw) ++ xs) (named_reads (drop decks names) fw news.1)
+            ∙ sym (map-append (λ (file : I × K). reads file.0) (map (λ (w : Worked I K). w.back) dw) (map (λ (w : Worked I K). w.back) fw))
+            ∙ ap (reads_of reads) (sym backs);
+        writes_are =
+            map-append (λ (w : Named). w.writes) (named reads writes (take decks names) dw) (named reads writes (drop decks names) fw)
+            ∙ ap (λ xs. xs ++ map (λ (w : Named). w.writes) (named reads writes (drop decks names) fw)) (named_writes (take decks names) dw news.0)
+            ∙ ap (λ xs. writes_of writes (map (λ (w : Worked I K). w.back) dw) ++ xs) (named_writes (drop decks names) fw news.1)
+            ∙ sym (map-append (λ (file : I × K). writes file.1) (map (λ (w : Worked I K). w.back) dw) (map (λ (w : Worked I K). w.back) fw))
+            ∙ ap (writes_of writes) (sym backs);
         status_is =
             together.status_is ∙ ap greatest
             (map-append (λ (w : Worked I K). w.status) dw fw
@@ -282,33 +306,33 @@ module _ {I K : Type 0} (left : I → Option (List ℕ)) (reads : I → ℕ) (ta
       ⊎_elim (none w h.0) (no_status s done none ws h.1) (greater_is w.status (greatest (map (λ (v : Worked I K). v.status) ws)) s e)
 
   module _ (tells : Bool) (input : List ℕ → Option (List ℕ)) (before now : ℕ) where
-    reads_of : (names : List (List ℕ)) (ws : List (Worked I K)) → AreStopped ws → AreNew left reads taken writes tells input names (map (λ w. w.given) ws) → greatest (map (λ w. w.status) ws) ≡ ReadFault
+    read_rose : (names : List (List ℕ)) (ws : List (Worked I K)) → AreStopped ws → AreNew left reads taken writes tells input names (map (λ w. w.given) ws) → greatest (map (λ w. w.status) ws) ≡ ReadFault
         → RoseFor (λ (file : I × K). reads file.0) before now (map (λ w. w.back) ws) → Rose before now
-    reads_of [] [] h new e rose = absurd (none e)
+    read_rose [] [] h new e rose = absurd (none e)
       where
         none : Done ≡ ReadFault → ⊥
         none f = cc
-    reads_of (name ∷ names) (w ∷ ws) h new e rose =
+    read_rose (name ∷ names) (w ∷ ws) h new e rose =
         ⊎_elim
         (λ here. rose.0 (rose_from_none (reads w.back.0) (subst (λ (n : ℕ). Rose n (reads w.back.0)) new.0.no_reads (h.0.read_fault here))))
-        (λ other. reads_of names ws h.1 new.1 other rose.1)
+        (λ other. read_rose names ws h.1 new.1 other rose.1)
         (greater_is w.status (greatest (map (λ (v : Worked I K). v.status) ws)) ReadFault e)
-    reads_of [] (w ∷ ws) h new e rose = absurd new
-    reads_of (name ∷ names) [] h new e rose = absurd new
+    read_rose [] (w ∷ ws) h new e rose = absurd new
+    read_rose (name ∷ names) [] h new e rose = absurd new
 
-    writes_of : (names : List (List ℕ)) (ws : List (Worked I K)) → AreStopped ws → AreNew left reads taken writes tells input names (map (λ w. w.given) ws) → greatest (map (λ w. w.status) ws) ≡ WriteFault
+    write_rose : (names : List (List ℕ)) (ws : List (Worked I K)) → AreStopped ws → AreNew left reads taken writes tells input names (map (λ w. w.given) ws) → greatest (map (λ w. w.status) ws) ≡ WriteFault
         → RoseFor (λ (file : I × K). writes file.1) before now (map (λ w. w.back) ws) → Rose before now
-    writes_of [] [] h new e rose = absurd (none e)
+    write_rose [] [] h new e rose = absurd (none e)
       where
         none : Done ≡ WriteFault → ⊥
         none f = cc
-    writes_of (name ∷ names) (w ∷ ws) h new e rose =
+    write_rose (name ∷ names) (w ∷ ws) h new e rose =
         ⊎_elim
         (λ here. rose.0 (rose_from_none (writes w.back.1) (subst (λ (n : ℕ). Rose n (writes w.back.1)) new.0.no_writes (h.0.write_fault here))))
-        (λ other. writes_of names ws h.1 new.1 other rose.1)
+        (λ other. write_rose names ws h.1 new.1 other rose.1)
         (greater_is w.status (greatest (map (λ (v : Worked I K). v.status) ws)) WriteFault e)
-    writes_of [] (w ∷ ws) h new e rose = absurd new
-    writes_of (name ∷ names) [] h new e rose = absurd new
+    write_rose [] (w ∷ ws) h new e rose = absurd new
+    write_rose (name ∷ names) [] h new e rose = absurd new
 
   -- a run as a whole
   module _ (entries : List Accepted) (doubt : Option Accepted) (status : Status) (decks : ℕ) (files outs : List (I × K)) (together : RunsTogether left reads taken writes base issuing entries doubt status (take decks files) (drop decks files) outs) where
@@ -349,14 +373,14 @@ module _ {I K : Type 0} (left : I → Option (List ℕ)) (reads : I → ℕ) (ta
     pub run_reads : (tells : Bool) (input : List ℕ → Option (List ℕ)) (names : List (List ℕ)) (before now : ℕ) → AreNew left reads taken writes tells input names files
         → RoseFor (λ (file : I × K). reads file.0) before now outs → status ≡ ReadFault → Rose before now
     run_reads tells input names before now new rose e =
-        reads_of tells input before now names (together.deck_workers ++ together.file_workers) all_stopped
+        read_rose tells input before now names (together.deck_workers ++ together.file_workers) all_stopped
         (subst (AreNew left reads taken writes tells input names) (sym all_given) new) (sym together.status_is ∙ e)
         (subst (RoseFor (λ (file : I × K). reads file.0) before now) (sym together.outs_are) rose)
 
     pub run_writes : (tells : Bool) (input : List ℕ → Option (List ℕ)) (names : List (List ℕ)) (before now : ℕ) → AreNew left reads taken writes tells input names files
         → RoseFor (λ (file : I × K). writes file.1) before now outs → status ≡ WriteFault → Rose before now
     run_writes tells input names before now new rose e =
-        writes_of tells input before now names (together.deck_workers ++ together.file_workers) all_stopped
+        write_rose tells input before now names (together.deck_workers ++ together.file_workers) all_stopped
         (subst (AreNew left reads taken writes tells input names) (sym all_given) new) (sym together.status_is ∙ e)
         (subst (RoseFor (λ (file : I × K). writes file.1) before now) (sym together.outs_are) rose)
 

@@ -42,9 +42,9 @@ module _ {S I O : Type 0} (source : S → List ℕ → Result I Failed → S →
   Returned [] (file ∷ files) old new = ⊥
   Returned (name ∷ names) [] old new = ⊥
 
-  -- Some files were handed back under these names.
-  abbrev pub ReturnsSome : (names : List (List ℕ)) → (old new : S) → Type 0
-  ReturnsSome names old new = (files : List (I × O)) × Returned names files old new
+  -- Some files were handed back under these names, and they have P.
+  abbrev pub ReturnsSome : (names : List (List ℕ)) → (old new : S) → (P : List (I × O) → Type 0) → Type 0
+  ReturnsSome names old new P = (files : List (I × O)) × Returned names files old new × P files
 
   -- An input couldn't be opened; or its output couldn't, and the input was taken back.
   abbrev pub OpensNeither : Unopened → (name : List ℕ) → (old new : S) → Type 0
@@ -95,6 +95,14 @@ AreKept taken output (name ∷ names) [] = ⊥
 abbrev pub AreEmpty : (tells : Bool) → (output : List ℕ → Option (List ℕ)) → (names : List (List ℕ)) → Type 0
 AreEmpty tells output [] = Unit {0}
 AreEmpty tells output (name ∷ names) = (output (output_name name) ≡ told tells []) × AreEmpty tells output names
+
+-- the faults that each input counted, and each output, in the order of the files
+module _ {I O : Type 0} where
+  abbrev pub reads_of : (reads : I → ℕ) → List (I × O) → List ℕ
+  reads_of reads files = map (λ (file : I × O). reads file.0) files
+
+  abbrev pub writes_of : (writes : O → ℕ) → List (I × O) → List ℕ
+  writes_of writes files = map (λ (file : I × O). writes file.1) files
 
 -- Where one of the files counted a fault, the count of what takes it back rose.
 abbrev pub RoseFor : {A : Type 0} → (faults : A → ℕ) → (before now : ℕ) → List A → Type 0

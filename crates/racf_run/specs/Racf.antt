@@ -11,6 +11,7 @@ use Rattle.racf_checkpoint.specs.declared.fault.StoreFault.{StoreFault}
 use Rattle.racf_checkpoint.specs.declared.fault.StoreFault.TheVariants as fault
 use Rattle.racf_checkpoint.specs.Stored.{StoreOn, NowRead, StaysPossible, pick}
 use Rattle.desk_rules.specs.Durable.{IdleDisk, idle_of, BesideIdle, LeavesBoth, LeavesIt}
+use Rattle.desk_rules.specs.Executing.{SayWhatWasPossible}
 use Rattle.desk_rules.specs.Made.{DeskOn}
 use Rattle.desk_rules.specs.Position.{Position}
 use Rattle.desk_rules.specs.Recovery.{standing, Refuses, StandsFor, StandsForEither}
@@ -215,13 +216,14 @@ abbrev pub IsUnsound : Status → Type 0
 IsUnsound status = (status ≡ NotFormatted) ⊎ ((place : ℕ) × (status ≡ Damaged place))
 
 -- The database couldn't be opened, for this fault. At every moment since a crash leaves of each disk what was possible
--- before; and unless a disk failed, both were only synced.
+-- before, and both now say together what they might have said before; and unless a disk failed, both were only synced.
 pub record StaysUnopened (first second next_first next_second : Option History) (status : Status) : Type 0 where
   pub why : StoreFault
   pub is_status : status ≡ opening_status why
   pub refused : NowRead first second (Refuses why)
   pub first_moments : StaysPossible first next_first
   pub second_moments : StaysPossible second next_second
+  pub joint : SayWhatWasPossible first second next_first next_second
   pub only_synced : why ≢ fault.DiskFault → OnlySynced first next_first × OnlySynced second next_second
 
 -- The database couldn't be opened, and nothing of the shelf was.
@@ -241,10 +243,11 @@ pub record StandsStill (opened : OpenedDisks) (first second : Option History) (b
   pub first_is : first ≡ pick opened.idle.side opened.live opened.idle.told
   pub second_is : second ≡ pick opened.idle.side opened.idle.told opened.live
 
--- Until then a crash left of each disk what was possible before.
+-- Until then a crash left of each disk what was possible before, and both said together what they might have said before.
 pub record OpensOn (first second : Option History) (opened : OpenedDisks) : Type 0 where
   pub first_moments : StaysPossible first (pick opened.idle.side opened.live opened.idle.told)
   pub second_moments : StaysPossible second (pick opened.idle.side opened.idle.told opened.live)
+  pub joint : SayWhatWasPossible first second (pick opened.idle.side opened.live opened.idle.told) (pick opened.idle.side opened.idle.told opened.live)
 
 -- Each output that is open now was open before: what the call opened was given back.
 abbrev pub OpensNone : (List ℕ → Bool) → (List ℕ → Bool) → Type 0

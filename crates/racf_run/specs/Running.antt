@@ -112,9 +112,10 @@ module _ (base : Position) (issuing : Issuing) (whole : List Event) (before now 
 -- doubt, with whose entry the history ends, the status tells it, or is greater, and the count of the disk's faults has
 -- risen. Whatever a crash now leaves of both disks stands for the position behind that history, or for the one behind the
 -- command in doubt too; and at every moment since the disks told `opened`, for where some beginning of the history leads,
--- or for that one command more; the disk that doesn't count stays as it is. The outputs told `old` before and tell `new`
--- now, and those of other names are as they were.
-pub record NamedRan (opened : OpenedDisks) (first second : Option History) (before now : FaultCounts) (base : Position) (tells : Bool) (status : Status) (asked : RunWords) (input old new : List ℕ → Option (List ℕ)) : Type 0 where
+-- or for that one command more; the disk that doesn't count stays as it is. `reads` are the faults that each of the
+-- inputs counted which were handed back, in the order of the names, and `writes` those of the outputs. The outputs told
+-- `old` before and tell `new` now, and those of other names are as they were.
+pub record NamedRan (opened : OpenedDisks) (first second : Option History) (before now : FaultCounts) (base : Position) (tells : Bool) (status : Status) (asked : RunWords) (reads writes : List ℕ) (input old new : List ℕ → Option (List ℕ)) : Type 0 where
   pub entries : List Accepted
   pub doubt : Option Accepted
   pub decks : List Named
@@ -124,6 +125,8 @@ pub record NamedRan (opened : OpenedDisks) (first second : Option History) (befo
   pub of_decks : All (λ entry. entry.deck < asked.decks) entries
   pub deck_names_are : map (λ w. w.name) decks ≡ deck_names asked
   pub file_names_are : map (λ w. w.name) files ≡ request_names asked
+  pub reads_are : map (λ w. w.reads) (decks ++ files) ≡ reads
+  pub writes_are : map (λ w. w.writes) (decks ++ files) ≡ writes
   pub status_is : status ≡ greatest (map (λ w. w.status) (decks ++ files))
   pub one_fault : sum_by (λ w. w.faults) decks ≡ fault_count doubt
   pub halted_status : is_some doubt ≡ true → 20 ≤ code_of status
@@ -170,15 +173,15 @@ module _ {S I O : Type 0} (source : S → List ℕ → Result I Failed → S →
     pub empty : AreEmpty tells (output new) front
     pub others : OthersStay names (output old) (output new)
 
-  -- All were opened, worked, and handed back: P is what was run.
-  pub record OpensAll (P : Type 0) (names : List (List ℕ)) (old new : S) : Type 0 where
+  -- All were opened, worked, and handed back: P is what was run, of those that were handed back.
+  pub record OpensAll (P : List (I × O) → Type 0) (names : List (List ℕ)) (old new : S) : Type 0 where
     pub files : List (I × O)
     pub worked : List (I × O)
     pub first : S
     pub opened : Opened source sink take_back give_back names files old first
     pub returned : Returned source sink take_back give_back names worked first new
-    pub ran : P
+    pub ran : P worked
 
   -- how the program ends, where P is what it ran, and Q what stands where it ran nothing
-  abbrev pub RunsFiles : (P Q : Type 0) → Status → (names : List (List ℕ)) → (old new : S) → Type 0
+  abbrev pub RunsFiles : (P : List (I × O) → Type 0) → (Q : Type 0) → Status → (names : List (List ℕ)) → (old new : S) → Type 0
   RunsFiles P Q status names old new = OpensNoFile Q status old new ⊎ (OpensSome Q status names old new ⊎ OpensAll P names old new)

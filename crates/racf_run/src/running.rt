@@ -6,7 +6,7 @@ ghost use Rattle.racf_outside.specs.Shelf.{SameBytes};
 ghost use Rattle.checkpoint_disks.specs.declared.counting.Side.{Side};
 ghost use Rattle.racf_journal.specs.Opening.{OnlySynced};
 ghost use Rattle.racf_checkpoint.specs.Stored.{disk_on};
-ghost use Rattle.racf_run.specs.Opening.{output_name, AreNew, AreOpen, OthersStay, ClosesAll, ReturnsSome};
+ghost use Rattle.racf_run.specs.Opening.{output_name, AreNew, AreOpen, OthersStay, ClosesAll, ReturnsSome, reads_of, writes_of};
 ghost use Rattle.racf_run.specs.Racf.{IsUnsound, OpensNoDatabase, OpensDatabase, OpenedDisks, OpensOn, StandsStill, OpensNone, RoseEither, FaultCounts, AreNoMore, fault_counts, opened_on};
 ghost use Rattle.racf_run.specs.Running.{are_run_words, unopened_status, NamedRan, RunsFiles};
 
@@ -38,10 +38,10 @@ where
     requires form { are_run_words decks (map string_bytes names.now) ≡ true }
     ensures runs { OpensNoDatabase (D.tells disks.first) (D.tells disks.second) (D.tells result.1.first) (D.tells result.1.second) result.0 shelf.old shelf.new
         ⊎ OpensDatabase (D.tells disks.first) (D.tells disks.second) (λ base. (opened : OpenedDisks) × OpensOn (D.tells disks.first) (D.tells disks.second) opened × RunsFiles F.source_gives F.sink_gives F.take_back_gives F.give_back_gives F.tells F.output
-        (NamedRan opened (D.tells result.1.first) (D.tells result.1.second)
+        (λ outs. NamedRan opened (D.tells result.1.first) (D.tells result.1.second)
         (fault_counts (F.source_faults shelf.old) (F.sink_faults shelf.old) (D.faults disks.first) (D.faults disks.second))
         (fault_counts (F.source_faults shelf.new) (F.sink_faults shelf.new) (D.faults result.1.first) (D.faults result.1.second)) base F.tells result.0 (record { issuing = issuing; decks = decks; names = map string_bytes names.now })
-        (F.input shelf.old) (F.output shelf.old) (F.output shelf.new))
+        (reads_of F.In.faults outs) (writes_of F.Out.faults outs) (F.input shelf.old) (F.output shelf.old) (F.output shelf.new))
         (StandsStill opened (D.tells result.1.first) (D.tells result.1.second) base)
         result.0 (map string_bytes names.now) shelf.old shelf.new) }
     ensures usage { result.0 ≢ Status.Usage }
@@ -82,9 +82,9 @@ where
     ensures runs { (before : FaultCounts)
         → AreNoMore before (fault_counts (F.source_faults shelf.old) (F.sink_faults shelf.old) (D.faults (disk_on Side.First desk.store)) (D.faults (disk_on Side.Second desk.store)))
         → RunsFiles F.source_gives F.sink_gives F.take_back_gives F.give_back_gives F.tells F.output
-        (NamedRan (opened_on D.tells desk.store) (D.tells result.1.first) (D.tells result.1.second)
+        (λ outs. NamedRan (opened_on D.tells desk.store) (D.tells result.1.first) (D.tells result.1.second)
         before (fault_counts (F.source_faults shelf.new) (F.sink_faults shelf.new) (D.faults result.1.first) (D.faults result.1.second)) desk.position F.tells result.0 (record { issuing = issuing; decks = decks; names = map string_bytes names.now })
-        (F.input shelf.old) (F.output shelf.old) (F.output shelf.new))
+        (reads_of F.In.faults outs) (writes_of F.Out.faults outs) (F.input shelf.old) (F.output shelf.old) (F.output shelf.new))
         (StandsStill (opened_on D.tells desk.store) (D.tells result.1.first) (D.tells result.1.second) desk.position)
         result.0 (map string_bytes names.now) shelf.old shelf.new }
     ensures usage { result.0 ≢ Status.Usage }
@@ -135,16 +135,16 @@ where
     requires new { AreNew F.In.left F.In.faults F.Out.taken F.Out.faults F.tells (F.input shelf.old) (map string_bytes names.now) files.items }
     requires open { AreOpen (F.is_open shelf.old) (map string_bytes names.now) }
 
-    // The inputs had told the same before the files were opened, and the outputs of other names too; and no more faults
-    // had been counted.
-    ensures ran { (input before : List ℕ → Option (List ℕ)) (counts : FaultCounts)
+    // The files were handed back. The inputs had told the same before they were opened, and the outputs of other names
+    // too; and no more faults had been counted.
+    ensures ran { ReturnsSome F.source_gives F.sink_gives F.take_back_gives F.give_back_gives (map string_bytes names.now) shelf.old shelf.new
+        (λ outs. (input before : List ℕ → Option (List ℕ)) (counts : FaultCounts)
         → AreNoMore counts (fault_counts (F.source_faults shelf.old) (F.sink_faults shelf.old) (D.faults (disk_on Side.First desk.store)) (D.faults (disk_on Side.Second desk.store)))
         → AreNew F.In.left F.In.faults F.Out.taken F.Out.faults F.tells input (map string_bytes names.now) files.items
         → OthersStay (map string_bytes names.now) before (F.output shelf.old)
         → NamedRan (opened_on D.tells desk.store) (D.tells result.1.first) (D.tells result.1.second)
         counts (fault_counts (F.source_faults shelf.new) (F.sink_faults shelf.new) (D.faults result.1.first) (D.faults result.1.second)) desk.position F.tells result.0 (record { issuing = issuing; decks = decks; names = map string_bytes names.now })
-        input before (F.output shelf.new) }
-    ensures returned { ReturnsSome F.source_gives F.sink_gives F.take_back_gives F.give_back_gives (map string_bytes names.now) shelf.old shelf.new }
+        (reads_of F.In.faults outs) (writes_of F.Out.faults outs) input before (F.output shelf.new)) }
     ensures usage { result.0 ≢ Status.Usage }
     ensures sound { IsUnsound result.0 → ⊥ }
     ensures read_fault { result.0 ≡ Status.ReadFault → Rose (F.source_faults shelf.old) (F.source_faults shelf.new) }

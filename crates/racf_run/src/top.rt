@@ -13,6 +13,7 @@ ghost use Rattle.desk_rules.specs.Recovery.{StandsFor};
 ghost use Rattle.racf_run.specs.Racf.{files_of, script_files, stream_files, is_init, opening_status, RunsOnShelf, MakesOnShelf, IsWholeOutput, OpensNone};
 ghost use Rattle.racf_run.specs.Racf.{IsUnsound, OpensNoDatabase, OpensDatabase, OpenedDisks, OpensOn, StandsStill, EndsOn, EndsAt, RoseEither, fault_counts};
 ghost use Rattle.racf_run.specs.Checking.{check_files, Checks};
+ghost use Rattle.racf_run.specs.Opening.{reads_of, writes_of};
 ghost use Rattle.racf_run.specs.Compacting.{is_compact, EndsCompact, MovesToCompact};
 ghost use Rattle.racf_run.specs.Making.{make_words, most_users};
 ghost use Rattle.racf_run.specs.Running.{run_words, NamedRan, RunsFiles};
@@ -109,9 +110,10 @@ where
         ⊎ OpensDatabase (D.tells disks.first) (D.tells disks.second) (λ base.
         (opened : OpenedDisks) × OpensOn (D.tells disks.first) (D.tells disks.second) opened
         × RunsFiles F.source_gives F.sink_gives F.take_back_gives F.give_back_gives F.tells F.output
-        (NamedRan opened (D.tells result.1.first) (D.tells result.1.second)
+        (λ outs. NamedRan opened (D.tells result.1.first) (D.tells result.1.second)
         (fault_counts (F.source_faults shelf.old) (F.sink_faults shelf.old) (D.faults disks.first) (D.faults disks.second))
-        (fault_counts (F.source_faults shelf.new) (F.sink_faults shelf.new) (D.faults result.1.first) (D.faults result.1.second)) base F.tells result.0 asked (F.input shelf.old) (F.output shelf.old) (F.output shelf.new))
+        (fault_counts (F.source_faults shelf.new) (F.sink_faults shelf.new) (D.faults result.1.first) (D.faults result.1.second)) base F.tells result.0 asked
+        (reads_of F.In.faults outs) (writes_of F.Out.faults outs) (F.input shelf.old) (F.output shelf.old) (F.output shelf.new))
         (StandsStill opened (D.tells result.1.first) (D.tells result.1.second) base)
         result.0 asked.names shelf.old shelf.new)) }
 
@@ -133,7 +135,7 @@ where
     ensures init_moments { is_init (map string_bytes words.now) ≡ true →
         StaysFormatting (D.tells disks.first) (D.tells result.1.first) × StaysBaring (D.tells disks.second) (D.tells result.1.second) }
 
-    // A stream is tried at what is seen of the database, and the disks stay as they are.
+    // A stream is tried at what is seen of the database; the disks are only synced, unless one failed.
     ensures checks { IfSome (check_files (map string_bytes words.now)) (λ files.
         Checks F.source_gives F.sink_gives F.take_back_gives F.give_back_gives F.tells F.output
         (Rose (F.source_faults shelf.old) (F.source_faults shelf.new)) (Rose (F.sink_faults shelf.old) (F.sink_faults shelf.new))

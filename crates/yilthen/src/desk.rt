@@ -118,9 +118,10 @@ impl<D: Disk> Desk<D> {
         ensures first_no_fewer { D.faults disks.first ≤ D.faults result.0.first }
         ensures second_no_fewer { D.faults disks.second ≤ D.faults result.0.second }
     {
-        match racf_desk::Desk::look(alloc, disks) {
-            (disks, Ok(desk)) => (disks, Ok(Desk { desk })),
-            (disks, Err(fault)) => (disks, Err(Error::of_store(fault))),
+        let (disks, looked) = racf_desk::Desk::look(alloc, disks);
+        match looked {
+            Ok(desk) => (disks, Ok(Desk { desk })),
+            Err(fault) => (disks, Err(Error::of_store(fault))),
         }
     }
 

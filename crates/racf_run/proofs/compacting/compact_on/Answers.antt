@@ -23,7 +23,7 @@ pub returns-in-Ok-clause-moments : goal.returns-in-Ok-clause-moments
 returns-in-Ok-clause-moments g c =
     let tells = g.D.Disk.tells in
     compact_along tells (tells c.args.disks.first) (tells c.args.disks.second) c.in-Ok.desk.store c.compact.result.1.first c.compact.result.1.second c.in-Ok.desk.position
-    c.in-Ok.ensures.stands c.in-Ok.ensures.first_moments c.in-Ok.ensures.second_moments c.compact.ensures.moments c.compact.ensures.live
+    c.in-Ok.ensures.stands c.in-Ok.ensures.first_moments c.in-Ok.ensures.second_moments c.in-Ok.ensures.joint c.compact.ensures.moments c.compact.ensures.live
 
 pub returns-in-Ok-clause-only_synced : goal.returns-in-Ok-clause-only_synced
 returns-in-Ok-clause-only_synced g c = λ e. absurd (ends_sound c.compact.result.0 c.compact.ensures.ends e)
@@ -58,6 +58,7 @@ returns-in-Err-clause-compacts g c =
       refused = c.in-Err.ensures.fault;
       first_moments = c.in-Err.ensures.first_moments;
       second_moments = c.in-Err.ensures.second_moments;
+      joint = c.in-Err.ensures.joint;
       only_synced = c.in-Err.ensures.untouched;
     })
 

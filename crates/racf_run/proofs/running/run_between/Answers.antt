@@ -75,11 +75,11 @@ returns-in-Ok-open_all-clause-runs g c before no_more =
     record { reads = le_trans no_more.reads opened.no_fewer_reads; writes = le_trans no_more.writes opened.no_fewer_writes; first = no_more.first; second = no_more.second } in
     inr (inr (record {
       files = c.in-Ok-open_all.files.items;
-      worked = worked.returned.0;
+      worked = worked.ran.0;
       first = c.open_all.new.shelf;
       opened = opened.calls;
-      returned = worked.returned.1;
-      ran = worked.ran (g.F.Shelf.input c.args.shelf.now) (g.F.Shelf.output c.args.shelf.now) before counts opened.new_files opened.others;
+      returned = worked.ran.1;
+      ran = worked.ran.2 (g.F.Shelf.input c.args.shelf.now) (g.F.Shelf.output c.args.shelf.now) before counts opened.new_files opened.others;
     }))
 
 pub returns-in-Ok-open_all-clause-read_fault : goal.returns-in-Ok-open_all-clause-read_fault

@@ -13,7 +13,7 @@ returns-in-Ok-clause-runs g c =
       stood = c.in-Ok.ensures.stands;
       ran = (
         opened_on tells c.in-Ok.desk.store,
-        opens_on tells c.in-Ok.desk.store (tells c.args.disks.first) (tells c.args.disks.second) c.in-Ok.ensures.first_moments c.in-Ok.ensures.second_moments,
+        opens_on tells c.in-Ok.desk.store (tells c.args.disks.first) (tells c.args.disks.second) c.in-Ok.ensures.first_moments c.in-Ok.ensures.second_moments c.in-Ok.ensures.joint,
         c.run_between.ensures.runs (fault_counts (g.F.Shelf.source_faults c.args.shelf.now) (g.F.Shelf.sink_faults c.args.shelf.now) (g.D.Disk.faults c.args.disks.first) (g.D.Disk.faults c.args.disks.second))
             (record { reads = omega arith; writes = omega arith; first = c.in-Ok.ensures.first_no_fewer; second = c.in-Ok.ensures.second_no_fewer }),
       );
@@ -33,6 +33,7 @@ returns-in-Err-clause-runs g c =
             refused = c.in-Err.ensures.fault;
             first_moments = c.in-Err.ensures.first_moments;
             second_moments = c.in-Err.ensures.second_moments;
+            joint = c.in-Err.ensures.joint;
             only_synced = c.in-Err.ensures.untouched;
           };
       kept = refl;

@@ -46,30 +46,31 @@ pub return_files-requires-clause-open : goal.return_files-requires-clause-open
 return_files-requires-clause-open g c = subst (AreOpen (g.F.Shelf.is_open c.args.shelf.now)) (sym (run_names g.F.In.Source.left g.F.In.Source.faults g.F.Out.Sink.taken g.F.Out.Sink.faults c.args.desk.position c.args.issuing c.run_files-status.result.accepted.items c.run_files-status.result.doubt c.run_files-status.result.status c.args.decks c.args.files.items c.run_files-status.result.outs.items c.run_files-status.ensures.together g.F.Shelf.tells (g.F.Shelf.input c.args.shelf.now) (map string_bytes c.args.names.now) (vec_len c.run_files-status.result.outs) c.run_files-status.result.outs.ok.0 c.requires.new)) c.requires.«open»
 
 pub returns-clause-ran : goal.returns-clause-ran
-returns-clause-ran g c input before counts no_more new others =
-    let names = map string_bytes c.args.names.now in
-    let enough : c.args.decks ≤ length c.args.files.items =
-    let form = form_of c.args.decks names c.requires.form in
-    omega (arith, form.are_there, AreNew-length g.F.In.Source.left g.F.In.Source.faults g.F.Out.Sink.taken g.F.Out.Sink.faults g.F.Shelf.tells input names c.args.files.items new) in
-    named_run g.F.In.Source.left g.F.In.Source.faults g.F.Out.Sink.taken g.F.Out.Sink.faults g.F.Shelf.tells input (g.F.Shelf.output c.return_files.new.shelf) (opened_on g.D.Disk.tells c.args.desk.store) (g.D.Disk.tells c.run_files-status.result.disks.first) (g.D.Disk.tells c.run_files-status.result.disks.second)
-    counts (fault_counts (g.F.Shelf.source_faults c.return_files.new.shelf) (g.F.Shelf.sink_faults c.return_files.new.shelf) (g.D.Disk.faults c.run_files-status.result.disks.first) (g.D.Disk.faults c.run_files-status.result.disks.second))
-    c.args.desk.position c.args.issuing c.run_files-status.result.accepted.items c.run_files-status.result.doubt c.run_files-status.result.status c.args.decks names c.args.files.items c.run_files-status.result.outs.items before
-    enough new (subst (λ (ns : List (List ℕ)). AreKept g.F.Out.Sink.taken (g.F.Shelf.output c.return_files.new.shelf) ns c.run_files-status.result.outs.items) (run_names g.F.In.Source.left g.F.In.Source.faults g.F.Out.Sink.taken g.F.Out.Sink.faults c.args.desk.position c.args.issuing c.run_files-status.result.accepted.items c.run_files-status.result.doubt c.run_files-status.result.status c.args.decks c.args.files.items c.run_files-status.result.outs.items c.run_files-status.ensures.together g.F.Shelf.tells (g.F.Shelf.input c.args.shelf.now) (map string_bytes c.args.names.now) (vec_len c.run_files-status.result.outs) c.run_files-status.result.outs.ok.0 c.requires.new) c.return_files.ensures.kept)
-    c.run_files-status.ensures.together
-    (RoseFor-earlier (λ file. g.F.In.Source.faults file.0) counts.reads (g.F.Shelf.source_faults c.args.shelf.now) (g.F.Shelf.source_faults c.return_files.new.shelf) c.run_files-status.result.outs.items no_more.reads c.return_files.ensures.reads_rose)
-    (RoseFor-earlier (λ file. g.F.Out.Sink.faults file.1) counts.writes (g.F.Shelf.sink_faults c.args.shelf.now) (g.F.Shelf.sink_faults c.return_files.new.shelf) c.run_files-status.result.outs.items no_more.writes c.return_files.ensures.writes_rose)
-    (λ h. either_later _ _ _ _ _ _ no_more.first no_more.second
-    (rose_live g.D.Disk.faults c.args.desk.store.side c.args.desk.store.journal.disk c.args.desk.store.idle c.run_files-status.result.disks.first c.run_files-status.result.disks.second (c.run_files-status.ensures.rose h)))
-    c.run_files-status.ensures.legal c.run_files-status.ensures.disks
-    (subst (StaysAlong c.args.desk.position (all_of c.run_files-status.result.accepted.items c.run_files-status.result.doubt) (idle_of g.D.Disk.tells c.args.desk.store) (g.D.Disk.tells c.args.desk.store.journal.disk))
-    (told-pick g.D.Disk.tells c.args.desk.store.side c.run_files-status.result.disks.first c.run_files-status.result.disks.second) c.run_files-status.ensures.moments)
-    (sym (told-pick g.D.Disk.tells c.args.desk.store.side c.run_files-status.result.disks.second c.run_files-status.result.disks.first) ∙ c.run_files-status.ensures.idle)
-    (OthersStay-chain names before (g.F.Shelf.output c.args.shelf.now) (g.F.Shelf.output c.return_files.new.shelf) others
-    (subst (λ (ns : List (List ℕ)). OthersStay ns (g.F.Shelf.output c.args.shelf.now) (g.F.Shelf.output c.return_files.new.shelf)) (run_names g.F.In.Source.left g.F.In.Source.faults g.F.Out.Sink.taken g.F.Out.Sink.faults c.args.desk.position c.args.issuing c.run_files-status.result.accepted.items c.run_files-status.result.doubt c.run_files-status.result.status c.args.decks c.args.files.items c.run_files-status.result.outs.items c.run_files-status.ensures.together g.F.Shelf.tells (g.F.Shelf.input c.args.shelf.now) (map string_bytes c.args.names.now) (vec_len c.run_files-status.result.outs) c.run_files-status.result.outs.ok.0 c.requires.new) c.return_files.ensures.others))
-
-pub returns-clause-returned : goal.returns-clause-returned
-returns-clause-returned g c =
-    (c.run_files-status.result.outs.items, subst (λ (ns : List (List ℕ)). Returned g.F.Shelf.source_gives g.F.Shelf.sink_gives g.F.Shelf.take_back_gives g.F.Shelf.give_back_gives ns c.run_files-status.result.outs.items c.args.shelf.now c.return_files.new.shelf) (run_names g.F.In.Source.left g.F.In.Source.faults g.F.Out.Sink.taken g.F.Out.Sink.faults c.args.desk.position c.args.issuing c.run_files-status.result.accepted.items c.run_files-status.result.doubt c.run_files-status.result.status c.args.decks c.args.files.items c.run_files-status.result.outs.items c.run_files-status.ensures.together g.F.Shelf.tells (g.F.Shelf.input c.args.shelf.now) (map string_bytes c.args.names.now) (vec_len c.run_files-status.result.outs) c.run_files-status.result.outs.ok.0 c.requires.new) c.return_files.ensures.calls)
+returns-clause-ran g c =
+    (
+      c.run_files-status.result.outs.items,
+      subst (λ (ns : List (List ℕ)). Returned g.F.Shelf.source_gives g.F.Shelf.sink_gives g.F.Shelf.take_back_gives g.F.Shelf.give_back_gives ns c.run_files-status.result.outs.items c.args.shelf.now c.return_files.new.shelf) (run_names g.F.In.Source.left g.F.In.Source.faults g.F.Out.Sink.taken g.F.Out.Sink.faults c.args.desk.position c.args.issuing c.run_files-status.result.accepted.items c.run_files-status.result.doubt c.run_files-status.result.status c.args.decks c.args.files.items c.run_files-status.result.outs.items c.run_files-status.ensures.together g.F.Shelf.tells (g.F.Shelf.input c.args.shelf.now) (map string_bytes c.args.names.now) (vec_len c.run_files-status.result.outs) c.run_files-status.result.outs.ok.0 c.requires.new) c.return_files.ensures.calls,
+      λ input before counts no_more new others.
+      let names = map string_bytes c.args.names.now in
+      let enough : c.args.decks ≤ length c.args.files.items =
+      let form = form_of c.args.decks names c.requires.form in
+      omega (arith, form.are_there, AreNew-length g.F.In.Source.left g.F.In.Source.faults g.F.Out.Sink.taken g.F.Out.Sink.faults g.F.Shelf.tells input names c.args.files.items new) in
+      named_run g.F.In.Source.left g.F.In.Source.faults g.F.Out.Sink.taken g.F.Out.Sink.faults g.F.Shelf.tells input (g.F.Shelf.output c.return_files.new.shelf) (opened_on g.D.Disk.tells c.args.desk.store) (g.D.Disk.tells c.run_files-status.result.disks.first) (g.D.Disk.tells c.run_files-status.result.disks.second)
+      counts (fault_counts (g.F.Shelf.source_faults c.return_files.new.shelf) (g.F.Shelf.sink_faults c.return_files.new.shelf) (g.D.Disk.faults c.run_files-status.result.disks.first) (g.D.Disk.faults c.run_files-status.result.disks.second))
+      c.args.desk.position c.args.issuing c.run_files-status.result.accepted.items c.run_files-status.result.doubt c.run_files-status.result.status c.args.decks names c.args.files.items c.run_files-status.result.outs.items before
+      enough new (subst (λ (ns : List (List ℕ)). AreKept g.F.Out.Sink.taken (g.F.Shelf.output c.return_files.new.shelf) ns c.run_files-status.result.outs.items) (run_names g.F.In.Source.left g.F.In.Source.faults g.F.Out.Sink.taken g.F.Out.Sink.faults c.args.desk.position c.args.issuing c.run_files-status.result.accepted.items c.run_files-status.result.doubt c.run_files-status.result.status c.args.decks c.args.files.items c.run_files-status.result.outs.items c.run_files-status.ensures.together g.F.Shelf.tells (g.F.Shelf.input c.args.shelf.now) (map string_bytes c.args.names.now) (vec_len c.run_files-status.result.outs) c.run_files-status.result.outs.ok.0 c.requires.new) c.return_files.ensures.kept)
+      c.run_files-status.ensures.together
+      (RoseFor-earlier (λ file. g.F.In.Source.faults file.0) counts.reads (g.F.Shelf.source_faults c.args.shelf.now) (g.F.Shelf.source_faults c.return_files.new.shelf) c.run_files-status.result.outs.items no_more.reads c.return_files.ensures.reads_rose)
+      (RoseFor-earlier (λ file. g.F.Out.Sink.faults file.1) counts.writes (g.F.Shelf.sink_faults c.args.shelf.now) (g.F.Shelf.sink_faults c.return_files.new.shelf) c.run_files-status.result.outs.items no_more.writes c.return_files.ensures.writes_rose)
+      (λ h. either_later _ _ _ _ _ _ no_more.first no_more.second
+      (rose_live g.D.Disk.faults c.args.desk.store.side c.args.desk.store.journal.disk c.args.desk.store.idle c.run_files-status.result.disks.first c.run_files-status.result.disks.second (c.run_files-status.ensures.rose h)))
+      c.run_files-status.ensures.legal c.run_files-status.ensures.disks
+      (subst (StaysAlong c.args.desk.position (all_of c.run_files-status.result.accepted.items c.run_files-status.result.doubt) (idle_of g.D.Disk.tells c.args.desk.store) (g.D.Disk.tells c.args.desk.store.journal.disk))
+      (told-pick g.D.Disk.tells c.args.desk.store.side c.run_files-status.result.disks.first c.run_files-status.result.disks.second) c.run_files-status.ensures.moments)
+      (sym (told-pick g.D.Disk.tells c.args.desk.store.side c.run_files-status.result.disks.second c.run_files-status.result.disks.first) ∙ c.run_files-status.ensures.idle)
+      (OthersStay-chain names before (g.F.Shelf.output c.args.shelf.now) (g.F.Shelf.output c.return_files.new.shelf) others
+      (subst (λ (ns : List (List ℕ)). OthersStay ns (g.F.Shelf.output c.args.shelf.now) (g.F.Shelf.output c.return_files.new.shelf)) (run_names g.F.In.Source.left g.F.In.Source.faults g.F.Out.Sink.taken g.F.Out.Sink.faults c.args.desk.position c.args.issuing c.run_files-status.result.accepted.items c.run_files-status.result.doubt c.run_files-status.result.status c.args.decks c.args.files.items c.run_files-status.result.outs.items c.run_files-status.ensures.together g.F.Shelf.tells (g.F.Shelf.input c.args.shelf.now) (map string_bytes c.args.names.now) (vec_len c.run_files-status.result.outs) c.run_files-status.result.outs.ok.0 c.requires.new) c.return_files.ensures.others)),
+    )
 
 pub returns-clause-sound : goal.returns-clause-sound
 returns-clause-sound g c =

@@ -26,7 +26,7 @@ returns-in-Ok-clause-runs g c =
       stood = c.in-Ok.ensures.stands;
       ran = (
         opened_on tells start,
-        opens_on tells start (tells c.args.disks.first) (tells c.args.disks.second) c.in-Ok.ensures.first_moments c.in-Ok.ensures.second_moments,
+        opens_on tells start (tells c.args.disks.first) (tells c.args.disks.second) c.in-Ok.ensures.first_moments c.in-Ok.ensures.second_moments c.in-Ok.ensures.joint,
         RunsOnShelf-weaker g.F.Shelf.source_gives g.F.Shelf.sink_gives g.F.Shelf.take_back_gives g.F.Shelf.give_back_gives g.F.Shelf.tells g.F.Shelf.output
             (Rose (g.F.Shelf.source_faults c.args.shelf.now) (g.F.Shelf.source_faults c.script_between-status.new.shelf)) (Rose (g.F.Shelf.sink_faults c.args.shelf.now) (g.F.Shelf.sink_faults c.script_between-status.new.shelf))
             (EndsAt tells c.args.issuing c.in-Ok.desk.position input start desk) (EndsOn c.args.issuing c.in-Ok.desk.position input (opened_on tells start) (tells c.into_disks.result.first) (tells c.into_disks.result.second) rose) c.in-Ok.desk.position
@@ -67,6 +67,7 @@ returns-in-Err-clause-runs g c =
             refused = c.in-Err.ensures.fault;
             first_moments = c.in-Err.ensures.first_moments;
             second_moments = c.in-Err.ensures.second_moments;
+            joint = c.in-Err.ensures.joint;
             only_synced = c.in-Err.ensures.untouched;
           };
       kept = refl;

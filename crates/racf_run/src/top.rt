@@ -216,8 +216,9 @@ where
     (status, disks)
 }
 
-/// Whether the words are of a form that works on the disks. Where they aren't, `racf` leaves the disks as they are, so
-/// that a program need not open them.
+/// Whether the words are of a form that works on the disks, so that a program opens them to write. Where they are
+/// neither of such a form nor of one that looks at the disks (`looks_at_disks`), `racf` leaves the disks as they are, and
+/// a program need not open them.
 pub fn works_on_disks(words: &[String]) -> bool
     ensures { result ≡ is_some (script_files (map string_bytes words.now)) || is_init (map string_bytes words.now) || is_compact (map string_bytes words.now)
         || is_some (run_words (map string_bytes words.now)) }

@@ -6,6 +6,8 @@ mod desk_tests;
 #[cfg(test)]
 mod image_tests;
 #[cfg(test)]
+mod memory_tests;
+#[cfg(test)]
 mod request_tests;
 #[cfg(test)]
 mod stream_tests;

@@ -3,9 +3,8 @@ ghost use Rattle.std.specs.Prelude.{◌≡◌, map, false, None, IfSome, IsTrue,
 ghost use Rattle.racf_run.specs.Racf.{script_files, IsWholeOutput, OpensDatabase};
 ghost use Rattle.statements.specs.Status.{is_whole};
 
-use crate::desk_tests::{never_disks, new_desk};
+use crate::desk_tests::new_desk;
 use access_levels::Id;
-use racf_checkpoint::StoreFault;
 use racf_desk::Desk;
 use racf_files::FileShelf;
 use racf_outside::{
@@ -473,73 +472,4 @@ fn holds_256_acees(rt: HostRuntime) {
     let stream = acees_past_the_limit(&rt);
     let last = b"\n0 0 VERIFIED\n0 REFUSED ACEESFULL\n";
     assert!(rt; is_refused_at_last(&rt, stream.as_str(), last));
-}
-
-/// How the first stream ended, whether its desk was halted, and its output; or why the database wasn't opened.
-type Ended = Result<(Status, bool, Vec<u8>), StoreFault>;
-
-/// Works a stream over a source, a sink and disks in memory.
-fn worked_in_memory(
-    alloc: Global,
-    disks: Two<MemoryDisk>,
-    source: MemorySource,
-    mut sink: MemorySink,
-) -> Ended {
-    let desk = match Desk::open(alloc, disks) {
-        Ok(desk) => desk,
-        Err((_, why)) => return Err(why),
-    };
-    let (status, _source, desk) = script(alloc, source, &mut sink, desk, Issuing::Free);
-    let halted = desk.halted();
-    let _ = desk.into_disks();
-    Ok((status, halted, sink.into_bytes()))
-}
-
-/// Whether an output is that of the first stream up to where it ends or, where a disk failed, up to the command that was
-/// told so.
-fn is_front(written: &[u8]) -> bool {
-    let Ok(text) = str::from_utf8(written) else {
-        return false;
-    };
-    match text.split_once(" DISKFAULT\n") {
-        Some((before, _)) => FIRST_OUTPUT.starts_with(
-            before.rsplit_once('\n').unwrap_or(("", "")).0,
-        ),
-        None => FIRST_OUTPUT.starts_with(text),
-    }
-}
-
-/// Whether the first stream was given up as it may be where a form in memory gets none, which counts as its fault: only a
-/// disk's fault halts the desk.
-fn is_given_up(ended: &Ended) -> bool {
-    match ended {
-        Ok((Status::ReadFault | Status::WriteFault, halted, written)) => !halted
-            && is_front(written),
-        Ok((Status::DiskFault, halted, written)) => *halted && is_front(written),
-        Ok((Status::NoMemory, _, written)) => is_front(written),
-        Ok(_) => false,
-        Err(why) => matches!(why, StoreFault::DiskFault | StoreFault::NoMemory),
-    }
-}
-
-/// A stream is whole, or memory is wanting: the script `tests/refusals` runs this with allocations refused behind the
-/// line that it prints first.
-#[test]
-fn stream_in_memory(rt: HostRuntime) {
-    let bytes = Vec::from_slice(rt.alloc(), FIRST_STREAM.as_bytes()).expect(&rt, "memory");
-    let source = MemorySource::new(bytes, Vec::new(rt.alloc()));
-    let sink = MemorySink::new(rt.alloc(), Vec::new(rt.alloc()));
-    let disks = database(&rt);
-    assert!(rt; println!(rt; "FROM HERE").is_ok());
-    let ended = worked_in_memory(rt.alloc(), disks, source, sink);
-    let printed = match &ended {
-        Ok((Status::Refusals, false, written)) if written.as_slice() == FIRST_OUTPUT.as_bytes() => {
-            println!(rt; "MADE")
-        }
-        _ => {
-            assert!(rt; is_given_up(&ended));
-            println!(rt; "NO MEMORY")
-        }
-    };
-    assert!(rt; printed.is_ok());
 }

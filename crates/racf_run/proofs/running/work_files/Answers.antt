@@ -46,11 +46,10 @@ pub return_files-requires-clause-open : goal.return_files-requires-clause-open
 return_files-requires-clause-open g c = subst (AreOpen (g.F.Shelf.is_open c.args.shelf.now)) (sym (run_names g.F.In.Source.left g.F.In.Source.faults g.F.Out.Sink.taken g.F.Out.Sink.faults c.args.desk.position c.args.issuing c.run_files-status.result.accepted.items c.run_files-status.result.doubt c.run_files-status.result.status c.args.decks c.args.files.items c.run_files-status.result.outs.items c.run_files-status.ensures.together g.F.Shelf.tells (g.F.Shelf.input c.args.shelf.now) (map string_bytes c.args.names.now) (vec_len c.run_files-status.result.outs) c.run_files-status.result.outs.ok.0 c.requires.new)) c.requires.«open»
 
 pub returns-clause-ran : goal.returns-clause-ran
-returns-clause-ran g c =
-    (
-      c.run_files-status.result.outs.items,
-      subst (λ (ns : List (List ℕ)). Returned g.F.Shelf.source_gives g.F.Shelf.sink_gives g.F.Shelf.take_back_gives g.F.Shelf.give_back_gives ns c.run_files-status.result.outs.items c.args.shelf.now c.return_files.new.shelf) (run_names g.F.In.Source.left g.F.In.Source.faults g.F.Out.Sink.taken g.F.Out.Sink.faults c.args.desk.position c.args.issuing c.run_files-status.result.accepted.items c.run_files-status.result.doubt c.run_files-status.result.status c.args.decks c.args.files.items c.run_files-status.result.outs.items c.run_files-status.ensures.together g.F.Shelf.tells (g.F.Shelf.input c.args.shelf.now) (map string_bytes c.args.names.now) (vec_len c.run_files-status.result.outs) c.run_files-status.result.outs.ok.0 c.requires.new) c.return_files.ensures.calls,
-      λ input before counts no_more new others.
+returns-clause-ran g c = (
+  c.run_files-status.result.outs.items,
+  subst (λ (ns : List (List ℕ)). Returned g.F.Shelf.source_gives g.F.Shelf.sink_gives g.F.Shelf.take_back_gives g.F.Shelf.give_back_gives ns c.run_files-status.result.outs.items c.args.shelf.now c.return_files.new.shelf) (run_names g.F.In.Source.left g.F.In.Source.faults g.F.Out.Sink.taken g.F.Out.Sink.faults c.args.desk.position c.args.issuing c.run_files-status.result.accepted.items c.run_files-status.result.doubt c.run_files-status.result.status c.args.decks c.args.files.items c.run_files-status.result.outs.items c.run_files-status.ensures.together g.F.Shelf.tells (g.F.Shelf.input c.args.shelf.now) (map string_bytes c.args.names.now) (vec_len c.run_files-status.result.outs) c.run_files-status.result.outs.ok.0 c.requires.new) c.return_files.ensures.calls,
+  λ input before counts no_more new others.
       let names = map string_bytes c.args.names.now in
       let enough : c.args.decks ≤ length c.args.files.items =
       let form = form_of c.args.decks names c.requires.form in
@@ -70,7 +69,7 @@ returns-clause-ran g c =
       (sym (told-pick g.D.Disk.tells c.args.desk.store.side c.run_files-status.result.disks.second c.run_files-status.result.disks.first) ∙ c.run_files-status.ensures.idle)
       (OthersStay-chain names before (g.F.Shelf.output c.args.shelf.now) (g.F.Shelf.output c.return_files.new.shelf) others
       (subst (λ (ns : List (List ℕ)). OthersStay ns (g.F.Shelf.output c.args.shelf.now) (g.F.Shelf.output c.return_files.new.shelf)) (run_names g.F.In.Source.left g.F.In.Source.faults g.F.Out.Sink.taken g.F.Out.Sink.faults c.args.desk.position c.args.issuing c.run_files-status.result.accepted.items c.run_files-status.result.doubt c.run_files-status.result.status c.args.decks c.args.files.items c.run_files-status.result.outs.items c.run_files-status.ensures.together g.F.Shelf.tells (g.F.Shelf.input c.args.shelf.now) (map string_bytes c.args.names.now) (vec_len c.run_files-status.result.outs) c.run_files-status.result.outs.ok.0 c.requires.new) c.return_files.ensures.others)),
-    )
+)
 
 pub returns-clause-sound : goal.returns-clause-sound
 returns-clause-sound g c =

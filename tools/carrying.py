@@ -6,6 +6,7 @@ import itertools
 import re
 
 from commands import ACCESSES, BY_WORD, CLASSES, GAPS, MAY_BE_BARE, PORTS, Unclosed, is_tied, pieces, upper
+from secret_words import told
 
 # Operands of RACF that aren't here, by the reason why nothing is lost with them.
 WITHOUT_MEANING = {
@@ -21,8 +22,10 @@ WITHOUT_MEANING = {
     "a new profile has UACC(NONE) where it names none": "UACC",
     "a connection has no owner": "OWNER",
 }
+# Operands that mean something with one command, though nothing with others: RALTER's add a volume to what a profile protects.
+WITH_MEANING = {("REMOVE", "OWNER"), ("RALTER", "ADDVOL"), ("RALTER", "DELVOL")}
 REASONS = {word: reason for reason, words in WITHOUT_MEANING.items() for word in words.split()}
-# Further operands of RACF's commands, in whose stead nothing here stands; of them REMOVE's OWNER has no reason.
+# Further operands of RACF's commands, in whose stead nothing here stands.
 USERS = ("ADSP NOADSP AT CICS CSDATA DATA DCE DFP EIM GRPACC KERB LANGUAGE LNOTES MFA MODEL NDS NETVIEW NOGRPACC NOOIDCARD NOPASSWORD "
          "NOPHRASE NOROAUDIT OIDCARD OMVS ONLYAT OPERPARM OVM PASSWORD PHRASE PROXY ROAUDIT TSO UACC WHEN WORKATTR ")
 PROFILES = ("APPLDATA AT CDTINFO CFDEF CSDATA DATA DLFDATA EIM ICSF ICTX IDTPARMS JES KERB LEVEL MFA MFPOLICY NOTIFY ONLYAT PROXY "
@@ -43,16 +46,18 @@ FURTHER = {
     "RETPD SET TME UNIT VOLUME",
     "DELDSD": "AT NOSET ONLYAT SET VOLUME",
     "RDEFINE": PROFILES + "FCLASS FGENERIC FROM FVOLUME",
-    "RALTER": PROFILES + "NOAPPLDATA NOCDTINFO NOCFDEF NOCSDATA NODATA NODLFDATA NOEIM NOICSF NOICTX NOIDTPARMS NOJES NOKERB NOMFA "
-    "NOMFPOLICY NONOTIFY NOPROXY NOSESSION NOSIGVER NOSINGLEDSN NOSSIGNON NOSTDATA NOSVFMR NOTIMEZONE NOTME NOTVTOC",
+    "RALTER": PROFILES + "ADDVOL DELVOL NOAPPLDATA NOCDTINFO NOCFDEF NOCSDATA NODATA NODLFDATA NOEIM NOICSF NOICTX NOIDTPARMS "
+    "NOJES NOKERB NOMFA NOMFPOLICY NONOTIFY NOPROXY NOSESSION NOSIGVER NOSINGLEDSN NOSSIGNON NOSTDATA NOSVFMR NOTIMEZONE NOTME "
+    "NOTVTOC",
     "RDELETE": "AT NOGENERIC ONLYAT",
     "PERMIT": "AT FCLASS FGENERIC FROM FVOLUME ONLYAT VOLUME",
-    "SETROPTS": "ADDCREATOR ADSP APPLAUDIT AT AUDIT CATDSNS CMDVIOL COMPATMODE EGN ERASE GENCMD GENERICOWNER GENLIST INACTIVE INITSTATS "
-    "INTERVAL JES KERBLVL LANGUAGE LIST MLACTIVE MLFSOBJ MLIPCOBJ MLNAMES MLQUIET MLSTABLE MODEL NOADDCREATOR NOADSP NOAPPLAUDIT NOAUDIT "
-    "NOCATDSNS NOCMDVIOL NOCOMPATMODE NOEGN NOERASE NOGENCMD NOGENERIC NOGENERICOWNER NOGENLIST NOINACTIVE NOINITSTATS NOMLACTIVE "
-    "NOMLNAMES NOMLQUIET NOMLSTABLE NOMODEL NOOPERAUDIT NOPREFIX NOREALDSN NOSAUDIT NOSECLABELAUDIT NOSECLABELCONTROL NOSECLEVELAUDIT "
-    "NOSESSIONINTERVAL NOSTATISTICS NOTAPEDSN NOWHEN ONLYAT OPERAUDIT PASSWORD PREFIX REALDSN RETPD RVARYPW SAUDIT SECLABELAUDIT "
-    "SECLABELCONTROL SECLEVELAUDIT SESSIONINTERVAL STATISTICS TAPEDSN TERMINAL WHEN",
+    "SETROPTS": "ADDCREATOR ADSP APPLAUDIT AT AUDIT CATDSNS CMDVIOL COMPATMODE EGN ERASE GENCMD GENERICOWNER GENLIST INACTIVE "
+    "INITSTATS INTERVAL JES KERBLVL LANGUAGE LIST MLACTIVE MLFSOBJ MLIPCOBJ MLNAMES MLQUIET MLSTABLE MODEL NOADDCREATOR NOADSP "
+    "NOAPPLAUDIT NOAUDIT NOCATDSNS NOCMDVIOL NOCOMPATMODE NOEGN NOERASE NOGENCMD NOGENERIC NOGENERICOWNER NOGENLIST NOINACTIVE "
+    "NOINITSTATS NOMLACTIVE NOMLNAMES NOMLQUIET NOMLSTABLE NOMODEL NOOPERAUDIT NOPREFIX NOREALDSN NOSAUDIT NOSECLABELAUDIT "
+    "NOSECLABELCONTROL NOSECLBYSYSTEM NOSECLEVELAUDIT NOSESSIONINTERVAL NOSTATISTICS NOTAPEDSN NOWHEN ONLYAT OPERAUDIT PASSWORD "
+    "PREFIX REALDSN RETPD RVARYPW SAUDIT SECLABELAUDIT SECLABELCONTROL SECLBYSYSTEM SECLEVELAUDIT SESSIONINTERVAL STATISTICS "
+    "TAPEDSN TERMINAL WHEN",
 }
 # A pair of operands that doesn't exclude one another, though the one is the NO form of the other.
 NO_PAIRS = ("CLAUTH", "CLASSACT", "RACLIST", "GLOBAL")
@@ -119,7 +124,7 @@ def known_classes(words, operand_word, carried, besides=()):
         raise Unsure("* in place of classes isn't there")
     gone = [word for word in words if word not in (*CLASSES, *besides)]
     if gone:
-        carried.note(f"left out: {', '.join(gone)} of {operand_word}; there is no such class", True)
+        carried.note(f"left out: {told(', '.join(gone))} of {operand_word}; there is no such class", True)
     return [word for word in words if word not in gone]
 
 
@@ -315,7 +320,7 @@ def operand(command, word, text, target, carried):
         raise Unsure(f"{word} stands without a value")
     found = [value for value in values(kind, word, text, target, carried) if value]
     if kind in (*SINGLE, *SPELLED_OUT) and found and found[0] != re.sub(r"[ \t,]+", " ", upper(text)).strip():
-        carried.note(f"{word}({text.strip()}) written as {word}({found[0]})")
+        carried.note(f"{word}({told(text.strip())}) written as {word}({told(found[0])})")
     return [f"{word}({value})" for value in found]
 
 
@@ -332,7 +337,7 @@ def reason_without(command, word):
     """Why nothing is lost with an operand that isn't here; Unsure where something may be."""
     if command.name == "SETROPTS" and word not in ("AT", "ONLYAT"):
         return "generic names go by its rules always" if word == "EGN" else "there is no such option"
-    if word not in REASONS or (command.name, word) == ("REMOVE", "OWNER"):
+    if word not in REASONS or (command.name, word) in WITH_MEANING:
         raise Unsure(f"{word} of {command.name} isn't there")
     return REASONS[word]
 
@@ -353,7 +358,7 @@ def operands(command, given, target, carried):
             # an option of SETROPTS stands for itself
             if command.name != "SETROPTS" or word in ("AT", "ONLYAT"):
                 raise
-            carried.note(f"left out: {word} of SETROPTS; {fault}", True)
+            carried.note(f"left out: {word} of SETROPTS; {told(str(fault))}", True)
     return {word: texts for word, texts in forms.items() if texts}
 
 

@@ -4,7 +4,9 @@
 said of a pipe that nobody reads.
 """
 import errno
+import fcntl
 import os
+import stat
 
 from databases import DISKS
 
@@ -15,6 +17,7 @@ REASONS = {errno.ENOENT: "no such file", errno.EACCES: "permission denied", errn
 
 # How a file of a database begins, and the file beside it that a sync which failed leaves.
 BEGINNING, LOST = b"RACFDB01", "racf.lost"
+OF_DATABASE = "a file of a database"
 
 
 class End(Exception):
@@ -38,27 +41,85 @@ def read(name):
         raise End(READ_FAULT, f"racf: {'standard input' if name == '-' else name}: {reason(fault)}")
 
 
-def is_of_database(name):
-    """A file is one of a database, by its name or by how it begins."""
-    if os.path.basename(os.path.realpath(name)) in (*DISKS, LOST):
-        return True
-    if not os.path.isfile(name):
-        return False
-    with open(name, "rb") as file:
-        return file.read(len(BEGINNING)) == BEGINNING
-
-
-def write(name, data):
-    """Writes the bytes to a file, or to standard output where the name is `-`. What is of a database is kept."""
+def same_as(status, name):
+    """A name, or standard input where it is `-`, is that of the file with this status."""
     try:
-        if name != "-" and is_of_database(name):
-            raise End(WRITE_FAULT, f"racf: {name}: a file of a database")
-        with open(1 if name == "-" else name, "wb", closefd=name != "-") as file:
+        return os.path.samestat(status, os.fstat(0) if name == "-" else os.stat(name))
+    except OSError:
+        return False
+
+
+def has_name_of_database(name):
+    return os.path.basename(os.path.realpath(name)) in (*DISKS, LOST)
+
+
+def is_of_database(status, path):
+    """A file is one of a database: of this folder's by its place, or of any by its name or by how it begins."""
+    if has_name_of_database(path) or any(same_as(status, disk) for disk in (*DISKS, LOST)):
+        return True
+    try:
+        with open(path, "rb") as file:
+            return file.read(len(BEGINNING)) == BEGINNING
+    except PermissionError:
+        return False
+
+
+def is_locked(path):
+    """Another program holds the file locked. Where locks aren't known, none does."""
+    file = os.open(path, os.O_WRONLY)
+    try:
+        fcntl.flock(file, fcntl.LOCK_EX | fcntl.LOCK_NB)
+    except BlockingIOError:
+        return True
+    except OSError:
+        pass
+    finally:
+        os.close(file)
+    return False
+
+
+def why_kept(out, inputs):
+    """Why an output that is open is kept as it is; None where it is written."""
+    status, path = os.fstat(out), f"/proc/self/fd/{out}"
+    if not stat.S_ISREG(status.st_mode):
+        return None
+    if any(same_as(status, name) for name in inputs):
+        return "an input too"
+    if is_of_database(status, path):
+        return OF_DATABASE
+    return "locked by another program" if is_locked(path) else None
+
+
+def opened(name):
+    """The file of that name, open to be written and as it is; it is made where none is there, but not behind a link."""
+    try:
+        return os.open(name, os.O_WRONLY)
+    except FileNotFoundError:
+        pass
+    try:
+        return os.open(name, os.O_WRONLY | os.O_CREAT | os.O_EXCL, 0o666)
+    except FileExistsError:
+        raise End(WRITE_FAULT, f"racf: {name}: a link that leads to no file")
+
+
+def write(name, data, inputs=()):
+    """Writes the bytes to a file, or to standard output where the name is `-`. One of the inputs, what is of a database, and what
+    another program holds locked, are kept as they are."""
+    is_named, told = name != "-", "standard output" if name == "-" else name
+    try:
+        if is_named and has_name_of_database(name):
+            raise End(WRITE_FAULT, f"racf: {told}: {OF_DATABASE}")
+        with open(opened(name) if is_named else 1, "wb", closefd=is_named) as file:
+            kept = why_kept(file.fileno(), inputs)
+            if kept:
+                raise End(WRITE_FAULT, f"racf: {told}: {kept}")
+            if is_named and stat.S_ISREG(os.fstat(file.fileno()).st_mode):
+                file.truncate()
             file.write(data)
     except BrokenPipeError:
         raise
     except OSError as fault:
-        raise End(WRITE_FAULT, f"racf: {'standard output' if name == '-' else name}: {reason(fault)}")
+        raise End(WRITE_FAULT, f"racf: {told}: {reason(fault)}")
 
 
 def say(lines):

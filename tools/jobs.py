@@ -15,7 +15,7 @@ IN_STREAM = re.compile(r"(\*|DATA)(?=,|\s|$)")
 DELIMITER = re.compile(r"\bDLM=(?:'(..)'|([^\s,]{2}))")
 # Who gives the commands of a job, and the command that a step begins with.
 BESIDES = (
-    (re.compile(r"\bUSER=([^\s,]+)"), "left out: {} gives the commands there; here IBMUSER does, or whom a line *ISSUER names"),
+    (re.compile(r"\bUSER=[('\"]*([A-Za-z0-9#$@]+)"), "left out: {} gives the commands there; here IBMUSER does, or whom a line *ISSUER names"),
     (re.compile(r"\b(PARM)="), "left out: {} of a step, which may be a command"),
 )
 SEQUENCE_NUMBER = re.compile(r".{72}[0-9]{8}")

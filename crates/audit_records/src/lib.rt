@@ -14,6 +14,7 @@
 #![tactic(auto)]
 
 mod cases;
+pub mod laws;
 mod line;
 
 pub use cases::logged;

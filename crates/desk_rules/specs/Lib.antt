@@ -10,3 +10,4 @@ pub mod Formatting
 pub mod Images
 pub mod History
 pub mod Reopening
+pub mod OneLine

@@ -1,13 +1,15 @@
 //! Laws of the definitions. The functions do nothing: their contracts are what is proved.
 
-ghost use Rattle.std.specs.Prelude.{◌≡◌, ◌<◌, ◌^◌, ℕ, List, Option, Some, Ok, map};
+ghost use Rattle.std.specs.Prelude.{◌≡◌, ◌<◌, ◌^◌, ℕ, List, Option, Some, Ok, IfSome, map};
 ghost use Rattle.command_parser.specs.Canonical.{canonical, IsWritten};
 ghost use Rattle.journal_records.specs.declared.record.CommandRecord.{CommandRecord};
 ghost use Rattle.journal_records.specs.Reading.{record_of};
+ghost use Rattle.audit_records.specs.Feedless.{IsFeedless, IsFeedlessState};
 ghost use Rattle.desk_rules.specs.History.{at, IsLegal, HadRoom};
 ghost use Rattle.desk_rules.specs.Outcome.{outcome};
-ghost use Rattle.desk_rules.specs.Position.{Position, restarted};
-ghost use Rattle.desk_rules.specs.Recovery.{recovered_from};
+ghost use Rattle.desk_rules.specs.OneLine.{IsFeedlessAccepted, IsFeedlessOutcome};
+ghost use Rattle.desk_rules.specs.Position.{Position, position_behind, restarted};
+ghost use Rattle.desk_rules.specs.Recovery.{recovered_from, standing};
 
 /// A desk that is opened again goes on as the one that ran: a command has the same outcome at both, and behind the same
 /// commands both have the same number, rows and journal, so that what is opened then is the same.
@@ -36,4 +38,21 @@ pub fn accepted_commands_are_written()
     command_parser::laws::one_command_is_spelled();
     command_grammar::laws::what_is_read_is_lawful();
     command_grammar::laws::canonical_text_is_read_again();
+}
+
+/// No line feed stands in what an outcome tells, whatever the text of the command: not in the words of its refusal, nor
+/// in the IDs and names of the issuer and the command that are kept, where none is in a name of the position, nor in the
+/// ID and the group of whoever gives it. None is in a name of the position behind that command, and none in one of a
+/// position that the files of two disks stand for.
+pub fn no_line_feed_is_told()
+    ensures outcome { (position : Position) (id : List ℕ) (group : Option (List ℕ)) (text : List ℕ) →
+        IsFeedlessState position.image.state → IsFeedless id → IfSome group IsFeedless → IsFeedlessOutcome (outcome position id group text) }
+    ensures behind { (position : Position) (given : CommandRecord) →
+        IsFeedlessAccepted given → IsFeedlessState position.image.state → IsFeedlessState (position_behind position given).image.state }
+    ensures reached { (first second : List ℕ) (base : Position) → standing first second ≡ Ok base → IsFeedlessState base.image.state }
+{
+    command_parser::laws::one_command_is_spelled();
+    command_parser::laws::fields_of_a_text_are_lawful();
+    journal_records::laws::canonical_texts_are_of_commands();
+    journal_records::laws::fields_are_of_identifiers();
 }

@@ -32,7 +32,8 @@ use Rattle.statements.specs.IssuerLines.{issuer_named}
 use Rattle.racf_stream.specs.Stream as s
 use Rattle.racf_stream.specs.Stream.{State, Answer, number_of}
 use Rattle.racf_stream.specs.Printed.{says_failed}
-use Rattle.racf_stream.proofs.PrintedLaws.{AllDigits, decimal-AllDigits, behind_digits, numbered_parts, numbered_front}
+use Rattle.audit_records.proofs.Digits.{AllDigits, decimal-AllDigits}
+use Rattle.racf_stream.proofs.PrintedLaws.{behind_digits, numbered_parts, numbered_front}
 
 -- ---- what a line says, by its words
 

@@ -5,10 +5,11 @@ use Rattle.std.specs.List.{AllByRecursion, concat, flat_map, onto_first}
 use Rattle.std.proofs.lemmas.Bool.{ne_eqb}
 use Rattle.std.proofs.lemmas.List.Sums.{list_all-from_AllPass}
 use Rattle.racf_outside.specs.Lines.{NoFeed}
+use Rattle.audit_records.specs.Feedless.{IsFeedless, is_feedless}
+use Rattle.audit_records.proofs.Feedless.{joined, decimal-feedless}
 use Rattle.request_files.specs.Answers.{numbered}
 use Rattle.racf_stream.specs.Stream.{number_of}
 use Rattle.racf_stream.specs.Printed.{Turn, printed, behind, audit_text, PrintsItsLines, printed_lines, split_lines}
-use Rattle.racf_stream.proofs.Feedless.{IsFeedless, is_feedless, joined, decimal-feedless}
 
 -- a row, computed: a line may hold its line feed alone
 split_row : split_lines (codes "1 ACCEPTED\n\n1 0 VERIFIED\n") ≡ codes "1 ACCEPTED\n" ∷ codes "\n" ∷ codes "1 0 VERIFIED\n" ∷ []

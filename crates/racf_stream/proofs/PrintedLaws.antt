@@ -1,11 +1,8 @@
 -- What the printed line of each statement says of it.
-use Rattle.std.proofs.Common.{◌≡◌, ℕ, zero, suc, ◌+◌, ◌<◌, ◌≤◌, ◌/◌, ◌%◌, Bool, true, false, ◌||◌, List, [], ◌∷◌, ◌++◌, None, Some, Ok, Err, refl, sym, ◌∙◌, ap, arith, append_assoc}
+use Rattle.std.proofs.Common.{◌≡◌, ℕ, ◌+◌, ◌<◌, ◌≤◌, Bool, true, false, ◌||◌, List, [], ◌∷◌, ◌++◌, None, Some, Ok, Err, refl, sym, ◌∙◌, ap, arith, append_assoc}
 use Rattle.std.specs.Prelude.{◌==◌, nat_eq, nat_le, Option, Result, codes, decimal, if◌then◌else◌}
-use Rattle.std.specs.Fmt.{digits, digits_onto, digit_glyph}
 use Rattle.std.specs.List.{starts_with}
-use Rattle.std.proofs.Math.Nat.{mod-lt}
 use Rattle.std.proofs.lemmas.Bool.{ne_eqb, or_right}
-use Rattle.std.proofs.lemmas.Bool.Decides.{nat_tests}
 use Rattle.std.proofs.Math.Bool.{or-false}
 use Rattle.racf_profiles.specs.declared.rows.Rows.{Rows}
 use Rattle.acee.specs.declared.acee.Acee.{Acee}
@@ -32,40 +29,12 @@ use Rattle.statements.specs.declared.reply.Refusal.TheVariants as refusal
 use Rattle.statements.specs.Replies.{refusal_words, reply_line}
 use Rattle.request_files.specs.declared.issuer_line.NamedIssuer.{NamedIssuer}
 use Rattle.statements.specs.IssuerLines.{issuer_named}
+use Rattle.audit_records.proofs.Digits.{AllDigits, decimal-AllDigits}
 use Rattle.racf_stream.specs.Stream as s
 use Rattle.racf_stream.specs.Stream.{State, Answer, number_of}
 use Rattle.racf_stream.specs.Printed.{behind_blank, says_refused}
 
 -- ---- decimal numbers
-
-abbrev pub AllDigits : List ℕ → Type 0
-AllDigits [] = Unit {0}
-AllDigits (b ∷ bs) = (48 ≤ b) × (b < 58) × AllDigits bs
-
-glyph_least : (d : ℕ) → d < 10 → 48 ≤ digit_glyph false d
-glyph_least d h = grind (arith, nat_tests)
-
-glyph_most : (d : ℕ) → d < 10 → digit_glyph false d < 58
-glyph_most d h = grind (arith, nat_tests)
-
-either_digits : (b : Bool) (xs ys : List ℕ) → AllDigits xs → AllDigits ys → AllDigits (if b then xs else ys)
-either_digits true xs ys p q = p
-either_digits false xs ys p q = q
-
-one_more : (n : ℕ) (acc : List ℕ) → AllDigits acc → AllDigits (digit_glyph false (n % 10) ∷ acc)
-one_more n acc h =
-    let within : n % 10 < 10 = mod-lt n (omega arith) in
-    (glyph_least (n % 10) within, glyph_most (n % 10) within, h)
-
-digits_onto-AllDigits : (k n : ℕ) (acc : List ℕ) → AllDigits acc → AllDigits (digits_onto k 10 false n acc)
-digits_onto-AllDigits zero n acc h = h
-digits_onto-AllDigits (suc k) n acc h =
-    either_digits (n / 10 == 0) _ _ (one_more n acc h) (digits_onto-AllDigits k (n / 10) (digit_glyph false (n % 10) ∷ acc) (one_more n acc h))
-
-pub decimal-AllDigits : (n : ℕ) → AllDigits (decimal n)
-unfolding digits
-decimal-AllDigits n = digits_onto-AllDigits 64 n [] tt
-
 no_blank : (d : ℕ) → 48 ≤ d → (d == 32) ≡ false
 no_blank d h = ne_eqb d 32 (λ e. omega arith)
 

@@ -27,8 +27,9 @@ ghost use Rattle.desk_rules.specs.Position.{Position, position_after};
 ghost use Rattle.racf_stream.specs.Printed.{Turn, IsReached, IsSpelled, input_turns, turns, printed, behind, PrintsItsLines, printed_lines, split_lines};
 ghost use Rattle.racf_stream.specs.Printed.{says_failed, says_refused};
 
-use command_parser::laws::{fields_of_a_text_are_lawful, one_command_is_spelled};
-use journal_records::laws::{canonical_texts_are_of_commands, fields_are_of_identifiers};
+use desk_rules::laws::no_line_feed_is_told;
+use request_files::laws::a_request_prints_its_lines;
+use statements::laws::a_reply_is_one_line;
 
 /// The output of a whole input is what its statements print at their turns, in order. Whatever the input's bytes, each
 /// prints nothing, or one line, or the line of a decision and an AUDIT line behind it, so that the lines of the output
@@ -45,10 +46,9 @@ pub fn an_item_prints_its_lines()
         let before = after (stream fault issuing base) done (new_stream issuing base) in
         input_turns fault issuing base bytes ≡ turns fault done (new_stream issuing base) ++ record { fault = fault; item = item; before = before } ∷ turns fault more (step fault item before) }
 {
-    one_command_is_spelled();
-    fields_of_a_text_are_lawful();
-    canonical_texts_are_of_commands();
-    fields_are_of_identifiers();
+    a_request_prints_its_lines();
+    no_line_feed_is_told();
+    a_reply_is_one_line();
 }
 
 /// What is printed for an AUTH or a FASTAUTH whose ACEE is in use is the decision that the table gives for that ACEE at

@@ -4,3 +4,6 @@ mod RequestRows
 mod IssuerRows
 pub mod NumberLaws
 pub mod RowLaws
+mod FeedlessDecisions
+mod FeedlessLines
+mod FeedlessWorked

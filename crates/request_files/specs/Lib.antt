@@ -5,3 +5,4 @@ pub mod Seen
 pub mod Answers
 pub mod Acees
 pub mod Worked
+pub mod OneLine

@@ -15,6 +15,7 @@ mod acees;
 mod answers;
 mod asked;
 mod issuer_line;
+pub mod laws;
 mod line;
 mod next_words;
 mod numbers;

@@ -10,3 +10,4 @@ pub mod StatementLaws
 pub mod Pieces
 pub mod Settling
 pub mod Ending
+mod OneLineLaws

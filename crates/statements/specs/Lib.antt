@@ -11,3 +11,4 @@ pub mod NextRole
 pub mod Gathering
 pub mod Lending
 pub mod Stopping
+pub mod OneLine

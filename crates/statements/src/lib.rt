@@ -23,6 +23,7 @@
 mod input;
 mod issuer;
 mod joining;
+pub mod laws;
 mod mark;
 mod replies;
 mod reply;

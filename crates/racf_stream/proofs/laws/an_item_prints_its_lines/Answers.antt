@@ -4,8 +4,7 @@ use Rattle.racf_stream.specs.Stream.{new_stream}
 use Rattle.racf_stream.specs.Printed.{turns, input_turns, split_lines}
 use Rattle.racf_stream.proofs.OutputLaws.{output_of_turns, turns-append}
 use Rattle.racf_stream.proofs.OutputLines.{lines_of_turns}
-use Rattle.racf_stream.proofs.FeedlessReached.{reached-feedless}
-use Rattle.racf_stream.proofs.FeedlessTurns.{each_line}
+use Rattle.racf_stream.proofs.TurnLines.{each_line}
 use Rattle.racf_stream.proofs.laws.an_item_prints_its_lines.Goals as goal
 
 pub returns-clause-whole : goal.returns-clause-whole
@@ -15,9 +14,8 @@ returns-clause-whole c = λ fault issuing base bytes. output_of_turns fault issu
 pub returns-clause-line : goal.returns-clause-line
 returns-clause-line c =
     λ fault issuing base bytes reached spelled.
-    each_line (λ issuer text command is. c.fields_of_a_text_are_lawful.ensures issuer text command ((c.one_command_is_spelled.ensures.one issuer text command).1 is)) fault issuing base bytes spelled
-    (reached-feedless (λ issuer text command is. c.fields_of_a_text_are_lawful.ensures issuer text command (((c.canonical_texts_are_of_commands.ensures.one issuer text command).0 is).spells issuer))
-    (λ id group issuer is. ((c.fields_are_of_identifiers.ensures.two id group issuer).0 is).0) base reached)
+    each_line fault c.a_reply_is_one_line.ensures.reply c.a_reply_is_one_line.ensures.issuer c.a_request_prints_its_lines.ensures c.no_line_feed_is_told.ensures.outcome c.no_line_feed_is_told.ensures.behind issuing base bytes spelled
+    (c.no_line_feed_is_told.ensures.reached reached.0 reached.1 base reached.2)
 
 pub returns-clause-lines : goal.returns-clause-lines
 returns-clause-lines c = λ fault issuing base bytes reached spelled. ap split_lines (returns-clause-whole c fault issuing base bytes) ∙ lines_of_turns (input_turns fault issuing base bytes) (returns-clause-line c fault issuing base bytes reached spelled)

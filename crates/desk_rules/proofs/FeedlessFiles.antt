@@ -10,8 +10,8 @@ use Rattle.checkpoint_disks.specs.declared.fault.CheckpointFault.TheVariants.{No
 use Rattle.checkpoint_disks.specs.Files.{CheckpointRead, is_formatted, head_of, rows_read, contents, ◌>>=◌}
 use Rattle.checkpoint_disks.specs.Counting.{which, file_on, counted, said}
 use Rattle.racf_checkpoint.specs.Contents.{as_stored, Says}
-use Rattle.racf_stream.proofs.FeedlessRows.{AreFeedless}
-use Rattle.racf_stream.proofs.FeedlessImages.{image-feedless}
+use Rattle.audit_records.specs.Feedless.{AreFeedless}
+use Rattle.desk_rules.proofs.FeedlessImages.{image-feedless}
 
 -- ---- one file
 passed : {A B : Type 0} (r : Result A CheckpointFault) (f : A → Result B CheckpointFault) (y : B) → (r >>= f) ≡ Ok y → (x : A) × (r ≡ Ok x) × (f x ≡ Ok y)

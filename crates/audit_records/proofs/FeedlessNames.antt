@@ -14,7 +14,8 @@ use Rattle.generic_names.specs.Spelled.{Spelled, qualifiers}
 use Rattle.generic_names.specs.Faults.{has_generic, is_ordinary, byte_fault, bytes_fault, qualifier_fault, qualifiers_fault, is_too_long, is_whole, longest, fault_of, unless, name_of, resource_of, pattern_of, member_of}
 use Rattle.generic_names.proofs.Bools as bools
 use Rattle.generic_names.proofs.Lawful.{first_none, passed_test}
-use Rattle.racf_stream.proofs.Feedless.{IsFeedless, is_feedless, joined}
+use Rattle.audit_records.specs.Feedless.{IsFeedless, is_feedless}
+use Rattle.audit_records.proofs.Feedless.{joined}
 
 -- a line feed is a bad byte, wherever it stands, in names with generic characters and in those without
 never : (generic : Bool) (kind : NameKind) (first last : Bool) (place : ℕ) → cond (generic && (10 == 37)) None (cond (generic && (10 == 42)) (cond last None (Some (StarInside place))) (cond (is_ordinary kind first 10) None (Some (BadByte place)))) ≡ None → ⊥

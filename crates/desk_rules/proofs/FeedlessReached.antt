@@ -18,13 +18,14 @@ use Rattle.journal_records.specs.Reading.{issuer_in, canonical_command, ◌>>=�
 use Rattle.lawful_commands.proofs.RowLists.{all-filter}
 use Rattle.desk_rules.specs.declared.refusal.Refusal.{Refusal}
 use Rattle.desk_rules.specs.Position.{Position, position_behind, restarted}
-use Rattle.desk_rules.specs.Recovery.{unless_faulty, outcome_again, behind_outcome, behind_record, behind_records, base_of, recovered}
-use Rattle.racf_stream.specs.Printed.{IsReached}
-use Rattle.racf_stream.proofs.Feedless.{read_id-feedless, spelled_group-feedless}
-use Rattle.racf_stream.proofs.FeedlessCopies.{copies-all}
-use Rattle.racf_stream.proofs.FeedlessFiles.{says-feedless}
-use Rattle.racf_stream.proofs.FeedlessRows.{AreFeedlessProfiles, AreFeedless, IsFeedlessState}
-use Rattle.racf_stream.proofs.FeedlessOutcomes.{IsFeedlessIssuer, IsFeedlessAccepted, IsFeedlessOutcome, again-feedless, behind-feedless}
+use Rattle.desk_rules.specs.Recovery.{unless_faulty, outcome_again, behind_outcome, behind_record, behind_records, base_of, recovered, standing}
+use Rattle.audit_records.specs.Feedless.{AreFeedlessProfiles, AreFeedless, IsFeedlessState}
+use Rattle.audit_records.proofs.Feedless.{read_id-feedless}
+use Rattle.desk_rules.specs.OneLine.{IsFeedlessIssuer, IsFeedlessAccepted, IsFeedlessOutcome}
+use Rattle.desk_rules.proofs.FeedlessFields.{spelled_group-feedless}
+use Rattle.desk_rules.proofs.FeedlessCopies.{copies-all}
+use Rattle.desk_rules.proofs.FeedlessFiles.{says-feedless}
+use Rattle.desk_rules.proofs.FeedlessOutcomes.{again-feedless, behind-feedless}
 
 -- the listed copies that are made anew
 restart-feedless : (rows : Rows) → AreFeedless rows → IsFeedlessState (restart rows)
@@ -112,9 +113,9 @@ module _ (lawful : (issuer text : List ℕ) (c : CommandFields) → canonical_co
           subst (λ (p : Position). IsFeedlessState p.image.state) same (restart-feedless position.image.state.rows led.rows)
       by (Err why) e k = absurd cc
 
-  pub reached-feedless : (base : Position) → IsReached base → IsFeedlessState base.image.state
-  reached-feedless base reached = by (contents reached.0 reached.1) refl reached.2
+  pub reached-feedless : (first second : List ℕ) (base : Position) → standing first second ≡ Ok base → IsFeedlessState base.image.state
+  reached-feedless first second base reached = by (contents first second) refl reached
     where
-      by : (r : Result CheckpointRead StoreFault) → contents reached.0 reached.1 ≡ r → unless_faulty r recovered ≡ Ok base → IsFeedlessState base.image.state
-      by (Ok kept) e k = recovered-feedless kept base (says-feedless kept reached.0 reached.1 e) k
+      by : (r : Result CheckpointRead StoreFault) → contents first second ≡ r → unless_faulty r recovered ≡ Ok base → IsFeedlessState base.image.state
+      by (Ok kept) e k = recovered-feedless kept base (says-feedless kept first second e) k
       by (Err why) e k = absurd cc

@@ -1,7 +1,7 @@
 -- The outcome of a command holds no line feed where the rows hold none: neither the words of a refusal, nor what an
 -- accepted command leaves.
 use Rattle.std.proofs.Common.{◌≡◌, ℕ, ◌+◌, Bool, true, false, List, ◌∷◌, ◌++◌, Option, None, Some, Result, Ok, Err, refl, length, codes}
-use Rattle.std.specs.Prelude.{nat_le, nat_lt, IfSome, option_map, is_ok}
+use Rattle.std.specs.Prelude.{unwrap_or, nat_le, nat_lt, IfSome, option_map, is_ok}
 use Rattle.racf_profiles.specs.declared.rows.Rows.{Rows}
 use Rattle.racf_profiles.specs.Lookup.{is_user, user_of}
 use Rattle.racf_profiles.specs.declared.users.User.{User}
@@ -18,28 +18,31 @@ use Rattle.command_rules.specs.declared.conflict.Conflict.{Conflict}
 use Rattle.command_rules.specs.Conflicts.{conflict_of, first_conflict_of}
 use Rattle.command_authority.specs.declared.needs.Need.{Need}
 use Rattle.command_authority.specs.Authority.{need}
+use Rattle.command_parser.specs.CommandOf.{command_in}
+use Rattle.command_parser.specs.Canonical.{fault}
 use Rattle.journal_records.specs.declared.record.CommandRecord.{CommandRecord}
 use Rattle.journal_records.specs.Spelling.{spelled}
 use Rattle.desk_rules.specs.declared.refusal.Refusal.{Refusal as OfCommand}
 use Rattle.desk_rules.specs.declared.refusal.Refusal.TheVariants as of_command
 use Rattle.desk_rules.specs.Issuers.{current_group, is_connected, issuer_in, unless_not_connected, issuer_among, issuer_of}
-use Rattle.desk_rules.specs.Outcome.{most_number, most_bytes, unless_refused, command_of_text, first_of, rules_of, journal_full, number_spent, refusal_of, unless_met, judged, outcome_in, outcome}
+use Rattle.desk_rules.specs.Outcome.{most_number, most_bytes, unless_refused, found_command, command_of_text, first_of, rules_of, journal_full, number_spent, refusal_of, unless_met, judged, outcome_in, outcome}
 use Rattle.desk_rules.specs.Position.{Position, position_behind}
 use Rattle.desk_rules.specs.Recovery.{refusal_again, outcome_again}
 use Rattle.desk_rules.specs.Words.{syntax_words, each_need}
-use Rattle.desk_rules.specs.Words.{refusal_words as command_refusal_words}
-use Rattle.racf_stream.proofs.Feedless.{IsFeedless, joined, decimal-feedless, either, if-given, if-found}
-use Rattle.racf_stream.proofs.FeedlessCopies.{copies-feedless}
-use Rattle.racf_stream.proofs.FeedlessRows.{IsFeedlessUser, AreFeedless, IsFeedlessState, step-feedless}
-use Rattle.racf_stream.proofs.FeedlessConflicts.{IsFeedlessTest, conflict-feedless, early-feedless}
-use Rattle.racf_stream.proofs.FeedlessNeeds.{need-feedless}
+use Rattle.audit_records.specs.Feedless.{IsFeedless, IsFeedlessUser, AreFeedless, IsFeedlessState}
+use Rattle.audit_records.proofs.Feedless.{joined, decimal-feedless, either, if-given, if-found}
+use Rattle.desk_rules.specs.OneLine.{IsFeedlessReply, IsFeedlessIssuer, IsFeedlessAccepted, IsFeedlessOutcome}
+use Rattle.desk_rules.proofs.FeedlessRows.{step-feedless}
+use Rattle.desk_rules.proofs.FeedlessCopies.{copies-feedless}
+use Rattle.desk_rules.proofs.FeedlessConflicts.{IsFeedlessTest, conflict-feedless, early-feedless}
+use Rattle.desk_rules.proofs.FeedlessNeeds.{need-feedless}
 
 -- ---- the words of a refused command
 spelling-words : (word : Word) → IsFeedless (spelling_of word)
 spelling-words words.User = refl
 spelling-words other = refl
 
-pub syntax-words : (why : Syntax) → IsFeedless (syntax_words why)
+syntax-words : (why : Syntax) → IsFeedless (syntax_words why)
 syntax-words syntax.UnknownCommand = refl
 syntax-words (syntax.UnknownOperand place) = decimal-feedless place
 syntax-words (syntax.AmbiguousOperand place) = decimal-feedless place
@@ -52,9 +55,6 @@ syntax-words (syntax.Unclosed place) = decimal-feedless place
 syntax-words syntax.TextTooLong = refl
 
 -- a refusal, and what is tested for one
-abbrev pub IsFeedlessReply : OfCommand → Type 0
-IsFeedlessReply why = IsFeedless (command_refusal_words why)
-
 abbrev pub IsFeedlessAnswer : Option OfCommand → Type 0
 IsFeedlessAnswer why = IfSome why IsFeedlessReply
 
@@ -78,10 +78,6 @@ test-words None tests h k = k
 test-words (Some why) tests h k = h
 
 -- ---- the issuer of a command
-pub record IsFeedlessIssuer (issuer : Issuer) : Type 0 where
-  pub id : IsFeedless issuer.id
-  pub group : IsFeedless issuer.group
-
 abbrev IsFeedlessFound : Result Issuer OfCommand → Type 0
 IsFeedlessFound (Ok issuer) = IsFeedlessIssuer issuer
 IsFeedlessFound (Err why) = IsFeedlessReply why
@@ -101,10 +97,6 @@ issuer-among (Some user) id group h i k =
     (connected-issuer user id (current_group user group) i (if-given group user.default_group k h.default_group))
 
 -- ---- the outcome of a command
-pub record IsFeedlessAccepted (given : CommandRecord) : Type 0 where
-  pub issuer : IsFeedlessIssuer given.issuer
-  pub fields : AreLawfulFields given.command
-
 rules-words : (rows : Rows) (given : CommandRecord) → AreFeedless rows → IsFeedlessAccepted given → IsFeedlessAnswer (rules_of rows given)
 rules-words rows given are is =
     let issuer = is.issuer in
@@ -120,11 +112,7 @@ refusal-words gate number rows given are is = test-words _ _ (rules-words rows g
 again-words : (number : ℕ) (rows : Rows) (given : CommandRecord) → AreFeedless rows → IsFeedlessAccepted given → IsFeedlessAnswer (refusal_again number rows given)
 again-words number rows given are is = test-words _ _ (rules-words rows given are is) (test-words _ _ (spent-words number) tt)
 
-abbrev pub IsFeedlessOutcome : Result CommandRecord OfCommand → Type 0
-IsFeedlessOutcome (Ok given) = IsFeedlessAccepted given
-IsFeedlessOutcome (Err why) = IsFeedlessReply why
-
-abbrev pub IsFeedlessCommand : Result CommandFields OfCommand → Type 0
+abbrev IsFeedlessCommand : Result CommandFields OfCommand → Type 0
 IsFeedlessCommand (Ok c) = AreLawfulFields c
 IsFeedlessCommand (Err why) = IsFeedlessReply why
 
@@ -149,10 +137,10 @@ module _ (refuses : CommandRecord → Option OfCommand) (rows : Rows) (each : (g
   read-outcome id group (Err why) i k h = h
   read-outcome id group (Ok c) i k h = judged-outcome id group c i k h
 
-pub outcome-feedless : (position : Position) (id : List ℕ) (group : Option (List ℕ)) (text : List ℕ) → AreFeedless position.image.state.rows → IsFeedless id → IfSome group IsFeedless
+outcome-read : (position : Position) (id : List ℕ) (group : Option (List ℕ)) (text : List ℕ) → AreFeedless position.image.state.rows → IsFeedless id → IfSome group IsFeedless
     → IsFeedlessCommand (command_of_text id text) → IsFeedlessOutcome (outcome position id group text)
 unfolding outcome_in
-outcome-feedless position id group text are i k h =
+outcome-read position id group text are i k h =
     let rows = position.image.state.rows in
     let number = position.image.generation in
     read-outcome (refusal_of position.gate number rows) rows (λ given is. refusal-words position.gate number rows given are is) are id group (command_of_text id text) i k h
@@ -169,3 +157,16 @@ behind-feedless position given is are = record {
   rows = step-feedless given.issuer is.issuer.id is.issuer.group given.command position.image.state.rows is.fields are.rows;
   copies = copies-feedless given.command position.image.state are;
 }
+
+-- ---- what a text is, where the fields of a command that it spells are lawful
+module _ (lawful : (issuer text : List ℕ) (c : CommandFields) → command_in issuer text ≡ Some c → AreLawfulFields c) where
+  command-read : (id text : List ℕ) → IsFeedlessCommand (command_of_text id text)
+  command-read id text = found (command_in id text) refl
+    where
+      found : (o : Option CommandFields) → command_in id text ≡ o → IsFeedlessCommand (found_command o (fault id text))
+      found (Some c) e = lawful id text c e
+      found None e = syntax-words (unwrap_or (fault id text) syntax.UnknownCommand)
+
+  pub outcome-feedless : (position : Position) (id : List ℕ) (group : Option (List ℕ)) (text : List ℕ) → IsFeedlessState position.image.state → IsFeedless id → IfSome group IsFeedless
+      → IsFeedlessOutcome (outcome position id group text)
+  outcome-feedless position id group text are i k = outcome-read position id group text are.rows i k (command-read id text)

@@ -1,6 +1,6 @@
--- Rows whose IDs and names hold no line feed, and that each command that a text spells leaves such rows.
+-- Each command that a text spells leaves rows whose IDs and names hold no line feed, where theirs hold none.
 use Rattle.std.proofs.Common.{ℕ, Bool, true, false, cond, not, List, [], ◌∷◌, ◌++◌, Option, None, Some, bytes_eq}
-use Rattle.std.specs.Prelude.{IfSome, find, filter, fold}
+use Rattle.std.specs.Prelude.{IfSome, filter, fold}
 use Rattle.std.specs.List.{AllByRecursion, flat_map, list_any}
 use Rattle.std.specs.Option.{option_map_or}
 use Rattle.std.proofs.lemmas.Option.{IfSome_then}
@@ -11,17 +11,13 @@ use Rattle.access_levels.specs.declared.entries.CondEntry.{CondEntry}
 use Rattle.access_levels.specs.declared.entries.Condition.{Condition}
 use Rattle.access_lists.specs.Lists.{is_for, is_for_under, entry_put}
 use Rattle.generic_names.specs.Spelled.{Spelled}
-use Rattle.racf_profiles.specs.declared.users.User.{User}
 use Rattle.racf_profiles.specs.declared.users.Connect.{Connect as Connection}
-use Rattle.racf_profiles.specs.declared.groups.Group.{Group}
 use Rattle.racf_profiles.specs.declared.profiles.Profile.{Profile}
 use Rattle.racf_profiles.specs.declared.profiles.Member.{Member}
 use Rattle.racf_profiles.specs.declared.profiles.Member.TheVariants as member
-use Rattle.racf_profiles.specs.declared.class_rows.ClassRow.{ClassRow}
 use Rattle.racf_profiles.specs.declared.rows.Rows.{Rows}
-use Rattle.racf_profiles.specs.Lookup.{is_user, is_group, is_class, is_profile, class_of, profile_of}
+use Rattle.racf_profiles.specs.Lookup.{is_user, is_group, is_profile, profile_of}
 use Rattle.racf_profiles.specs.Names.{is_to}
-use Rattle.racf_profiles.specs.State.{State, ListedCopy, is_copy_of, copy_of}
 use Rattle.racf_profiles.specs.Edits.{with_profile, without_profile}
 use Rattle.racf_profiles.proofs.OrderedProfiles.{all-put_profile}
 use Rattle.racf_profiles.proofs.EditLaws.{all-drop_row}
@@ -49,55 +45,10 @@ use Rattle.command_rules.specs.Effects.{step}
 use Rattle.lawful_commands.proofs.RowLists.{all-push, all-filter, all-at, all-put, all-map, all-both}
 use Rattle.lawful_commands.proofs.FieldFacts.{each-all}
 use Rattle.lawful_commands.proofs.ProfileRows.{all-at_class}
-use Rattle.racf_stream.proofs.FeedlessNames.{member_name-feedless}
-use Rattle.racf_stream.proofs.Feedless.{IsFeedless, id-feedless, group-feedless, data_set-feedless, class_profile-feedless, if-either, if-given, if-found, if-then}
-
--- ---- what may be printed of each row
-pub record IsFeedlessUser (user : User) : Type 0 where
-  pub id : IsFeedless user.id
-  pub default_group : IsFeedless user.default_group
-  pub groups : AllByRecursion (λ (connection : Connection). IsFeedless connection.group) user.connects
-
-pub record IsFeedlessGroup (group : Group) : Type 0 where
-  pub id : IsFeedless group.id
-  pub superior : IfSome group.superior IsFeedless
-  pub owner : IsFeedless group.owner
-
-abbrev pub IsFeedlessWho : Who → Type 0
-IsFeedlessWho Star = Unit {0}
-IsFeedlessWho (Named id) = IsFeedless id
-
-abbrev pub IsFeedlessMember : Member → Type 0
-IsFeedlessMember (member.Access resources level) = IsFeedless resources.text
-IsFeedlessMember (member.SecurityLevel name number) = IsFeedless name
-IsFeedlessMember (member.Category name) = IsFeedless name
-
-pub record IsFeedlessProfile (profile : Profile) : Type 0 where
-  pub name : IsFeedless profile.name.text
-  pub standard : AllByRecursion (λ (entry : Entry). IsFeedlessWho entry.who) profile.standard
-  pub conditional : AllByRecursion (λ (entry : CondEntry). IsFeedless entry.condition.name) profile.conditional
-  pub members : AllByRecursion IsFeedlessMember profile.members
-
-abbrev pub AreFeedlessProfiles : ClassRow → Type 0
-AreFeedlessProfiles class = AllByRecursion IsFeedlessProfile class.profiles
-
-pub record AreFeedless (rows : Rows) : Type 0 where
-  pub users : AllByRecursion IsFeedlessUser rows.users
-  pub groups : AllByRecursion IsFeedlessGroup rows.groups
-  pub classes : AllByRecursion AreFeedlessProfiles rows.classes
-  pub categories : AllByRecursion IsFeedless rows.options.categories
-
--- of a state: its listed copies too
-pub record IsFeedlessState (state : State) : Type 0 where
-  pub rows : AreFeedless state.rows
-  pub copies : AllByRecursion (λ (copy : ListedCopy). AllByRecursion IsFeedlessProfile copy.profiles) state.copies
-
-pub copy-feedless : (class : List ℕ) (state : State) → IsFeedlessState state → AllByRecursion IsFeedlessProfile (copy_of class state.copies)
-copy-feedless class state are = by (find (is_copy_of class) state.copies) (if-found (λ (copy : ListedCopy). AllByRecursion IsFeedlessProfile copy.profiles) (is_copy_of class) state.copies are.copies)
-  where
-    by : (o : Option ListedCopy) → IfSome o (λ (copy : ListedCopy). AllByRecursion IsFeedlessProfile copy.profiles) → AllByRecursion IsFeedlessProfile (option_map_or (λ (copy : ListedCopy). copy.profiles) o [])
-    by None h = tt
-    by (Some copy) h = h
+use Rattle.audit_records.specs.Feedless.{IsFeedlessUser, IsFeedlessGroup, IsFeedlessWho, IsFeedlessMember, IsFeedlessProfile, AreFeedlessProfiles, AreFeedless, IsFeedless}
+use Rattle.audit_records.proofs.Feedless.{profile_of-feedless, if-either, if-given}
+use Rattle.audit_records.proofs.FeedlessNames.{member_name-feedless}
+use Rattle.desk_rules.proofs.FeedlessFields.{id-feedless, group-feedless, data_set-feedless, class_profile-feedless}
 
 -- ---- the fields of a command that a text spells
 pub ids-feedless : (given : Option (List ℕ)) → IfSome given IsId → IfSome given IsFeedless
@@ -124,11 +75,6 @@ whos-feedless (Star ∷ who ∷ whos) h = absurd h
 whos-feedless (Named id ∷ whos) h = (id-feedless id h.0, each-all IsNamedOne IsFeedlessWho one-feedless whos h.1)
 
 -- ---- rows of profiles
-pub profile_of-feedless : (class : List ℕ) (name : Spelled) (rows : Rows) → AreFeedless rows → IfSome (profile_of class name rows) IsFeedlessProfile
-profile_of-feedless class name rows are =
-    if-then AreFeedlessProfiles IsFeedlessProfile (λ row. find (is_profile name) row.profiles) (λ row h. if-found IsFeedlessProfile (is_profile name) row.profiles h) (class_of class rows)
-    (if-found AreFeedlessProfiles (is_class class) rows.classes are.classes)
-
 module _ (class : List ℕ) (rows : Rows) (are : AreFeedless rows) where
   put-rows : (profile : Profile) → IsFeedlessProfile profile → AreFeedless (profile_put class profile rows)
   put-rows profile p = record {
@@ -314,6 +260,8 @@ module _ (issuer : Issuer) (issuer_id : IsFeedless issuer.id) (issuer_group : Is
   step-feedless (command.RAlter c) rows f are =
       let changed = changed-rows c.class rows are c.profile (altered_resource c rows) (λ old h. record { name = h.name; standard = h.standard; conditional = h.conditional; members = members_after-feedless c.class c.profile c.addmem c.delmem old.members f.addmem h.members }) in
       record { users = changed.users; groups = changed.groups; classes = changed.classes; categories = defined-feedless c.class c.profile c.addmem rows.options.categories f.addmem are.categories }
+  step-feedless (command.DefineClass c) rows f are = are
+  step-feedless (command.AlterClass c) rows f are = are
   step-feedless (command.RDelete c) rows f are = dropped-rows c.class rows are c.profile
   step-feedless (command.Permit c) rows f are =
       changed-rows c.class rows are c.profile (permitted_profile c) (permitted-feedless c (whos-feedless c.id f.id) f.when)

@@ -25,6 +25,7 @@ use Rattle.command_fields.specs.declared.fields.AltGroup.{AltGroup}
 use Rattle.command_fields.specs.declared.fields.CommandFields.{CommandFields}
 use Rattle.command_fields.specs.declared.fields.CommandFields.TheVariants as command
 use Rattle.command_fields.specs.declared.profile_fields.Permit.{Permit}
+use Rattle.command_fields.specs.Classes.{cdt}
 use Rattle.command_fields.specs.LawfulFields.{IsClauthWord, AreLawfulFields}
 use Rattle.command_rules.specs.UserEffects.{altered_group, new_group}
 use Rattle.command_rules.specs.Effects.{step}
@@ -65,6 +66,8 @@ use Rattle.command_rules.specs.ProfileConflicts.{
   r_define_requirements,
   r_define_limits,
   r_alter_conflicts,
+  define_class_conflicts,
+  alter_class_conflicts,
   r_delete_conflicts,
   permit_conflicts,
 }
@@ -95,8 +98,10 @@ use Rattle.command_rules.specs.Conflicts.{
 }
 use Rattle.lawful_commands.proofs.FieldFacts.{each-all}
 use Rattle.desk_rules.specs.Words.{kind_words, conflict_words}
-use Rattle.racf_stream.proofs.Feedless.{IsFeedless, joined, decimal-feedless, read_id-feedless, id-feedless, group-feedless, data_set-feedless, class_profile-feedless, any_profile-feedless, either, always, if-map, if-then, if-found, if-given, if-ok}
-use Rattle.racf_stream.proofs.FeedlessRows.{IsFeedlessUser, IsFeedlessGroup, IsFeedlessProfile, IsFeedlessWho, AreFeedlessProfiles, AreFeedless, ids-feedless, groups-feedless, names-feedless, logged-feedless, whos-feedless, current-feedless, owner-feedless}
+use Rattle.audit_records.specs.Feedless.{IsFeedless, IsFeedlessUser, IsFeedlessGroup, IsFeedlessProfile, IsFeedlessWho, AreFeedlessProfiles, AreFeedless}
+use Rattle.audit_records.proofs.Feedless.{joined, decimal-feedless, read_id-feedless, either, always, if-map, if-then, if-found, if-given, if-ok}
+use Rattle.desk_rules.proofs.FeedlessFields.{id-feedless, group-feedless, data_set-feedless, class_profile-feedless, any_profile-feedless}
+use Rattle.desk_rules.proofs.FeedlessRows.{ids-feedless, groups-feedless, names-feedless, logged-feedless, whos-feedless, current-feedless, owner-feedless}
 
 -- a test that tells only conflicts without a line feed
 abbrev pub IsFeedlessTest : Option Conflict → Type 0
@@ -366,7 +371,7 @@ early-test (Some conflict ∷ list) h = either IsFeedlessTest (is_early conflict
 
 module _ (issuer : Issuer) (issuer_id : IsFeedless issuer.id) (issuer_group : IsFeedless issuer.group) where
   each-test : (c : CommandFields) (rows : Rows) → AreLawfulFields c → AreFeedless rows → AllByRecursion IsFeedlessTest (conflicts issuer c rows)
-  unfolding add_user_conflicts alt_user_conflicts del_user_conflicts add_group_conflicts alt_group_conflicts del_group_conflicts connect_conflicts remove_conflicts add_sd_requirements add_sd_limits alt_sd_conflicts del_sd_conflicts r_define_requirements r_define_limits r_alter_conflicts r_delete_conflicts permit_conflicts set_ropts_conflicts
+  unfolding add_user_conflicts alt_user_conflicts del_user_conflicts add_group_conflicts alt_group_conflicts del_group_conflicts connect_conflicts remove_conflicts add_sd_requirements add_sd_limits alt_sd_conflicts del_sd_conflicts r_define_requirements r_define_limits r_alter_conflicts define_class_conflicts alter_class_conflicts r_delete_conflicts permit_conflicts set_ropts_conflicts
   each-test (command.AddUser c) rows f are =
       (owner-test _ rows (ids-feedless c.owner f.owner), (group-test _ rows (current-feedless issuer issuer_id issuer_group c.dfltgrp f.dfltgrp), (class-test _ rows (words-feedless c.clauth f.clauth), (taken-test _ rows (id-feedless c.user f.user), (level-test _ rows (ids-feedless c.seclevel f.seclevel), (category-test _ rows (names-feedless c.addcategory f.addcategory), (label-test _ rows (ids-feedless c.seclabel f.seclabel), (users-test issuer _ rows, (user_full-test _, (connections-test issuer _ rows, tt))))))))))
   each-test (command.AltUser c) rows f are =
@@ -395,6 +400,9 @@ module _ (issuer : Issuer) (issuer_id : IsFeedless issuer.id) (issuer_group : Is
       let class = id-feedless c.class f.class in
       let name = class_profile-feedless c.class c.profile f.profile in
       (owner-test _ rows (ids-feedless c.owner f.owner), (resource_profile-test _ _ rows class name, (resource_class-test _ rows class, (level-test _ rows (ids-feedless c.seclevel f.seclevel), (category-test _ rows (names-feedless c.addcategory f.addcategory), (never-test _ rows (names-feedless c.delcategory f.delcategory), (label-test _ rows (ids-feedless c.seclabel f.seclabel), (members-test issuer _ _ _ rows, (categories-test issuer _ rows, tt)))))))))
+  each-test (command.DefineClass c) rows f are = (owner-test _ rows (ids-feedless c.owner f.owner), (resource_class-test _ rows refl, tt))
+  each-test (command.AlterClass c) rows f are =
+      (owner-test _ rows (ids-feedless c.owner f.owner), (resource_profile-test _ _ rows refl (class_profile-feedless cdt c.profile f.profile), (resource_class-test _ rows refl, tt)))
   each-test (command.RDelete c) rows f are =
       let class = id-feedless c.class f.class in
       (resource_profile-test _ _ rows class (class_profile-feedless c.class c.profile f.profile), (resource_class-test _ rows class, tt))

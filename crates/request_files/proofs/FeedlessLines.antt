@@ -53,8 +53,10 @@ use Rattle.request_files.specs.Grammar.{
   read,
 }
 use Rattle.request_files.specs.Answers.{name_fault_words, refusal_words, verify_fault_words}
-use Rattle.racf_stream.proofs.FeedlessNames.{resource_name-feedless}
-use Rattle.racf_stream.proofs.Feedless.{IsFeedless, decimal-feedless, read_id-feedless, read_group-feedless, either, always, if-map, if-then, if-ok}
+use Rattle.audit_records.specs.Feedless.{IsFeedless}
+use Rattle.audit_records.proofs.Feedless.{decimal-feedless, read_id-feedless, read_group-feedless, either, always, if-map, if-then, if-ok}
+use Rattle.audit_records.proofs.FeedlessNames.{resource_name-feedless}
+use Rattle.request_files.specs.OneLine.{IsFeedlessNamed}
 
 -- ---- what a line names
 pub record IsFeedlessAccess (access : Access) : Type 0 where
@@ -109,10 +111,6 @@ next-id unread = by unread.words
     by (word ∷ words) =
         bound IsFeedless IsFeedlessSaid (fits (id_named word.text) word.place) (λ said. Ok (said, record { words = words; end = unread.end }))
         (fitted (id_named word.text) word.place (if-ok IsFeedless (id_of (folded word.text)) (λ id h. read_id-feedless (folded word.text) id h))) (λ said h. h)
-
-pub record IsFeedlessNamed (issuer : NamedIssuer) : Type 0 where
-  pub id : IsFeedless issuer.id
-  pub group : IfSome issuer.group IsFeedless
 
 key-feedless : (key value : List ℕ) → IfSome (keyed key value) (λ word. IfSome (group_in word) IsFeedless)
 key-feedless key value =

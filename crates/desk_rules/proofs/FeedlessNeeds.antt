@@ -15,6 +15,7 @@ use Rattle.command_fields.specs.declared.issuer.Issuer.{Issuer}
 use Rattle.command_fields.specs.declared.fields.CommandFields.{CommandFields}
 use Rattle.command_fields.specs.declared.fields.CommandFields.TheVariants as command
 use Rattle.command_fields.specs.declared.option_fields.SetRopts.{SetRopts}
+use Rattle.command_fields.specs.Classes.{cdt}
 use Rattle.command_fields.specs.LawfulFields.{IsLawfulSetRopts, AreLawfulFields}
 use Rattle.command_fields.specs.Issuers.{group_or_current}
 use Rattle.command_authority.specs.declared.needs.Need.{Need}
@@ -41,6 +42,8 @@ use Rattle.command_authority.specs.Requirements.{
   alt_sd_requirements,
   del_sd_requirements,
   r_alter_requirements,
+  define_class_requirements,
+  alter_class_requirements,
   r_delete_requirements,
   permit_requirements,
   refreshing,
@@ -51,8 +54,10 @@ use Rattle.command_authority.specs.Requirements.{
 }
 use Rattle.lawful_commands.proofs.RowLists.{all-both}
 use Rattle.desk_rules.specs.Words.{in_parentheses, need_words, each_need}
-use Rattle.racf_stream.proofs.Feedless.{IsFeedless, joined, id-feedless, group-feedless, data_set-feedless, qualifier-feedless, if-found, if-given, if-map, if-then}
-use Rattle.racf_stream.proofs.FeedlessRows.{IsFeedlessGroup, AreFeedless, groups-feedless, names-feedless, current-feedless}
+use Rattle.audit_records.specs.Feedless.{IsFeedless, IsFeedlessGroup, AreFeedless}
+use Rattle.audit_records.proofs.Feedless.{joined, qualifier-feedless, if-found, if-given, if-map, if-then}
+use Rattle.desk_rules.proofs.FeedlessFields.{id-feedless, group-feedless, data_set-feedless}
+use Rattle.desk_rules.proofs.FeedlessRows.{groups-feedless, names-feedless, current-feedless}
 
 -- ---- the words of a need
 abbrev IsFeedlessNeed : Need → Type 0
@@ -137,7 +142,7 @@ set_ropts-feedless c false f = ((tt, tt), ((tt, tt), tt))
 
 module _ (issuer : Issuer) (issuer_id : IsFeedless issuer.id) (issuer_group : IsFeedless issuer.group) where
   each-requirement : (c : CommandFields) (rows : Rows) → AreLawfulFields c → AreFeedless rows → AllByRecursion IsFeedlessRequirement (requirements rows issuer c)
-  unfolding add_user_requirements alt_user_requirements del_user_requirements add_group_requirements alt_group_requirements del_group_requirements connect_requirements remove_requirements add_sd_requirements r_define_requirements alt_sd_requirements del_sd_requirements r_alter_requirements r_delete_requirements permit_requirements set_ropts_requirements
+  unfolding add_user_requirements alt_user_requirements del_user_requirements add_group_requirements alt_group_requirements del_group_requirements connect_requirements remove_requirements add_sd_requirements r_define_requirements alt_sd_requirements del_sd_requirements r_alter_requirements define_class_requirements alter_class_requirements r_delete_requirements permit_requirements set_ropts_requirements
   each-requirement (command.AddUser c) rows f are = ((tt, (current-feedless issuer issuer_id issuer_group c.dfltgrp f.dfltgrp, (tt, (tt, tt)))), ((tt, tt), tt))
   each-requirement (command.AltUser c) rows f are = (over_target, ((tt, tt), ((tt, tt), tt)))
   each-requirement (command.DelUser c) rows f are = (over_target, tt)
@@ -153,6 +158,8 @@ module _ (issuer : Issuer) (issuer_id : IsFeedless issuer.id) (issuer_group : Is
   each-requirement (command.DelSd c) rows f are = (profile-feedless dataset c.profile, tt)
   each-requirement (command.RDefine c) rows f are = ((tt, (id-feedless c.class f.class, tt)), tt)
   each-requirement (command.RAlter c) rows f are = (profile-feedless c.class c.profile, ((tt, tt), tt))
+  each-requirement (command.DefineClass c) rows f are = ((tt, (refl, tt)), tt)
+  each-requirement (command.AlterClass c) rows f are = (profile-feedless cdt c.profile, tt)
   each-requirement (command.RDelete c) rows f are = (profile-feedless c.class c.profile, tt)
   each-requirement (command.Permit c) rows f are = (profile-feedless c.class c.profile, tt)
   each-requirement (command.SetRopts c) rows f are = set_ropts-feedless c c.refresh f

@@ -30,10 +30,10 @@ use Rattle.database_image.specs.Fields.{any, below, at_most, of_text, text_in, i
 use Rattle.database_image.specs.Description.{within, text, option_flags, options, is_superior_of, group, attributes, connect_flags, connection, printable, defined, user, spelled_text, pattern_in, member_in, is_pattern_at, audit_rank, audit_levels, flag_rank, entry, entry_key, port_rank, cond_key, cond_entry, cond_entry_key, member_kind, is_kind_in, resources_of, level_of_member, number_of_member, is_new_member, member_of_kind, member, profile, class_flags, are_class_flags, is_class_at, log_rank, log_options, class, image}
 use Rattle.database_image.specs.Facts.{facts, first_broken}
 use Rattle.database_image.specs.Image.{unless_more, from_beginning, first_pass, unless_broken, second_pass, rows_of}
-use Rattle.racf_stream.proofs.Feedless.{IsFeedless, spelled_id-feedless, spelled_group-feedless}
-use Rattle.racf_stream.proofs.FeedlessNames.{pattern_name-feedless, member_name-feedless}
-use Rattle.racf_stream.proofs.FeedlessRows.{IsFeedlessUser, IsFeedlessGroup, IsFeedlessWho, IsFeedlessMember, IsFeedlessProfile, AreFeedlessProfiles, AreFeedless}
-use Rattle.racf_stream.proofs.Readings.{Only, Reads, bind_ok, field_, any_, then_, done_, listed_}
+use Rattle.audit_records.specs.Feedless.{IsFeedless, IsFeedlessUser, IsFeedlessGroup, IsFeedlessWho, IsFeedlessMember, IsFeedlessProfile, AreFeedlessProfiles, AreFeedless}
+use Rattle.audit_records.proofs.FeedlessNames.{pattern_name-feedless, member_name-feedless}
+use Rattle.desk_rules.proofs.FeedlessFields.{spelled_id-feedless, spelled_group-feedless}
+use Rattle.desk_rules.proofs.Readings.{Only, Reads, bind_ok, field_, any_, then_, done_, listed_}
 
 -- ---- IDs, names of groups, and either where it may be left out
 abbrev ReadsFeedless : (List ℕ → Option (List ℕ)) → Type 0

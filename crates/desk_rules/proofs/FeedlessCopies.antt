@@ -20,8 +20,8 @@ use Rattle.command_rules.specs.Edits.{sets_options, sets_flags, lists, unlists, 
 use Rattle.lawful_commands.proofs.RowLists.{all-both}
 use Rattle.lawful_commands.proofs.ProfileRows.{all-at_class}
 use Rattle.desk_rules.specs.Position.{copies_behind}
-use Rattle.racf_stream.proofs.Feedless.{IsFeedless, if-found}
-use Rattle.racf_stream.proofs.FeedlessRows.{IsFeedlessProfile, AreFeedlessProfiles, AreFeedless, IsFeedlessState}
+use Rattle.audit_records.specs.Feedless.{IsFeedless, IsFeedlessProfile, AreFeedlessProfiles, AreFeedless, IsFeedlessState}
+use Rattle.audit_records.proofs.Feedless.{if-found}
 
 abbrev IsFeedlessCopy : ListedCopy → Type 0
 IsFeedlessCopy copy = AllByRecursion IsFeedlessProfile copy.profiles

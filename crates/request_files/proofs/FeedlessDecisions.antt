@@ -1,4 +1,4 @@
--- The words of a decision and of its AUDIT line hold no line feed, nor do the user and the groups of the ACEE of a user
+-- The words of a decision hold no line feed, nor do the user and the groups of the ACEE of a user
 -- who is verified.
 use Rattle.std.proofs.Common.{◌≡◌, ℕ, zero, suc, Bool, true, false, cond, not, List, [], ◌∷◌, ◌++◌, Option, None, Some, Result, Ok, Err, refl, subst, bytes_eq, codes}
 use Rattle.std.specs.Prelude.{IfSome, IfOk, find, filter, position, slice_get, option_and_then, unwrap_or, decimal}
@@ -71,19 +71,13 @@ use Rattle.decision.specs.Table.{
   fast_decided,
 }
 use Rattle.decision.specs.Verify.{admitted, verified}
-use Rattle.audit_records.specs.declared.line.Outcome.{Outcome}
-use Rattle.audit_records.specs.declared.line.Outcome.TheVariants.{Success}
-use Rattle.audit_records.specs.Line.{outcome_of, outcome_word, spaced}
 use Rattle.request_files.specs.Answers.{profile_words, found_words, port_words, category_name, classified_words, member_words, rule_words, decision_words}
-use Rattle.lawful_commands.proofs.RowLists.{all-filter, all-map}
-use Rattle.racf_stream.proofs.Feedless.{IsFeedless, joined, decimal-feedless, either, always, if-either, if-map, if-then, if-found}
-use Rattle.racf_stream.proofs.FeedlessRows.{IsFeedlessUser, IsFeedlessMember, IsFeedlessProfile, IsFeedlessWho, AreFeedlessProfiles, AreFeedless, IsFeedlessState, copy-feedless, profile_of-feedless}
+use Rattle.audit_records.specs.Feedless.{IsFeedless, IsFeedlessUser, IsFeedlessMember, IsFeedlessProfile, IsFeedlessWho, AreFeedlessProfiles, AreFeedless, IsFeedlessState}
+use Rattle.audit_records.proofs.Feedless.{joined, decimal-feedless, either, always, if-either, if-map, if-then, if-found, all-kept, all-made, copy-feedless, profile_of-feedless}
+use Rattle.audit_records.proofs.FeedlessLine.{level-words}
+use Rattle.request_files.specs.OneLine.{IsFeedlessAcee}
 
 -- ---- the words
-level-words : (level : Level) → IsFeedless (level_name level)
-level-words NoAccess = refl
-level-words other = refl
-
 port_class-words : (class : PortClass) → IsFeedless (port_class_name class)
 port_class-words Terminal = refl
 port_class-words other = refl
@@ -173,22 +167,6 @@ decision-words : (rows : Rows) → AreFeedless rows → (class : List ℕ) (deci
 decision-words rows are class decision h =
     joined (decimal decision.rc ++ codes " ") (rule_words rows class decision.rule decision) (joined (decimal decision.rc) (codes " ") (decimal-feedless decision.rc) refl) (rule-words rows are class decision.rule decision h.rule h.profile)
 
--- ---- the words of an AUDIT line
-outcome-words : (outcome : Outcome) → IsFeedless (outcome_word outcome)
-outcome-words Success = refl
-outcome-words other = refl
-
-spaced-words : (front word : List ℕ) → IsFeedless front → IsFeedless word → IsFeedless (front ++ spaced word)
-spaced-words front word h k = joined front (spaced word) h k
-
-pub audit-words : (decision : Decision) (user class : List ℕ) (name : Spelled) (asked : Level) → IsFeedless user → IsFeedless class → IsFeedless name.text
-    → IsFeedless (outcome_word (outcome_of decision) ++ spaced user ++ spaced class ++ spaced name.text ++ spaced (level_name asked))
-audit-words decision user class name asked u c n =
-    let outcome = outcome_word (outcome_of decision) in
-    spaced-words (outcome ++ spaced user ++ spaced class ++ spaced name.text) (level_name asked)
-    (spaced-words (outcome ++ spaced user ++ spaced class) name.text
-    (spaced-words (outcome ++ spaced user) class (spaced-words outcome user (outcome-words (outcome_of decision)) u) c) n) (level-words asked)
-
 -- ---- the profile that decides
 module _ {A : Type 0} (P : A → Type 0) where
   more-specific : (name_of : A → Spelled) (x : A) (o : Option A) → P x → IfSome o P → P (more_specific name_of x o)
@@ -203,7 +181,7 @@ module _ {A : Type 0} (P : A → Type 0) where
   best-all name_of xs name h =
       if-either P (find (λ p. bytes_eq (name_of p).text name.text) xs) (most_specific name_of (filter (λ p. covers (name_of p) name) xs))
       (if-found P (λ p. bytes_eq (name_of p).text name.text) xs h)
-      (most-specific name_of (filter (λ p. covers (name_of p) name) xs) (all-filter P (λ p. covers (name_of p) name) xs h))
+      (most-specific name_of (filter (λ p. covers (name_of p) name) xs) (all-kept P (λ p. covers (name_of p) name) xs h))
 
   got-all : (xs : List A) (i : ℕ) → AllByRecursion P xs → IfSome (slice_get xs i) P
   got-all [] i h = tt
@@ -248,10 +226,6 @@ conditional-entry options acee profile h =
     let place = lists.answered_when acee.port acee.user (considered options acee) acee.attributes.restricted profile.conditional in
     if-then (λ place. Unit {0}) IsFeedlessConditional (λ place. slice_get profile.conditional place)
     (λ place there. got-all IsFeedlessConditional profile.conditional place h.conditional) place (always place tt)
-
-pub record IsFeedlessAcee (acee : Acee) : Type 0 where
-  pub user : IsFeedless acee.user
-  pub groups : AllByRecursion (λ (group : AceeGroup). IsFeedless group.group) acee.groups
 
 operating-over : (rows : Rows) (acee : Acee) (owner : List ℕ) → IsFeedlessAcee acee → IfSome (operating_over rows acee owner) IsFeedless
 operating-over rows acee owner h =
@@ -364,7 +338,7 @@ module _ (state : State) (generation : ℕ) (request : VerifyRequest) where
       unless-acee _ (acee_for state.rows generation request user)
       (record {
         user = h.id;
-        groups = all-map acee_group (λ (group : AceeGroup). IsFeedless group.group) (filter (λ (connection : Connection). not connection.revoked) user.connects) (all-filter (λ (connection : Connection). IsFeedless connection.group) (λ (connection : Connection). not connection.revoked) user.connects h.groups);
+        groups = all-made acee_group (λ (group : AceeGroup). IsFeedless group.group) (filter (λ (connection : Connection). not connection.revoked) user.connects) (all-kept (λ (connection : Connection). IsFeedless connection.group) (λ (connection : Connection). not connection.revoked) user.connects h.groups);
       })
 
   admitted-acee : (r : Result Acee VerifyFault) → IfOk r IsFeedlessAcee → IfOk (admitted state generation request.label r) IsFeedlessAcee
